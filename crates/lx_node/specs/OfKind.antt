@@ -1,0 +1,101 @@
+-- Which fields are those of a kind. What the type of a field bounds already, as a format's 65,535, isn't said again.
+use Rattle.std.specs.Prelude.{ℕ, List, [], ◌∷◌, Bool, true, false, ◌&&◌, leb, eqb, IsTrue}
+use Rattle.lx_node.specs.declared.kind.Kind.{Kind}
+use Rattle.lx_node.specs.declared.kind.Kind.TheVariants.{List as ListKind, Item, Link, Cell, Text, Tab, Break, Rule, Embed}
+use Rattle.lx_node.specs.declared.fields.Mode.{Mode}
+use Rattle.lx_node.specs.declared.fields.Mode.TheVariants.{Normal}
+use Rattle.lx_node.specs.declared.fields.TextFields.{TextFields}
+use Rattle.lx_node.specs.declared.fields.Extra.{Extra}
+use Rattle.lx_node.specs.declared.fields.Extra.TheVariants as extra
+use Rattle.lx_node.specs.declared.fields.Fields.{Fields}
+use Rattle.lx_node.specs.declared.fields.Fields.TheVariants as fields
+use Rattle.lx_node.specs.Kinds.{is_possible}
+
+-- ---- what an element has beside what every element has
+
+unfoldable pub is_plain : Extra → Bool
+is_plain extra.Plain = true
+is_plain _ = false
+
+-- a list begins with a number up to 1,000,000
+unfoldable pub is_list_extra : Extra → Bool
+is_list_extra (extra.List start) = leb start 1000000
+is_list_extra _ = false
+
+-- an item has a number up to 1,200,000, and is checked, not checked, or neither
+unfoldable pub is_item_extra : Extra → Bool
+is_item_extra (extra.Item value checked) = leb value 1200000
+is_item_extra _ = false
+
+unfoldable pub is_link_extra : Extra → Bool
+is_link_extra (extra.Link rel target title url) = true
+is_link_extra _ = false
+
+unfoldable pub is_span : ℕ → Bool
+is_span span = leb 1 span && leb span 1000
+
+-- a cell is a header of at most four kinds, and spans 1 to 1000 rows and columns
+unfoldable pub is_cell_extra : Extra → Bool
+is_cell_extra (extra.Cell header row_span col_span background) = leb header 3 && (is_span row_span && is_span col_span)
+is_cell_extra _ = false
+
+-- what the elements of a kind have
+unfoldable pub is_extra_of : Kind → Extra → Bool
+is_extra_of (ListKind type) extra = is_list_extra extra
+is_extra_of Item extra = is_item_extra extra
+is_extra_of Link extra = is_link_extra extra
+is_extra_of Cell extra = is_cell_extra extra
+is_extra_of _ extra = is_plain extra
+
+-- ---- what a text has, and a tab
+
+unfoldable pub is_normal : Mode → Bool
+is_normal Normal = true
+is_normal _ = false
+
+-- the one character U+0009
+unfoldable pub is_tab_text : List ℕ → Bool
+is_tab_text [] = false
+is_tab_text (c ∷ []) = eqb c 9
+is_tab_text (c ∷ d ∷ cs) = false
+
+-- two detail bits
+unfoldable pub is_text : TextFields → Bool
+is_text text = leb text.detail 3
+
+-- a tab has its own text, is unmergeable and not directionless, and of normal mode
+unfoldable pub is_tab : TextFields → Bool
+is_tab text = is_tab_text text.text && (eqb text.detail 2 && is_normal text.mode)
+
+-- ---- the fields of each kind
+
+unfoldable pub is_element_of : Kind → Fields → Bool
+is_element_of kind (fields.Element element) = is_extra_of kind element.extra
+is_element_of kind _ = false
+
+unfoldable pub is_text_of : (TextFields → Bool) → Fields → Bool
+is_text_of test (fields.Text text) = test text
+is_text_of test _ = false
+
+unfoldable pub is_embed : Fields → Bool
+is_embed (fields.Embed source) = true
+is_embed _ = false
+
+unfoldable pub is_bare : Fields → Bool
+is_bare fields.Bare = true
+is_bare _ = false
+
+unfoldable pub fits_kind : Kind → Fields → Bool
+fits_kind Text fields = is_text_of is_text fields
+fits_kind Tab fields = is_text_of is_tab fields
+fits_kind Break fields = is_bare fields
+fits_kind Rule fields = is_bare fields
+fits_kind Embed fields = is_embed fields
+fits_kind kind fields = is_element_of kind fields
+
+-- the kind is one that a node can be, and the fields are of its variant and within its ranges
+unfoldable pub is_of_kind : Kind → Fields → Bool
+is_of_kind kind fields = is_possible kind && fits_kind kind fields
+
+abbrev pub IsOfKind : Kind → Fields → Type 0
+IsOfKind kind fields = IsTrue (is_of_kind kind fields)

@@ -1,0 +1,136 @@
+/// How a list numbers its items.
+#[derive(Clone, Copy, Debug, PartialEq, Eq, Hash)]
+pub enum ListType {
+    Bullet,
+    Number,
+    Check,
+}
+
+/// What a node is. A heading has a level from 1 to 6.
+#[derive(Clone, Copy, Debug, PartialEq, Eq, Hash)]
+pub enum Kind {
+    Root,
+    Paragraph,
+    Heading(u8),
+    Quote,
+    List(ListType),
+    Item,
+    Link,
+    Table,
+    Row,
+    Cell,
+    Text,
+    Tab,
+    Break,
+    Rule,
+    Embed,
+}
+
+impl Kind {
+    ghost use Rattle.std.specs.Prelude.{◌≡◌};
+    ghost use Rattle.lx_node.specs.Kinds.{type_name as name_of_type};
+    ghost use Rattle.lx_node.specs.Kinds as kinds;
+
+    /// The type of the kind, as documents and replies write it.
+    #[tactic(auto, unfolding(crate::specs::Kinds::type_name))]
+    pub fn type_name(self) -> &'static str
+        ensures { result.now ≡ name_of_type self }
+    {
+        match self {
+            Kind::Root => "root",
+            Kind::Paragraph => "paragraph",
+            Kind::Heading(_) => "heading",
+            Kind::Quote => "quote",
+            Kind::List(_) => "list",
+            Kind::Item => "listitem",
+            Kind::Link => "link",
+            Kind::Table => "table",
+            Kind::Row => "tablerow",
+            Kind::Cell => "tablecell",
+            Kind::Text => "text",
+            Kind::Tab => "tab",
+            Kind::Break => "linebreak",
+            Kind::Rule => "horizontalrule",
+            Kind::Embed => "embed",
+        }
+    }
+
+    /// Whether nodes of the kind may have children.
+    #[tactic(auto, unfolding(crate::specs::Kinds::is_element))]
+    pub fn is_element(self) -> bool
+        ensures { result ≡ kinds.is_element self }
+    {
+        !matches!(
+            self,
+            Kind::Text | Kind::Tab | Kind::Break | Kind::Rule | Kind::Embed
+        )
+    }
+
+    /// Whether nodes of the kind stand in a line of text: texts, tabs, line breaks, links and embeds.
+    #[tactic(auto, unfolding(crate::specs::Kinds::is_inline))]
+    pub fn is_inline(self) -> bool
+        ensures { result ≡ kinds.is_inline self }
+    {
+        matches!(
+            self,
+            Kind::Text | Kind::Tab | Kind::Break | Kind::Link | Kind::Embed
+        )
+    }
+
+    /// Whether nodes of the kind stand below the root and in cells: paragraphs, headings, quotes, lists,
+    /// tables and rules.
+    #[tactic(auto, unfolding(crate::specs::Kinds::is_block))]
+    pub fn is_block(self) -> bool
+        ensures { result ≡ kinds.is_block self }
+    {
+        matches!(
+            self,
+            Kind::Paragraph
+                | Kind::Heading(_)
+                | Kind::Quote
+                | Kind::List(_)
+                | Kind::Table
+                | Kind::Rule
+        )
+    }
+
+    /// Whether a node of the kind may have children of the other kind. A leaf may have none.
+    #[tactic(auto, unfolding(crate::specs::Kinds::may_hold, crate::specs::Kinds::is_paragraph, crate::specs::Kinds::is_heading, crate::specs::Kinds::is_list, crate::specs::Kinds::is_item, crate::specs::Kinds::is_link, crate::specs::Kinds::is_row, crate::specs::Kinds::is_cell))]
+    pub fn may_hold(self, child: Kind) -> bool
+        ensures { result ≡ kinds.may_hold self child }
+    {
+        match self {
+            Kind::Root | Kind::Cell => child.is_block(),
+            Kind::Paragraph | Kind::Heading(_) => child.is_inline(),
+            Kind::Quote => {
+                child.is_inline()
+                    || matches!(child, Kind::Paragraph | Kind::Heading(_) | Kind::List(_))
+            }
+            Kind::List(_) => matches!(child, Kind::Item),
+            Kind::Item => child.is_inline() || matches!(child, Kind::List(_)),
+            Kind::Link => child.is_inline() && !matches!(child, Kind::Link),
+            Kind::Table => matches!(child, Kind::Row),
+            Kind::Row => matches!(child, Kind::Cell),
+            Kind::Text | Kind::Tab | Kind::Break | Kind::Rule | Kind::Embed => false,
+        }
+    }
+
+    /// Whether nodes of the kind may be without children. A link, a list and a table may not.
+    #[tactic(auto, unfolding(crate::specs::Kinds::may_be_empty))]
+    pub fn may_be_empty(self) -> bool
+        ensures { result ≡ kinds.may_be_empty self }
+    {
+        !matches!(self, Kind::Link | Kind::List(_) | Kind::Table)
+    }
+
+    /// Whether a node can be of the kind: not of a heading whose level isn't from 1 to 6.
+    #[tactic(auto, unfolding(crate::specs::Kinds::is_possible))]
+    pub fn is_possible(self) -> bool
+        ensures { result ≡ kinds.is_possible self }
+    {
+        match self {
+            Kind::Heading(level) => 1 <= level && level <= 6,
+            _ => true,
+        }
+    }
+}

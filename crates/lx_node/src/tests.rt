@@ -1,0 +1,134 @@
+use crate::{
+    Align, Direction, ElementFields, Extra, Fields, Key, Kind, Kinds, ListType, Mode, Node,
+    TextFields, Txt,
+};
+use std::alloc::Global;
+use std::test::Fail;
+
+/// Each kind with signs, `+` for yes: whether it is an element, an inline, and may be empty; then, for each
+/// kind in this order, whether it holds it.
+const TABLE: [(Kind, &[u8; 18]); 15] = [
+    (Kind::Root, b"+.+.++++..+.....+."),
+    (Kind::Paragraph, b"+.+......+...+++.+"),
+    (Kind::Heading(1), b"+.+......+...+++.+"),
+    (Kind::Quote, b"+.+.++.+.+...+++.+"),
+    (Kind::List(ListType::Check), b"+.......+........."),
+    (Kind::Item, b"+.+....+.+...+++.+"),
+    (Kind::Link, b"++...........+++.+"),
+    (Kind::Table, b"+..........+......"),
+    (Kind::Row, b"+.+.........+....."),
+    (Kind::Cell, b"+.+.++++..+.....+."),
+    (Kind::Text, b".++..............."),
+    (Kind::Tab, b".++..............."),
+    (Kind::Break, b".++..............."),
+    (Kind::Rule, b"..+..............."),
+    (Kind::Embed, b".++..............."),
+];
+
+#[test]
+fn the_columns_are_those_of_the_table(rt: HostRuntime) {
+    for (kind, signs) in TABLE {
+        assert_eq!(rt; kind.is_element(), signs[0] == b'+', "{kind:?}");
+        assert_eq!(rt; kind.is_inline(), signs[1] == b'+', "{kind:?}");
+        assert_eq!(rt; kind.may_be_empty(), signs[2] == b'+', "{kind:?}");
+        for ((child, _), sign) in TABLE.iter().zip(&signs[3..]) {
+            assert_eq!(rt;
+                kind.may_hold(*child),
+                *sign == b'+',
+                "{child:?} in {kind:?}"
+            );
+        }
+    }
+}
+
+#[test]
+fn the_types_are_those_of_documents(rt: HostRuntime) -> Result<(), Fail> {
+    let mut types = String::new(rt.alloc());
+    for (kind, _) in TABLE {
+        types.push_str(kind.type_name())?;
+        types.push(' ')?;
+    }
+    assert_eq!(rt;
+        types.as_str(),
+        "root paragraph heading quote list listitem link table tablerow tablecell text tab \
+         linebreak horizontalrule embed "
+    );
+    Ok(())
+}
+
+fn element(alloc: Global, extra: Extra) -> Result<Fields, Fail> {
+    Ok(Fields::Element(ElementFields {
+        direction: Direction::Rtl,
+        format: Align::Center,
+        indent: 3,
+        text_format: 5,
+        text_style: Txt::new(alloc, "color: red")?,
+        extra,
+    }))
+}
+
+fn text(alloc: Global, text: &str, detail: u8, mode: Mode) -> Result<Fields, Fail> {
+    Ok(Fields::Text(TextFields {
+        text: Txt::new(alloc, text)?,
+        format: 9,
+        detail,
+        mode,
+        style: Txt::new(alloc, "")?,
+    }))
+}
+
+#[test]
+fn fields_are_of_a_kind_within_its_ranges(rt: HostRuntime) -> Result<(), Fail> {
+    let alloc = rt.alloc();
+    let plain = element(alloc, Extra::Plain)?;
+    assert!(rt; plain.is_of_kind(Kind::Heading(6)));
+    assert!(rt; !plain.is_of_kind(Kind::Heading(7)));
+    assert!(rt; !plain.is_of_kind(Kind::Item));
+    let list = element(alloc, Extra::List { start: 1_000_000 })?;
+    assert!(rt; list.is_of_kind(Kind::List(ListType::Number)));
+    let tab = text(alloc, "\t", 2, Mode::Normal)?;
+    assert!(rt; tab.is_of_kind(Kind::Tab));
+    assert!(rt; tab.is_of_kind(Kind::Text));
+    assert!(rt; !text(alloc, "\t\t", 2, Mode::Normal)?.is_of_kind(Kind::Tab));
+    assert!(rt; !text(alloc, "", 4, Mode::Token)?.is_of_kind(Kind::Text));
+    assert!(rt; Fields::Bare.is_of_kind(Kind::Rule));
+    Ok(())
+}
+
+#[test]
+fn a_copy_prints_as_what_it_was_copied_from(rt: HostRuntime) -> Result<(), Fail> {
+    let alloc = rt.alloc();
+    let link = Extra::Link {
+        rel: None,
+        target: Some(Txt::new(alloc, "_blank")?),
+        title: Some(Txt::new(alloc, "")?),
+        url: Txt::new(alloc, "https://example.org/é")?,
+    };
+    let node = Node {
+        kind: Kind::Link,
+        fields: element(alloc, link)?,
+        parent: Some(Key(1)),
+        prev: None,
+        next: Some(Key(7)),
+        first: Some(Key(3)),
+        last: Some(Key(4)),
+        size: 2,
+    };
+    let copy = node.copy(alloc)?;
+    assert_eq!(rt;
+        format!(in alloc; "{copy:?}")?,
+        format!(in alloc; "{node:?}")?
+    );
+    Ok(())
+}
+
+#[test]
+fn kinds_are_read_by_place(rt: HostRuntime) -> Result<(), Fail> {
+    let kinds = Kinds::of([Kind::Tab, Kind::Break].to_vec(rt.alloc())?);
+    assert_eq!(rt; kinds.len(), 2);
+    assert_eq!(rt; kinds.at(1), Some(Kind::Break));
+    assert_eq!(rt; kinds.at(2), None);
+    assert_eq!(rt; kinds.items().len(), 2);
+    assert_eq!(rt; kinds.into_vec().len(), 2);
+    Ok(())
+}

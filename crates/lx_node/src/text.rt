@@ -1,0 +1,60 @@
+use crate::memory::NoMemory;
+use std::alloc::Global;
+use std::marker::Model;
+
+/// A text, as the list of its Unicode scalar values.
+#[derive(Debug, Drop)]
+pub struct Txt {
+    text: String,
+}
+
+impl Model for Txt {
+    ghost use Rattle.std.specs.Prelude.{List, ℕ, string_bytes, chars};
+
+    ghost Value = { List ℕ };
+
+    ghost view = { λ t. chars (string_bytes t.text) };
+}
+
+impl Txt {
+    ghost use Rattle.std.specs.Prelude.{◌≡◌, ◌==◌, IfOk, chars, encode_utf8_all, length};
+
+    /// The text. It takes memory for its bytes.
+    pub fn new(alloc: Global, text: &str) -> Result<Txt, NoMemory>
+        ensures { IfOk result (λ made. made ≡ chars text.now) }
+    {
+        let text = String::from_str(alloc, text)?;
+        Ok(Txt { text })
+    }
+
+    /// The same text, as Rust has it.
+    pub fn as_str(&self) -> &str
+        ensures bytes { result.now ≡ encode_utf8_all self.now }
+        ensures text { chars result.now ≡ self.now }
+    {
+        self.text.as_str()
+    }
+
+    /// Whether there is no character in it.
+    pub fn is_empty(&self) -> bool
+        ensures { result ≡ (length self.now == 0) }
+    {
+        self.as_str().is_empty()
+    }
+
+    /// An equal text.
+    pub fn copy(&self, alloc: Global) -> Result<Txt, NoMemory>
+        ensures { IfOk result (λ made. made ≡ self.now) }
+    {
+        Txt::new(alloc, self.as_str())
+    }
+
+    ghost use Rattle.lx_node.specs.OfKind.{is_tab_text};
+
+    /// Whether it is the one character of a tab, U+0009.
+    pub(crate) fn is_tab(&self) -> bool
+        ensures { result ≡ is_tab_text self.now }
+    {
+        self.as_str() == "\t"
+    }
+}
