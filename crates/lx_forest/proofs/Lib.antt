@@ -1,0 +1,11 @@
+pub mod Edits
+pub mod Held
+pub mod Lookups
+pub mod Order
+pub mod Places
+pub mod Records
+pub mod Siblings
+pub mod Unique
+pub mod Walks
+pub mod Within
+pub mod Sets

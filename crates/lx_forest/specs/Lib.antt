@@ -1,0 +1,5 @@
+pub mod Edits
+pub mod Forest
+pub mod Laws
+pub mod Lookups
+pub mod Records

@@ -1,0 +1,145 @@
+-- What a forest says of a key: where the key stands, and all that is read from that.
+use Rattle.std.specs.Prelude.{ℕ, ◌<◌, ◌≡◌, ◌==◌, ◌&&◌, Bool, true, false, nat_lt, if◌then◌else◌, List, [], ◌∷◌, length, Option, None, Some, option_map}
+use Rattle.std.specs.declared.cmp.Ordering.{Ordering}
+use Rattle.std.specs.Ordering.{nat_cmp}
+use Rattle.lx_node.specs.NamedTrees as named
+use Rattle.lx_node.specs.Siblings.{first_of, last_of, next_in, previous_in, index_in}
+use Rattle.lx_node.specs.Spots as spots
+use Rattle.lx_node.specs.Spots.{Spot, parent_at, children_at}
+use Rattle.lx_node.specs.Walks as walks
+use Rattle.lx_node.specs.declared.kind.Kind.{Kind}
+use Rattle.lx_node.specs.declared.kind.Kind.TheVariants.{Root}
+use Rattle.lx_node.specs.declared.fields.Fields.{Fields}
+use Rattle.lx_forest.specs.Forest.{Label, Forest}
+
+abbrev pub key_of : Label → ℕ
+key_of l = l.key
+
+-- how often the key stands, and whether it stands
+abbrev pub count : ℕ → Forest → ℕ
+count q f = named.count key_of q f
+
+abbrev pub has : ℕ → Forest → Bool
+has q f = named.has key_of q f
+
+-- the keys of the first trees: the root's and those of the detached trees
+abbrev pub roots : Forest → List ℕ
+roots f = named.names key_of f
+
+-- the tree of a key, and the forest without it
+abbrev pub alone : ℕ → Forest → Forest
+alone k f = named.alone key_of k f
+
+abbrev pub without : ℕ → Forest → Forest
+without k f = named.without key_of k f
+
+-- the trees of these keys, one behind another
+abbrev pub trees_of : Forest → List ℕ → Forest
+trees_of f ks = named.gathered key_of f ks
+
+-- where a key stands: its label, its parent, its children's keys
+abbrev pub spot : Forest → ℕ → Option (Spot Label)
+spot f q = spots.spot key_of f q
+
+abbrev pub label_of : Forest → ℕ → Option Label
+label_of f q = option_map (λ s. s.label) (spot f q)
+
+abbrev pub kind_of : Forest → ℕ → Option Kind
+kind_of f q = option_map (λ l. l.kind) (label_of f q)
+
+abbrev pub fields_of : Forest → ℕ → Option Fields
+fields_of f q = option_map (λ l. l.fields) (label_of f q)
+
+abbrev pub parent_of : Forest → ℕ → Option ℕ
+parent_of f q = parent_at (spot f q)
+
+abbrev pub children_of : Forest → ℕ → List ℕ
+children_of f q = children_at (spot f q)
+
+abbrev pub size_of : Forest → ℕ → ℕ
+size_of f q = length (children_of f q)
+
+abbrev pub first_child : Forest → ℕ → Option ℕ
+first_child f q = first_of (children_of f q)
+
+abbrev pub last_child : Forest → ℕ → Option ℕ
+last_child f q = last_of (children_of f q)
+
+-- the children of a parent, if there is one
+abbrev pub children_below : Forest → Option ℕ → List ℕ
+children_below f None = []
+children_below f (Some p) = children_of f p
+
+-- the keys of the list in which a key stands, itself among them: none where it has no parent
+abbrev pub siblings : Forest → ℕ → List ℕ
+siblings f q = children_below f (parent_of f q)
+
+abbrev pub previous_of : Forest → ℕ → Option ℕ
+previous_of f q = previous_in (siblings f q) q
+
+abbrev pub next_of : Forest → ℕ → Option ℕ
+next_of f q = next_in (siblings f q) q
+
+-- how many siblings stand before it
+abbrev pub index_of : Forest → ℕ → Option ℕ
+index_of f q = index_in (siblings f q) q
+
+-- whether q is in the tree of k: k itself, or below it
+abbrev pub is_within : Forest → ℕ → ℕ → Bool
+is_within f k q = has q (alone k f)
+
+-- whether q is in the tree of the root
+abbrev pub is_attached : Forest → ℕ → Bool
+is_attached f q = is_within f 0 q
+
+-- the keys above q, from its parent on
+abbrev pub ancestors : Forest → ℕ → List ℕ
+ancestors f q = walks.ancestors key_of f q
+
+-- how many keys stand above an attached one
+abbrev pub depth : Forest → ℕ → Option ℕ
+depth f q = if is_attached f q then Some (length (ancestors f q)) else None
+
+-- the keys of the root's tree, each before those below it, and those before its next siblings
+abbrev pub preorder : Forest → List ℕ
+preorder f = named.preorder key_of (alone 0 f)
+
+-- of these, the ones from q on, and those behind the tree of q
+abbrev pub from : Forest → ℕ → List ℕ
+from f q = walks.from key_of (alone 0 f) q
+
+abbrev pub behind : Forest → ℕ → List ℕ
+behind f q = walks.behind key_of (alone 0 f) q
+
+-- which of two attached keys comes first in preorder
+abbrev pub order_between : Option ℕ → Option ℕ → Option Ordering
+order_between (Some i) (Some j) = Some (nat_cmp i j)
+order_between _ _ = None
+
+abbrev pub order_of : Forest → ℕ → ℕ → Option Ordering
+order_of f a b = order_between (index_in (preorder f) a) (index_in (preorder f) b)
+
+-- each key is greater than the one before it, the first one than this
+abbrev pub rises_from : ℕ → List ℕ → Bool
+rises_from low [] = true
+rises_from low (x ∷ xs) = nat_lt low x && rises_from x xs
+
+-- the root's key first, and then rising
+abbrev pub rises : List ℕ → Bool
+rises [] = false
+rises (x ∷ xs) = (x == 0) && rises_from 0 xs
+
+-- A forest is in order: no key stands twice, the first tree is the root's, and the detached trees behind it stand by their
+-- keys.
+pub record IsForest (f : Forest) : Type 0 where
+  pub once : (q : ℕ) → count q f < 2
+  pub rising : rises (roots f) ≡ true
+  pub root : kind_of f 0 ≡ Some Root
+
+-- each child is of a kind that its parent's kind may hold
+abbrev pub holds : (Kind → Kind → Bool) → Option Kind → Option Kind → Bool
+holds may_hold (Some outer) (Some inner) = may_hold outer inner
+holds may_hold _ _ = true
+
+pub record IsHeld (may_hold : Kind → Kind → Bool) (f : Forest) : Type 0 where
+  pub each : (q p : ℕ) → parent_of f q ≡ Some p → holds may_hold (kind_of f p) (kind_of f q) ≡ true
