@@ -1,0 +1,199 @@
+-- Where a map of nodes stands for a forest, what an edit leaves stands for the forest after that edit.
+use Rattle.std.proofs.Common.{ℕ, zero, suc, ◌≡◌, ◌<◌, ◌≤◌, ◌-◌, true, false, cond, eqb, length, List, [], ◌∷◌, ◌&&◌, Option, None, Some, option_map, is_some, is_none, inl, inr, refl, sym, ap, ◌∙◌, subst, arith}
+use Rattle.std.proofs.lemmas.Bool.Decides.{eqb_tells}
+use Rattle.std.proofs.lemmas.Bool.{cases_Bool, false≢true}
+use Rattle.std.specs.Ordering.{nat_cmp}
+use Rattle.std.specs.Cmp.{nat_cmp_total}
+use Rattle.std.specs.FinMap.{get, insert, remove, empty, len, get-empty, len-remove, len-empty, empty_of_len, same_map, nat_cmp-IsAntisymmetric}
+use Rattle.lx_node.specs.Siblings.{is_named, is_among, NoRepeats}
+use Rattle.lx_node.specs.NamedTrees.{total}
+use Rattle.lx_node.specs.NamedTrees as named
+use Rattle.lx_node.proofs.NamedTrees.{is_among-preorder, length-preorder, NoRepeats-preorder}
+use Rattle.lx_node.specs.declared.kind.Kind.{Kind}
+use Rattle.lx_node.specs.declared.kind.Kind.TheVariants.{Root}
+use Rattle.lx_node.specs.declared.fields.Fields.{Fields}
+use Rattle.lx_node.specs.declared.node.Node.{Node}
+use Rattle.lx_forest.specs.Forest.{Forest, Label, root_alone, root_label, plain_element}
+use Rattle.lx_forest.specs.Lookups.{key_of, has, siblings}
+use Rattle.lx_forest.specs.Edits.{with_new, with_fields, take_out}
+use Rattle.lx_forest.specs.Records.{Record, StandsFor, record_at, linked, lone, refielded}
+use Rattle.lx_forest.specs.Records as recs
+use Rattle.lx_forest.proofs.Records.{record_at-with_new, record_at-with_fields, record_at-take_out, is_some-record_at}
+use Rattle.lx_forest.proofs.Edits.{total-with_new, total-with_fields, total-take_out}
+use Rattle.lx_forest.proofs.Order.{IsForest-with_new, IsForest-with_fields, IsForest-take_out}
+use Rattle.lx_links.specs.declared.changes.Change.TheVariants.{Content}
+use Rattle.lx_node.specs.Kinds.{may_hold}
+use Rattle.lx_links.proofs.Alone.{IsHeld-root_alone}
+use Rattle.lx_forest.proofs.Held.{IsHeld-with_new, IsHeld-with_fields, IsHeld-take_out}
+use Rattle.lx_links.specs.Stands.{Nodes, Holds, node_of, record_of, records, lone_node}
+use Rattle.lx_links.specs.Changes.{changed, Differs, unlinked}
+use Rattle.lx_links.proofs.Maps.{insert_at, remove_at}
+use Rattle.lx_links.proofs.Seen.{is_some-map}
+use Rattle.lx_links.proofs.Stood.{get_stands}
+
+-- ---- a map has at most as many keys as the forest has nodes
+
+all_none : (m : Nodes) → ((q : ℕ) → is_some (get m q) ≡ false) → m ≡ empty
+all_none m h = same_map nat_cmp_total nat_cmp-IsAntisymmetric m empty (λ q. gone (get m q) (h q) ∙ sym (get-empty nat_cmp q)) where
+  gone : (o : Option Node) → is_some o ≡ false → o ≡ None
+  gone None e = refl
+  gone (Some n) e = cc
+
+left_in : (y : ℕ) (ys : List ℕ) (m : Nodes) (q : ℕ) → (is_some (get m q) ≡ true → is_among q (y ∷ ys) ≡ true) → is_some (get (remove m y) q) ≡ true → is_among q ys ≡ true
+left_in y ys m q h e = elim (eqb_tells q y) [
+  | inl here ↦ absurd (false≢true (sym (ap is_some (remove_at m y q ∙ ap (λ b. cond b None (get m q)) here.0)) ∙ e))
+  | inr other ↦
+      let among : is_among q (y ∷ ys) ≡ true = h (ap is_some (sym (remove_at m y q ∙ ap (λ b. cond b None (get m q)) other.0)) ∙ e) in
+      grind (arith, among, other, eqb_tells y q)
+]
+
+few_keys : (ys : List ℕ) (m : Nodes) → ((q : ℕ) → is_some (get m q) ≡ true → is_among q ys ≡ true) → len m ≤ length ys
+few_keys [] m h =
+    let none : m ≡ empty = all_none m (λ q. elim (cases_Bool (is_some (get m q))) [ inl e ↦ absurd (false≢true (h q e)) | inr e ↦ e ]) in
+    omega (arith, ap len none, len-empty nat_cmp Node)
+few_keys (y ∷ ys) m h =
+    let fewer : len (remove m y) ≤ length ys = few_keys ys (remove m y) (λ q e. left_in y ys m q (h q) e) in
+    grind (arith, fewer, len-remove nat_cmp_total m y)
+
+pub few_in : (m : Nodes) (f : Forest) → StandsFor (records m) f → len m ≤ total f
+few_in m f s =
+    let few = few_keys (named.preorder key_of f) m (λ q e. is_among-preorder key_of q f ∙ sym (is_some-record_at f q) ∙ ap is_some (sym (s.same q)) ∙ is_some-map (record_of q) (get m q) ∙ e) in
+    omega (arith, few, length-preorder key_of f)
+
+has_one : (m : Nodes) (y : ℕ) (o : Option Node) → get m y ≡ o → is_some o ≡ true → 0 < len m
+has_one m y None e h = cc
+has_one m y (Some n) e h = some_key (len m) refl where
+  some_key : (k : ℕ) → len m ≡ k → 0 < k
+  some_key zero z = let none : get m y ≡ None = ap (λ x. get x y) (empty_of_len m z) ∙ get-empty nat_cmp y in let no : None ≡ Some n = sym none ∙ e in cc
+  some_key (suc k) z = omega arith
+
+still_in : (y : ℕ) (ys : List ℕ) (m : Nodes) (q : ℕ) → is_among y ys ≡ false → (is_among q (y ∷ ys) ≡ true → is_some (get m q) ≡ true) → is_among q ys ≡ true → is_some (get (remove m y) q) ≡ true
+still_in y ys m q out h e = elim (eqb_tells q y) [
+  | inl here ↦ absurd (false≢true (sym out ∙ ap (λ x. is_among x ys) (sym here.1) ∙ e))
+  | inr other ↦ ap is_some (remove_at m y q ∙ ap (λ b. cond b None (get m q)) other.0) ∙ h (grind (arith, e, cases_Bool (eqb y q)))
+]
+
+many_keys : (ys : List ℕ) (m : Nodes) → NoRepeats ys → ((q : ℕ) → is_among q ys ≡ true → is_some (get m q) ≡ true) → length ys ≤ len m
+many_keys [] m apart h = omega arith
+many_keys (y ∷ ys) m apart h =
+    let there : is_some (get m y) ≡ true = h y (grind (arith, eqb_tells y y)) in
+    let more : length ys ≤ len (remove m y) = many_keys ys (remove m y) apart.1 (λ q e. still_in y ys m q apart.0 (h q) e) in
+    let fewer : len (remove m y) ≡ len m - 1 = len-remove nat_cmp_total m y ∙ ap (λ b. cond b (len m - 1) (len m)) there in
+    let one : 0 < len m = has_one m y (get m y) refl there in
+    omega (arith, more, fewer, one)
+
+pub all_in : (m : Nodes) (f : Forest) → StandsFor (records m) f → len m ≡ total f
+all_in m f s =
+    let many = many_keys (named.preorder key_of f) m (NoRepeats-preorder key_of f s.in_order.once) (λ q e.
+    sym (is_some-map (record_of q) (get m q)) ∙ ap is_some (s.same q) ∙ is_some-record_at f q ∙ sym (is_among-preorder key_of q f) ∙ e) in
+    omega (arith, many, length-preorder key_of f, few_in m f s)
+
+-- ---- links of the root alone
+
+other_root : (q : ℕ) → eqb 0 q ≡ false → record_at root_alone q ≡ None
+other_root q e = ap (λ b. option_map (linked (siblings root_alone q) q) (cond b (Some (record { label = root_label; parent = None; children = [] })) None)) e
+
+pub root_stands : StandsFor (records (insert empty 0 (lone_node Root plain_element))) root_alone
+root_stands = record {
+  in_order = record { once = λ q. grind (arith, eqb_tells 0 q); rising = refl; root = refl };
+  same = λ q. ap (option_map (record_of q)) (insert_at empty 0 (lone_node Root plain_element) q ∙ ap (cond (eqb q 0) (Some (lone_node Root plain_element))) (get-empty nat_cmp q))
+      ∙ elim (eqb_tells q 0) [
+        | inl here ↦ let P : ℕ → Type 0 = λ x. option_map (record_of x) (cond (eqb x 0) (Some (lone_node Root plain_element)) None) ≡ record_at root_alone x in subst P (sym here.1) refl
+        | inr other ↦ ap (λ b. option_map (record_of q) (cond b (Some (lone_node Root plain_element)) None)) other.0 ∙ sym (other_root q (grind (arith, other, eqb_tells 0 q)))
+      ];
+  small = omega arith;
+}
+
+pub new_records : (start new : Nodes) (k : ℕ) (n : Node) (fields : Fields) → start ≡ empty → k ≡ 0 → n ≡ lone_node Root fields → fields ≡ plain_element → new ≡ insert start k n → StandsFor (records new) root_alone
+new_records start new k n fields empty_is root node plain put =
+    let e : new ≡ insert empty 0 (lone_node Root plain_element) =
+    put ∙ ap (λ m. insert m k n) empty_is ∙ ap (λ k. insert empty k n) root ∙ ap (insert empty 0) (node ∙ ap (lone_node Root) plain) in
+    let P : Nodes → Type 0 = λ m. StandsFor (records m) root_alone in subst P (sym e) root_stands
+
+-- ---- edits
+
+-- the record of a key whose node is seen
+pub record_by : (m : Nodes) (f : Forest) (k : ℕ) (n : Node) → StandsFor (records m) f → Some n ≡ option_map node_of (record_at f k) → record_at f k ≡ Some (record_of k n)
+record_by m f k n s e = sym (s.same k) ∙ ap (option_map (record_of k)) (get_stands m f k s ∙ sym e)
+
+mapped_over : (change : ℕ → Node → Node) (law : ℕ → Record → Record) (q : ℕ) (o : Option Node) → ((n : Node) → record_of q (change q n) ≡ law q (record_of q n)) → option_map (record_of q) (option_map (change q) o) ≡ option_map (law q) (option_map (record_of q) o)
+mapped_over change law q None h = refl
+mapped_over change law q (Some n) h = ap (λ r. Some r) (h n)
+
+-- what changes in each node changes in its record
+pub records_after : (old new : Nodes) (f : Forest) (change : ℕ → Node → Node) (law : ℕ → Record → Record) (q : ℕ) → StandsFor (records old) f → Differs change old new → ((n : Node) → record_of q (change q n) ≡ law q (record_of q n)) → records new q ≡ option_map (law q) (record_at f q)
+records_after old new f change law q s d h = ap (option_map (record_of q)) (d.each q) ∙ mapped_over change law q (get old q) h ∙ ap (option_map (law q)) (s.same q)
+
+inserted_record : (k q : ℕ) (kind : Kind) (fields : Fields) (o : Option Node) (r : Option Record) → option_map (record_of q) o ≡ r → option_map (record_of q) (cond (eqb q k) (Some (lone_node kind fields)) o) ≡ cond (eqb q k) (Some (lone (record { key = k; kind = kind; fields = fields }))) r
+inserted_record k q kind fields o r e = elim (eqb_tells q k) [
+  | inl here ↦ ap (λ b. option_map (record_of q) (cond b (Some (lone_node kind fields)) o)) here.0
+      ∙ ap (λ x. Some (record_of x (lone_node kind fields))) here.1
+      ∙ sym (ap (λ b. cond b (Some (lone (record { key = k; kind = kind; fields = fields }))) r) here.0)
+  | inr other ↦ ap (λ b. option_map (record_of q) (cond b (Some (lone_node kind fields)) o)) other.0 ∙ e
+      ∙ sym (ap (λ b. cond b (Some (lone (record { key = k; kind = kind; fields = fields }))) r) other.0)
+]
+
+pub inserted_stands : (m : Nodes) (f : Forest) (k : ℕ) (kind : Kind) (fields : Fields) → StandsFor (records m) f → has k f ≡ false → total f < 4294967295 → StandsFor (records (insert m k (lone_node kind fields))) (with_new (record { key = k; kind = kind; fields = fields }) f)
+inserted_stands m f k kind fields s free room =
+    let l : Label = record { key = k; kind = kind; fields = fields } in
+    record {
+      in_order = IsForest-with_new l f s.in_order free;
+      same = λ q. ap (option_map (record_of q)) (insert_at m k (lone_node kind fields) q) ∙ inserted_record k q kind fields (get m q) (record_at f q) (s.same q) ∙ sym (record_at-with_new l f q s.in_order free);
+      small = omega (arith, total-with_new l f, room);
+    }
+
+pub set_records : (old new : Nodes) (f : Forest) (k : ℕ) (fields : Fields) → StandsFor (records old) f → Differs (λ q. changed (Content fields) (is_named (Some k) q)) old new → StandsFor (records new) (with_fields k fields f)
+set_records old new f k fields s d = record {
+  in_order = IsForest-with_fields k fields f s.in_order;
+  same = λ q. records_after old new f (λ q. changed (Content fields) (is_named (Some k) q)) (refielded k fields) q s d (λ n. refl) ∙ sym (record_at-with_fields k fields f q);
+  small = omega (arith, total-with_fields k fields f, s.small);
+}
+
+same_unlinked : (k p q : ℕ) (n m : Node) → n.parent ≡ Some p → record_of q (unlinked k p n.prev n.next q m) ≡ recs.unlinked k (record_of k n) q (record_of q m)
+same_unlinked k p q n m e =
+    let G : Option ℕ → Record = λ up. record (record_of q (unlinked k p n.prev n.next q m)) {
+      first = cond (is_named up q && is_none n.prev) n.next m.first;
+      last = cond (is_named up q && is_none n.next) n.prev m.last;
+      size = cond (is_named up q) (m.size - 1) m.size;
+    } in
+    ap G (sym e)
+
+pub taken_records : (old new : Nodes) (f : Forest) (k p : ℕ) (n : Node) → StandsFor (records old) f → Some n ≡ option_map node_of (record_at f k) → n.parent ≡ Some p → Differs (unlinked k p n.prev n.next) old new → StandsFor (records new) (take_out k f)
+taken_records old new f k p n s e up d = record {
+  in_order = IsForest-take_out k f s.in_order;
+  same = λ q. records_after old new f (unlinked k p n.prev n.next) (recs.unlinked k (record_of k n)) q s d (λ m. same_unlinked k p q n m up)
+      ∙ sym (record_at-take_out k f (record_of k n) q s.in_order (record_by old f k n s e));
+  small = omega (arith, total-take_out k f, s.small);
+}
+
+pub put_records : (old new : Nodes) (f : Forest) (k : ℕ) (kind : Kind) (fields : Fields) (n : Node) → StandsFor (records old) f → has k f ≡ false → total f < 4294967295 → n ≡ lone_node kind fields → new ≡ insert old k n → StandsFor (records new) (with_new (record { key = k; kind = kind; fields = fields }) f)
+put_records old new f k kind fields n s free room node put =
+    let e : new ≡ insert old k (lone_node kind fields) = put ∙ ap (insert old k) node in
+    let P : Nodes → Type 0 = λ m. StandsFor (records m) (with_new (record { key = k; kind = kind; fields = fields }) f) in
+    subst P (sym e) (inserted_stands old f k kind fields s free room)
+
+-- ---- the same, with the kinds of children
+
+pub few_held : (m : Nodes) (f : Forest) → Holds m f → len m ≤ total f
+few_held m f h = few_in m f h.stands
+
+pub all_held : (m : Nodes) (f : Forest) → Holds m f → len m ≡ total f
+all_held m f h = all_in m f h.stands
+
+pub new_stands : (start new : Nodes) (k : ℕ) (n : Node) (fields : Fields) → start ≡ empty → k ≡ 0 → n ≡ lone_node Root fields → fields ≡ plain_element → new ≡ insert start k n → Holds new root_alone
+new_stands start new k n fields empty_is root node plain put =
+    record { stands = new_records start new k n fields empty_is root node plain put; held = IsHeld-root_alone may_hold }
+
+pub put_stands : (old new : Nodes) (f : Forest) (k : ℕ) (kind : Kind) (fields : Fields) (n : Node) → Holds old f → has k f ≡ false → total f < 4294967295 → n ≡ lone_node kind fields → new ≡ insert old k n → Holds new (with_new (record { key = k; kind = kind; fields = fields }) f)
+put_stands old new f k kind fields n h free room node put = record {
+  stands = put_records old new f k kind fields n h.stands free room node put;
+  held = IsHeld-with_new may_hold f h.stands.in_order h.held (record { key = k; kind = kind; fields = fields }) free;
+}
+
+pub set_stands : (old new : Nodes) (f : Forest) (k : ℕ) (fields : Fields) → Holds old f → Differs (λ q. changed (Content fields) (is_named (Some k) q)) old new → Holds new (with_fields k fields f)
+set_stands old new f k fields h d =
+    record { stands = set_records old new f k fields h.stands d; held = IsHeld-with_fields may_hold f h.stands.in_order h.held k fields }
+
+pub taken_stands : (old new : Nodes) (f : Forest) (k p : ℕ) (n : Node) → Holds old f → Some n ≡ option_map node_of (record_at f k) → n.parent ≡ Some p → Differs (unlinked k p n.prev n.next) old new → Holds new (take_out k f)
+taken_stands old new f k p n h e up d =
+    record { stands = taken_records old new f k p n h.stands e up d; held = IsHeld-take_out may_hold f h.stands.in_order h.held k }

@@ -1,0 +1,14 @@
+pub mod Beside
+pub mod ChildKinds
+pub mod Edited
+pub mod Maps
+pub mod Ordered
+pub mod Placed
+pub mod Refused
+pub mod Seen
+pub mod Stood
+pub mod Swept
+pub mod Up
+pub mod Bounds
+pub mod Places
+pub mod Alone

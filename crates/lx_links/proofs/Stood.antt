@@ -1,0 +1,62 @@
+-- What is known of links whose nodes stand for a forest.
+use Rattle.std.proofs.Common.{ℕ, ◌≡◌, ◌≢◌, ◌<◌, ◌^◌, Option, None, Some, option_map, refl, sym, ap, subst, arith}
+use Rattle.std.specs.FinMap.{get}
+use Rattle.lx_node.specs.Trees.{nil}
+use Rattle.lx_node.specs.NamedTrees.{total}
+use Rattle.lx_node.specs.declared.node.Node.{Node}
+use Rattle.lx_forest.specs.Forest.{Forest}
+use Rattle.lx_forest.specs.Lookups.{kind_of, IsHeld}
+use Rattle.lx_node.specs.Kinds.{may_hold}
+use Rattle.lx_node.specs.declared.kind.Kind.TheVariants.{Root}
+use Rattle.lx_forest.specs.Records.{Record, record_at, StandsFor}
+use Rattle.lx_links.specs.Stands.{Nodes, node_of, record_of, records, Stands, Standing, Holds, Sound, forest_in, forest_in-stands, forest_in-is}
+
+pub stood : (held : Option Nodes) (s : Standing held) (f : Forest) → forest_in held s ≡ f → Stands held f
+stood held s f e = subst (Stands held) e (forest_in-stands held s)
+
+-- a map that is held stands for the forest, and where none is held it is empty
+pub stood_by : (held : Option Nodes) (s : Standing held) (f : Forest) (m : Nodes) → forest_in held s ≡ f → held ≡ Some m → Holds m f
+stood_by held s f m e h = subst (λ x. Stands x f) h (stood held s f e)
+
+pub failed_by : (held : Option Nodes) (s : Standing held) (f : Forest) → forest_in held s ≡ f → held ≡ None → f ≡ nil
+failed_by held s f e h = subst (λ x. Stands x f) h (stood held s f e)
+
+node_again : (q : ℕ) (o : Option Node) (r : Option Record) → option_map (record_of q) o ≡ r → o ≡ option_map node_of r
+node_again q None r e = ap (option_map node_of) e
+node_again q (Some n) r e = ap (option_map node_of) e
+
+pub get_stands : (m : Nodes) (f : Forest) (q : ℕ) → StandsFor (records m) f → get m q ≡ option_map node_of (record_at f q)
+get_stands m f q s = node_again q (get m q) (record_at f q) (s.same q)
+
+pub node_by : (held : Option Nodes) (s : Standing held) (f : Forest) (m : Nodes) (q : ℕ) → forest_in held s ≡ f → held ≡ Some m → get m q ≡ option_map node_of (record_at f q)
+node_by held s f m q e h = get_stands m f q (stood_by held s f m e h).stands
+
+pub no_node : (f : Forest) (q : ℕ) → f ≡ nil → None ≡ option_map node_of (record_at f q)
+no_node f q e = let P : Forest → Type 0 = λ g. None ≡ option_map node_of (record_at g q) in subst P (sym e) refl
+
+IsHeld-nil : IsHeld may_hold nil
+IsHeld-nil = record { each = λ q p e. cc }
+
+sound_held : (held : Option Nodes) (f : Forest) → Stands held f → Sound f
+sound_held None f h = record {
+  in_order = λ no. absurd (no h);
+  held = subst (λ g. IsHeld may_hold g) (sym h) IsHeld-nil;
+  small = subst (λ g. total g < 2 ^ 32) (sym h) (omega arith);
+}
+sound_held (Some m) f h = record { in_order = λ no. h.stands.in_order; held = h.held; small = h.stands.small }
+
+pub sound : (held : Option Nodes) (s : Standing held) (f : Forest) → forest_in held s ≡ f → Sound f
+sound held s f e = sound_held held f (stood held s f e)
+
+pub held_living : (m : Nodes) (f : Forest) → Holds m f → f ≢ nil
+held_living m f s e = let P : Forest → Type 0 = λ g. kind_of g 0 ≡ Some Root in let h : None ≡ Some Root = subst P e s.stands.in_order.root in cc
+
+-- what is held now
+pub fails : (held : Option Nodes) (s : Standing held) → held ≡ None → forest_in held s ≡ nil
+fails held s e = forest_in-is held s nil (subst (λ x. Stands x nil) (sym e) refl)
+
+pub is_now : (m : Nodes) (s : Standing (Some m)) (f : Forest) → Holds m f → forest_in (Some m) s ≡ f
+is_now m s f h = forest_in-is (Some m) s f h
+
+pub same_stands : (m n : Nodes) (f : Forest) → Holds m f → n ≡ m → Holds n f
+same_stands m n f h e = let P : Nodes → Type 0 = λ x. Holds x f in subst P (sym e) h

@@ -1,0 +1,7 @@
+-- A reader of a forest, and how often it has read.
+use Rattle.std.specs.Prelude.{ℕ}
+use Rattle.lx_forest.specs.Forest.{Forest}
+
+pub record Reader : Type 0 where
+  pub forest : Forest
+  pub count : ℕ

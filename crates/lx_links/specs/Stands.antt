@@ -1,0 +1,116 @@
+-- When a store of nodes stands for a forest.
+use Rattle.std.specs.Prelude.{Bool, ℕ, ◌^◌, ◌<◌, ◌≡◌, ◌≢◌, Option, None, Some, option_map}
+use Rattle.std.specs.Ordering.{nat_cmp}
+use Rattle.std.specs.Coded.{Coded-set, coded_bool, codes, le_prop}
+use Rattle.std.specs.FinMap.{FinMap, get}
+use Rattle.std.proofs.Common.{sym, ap, ◌∙◌, subst}
+use Rattle.lx_node.specs.declared.kind.Kind.{Kind}
+use Rattle.lx_node.specs.declared.fields.Fields.{Fields}
+use Rattle.lx_node.specs.Trees.{nil, trees_code}
+use Rattle.lx_node.specs.NamedTrees.{total}
+use Rattle.lx_node.specs.declared.node.Node.{Node}
+use Rattle.lx_forest.specs.Forest.{Forest}
+use Rattle.lx_forest.specs.Lookups.{IsForest, IsHeld}
+use Rattle.lx_node.specs.Kinds.{may_hold}
+use Rattle.lx_forest.specs.Records.{Record, StandsFor}
+use Rattle.lx_forest.proofs.Records.{StandsFor-unique}
+
+abbrev pub Nodes : Type 0
+Nodes = FinMap nat_cmp Node
+
+-- a node as the record of its key, and back
+abbrev pub record_of : ℕ → Node → Record
+record_of q n =
+    record {
+      label = record { key = q; kind = n.kind; fields = n.fields };
+      parent = n.parent;
+      prev = n.prev;
+      next = n.next;
+      first = n.first;
+      last = n.last;
+      size = n.size;
+    }
+
+abbrev pub node_of : Record → Node
+node_of r =
+    record {
+      kind = r.label.kind;
+      fields = r.label.fields;
+      parent = r.parent;
+      prev = r.prev;
+      next = r.next;
+      first = r.first;
+      last = r.last;
+      size = r.size;
+    }
+
+-- a node without links
+abbrev pub lone_node : Kind → Fields → Node
+lone_node kind fields =
+    record { kind = kind; fields = fields; parent = None; prev = None; next = None; first = None; last = None; size = 0 }
+
+-- the records of a map of nodes
+abbrev pub records : Nodes → ℕ → Option Record
+records m q = option_map (record_of q) (get m q)
+
+-- such a map for a forest in which each child is of a kind that its parent's kind may hold
+pub record Holds (m : Nodes) (f : Forest) : Type 0 where
+  pub stands : StandsFor (records m) f
+  pub held : IsHeld may_hold f
+
+-- What stands for a forest: a map of nodes for one in order, and none for the empty one, which has no root.
+abbrev pub Stands : Option Nodes → Forest → Type 0
+Stands None f = f ≡ nil
+Stands (Some m) f = Holds m f
+
+-- a forest for which something stands
+pub record Standing (held : Option Nodes) : Type 0 where
+  pub forest : Forest
+  pub stands : Stands held forest
+
+Stands-unique : (held : Option Nodes) (f g : Forest) → Stands held f → Stands held g → f ≡ g
+Stands-unique None f g h k = h ∙ sym k
+Stands-unique (Some m) f g h k = StandsFor-unique (records m) f g h.stands k.stands
+
+Forest-set : IsSet Forest
+Forest-set = Coded-set (hlevel (codes, trees_code))
+
+Record-set : IsSet (Option Record)
+Record-set = Coded-set (hlevel (codes, trees_code))
+
+Kind-set : IsSet (Option Kind)
+Kind-set = Coded-set (hlevel codes)
+
+Bool-set : IsSet Bool
+Bool-set = Coded-set coded_bool
+
+Holds-prop : (m : Nodes) (f : Forest) → IsProp (Holds m f)
+Holds-prop m f = hlevel (le_prop, Bool-set, Record-set, Kind-set)
+
+Stands-prop : (held : Option Nodes) (f : Forest) → IsProp (Stands held f)
+Stands-prop None f = Forest-set f nil
+Stands-prop (Some m) f = Holds-prop m f
+
+same_standing : (held : Option Nodes) (x : Standing held) (f : Forest) (h : Stands held f) → x.forest ≡ f → x ≡ record { forest = f; stands = h }
+same_standing held x f h e = let P : Forest → Type 0 = λ g. (k : Stands held g) → x ≡ record { forest = g; stands = k } in subst P e (λ k. ap (λ k. record { forest = x.forest; stands = k }) (Stands-prop held x.forest x.stands k)) h
+
+pub Standing-prop : (held : Option Nodes) → IsProp (Standing held)
+Standing-prop held x y = same_standing held x y.forest y.stands (Stands-unique held x.forest y.forest x.stands y.stands)
+
+-- the forest, which doesn't unfold
+pub forest_in : (held : Option Nodes) → Standing held → Forest
+forest_in held s = s.forest
+
+pub forest_in-stands : (held : Option Nodes) (s : Standing held) → Stands held (forest_in held s)
+unfolding forest_in
+forest_in-stands held s = s.stands
+
+-- whatever stands for the forest of what is held
+pub forest_in-is : (held : Option Nodes) (s : Standing held) (f : Forest) → Stands held f → forest_in held s ≡ f
+forest_in-is held s f h = Stands-unique held (forest_in held s) f (forest_in-stands held s) h
+
+-- what a reader may take of the forest of any links
+pub record Sound (f : Forest) : Type 0 where
+  pub in_order : f ≢ nil → IsForest f
+  pub held : IsHeld may_hold f
+  pub small : total f < 2 ^ 32

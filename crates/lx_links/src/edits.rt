@@ -1,0 +1,123 @@
+use crate::changes::{Change, change_node, put_node};
+use crate::joints::{Gap, link_in, unlink};
+use crate::links::Links;
+use crate::nodes::{bad_place, lone_node, unknown};
+use lx_node::{Cause, Fault, Fields, Key, Kind, NoMemory};
+
+impl Links {
+    ghost use Rattle.std.specs.Prelude.{◌≡◌, ◌≢◌, ◌<◌, true, false, None, OnOk, OnErr, IfErr};
+    ghost use Rattle.lx_node.specs.Trees.{nil};
+    ghost use Rattle.lx_node.specs.NamedTrees.{total};
+    ghost use Rattle.lx_node.specs.Siblings.{is_place, place_behind};
+    ghost use Rattle.lx_node.specs.OfKind.{IsOfKind};
+    ghost use Rattle.lx_node.specs.declared.kind.Kind.TheVariants.{Root};
+    ghost use Rattle.lx_forest.specs.Lookups as lookups;
+    ghost use Rattle.lx_forest.specs.Edits.{with_new, with_fields, take_out, put_in};
+    ghost use Rattle.lx_links.specs.Faults.{Refuses, set_fault, detach_fault, place_fault};
+
+    /// Adds a node without children that stands below nothing.
+    pub fn insert_new(&mut self, key: Key, kind: Kind, fields: Fields) -> Result<(), NoMemory>
+        requires free { lookups.has key self.old ≡ false }
+        requires room { total self.old < 4294967295 }
+        requires other { kind ≢ Root }
+        requires of_kind { IsOfKind kind fields }
+        ensures added { OnOk result (self.new ≡ with_new (record { key = key; kind = kind; fields = fields }) self.old) }
+        ensures living { OnOk result (self.old ≢ nil) }
+        ensures failed { OnErr result (self.new ≡ nil) }
+    {
+        let Some(mut store) = self.held.take() else {
+            return Err(NoMemory);
+        };
+        put_node(&mut store, key, lone_node(kind, fields))?;
+        self.held = Some(store);
+        Ok(())
+    }
+
+    /// Changes the fields of a node. It is refused where there is no such node, and where the fields aren't
+    /// of its kind.
+    pub fn set(&mut self, key: Key, fields: Fields) -> Result<(), Fault>
+        ensures set { OnOk result ((set_fault key fields self.old ≡ None) × (self.new ≡ with_fields key fields self.old)) }
+        ensures living { OnOk result (self.old ≢ nil) }
+        ensures refused { IfErr result (Refuses self.old (set_fault key fields self.old) self.new) }
+    {
+        self.living()?;
+        let Some(node) = self.node(key) else {
+            return Err(unknown(key));
+        };
+        if !fields.is_of_kind(node.kind) {
+            return Err(Fault::Cause(Cause::WrongKind(node.kind)));
+        }
+        let Some(mut store) = self.held.take() else {
+            return Err(Fault::Memory);
+        };
+        change_node(&mut store, Some(key), Change::Content(fields))?;
+        self.held = Some(store);
+        Ok(())
+    }
+
+    /// Takes a node, with all below it, out from below its parent. It is refused where there is no such node,
+    /// and where it stands below nothing.
+    pub fn detach(&mut self, key: Key) -> Result<(), Fault>
+        ensures detached { OnOk result ((detach_fault key self.old ≡ None) × (self.new ≡ take_out key self.old)) }
+        ensures living { OnOk result (self.old ≢ nil) }
+        ensures refused { IfErr result (Refuses self.old (detach_fault key self.old) self.new) }
+    {
+        self.living()?;
+        let Some(node) = self.node(key) else {
+            return Err(unknown(key));
+        };
+        let Some(parent) = node.parent else {
+            return Err(bad_place(key));
+        };
+        let gap = Gap {
+            prev: node.prev,
+            next: node.next,
+        };
+        let Some(mut store) = self.held.take() else {
+            return Err(Fault::Memory);
+        };
+        unlink(&mut store, key, parent, &gap)?;
+        self.held = Some(store);
+        Ok(())
+    }
+
+    /// Puts a node that stands below nothing, with all below it, among the children of a parent: before one
+    /// of them, or at the end. It is refused where one of the three isn't there; where the parent may not
+    /// hold it; where it is the root, or stands below a node already, or the parent is in its tree; and
+    /// where what it is to come before isn't a child of the parent.
+    pub fn place(&mut self, parent: Key, before: Option<Key>, key: Key) -> Result<(), Fault>
+        ensures placed { OnOk result ((place_fault parent before key self.old ≡ None) × (self.new ≡ put_in parent before key self.old)) }
+        ensures living { OnOk result (self.old ≢ nil) }
+        ensures refused { IfErr result (Refuses self.old (place_fault parent before key self.old) self.new) }
+    {
+        self.living()?;
+        if let Some(cause) = self.place_fault(parent, &before, key) {
+            return Err(Fault::Cause(cause));
+        }
+        let gap = self.gap(parent, &before);
+        let Some(mut store) = self.held.take() else {
+            return Err(Fault::Memory);
+        };
+        link_in(&mut store, key, parent, &gap)?;
+        self.held = Some(store);
+        Ok(())
+    }
+
+    /// The gap before that child of the parent, or at the end.
+    fn gap(&self, parent: Key, before: &Option<Key>) -> Gap
+        requires { is_place before.now (lookups.children_of self.now parent) ≡ true }
+        ensures prev { result.prev ≡ place_behind before.now (lookups.children_of self.now parent) }
+        ensures next { result.next ≡ before.now }
+    {
+        match before {
+            Some(before) => Gap {
+                prev: self.previous(*before),
+                next: Some(*before),
+            },
+            None => Gap {
+                prev: self.last(parent),
+                next: None,
+            },
+        }
+    }
+}

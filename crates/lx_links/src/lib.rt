@@ -1,0 +1,23 @@
+//! Links: nodes by key, each with its parent, its neighbours and its ends, that stand for a forest.
+#![tactic(auto)]
+
+mod changes;
+mod children;
+mod edits;
+mod faults;
+mod joints;
+mod links;
+mod nodes;
+mod order;
+mod reads;
+mod records;
+mod sweep;
+mod views;
+mod walks;
+
+pub use children::Children;
+pub use links::Links;
+pub use records::{Counted, Records};
+
+#[cfg(test)]
+mod tests;

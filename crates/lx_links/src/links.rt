@@ -1,0 +1,94 @@
+ghost use Rattle.lx_links.specs.Stands.{Standing, Standing-prop};
+
+use crate::changes::put_node;
+use crate::nodes::{lone_node, plain_fields};
+use lx_node::{Key, Kind, NoMemory, Node};
+use lx_store::{Copies, Store};
+use std::alloc::Global;
+use std::marker::Model;
+
+/// Nodes that stand for a forest. Links that met want of memory in a call that changes them have failed:
+/// they have no nodes, not even a root, and each call that can want memory wants it.
+#[derive(Drop)]
+pub struct Links {
+    pub(crate) alloc: Global,
+    /// The nodes, or none where the links have failed.
+    pub(crate) held: Option<Store<Node>>,
+    ghost stands: { Standing held } by { Standing-prop held },
+}
+
+impl Model for Links {
+    ghost use Rattle.std.specs.Coded.{codes};
+    ghost use Rattle.lx_node.specs.Trees.{trees_code};
+    ghost use Rattle.lx_forest.specs.Forest.{Forest};
+
+    ghost Value = { Forest };
+
+    ghost coded = { Prim.hlevel (codes, trees_code) };
+
+    ghost use Rattle.lx_links.specs.Stands.{forest_in};
+
+    ghost view = { λ s. forest_in s.held s.stands };
+}
+
+impl Links {
+    ghost use Rattle.std.specs.Prelude.{◌≡◌, ◌≢◌, option_map, IfOk, OnOk, OnErr};
+    ghost use Rattle.lx_node.specs.Trees.{nil};
+    ghost use Rattle.lx_forest.specs.Forest.{root_alone};
+    ghost use Rattle.std.specs.Option.{option_copied};
+    ghost use Rattle.lx_forest.specs.Records.{record_at};
+    ghost use Rattle.lx_links.specs.Stands.{node_of, Sound};
+
+    /// Links of the root alone.
+    pub fn new(alloc: Global) -> Result<Links, NoMemory>
+        ensures { IfOk result (λ made. made ≡ root_alone) }
+    {
+        let mut store = Store::new(alloc)?;
+        let fields = plain_fields(alloc)?;
+        put_node(&mut store, Key::root(), lone_node(Kind::Root, fields))?;
+        Ok(Links {
+            alloc,
+            held: Some(store),
+        })
+    }
+
+    /// Equal links. What is done to either of the two afterwards leaves the other as it was.
+    pub fn fork(&self) -> Result<Links, NoMemory>
+        ensures equal { IfOk result (λ made. made ≡ self.now) }
+        ensures living { OnOk result (self.now ≢ nil) }
+    {
+        match &self.held {
+            Some(store) => {
+                let mut copies = Copies::new();
+                let fork = store.fork(&mut copies)?;
+                Ok(Links {
+                    alloc: self.alloc,
+                    held: Some(fork),
+                })
+            }
+            None => Err(NoMemory),
+        }
+    }
+
+    /// Whether the links haven't failed.
+    pub(crate) fn living(&self) -> Result<(), NoMemory>
+        ensures living { OnOk result (self.now ≢ nil) }
+        ensures failed { OnErr result (self.now ≡ nil) }
+    {
+        match &self.held {
+            Some(_) => Ok(()),
+            None => Err(NoMemory),
+        }
+    }
+
+    /// The node of a key, where there is one.
+    pub fn node(&self, key: Key) -> Option<&Node>
+        ensures node { option_copied result ≡ option_map node_of (record_at self.now key) }
+        ensures sound { Sound self.now }
+    {
+        match &self.held {
+            Some(store) => store.get(key),
+            None => None,
+        }
+    }
+}

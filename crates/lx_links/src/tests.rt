@@ -1,0 +1,170 @@
+use crate::{Counted, Links, Records};
+use lx_node::{
+    Align, Cause, Direction, ElementFields, Extra, Fault, Fields, Key, Kind, ListType, Mode, Named,
+    NoMemory, TextFields, Txt,
+};
+use std::alloc::Global;
+use std::cmp::Ordering;
+use std::process::Abort;
+use std::test::Fail;
+
+fn element(alloc: Global, extra: Extra) -> Result<Fields, NoMemory> {
+    Ok(Fields::Element(ElementFields {
+        direction: Direction::Unset,
+        format: Align::Unset,
+        indent: 0,
+        text_format: 0,
+        text_style: Txt::new(alloc, "")?,
+        extra,
+    }))
+}
+
+fn text(alloc: Global, text: &str) -> Result<Fields, NoMemory> {
+    Ok(Fields::Text(TextFields {
+        text: Txt::new(alloc, text)?,
+        format: 0,
+        detail: 0,
+        mode: Mode::Normal,
+        style: Txt::new(alloc, "")?,
+    }))
+}
+
+fn is_bad_place(answer: Result<(), Fault>, at: u64) -> bool {
+    match answer {
+        Err(Fault::Cause(Cause::BadPlace(key))) => key == at,
+        _ => false,
+    }
+}
+
+fn is_unknown(answer: Result<(), Fault>) -> bool {
+    match answer {
+        Err(Fault::Cause(cause)) => cause.code() == 3,
+        _ => false,
+    }
+}
+
+fn is_wrong_kind(answer: Result<(), Fault>, kind: Kind) -> bool {
+    match answer {
+        Err(Fault::Cause(Cause::WrongKind(wrong))) => wrong == kind,
+        _ => false,
+    }
+}
+
+fn insert(
+    rt: &impl Abort,
+    links: &mut Links,
+    key: u32,
+    kind: Kind,
+    fields: Fields,
+) -> Result<(), Fail> {
+    assert!(rt; !links.has(Key(key)) && kind != Kind::Root && fields.is_of_kind(kind));
+    assert!(rt; links.len() < 100);
+    links.insert_new(Key(key), kind, fields)?;
+    Ok(())
+}
+
+/// The keys of a node's children, as one number in base ten.
+fn child_digits(links: &Links, key: u32) -> u64 {
+    let mut digits = 0u64;
+    for child in links.children(Key(key)) {
+        digits = digits.wrapping_mul(10).wrapping_add(child.number() as u64);
+    }
+    digits
+}
+
+#[test]
+fn edits_change_the_links_or_say_why_not(rt: HostRuntime) -> Result<(), Fail> {
+    let alloc = rt.alloc();
+    let mut links = Links::new(alloc)?;
+    insert(
+        &rt,
+        &mut links,
+        1,
+        Kind::Paragraph,
+        element(alloc, Extra::Plain)?,
+    )?;
+    insert(
+        &rt,
+        &mut links,
+        2,
+        Kind::Quote,
+        element(alloc, Extra::Plain)?,
+    )?;
+    insert(&rt, &mut links, 3, Kind::Text, text(alloc, "three")?)?;
+    links.place(Key(0), None, Key(1))?;
+    links.place(Key(0), Some(Key(1)), Key(2))?;
+    assert_eq!(rt; child_digits(&links, 0), 21);
+    assert!(rt; is_bad_place(links.place(Key(2), None, Key(1)), 1));
+    links.detach(Key(1))?;
+    links.place(Key(2), None, Key(1))?;
+    links.place(Key(1), None, Key(3))?;
+    assert_eq!(rt; links.depth(Key(3)), Some(3));
+    let fork = links.fork()?;
+    links.detach(Key(2))?;
+    assert!(rt; is_wrong_kind(links.place(Key(1), None, Key(2)), Kind::Quote));
+    assert!(rt; is_bad_place(links.place(Key(0), Some(Key(3)), Key(2)), 3));
+    assert!(rt; is_unknown(links.place(Key(0), None, Key(9))));
+    assert!(rt; is_unknown(links.place(Key(8), Some(Key(7)), Key(9))));
+    assert!(rt; is_bad_place(links.detach(Key(2)), 2));
+    assert!(rt; is_wrong_kind(links.set(Key(3), Fields::Bare), Kind::Text));
+    assert!(rt; !links.is_attached(Key(3)));
+    links.drop_detached()?;
+    assert_eq!(rt; links.len(), 1);
+    assert_eq!(rt; fork.len(), 4);
+    assert!(rt; fork.is_attached(Key(3)));
+    Ok(())
+}
+
+#[test]
+fn a_list_is_not_put_below_itself(rt: HostRuntime) -> Result<(), Fail> {
+    let alloc = rt.alloc();
+    let mut links = Links::new(alloc)?;
+    let list = Kind::List(ListType::Bullet);
+    let item = Extra::Item {
+        value: 3,
+        checked: None,
+    };
+    insert(
+        &rt,
+        &mut links,
+        4,
+        list,
+        element(alloc, Extra::List { start: 1 })?,
+    )?;
+    insert(&rt, &mut links, 5, Kind::Item, element(alloc, item)?)?;
+    insert(
+        &rt,
+        &mut links,
+        6,
+        list,
+        element(alloc, Extra::List { start: 1 })?,
+    )?;
+    links.place(Key(4), None, Key(5))?;
+    links.place(Key(5), None, Key(6))?;
+    assert!(rt; is_bad_place(links.place(Key(5), None, Key(4)), 4));
+    links.place(Key(0), None, Key(4))?;
+    assert_eq!(rt; links.order_of(Key(6), Key(4)), Some(Ordering::Greater));
+    assert_eq!(rt; links.order_of(Key(5), Key(5)), Some(Ordering::Equal));
+    insert(&rt, &mut links, 7, Kind::Break, Fields::Bare)?;
+    links.place(Key(5), Some(Key(6)), Key(7))?;
+    assert_eq!(rt; links.order_of(Key(7), Key(6)), Some(Ordering::Less));
+    assert_eq!(rt; links.index_of(Key(6)), Some(1));
+    let mut children = links.children(Key(5));
+    assert_eq!(rt; children.next_back(), Some(Key(6)));
+    assert_eq!(rt; children.next(), Some(Key(7)));
+    assert_eq!(rt; children.next_back(), None);
+    match links.view(Key(5))? {
+        Some(view) => {
+            assert_eq!(rt; view.parent, Some(list));
+            assert_eq!(rt; view.children.len(), 2);
+            assert_eq!(rt; view.children.at(0), Some(Kind::Break));
+        }
+        None => assert!(rt; false),
+    }
+    let mut records = Counted::new(&links);
+    let first = records.read(Key(4));
+    let second = records.read(Key(9));
+    assert!(rt; first.is_some() && second.is_none());
+    assert_eq!(rt; records.reads(), 2);
+    Ok(())
+}
