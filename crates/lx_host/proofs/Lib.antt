@@ -1,0 +1,6 @@
+pub mod Edits
+pub mod Found
+pub mod Groves
+pub mod Laws
+pub mod Spotted
+pub mod Standing

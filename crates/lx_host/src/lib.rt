@@ -1,0 +1,18 @@
+//! The host tree that shows an editor state, and the operations that change it.
+//!
+//! A host tree is host 0 with the hosts below it, and hosts that aren't placed yet. Hosts are named by
+//! ids, which are given in the order of creation and never again. An operation fits a host tree, or it
+//! doesn't, and one that fits has one effect.
+#![tactic(auto)]
+
+mod grove;
+mod node;
+mod op;
+mod ops;
+mod tag;
+mod tree;
+
+pub use op::{Attrs, Op};
+pub use ops::Ops;
+pub use tag::{Inner, Name, Outer, Tag};
+pub use tree::HostTree;

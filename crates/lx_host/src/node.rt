@@ -1,0 +1,204 @@
+use crate::op::Attrs;
+use crate::tag::Tag;
+use lx_node::{Key, NoMemory, Txt};
+use std::alloc::Global;
+use std::marker::Model;
+
+/// A host with all below it.
+#[derive(Debug, Drop)]
+pub struct HostNode {
+    id: u32,
+    key: Key,
+    tag: Tag,
+    attrs: Attrs,
+    text: Option<Txt>,
+    ending: bool,
+    children: Vec<HostNode>,
+}
+
+impl Model for HostNode {
+    ghost use Rattle.std.specs.Prelude.{◌+◌};
+    ghost use Rattle.std.specs.Coded.{codes};
+    ghost use Rattle.lx_node.specs.Trees.{trees_code};
+    ghost use Rattle.lx_host.specs.Branches.{Branch, trees_of, size_of, most_le-total};
+
+    ghost Value = { Branch };
+
+    ghost coded = { Prim.hlevel (codes, trees_code) };
+
+    ghost view = { λ n. record { host = record { id = n.id; face = record { key = n.key; tag = n.tag; attrs = n.attrs; text = n.text; ending = n.ending } }; below = trees_of n.children.items } };
+
+    ghost size = { size_of };
+
+    ghost use Rattle.std.proofs.Common.{arith};
+
+    ghost size_decreases = { λ a h. omega (arith, most_le-total a.children.items) };
+}
+
+impl HostNode {
+    ghost use Rattle.std.specs.Prelude.{◌≡◌, [], ◌∷◌, OnOk, OnErr, IsTrue};
+    ghost use Rattle.std.specs.Option.{option_copied};
+    ghost use Rattle.lx_host.specs.Hosts.{count, without, alone, put_below, one_host, ids_of, children_of, fits_before};
+    ghost use Rattle.lx_host.specs.Branches.{trees_of, spotted, has_before};
+
+    /// A host with nothing below it.
+    pub fn new(
+        alloc: Global,
+        id: u32,
+        key: Key,
+        tag: Tag,
+        attrs: Attrs,
+        text: Option<Txt>,
+        ending: bool,
+    ) -> HostNode
+        ensures { trees_of (result ∷ []) ≡ one_host id (record { key = key; tag = tag; attrs = attrs; text = text; ending = ending }) }
+    {
+        HostNode {
+            id,
+            key,
+            tag,
+            attrs,
+            text,
+            ending,
+            children: Vec::new(alloc),
+        }
+    }
+
+    /// The id by which operations name this host.
+    pub fn id(&self) -> u32
+        ensures { result ≡ self.now.host.id }
+    {
+        self.id
+    }
+
+    /// The host of that id, among this one and all below it.
+    #[cycle(find)]
+    pub fn find(&self, id: u32) -> Option<&HostNode>
+        ensures { option_copied result ≡ spotted id (trees_of (self.now ∷ [])) }
+    {
+        if self.id == id {
+            return Some(self);
+        }
+        find_among(&self.children, id)
+    }
+
+    /// Whether that host may be put before this one among the children.
+    pub fn fits_before(&self, child: u32, before: Option<u32>) -> bool
+        ensures { result ≡ fits_before child before (ids_of self.now.below) }
+    {
+        match before {
+            None => true,
+            Some(before) => before != child && place_of(&self.children, before).is_some(),
+        }
+    }
+
+    /// Takes the host of that id, with all below it, out of what is below this host.
+    #[cycle(take)]
+    pub fn take_below(&mut self, id: u32) -> HostNode
+        requires { count id self.old.below ≡ 1 }
+        ensures host { self.new.host ≡ self.old.host }
+        ensures below { self.new.below ≡ without id self.old.below }
+        ensures taken { trees_of (result ∷ []) ≡ alone id self.old.below }
+    {
+        let at = holder_of(&self.children, id);
+        take_from(&mut self.children, at, id)
+    }
+
+    /// Puts a host among the children of the host of id `parent`, before one of them or at the end.
+    /// Without memory nothing changes here, and the host is dropped.
+    pub fn put(&mut self, parent: u32, before: Option<u32>, host: HostNode) -> Result<(), NoMemory>
+        requires once { count parent (trees_of (self.old ∷ [])) ≡ 1 }
+        requires before { IsTrue (has_before before (children_of parent (trees_of (self.old ∷ [])))) }
+        ensures put { OnOk result (trees_of (self.new ∷ []) ≡ put_below parent before (trees_of (host ∷ [])) (trees_of (self.old ∷ []))) }
+        ensures err { OnErr result (self.new ≡ self.old) }
+    {
+        if self.id == parent {
+            return insert_child(&mut self.children, before, host);
+        }
+        let at = holder_of(&self.children, parent);
+        self.children[at].put(parent, before, host)
+    }
+}
+
+ghost use Rattle.std.specs.Prelude.{◌≡◌, ℕ, ◌<◌, ◌==◌, [], ◌∷◌, length, OnOk, OnErr, IsTrue, slice_index_or};
+ghost use Rattle.std.specs.List.{position};
+ghost use Rattle.std.specs.Option.{option_copied};
+ghost use Rattle.lx_host.specs.Hosts.{count, without, alone, ids_of, inserted};
+ghost use Rattle.lx_host.specs.Branches.{Branch, trees_of, spotted, has_before};
+
+/// Where the host of that id stands among these, without what is below them.
+pub fn place_of(hosts: &[HostNode], id: u32) -> Option<usize>
+    ensures { result ≡ position (λ b. b.host.id == id) hosts.now }
+{
+    hosts.iter().position(|host| host.id == id)
+}
+
+/// The first host of that id among these and all below them.
+#[cycle(find)]
+pub fn find_among(hosts: &[HostNode], id: u32) -> Option<&HostNode>
+    ensures { option_copied result ≡ spotted id (trees_of hosts.now) }
+{
+    for host in hosts {
+        let found = host.find(id);
+        if found.is_some() {
+            return found;
+        }
+    }
+    None
+}
+
+/// Which of these is the host of that id, or has it below.
+pub fn holder_of(hosts: &[HostNode], id: u32) -> usize
+    requires { 0 < count id (trees_of hosts.now) }
+    ensures within { result < length hosts.now }
+    ensures holds { (d : Branch) → 0 < count id (trees_of (slice_index_or hosts.now result d ∷ [])) }
+{
+    for (at, host) in hosts.iter().enumerate() {
+        if host.find(id).is_some() {
+            return at;
+        }
+    }
+    unreachable!()
+}
+
+/// Takes the host of that id, with all below it, out of these hosts. It is the one at this place, or
+/// below that one.
+#[cycle(take)]
+pub fn take_from(hosts: &mut Vec<HostNode>, at: usize, id: u32) -> HostNode
+    requires once { count id (trees_of hosts.old.items) ≡ 1 }
+    requires within { at < length hosts.old.items }
+    requires holds { (d : Branch) → 0 < count id (trees_of (slice_index_or hosts.old.items at d ∷ [])) }
+    ensures left { trees_of hosts.new.items ≡ without id (trees_of hosts.old.items) }
+    ensures taken { trees_of (result ∷ []) ≡ alone id (trees_of hosts.old.items) }
+{
+    if hosts[at].id() == id {
+        hosts.remove(at)
+    } else {
+        hosts[at].take_below(id)
+    }
+}
+
+/// Puts a host among these, before one of them or at the end. Without memory they stay as they were, and
+/// the host is dropped.
+fn insert_child(
+    children: &mut Vec<HostNode>,
+    before: Option<u32>,
+    host: HostNode,
+) -> Result<(), NoMemory>
+    requires { IsTrue (has_before before (ids_of (trees_of children.old.items))) }
+    ensures ok { OnOk result (trees_of children.new.items ≡ inserted before (trees_of (host ∷ [])) (trees_of children.old.items)) }
+    ensures err { OnErr result (children.new.items ≡ children.old.items) }
+{
+    match before {
+        None => {
+            children.push(host)?;
+        }
+        Some(before) => match place_of(children, before) {
+            Some(at) => {
+                children.insert(at, host)?;
+            }
+            None => unreachable!(),
+        },
+    }
+    Ok(())
+}

@@ -1,0 +1,202 @@
+use crate::grove::Grove;
+use crate::node::HostNode;
+use crate::op::{Attrs, Op};
+use crate::tag::Tag;
+use lx_node::{Key, NoMemory};
+use std::alloc::Global;
+use std::marker::Model;
+
+/// A host tree: host 0 with all below it, hosts that aren't placed yet, and the least id never used.
+/// No id stands twice in it.
+#[derive(Debug, Drop)]
+pub struct HostTree {
+    alloc: Global,
+    grove: Grove,
+    next_id: u32,
+}
+
+impl Model for HostTree {
+    ghost use Rattle.lx_host.specs.Hosts.{HostTree};
+    ghost use Rattle.lx_host.specs.Branches.{IsStanding};
+    ghost use Rattle.std.specs.Coded.{codes};
+    ghost use Rattle.lx_node.specs.Trees.{trees_code};
+
+    ghost Value = { HostTree };
+
+    ghost coded = { Prim.hlevel (codes, trees_code) };
+
+    ghost view = { λ t. record { hosts = t.grove; next = t.next_id } };
+
+    ghost invariant = { λ t. IsStanding (record { hosts = t.grove; next = t.next_id }) };
+}
+
+impl HostTree {
+    ghost use Rattle.std.specs.Prelude.{◌≡◌, IfOk, OnOk, IsTrue};
+    ghost use Rattle.lx_host.specs.Hosts.{new_tree, fits, effect, FitInTurn, Leads, IsNumbered};
+    ghost use Rattle.lx_host.specs.declared.op.Op.TheVariants.{Place};
+
+    /// Host 0 alone, which shows the root.
+    pub fn new(alloc: Global) -> Result<HostTree, NoMemory>
+        ensures { IfOk result (λ made. made ≡ new_tree) }
+    {
+        let attrs = Attrs::of(Vec::new(alloc));
+        let root = HostNode::new(alloc, 0, Key::root(), Tag::Div, attrs, None, false);
+        Ok(HostTree {
+            alloc,
+            grove: Grove::new(alloc, root),
+            next_id: 1,
+        })
+    }
+
+    /// The least id never used. Ids are given in order, and no host has one twice.
+    pub fn next_id(&self) -> u32
+        ensures next { result ≡ self.now.next }
+        ensures numbered { IsNumbered self.now }
+    {
+        self.next_id
+    }
+
+    /// Whether a change can be made now: a host is created under the next id, while there is one left, and
+    /// a host other than 0 is placed below a host that isn't below it, before a child of that one.
+    pub fn fits(&self, op: &Op) -> bool
+        ensures { result ≡ fits op.now self.now }
+    {
+        match op {
+            Op::Create { id, .. } => *id == self.next_id && self.next_id < u32::MAX,
+            Op::Place {
+                parent,
+                child,
+                before,
+            } => self.fits_place(*parent, *child, *before),
+        }
+    }
+
+    /// Whether a host can be placed there now.
+    fn fits_place(&self, parent: u32, child: u32, before: Option<u32>) -> bool
+        ensures { result ≡ fits (Place parent child before) self.now }
+    {
+        if child == 0 {
+            return false;
+        }
+        let Some(moved) = self.grove.find(child) else {
+            return false;
+        };
+        let Some(target) = self.grove.find(parent) else {
+            return false;
+        };
+        moved.find(parent).is_none() && target.fits_before(child, before)
+    }
+
+    /// Makes these changes in turn. After want of memory the tree is only fit to be dropped.
+    pub fn apply(&mut self, ops: Vec<Op>) -> Result<(), NoMemory>
+        requires { FitInTurn self.old ops.items }
+        ensures { OnOk result (Leads self.old ops.items self.new) }
+    {
+        for op in ops {
+            self.make(op)?;
+        }
+        Ok(())
+    }
+
+    /// Makes one change. After want of memory the tree is only fit to be dropped.
+    fn make(&mut self, op: Op) -> Result<(), NoMemory>
+        requires { IsTrue (fits op self.old) }
+        ensures { OnOk result (self.new ≡ effect op self.old) }
+    {
+        match op {
+            Op::Create {
+                id,
+                key,
+                tag,
+                attrs,
+                text,
+                ending,
+            } => {
+                let host = HostNode::new(self.alloc, id, key, tag, attrs, text, ending);
+                self.grove.add(host)?;
+                self.next_id += 1;
+                Ok(())
+            }
+            Op::Place {
+                parent,
+                child,
+                before,
+            } => self.place(parent, child, before),
+        }
+    }
+
+    /// Places one host. After want of memory the child is gone.
+    fn place(&mut self, parent: u32, child: u32, before: Option<u32>) -> Result<(), NoMemory>
+        requires { IsTrue (fits (Place parent child before) self.old) }
+        ensures { OnOk result (self.new ≡ effect (Place parent child before) self.old) }
+    {
+        let host = self.grove.take(child);
+        self.grove.put(parent, before, host)
+    }
+}
+
+#[cfg(test)]
+mod tests {
+    use super::*;
+    use crate::tag::{Inner, Name};
+    use lx_node::Txt;
+    use std::process::Abort;
+    use std::test::Fail;
+
+    fn place(parent: u32, child: u32, before: Option<u32>) -> Op {
+        Op::Place {
+            parent,
+            child,
+            before,
+        }
+    }
+
+    fn paragraph(alloc: Global, id: u32) -> Op {
+        Op::Create {
+            id,
+            key: Key(id),
+            tag: Tag::P,
+            attrs: Attrs::of(Vec::new(alloc)),
+            text: None,
+            ending: false,
+        }
+    }
+
+    fn text(alloc: Global, id: u32) -> Result<Op, NoMemory> {
+        let shown = (Name::DataLexicalText, Txt::new(alloc, "true")?);
+        Ok(Op::Create {
+            id,
+            key: Key(id),
+            tag: Tag::Inline(None, Inner::Span),
+            attrs: Attrs::of(vec![in alloc; shown]?),
+            text: Some(Txt::new(alloc, "Hi")?),
+            ending: false,
+        })
+    }
+
+    fn step(rt: &impl Abort, alloc: Global, tree: &mut HostTree, op: &Op) -> Result<(), NoMemory> {
+        assert!(rt; tree.fits(op), "{op:?}");
+        let ops = vec![in alloc; op.copy(alloc)?]?;
+        tree.apply(ops)
+    }
+
+    #[test]
+    fn appends_paragraphs(rt: HostRuntime) -> Result<(), Fail> {
+        let alloc = rt.alloc();
+        let mut tree = HostTree::new(alloc)?;
+        step(&rt, alloc, &mut tree, &paragraph(alloc, 1))?;
+        assert!(rt; !tree.fits(&paragraph(alloc, 1)), "its id is used");
+        step(&rt, alloc, &mut tree, &text(alloc, 2)?)?;
+        step(&rt, alloc, &mut tree, &place(1, 2, None))?;
+        step(&rt, alloc, &mut tree, &place(0, 1, None))?;
+        assert!(rt; !tree.fits(&place(1, 1, None)), "below itself");
+        assert!(rt; !tree.fits(&place(2, 1, None)), "below its own text");
+        assert!(rt; !tree.fits(&place(1, 0, None)), "host 0 stays");
+        assert!(rt; !tree.fits(&place(0, 2, Some(2))), "no child of host 0");
+        step(&rt, alloc, &mut tree, &paragraph(alloc, 3))?;
+        step(&rt, alloc, &mut tree, &place(0, 3, Some(1)))?;
+        assert!(rt; tree.fits(&place(0, 2, Some(3))), "a child of host 0");
+        assert_eq!(rt; tree.next_id(), 4);
+        Ok(())
+    }
+}
