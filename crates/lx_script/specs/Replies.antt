@@ -1,0 +1,154 @@
+-- The bytes of a reply: compact JSON, whose members stand in byte order, as serde_json writes a value.
+use Rattle.std.specs.Prelude.{ℕ, List, [], ◌∷◌, codes, map, encode_utf8_all, Option, None, Some}
+use Rattle.serde_json.specs.Data.{Data, null, boolean, number, unsigned, string, array, object, Members, no_members, member, put}
+use Rattle.serde_json.specs.View.{items_of}
+use Rattle.serde_json.specs.Written.{compact_text}
+use Rattle.lx_node.specs.Causes.{code_of}
+use Rattle.lx_node.specs.Kinds.{type_name}
+use Rattle.lx_node.specs.declared.cause.PointKind.{PointKind}
+use Rattle.lx_node.specs.declared.cause.PointKind.TheVariants as point
+use Rattle.lx_node.specs.declared.cause.Point.{Point}
+use Rattle.lx_node.specs.declared.cause.SelectionKind.{SelectionKind}
+use Rattle.lx_node.specs.declared.cause.SelectionKind.TheVariants.{Nothing, Range, Nodes, Cells}
+use Rattle.lx_node.specs.declared.cause.Limit.{Limit}
+use Rattle.lx_node.specs.declared.cause.Limit.TheVariants as limit
+use Rattle.lx_node.specs.declared.cause.Named.{Named}
+use Rattle.lx_node.specs.declared.cause.Named.TheVariants as named
+use Rattle.lx_node.specs.declared.cause.Lost.{Lost}
+use Rattle.lx_node.specs.declared.cause.Lost.TheVariants as lost
+use Rattle.lx_node.specs.declared.cause.Cause.{Cause}
+use Rattle.lx_node.specs.declared.cause.Cause.TheVariants.{BadLine, BadCommand, UnknownNode, WrongKind, BadPlace, NoSelection, SelectionLost, NoRest, StepLimit, DispatchDepth, TooLarge, UnknownType, BadState, EmptyState, HistoryInside, TooManyRules}
+use Rattle.lx_host.specs.Words.{tag_word, name_word}
+use Rattle.lx_host.specs.declared.tag.Name.{Name}
+use Rattle.lx_host.specs.declared.op.Op.{Op}
+use Rattle.lx_host.specs.declared.op.Op.TheVariants.{Create, Place}
+use Rattle.lx_script.specs.declared.reply.Reply.{Reply}
+use Rattle.lx_script.specs.declared.reply.Reply.TheVariants.{Committed, Refused}
+
+-- ---- parts of replies
+
+abbrev pub natural : ℕ → Data
+natural n = number (unsigned n)
+
+abbrev pub text_data : List ℕ → Data
+text_data text = string (encode_utf8_all text)
+
+abbrev pub or_null : {A : Type 0} → (A → Data) → Option A → Data
+or_null data_of None = null
+or_null data_of (Some a) = data_of a
+
+abbrev pub list_data : List Data → Data
+list_data items = array (items_of items)
+
+-- ---- operations
+
+-- the members so far, with one for each attribute
+abbrev pub attributes_onto : Members → List (Name × List ℕ) → Members
+attributes_onto members [] = members
+attributes_onto members (attribute ∷ attributes) =
+    attributes_onto (put (name_word attribute.0) (text_data attribute.1) members) attributes
+
+abbrev pub attributes_data : List (Name × List ℕ) → Data
+attributes_data attributes = object (attributes_onto no_members attributes)
+
+-- ["create",id,key,tag,attributes,text or null,ending] and ["place",parent,child,before or null]
+unfoldable pub op_data : Op → Data
+op_data (Create id key tag attributes text ending) =
+    list_data (string (codes "create") ∷ natural id ∷ natural key ∷ string (tag_word tag) ∷ attributes_data attributes ∷ or_null text_data text ∷ boolean ending ∷ [])
+op_data (Place parent child before) =
+    list_data (string (codes "place") ∷ natural parent ∷ natural child ∷ or_null natural before ∷ [])
+
+-- ---- causes
+
+abbrev pub cause_name : Cause → List ℕ
+cause_name BadLine = codes "BadLine"
+cause_name BadCommand = codes "BadCommand"
+cause_name (UnknownNode named) = codes "UnknownNode"
+cause_name (WrongKind kind) = codes "WrongKind"
+cause_name (BadPlace n) = codes "BadPlace"
+cause_name (NoSelection kind) = codes "NoSelection"
+cause_name (SelectionLost lost) = codes "SelectionLost"
+cause_name NoRest = codes "NoRest"
+cause_name StepLimit = codes "StepLimit"
+cause_name DispatchDepth = codes "DispatchDepth"
+cause_name (TooLarge limit reached) = codes "TooLarge"
+cause_name (UnknownType type) = codes "UnknownType"
+cause_name (BadState place) = codes "BadState"
+cause_name EmptyState = codes "EmptyState"
+cause_name HistoryInside = codes "HistoryInside"
+cause_name TooManyRules = codes "TooManyRules"
+
+abbrev pub point_kind_name : PointKind → List ℕ
+point_kind_name point.Text = codes "text"
+point_kind_name point.Element = codes "element"
+
+-- [key,offset,kind]
+abbrev pub point_data : Point → Data
+point_data p = list_data (natural p.key ∷ natural p.offset ∷ string (point_kind_name p.kind) ∷ [])
+
+abbrev pub selection_name : SelectionKind → List ℕ
+selection_name Nothing = codes "none"
+selection_name Range = codes "range"
+selection_name Nodes = codes "nodes"
+selection_name Cells = codes "cells"
+
+abbrev pub limit_name : Limit → List ℕ
+limit_name limit.Depth = codes "depth"
+limit_name limit.Nodes = codes "nodes"
+limit_name limit.Characters = codes "characters"
+limit_name limit.KeyCount = codes "key"
+limit_name limit.Written = codes "written"
+
+abbrev pub named_data : Named → Data
+named_data (named.Key key) = natural key
+named_data (named.Name name) = text_data name
+
+abbrev pub lost_data : Lost → Data
+lost_data (lost.Point p) = point_data p
+lost_data (lost.Key key) = natural key
+
+-- [limit,number reached]
+abbrev pub reached_data : Limit → ℕ → Data
+reached_data limit reached = list_data (string (limit_name limit) ∷ natural reached ∷ [])
+
+-- what a cause tells beside its name
+abbrev pub detail_of : Cause → Data
+detail_of BadLine = null
+detail_of BadCommand = null
+detail_of (UnknownNode named) = named_data named
+detail_of (WrongKind kind) = string (type_name kind)
+detail_of (BadPlace n) = natural n
+detail_of (NoSelection kind) = string (selection_name kind)
+detail_of (SelectionLost lost) = lost_data lost
+detail_of NoRest = natural 101
+detail_of StepLimit = natural 100001
+detail_of DispatchDepth = natural 65
+detail_of (TooLarge limit reached) = reached_data limit reached
+detail_of (UnknownType type) = text_data type
+detail_of (BadState place) = text_data place
+detail_of EmptyState = null
+detail_of HistoryInside = null
+detail_of TooManyRules = natural 256
+
+-- ---- replies
+
+-- {"commit":N,"ops":[..]}
+abbrev pub commit_data : ℕ → List Op → Data
+commit_data commit ops =
+    object (member (codes "commit") (natural commit) (member (codes "ops") (list_data (map op_data ops)) no_members))
+
+-- {"refused":{"cause":NAME,"code":C,"detail":D,"step":I}}, where the step is an index or null
+abbrev pub refusal_data : Cause → Option ℕ → Data
+refusal_data cause step =
+    object (member (codes "refused") (object
+    (member (codes "cause") (string (cause_name cause))
+    (member (codes "code") (natural (code_of cause))
+    (member (codes "detail") (detail_of cause)
+    (member (codes "step") (or_null natural step) no_members))))) no_members)
+
+unfoldable pub reply_data : Reply → Data
+reply_data (Committed commit ops) = commit_data commit ops
+reply_data (Refused cause step) = refusal_data cause step
+
+unfoldable pub reply_text : Reply → List ℕ
+reply_text reply = compact_text (reply_data reply)

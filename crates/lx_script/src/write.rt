@@ -1,0 +1,52 @@
+//! Replies: a JSON value is built once, and written without spaces.
+
+ghost use Rattle.std.specs.Prelude.{◌≡◌, IfOk};
+ghost use Rattle.serde_json.specs.View.{view};
+ghost use Rattle.lx_script.specs.Replies.{reply_data, reply_text, commit_data, refusal_data};
+
+use crate::causes::{cause_name, detail_value};
+use crate::ops::ops_value;
+use crate::reply::Reply;
+use lx_host::Op;
+use lx_node::{Cause, NoMemory};
+use serde_json::{Value, json};
+use std::alloc::{AllocError, Global};
+
+/// The bytes of a reply, without a line end: compact JSON whose members stand in byte order.
+pub fn write_reply(alloc: Global, reply: &Reply) -> Result<Vec<u8>, NoMemory>
+    ensures { IfOk result (λ bytes. bytes.items ≡ reply_text reply.now) }
+{
+    let value = reply_value(alloc, reply)?;
+    Ok(value.to_vec(alloc)?)
+}
+
+#[tactic(auto, unfolding(crate::specs::Replies::reply_data))]
+fn reply_value(alloc: Global, reply: &Reply) -> Result<Value, AllocError>
+    ensures { IfOk result (λ v. view v ≡ reply_data reply.now) }
+{
+    match reply {
+        Reply::Committed { number, ops } => commit_value(alloc, *number, ops.items()),
+        Reply::Refused { cause, step } => refusal_value(alloc, cause, *step),
+    }
+}
+
+fn commit_value(alloc: Global, number: u32, ops: &[Op]) -> Result<Value, AllocError>
+    ensures { IfOk result (λ v. view v ≡ commit_data number ops.now) }
+{
+    let ops = ops_value(alloc, ops)?;
+    json!(in alloc; {"commit": number, "ops": ops})
+}
+
+fn refusal_value(alloc: Global, cause: &Cause, step: Option<u32>) -> Result<Value, AllocError>
+    ensures { IfOk result (λ v. view v ≡ refusal_data cause.now step) }
+{
+    let detail = detail_value(alloc, cause)?;
+    json!(in alloc; {
+        "refused": {
+            "cause": cause_name(cause),
+            "code": cause.code(),
+            "detail": detail,
+            "step": step,
+        }
+    })
+}
