@@ -1,0 +1,4 @@
+pub mod Append
+pub mod Placed
+pub mod Shown
+pub mod Words

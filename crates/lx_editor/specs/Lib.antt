@@ -1,0 +1,5 @@
+pub mod Editor
+pub mod Appended
+pub mod Blocks
+pub mod Follows
+pub mod Operations
