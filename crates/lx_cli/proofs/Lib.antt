@@ -1,0 +1,6 @@
+pub mod Devices
+pub mod Lines
+pub mod Answering
+pub mod Taking
+pub mod Pieces
+pub mod Runs

@@ -1,0 +1,21 @@
+-- How the process ends for each status of a run.
+use Rattle.std.specs.Prelude.{ℕ, List, Option, None, Some, codes}
+use Rattle.lx_cli.specs.declared.status.Status.{Status}
+use Rattle.lx_cli.specs.declared.status.Status.TheVariants.{Done, Usage, ReadFault, WriteFault, Memory, InputTooLong}
+
+abbrev pub number_of : Status → ℕ
+number_of Done = 0
+number_of Usage = 2
+number_of ReadFault = 3
+number_of WriteFault = 4
+number_of Memory = 5
+number_of InputTooLong = 6
+
+-- what is said of a run that isn't done
+abbrev pub message_of : Status → Option (List ℕ)
+message_of Done = None
+message_of Usage = Some (codes "usage")
+message_of ReadFault = Some (codes "read fault")
+message_of WriteFault = Some (codes "write fault")
+message_of Memory = Some (codes "memory")
+message_of InputTooLong = Some (codes "input too long")

@@ -1,0 +1,4 @@
+pub mod Lines
+pub mod Run
+pub mod Steps
+pub mod Ends

@@ -1,0 +1,128 @@
+-- What a run of the program may be.
+use Rattle.std.specs.Prelude.{◌≡◌, ◌≢◌, ℕ, ◌+◌, ◌<◌, ◌≤◌, ◌⊎◌, List, [], ◌++◌, length, take, Option}
+use Rattle.lx_io.specs.Devices.{Consumes, Appends, IsAtEnd, HasRisen, IsCounted, last_count}
+use Rattle.lx_editor.specs.Editor.{Editor, new_editor}
+use Rattle.lx_editor.specs.Follows.{Follows}
+use Rattle.lx_cli.specs.Lines.{ended, lines_of}
+use Rattle.lx_cli.specs.declared.status.Status.{Status}
+use Rattle.lx_cli.specs.declared.status.Status.TheVariants.{Done, Usage, ReadFault, WriteFault, Memory, InputTooLong}
+
+-- the most bytes that the input may have
+abbrev pub input_limit : ℕ
+input_limit = 16777216
+
+-- what can be seen of a source: the bytes that it has left and how often it was read, where it tells them, and its
+-- count of faults
+pub record SourceSeen : Type 0 where
+  pub left : Option (List ℕ)
+  pub faults : ℕ
+  pub reads : Option ℕ
+
+-- what can be seen of a sink: the bytes that it took and how often it was written to, where it tells them, and its
+-- count of faults
+pub record SinkSeen : Type 0 where
+  pub taken : Option (List ℕ)
+  pub faults : ℕ
+  pub writes : Option ℕ
+
+abbrev pub source_seen : {S : Type 0} → (S → Option (List ℕ)) → (S → ℕ) → (S → Option ℕ) → S → SourceSeen
+source_seen left faults reads source = record { left = left source; faults = faults source; reads = reads source }
+
+abbrev pub sink_seen : {K : Type 0} → (K → Option (List ℕ)) → (K → ℕ) → (K → Option ℕ) → K → SinkSeen
+sink_seen taken faults writes sink = record { taken = taken sink; faults = faults sink; writes = writes sink }
+
+-- A run as it is seen from outside: how many words there were, the bytes that it read and wrote, and the source and the
+-- sink before it and after it.
+pub record Seen : Type 0 where
+  pub words : ℕ
+  pub read : List ℕ
+  pub written : List ℕ
+  pub source_before : SourceSeen
+  pub source_after : SourceSeen
+  pub sink_before : SinkSeen
+  pub sink_after : SinkSeen
+
+-- no fault was counted in the run
+pub record IsFaultless (run : Seen) : Type 0 where
+  pub source : run.source_after.faults ≡ run.source_before.faults
+  pub sink : run.sink_after.faults ≡ run.sink_before.faults
+
+-- what was written is the front of replies that the editor may give to a front of the lines
+pub record IsFrontOfReplies (editor : Editor) (lines : List (List ℕ)) (written : List ℕ) : Type 0 where
+  pub answered : List (List ℕ)
+  pub later_lines : List (List ℕ)
+  pub front : answered ++ later_lines ≡ lines
+  pub replies : List ℕ
+  pub later_bytes : List ℕ
+  pub follows : Follows editor answered replies
+  pub begun : written ++ later_bytes ≡ replies
+
+-- The input was read to its end, and all of its lines are answered.
+pub record IsDone (run : Seen) : Type 0 where
+  pub no_words : run.words ≡ 0
+  pub at_end : IsAtEnd run.source_after.left
+  pub short : length run.read ≤ input_limit
+  pub follows : Follows new_editor (lines_of run.read) run.written
+  pub faultless : IsFaultless run
+
+-- There were words, and nothing was read or written.
+pub record IsUsage (run : Seen) : Type 0 where
+  pub words : run.words ≢ 0
+  pub read : run.read ≡ []
+  pub written : run.written ≡ []
+  pub faultless : IsFaultless run
+
+-- A read failed, and the lines that had ended are answered.
+pub record IsReadFault (run : Seen) : Type 0 where
+  pub no_words : run.words ≡ 0
+  pub short : length run.read ≤ input_limit
+  pub follows : Follows new_editor (ended run.read) run.written
+  pub source : HasRisen run.source_before.faults run.source_after.faults
+  pub sink : run.sink_after.faults ≡ run.sink_before.faults
+
+-- A write failed.
+pub record IsWriteFault (run : Seen) : Type 0 where
+  pub no_words : run.words ≡ 0
+  pub front : IsFrontOfReplies new_editor (lines_of run.read) run.written
+  pub source : run.source_after.faults ≡ run.source_before.faults
+  pub sink : HasRisen run.sink_before.faults run.sink_after.faults
+
+-- Memory was wanting.
+pub record IsOutOfMemory (run : Seen) : Type 0 where
+  pub no_words : run.words ≡ 0
+  pub front : IsFrontOfReplies new_editor (lines_of run.read) run.written
+  pub faultless : IsFaultless run
+
+-- One byte more than the limit was read, and the lines that had ended before it are answered.
+pub record IsTooLong (run : Seen) : Type 0 where
+  pub no_words : run.words ≡ 0
+  pub long : length run.read ≡ input_limit + 1
+  pub follows : Follows new_editor (ended (take input_limit run.read)) run.written
+  pub faultless : IsFaultless run
+
+-- what each status says of a run
+unfoldable pub Ends : Status → Seen → Type 0
+Ends Done run = IsDone run
+Ends Usage run = IsUsage run
+Ends ReadFault run = IsReadFault run
+Ends WriteFault run = IsWriteFault run
+Ends Memory run = IsOutOfMemory run
+Ends InputTooLong run = IsTooLong run
+
+-- Both counts of faults stand where they stood, and not at their last value.
+pub record HasNoFault (run : Seen) : Type 0 where
+  pub faultless : IsFaultless run
+  pub source : run.source_before.faults < last_count
+  pub sink : run.sink_before.faults < last_count
+
+-- A run that ended so. What it read is gone from the source, and what it wrote went to the sink. It reads at most one
+-- byte more than the limit; each read but the last takes a byte or fails, and each write takes a byte or fails. Where
+-- there are no words, no fault and not too many bytes, it is done, unless memory was wanting.
+pub record IsRun (status : Status) (run : Seen) : Type 0 where
+  pub ends : Ends status run
+  pub consumes : Consumes run.source_before.left run.source_after.left run.read
+  pub appends : Appends run.sink_before.taken run.sink_after.taken run.written
+  pub bounded : length run.read ≤ input_limit + 1
+  pub reads : IsCounted run.source_before.reads run.source_after.reads (length run.read + 1)
+  pub writes : IsCounted run.sink_before.writes run.sink_after.writes (length run.written + 1)
+  pub complete : run.words ≡ 0 → HasNoFault run → length run.read ≤ input_limit → (status ≡ Done) ⊎ (status ≡ Memory)

@@ -1,0 +1,85 @@
+ghost use Rattle.std.specs.Prelude.{◌<◌, ℕ, List, length};
+ghost use Rattle.lx_cli.specs.Run.{source_seen, sink_seen, IsRun};
+ghost use Rattle.lx_cli.specs.Steps.{IsNew};
+
+use crate::reading::{Stop, new_buffer, read_lines};
+use crate::session::Session;
+use crate::status::Status;
+use lx_io::{Sink, Source};
+use std::alloc::Global;
+
+/// Runs the program: answers each line of the source into the sink. The words are those of the command
+/// line behind the program's name, and any word is refused.
+pub fn run<S: Source, K: Sink>(
+    alloc: Global,
+    words: &[String],
+    source: &mut S,
+    sink: &mut K,
+) -> Status
+    ensures { (read written : List ℕ) × IsRun result (record {
+      words = length words.now;
+      read = read;
+      written = written;
+      source_before = source_seen S.left S.faults S.reads source.old;
+      source_after = source_seen S.left S.faults S.reads source.new;
+      sink_before = sink_seen K.taken K.faults K.writes sink.old;
+      sink_after = sink_seen K.taken K.faults K.writes sink.new;
+    }) }
+{
+    if words.is_empty() {
+        serve(alloc, source, sink)
+    } else {
+        Status::Usage
+    }
+}
+
+/// Answers the lines of the source, if there is memory to begin.
+fn serve<S: Source, K: Sink>(alloc: Global, source: &mut S, sink: &mut K) -> Status
+    ensures { (read written : List ℕ) × IsRun result (record {
+      words = 0;
+      read = read;
+      written = written;
+      source_before = source_seen S.left S.faults S.reads source.old;
+      source_after = source_seen S.left S.faults S.reads source.new;
+      sink_before = sink_seen K.taken K.faults K.writes sink.old;
+      sink_after = sink_seen K.taken K.faults K.writes sink.new;
+    }) }
+{
+    let mut session = match Session::new(alloc) {
+        Ok(session) => session,
+        Err(_) => return Status::Memory,
+    };
+    let mut buffer = match new_buffer(alloc) {
+        Ok(buffer) => buffer,
+        Err(_) => return Status::Memory,
+    };
+    answer_all(&mut session, &mut buffer, source, sink)
+}
+
+/// Reads the input to its end, and answers its lines and what stands behind the last line end.
+fn answer_all<S: Source, K: Sink>(
+    session: &mut Session,
+    buffer: &mut [u8],
+    source: &mut S,
+    sink: &mut K,
+) -> Status
+    requires session { IsNew session.old }
+    requires buffer { 0 < length buffer.old }
+    ensures { (read written : List ℕ) × IsRun result (record {
+      words = 0;
+      read = read;
+      written = written;
+      source_before = source_seen S.left S.faults S.reads source.old;
+      source_after = source_seen S.left S.faults S.reads source.new;
+      sink_before = sink_seen K.taken K.faults K.writes sink.old;
+      sink_after = sink_seen K.taken K.faults K.writes sink.new;
+    }) }
+{
+    match read_lines(session, buffer, source, sink) {
+        Stop::End => match session.finish(sink) {
+            Ok(()) => Status::Done,
+            Err(unanswered) => unanswered.status(),
+        },
+        stop => stop.status(),
+    }
+}

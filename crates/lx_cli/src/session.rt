@@ -1,0 +1,139 @@
+use crate::status::Status;
+use crate::writing::write_all;
+use lx_editor::{Editor, answer_line};
+use lx_io::{Failed, Sink};
+use lx_node::NoMemory;
+use std::alloc::Global;
+
+/// The byte that ends a line, and a reply.
+const LINE_END: u8 = b'\n';
+
+/// Why a line was not answered.
+#[derive(Clone, Copy, Debug, PartialEq, Eq, Hash)]
+pub(crate) enum Unanswered {
+    /// A write failed. A front of the reply was written.
+    WriteFault,
+    /// Memory was wanting.
+    Memory,
+}
+
+impl Unanswered {
+    ghost use Rattle.std.specs.Prelude.{◌≡◌};
+    ghost use Rattle.lx_cli.specs.Steps.{unanswered_status};
+
+    /// How the run ends.
+    pub(crate) fn status(self) -> Status
+        ensures { result ≡ unanswered_status self }
+    {
+        match self {
+            Unanswered::WriteFault => Status::WriteFault,
+            Unanswered::Memory => Status::Memory,
+        }
+    }
+}
+
+/// What is kept between two bytes of the input: the editor, and the bytes that no line end has ended yet.
+#[derive(Debug, Drop)]
+pub(crate) struct Session {
+    alloc: Global,
+    editor: Editor,
+    pending: Vec<u8>,
+}
+
+impl Session {
+    ghost use Rattle.std.specs.Prelude.{◌≡◌, ◌+◌, ◌*◌, ◌<◌, [], ◌∷◌, length, IfOk, OnOk};
+    ghost use Rattle.lx_editor.specs.Editor.{used};
+    ghost use Rattle.lx_cli.specs.Lines.{last_line};
+    ghost use Rattle.lx_cli.specs.Run.{sink_seen};
+    ghost use Rattle.lx_cli.specs.Steps.{IsNew, LinesEnd, BytesEnd, IsUnended, ended_by, waiting_after};
+
+    /// A new editor, and no bytes.
+    pub(crate) fn new(alloc: Global) -> Result<Session, NoMemory>
+        ensures { IfOk result IsNew }
+    {
+        match Editor::new(alloc) {
+            Ok(editor) => Ok(Session {
+                alloc,
+                editor,
+                pending: Vec::new(alloc),
+            }),
+            Err(no_memory) => Err(no_memory),
+        }
+    }
+
+    /// Answers the line that waits.
+    fn end_line<K: Sink>(&mut self, sink: &mut K) -> Result<(), Unanswered>
+        requires { used self.old.editor < 4294967290 }
+        ensures lines { LinesEnd result (self.old.pending.items ∷ []) self.old.editor self.new.editor
+            (sink_seen K.taken K.faults K.writes sink.old)
+            (sink_seen K.taken K.faults K.writes sink.new) }
+        ensures emptied { OnOk result (self.new.pending.items ≡ []) }
+    {
+        let mut reply = match answer_line(self.alloc, &mut self.editor, &self.pending) {
+            Ok(reply) => reply,
+            Err(NoMemory) => return Err(Unanswered::Memory),
+        };
+        match reply.push(LINE_END) {
+            Ok(()) => {}
+            Err(_) => return Err(Unanswered::Memory),
+        }
+        match write_all(sink, &reply) {
+            Ok(()) => {
+                self.pending.clear();
+                Ok(())
+            }
+            Err(Failed) => Err(Unanswered::WriteFault),
+        }
+    }
+
+    /// Takes a byte behind those that wait.
+    fn take_byte<K: Sink>(&mut self, byte: u8, sink: &mut K) -> Result<(), Unanswered>
+        requires { used self.old.editor < 4294967290 }
+        ensures lines { LinesEnd result (ended_by byte self.old.pending.items) self.old.editor self.new.editor
+            (sink_seen K.taken K.faults K.writes sink.old)
+            (sink_seen K.taken K.faults K.writes sink.new) }
+        ensures waiting { OnOk result (self.new.pending.items ≡ waiting_after byte self.old.pending.items) }
+    {
+        if byte == LINE_END {
+            return self.end_line(sink);
+        }
+        match self.pending.push(byte) {
+            Ok(()) => Ok(()),
+            Err(_) => Err(Unanswered::Memory),
+        }
+    }
+
+    /// Takes bytes behind those that wait, and answers the lines that they end.
+    pub(crate) fn take_piece<K: Sink>(
+        &mut self,
+        piece: &[u8],
+        sink: &mut K,
+    ) -> Result<(), Unanswered>
+        requires unended { IsUnended self.old.pending.items }
+        requires room { used self.old.editor + 5 * (length self.old.pending.items + length piece.now) < 4294967290 }
+        ensures { BytesEnd result piece.now self.old self.new
+            (sink_seen K.taken K.faults K.writes sink.old)
+            (sink_seen K.taken K.faults K.writes sink.new) }
+    {
+        for byte in piece {
+            match self.take_byte(*byte, sink) {
+                Ok(()) => {}
+                Err(unanswered) => return Err(unanswered),
+            }
+        }
+        Ok(())
+    }
+
+    /// Answers what waits at the end of the input, if that is anything.
+    pub(crate) fn finish<K: Sink>(&mut self, sink: &mut K) -> Result<(), Unanswered>
+        requires { used self.old.editor < 4294967290 }
+        ensures { LinesEnd result (last_line self.old.pending.items) self.old.editor self.new.editor
+            (sink_seen K.taken K.faults K.writes sink.old)
+            (sink_seen K.taken K.faults K.writes sink.new) }
+    {
+        if self.pending.is_empty() {
+            return Ok(());
+        }
+        self.end_line(sink)
+    }
+}
