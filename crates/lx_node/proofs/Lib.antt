@@ -1,6 +1,9 @@
 pub mod NamedTrees
 pub mod Positions
+pub mod Preorder
+pub mod Same
 pub mod Siblings
 pub mod Spots
+pub mod Strings
 pub mod Subtrees
 pub mod Walks

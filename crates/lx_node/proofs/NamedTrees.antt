@@ -171,6 +171,10 @@ module _ {A : Type 0} (name : A → ℕ) where
 
   -- ---- all names
 
+  pub preorder-mapped : (change : A → A) → ((a : A) → name (change a) ≡ name a) → (t : Trees A) → preorder name (mapped change t) ≡ preorder name t
+  preorder-mapped change kept nil = refl
+  preorder-mapped change kept (tree a below rest) = rw (kept a, preorder-mapped change kept below, preorder-mapped change kept rest)
+
   pub is_among-preorder : (q : ℕ) (t : Trees A) → is_among q (preorder name t) ≡ has name q t
   is_among-preorder q nil = refl
   is_among-preorder q (tree a below rest) =

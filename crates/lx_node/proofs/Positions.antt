@@ -1,10 +1,10 @@
 -- The laws of positions in a list of names: by index, and from a name on in either direction.
 use Rattle.std.proofs.Common.{◌≡◌, ℕ, zero, suc, ◌+◌, ◌<◌, ◌≤◌, true, false, List, [], ◌∷◌, ◌++◌, length, Option, None, Some, refl, ap, ◌∙◌, arith, inl, inr}
-use Rattle.std.specs.Prelude.{is_some, option_map, slice_get, insert, remove}
+use Rattle.std.specs.Prelude.{is_some, option_map, unwrap_or, slice_get, insert, remove}
 use Rattle.std.proofs.lemmas.Option.{slice_get_within}
 use Rattle.std.proofs.lemmas.Bool.Decides.{eqb_tells}
 use Rattle.lx_node.specs.Siblings.{is_named, is_among, NoRepeats, first_of, last_of, next_in, previous_in, index_in, names_without, names_with, from_name, up_to_name}
-use Rattle.lx_node.proofs.Siblings.{is_some-last_from, last_from-apart, previous_from-apart, next_in-apart, is_some-previous_from, is_named_tells, names_without-absent_list, length-names_without, is_among-names_without}
+use Rattle.lx_node.proofs.Siblings.{is_some-index_in, previous_from-among, is_some-last_from, last_from-apart, previous_from-apart, next_in-apart, is_some-previous_from, is_named_tells, names_without-absent_list, length-names_without, is_among-names_without}
 
 -- ---- by index
 
@@ -13,15 +13,15 @@ slice_get-index_in [] k i e = absurd (grind arith)
 slice_get-index_in (x ∷ xs) k zero e = grind (arith, eqb_tells x k)
 slice_get-index_in (x ∷ xs) k (suc i) e = grind (arith, slice_get-index_in xs k i)
 
-slice_get-among : (xs : List ℕ) (k i : ℕ) → slice_get xs i ≡ Some k → is_among k xs ≡ true
-slice_get-among [] k i e = absurd (grind arith)
-slice_get-among (x ∷ xs) k zero e = grind (arith, eqb_tells x k)
-slice_get-among (x ∷ xs) k (suc i) e = grind (arith, slice_get-among xs k i)
+pub is_among-slice_get : (xs : List ℕ) (k i : ℕ) → slice_get xs i ≡ Some k → is_among k xs ≡ true
+is_among-slice_get [] k i e = absurd (grind arith)
+is_among-slice_get (x ∷ xs) k zero e = grind (arith, eqb_tells x k)
+is_among-slice_get (x ∷ xs) k (suc i) e = grind (arith, is_among-slice_get xs k i)
 
 pub index_in-slice_get : (xs : List ℕ) (k i : ℕ) → NoRepeats xs → slice_get xs i ≡ Some k → index_in xs k ≡ Some i
 index_in-slice_get [] k i u e = absurd (grind arith)
 index_in-slice_get (x ∷ xs) k zero u e = grind (arith, eqb_tells x k)
-index_in-slice_get (x ∷ xs) k (suc i) u e = grind (arith, eqb_tells x k, index_in-slice_get xs k i, slice_get-among xs k i)
+index_in-slice_get (x ∷ xs) k (suc i) u e = grind (arith, eqb_tells x k, index_in-slice_get xs k i, is_among-slice_get xs k i)
 
 pub index_in-lt : (xs : List ℕ) (k i : ℕ) → index_in xs k ≡ Some i → i < length xs
 index_in-lt xs k i e = slice_get_within xs i k (slice_get-index_in xs k i e)
@@ -32,14 +32,14 @@ names_with-insert [] k zero u l = refl
 names_with-insert [] k (suc i) u l = absurd (omega arith)
 names_with-insert (x ∷ xs) k zero u l = grind (arith, eqb_tells x x)
 names_with-insert (x ∷ xs) k (suc i) u l =
-    grind (arith, names_with-insert xs k i, is_named_tells (slice_get xs i) x, slice_get-among xs x i)
+    grind (arith, names_with-insert xs k i, is_named_tells (slice_get xs i) x, is_among-slice_get xs x i)
 
 pub index_in-names_with : (xs : List ℕ) (k i : ℕ) → NoRepeats xs → is_among k xs ≡ false → i ≤ length xs → index_in (names_with (slice_get xs i) (k ∷ []) xs) k ≡ Some i
 index_in-names_with [] k zero u n l = grind (arith, eqb_tells k k)
 index_in-names_with [] k (suc i) u n l = absurd (omega arith)
 index_in-names_with (x ∷ xs) k zero u n l = grind (arith, eqb_tells x x, eqb_tells k k)
 index_in-names_with (x ∷ xs) k (suc i) u n l =
-    grind (arith, index_in-names_with xs k i, is_named_tells (slice_get xs i) x, slice_get-among xs x i)
+    grind (arith, index_in-names_with xs k i, is_named_tells (slice_get xs i) x, is_among-slice_get xs x i)
 
 -- a name leaves from its index
 pub names_without-remove : (xs : List ℕ) (k i : ℕ) → NoRepeats xs → index_in xs k ≡ Some i → names_without k xs ≡ remove xs i
@@ -68,6 +68,47 @@ index_in-step (x ∷ y ∷ xs) k m u p =
         | inr later ↦ grind (arith, other, later, index_in-step (y ∷ xs) k m u.1, previous_from-apart None (y ∷ xs) k x, eqb_tells x m, eqb_tells m x)
       ]
     ]
+
+-- neighbours and ends, by index
+pub first_of-slice_get : (xs : List ℕ) → first_of xs ≡ slice_get xs 0
+first_of-slice_get [] = refl
+first_of-slice_get (x ∷ xs) = refl
+
+pub last_of-slice_get : (x : ℕ) (xs : List ℕ) → last_of (x ∷ xs) ≡ slice_get (x ∷ xs) (length xs)
+last_of-slice_get x [] = refl
+last_of-slice_get x (y ∷ ys) = last_of-slice_get y ys
+
+pub next_in-slice_get : (xs : List ℕ) (k i : ℕ) → NoRepeats xs → slice_get xs i ≡ Some k → next_in xs k ≡ slice_get xs (suc i)
+next_in-slice_get [] k i u e = absurd (grind arith)
+next_in-slice_get (x ∷ xs) k zero u e = grind (arith, eqb_tells x k, first_of-slice_get xs)
+next_in-slice_get (x ∷ xs) k (suc i) u e = grind (arith, eqb_tells x k, is_among-slice_get xs k i, next_in-slice_get xs k i)
+
+pub previous_in-slice_get : (xs : List ℕ) (k i : ℕ) → NoRepeats xs → slice_get xs (suc i) ≡ Some k → previous_in xs k ≡ slice_get xs i
+previous_in-slice_get [] k i u e = absurd (grind arith)
+previous_in-slice_get (x ∷ []) k i u e = absurd (grind arith)
+previous_in-slice_get (x ∷ y ∷ xs) k zero u e = grind (arith, eqb_tells x k, eqb_tells y k, eqb_tells y x)
+previous_in-slice_get (x ∷ y ∷ xs) k (suc i) u e =
+    grind (arith, eqb_tells x k, eqb_tells y k, is_among-slice_get (y ∷ xs) k (suc i), is_among-slice_get xs k i, previous_in-slice_get (y ∷ xs) k i)
+
+-- the index of a name as a number, and 0 for one that isn't there
+abbrev pub place_in : List ℕ → ℕ → ℕ
+place_in xs k = unwrap_or (index_in xs k) 0
+
+pub index_in-among : (xs : List ℕ) (k : ℕ) → is_among k xs ≡ true → index_in xs k ≡ Some (place_in xs k)
+index_in-among xs k e = grind (arith, is_some-index_in xs k)
+
+pub slice_get-place_in : (xs : List ℕ) (k : ℕ) → is_among k xs ≡ true → slice_get xs (place_in xs k) ≡ Some k
+slice_get-place_in xs k e = slice_get-index_in xs k (place_in xs k) (index_in-among xs k e)
+
+-- the step from a name to the one before it
+pub record StepsBack (xs : List ℕ) (k m : ℕ) : Type 0 where
+  pub among : is_among m xs ≡ true
+  pub place : place_in xs m + 1 ≡ place_in xs k
+
+pub previous_in-place : (xs : List ℕ) (k m : ℕ) → NoRepeats xs → previous_in xs k ≡ Some m → StepsBack xs k m
+previous_in-place xs k m u p =
+    let there : is_among m xs ≡ true = previous_from-among None xs k m p in
+    record { among = there; place = grind (arith, index_in-step xs k m u p, index_in-among xs m there) }
 
 -- ---- from a name on, and up to one
 

@@ -83,12 +83,12 @@ module _ {A : Type 0} (name : A → ℕ) where
   is_some-behind_before after (tree a below rest) q =
       grind (arith, is_some-behind_before (preorder name rest ++ after) below q, is_some-behind_before after rest q)
 
-  behind_before-below : (after : List ℕ) (a : A) (below rest : Trees A) (q : ℕ) → count name q (tree a below rest) < 2 → 0 < count name q below →
+  pub behind_before-below : (after : List ℕ) (a : A) (below rest : Trees A) (q : ℕ) → count name q (tree a below rest) < 2 → 0 < count name q below →
       behind_before name after (tree a below rest) q ≡ behind_before name (preorder name rest ++ after) below q
   behind_before-below after a below rest q once some =
       grind (arith, is_some-behind_before (preorder name rest ++ after) below q)
 
-  behind_before-rest : (after : List ℕ) (a : A) (below rest : Trees A) (q : ℕ) → count name q (tree a below rest) < 2 → 0 < count name q rest →
+  pub behind_before-rest : (after : List ℕ) (a : A) (below rest : Trees A) (q : ℕ) → count name q (tree a below rest) < 2 → 0 < count name q rest →
       behind_before name after (tree a below rest) q ≡ behind_before name after rest q
   behind_before-rest after a below rest q once some =
       grind (arith, behind_before-absent (preorder name rest ++ after) below q)

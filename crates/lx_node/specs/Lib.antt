@@ -2,7 +2,9 @@ pub mod Causes
 pub mod Kinds
 pub mod NamedTrees
 pub mod OfKind
+pub mod Same
 pub mod Siblings
 pub mod Spots
+pub mod Strings
 pub mod Trees
 pub mod Walks

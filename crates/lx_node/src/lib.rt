@@ -2,6 +2,8 @@
 #![tactic(auto)]
 
 mod cause;
+mod characters;
+mod equal;
 mod fields;
 mod key;
 mod kind;

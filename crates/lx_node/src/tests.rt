@@ -132,3 +132,59 @@ fn kinds_are_read_by_place(rt: HostRuntime) -> Result<(), Fail> {
     assert_eq!(rt; kinds.into_vec().len(), 2);
     Ok(())
 }
+
+fn cell(alloc: Global, background: &str) -> Result<Fields, Fail> {
+    element(
+        alloc,
+        Extra::Cell {
+            header: 1,
+            row_span: 2,
+            col_span: 1,
+            background: Some(Txt::new(alloc, background)?),
+        },
+    )
+}
+
+fn are_equal_cells(alloc: Global, a: &str, b: &str) -> Result<bool, Fail> {
+    let a = cell(alloc, a)?;
+    let b = cell(alloc, b)?;
+    Ok(a.is_equal(&b))
+}
+
+fn are_equal_texts(alloc: Global, a: Mode, b: Mode) -> Result<bool, Fail> {
+    let a = text(alloc, "word", 0, a)?;
+    let b = text(alloc, "word", 0, b)?;
+    Ok(a.is_equal(&b))
+}
+
+#[test]
+fn equal_fields_have_equal_parts(rt: HostRuntime) -> Result<(), Fail> {
+    let alloc = rt.alloc();
+    assert!(rt; are_equal_cells(alloc, "red", "red")?);
+    assert!(rt; !are_equal_cells(alloc, "red", "réd")?);
+    assert!(rt; are_equal_texts(alloc, Mode::Token, Mode::Token)?);
+    assert!(rt; !are_equal_texts(alloc, Mode::Token, Mode::Normal)?);
+    assert!(rt; !cell(alloc, "")?.is_equal(&Fields::Bare));
+    assert!(rt; Fields::Bare.is_equal(&Fields::Bare));
+    Ok(())
+}
+
+fn link_characters(alloc: Global) -> Result<u64, Fail> {
+    let link = Extra::Link {
+        rel: None,
+        target: Some(Txt::new(alloc, "bc")?),
+        title: None,
+        url: Txt::new(alloc, "déf")?,
+    };
+    Ok(element(alloc, link)?.characters())
+}
+
+#[test]
+fn characters_are_scalar_values(rt: HostRuntime) -> Result<(), Fail> {
+    let alloc = rt.alloc();
+    assert_eq!(rt; text(alloc, "é𝄞\u{301}", 0, Mode::Normal)?.characters(), 3);
+    assert_eq!(rt; cell(alloc, "blue")?.characters(), 14);
+    assert_eq!(rt; link_characters(alloc)?, 15);
+    assert_eq!(rt; Fields::Bare.characters(), 0);
+    Ok(())
+}

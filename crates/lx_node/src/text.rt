@@ -42,6 +42,26 @@ impl Txt {
         self.as_str().is_empty()
     }
 
+    ghost use Rattle.std.specs.Prelude.{◌↔◌, IsTrue};
+    ghost use Rattle.lx_node.specs.Same.{same_text};
+    ghost use Rattle.lx_node.specs.Strings.{capped};
+
+    /// Whether they are equal texts.
+    pub fn is_equal(&self, other: &Txt) -> bool
+        ensures same { result ≡ same_text self.now other.now }
+        ensures told { IsTrue result ↔ (self.now ≡ other.now) }
+    {
+        self.as_str() == other.as_str()
+    }
+
+    /// How many characters, Unicode scalar values, it has: from 0 to 18,446,744,073,709,551,615, which also
+    /// stands for any number above.
+    pub fn characters(&self) -> u64
+        ensures { result ≡ capped (length self.now) }
+    {
+        self.as_str().chars().count() as u64
+    }
+
     /// An equal text.
     pub fn copy(&self, alloc: Global) -> Result<Txt, NoMemory>
         ensures { IfOk result (λ made. made ≡ self.now) }

@@ -1,4 +1,4 @@
-use Rattle.std.proofs.Common.{◌≡◌, ◌==◌, ◌∙◌, sym, ap, refl, ℕ, ◌<◌, List, [], ◌∷◌, length, encode_utf8_all, arith}
+use Rattle.std.proofs.Common.{◌≡◌, ◌==◌, ◌∙◌, sym, ap, ℕ, ◌<◌, List, [], ◌∷◌, length, encode_utf8_all, arith}
 use Rattle.std.proofs.lemmas.Str.{length-le-encodes}
 use Rattle.lx_node.proofs.text.Txt.is_empty.Goals as goal
 
