@@ -1,9 +1,10 @@
--- Each edit leaves children of kinds that their parents' kinds may hold, put on its own condition.
-use Rattle.std.proofs.Common.{◌≡◌, ℕ, Bool, true, false, eqb, Option, Some, sym, ◌∙◌, arith, inl, inr}
+-- Each edit leaves children of kinds that their parents' kinds may hold, put on its own condition; and the root alone holds none.
+use Rattle.std.proofs.Common.{◌≡◌, ℕ, Bool, true, false, cond, eqb, [], Option, None, Some, refl, sym, ◌∙◌, arith, inl, inr}
 use Rattle.std.proofs.lemmas.Bool.Decides.{eqb_tells}
 use Rattle.lx_node.specs.declared.kind.Kind.{Kind}
 use Rattle.lx_node.specs.declared.fields.Fields.{Fields}
-use Rattle.lx_forest.specs.Forest.{Label, Forest}
+use Rattle.lx_node.specs.Spots.{parent_at}
+use Rattle.lx_forest.specs.Forest.{Label, Forest, root_alone, root_label}
 use Rattle.lx_forest.specs.Lookups.{has, kind_of, parent_of, is_attached, holds, IsForest, IsHeld}
 use Rattle.lx_forest.specs.Edits.{with_new, with_fields, take_out, put_in, drop_detached, CanPut}
 use Rattle.lx_forest.proofs.Lookups.{has-parent_of, has-child, kind_of-with_new, kind_of-with_fields, kind_of-take_out, kind_of-put_in, kind_of-drop_detached, parent_of-with_new, parent_of-with_fields, parent_of-take_out, parent_of-put_in, parent_of-drop_detached}
@@ -50,3 +51,10 @@ module _ (may_hold : Kind → Kind → Bool) (f : Forest) (h : IsForest f) (held
         let attached : is_attached f q ≡ true = grind (arith, up, parent_of-drop_detached f q h) in
         rw (kind_of-drop_detached f q h, kind_of-drop_detached f p h, attached, sym (is_attached-up f q p h up') ∙ attached) (held.each q p up');
   }
+
+nothing_above : (b : Bool) → parent_at (cond b (Some (record { label = root_label; parent = None; children = [] })) None) ≡ None
+nothing_above true = refl
+nothing_above false = refl
+
+pub IsHeld-root_alone : (may_hold : Kind → Kind → Bool) → IsHeld may_hold root_alone
+IsHeld-root_alone may_hold = record { each = λ q p e. let none : None ≡ Some p = sym (nothing_above (eqb 0 q)) ∙ e in cc }

@@ -1,11 +1,14 @@
+pub mod Bounds
 pub mod Edits
 pub mod Held
 pub mod Lookups
 pub mod Order
 pub mod Places
+pub mod Preorder
 pub mod Records
 pub mod Siblings
 pub mod Unique
+pub mod Up
 pub mod Walks
 pub mod Within
 pub mod Sets

@@ -1,7 +1,6 @@
 -- The laws of ways through a forest: up from a key, and through the root's tree in preorder.
-use Rattle.std.proofs.Common.{◌≡◌, ◌≢◌, ℕ, zero, suc, ◌+◌, ◌<◌, ◌≤◌, true, false, cond, eqb, ◌&&◌, List, [], ◌∷◌, ◌++◌, length, Option, None, Some, refl, sym, ap, ◌∙◌, arith, ◌⊎◌, inl, inr}
+use Rattle.std.proofs.Common.{◌≡◌, ◌≢◌, ℕ, ◌+◌, ◌<◌, true, false, cond, ◌&&◌, List, [], ◌∷◌, length, Option, None, Some, refl, sym, ap, ◌∙◌, arith, ◌⊎◌, inl, inr}
 use Rattle.std.specs.Prelude.{is_some, option_map}
-use Rattle.std.proofs.lemmas.Bool.{cases_eq, cases_Bool, or_right}
 use Rattle.std.proofs.lemmas.Bool.Decides.{eqb_tells, nat_tests}
 use Rattle.std.specs.declared.cmp.Ordering.TheVariants.{Less, Equal, Greater}
 use Rattle.lx_node.specs.NamedTrees.{total}
@@ -13,13 +12,16 @@ use Rattle.lx_node.proofs.Subtrees.{count-alone-le, total-alone_child-lt, alone-
 use Rattle.lx_node.proofs.Walks as walks
 use Rattle.lx_forest.specs.Forest.{Forest}
 use Rattle.lx_forest.specs.Lookups.{key_of, count, has, roots, alone, spot, parent_of, children_of, first_child, next_of, is_within, is_attached, ancestors, depth, preorder, from, behind, order_between, order_of, IsForest}
-use Rattle.lx_forest.specs.Edits.{take_out, put_in, drop_detached, CanPut}
+use Rattle.lx_forest.specs.Edits.{drop_detached}
 use Rattle.lx_forest.proofs.Edits.{has-root, parent_of-root, is_some-spot, spot-drop_detached}
-use Rattle.lx_forest.proofs.Lookups.{is_among-children_of, parent_of-take_out, parent_of-put_in}
-use Rattle.lx_forest.proofs.Order.{IsForest-take_out, IsForest-put_in}
-use Rattle.lx_forest.proofs.Within.{is_within-ancestors, is_within-self, is_within-up, is_within-top}
+use Rattle.lx_forest.proofs.Lookups.{is_among-children_of}
+use Rattle.lx_forest.proofs.Within.{is_within-self, is_within-up, is_within-top}
 
 -- ---- up
+
+-- what stands nowhere has no parent
+pub no_parent : (f : Forest) (q : ℕ) → has q f ≡ false → parent_of f q ≡ None
+no_parent f q absent = grind (arith, absent, is_some-spot f q)
 
 pub ancestors-top : (f : Forest) (q : ℕ) → parent_of f q ≡ None → ancestors f q ≡ []
 ancestors-top f q up = walks.ancestors-top key_of f q up
@@ -49,39 +51,17 @@ depth-root f h = rw (is_within-self f 0, has-root f h, ancestors-top f 0 (parent
 pub depth-step : (f : Forest) (q p : ℕ) → IsForest f → parent_of f q ≡ Some p → depth f q ≡ option_map (λ d. d + 1) (depth f p)
 depth-step f q p h up = grind (arith, is_attached-up f q p h up, ap length (ancestors-step f q p h up))
 
--- ---- up, in another forest
-
--- where the parents are the same from q on, so are the ancestors
 pub cases_option : {X : Type 0} (o : Option X) → (o ≡ None) ⊎ ((x : X) × (o ≡ Some x))
 cases_option None = inl refl
 cases_option (Some x) = inr (x, refl)
 
-agree_within : (n : ℕ) (f g : Forest) (q : ℕ) → IsForest f → IsForest g → length (ancestors f q) ≤ n → ((x : ℕ) → is_among x (q ∷ ancestors f q) ≡ true → parent_of g x ≡ parent_of f x) → ancestors g q ≡ ancestors f q
-agree_within zero f g q h i short same =
-    elim (cases_option (parent_of f q)) [
-      | inl none ↦ ancestors-top g q (same q (grind (arith, eqb_tells q q)) ∙ none) ∙ sym (ancestors-top f q none)
-      | inr (p, some) ↦ absurd (omega (arith, ap length (ancestors-step f q p h some)))
-    ]
-agree_within (suc n) f g q h i short same =
-    elim (cases_option (parent_of f q)) [
-      | inl none ↦ ancestors-top g q (same q (grind (arith, eqb_tells q q)) ∙ none) ∙ sym (ancestors-top f q none)
-      | inr (p, some) ↦
-          let step : ancestors f q ≡ p ∷ ancestors f p = ancestors-step f q p h some in
-          ancestors-step g q p i (same q (grind (arith, eqb_tells q q)) ∙ some)
-          ∙ ap (λ ks. p ∷ ks) (agree_within n f g p h i (omega (arith, ap length step)) (λ x among. same x (rw step (or_right (eqb q x) (is_among x (p ∷ ancestors f p)) among))))
-          ∙ sym step
-    ]
-
-pub ancestors-agree : (f g : Forest) (q : ℕ) → IsForest f → IsForest g → ((x : ℕ) → is_among x (q ∷ ancestors f q) ≡ true → parent_of g x ≡ parent_of f x) → ancestors g q ≡ ancestors f q
-ancestors-agree f g q h i same = agree_within (length (ancestors f q)) f g q h i (omega arith) same
-
 -- ---- preorder
 
-spot_in_tree : (f : Forest) (q : ℕ) → IsForest f → spot (alone 0 f) q ≡ cond (is_attached f q) (spot f q) None
+pub spot_in_tree : (f : Forest) (q : ℕ) → IsForest f → spot (alone 0 f) q ≡ cond (is_attached f q) (spot f q) None
 unfolding drop_detached
 spot_in_tree f q h = spot-drop_detached f q h
 
-tree_distinct : (f : Forest) → IsForest f → named.IsDistinct key_of (alone 0 f)
+pub tree_distinct : (f : Forest) → IsForest f → named.IsDistinct key_of (alone 0 f)
 tree_distinct f h q = omega (arith, count-alone-le key_of q 0 f, h.once q)
 
 -- the keys of preorder are the attached ones, each once
@@ -165,75 +145,3 @@ order_of-self f q h attached = same_place (index_in (preorder f) q) (is_some-ind
 
 pub order_of-detached : (f : Forest) (a b : ℕ) → IsForest f → (is_attached f a && is_attached f b) ≡ false → order_of f a b ≡ None
 order_of-detached f a b h detached = no_place (index_in (preorder f) a) (index_in (preorder f) b) (rw (is_some-index_in (preorder f) a, is_some-index_in (preorder f) b, is_among-preorder_of f a, is_among-preorder_of f b) detached)
-
--- ---- up, after edits
-
-pub no_parent : (f : Forest) (q : ℕ) → has q f ≡ false → parent_of f q ≡ None
-no_parent f q absent = grind (arith, absent, is_some-spot f q)
-
-not_above : (f : Forest) (k q x : ℕ) → IsForest f → has q f ≡ true → is_within f k q ≡ false → is_among x (q ∷ ancestors f q) ≡ true → x ≡ k → ⊥
-not_above f k q x h there outside among e = grind (arith, e, among, outside, is_within-ancestors f k q h there)
-
--- the ancestors of a key outside the tree that is taken out or put in stay
-pub ancestors-take_out_outside : (k : ℕ) (f : Forest) (q : ℕ) → IsForest f → is_within f k q ≡ false → ancestors (take_out k f) q ≡ ancestors f q
-ancestors-take_out_outside k f q h outside =
-    elim (cases_Bool (has q f)) [
-      | inl there ↦ ancestors-agree f (take_out k f) q h (IsForest-take_out k f h) (λ x among. grind (arith, parent_of-take_out k f x h, eqb_tells x k, not_above f k q x h there outside among))
-      | inr absent ↦
-          let none : parent_of f q ≡ None = no_parent f q absent in
-          ancestors-top (take_out k f) q (grind (arith, none, parent_of-take_out k f q h)) ∙ sym (ancestors-top f q none)
-    ]
-
-pub ancestors-put_in_outside : (p : ℕ) (before : Option ℕ) (k : ℕ) (f : Forest) (q : ℕ) → IsForest f → CanPut p k f → is_within f k q ≡ false → ancestors (put_in p before k f) q ≡ ancestors f q
-ancestors-put_in_outside p before k f q h c outside =
-    elim (cases_Bool (has q f)) [
-      | inl there ↦ ancestors-agree f (put_in p before k f) q h (IsForest-put_in p before k f h c) (λ x among. grind (arith, parent_of-put_in p before k f x h c, eqb_tells x k, not_above f k q x h there outside among))
-      | inr absent ↦
-          let none : parent_of f q ≡ None = no_parent f q absent in
-          let other : eqb q k ≡ false = grind (arith, eqb_tells q k, c.there, absent) in
-          ancestors-top (put_in p before k f) q (parent_of-put_in p before k f q h c ∙ rw other none) ∙ sym (ancestors-top f q none)
-    ]
-
-put_own : (p : ℕ) (before : Option ℕ) (k : ℕ) (f : Forest) → IsForest f → CanPut p k f → ancestors (put_in p before k f) k ≡ ancestors f k ++ p ∷ ancestors f p
-put_own p before k f h c =
-    ancestors-step (put_in p before k f) k p (IsForest-put_in p before k f h c) (grind (arith, parent_of-put_in p before k f k h c, eqb_tells k k))
-    ∙ ap (λ ks. p ∷ ks) (ancestors-put_in_outside p before k f p h c c.outside)
-    ∙ rw (ancestors-top f k c.detached)
-
-put_above : (n p : ℕ) (before : Option ℕ) (k : ℕ) (f : Forest) (q : ℕ) → IsForest f → CanPut p k f → is_within f k q ≡ true → length (ancestors f q) < n → ancestors (put_in p before k f) q ≡ ancestors f q ++ p ∷ ancestors f p
-put_above zero p before k f q h c inside short = absurd (omega arith)
-put_above (suc n) p before k f q h c inside short =
-    elim (cases_eq q k) [
-      | inl same ↦ rw same (put_own p before k f h c)
-      | inr other ↦ elim (cases_option (parent_of f q)) [
-        | inl none ↦ absurd (grind (arith, inside, is_within-top f k q h none other))
-        | inr (r, some) ↦
-            let step : ancestors f q ≡ r ∷ ancestors f r = ancestors-step f q r h some in
-            ancestors-step (put_in p before k f) q r (IsForest-put_in p before k f h c) (grind (arith, parent_of-put_in p before k f q h c, eqb_tells q k))
-            ∙ ap (λ ks. r ∷ ks) (put_above n p before k f r h c (sym (is_within-up f k q r h some other) ∙ inside) (omega (arith, ap length step)))
-            ∙ ap (λ ks. ks ++ p ∷ ancestors f p) (sym step)
-      ]
-    ]
-
-take_above : (n k : ℕ) (f : Forest) (q : ℕ) → IsForest f → is_within f k q ≡ true → length (ancestors f q) < n → ancestors f q ≡ ancestors (take_out k f) q ++ ancestors f k
-take_above zero k f q h inside short = absurd (omega arith)
-take_above (suc n) k f q h inside short =
-    elim (cases_eq q k) [
-      | inl same ↦ rw (same, ancestors-top (take_out k f) k (grind (arith, parent_of-take_out k f k h, eqb_tells k k)))
-      | inr other ↦ elim (cases_option (parent_of f q)) [
-        | inl none ↦ absurd (grind (arith, inside, is_within-top f k q h none other))
-        | inr (r, some) ↦
-            let step : ancestors f q ≡ r ∷ ancestors f r = ancestors-step f q r h some in
-            step
-            ∙ ap (λ ks. r ∷ ks) (take_above n k f r h (sym (is_within-up f k q r h some other) ∙ inside) (omega (arith, ap length step)))
-            ∙ ap (λ ks. ks ++ ancestors f k) (sym (ancestors-step (take_out k f) q r (IsForest-take_out k f h) (grind (arith, parent_of-take_out k f q h, eqb_tells q k))))
-      ]
-    ]
-
--- inside it, the place and its ancestors come on top
-pub ancestors-put_in_inside : (p : ℕ) (before : Option ℕ) (k : ℕ) (f : Forest) (q : ℕ) → IsForest f → CanPut p k f → is_within f k q ≡ true → ancestors (put_in p before k f) q ≡ ancestors f q ++ p ∷ ancestors f p
-ancestors-put_in_inside p before k f q h c inside = put_above (suc (length (ancestors f q))) p before k f q h c inside (omega arith)
-
--- the ancestors of a key in a tree that is taken out end with the tree's own key
-pub ancestors-take_out_inside : (k : ℕ) (f : Forest) (q : ℕ) → IsForest f → is_within f k q ≡ true → ancestors f q ≡ ancestors (take_out k f) q ++ ancestors f k
-ancestors-take_out_inside k f q h inside = take_above (suc (length (ancestors f q))) k f q h inside (omega arith)

@@ -3,3 +3,4 @@ pub mod Forest
 pub mod Laws
 pub mod Lookups
 pub mod Records
+pub mod Views

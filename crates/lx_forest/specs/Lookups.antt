@@ -100,9 +100,13 @@ ancestors f q = walks.ancestors key_of f q
 abbrev pub depth : Forest → ℕ → Option ℕ
 depth f q = if is_attached f q then Some (length (ancestors f q)) else None
 
--- the keys of the root's tree, each before those below it, and those before its next siblings
+-- the keys of the tree of k, each before those below it, and those before its next siblings
+abbrev pub keys_within : Forest → ℕ → List ℕ
+keys_within f k = named.preorder key_of (alone k f)
+
+-- the keys of the root's tree
 abbrev pub preorder : Forest → List ℕ
-preorder f = named.preorder key_of (alone 0 f)
+preorder f = keys_within f 0
 
 -- of these, the ones from q on, and those behind the tree of q
 abbrev pub from : Forest → ℕ → List ℕ

@@ -2,7 +2,7 @@
 //! is no code here. The functions below do nothing: their contracts are the laws that all else stands on.
 #![tactic(auto)]
 
-ghost use Rattle.lx_forest.specs.Laws.{SpotsFollow, OrderIsKept, TreesFollow, ForestsAreTold, RecordsFollow};
+ghost use Rattle.lx_forest.specs.Laws.{SpotsFollow, OrderIsKept, TreesFollow, AncestorsFollow, DepthsFollow, PreorderFollows, OrderFollows, ForestsAreTold, RecordsFollow};
 
 /// Where each key stands after each primitive edit, as one equation for all keys.
 pub fn spots_follow()
@@ -14,9 +14,29 @@ pub fn order_is_kept()
     ensures { OrderIsKept }
 {}
 
-/// Which keys are in whose tree after a tree is taken out or put in.
+/// Which keys are in whose tree after each primitive edit, and so which are attached.
 pub fn trees_follow()
     ensures { TreesFollow }
+{}
+
+/// The keys above each one after each primitive edit.
+pub fn ancestors_follow()
+    ensures { AncestorsFollow }
+{}
+
+/// How deep each key of the root's tree stands after each primitive edit.
+pub fn depths_follow()
+    ensures { DepthsFollow }
+{}
+
+/// The keys of the root's tree, in preorder, after each primitive edit.
+pub fn preorder_follows()
+    ensures { PreorderFollows }
+{}
+
+/// Which of two keys of the root's tree comes first after each primitive edit.
+pub fn order_follows()
+    ensures { OrderFollows }
 {}
 
 /// Two forests in order are equal where their keys stand alike, or where one map of records stands for both.

@@ -7,9 +7,9 @@ use Rattle.std.proofs.lemmas.Option.{slice_get_within}
 use Rattle.lx_node.specs.Siblings.{is_among, is_named, NoRepeats, index_in, next_in, previous_in, last_of}
 use Rattle.lx_forest.specs.Forest.{Forest}
 use Rattle.lx_forest.specs.Lookups.{parent_of, children_of, children_below, siblings, size_of, next_of, previous_of, index_of, first_child, last_child}
-use Rattle.lx_links.proofs.Bounds.{size_of-le}
+use Rattle.lx_forest.proofs.Bounds.{size_of-le}
 use Rattle.lx_forest.proofs.Lookups.{is_among-children_of, NoRepeats-children_of}
-use Rattle.lx_links.proofs.Places.{place_in, is_among-slice_get, next_in-slice_get, previous_in-slice_get, slice_get-place_in, first_of-slice_get, last_of-slice_get, index_in-slice_get, StepsBack, previous_in-place, previous_in-none}
+use Rattle.lx_node.proofs.Positions.{place_in, is_among-slice_get, next_in-slice_get, previous_in-slice_get, slice_get-place_in, first_of-slice_get, last_of-slice_get, index_in-slice_get, StepsBack, previous_in-place, index_in-first}
 use Rattle.lx_forest.proofs.Siblings.{parent_of-previous}
 use Rattle.lx_links.specs.Stands.{Sound}
 use Rattle.lx_links.specs.Children.{IsAmid}
@@ -49,19 +49,19 @@ last_step xs i x n e more =
 
 kids_apart : (f : Forest) (p i x : ℕ) → Sound f → slice_get (children_of f p) i ≡ Some x → NoRepeats (children_of f p)
 kids_apart f p i x s e =
-    NoRepeats-children_of f p (in_order f x p s (parent_of-child f x p s (is_among-slice_get (children_of f p) i x e)))
+    NoRepeats-children_of f p (in_order f x p s (parent_of-child f x p s (is_among-slice_get (children_of f p) x i e)))
 
 pub next_child : (f : Forest) (p i x : ℕ) → Sound f → slice_get (children_of f p) i ≡ Some x → next_of f x ≡ slice_get (children_of f p) (i + 1)
 next_child f p i x s e =
-    let up = parent_of-child f x p s (is_among-slice_get (children_of f p) i x e) in
+    let up = parent_of-child f x p s (is_among-slice_get (children_of f p) x i e) in
     let j : suc i ≡ i + 1 = omega arith in
-    ap (λ o. next_in (children_below f o) x) up ∙ next_in-slice_get (children_of f p) i x (kids_apart f p i x s e) e ∙ ap (slice_get (children_of f p)) j
+    ap (λ o. next_in (children_below f o) x) up ∙ next_in-slice_get (children_of f p) x i (kids_apart f p i x s e) e ∙ ap (slice_get (children_of f p)) j
 
 pub previous_child : (f : Forest) (p i x : ℕ) → Sound f → slice_get (children_of f p) (i + 1) ≡ Some x → previous_of f x ≡ slice_get (children_of f p) i
 previous_child f p i x s e =
-    let up = parent_of-child f x p s (is_among-slice_get (children_of f p) (i + 1) x e) in
+    let up = parent_of-child f x p s (is_among-slice_get (children_of f p) x (i + 1) e) in
     let j : i + 1 ≡ suc i = omega arith in
-    ap (λ o. previous_in (children_below f o) x) up ∙ previous_in-slice_get (children_of f p) i x (kids_apart f p (i + 1) x s e) (ap (slice_get (children_of f p)) (sym j) ∙ e)
+    ap (λ o. previous_in (children_below f o) x) up ∙ previous_in-slice_get (children_of f p) x i (kids_apart f p (i + 1) x s e) (ap (slice_get (children_of f p)) (sym j) ∙ e)
 
 -- ---- a walk through the children
 
@@ -125,7 +125,7 @@ siblings_apart f key p s up = subst (λ o. NoRepeats (children_below f o)) (sym 
 
 pub step_back : (f : Forest) (key at previous p : ℕ) → Sound f → parent_of f key ≡ Some p → parent_of f at ≡ parent_of f key → previous_of f at ≡ Some previous → StepsBack (siblings f key) at previous
 step_back f key at previous p s up same back =
-    previous_in-place (siblings f key) at previous (siblings_apart f key p s up) (among_siblings f key at p s up same)
+    previous_in-place (siblings f key) at previous (siblings_apart f key p s up)
     (ap (λ o. previous_in (children_below f o) at) (sym same) ∙ back)
 
 pub still_sibling : (f : Forest) (key at previous p : ℕ) → Sound f → parent_of f key ≡ Some p → parent_of f at ≡ parent_of f key → previous_of f at ≡ Some previous → parent_of f previous ≡ parent_of f key
@@ -139,7 +139,7 @@ few_siblings f key p s up =
 pub counted_back : (f : Forest) (key at p index : ℕ) → Sound f → parent_of f key ≡ Some p → parent_of f at ≡ parent_of f key → previous_of f at ≡ None → place_in (siblings f key) at + index ≡ place_in (siblings f key) key → Some index ≡ index_of f key
 counted_back f key at p index s up same none sum =
     let zero_at : index_in (siblings f key) at ≡ Some 0 =
-    previous_in-none (siblings f key) at (siblings_apart f key p s up) (among_siblings f key at p s up same) (ap (λ o. previous_in (children_below f o) at) (sym same) ∙ none) in
+    index_in-first (siblings f key) at (among_siblings f key at p s up same) (ap (λ o. previous_in (children_below f o) at) (sym same) ∙ none) in
     let place : place_in (siblings f key) key ≡ index = grind (arith, sum, ap (λ o. unwrap_or o 0) zero_at) in
-    sym (index_in-slice_get (siblings f key) index key (siblings_apart f key p s up)
+    sym (index_in-slice_get (siblings f key) key index (siblings_apart f key p s up)
     (ap (slice_get (siblings f key)) (sym place) ∙ slice_get-place_in (siblings f key) key (among_siblings f key key p s up refl)))

@@ -3,8 +3,8 @@ use Rattle.std.proofs.Common.{ℕ, ◌≡◌, ◌≤◌, ◌+◌, ◌++◌, List
 use Rattle.lx_node.specs.declared.kind.Kind.{Kind}
 use Rattle.lx_forest.specs.Forest.{Forest}
 use Rattle.lx_forest.specs.Lookups.{kind_of, children_of}
-use Rattle.lx_links.specs.Views.{with_kind, kinds_of}
-use Rattle.lx_links.proofs.Bounds.{size_of-le}
+use Rattle.lx_forest.specs.Views.{with_kind, kinds_of}
+use Rattle.lx_forest.proofs.Bounds.{size_of-le}
 use Rattle.lx_links.specs.Stands.{Sound}
 
 one_kind : (o : Option Kind) (kinds : List Kind) (n : ℕ) → length kinds ≤ n → length (with_kind o kinds) ≤ n + 1

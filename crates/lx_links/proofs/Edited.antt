@@ -23,7 +23,7 @@ use Rattle.lx_forest.proofs.Edits.{total-with_new, total-with_fields, total-take
 use Rattle.lx_forest.proofs.Order.{IsForest-with_new, IsForest-with_fields, IsForest-take_out}
 use Rattle.lx_links.specs.declared.changes.Change.TheVariants.{Content}
 use Rattle.lx_node.specs.Kinds.{may_hold}
-use Rattle.lx_links.proofs.Alone.{IsHeld-root_alone}
+use Rattle.lx_forest.proofs.Held.{IsHeld-root_alone}
 use Rattle.lx_forest.proofs.Held.{IsHeld-with_new, IsHeld-with_fields, IsHeld-take_out}
 use Rattle.lx_links.specs.Stands.{Nodes, Holds, node_of, record_of, records, lone_node}
 use Rattle.lx_links.specs.Changes.{changed, Differs, unlinked}

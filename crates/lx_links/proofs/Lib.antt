@@ -9,6 +9,5 @@ pub mod Seen
 pub mod Stood
 pub mod Swept
 pub mod Up
-pub mod Bounds
-pub mod Places
-pub mod Alone
+pub mod FromEnds
+pub mod InTree

@@ -12,8 +12,8 @@ use Rattle.lx_node.specs.Trees.{nil, tree}
 use Rattle.lx_node.specs.Siblings.{is_among, is_named, index_in}
 use Rattle.lx_forest.specs.Forest.{Forest}
 use Rattle.lx_forest.specs.Lookups.{has, parent_of, children_of, children_below, ancestors, is_within, is_attached, depth, index_of, order_of, order_between}
-use Rattle.lx_forest.proofs.Lookups.{has-parent_of, parent_of-self, is_among-children_of, NoRepeats-children_of}
-use Rattle.lx_links.proofs.Places.{place_in, slice_get-place_in, index_in-slice_get}
+use Rattle.lx_forest.proofs.Lookups.{has-parent_of, parent_of-self, is_among-children_of}
+use Rattle.lx_node.proofs.Positions.{place_in, slice_get-place_in, index_in-among}
 use Rattle.lx_forest.proofs.Walks.{order_of-below, order_of-children, order_of-self, order_of-detached}
 use Rattle.lx_forest.proofs.Within.{is_within-self, is_within-up, is_within-trans}
 use Rattle.lx_links.specs.Stands.{Sound}
@@ -206,13 +206,12 @@ siblings_order f a b m n x y u v s da db rx ry h =
     let up_b = deep f b n db in
     let i = in_order f u h.parent s h.first_below in
     let kids = children_of f h.parent in
-    let apart = NoRepeats-children_of f h.parent i in
     let among_u : is_among u kids ≡ true = is_among-children_of f u h.parent i ∙ ap (λ o. is_named o h.parent) h.first_below ∙ grind (arith, eqb_tells h.parent h.parent) in
     let among_v : is_among v kids ≡ true = is_among-children_of f v h.parent i ∙ ap (λ o. is_named o h.parent) h.second_below ∙ grind (arith, eqb_tells h.parent h.parent) in
     let at_u = slice_get-place_in kids u among_u in
     let at_v = slice_get-place_in kids v among_v in
-    let index_u = index_in-slice_get kids (place_in kids u) u apart at_u in
-    let index_v = index_in-slice_get kids (place_in kids v) v apart at_v in
+    let index_u = index_in-among kids u among_u in
+    let index_v = index_in-among kids v among_v in
     let under_u : is_within f u a ≡ true = is_within-trans f u x a i h.first (rx.within ∙ there_within f 0 a up_a.0) in
     let under_v : is_within f v b ≡ true = is_within-trans f v y b i h.second (ry.within ∙ there_within f 0 b up_b.0) in
     ap (λ o. order_between (index_in (children_below f o) u) (index_of f v)) h.first_below

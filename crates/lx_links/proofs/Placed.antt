@@ -14,7 +14,7 @@ use Rattle.lx_forest.specs.Lookups.{has, kind_of, parent_of, children_of, childr
 use Rattle.lx_forest.specs.Edits.{put_in, CanPut}
 use Rattle.lx_forest.specs.Records.{StandsFor, record_at}
 use Rattle.lx_forest.specs.Records as recs
-use Rattle.lx_links.proofs.Bounds.{size_of-lt}
+use Rattle.lx_forest.proofs.Bounds.{size_of-lt}
 use Rattle.lx_forest.proofs.Edits.{total-put_in}
 use Rattle.lx_forest.proofs.Lookups.{is_among-children_of}
 use Rattle.lx_forest.proofs.Order.{IsForest-put_in}

@@ -79,8 +79,5 @@ no_spot f q h = none_of (spot f q) (is_some-spot f q ∙ h)
 pub absent_in : (o : Option (Bor Node)) (f : Forest) (q : ℕ) → option_copied o ≡ option_map node_of (record_at f q) → o ≡ None → has q f ≡ false
 absent_in o f q e h = sym (is_some_in o f q e) ∙ ap is_some h
 
-pub no_parent : (f : Forest) (q : ℕ) → has q f ≡ false → parent_of f q ≡ None
-no_parent f q h = ap parent_at (no_spot f q h)
-
 pub no_children : (f : Forest) (q : ℕ) → has q f ≡ false → children_of f q ≡ []
 no_children f q h = ap children_at (no_spot f q h)

@@ -2,14 +2,13 @@
 use Rattle.std.proofs.Common.{ℕ, ◌≡◌, ◌≢◌, ◌<◌, ◌≤◌, ◌^◌, ◌+◌, not, cond, true, false, ◌&&◌, length, None, Some, ltb, eqb, inl, inr, sym, ap, ◌∙◌, subst, arith}
 use Rattle.lx_forest.specs.Forest.{Forest}
 use Rattle.lx_forest.specs.Lookups.{has, count, alone, key_of, parent_of, ancestors, is_within, is_attached, depth, IsForest}
-use Rattle.lx_forest.proofs.Walks.{ancestors-top, ancestors-step, length-ancestors-lt, is_attached-up}
+use Rattle.lx_forest.proofs.Walks.{no_parent, ancestors-top, ancestors-step, length-ancestors-lt, is_attached-up}
 use Rattle.lx_forest.proofs.Order.{is_attached-root}
 use Rattle.lx_forest.proofs.Within.{is_within-up, is_within-top, is_within-self}
 use Rattle.std.proofs.lemmas.Bool.{cases_Bool}
 use Rattle.std.proofs.lemmas.Bool.Decides.{eqb_tells, nat_tests}
 use Rattle.lx_node.proofs.Subtrees.{count-alone-le}
 use Rattle.lx_links.specs.Stands.{Sound}
-use Rattle.lx_links.proofs.Seen.{no_parent}
 
 absent_within : (m n : ℕ) → n ≤ m → ltb 0 m ≡ false → ltb 0 n ≡ false
 absent_within m n h e = grind (arith, h, e)

@@ -4,4 +4,3 @@ pub mod Faults
 pub mod Parted
 pub mod Reader
 pub mod Stands
-pub mod Views

@@ -32,9 +32,12 @@ impl<'a> Model for Children<'a> {
 }
 
 impl Links {
+    ghost use Rattle.lx_links.specs.Stands.{Sound};
+
     /// The keys of the node's children: none where there is no such node.
     pub fn children(&self, key: Key) -> Children<'_>
-        ensures { result ≡ lookups.children_of self.now key }
+        ensures children { result ≡ lookups.children_of self.now key }
+        ensures sound { Sound self.now }
     {
         Children {
             links: self,

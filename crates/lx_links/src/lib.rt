@@ -2,6 +2,7 @@
 #![tactic(auto)]
 
 mod changes;
+mod child_at;
 mod children;
 mod edits;
 mod faults;
@@ -9,6 +10,7 @@ mod joints;
 mod links;
 mod nodes;
 mod order;
+mod preorder;
 mod reads;
 mod records;
 mod sweep;

@@ -7,8 +7,8 @@ use lx_store::{Copies, Store};
 use std::alloc::Global;
 use std::marker::Model;
 
-/// Nodes that stand for a forest. Links that met want of memory in a call that changes them have failed:
-/// they have no nodes, not even a root, and each call that can want memory wants it.
+/// Nodes that stand for a forest. Links that met want of memory in a call that changes them, or were made
+/// to fail, have failed: they have no nodes, not even a root, and each call that can want memory wants it.
 #[derive(Drop)]
 pub struct Links {
     pub(crate) alloc: Global,
@@ -32,7 +32,7 @@ impl Model for Links {
 }
 
 impl Links {
-    ghost use Rattle.std.specs.Prelude.{◌≡◌, ◌≢◌, option_map, IfOk, OnOk, OnErr};
+    ghost use Rattle.std.specs.Prelude.{◌≡◌, ◌≢◌, false, option_map, IsTrue, IfOk, OnOk, OnErr};
     ghost use Rattle.lx_node.specs.Trees.{nil};
     ghost use Rattle.lx_forest.specs.Forest.{root_alone};
     ghost use Rattle.std.specs.Option.{option_copied};
@@ -56,6 +56,7 @@ impl Links {
     pub fn fork(&self) -> Result<Links, NoMemory>
         ensures equal { IfOk result (λ made. made ≡ self.now) }
         ensures living { OnOk result (self.now ≢ nil) }
+        ensures sound { Sound self.now }
     {
         match &self.held {
             Some(store) => {
@@ -67,6 +68,25 @@ impl Links {
                 })
             }
             None => Err(NoMemory),
+        }
+    }
+
+    /// Makes the links failed: from then on they have no nodes, not even a root. It wants no memory.
+    pub fn fail(&mut self)
+        ensures { self.new ≡ nil }
+    {
+        self.held = None;
+    }
+
+    /// Whether the links have failed, so that they have no nodes.
+    pub fn has_failed(&self) -> bool
+        ensures failed { IsTrue result → self.now ≡ nil }
+        ensures living { result ≡ false → self.now ≢ nil }
+        ensures sound { Sound self.now }
+    {
+        match &self.held {
+            Some(_) => false,
+            None => true,
         }
     }
 

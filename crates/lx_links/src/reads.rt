@@ -1,5 +1,5 @@
 use crate::links::Links;
-use lx_node::Key;
+use lx_node::{Key, Kind};
 
 impl Links {
     ghost use Rattle.std.specs.Prelude.{◌≡◌};
@@ -24,6 +24,17 @@ impl Links {
         ensures sound { Sound self.now }
     {
         self.node(key).is_some()
+    }
+
+    /// The kind of the node, where there is one.
+    pub fn kind(&self, key: Key) -> Option<Kind>
+        ensures kind { result ≡ lookups.kind_of self.now key }
+        ensures sound { Sound self.now }
+    {
+        match self.node(key) {
+            Some(node) => Some(node.kind),
+            None => None,
+        }
     }
 
     /// The node among whose children the key stands.
@@ -70,8 +81,8 @@ impl Links {
         }
     }
 
-    /// The sibling right before the node.
-    pub(crate) fn previous(&self, key: Key) -> Option<Key>
+    /// The sibling right before the node, where it stands below one and isn't its first child.
+    pub fn previous(&self, key: Key) -> Option<Key>
         ensures previous { result ≡ lookups.previous_of self.now key }
         ensures sound { Sound self.now }
     {
@@ -81,8 +92,8 @@ impl Links {
         }
     }
 
-    /// The sibling right behind the node.
-    pub(crate) fn next(&self, key: Key) -> Option<Key>
+    /// The sibling right behind the node, where it stands below one and isn't its last child.
+    pub fn next(&self, key: Key) -> Option<Key>
         ensures next { result ≡ lookups.next_of self.now key }
         ensures sound { Sound self.now }
     {

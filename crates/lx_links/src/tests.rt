@@ -63,15 +63,6 @@ fn insert(
     Ok(())
 }
 
-/// The keys of a node's children, as one number in base ten.
-fn child_digits(links: &Links, key: u32) -> u64 {
-    let mut digits = 0u64;
-    for child in links.children(Key(key)) {
-        digits = digits.wrapping_mul(10).wrapping_add(child.number() as u64);
-    }
-    digits
-}
-
 #[test]
 fn edits_change_the_links_or_say_why_not(rt: HostRuntime) -> Result<(), Fail> {
     let alloc = rt.alloc();
@@ -93,7 +84,8 @@ fn edits_change_the_links_or_say_why_not(rt: HostRuntime) -> Result<(), Fail> {
     insert(&rt, &mut links, 3, Kind::Text, text(alloc, "three")?)?;
     links.place(Key(0), None, Key(1))?;
     links.place(Key(0), Some(Key(1)), Key(2))?;
-    assert_eq!(rt; child_digits(&links, 0), 21);
+    let children: Vec<Key> = links.children(Key(0)).collect(alloc)?;
+    assert_eq!(rt; children, vec![in alloc; Key(2), Key(1)]?);
     assert!(rt; is_bad_place(links.place(Key(2), None, Key(1)), 1));
     links.detach(Key(1))?;
     links.place(Key(2), None, Key(1))?;
@@ -166,5 +158,73 @@ fn a_list_is_not_put_below_itself(rt: HostRuntime) -> Result<(), Fail> {
     let second = records.read(Key(9));
     assert!(rt; first.is_some() && second.is_none());
     assert_eq!(rt; records.reads(), 2);
+    Ok(())
+}
+
+/// The keys of the children by their indices, as one number in base ten, with 9 for none.
+fn indexed_digits(links: &Links, key: u32, count: u32) -> u64 {
+    let mut digits = 0u64;
+    for index in 0..count {
+        let child = links.child_at(Key(key), index).unwrap_or(Key(9));
+        digits = digits.wrapping_mul(10).wrapping_add(child.number() as u64);
+    }
+    digits
+}
+
+fn behind(links: &Links, key: Key) -> Option<(Key, u32)> {
+    let depth = links.depth(key)?;
+    links.next_in_tree(key, depth)
+}
+
+/// The keys behind the root in order, each with its depth, as one number in base ten.
+fn walked_digits(links: &Links) -> u64 {
+    let mut digits = 0u64;
+    let mut key = Key(0);
+    for _ in 0..9 {
+        let Some((next, depth)) = behind(links, key) else {
+            return digits;
+        };
+        digits = digits.wrapping_mul(10).wrapping_add(next.number() as u64);
+        digits = digits.wrapping_mul(10).wrapping_add(depth as u64);
+        key = next;
+    }
+    digits
+}
+
+/// The paragraphs 1, 4, 5 and 6, with the texts 2 and 3 below the first.
+fn paragraphs(rt: &impl Abort, alloc: Global) -> Result<Links, Fail> {
+    let mut links = Links::new(alloc)?;
+    for key in [1, 4, 5, 6] {
+        let fields = element(alloc, Extra::Plain)?;
+        insert(rt, &mut links, key, Kind::Paragraph, fields)?;
+        links.place(Key(0), None, Key(key))?;
+    }
+    for key in [2, 3] {
+        let fields = text(alloc, "")?;
+        insert(rt, &mut links, key, Kind::Text, fields)?;
+        links.place(Key(1), None, Key(key))?;
+    }
+    Ok(links)
+}
+
+#[test]
+fn the_tree_is_read_by_index_and_in_order(rt: HostRuntime) -> Result<(), Fail> {
+    let links = paragraphs(&rt, rt.alloc())?;
+    assert_eq!(rt; indexed_digits(&links, 0, 5), 14569);
+    assert_eq!(rt; indexed_digits(&links, 1, 2), 23);
+    assert_eq!(rt; walked_digits(&links), 112_232_415_161);
+    assert_eq!(rt; links.previous(Key(5)), Some(Key(4)));
+    assert_eq!(rt; links.next(Key(3)), None);
+    Ok(())
+}
+
+#[test]
+fn failed_links_have_no_nodes(rt: HostRuntime) -> Result<(), Fail> {
+    let mut links = Links::new(rt.alloc())?;
+    assert!(rt; !links.has_failed());
+    links.fail();
+    assert!(rt; links.has_failed());
+    assert_eq!(rt; links.kind(Key(0)), None);
+    assert!(rt; links.fork().is_err());
     Ok(())
 }

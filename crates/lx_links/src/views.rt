@@ -1,7 +1,8 @@
 ghost use Rattle.std.specs.Prelude.{◌≡◌, ◌≢◌, IfOk, OnOk};
 ghost use Rattle.lx_node.specs.Trees.{nil};
 ghost use Rattle.lx_forest.specs.Lookups as lookups;
-ghost use Rattle.lx_links.specs.Views as views;
+ghost use Rattle.lx_forest.specs.Views as views;
+ghost use Rattle.lx_links.specs.Stands.{Sound};
 
 use crate::links::Links;
 use lx_node::{ElementFields, Extra, Fields, Key, Kind, Kinds, NoMemory, View};
@@ -13,6 +14,7 @@ impl Links {
     pub fn view(&self, key: Key) -> Result<Option<View>, NoMemory>
         ensures view { IfOk result (λ view. view ≡ views.view_of self.now key) }
         ensures living { OnOk result (self.now ≢ nil) }
+        ensures sound { Sound self.now }
     {
         self.living()?;
         let Some(node) = self.node(key) else {
@@ -36,15 +38,6 @@ impl Links {
     {
         match key {
             Some(key) => self.kind(*key),
-            None => None,
-        }
-    }
-
-    fn kind(&self, key: Key) -> Option<Kind>
-        ensures { result ≡ lookups.kind_of self.now key }
-    {
-        match self.node(key) {
-            Some(node) => Some(node.kind),
             None => None,
         }
     }

@@ -1,5 +1,5 @@
 use Rattle.std.proofs.Common.{◌≡◌, ◌++◌}
-use Rattle.lx_links.specs.Views.{kinds_of}
+use Rattle.lx_forest.specs.Views.{kinds_of}
 use Rattle.lx_links.proofs.links.Links.child_kinds.Given as goal
 
 -- the kinds so far, and those of the children that are left
