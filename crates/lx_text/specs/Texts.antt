@@ -1,0 +1,40 @@
+-- Places in texts, and the pieces between them. A text is the list of its Unicode scalar values, and an offset counts
+-- scalar values. What offsets count is known here and nowhere else.
+use Rattle.std.specs.Prelude.{ℕ, ◌-◌, ◌≡◌, ◌++◌, Bool, nat_le, if◌then◌else◌, List, length, take, drop, Option, None, Some}
+use Rattle.std.specs.Option.{option_or}
+use Rattle.lx_node.specs.declared.cause.Cause.{Cause}
+use Rattle.lx_node.specs.declared.cause.Cause.TheVariants.{BadPlace}
+use Rattle.lx_node.specs.declared.cause.Fault.{Fault}
+use Rattle.lx_node.specs.declared.cause.Fault.TheVariants as fault
+
+-- how long a text is, which is the offset of its end
+unfoldable pub text_length : List ℕ → ℕ
+text_length text = length text
+
+-- whether the offset is one of a place in the text, of which the end is one
+unfoldable pub is_offset : ℕ → List ℕ → Bool
+is_offset offset text = nat_le offset (length text)
+
+-- the piece of the text between two offsets
+unfoldable pub slice_of : ℕ → ℕ → List ℕ → List ℕ
+slice_of from to text = take (to - from) (drop from text)
+
+-- the text with another piece in the place of the one between two offsets
+unfoldable pub spliced : ℕ → ℕ → List ℕ → List ℕ → List ℕ
+spliced from to new text = take from text ++ new ++ drop to text
+
+-- why there is no piece between two offsets, the first cause: the first offset is none of the text, or the second one is, or
+-- the first one is behind the second
+abbrev pub no_offset : List ℕ → ℕ → Option Cause
+no_offset text offset = if is_offset offset text then None else Some (BadPlace offset)
+
+abbrev pub turned_round : ℕ → ℕ → Option Cause
+turned_round from to = if nat_le from to then None else Some (BadPlace from)
+
+abbrev pub slice_fault : List ℕ → ℕ → ℕ → Option Cause
+slice_fault text from to = option_or (no_offset text from) (option_or (no_offset text to) (turned_round from to))
+
+-- what an error tells, where this is the first cause: the call was refused for it, or there was none and memory was wanting
+abbrev pub Tells : Option Cause → Fault → Type 0
+Tells first (fault.Cause cause) = first ≡ Some cause
+Tells first fault.Memory = first ≡ None

@@ -1,0 +1,13 @@
+//! Pieces of texts between offsets. An offset counts Unicode scalar values, and no crate above knows more than these
+//! contracts: what offsets count can change here alone.
+#![tactic(auto)]
+
+mod laws;
+mod offsets;
+mod pieces;
+
+pub use laws::texts_are_told;
+pub use pieces::{length, slice, splice};
+
+#[cfg(test)]
+mod tests;
