@@ -1,0 +1,4 @@
+pub mod Called
+pub mod Flags
+pub mod Names
+pub mod Told

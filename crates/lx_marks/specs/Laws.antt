@@ -1,0 +1,48 @@
+-- The laws of marks: what is marked after a mark, as one equation for all keys.
+use Rattle.std.specs.Prelude.{ℕ, ◌≡◌, ◌==◌, ◌&&◌, ◌||◌, Bool, true, false, if◌then◌else◌, Option, None, Some, slice_get}
+use Rattle.lx_node.specs.Siblings.{is_among}
+use Rattle.lx_marks.specs.Marks.{Marked, unmarked, flag_in, with_leaf, with_element, absorbed, is_marked, IsMarked}
+
+-- the flag that two tables give a key: true where either has it so
+abbrev pub joined : Option Bool → Option Bool → Option Bool
+joined None flag = flag
+joined (Some mine) None = Some mine
+joined (Some mine) (Some other) = Some (mine || other)
+
+pub record MarksAreTold : Type 0 where
+  -- which keys are marked themselves
+  pub none_marked : (q : ℕ) → is_marked unmarked q ≡ false
+  pub marked_leaf : (k : ℕ) (m : Marked) (q : ℕ) → is_marked (with_leaf k m) q ≡ (is_marked m q || q == k)
+  pub marked_element : (k : ℕ) (flag : Bool) (m : Marked) (q : ℕ) →
+      is_marked (with_element k flag m) q ≡ (is_marked m q || (q == k && (flag || q == 0)))
+  pub marked_absorbed : (other m : Marked) (q : ℕ) → IsMarked other →
+      is_marked (absorbed other m) q ≡ (is_marked m q || is_marked other q)
+  -- which keys are among the leaves
+  pub leaves_leaf : (k : ℕ) (m : Marked) (q : ℕ) → is_among q (with_leaf k m).leaves ≡ (is_among q m.leaves || q == k)
+  pub leaves_element : (k : ℕ) (flag : Bool) (m : Marked) → (with_element k flag m).leaves ≡ m.leaves
+  pub leaves_absorbed : (other m : Marked) (q : ℕ) →
+      is_among q (absorbed other m).leaves ≡ (is_among q m.leaves || is_among q other.leaves)
+  -- which keys are among the elements, and with which flag
+  pub flags_leaf : (k : ℕ) (m : Marked) → (with_leaf k m).elements ≡ m.elements
+  pub flags_element : (k : ℕ) (flag : Bool) (m : Marked) (q : ℕ) →
+      flag_in (with_element k flag m).elements q
+      ≡ (if q == k then joined (flag_in m.elements q) (Some flag) else flag_in m.elements q)
+  pub flags_absorbed : (other m : Marked) (q : ℕ) → IsMarked other →
+      flag_in (absorbed other m).elements q ≡ joined (flag_in m.elements q) (flag_in other.elements q)
+  -- what is read by place is there
+  pub read_leaf : (m : Marked) (i k : ℕ) → slice_get m.leaves i ≡ Some k → is_among k m.leaves ≡ true
+  pub read_element : (m : Marked) (i k : ℕ) (flag : Bool) → IsMarked m →
+      slice_get m.elements i ≡ Some (k, flag) → flag_in m.elements k ≡ Some flag
+  -- a key once marked stays marked, and a flag that is true stays true
+  pub stays_leaf : (k : ℕ) (m : Marked) (q : ℕ) → is_marked m q ≡ true → is_marked (with_leaf k m) q ≡ true
+  pub stays_element : (k : ℕ) (flag : Bool) (m : Marked) (q : ℕ) → is_marked m q ≡ true → is_marked (with_element k flag m) q ≡ true
+  pub stays_absorbed : (other m : Marked) (q : ℕ) → is_marked m q ≡ true → is_marked (absorbed other m) q ≡ true
+  pub flag_stays_element : (k : ℕ) (flag : Bool) (m : Marked) (q : ℕ) →
+      flag_in m.elements q ≡ Some true → flag_in (with_element k flag m).elements q ≡ Some true
+  pub flag_stays_absorbed : (other m : Marked) (q : ℕ) →
+      flag_in m.elements q ≡ Some true → flag_in (absorbed other m).elements q ≡ Some true
+  -- no key comes to stand twice
+  pub once_unmarked : IsMarked unmarked
+  pub once_leaf : (k : ℕ) (m : Marked) → IsMarked m → IsMarked (with_leaf k m)
+  pub once_element : (k : ℕ) (flag : Bool) (m : Marked) → IsMarked m → IsMarked (with_element k flag m)
+  pub once_absorbed : (other m : Marked) → IsMarked m → IsMarked (absorbed other m)

@@ -1,0 +1,64 @@
+-- The keys that edits marked, and what marking does to them. What marks doesn't unfold: its laws are in `specs/Laws.antt`.
+use Rattle.std.specs.Prelude.{ℕ, ◌==◌, ◌||◌, Bool, false, if◌then◌else◌, List, [], ◌∷◌, ◌++◌, Option, None, Some}
+use Rattle.std.specs.Map.{keys_of}
+use Rattle.lx_node.specs.Siblings.{is_among, NoRepeats}
+
+-- The keys that edits marked, in the order of their first marks: those of leaves, and those of elements, each with a flag.
+-- The flag tells whether the element itself was marked; without it only something below it was.
+pub record Marked : Type 0 where
+  pub leaves : List ℕ
+  pub elements : List (ℕ × Bool)
+
+-- nothing is marked
+abbrev pub unmarked : Marked
+unmarked = record { leaves = []; elements = [] }
+
+-- the flag of a key, if it is there
+abbrev pub flag_in : List (ℕ × Bool) → ℕ → Option Bool
+flag_in [] q = None
+flag_in (e ∷ es) q = if q == e.0 then Some e.1 else flag_in es q
+
+-- the elements with this one: one that is there keeps its place, and a flag that is true stays true
+unfoldable pub flagged : ℕ → Bool → List (ℕ × Bool) → List (ℕ × Bool)
+flagged k flag [] = (k, flag) ∷ []
+flagged k flag (e ∷ es) = if k == e.0 then (e.0, e.1 || flag) ∷ es else e ∷ flagged k flag es
+
+-- the names with this one, behind all unless it is there
+unfoldable pub with_name : ℕ → List ℕ → List ℕ
+with_name k xs = if is_among k xs then xs else xs ++ k ∷ []
+
+-- a leaf is marked
+unfoldable pub with_leaf : ℕ → Marked → Marked
+with_leaf k m = record m { leaves = with_name k m.leaves }
+
+-- an element is marked, itself where the flag is true
+unfoldable pub with_element : ℕ → Bool → Marked → Marked
+with_element k flag m = record m { elements = flagged k flag m.elements }
+
+-- the names with all of these, one after another
+unfoldable pub with_names : List ℕ → List ℕ → List ℕ
+with_names [] xs = xs
+with_names (k ∷ ks) xs = with_names ks (with_name k xs)
+
+-- the elements with all of these, one after another
+unfoldable pub all_flagged : List (ℕ × Bool) → List (ℕ × Bool) → List (ℕ × Bool)
+all_flagged [] es = es
+all_flagged (f ∷ fs) es = all_flagged fs (flagged f.0 f.1 es)
+
+-- all that the other has marked is marked too: its leaves in their order, and its elements with their flags
+unfoldable pub absorbed : Marked → Marked → Marked
+absorbed other m = record { leaves = with_names other.leaves m.leaves; elements = all_flagged other.elements m.elements }
+
+-- whether an element with this flag is marked itself: the root is where it is there at all
+abbrev pub is_marked_by : Option Bool → ℕ → Bool
+is_marked_by None q = false
+is_marked_by (Some flag) q = flag || q == 0
+
+-- whether a key is marked itself: as a leaf, or as an element
+abbrev pub is_marked : Marked → ℕ → Bool
+is_marked m q = is_among q m.leaves || is_marked_by (flag_in m.elements q) q
+
+-- no key stands twice among the leaves, nor among the elements
+pub record IsMarked (m : Marked) : Type 0 where
+  pub leaves : NoRepeats m.leaves
+  pub elements : NoRepeats (keys_of m.elements)

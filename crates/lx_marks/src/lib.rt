@@ -1,0 +1,11 @@
+//! The keys that edits mark, so that work after an edit goes to what it touched and to nothing else.
+#![tactic(auto)]
+
+mod laws;
+mod marks;
+mod tables;
+#[cfg(test)]
+mod tests;
+
+pub use laws::marks_are_told;
+pub use marks::Marks;
