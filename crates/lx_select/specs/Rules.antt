@@ -1,0 +1,78 @@
+-- Where each edit moves a point. An offset counts the characters of a text, or the children of an element. A point that
+-- no case names stays.
+use Rattle.std.specs.Prelude.{ℕ, ◌+◌, ◌-◌, ◌==◌, ◌&&◌, Bool, true, false, nat_lt, nat_le, min, if◌then◌else◌}
+use Rattle.lx_node.specs.declared.cause.Point.{Point}
+use Rattle.lx_node.specs.declared.cause.PointKind.{PointKind}
+use Rattle.lx_node.specs.declared.cause.PointKind.TheVariants.{Text, Element}
+
+-- a sum of offsets, which ends at the last number of a u32
+unfoldable pub offset_sum : ℕ → ℕ → ℕ
+offset_sum a b = min (a + b) 4294967295
+
+-- ---- a child comes or goes
+
+unfoldable pub counts_children : PointKind → Bool
+counts_children Text = false
+counts_children Element = true
+
+-- the point lies among the children of the parent, behind the child at the index
+unfoldable pub is_behind : ℕ → ℕ → Point → Bool
+is_behind parent index p = counts_children p.kind && (p.key == parent && nat_lt index p.offset)
+
+-- a child comes to the index of the parent
+unfoldable pub put_moves : ℕ → ℕ → Point → Point
+put_moves parent index p = if is_behind parent index p then record p { offset = offset_sum p.offset 1 } else p
+
+-- the child at the index of the parent goes
+unfoldable pub take_moves : ℕ → ℕ → Point → Point
+take_moves parent index p = if is_behind parent index p then record p { offset = p.offset - 1 } else p
+
+-- ---- a text changes
+
+-- an offset, where a piece of this length replaces what stands between two others
+unfoldable pub spliced : ℕ → ℕ → ℕ → ℕ → ℕ
+spliced from to len o =
+    if nat_le o from then o
+    else if nat_le to o then offset_sum (o - (to - from)) len
+    else offset_sum from len
+
+-- a piece of this length replaces what stands between two offsets of the key
+unfoldable pub splice_moves : ℕ → ℕ → ℕ → ℕ → Point → Point
+splice_moves key from to len p = if p.key == key then record p { offset = spliced from to len p.offset } else p
+
+-- the key gets a text of this length
+unfoldable pub set_moves : ℕ → ℕ → Point → Point
+set_moves key len p = if p.key == key && nat_lt len p.offset then record p { offset = len } else p
+
+-- the key keeps what stands before an offset, and a new one gets the rest
+unfoldable pub split_moves : ℕ → ℕ → ℕ → Point → Point
+split_moves key at new p =
+    if p.key == key && nat_lt at p.offset then record p { key = new; offset = p.offset - at } else p
+
+-- the new key, with a text of this length, stands for the old one
+unfoldable pub replace_moves : ℕ → ℕ → ℕ → Point → Point
+replace_moves old new len p = if p.key == old then record p { key = new; offset = min p.offset len } else p
+
+-- ---- what one node has comes to another
+
+-- what stood at 0 of the one key stands at this offset of the other
+unfoldable pub carry_moves : ℕ → ℕ → ℕ → Point → Point
+carry_moves from to at p = if p.key == from then record p { key = to; offset = offset_sum at p.offset } else p
+
+-- the text of the second goes behind that of the first, which has this length
+unfoldable pub join_moves : ℕ → ℕ → ℕ → Point → Point
+join_moves first len second p = carry_moves second first len p
+
+-- the children of the one go behind those of the other, which has so many
+unfoldable pub children_moves : ℕ → ℕ → ℕ → Point → Point
+children_moves from to size p = carry_moves from to size p
+
+-- the children of the key come in its place, at the index of the parent
+unfoldable pub unwrap_moves : ℕ → ℕ → ℕ → Point → Point
+unwrap_moves key parent index p = carry_moves key parent index p
+
+-- ---- a point is sent elsewhere
+
+-- every point on the key becomes this one
+unfoldable pub moved_to : ℕ → Point → Point → Point
+moved_to key to p = if p.key == key then to else p
