@@ -1,0 +1,9 @@
+pub mod Capped
+pub mod Marked
+pub mod Points
+pub mod Measured
+pub mod Kept
+pub mod Put
+pub mod Spliced
+pub mod Started
+pub mod Swept

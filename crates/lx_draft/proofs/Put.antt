@@ -1,0 +1,59 @@
+-- Where nothing refuses a put, the place is one for the links too.
+use Rattle.std.proofs.Common.{◌≡◌, ℕ, true, Option, None, Some, refl, arith}
+use Rattle.std.specs.Option.{option_or}
+use Rattle.std.specs.Prelude.{slice_get}
+use Rattle.std.proofs.lemmas.Bool.Decides.{eqb_tells}
+use Rattle.lx_node.specs.Siblings.{is_among}
+use Rattle.lx_node.proofs.Siblings.{is_named_tells}
+use Rattle.lx_node.proofs.Positions.{is_among-slice_get}
+use Rattle.lx_forest.specs.Forest.{Forest}
+use Rattle.lx_forest.specs.Lookups.{has, kind_of, parent_of, children_of, IsForest}
+use Rattle.lx_forest.specs.Edits.{CanPut}
+use Rattle.lx_forest.proofs.Lookups.{is_among-children_of}
+use Rattle.lx_forest.proofs.Walks.{no_parent}
+use Rattle.lx_links.specs.Faults.{unknown, unknown_before, misfit, bound_to, no_child, place_fault}
+use Rattle.lx_draft.specs.Faults.{put_fault, beyond}
+
+pub both_none : {A : Type 0} (a b : Option A) → option_or a b ≡ None → (a ≡ None) × (b ≡ None)
+both_none None b e = (refl, e)
+both_none (Some x) b e = absurd (grind (arith, e))
+
+-- the causes of a put one by one
+record NoneOf (f : Forest) (k p index : ℕ) : Type 0 where
+  pub key : unknown f k ≡ None
+  pub parent : unknown f p ≡ None
+  pub free : bound_to f p k ≡ None
+  pub fit : misfit (kind_of f p) (kind_of f k) ≡ None
+  pub within : beyond f p index ≡ None
+
+none_of : (f : Forest) (k p index : ℕ) → put_fault k p index f ≡ None → NoneOf f k p index
+none_of f k p index e =
+    let a = both_none (unknown f k) (option_or (unknown f p) (option_or (bound_to f p k) (option_or (misfit (kind_of f p) (kind_of f k)) (beyond f p index)))) e in
+    let b = both_none (unknown f p) (option_or (bound_to f p k) (option_or (misfit (kind_of f p) (kind_of f k)) (beyond f p index))) a.1 in
+    let c = both_none (bound_to f p k) (option_or (misfit (kind_of f p) (kind_of f k)) (beyond f p index)) b.1 in
+    let d = both_none (misfit (kind_of f p) (kind_of f k)) (beyond f p index) c.1 in
+    record { key = a.0; parent = b.0; free = c.0; fit = d.0; within = d.1 }
+
+pub can_put : (f : Forest) (k p index : ℕ) → put_fault k p index f ≡ None → CanPut p k f
+can_put f k p index e =
+    let n = none_of f k p index e in
+    record {
+      other = λ same. grind (arith, n.free, same, eqb_tells k 0);
+      there = grind (arith, n.key);
+      detached = grind (arith, n.free);
+      parent = grind (arith, n.parent);
+      outside = grind (arith, n.free);
+    }
+
+child_there : (f : Forest) (p b : ℕ) → IsForest f → is_among b (children_of f p) ≡ true → has b f ≡ true
+child_there f p b h among = grind (arith, among, is_among-children_of f b p h, is_named_tells (parent_of f b) p, no_parent f b)
+
+before_fits : (f : Forest) (p : ℕ) (before : Option ℕ) → IsForest f → ((b : ℕ) → before ≡ Some b → is_among b (children_of f p) ≡ true) → (unknown_before f before ≡ None) × (no_child f p before ≡ None)
+before_fits f p None h child = (refl, refl)
+before_fits f p (Some b) h child = (grind (arith, child_there f p b h (child b refl)), grind (arith, child b refl))
+
+pub may_place : (f : Forest) (k p index : ℕ) → IsForest f → put_fault k p index f ≡ None → place_fault p (slice_get (children_of f p) index) k f ≡ None
+may_place f k p index h e =
+    let n = none_of f k p index e in
+    let b = before_fits f p (slice_get (children_of f p) index) h (λ x at. is_among-slice_get (children_of f p) x index at) in
+    rw (n.parent, b.0, n.key, n.fit, n.free) b.1

@@ -1,0 +1,79 @@
+-- What a draft leaves for a commit, and why it can't be committed.
+use Rattle.std.specs.Prelude.{ℕ, max, sum_by, filter, List, [], ◌∷◌, Option, None, Some, unwrap_or, Result, Ok, ◌≡◌}
+use Rattle.std.specs.Option.{option_or}
+use Rattle.lx_node.specs.NamedTrees.{total}
+use Rattle.lx_node.specs.Strings.{characters_of}
+use Rattle.lx_node.specs.declared.fields.Fields.{Fields}
+use Rattle.lx_node.specs.declared.cause.Cause.{Cause}
+use Rattle.lx_node.specs.declared.cause.Limit.TheVariants.{Depth, Nodes, Characters, KeyCount}
+use Rattle.lx_select.specs.declared.selection.Selection.{Selection}
+use Rattle.lx_select.specs.declared.selection.Selection.TheVariants as selection
+use Rattle.lx_marks.specs.Marks.{Marked}
+use Rattle.lx_forest.specs.Forest.{Forest}
+use Rattle.lx_forest.specs.Lookups.{has, fields_of, depth, preorder}
+use Rattle.lx_forest.specs.Edits.{drop_detached}
+use Rattle.lx_draft.specs.Working.{Working, most_depth, most_nodes, most_characters, most_key}
+use Rattle.lx_draft.specs.Selecting.{selection_lost}
+use Rattle.lx_draft.specs.Faults.{answer, over}
+
+-- ---- the sweep
+
+abbrev pub nodes_or_nothing : List ℕ → Selection
+nodes_or_nothing [] = selection.Nothing
+nodes_or_nothing (k ∷ ks) = selection.Nodes (k ∷ ks)
+
+-- selected nodes that aren't there any more are selected no longer
+abbrev pub kept_nodes : Forest → List ℕ → Selection
+kept_nodes f keys = nodes_or_nothing (filter (λ k. has k f) keys)
+
+abbrev pub kept_selection : Forest → Selection → Selection
+kept_selection f (selection.Nodes keys) = kept_nodes f keys
+kept_selection f other = other
+
+-- the root's tree is kept alone
+unfoldable pub swept : Working → Working
+swept w = record w { forest = drop_detached w.forest; selection = kept_selection (drop_detached w.forest) w.selection }
+
+-- ---- the limits of a committed state
+
+-- the greatest depth of the tree
+abbrev pub depth_at : Forest → ℕ → ℕ
+depth_at f k = unwrap_or (depth f k) 0
+
+abbrev pub greatest : (ℕ → ℕ) → List ℕ → ℕ
+greatest measure [] = 0
+greatest measure (k ∷ ks) = max (measure k) (greatest measure ks)
+
+abbrev pub tree_depth : Forest → ℕ
+tree_depth f = greatest (depth_at f) (preorder f)
+
+-- the scalar values in all strings of the tree
+abbrev pub characters_in : Option Fields → ℕ
+characters_in None = 0
+characters_in (Some fields) = characters_of fields
+
+abbrev pub characters_at : Forest → ℕ → ℕ
+characters_at f k = characters_in (fields_of f k)
+
+abbrev pub tree_characters : Forest → ℕ
+tree_characters f = sum_by (characters_at f) (preorder f)
+
+-- Why a state with this next key can't be committed, the first cause: what its selection has lost, and the limits that it
+-- is beyond.
+abbrev pub state_fault : Forest → Selection → ℕ → Option Cause
+state_fault f selection next_key =
+    option_or (selection_lost selection f)
+    (option_or (over Depth most_depth (tree_depth f))
+    (option_or (over Nodes most_nodes (total f))
+    (option_or (over Characters most_characters (tree_characters f)) (over KeyCount most_key next_key))))
+
+abbrev pub freeze_fault : Working → Option Cause
+freeze_fault w = state_fault w.forest w.selection w.next_key
+
+unfoldable pub freeze_step : Working → Result Working Cause
+freeze_step w = answer (freeze_fault (swept w)) (swept w)
+
+-- what a frozen draft leaves
+abbrev pub Freezes : Working → Forest → Selection → Marked → ℕ → Type 0
+Freezes w f selection marks next_key =
+    freeze_step w ≡ Ok (record (swept w) { forest = f; selection = selection; marks = marks; next_key = next_key })

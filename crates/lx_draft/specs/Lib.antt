@@ -1,0 +1,9 @@
+pub mod Working
+pub mod Marking
+pub mod Selecting
+pub mod Faults
+pub mod Steps
+pub mod Freezing
+pub mod Inside
+pub mod Points
+pub mod Rounds

@@ -1,0 +1,117 @@
+-- Which selections a forest has a place for.
+use Rattle.std.specs.Prelude.{ℕ, Bool, true, false, ◌&&◌, nat_le, min, if◌then◌else◌, List, [], ◌∷◌, Option, None, Some}
+use Rattle.std.specs.Option.{option_or}
+use Rattle.lx_node.specs.Kinds.{is_element}
+use Rattle.lx_node.specs.declared.kind.Kind.{Kind}
+use Rattle.lx_node.specs.declared.kind.Kind.TheVariants.{Text, Tab, Table, Cell}
+use Rattle.lx_node.specs.declared.fields.Fields.{Fields}
+use Rattle.lx_node.specs.declared.fields.Fields.TheVariants as fields
+use Rattle.lx_node.specs.declared.cause.Point.{Point}
+use Rattle.lx_node.specs.declared.cause.PointKind.{PointKind}
+use Rattle.lx_node.specs.declared.cause.PointKind.TheVariants as point
+use Rattle.lx_node.specs.declared.cause.Cause.{Cause}
+use Rattle.lx_node.specs.declared.cause.Cause.TheVariants.{WrongKind, BadPlace, SelectionLost}
+use Rattle.lx_node.specs.declared.cause.Lost.TheVariants as lost
+use Rattle.lx_text.specs.Texts.{text_length}
+use Rattle.lx_select.specs.declared.selection.Selection.{Selection}
+use Rattle.lx_select.specs.declared.selection.Selection.TheVariants.{Nothing, Range, Nodes, Cells}
+use Rattle.lx_forest.specs.Forest.{Forest}
+use Rattle.lx_forest.specs.Lookups.{has, kind_of, fields_of, size_of, is_within}
+use Rattle.lx_links.specs.Faults.{unknown}
+
+-- texts and tabs have characters
+abbrev pub is_text_kind : Kind → Bool
+is_text_kind Text = true
+is_text_kind Tab = true
+is_text_kind other = false
+
+abbrev pub is_table_kind : Kind → Bool
+is_table_kind Table = true
+is_table_kind other = false
+
+abbrev pub is_cell_kind : Kind → Bool
+is_cell_kind Cell = true
+is_cell_kind other = false
+
+-- a point counts characters in a text or tab, and children in an element
+abbrev pub counts_in : PointKind → Kind → Bool
+counts_in point.Text kind = is_text_kind kind
+counts_in point.Element kind = is_element kind
+
+-- the length of a text as an offset tells it, which ends at the last number of a u32
+abbrev pub length_told : List ℕ → ℕ
+length_told text = min (text_length text) 4294967295
+
+abbrev pub length_of : Option Fields → ℕ
+length_of (Some (fields.Text text)) = length_told text.text
+length_of other = 0
+
+-- how far a point may be in a node
+abbrev pub extent : Forest → Point → PointKind → ℕ
+extent f p point.Text = length_of (fields_of f p.key)
+extent f p point.Element = size_of f p.key
+
+-- ---- why a selection is refused
+
+-- the kind of the node, where it isn't one that passes the test
+abbrev pub unlike : (Kind → Bool) → Option Kind → Option Cause
+unlike test None = None
+unlike test (Some kind) = if test kind then None else Some (WrongKind kind)
+
+abbrev pub misfit_point : Forest → Point → Option Cause
+misfit_point f p = unlike (counts_in p.kind) (kind_of f p.key)
+
+abbrev pub outside_point : Forest → Point → Option Cause
+outside_point f p = if nat_le p.offset (extent f p p.kind) then None else Some (BadPlace p.offset)
+
+-- the cell isn't below the table
+abbrev pub outside_table : Forest → ℕ → ℕ → Option Cause
+outside_table f table cell = if is_within f table cell then None else Some (BadPlace cell)
+
+abbrev pub unknown_among : Forest → List ℕ → Option Cause
+unknown_among f [] = None
+unknown_among f (k ∷ ks) = option_or (unknown f k) (unknown_among f ks)
+
+-- the nodes first, then the kinds, then the offsets and places
+abbrev pub range_fault : Forest → Point → Point → Option Cause
+range_fault f a b =
+    option_or (unknown f a.key) (option_or (unknown f b.key)
+    (option_or (misfit_point f a) (option_or (misfit_point f b)
+    (option_or (outside_point f a) (outside_point f b)))))
+
+abbrev pub cells_fault : Forest → ℕ → ℕ → ℕ → Option Cause
+cells_fault f table a b =
+    option_or (unknown f table) (option_or (unknown f a) (option_or (unknown f b)
+    (option_or (unlike is_table_kind (kind_of f table)) (option_or (unlike is_cell_kind (kind_of f a)) (option_or (unlike is_cell_kind (kind_of f b))
+    (option_or (outside_table f table a) (outside_table f table b)))))))
+
+abbrev pub select_fault : Selection → Forest → Option Cause
+select_fault Nothing f = None
+select_fault (Range a b format) f = range_fault f a b
+select_fault (Nodes keys) f = unknown_among f keys
+select_fault (Cells table a b) f = cells_fault f table a b
+
+-- ---- what of a selection isn't in the tree any more
+
+-- a point lies in the forest: its node is one that it counts in, and it isn't behind the end
+abbrev pub fits_kind : PointKind → Option Kind → Bool
+fits_kind kind None = false
+fits_kind kind (Some found) = counts_in kind found
+
+abbrev pub lies_in : Forest → Point → Bool
+lies_in f p = fits_kind p.kind (kind_of f p.key) && nat_le p.offset (extent f p p.kind)
+
+abbrev pub lost_point : Forest → Point → Option Cause
+lost_point f p = if lies_in f p then None else Some (SelectionLost (lost.Point p))
+
+abbrev pub lost_key : Forest → ℕ → Option Cause
+lost_key f k = if has k f then None else Some (SelectionLost (lost.Key k))
+
+abbrev pub lost_cells : Forest → ℕ → ℕ → ℕ → Option Cause
+lost_cells f table a b = option_or (lost_key f table) (option_or (lost_key f a) (lost_key f b))
+
+-- the first that is lost: the anchor before the focus, and the table before both
+abbrev pub selection_lost : Selection → Forest → Option Cause
+selection_lost (Range a b format) f = option_or (lost_point f a) (lost_point f b)
+selection_lost (Cells table a b) f = lost_cells f table a b
+selection_lost other f = None

@@ -1,0 +1,257 @@
+use crate::draft::Draft;
+use crate::fields::{let_go, text_length_of};
+use crate::texts::characters;
+use lx_node::{Fault, Fields, Key, Kind, NoMemory};
+use lx_select::Selection;
+
+impl Draft {
+    ghost use Rattle.std.specs.Prelude.{◌≡◌, ◌≢◌, ◌<◌, ◌≤◌, ◌+◌, None, Ok, chars, IfOk, OnOk, OnErr, IfErr};
+    ghost use Rattle.lx_node.specs.Trees.{nil};
+    ghost use Rattle.lx_node.specs.OfKind.{IsOfKind};
+    ghost use Rattle.lx_node.specs.declared.kind.Kind.TheVariants.{Root};
+    ghost use Rattle.lx_node.specs.Strings.{characters_of};
+    ghost use Rattle.lx_forest.specs.Lookups.{IsForest};
+    ghost use Rattle.lx_forest.specs.Edits.{take_out};
+    ghost use Rattle.lx_links.specs.Faults.{set_fault, detach_fault};
+    ghost use Rattle.lx_draft.specs.Working.{most_counts, most_written};
+    ghost use Rattle.lx_draft.specs.Faults.{IsAdmitted, Tells, Leaves, put_fault};
+    ghost use Rattle.lx_draft.specs.Steps as steps;
+    ghost use Rattle.lx_draft.specs.Steps.{new_step, set_step, splice_step, take_step, put_step, mark_step, mark_uncounted_step, select_step};
+
+    /// Makes a node without children that stands below nothing, and answers its key. It is refused where
+    /// 100,000 counts were taken, and where the strings of the fields would bring what was written above
+    /// 16,777,216 scalar values.
+    #[tactic(auto, unfolding(crate::specs::Steps::new_step))]
+    pub fn new_node(&mut self, kind: Kind, fields: Fields) -> Result<Key, Fault>
+        requires other { kind ≢ Root }
+        requires of_kind { IsOfKind kind fields }
+        ensures ok { OnOk result (new_step kind fields self.old ≡ Ok self.new) }
+        ensures key { IfOk result (λ key. key ≡ self.old.next_key) }
+        ensures err { IfErr result (λ e. Tells e (new_step kind fields self.old)) }
+        ensures left { IfErr result (λ e. Leaves e self.old self.new) }
+        ensures living { OnOk result (self.old.forest ≢ nil) }
+    {
+        match self.may_make(&fields) {
+            Ok(more) => Ok(self.make(kind, fields, more)?),
+            Err(fault) => Err(let_go(fields, fault)),
+        }
+    }
+
+    /// Makes a node whose strings have so many scalar values.
+    fn make(&mut self, kind: Kind, fields: Fields, more: u32) -> Result<Key, NoMemory>
+        requires other { kind ≢ Root }
+        requires of_kind { IsOfKind kind fields }
+        requires order { IsForest self.old.forest }
+        requires admitted { IsAdmitted more (characters_of fields) self.old }
+        ensures made { OnOk result (self.new ≡ steps.made kind fields self.old) }
+        ensures key { IfOk result (λ key. key ≡ self.old.next_key) }
+        ensures failed { OnErr result (self.new.forest ≡ nil) }
+    {
+        self.note_edit(more);
+        let key = Key(self.next_key);
+        self.links.insert_new(key, kind, fields)?;
+        self.next_key += 1;
+        self.mark_key(key)?;
+        Ok(key)
+    }
+
+    /// Changes the fields of a node. It is refused where there is no such node, where the fields aren't
+    /// of its kind, and beyond the limits as a new node is. A write of equal fields marks nothing. A
+    /// point in a text stays within it.
+    #[tactic(auto, unfolding(crate::specs::Steps::set_step))]
+    pub fn set(&mut self, key: Key, fields: Fields) -> Result<(), Fault>
+        ensures ok { OnOk result (set_step key fields self.old ≡ Ok self.new) }
+        ensures err { IfErr result (λ e. Tells e (set_step key fields self.old)) }
+        ensures left { IfErr result (λ e. Leaves e self.old self.new) }
+        ensures living { OnOk result (self.old.forest ≢ nil) }
+    {
+        match self.may_set(key, &fields) {
+            Ok(more) => Ok(self.write(key, fields, more)?),
+            Err(fault) => Err(let_go(fields, fault)),
+        }
+    }
+
+    /// Writes fields whose strings have so many scalar values.
+    fn write(&mut self, key: Key, fields: Fields, more: u32) -> Result<(), NoMemory>
+        requires allowed { set_fault key fields self.old.forest ≡ None }
+        requires admitted { IsAdmitted more (characters_of fields) self.old }
+        ensures written { OnOk result (self.new ≡ steps.refielded key fields (characters_of fields) (steps.set_points key fields) self.old) }
+        ensures failed { OnErr result (self.new.forest ≡ nil) }
+    {
+        let length = text_length_of(&fields);
+        self.refield(key, fields, more)?;
+        self.keep_points_within(key, length);
+        Ok(())
+    }
+
+    /// Replaces the piece of a text from one offset to another. It is refused where there is no such node,
+    /// where it isn't a text, where an offset is past its end or `from` is above `to`, where 100,000 counts
+    /// were taken, and where the new piece would bring what was written above 16,777,216 scalar values.
+    #[tactic(auto, unfolding(crate::specs::Steps::splice_step))]
+    pub fn splice(&mut self, key: Key, from: u32, to: u32, new: &str) -> Result<(), Fault>
+        ensures ok { OnOk result (splice_step key from to (chars new.now) self.old ≡ Ok self.new) }
+        ensures err { IfErr result (λ e. Tells e (splice_step key from to (chars new.now) self.old)) }
+        ensures left { IfErr result (λ e. Leaves e self.old self.new) }
+        ensures living { OnOk result (self.old.forest ≢ nil) }
+    {
+        self.living()?;
+        let fields = match self.spliced(key, from, to, new) {
+            Ok(fields) => fields,
+            Err(Fault::Cause(cause)) => return Err(Fault::Cause(cause)),
+            Err(Fault::Memory) => return Err(self.fail()),
+        };
+        match self.admit(characters(new)) {
+            Ok(more) => Ok(self.write_piece(key, fields, more, from, to, new)?),
+            Err(cause) => Err(let_go(fields, Fault::Cause(cause))),
+        }
+    }
+
+    /// Writes fields with a new piece of so many scalar values in their text.
+    fn write_piece(
+        &mut self,
+        key: Key,
+        fields: Fields,
+        more: u32,
+        from: u32,
+        to: u32,
+        new: &str,
+    ) -> Result<(), NoMemory>
+        requires fault { set_fault key fields self.old.forest ≡ None }
+        requires counts { self.old.counted < most_counts }
+        requires written { self.old.written + more ≤ most_written }
+        ensures written { OnOk result (self.new ≡ steps.refielded key fields more (steps.splice_points key from to (chars new.now)) self.old) }
+        ensures failed { OnErr result (self.new.forest ≡ nil) }
+    {
+        self.refield(key, fields, more)?;
+        self.selection
+            .after_splice(key, from, to, lx_text::length(new));
+        Ok(())
+    }
+
+    /// Takes a node, with all below it, out from below its parent. It is refused where there is no such
+    /// node, where it stands below nothing, and where 100,000 counts were taken.
+    #[tactic(auto, unfolding(crate::specs::Steps::take_step))]
+    pub fn take(&mut self, key: Key) -> Result<(), Fault>
+        ensures ok { OnOk result (take_step key self.old ≡ Ok self.new) }
+        ensures err { IfErr result (λ e. Tells e (take_step key self.old)) }
+        ensures left { IfErr result (λ e. Leaves e self.old self.new) }
+        ensures living { OnOk result (self.old.forest ≢ nil) }
+    {
+        self.living()?;
+        if let Some(cause) = self.take_fault(key) {
+            return Err(Fault::Cause(cause));
+        }
+        if let Some(cause) = self.over_counts() {
+            return Err(Fault::Cause(cause));
+        }
+        self.note_edit(0);
+        self.mark_around(key)?;
+        self.leave_points(key);
+        Ok(self.detach(key)?)
+    }
+
+    /// Puts a node that stands below nothing, with all below it, among the children of a parent, at an
+    /// index of at most their number. It is refused where one of the two isn't there; where the node is
+    /// the root, stands below another already, or has the parent in its tree; where the parent may not
+    /// hold it; where the index is above the number of children; and where 100,000 counts were taken.
+    #[tactic(auto, unfolding(crate::specs::Steps::put_step))]
+    pub fn put(&mut self, key: Key, parent: Key, index: u32) -> Result<(), Fault>
+        ensures ok { OnOk result (put_step key parent index self.old ≡ Ok self.new) }
+        ensures err { IfErr result (λ e. Tells e (put_step key parent index self.old)) }
+        ensures left { IfErr result (λ e. Leaves e self.old self.new) }
+        ensures living { OnOk result (self.old.forest ≢ nil) }
+    {
+        self.living()?;
+        if let Some(cause) = self.put_fault(key, parent, index) {
+            return Err(Fault::Cause(cause));
+        }
+        if let Some(cause) = self.over_counts() {
+            return Err(Fault::Cause(cause));
+        }
+        self.note_edit(0);
+        self.place(key, parent, index)?;
+        self.selection.after_put(parent, index);
+        self.mark_around(key)?;
+        Ok(())
+    }
+
+    /// Marks a node. It is refused where there is no such node, and where 100,000 counts were taken.
+    #[tactic(auto, unfolding(crate::specs::Steps::mark_step))]
+    pub fn mark(&mut self, key: Key) -> Result<(), Fault>
+        ensures ok { OnOk result (mark_step key self.old ≡ Ok self.new) }
+        ensures err { IfErr result (λ e. Tells e (mark_step key self.old)) }
+        ensures left { IfErr result (λ e. Leaves e self.old self.new) }
+        ensures living { OnOk result (self.old.forest ≢ nil) }
+    {
+        self.living()?;
+        if let Some(cause) = self.missing(key) {
+            return Err(Fault::Cause(cause));
+        }
+        if let Some(cause) = self.over_counts() {
+            return Err(Fault::Cause(cause));
+        }
+        self.note_edit(0);
+        self.mark_key(key)?;
+        Ok(())
+    }
+
+    /// Marks a node without a count, as loading a document and registering a rule do. It isn't an edit.
+    /// It is refused where there is no such node.
+    #[tactic(auto, unfolding(crate::specs::Steps::mark_uncounted_step))]
+    pub fn mark_uncounted(&mut self, key: Key) -> Result<(), Fault>
+        ensures ok { OnOk result (mark_uncounted_step key self.old ≡ Ok self.new) }
+        ensures err { IfErr result (λ e. Tells e (mark_uncounted_step key self.old)) }
+        ensures left { IfErr result (λ e. Leaves e self.old self.new) }
+        ensures living { OnOk result (self.old.forest ≢ nil) }
+    {
+        self.living()?;
+        if let Some(cause) = self.missing(key) {
+            return Err(Fault::Cause(cause));
+        }
+        self.mark_key(key)?;
+        Ok(())
+    }
+
+    /// Selects. It is refused where a node of the selection isn't there, where a point or a cell is of
+    /// the wrong kind, where an offset is past the end, and where a cell isn't below the table. It takes
+    /// no count and marks nothing.
+    #[tactic(auto, unfolding(crate::specs::Steps::select_step))]
+    pub fn select(&mut self, selection: Selection) -> Result<(), Fault>
+        ensures ok { OnOk result (select_step selection self.old ≡ Ok self.new) }
+        ensures err { IfErr result (λ e. Tells e (select_step selection self.old)) }
+        ensures left { IfErr result (λ e. Leaves e self.old self.new) }
+        ensures living { OnOk result (self.old.forest ≢ nil) }
+    {
+        self.living()?;
+        if let Some(cause) = self.select_fault(&selection) {
+            return Err(Fault::Cause(cause));
+        }
+        self.selection = selection;
+        Ok(())
+    }
+
+    fn detach(&mut self, key: Key) -> Result<(), NoMemory>
+        requires fault { detach_fault key self.old.forest ≡ None }
+        requires order { IsForest self.old.forest }
+        ensures detached { OnOk result (self.new ≡ record self.old { forest = take_out key self.old.forest }) }
+        ensures failed { OnErr result (self.new.forest ≡ nil) }
+    {
+        match self.links.detach(key) {
+            Ok(()) => Ok(()),
+            Err(_) => Err(NoMemory),
+        }
+    }
+
+    fn place(&mut self, key: Key, parent: Key, index: u32) -> Result<(), NoMemory>
+        requires fault { put_fault key parent index self.old.forest ≡ None }
+        requires order { IsForest self.old.forest }
+        ensures placed { OnOk result (self.new ≡ record self.old { forest = steps.put_at key parent index self.old.forest }) }
+        ensures failed { OnErr result (self.new.forest ≡ nil) }
+    {
+        let before = self.links.child_at(parent, index);
+        match self.links.place(parent, before, key) {
+            Ok(()) => Ok(()),
+            Err(_) => Err(NoMemory),
+        }
+    }
+}

@@ -1,0 +1,93 @@
+use crate::draft::Draft;
+use lx_node::{Key, Point};
+
+/// How points move with an edit, with the numbers of the rule. Offsets count scalar values of a text, or
+/// children of an element.
+#[derive(Clone, Copy, Debug, PartialEq, Eq)]
+pub enum PointRule {
+    /// A child comes to an index of the parent.
+    Put {
+        parent: Key,
+        index: u32,
+    },
+    /// A child leaves an index of the parent.
+    Take {
+        parent: Key,
+        index: u32,
+    },
+    /// A piece of a text is replaced by one of so many.
+    Splice {
+        key: Key,
+        from: u32,
+        to: u32,
+        len: u32,
+    },
+    /// A text is so long now.
+    Set {
+        key: Key,
+        len: u32,
+    },
+    /// What is behind an offset of a text is in a new one now.
+    Split {
+        key: Key,
+        at: u32,
+        new: Key,
+    },
+    /// The second text is behind the first, which was so long, in that one.
+    Join {
+        first: Key,
+        len: u32,
+        second: Key,
+    },
+    /// The children of one element are behind those of another, which had so many.
+    Children {
+        from: Key,
+        to: Key,
+        size: u32,
+    },
+    /// The children of an element are in its place, at an index of its parent.
+    Unwrap {
+        key: Key,
+        parent: Key,
+        index: u32,
+    },
+    /// A text gives way to another that is so long.
+    Replace {
+        old: Key,
+        new: Key,
+        len: u32,
+    },
+    /// Every point on the key becomes this one.
+    Move {
+        key: Key,
+        to: Point,
+    },
+}
+
+impl Draft {
+    ghost use Rattle.std.specs.Prelude.{◌≡◌};
+    ghost use Rattle.lx_select.specs.Selection.{each_point};
+    ghost use Rattle.lx_draft.specs.Points.{moved_by};
+
+    /// Moves the points of the selection by a rule.
+    pub fn point_rule(&mut self, rule: PointRule)
+        ensures { self.new ≡ record self.old { selection = each_point (moved_by rule) self.old.selection } }
+    {
+        match rule {
+            PointRule::Put { parent, index } => self.selection.after_put(parent, index),
+            PointRule::Take { parent, index } => self.selection.after_take(parent, index),
+            PointRule::Splice { key, from, to, len } => {
+                self.selection.after_splice(key, from, to, len)
+            }
+            PointRule::Set { key, len } => self.selection.after_set(key, len),
+            PointRule::Split { key, at, new } => self.selection.after_split(key, at, new),
+            PointRule::Join { first, len, second } => self.selection.after_join(first, len, second),
+            PointRule::Children { from, to, size } => self.selection.after_children(from, to, size),
+            PointRule::Unwrap { key, parent, index } => {
+                self.selection.after_unwrap(key, parent, index)
+            }
+            PointRule::Replace { old, new, len } => self.selection.after_replace(old, new, len),
+            PointRule::Move { key, to } => self.selection.move_points(key, to),
+        }
+    }
+}
