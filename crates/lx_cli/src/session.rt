@@ -33,7 +33,7 @@ impl Unanswered {
 }
 
 /// What is kept between two bytes of the input: the editor, and the bytes that no line end has ended yet.
-#[derive(Debug, Drop)]
+#[derive(Drop)]
 pub(crate) struct Session {
     alloc: Global,
     editor: Editor,

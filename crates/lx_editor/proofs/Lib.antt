@@ -1,4 +1,9 @@
-pub mod Append
+pub mod Committed
+pub mod Composed
+pub mod Filled
+pub mod Frozen
+pub mod Grown
 pub mod Placed
 pub mod Shown
+pub mod Stepped
 pub mod Words

@@ -1,15 +1,17 @@
 -- What a new last paragraph makes of the tree, and that the view shows it and keeps the hosts of kept nodes.
-use Rattle.std.proofs.Common.{◌≡◌, ◌≢◌, ◌∙◌, ◌+◌, ◌<◌, ◌≤◌, ℕ, cond, eqb, List, [], ◌∷◌, ◌++◌, Option, None, Some, refl, sym, ap, subst, arith, ne_eqb, eq-eqb, append_assoc, append-nil, inl, inr}
+use Rattle.std.proofs.Common.{◌≡◌, ◌≢◌, ◌∙◌, ◌+◌, ◌<◌, ◌≤◌, ℕ, cond, eqb, false, List, [], ◌∷◌, ◌++◌, Option, None, Some, refl, sym, ap, subst, arith, ne_eqb, eq-eqb, append_assoc, append-nil, inl, inr}
 use Rattle.std.proofs.lemmas.Bool.{cases_lt}
 use Rattle.lx_node.specs.Trees.{Trees, nil, tree, joined}
+use Rattle.lx_node.specs.declared.fields.Fields.{Fields}
 use Rattle.lx_host.specs.Hosts.{Host, HostTree, shape_of, count, put_below, IsNumbered}
 use Rattle.lx_host.proofs.Laws.{inserted-None}
-use Rattle.lx_forest.specs.Forest.{Forest, root_label, paragraph_label}
+use Rattle.lx_forest.specs.Forest.{Forest}
+use Rattle.lx_forest.specs.Lookups as forest
 use Rattle.lx_plain.specs.Render.{render, face_of}
 use Rattle.lx_plain.specs.Allowed.{Shows, places_of, IsKept, kept_root, kept_below, hosts_of}
-use Rattle.lx_editor.specs.declared.block.Block.{Block}
 use Rattle.lx_editor.specs.Appended.{paragraph, keys_of}
-use Rattle.lx_editor.specs.Blocks.{text_tree, blocks_tree, block_of, keys_in, IsTextBelow, AreBelow, IsOneTree}
+use Rattle.lx_editor.specs.Standing.{IsOneTree}
+use Rattle.lx_editor.proofs.Grown.{grown, root_of}
 use Rattle.lx_editor.proofs.Placed.{hosts_for, ids_for, IsReady}
 
 -- ---- lists of trees
@@ -61,22 +63,22 @@ shape_of-hosts_for id key [] = refl
 shape_of-hosts_for id key (c ∷ text) = refl
 
 -- the first tree with others behind its own
-abbrev grown : {A : Type 0} → Trees A → Trees A → Trees A
-grown new nil = nil
-grown new (tree a below rest) = tree a (joined below new) rest
+abbrev with_more : {A : Type 0} → Trees A → Trees A → Trees A
+with_more new nil = nil
+with_more new (tree a below rest) = tree a (joined below new) rest
 
-shape_of-put_below : (new view : Trees Host) → IsOneTree view → shape_of (put_below 0 None new view) ≡ grown (shape_of new) (shape_of view)
+shape_of-put_below : (new view : Trees Host) → IsOneTree view → shape_of (put_below 0 None new view) ≡ with_more (shape_of new) (shape_of view)
 shape_of-put_below new view one =
     let p = put_below-root new view one in
     ap shape_of p.4 ∙ ap (λ s. tree p.0.face s nil) (shape_of-joined p.1 new)
-    ∙ sym (ap (λ v. grown (shape_of new) (shape_of v)) p.3)
+    ∙ sym (ap (λ v. with_more (shape_of new) (shape_of v)) p.3)
 
-pub shows_appended : (id key : ℕ) (text : List ℕ) (view : Trees Host) (blocks : Forest) → IsOneTree view → shape_of view ≡ render (tree root_label blocks nil) → shape_of (put_below 0 None (hosts_for id key text) view) ≡ render (tree root_label (joined blocks (paragraph key text)) nil)
-shows_appended id key text view blocks one shown =
+pub shows_appended : (id key : ℕ) (text : List ℕ) (view : Trees Host) (fields : Fields) (below : Forest) → IsOneTree view → shape_of view ≡ render (grown fields below nil) → shape_of (put_below 0 None (hosts_for id key text) view) ≡ render (grown fields (joined below (paragraph key text)) nil)
+shows_appended id key text view fields below one shown =
     shape_of-put_below (hosts_for id key text) view one
-    ∙ ap (λ s. grown s (shape_of view)) (shape_of-hosts_for id key text)
-    ∙ ap (grown (render (paragraph key text))) shown
-    ∙ ap (λ s. tree (face_of root_label None) s nil) (sym (render-joined blocks (paragraph key text)))
+    ∙ ap (λ s. with_more s (shape_of view)) (shape_of-hosts_for id key text)
+    ∙ ap (with_more (render (paragraph key text))) shown
+    ∙ ap (λ s. tree (face_of (root_of fields) None) s nil) (sym (render-joined below (paragraph key text)))
 
 -- ---- kept nodes
 
@@ -95,46 +97,23 @@ hosts_of-hosts_for id next key (c ∷ text) h =
     let other_too : next + 1 ≢ key = omega arith in
     rw (ne_eqb next key other, ne_eqb (next + 1) key other_too) refl
 
-places_of-text : (next key : ℕ) (parent : Option ℕ) (text : Option (ℕ × List ℕ)) → IsTextBelow next text → next < key + 1 → places_of key parent (text_tree text) ≡ []
-places_of-text next key parent None below h = refl
-places_of-text next key parent (Some text) below h =
-    let other : text.0 ≢ key = omega (arith, below.1) in
-    rw (ne_eqb text.0 key other) refl
+places_of-absent : (key : ℕ) (parent : Option ℕ) (f : Forest) → forest.count key f ≡ 0 → places_of key parent f ≡ []
+places_of-absent key parent nil absent = refl
+places_of-absent key parent (tree label below rest) absent =
+    grind (arith, absent, places_of-absent key (Some label.key) below, places_of-absent key parent rest)
 
-places_of-blocks : (next key : ℕ) (parent : Option ℕ) (blocks : List Block) → AreBelow next blocks → next < key + 1 → places_of key parent (blocks_tree blocks) ≡ []
-places_of-blocks next key parent [] below h = refl
-places_of-blocks next key parent (block ∷ blocks) below h =
-    let other : block.key ≢ key = omega (arith, below.1) in
-    rw (ne_eqb block.key key other) (rw (places_of-text next key (Some block.key) block.text below.2 h) (places_of-blocks next key parent blocks below.3 h))
+not_there : (key : ℕ) (f : Forest) → forest.has key f ≡ false → forest.count key f ≡ 0
+not_there key f absent = grind (arith, absent)
 
-pub kept_below_next : (next key : ℕ) (blocks : List Block) (new : Forest) → 0 < next → AreBelow next blocks → IsKept (tree root_label (blocks_tree blocks) nil) new key → key < next
-kept_below_next next key blocks new first below kept_root = first
-kept_below_next next key blocks new first below (kept_below key' parent tag kept old_place new_place) =
+pub kept_below_next : (next key : ℕ) (old new : Forest) → 0 < next → ((q : ℕ) → next ≤ q → forest.has q old ≡ false) → IsKept old new key → key < next
+kept_below_next next key old new first free kept_root = first
+kept_below_next next key old new first free (kept_below key' parent tag kept old_place new_place) =
     elim (cases_lt key next) [
       | inl h ↦ h
       | inr h ↦
-          let other : 0 ≢ key = omega arith in
-          let none : places_of key None (tree root_label (blocks_tree blocks) nil) ≡ [] = rw (ne_eqb 0 key other) (rw (places_of-blocks next key (Some 0) blocks below (omega arith)) refl) in
+          let none : places_of key None old ≡ [] = places_of-absent key None old (not_there key old (free key (omega (arith, h)))) in
           absurd (cc)
     ]
-
--- ---- the editor's paragraphs
-
-blocks_tree-append : (xs ys : List Block) → blocks_tree (xs ++ ys) ≡ joined (blocks_tree xs) (blocks_tree ys)
-blocks_tree-append [] ys = refl
-blocks_tree-append (x ∷ xs) ys = ap (tree (paragraph_label x.key) (text_tree x.text)) (blocks_tree-append xs ys)
-
-blocks_tree-block_of : (key : ℕ) (text : List ℕ) → blocks_tree (block_of key text ∷ []) ≡ paragraph key text
-blocks_tree-block_of key [] = refl
-blocks_tree-block_of key (c ∷ text) = refl
-
-pub blocks_tree-last : (blocks : List Block) (key : ℕ) (text : List ℕ) → blocks_tree (blocks ++ block_of key text ∷ []) ≡ joined (blocks_tree blocks) (paragraph key text)
-blocks_tree-last blocks key text =
-    blocks_tree-append blocks (block_of key text ∷ []) ∙ ap (joined (blocks_tree blocks)) (blocks_tree-block_of key text)
-
-pub keys_in-block_of : (key : ℕ) (text : List ℕ) → keys_in (block_of key text) ≡ keys_of text
-keys_in-block_of key [] = refl
-keys_in-block_of key (c ∷ text) = refl
 
 pub keys_of-le : (text : List ℕ) → (0 < keys_of text) × (keys_of text < 3)
 keys_of-le [] = (omega arith, omega arith)
@@ -144,40 +123,17 @@ pub ids_for-le : (text : List ℕ) → ids_for text < 3
 ids_for-le [] = omega arith
 ids_for-le (c ∷ text) = omega arith
 
-text_still_below : (next later : ℕ) (text : Option (ℕ × List ℕ)) → next ≤ later → IsTextBelow next text → IsTextBelow later text
-text_still_below next later None h below = tt
-text_still_below next later (Some text) h below = (below.0, omega (arith, below.1))
-
-still_below : (next later : ℕ) (blocks : List Block) → next ≤ later → AreBelow next blocks → AreBelow later blocks
-still_below next later [] h below = tt
-still_below next later (block ∷ blocks) h below =
-    (below.0, omega (arith, below.1), text_still_below next later block.text h below.2, still_below next later blocks h below.3)
-
-below_append : (next : ℕ) (xs ys : List Block) → AreBelow next xs → AreBelow next ys → AreBelow next (xs ++ ys)
-below_append next [] ys below more = more
-below_append next (x ∷ xs) ys below more = (below.0, below.1, below.2, below_append next xs ys below.3 more)
-
-block_below : (key : ℕ) (text : List ℕ) → 0 < key → AreBelow (key + keys_of text) (block_of key text ∷ [])
-block_below key [] h = (h, omega arith, tt, tt)
-block_below key (c ∷ text) h = (h, omega arith, (omega arith, omega arith), tt)
-
-pub keys_still_below : (next : ℕ) (blocks : List Block) (text : List ℕ) → 0 < next → AreBelow next blocks → AreBelow (next + keys_of text) (blocks ++ block_of next text ∷ [])
-keys_still_below next blocks text first below =
-    below_append (next + keys_of text) blocks (block_of next text ∷ [])
-    (still_below next (next + keys_of text) blocks (omega (arith, (keys_of-le text).0)) below)
-    (block_below next text first)
-
 -- ---- the whole of it
 
-pub allowed : (id key : ℕ) (text : List ℕ) (blocks : List Block) (before after : HostTree) → 0 < key → AreBelow key blocks → IsOneTree before.hosts
-    → Shows before (tree root_label (blocks_tree blocks) nil) → after.hosts ≡ put_below 0 None (hosts_for id key text) before.hosts
-    → Shows after (tree root_label (joined (blocks_tree blocks) (paragraph key text)) nil)
-    × ((k : ℕ) → IsKept (tree root_label (blocks_tree blocks) nil) (tree root_label (joined (blocks_tree blocks) (paragraph key text)) nil) k → hosts_of k after.hosts ≡ hosts_of k before.hosts)
+pub allowed : (id key : ℕ) (text : List ℕ) (fields : Fields) (below : Forest) (before after : HostTree) → 0 < key → ((q : ℕ) → key ≤ q → forest.has q (grown fields below nil) ≡ false) → IsOneTree before.hosts
+    → Shows before (grown fields below nil) → after.hosts ≡ put_below 0 None (hosts_for id key text) before.hosts
+    → Shows after (grown fields (joined below (paragraph key text)) nil)
+    × ((k : ℕ) → IsKept (grown fields below nil) (grown fields (joined below (paragraph key text)) nil) k → hosts_of k after.hosts ≡ hosts_of k before.hosts)
     × IsOneTree after.hosts
-allowed id key text blocks before after first below one shown is = (
-  ap shape_of is ∙ shows_appended id key text before.hosts (blocks_tree blocks) one shown,
+allowed id key text fields below before after first free one shown is = (
+  ap shape_of is ∙ shows_appended id key text before.hosts fields below one shown,
   λ k kept. ap (hosts_of k) is
       ∙ hosts_of-put_below k (hosts_for id key text) before.hosts one
-      (hosts_of-hosts_for id key k text (kept_below_next key k blocks _ first below kept)),
+      (hosts_of-hosts_for id key k text (kept_below_next key k (grown fields below nil) _ first free kept)),
   subst IsOneTree (sym is) (one_tree_still (hosts_for id key text) before.hosts one),
 )

@@ -1,17 +1,21 @@
 -- What an editor is.
 use Rattle.std.specs.Prelude.{ℕ, ◌+◌}
 use Rattle.lx_host.specs.Hosts.{HostTree, new_tree}
+use Rattle.lx_select.specs.declared.selection.Selection.{Selection}
+use Rattle.lx_select.specs.declared.selection.Selection.TheVariants.{Nothing}
 use Rattle.lx_forest.specs.Forest.{Forest, root_alone}
 
--- the tree that is committed, the key that the next new node gets, how often the editor has committed, and the view
+-- the tree and the selection that are committed, the key that the next new node gets, how often the editor has committed,
+-- and the view
 pub record Editor : Type 0 where
   pub tree : Forest
+  pub selection : Selection
   pub next_key : ℕ
   pub commits : ℕ
   pub view : HostTree
 
 abbrev pub new_editor : Editor
-new_editor = record { tree = root_alone; next_key = 1; commits = 0; view = new_tree }
+new_editor = record { tree = root_alone; selection = Nothing; next_key = 1; commits = 0; view = new_tree }
 
 -- how many numbers the editor has given out: commit numbers, keys and ids
 abbrev pub used : Editor → ℕ

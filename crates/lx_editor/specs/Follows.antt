@@ -1,21 +1,26 @@
 -- How an editor may answer lines, and how the bytes of replies follow from them.
 use Rattle.std.specs.Prelude.{◌≡◌, ℕ, List, [], ◌∷◌, ◌++◌, None, Result, Ok, Err}
 use Rattle.lx_node.specs.declared.cause.Cause.{Cause}
-use Rattle.lx_host.specs.declared.op.Op.{Op}
 use Rattle.lx_script.specs.declared.line.Line.{Line}
 use Rattle.lx_script.specs.declared.line.Line.TheVariants.{Append}
 use Rattle.lx_script.specs.declared.reply.Reply.TheVariants as reply
 use Rattle.lx_script.specs.Grammar.{Reads}
 use Rattle.lx_script.specs.Replies.{reply_text}
-use Rattle.lx_editor.specs.declared.outcome.Outcome.TheVariants.{Committed}
+use Rattle.lx_script.specs.declared.reply.Reply.{Reply}
+use Rattle.lx_editor.specs.declared.outcome.Outcome.{Outcome}
+use Rattle.lx_editor.specs.declared.outcome.Outcome.TheVariants.{Committed, Refused}
 use Rattle.lx_editor.specs.Editor.{Editor}
 use Rattle.lx_editor.specs.Appended.{IsAppended}
+
+-- the reply that tells an outcome
+abbrev pub reply_of : Outcome → Reply
+reply_of (Committed commit ops) = reply.Committed commit ops
+reply_of (Refused cause step) = reply.Refused cause step
 
 -- The editor may answer what was read with these bytes, and be the new one after. A line that is refused changes nothing.
 abbrev pub Replies : Editor → Result Line Cause → List ℕ → Editor → Type 0
 Replies old (Ok (Append text)) bytes new =
-    (commit : ℕ) × (ops : List Op) × IsAppended old text (Committed commit ops) new
-    × (bytes ≡ reply_text (reply.Committed commit ops))
+    (outcome : Outcome) × IsAppended old text outcome new × (bytes ≡ reply_text (reply_of outcome))
 Replies old (Err cause) bytes new = (bytes ≡ reply_text (reply.Refused cause None)) × (new ≡ old)
 
 -- The editor may answer the line with these bytes, and be the new one after.

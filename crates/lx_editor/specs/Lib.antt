@@ -1,5 +1,6 @@
 pub mod Editor
 pub mod Appended
-pub mod Blocks
+pub mod Appending
+pub mod Standing
 pub mod Follows
 pub mod Operations

@@ -27,6 +27,9 @@ pub fn answer_line(alloc: Global, editor: &mut Editor, line: &[u8]) -> Result<Ve
         Ok(Outcome::Committed { number, ops }) => {
             write_reply(alloc, &Reply::Committed { number, ops })
         }
+        Ok(Outcome::Refused { cause, step }) => {
+            write_reply(alloc, &Reply::Refused { cause, step })
+        }
         Err(error) => Err(error),
     }
 }

@@ -2,7 +2,7 @@
 #![tactic(auto)]
 
 mod answer;
-mod block;
+mod append;
 mod editor;
 mod operations;
 mod outcome;

@@ -5,9 +5,13 @@ use std::test::Fail;
 fn commits_and_answers(rt: HostRuntime) -> Result<(), Fail> {
     let alloc = rt.alloc();
     let mut editor = Editor::new(alloc)?;
-    let Outcome::Committed { number, ops } = editor.append(alloc, "Hi")?;
-    assert_eq!(rt; number, 1);
-    assert_eq!(rt; ops.items().len(), 4);
+    match editor.append(alloc, "Hi")? {
+        Outcome::Committed { number, ops } => {
+            assert_eq!(rt; number, 1);
+            assert_eq!(rt; ops.items().len(), 4);
+        }
+        Outcome::Refused { .. } => assert!(rt; false),
+    }
     // A refused line takes no number, no key and no id.
     let refusal = answer_line(alloc, &mut editor, b"{\"update\":[]}")?;
     let bad_command: &[u8] =
