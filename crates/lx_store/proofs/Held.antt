@@ -1,13 +1,12 @@
--- The entries of an ordered map, and the finite map that they make.
-use Rattle.std.proofs.Common.{◌≡◌, ℕ, ◌<◌, ◌≤◌, ◌+◌, cond, List, [], ◌∷◌, ◌++◌, length, Option, Some, None, is_some, refl, sym, ap, ◌∙◌, subst, append_assoc, arith}
-use Rattle.std.specs.declared.cmp.Ordering.TheVariants.{Less, Greater}
-use Rattle.std.specs.Ordering.{nat_cmp, ordering_reverse}
+-- Entries in the order of their keys, and the finite map that they make.
+use Rattle.std.proofs.Common.{◌≡◌, ℕ, cond, List, [], ◌∷◌, length, Option, Some, None, refl, sym, ap, ◌∙◌, arith}
+use Rattle.std.specs.declared.cmp.Ordering.TheVariants.{Less}
+use Rattle.std.specs.Ordering.{nat_cmp}
 use Rattle.std.specs.Cmp.{nat_cmp_total, eq_by_cmp_equiv}
-use Rattle.std.specs.BTreeMap.{is_at, insert_entry}
+use Rattle.std.specs.BTreeMap.{is_at}
 use Rattle.std.specs.Map.{keys_of, lookup}
-use Rattle.std.specs.List.{AllByRecursion}
 use Rattle.std.specs.List.Sorted.{IsStrictlySortedBy}
-use Rattle.std.specs.FinMap.{find, put, entries, get, insert, remove, len, keys, from_entries, empty, get-from_entries, get-insert, get-remove, entries-insert, len-entries, len-empty, same_map, nat_cmp-IsAntisymmetric}
+use Rattle.std.specs.FinMap.{find, put, entries, get, insert, remove, keys, from_entries, empty, get-from_entries, get-insert, get-remove, entries-insert, len-entries, len-empty, same_map, nat_cmp-IsAntisymmetric}
 use Rattle.std.proofs.lemmas.Map.Keys.{sorted_head, sorted_tail}
 
 same_test : (k q : ℕ) → is_at (nat_cmp k) q ≡ is_at (nat_cmp q) k
@@ -52,31 +51,5 @@ module _ {X : Type 0} where
       ∙ ap (put nat_cmp e.0 e.1) (entries-from_held es (sorted_tail nat_cmp e.0 (keys_of es) h))
       ∙ put_first e es h
 
-  pub len-from_held : (es : List (ℕ × X)) → IsStrictlySortedBy nat_cmp (keys_of es) → len (from_entries {R = nat_cmp} es) ≡ length es
-  len-from_held es h = len-entries (from_entries es) ∙ ap length (entries-from_held es h)
-
   pub keys-from_held : (es : List (ℕ × X)) → IsStrictlySortedBy nat_cmp (keys_of es) → keys (from_entries {R = nat_cmp} es) ≡ keys_of es
   keys-from_held es h = ap keys_of (entries-from_held es h)
-
-  less_than_last : (x : ℕ) (es rest : List (ℕ × X)) (k : ℕ) (v : X) → AllByRecursion (λ y. nat_cmp x y ≡ Less) (keys_of (es ++ (k, v) ∷ rest)) → nat_cmp x k ≡ Less
-  less_than_last x [] rest k v h = h.0
-  less_than_last x (e ∷ es) rest k v h = less_than_last x es rest k v h.1
-
-  -- a last key goes behind those that are less
-  pub insert_entry-last : (es rest : List (ℕ × X)) (k : ℕ) (v : X) → IsStrictlySortedBy nat_cmp (keys_of (es ++ (k, v) ∷ rest)) → insert_entry nat_cmp es k v ≡ es ++ (k, v) ∷ []
-  insert_entry-last [] rest k v h = refl
-  insert_entry-last (e ∷ es) rest k v h =
-      let behind : nat_cmp k e.0 ≡ Greater = nat_cmp_total.antisymm k e.0 ∙ ap ordering_reverse (less_than_last e.0 es rest k v (sorted_head nat_cmp e.0 (keys_of (es ++ (k, v) ∷ rest)) h)) in
-      rw behind (ap (λ fs. e ∷ fs) (insert_entry-last es rest k v (sorted_tail nat_cmp e.0 (keys_of (es ++ (k, v) ∷ rest)) h)))
-
--- the entries so far and those that are left, where the first that is left was put
-pub put_more : {X : Type 0} (all held before left after next : List (ℕ × X)) (k : ℕ) (v w : X) → all ≡ held → before ++ left ≡ all → left ≡ (k, v) ∷ next → w ≡ v → after ≡ insert_entry nat_cmp before k w → IsStrictlySortedBy nat_cmp (keys_of held) → after ++ next ≡ all
-put_more all held before left after next k v w start so_far first twin put sorted =
-    let whole : before ++ (k, v) ∷ next ≡ all = ap (λ es. before ++ es) (sym first) ∙ so_far in
-    let last : insert_entry nat_cmp before k v ≡ before ++ (k, v) ∷ [] = insert_entry-last before next k v (subst (λ es. IsStrictlySortedBy nat_cmp (keys_of es)) (sym (whole ∙ start)) sorted) in
-    ap (λ es. es ++ next) (put ∙ ap (insert_entry nat_cmp before k) twin ∙ last) ∙ append_assoc before ((k, v) ∷ []) next ∙ whole
-
--- a store with one more at most has room, where it had room for a new one
-pub still_fits : {X : Type 0} (old : Option X) (before after : ℕ) → after ≡ before + cond (is_some old) 0 1 → before ≤ 4294967295 → (old ≡ None → before < 4294967295) → after ≤ 4294967295
-still_fits None before after e fits room = let below = room refl in omega arith
-still_fits (Some x) before after e fits room = omega arith

@@ -1,1 +1,4 @@
+pub mod Counted
 pub mod Held
+pub mod Paged
+pub mod Sorted

@@ -1,14 +1,17 @@
 //! Stores: maps from key to item that can be forked.
 //!
 //! A fork is equal to the store that it was made of, and what is done to either afterwards leaves the other
-//! as it was. The items are twinned where that takes a second one, and each twin is counted, so that a
-//! caller can tell how many items a call has copied.
+//! as it was. The items stand in pages of 32, which a store and its forks share until one of them writes;
+//! then that one writes in a copy of the page. The items are twinned for such a copy, and each twin is
+//! counted, so that a caller can tell how many items a call has copied.
 #![tactic(auto)]
 
 mod copies;
 mod item;
 mod node;
+mod page;
 mod store;
+mod table;
 #[cfg(test)]
 mod tests;
 

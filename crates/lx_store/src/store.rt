@@ -1,22 +1,22 @@
-ghost use Rattle.std.specs.Prelude.{◌≡◌, ◌<◌, ◌≤◌, IfOk, OnOk, OnErr};
+ghost use Rattle.std.specs.Prelude.{◌≡◌, ◌<◌, ◌≤◌, ◌+◌, IfOk, OnOk, OnErr};
 ghost use Rattle.std.specs.Option.{option_copied};
 ghost use Rattle.std.specs.FinMap as map;
 
 use crate::item::Item;
+use crate::table::Table;
 use lx_node::{Key, NoMemory};
 use std::alloc::Global;
-use std::collections::BTreeMap;
 use std::marker::Model;
 
 /// A map from key to item, of at most 4,294,967,295 items.
 #[derive(Drop)]
 pub struct Store<V: Item> {
-    alloc: Global,
-    held: BTreeMap<Key, V>,
+    held: Table<V>,
+    count: u32,
 }
 
 impl<V: Item> Model for Store<V> {
-    ghost use Rattle.std.specs.Prelude.{◌≤◌, length};
+    ghost use Rattle.std.specs.Prelude.{◌≡◌};
     ghost use Rattle.std.specs.Ordering.{nat_cmp};
     ghost use Rattle.std.specs.FinMap as map;
     ghost use Rattle.std.specs.Coded.{coded_ℕ};
@@ -25,9 +25,9 @@ impl<V: Item> Model for Store<V> {
 
     ghost coded = { map.code coded_ℕ V.code };
 
-    ghost view = { λ s. map.from_entries s.held.entries };
+    ghost view = { λ s. s.held };
 
-    ghost invariant = { λ s. length s.held.entries ≤ 4294967295 };
+    ghost invariant = { λ s. s.count ≡ map.len s.held };
 }
 
 impl<V: Item> Store<V> {
@@ -36,24 +36,21 @@ impl<V: Item> Store<V> {
         ensures { IfOk result (λ made. made ≡ map.empty) }
     {
         Ok(Store {
-            alloc,
-            held: BTreeMap::new(alloc),
+            held: Table::new(alloc),
+            count: 0,
         })
     }
 
-    /// An equal store. What is done to either of the two afterwards leaves the other as it was.
+    /// An equal store. What is done to either of the two afterwards leaves the other as it was. No item is
+    /// twinned here.
     pub fn fork(&self, count: &mut V::Count) -> Result<Store<V>, NoMemory>
         ensures equal { IfOk result (λ made. made ≡ self.now) }
         ensures counted { V.Count.total count.old ≤ V.Count.total count.new }
+        ensures none_twinned { V.Count.total count.new ≡ V.Count.total count.old }
     {
-        let mut held = BTreeMap::new(self.alloc);
-        for (key, item) in &self.held {
-            let twin = item.twin(self.alloc, count)?;
-            held.insert(*key, twin)?;
-        }
         Ok(Store {
-            alloc: self.alloc,
-            held,
+            held: self.held.fork()?,
+            count: self.count,
         })
     }
 
@@ -61,47 +58,53 @@ impl<V: Item> Store<V> {
     pub fn get(&self, key: Key) -> Option<&V>
         ensures { option_copied result ≡ map.get self.now key }
     {
-        self.held.get(&key)
+        self.held.get(key)
     }
 
     /// Puts the item under the key, and answers the one that was there. Every other key keeps its item. The
-    /// count may have risen, also where memory was wanting; the store is then as it was.
+    /// count may have risen, by at most 32, also where memory was wanting; the store is then as it was.
     pub fn put(&mut self, key: Key, item: V, count: &mut V::Count) -> Result<Option<V>, NoMemory>
         requires { map.get self.old key ≡ None → map.len self.old < 4294967295 }
         ensures old { IfOk result (λ old. old ≡ map.get self.old key) }
         ensures put { OnOk result (self.new ≡ map.insert self.old key item) }
         ensures unchanged { OnErr result (self.new ≡ self.old) }
         ensures counted { V.Count.total count.old ≤ V.Count.total count.new }
+        ensures few_twinned { V.Count.total count.new ≤ V.Count.total count.old + 32 }
     {
-        Ok(self.held.insert(key, item)?)
+        let old = self.held.put(key, item, count)?;
+        if old.is_none() {
+            self.count += 1;
+        }
+        Ok(old)
     }
 
     /// Takes out the item under the key, where there is one. Every other key keeps its item. The count may
-    /// have risen, also where memory was wanting; the store is then as it was.
+    /// have risen, by at most 32, also where memory was wanting; the store is then as it was.
     pub fn take(&mut self, key: Key, count: &mut V::Count) -> Result<Option<V>, NoMemory>
         ensures taken { IfOk result (λ taken. taken ≡ map.get self.old key) }
         ensures gone { OnOk result (self.new ≡ map.remove self.old key) }
         ensures unchanged { OnErr result (self.new ≡ self.old) }
         ensures counted { V.Count.total count.old ≤ V.Count.total count.new }
+        ensures few_twinned { V.Count.total count.new ≤ V.Count.total count.old + 32 }
     {
-        Ok(self.held.remove(&key))
+        let taken = self.held.take(key, count)?;
+        if taken.is_some() {
+            self.count -= 1;
+        }
+        Ok(taken)
     }
 
     /// The keys, ascending.
     pub fn keys(&self) -> Result<Vec<Key>, NoMemory>
         ensures { IfOk result (λ keys. keys.items ≡ map.keys self.now) }
     {
-        let mut keys = Vec::new(self.alloc);
-        for key in self.held.keys() {
-            keys.push(*key)?;
-        }
-        Ok(keys)
+        self.held.keys()
     }
 
     /// How many items there are.
     pub fn len(&self) -> u32
         ensures { result ≡ map.len self.now }
     {
-        self.held.len() as u32
+        self.count
     }
 }

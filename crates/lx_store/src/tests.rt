@@ -33,7 +33,7 @@ fn put<V: Item>(
     item: V,
     count: &mut V::Count,
 ) -> Result<Option<V>, NoMemory> {
-    if store.len() > 8 {
+    if store.len() > 100 {
         return Err(NoMemory);
     }
     store.put(Key(key), item, count)
@@ -71,6 +71,46 @@ fn a_fork_and_the_store_are_apart(rt: HostRuntime) -> Result<(), Fail> {
     assert_eq!(rt; source(store.get(Key(0))), "none");
     assert_eq!(rt; source(store.get(Key(7))), "seven");
     assert_eq!(rt; source(store.get(Key(u32::MAX))), "last");
+    Ok(())
+}
+
+/// A store with an old item under each key from 0 to 95.
+fn filled(alloc: Global, count: &mut Copies) -> Result<Store<Node>, NoMemory> {
+    let mut store = Store::new(alloc)?;
+    for key in 0..96 {
+        drop(put(&mut store, key, embed(alloc, "old")?, count)?);
+    }
+    Ok(store)
+}
+
+/// Whether the item under each key from `first` to `last` has the source.
+fn has(store: &Store<Node>, first: u32, last: u32, name: &str) -> bool {
+    for key in first..=last {
+        if source(store.get(Key(key))) != name {
+            return false;
+        }
+    }
+    true
+}
+
+/// Whether a write to a fork and one to the store leave the other as it was.
+fn writes_stay_apart(alloc: Global) -> Result<bool, NoMemory> {
+    let mut count = Copies::new();
+    let mut store = filled(alloc, &mut count)?;
+    let mut fork = store.fork(&mut count)?;
+    drop(put(&mut fork, 33, embed(alloc, "new")?, &mut count)?);
+    drop(store.take(Key(64), &mut count)?);
+    let forked = has(&fork, 0, 32, "old") && has(&fork, 33, 33, "new") && has(&fork, 34, 95, "old");
+    let kept = has(&store, 0, 63, "old")
+        && has(&store, 64, 64, "none")
+        && has(&store, 65, 95, "old");
+    Ok(forked && kept && fork.len() == 96 && store.len() == 95)
+}
+
+#[test]
+fn shared_pages_are_copied_before_a_write(rt: HostRuntime) -> Result<(), Fail> {
+    let apart = writes_stay_apart(rt.alloc())?;
+    assert!(rt; apart);
     Ok(())
 }
 

@@ -1,13 +1,12 @@
-use Rattle.std.proofs.Common.{◌∙◌, sym, ap}
-use Rattle.std.specs.FinMap.{get, remove}
-use Rattle.lx_store.proofs.Held.{get-from_held, take_from_held}
+use Rattle.std.proofs.Common.{sym}
+use Rattle.lx_store.proofs.Counted.{not_empty, one_less, none_less}
 use Rattle.lx_store.proofs.store.Store.take.Goals as goal
 
-pub returns-clause-taken : goal.returns-clause-taken
-returns-clause-taken g c =
-    c.remove.ensures.value ∙ sym (get-from_held c.self.inside.held.entries c.args.key) ∙ ap (λ m. get m c.args.key) c.self.view_is
+pub overflow_sub-self : goal.overflow_sub-self
+overflow_sub-self g c = not_empty c.self.inside.held c.args.key c.in_ok-taken.taken c.self.inside.count c.in_ok-taken.ensures.taken c.self.invariant (sym c.if-is_some.ensures)
 
-pub returns-clause-gone : goal.returns-clause-gone
-returns-clause-gone g c =
-    take_from_held c.self.inside.held.entries c.remove.new.self.entries c.args.key c.remove.ensures.updates.0
-    ∙ ap (λ m. remove m c.args.key) c.self.view_is
+pub invariant_of-self-then-is_some : goal.invariant_of-self-then-is_some
+invariant_of-self-then-is_some g c = one_less c.self.inside.held c.take.new.self c.args.key c.in_ok-taken.taken c.self.inside.count c.in_ok-taken.ensures.taken c.in_ok-taken.ensures.gone c.self.invariant (sym c.if-is_some.ensures)
+
+pub invariant_of-self-else-is_some : goal.invariant_of-self-else-is_some
+invariant_of-self-else-is_some g c = none_less c.self.inside.held c.take.new.self c.args.key c.in_ok-taken.taken c.self.inside.count c.in_ok-taken.ensures.taken c.in_ok-taken.ensures.gone c.self.invariant (sym c.if-is_some.ensures)
