@@ -1,5 +1,5 @@
 -- Why an edit of a draft is refused, the first cause in the order in which they are looked for.
-use Rattle.std.specs.Prelude.{ℕ, ◌+◌, ◌≡◌, ◌<◌, ◌≤◌, ◌==◌, nat_lt, if◌then◌else◌, Option, None, Some, Result, Ok, Err}
+use Rattle.std.specs.Prelude.{ℕ, ◌+◌, ◌≡◌, ◌≢◌, ◌<◌, ◌≤◌, ◌==◌, nat_lt, if◌then◌else◌, Option, None, Some, Result, Ok, Err}
 use Rattle.std.specs.Option.{option_or}
 use Rattle.lx_node.specs.Trees.{nil}
 use Rattle.lx_node.specs.Strings.{capped}
@@ -91,14 +91,16 @@ abbrev pub Tells : {A : Type 0} → Fault → Result A Cause → Type 0
 Tells (fault.Cause cause) step = step ≡ Err cause
 Tells fault.Memory step = Unit {0}
 
--- What an error leaves of a draft: refused for a cause, it is as it was; after want of memory it has failed and has no nodes.
+-- What an error leaves of a draft: refused for a cause, it is as it was and hasn't failed; after want of memory it has failed
+-- and has no nodes.
 abbrev pub Leaves : Fault → Working → Working → Type 0
-Leaves (fault.Cause cause) old new = new ≡ old
+Leaves (fault.Cause cause) old new = (new ≡ old) × (old.forest ≢ nil)
 Leaves fault.Memory old new = new.forest ≡ nil
 
--- An error of a call that looks for what refuses an edit: the first cause, or the draft has failed.
+-- An error of a call that looks for what refuses an edit: the first cause, in a draft that hasn't failed, or the draft has
+-- failed.
 abbrev pub Stops : Fault → Option Cause → Working → Type 0
-Stops (fault.Cause cause) first w = first ≡ Some cause
+Stops (fault.Cause cause) first w = (first ≡ Some cause) × (w.forest ≢ nil)
 Stops fault.Memory first w = w.forest ≡ nil
 
 -- An error of a call that this is the first cause to refuse: refused for it, or memory was wanting.

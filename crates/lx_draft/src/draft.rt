@@ -45,7 +45,7 @@ impl Draft {
     ghost use Rattle.lx_node.specs.declared.cause.Fault.TheVariants.{Memory};
     ghost use Rattle.lx_forest.specs.Lookups.{IsForest};
     ghost use Rattle.lx_links.specs.Stands.{Sound};
-    ghost use Rattle.lx_draft.specs.Working.{MayStart, started};
+    ghost use Rattle.lx_draft.specs.Working.{MayStart, IsWorking, started};
 
     /// A draft of the state, in which nothing is marked or counted. The next key is above every key of
     /// the state.
@@ -68,7 +68,8 @@ impl Draft {
     }
 
     pub fn links(&self) -> &Links
-        ensures { result.now ≡ self.now.forest }
+        ensures forest { result.now ≡ self.now.forest }
+        ensures holds { IsWorking self.now }
     {
         &self.links
     }

@@ -20,6 +20,7 @@ pub use draft::Draft;
 pub use rounds::{Flags, Round};
 pub use rules::PointRule;
 pub use state::{Frozen, State};
+pub use texts::with_text;
 
 #[cfg(test)]
 mod tests;

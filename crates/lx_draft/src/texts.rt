@@ -1,4 +1,7 @@
-ghost use Rattle.std.specs.Prelude.{◌≡◌, IfOk, IfErr, None, Some, chars, length, ℕ};
+ghost use Rattle.std.specs.Prelude.{◌≡◌, IfOk, IfErr, OnErr, None, Some, chars, length, ℕ};
+ghost use Rattle.lx_node.specs.OfKind.{IsOfKind};
+ghost use Rattle.lx_node.specs.declared.kind.Kind.TheVariants.{Text};
+ghost use Rattle.lx_node.specs.declared.fields.Fields.TheVariants as fields;
 ghost use Rattle.lx_node.specs.declared.cause.Fault.TheVariants as fault;
 ghost use Rattle.lx_forest.specs.Lookups as lookups;
 ghost use Rattle.lx_links.specs.Faults.{set_fault};
@@ -18,8 +21,8 @@ pub(crate) fn characters(text: &str) -> u64
     text.chars().count() as u64
 }
 
-/// The fields with another text.
-fn with_text(alloc: Global, fields: &TextFields, text: Txt) -> Result<Fields, NoMemory>
+/// The fields of a text or tab with another text.
+pub fn with_text(alloc: Global, fields: &TextFields, text: Txt) -> Result<Fields, NoMemory>
     ensures { IfOk result (λ made. made ≡ steps.with_text fields.now text) }
 {
     Ok(Fields::Text(TextFields {
@@ -45,9 +48,12 @@ fn text_fields(node: &Node) -> Option<&TextFields>
 }
 
 impl Draft {
-    /// The fields of a text that isn't a tab.
-    fn text_at(&self, key: Key) -> Result<&TextFields, Cause>
+    /// The fields of a text that isn't a tab. It is refused where there is no such node, and where it isn't
+    /// a text, for the cause for which a splice is.
+    pub fn text_at(&self, key: Key) -> Result<&TextFields, Cause>
         ensures found { IfOk result (λ text. text_in (lookups.label_of self.now.forest key) ≡ Some text.now) }
+        ensures of_kind { IfOk result (λ text. IsOfKind Text (fields.Text text.now)) }
+        ensures none { OnErr result (text_in (lookups.label_of self.now.forest key) ≡ None) }
         ensures refused { IfErr result (λ cause. (from to : ℕ) → splice_fault key from to self.now.forest ≡ Some cause) }
     {
         let Some(node) = self.links.node(key) else {
