@@ -1,0 +1,99 @@
+-- Why an edit is refused before it begins, the first cause in the order in which they are looked for.
+use Rattle.std.specs.Prelude.{ℕ, ◌==◌, ◌&&◌, Bool, true, false, nat_lt, if◌then◌else◌, List, [], ◌∷◌, Option, None, Some, option_and_then}
+use Rattle.std.specs.Option.{option_or}
+use Rattle.lx_node.specs.Kinds.{is_element}
+use Rattle.lx_node.specs.declared.kind.Kind.{Kind}
+use Rattle.lx_node.specs.declared.kind.Kind.TheVariants.{Text}
+use Rattle.lx_node.specs.declared.fields.TextFields.{TextFields}
+use Rattle.lx_node.specs.declared.cause.Cause.{Cause}
+use Rattle.lx_node.specs.declared.cause.Cause.TheVariants.{BadPlace}
+use Rattle.lx_forest.specs.Forest.{Forest}
+use Rattle.lx_forest.specs.Lookups.{label_of, kind_of, parent_of, next_of, children_of, is_within}
+use Rattle.lx_links.specs.Faults.{unknown, not_below, bound_to, misfit}
+use Rattle.lx_draft.specs.Selecting.{unlike, length_told}
+use Rattle.lx_draft.specs.Faults.{text_in}
+
+abbrev pub is_text : Kind → Bool
+is_text Text = true
+is_text other = false
+
+-- the kind of what a node stands below
+abbrev pub kind_above : Forest → ℕ → Option Kind
+kind_above f k = option_and_then (kind_of f) (parent_of f k)
+
+-- of these nodes, the first that such a parent may not hold
+abbrev pub misfit_among : Forest → Option Kind → List ℕ → Option Cause
+misfit_among f outer [] = None
+misfit_among f outer (k ∷ ks) = option_or (misfit outer (kind_of f k)) (misfit_among f outer ks)
+
+-- it is in the other's tree
+abbrev pub inside : Forest → ℕ → ℕ → Option Cause
+inside f k other = if is_within f k other then Some (BadPlace other) else None
+
+-- ---- children
+
+abbrev pub children_fault : ℕ → ℕ → Forest → Option Cause
+children_fault from to f =
+    option_or (unknown f from) (option_or (unknown f to)
+    (option_or (unlike is_element (kind_of f from)) (option_or (unlike is_element (kind_of f to))
+    (option_or (inside f from to) (misfit_among f (kind_of f to) (children_of f from))))))
+
+-- ---- one node for another
+
+-- the second can't have the children of the first
+abbrev pub keep_fault : Bool → ℕ → ℕ → Forest → Option Cause
+keep_fault false k with f = None
+keep_fault true k with f =
+    option_or (unlike is_element (kind_of f k)) (option_or (unlike is_element (kind_of f with))
+    (misfit_among f (kind_of f with) (children_of f k)))
+
+-- the second can't stand where the first stands
+abbrev pub instead_fault : ℕ → ℕ → Forest → Option Cause
+instead_fault k with f =
+    option_or (unknown f k) (option_or (unknown f with)
+    (option_or (not_below f k) (option_or (bound_to f k with) (misfit (kind_above f k) (kind_of f with)))))
+
+abbrev pub replace_fault : ℕ → ℕ → Bool → Forest → Option Cause
+replace_fault k with keep f = option_or (instead_fault k with f) (keep_fault keep k with f)
+
+abbrev pub wrap_fault : ℕ → ℕ → Forest → Option Cause
+wrap_fault k outer f = option_or (instead_fault k outer f) (misfit (kind_of f outer) (kind_of f k))
+
+abbrev pub unwrap_fault : ℕ → Forest → Option Cause
+unwrap_fault k f =
+    option_or (unknown f k) (option_or (unlike is_element (kind_of f k))
+    (option_or (not_below f k) (misfit_among f (kind_above f k) (children_of f k))))
+
+-- ---- texts
+
+-- how long the text of a node is, if it is a text
+abbrev pub length_in : Option TextFields → ℕ
+length_in None = 0
+length_in (Some text) = length_told text.text
+
+abbrev pub length_at : Forest → ℕ → ℕ
+length_at f k = length_in (text_in (label_of f k))
+
+-- the first of these offsets that isn't above the one before it and within a text of the length
+abbrev pub bad_offset : ℕ → ℕ → List ℕ → Option Cause
+bad_offset low length [] = None
+bad_offset low length (o ∷ rest) =
+    if nat_lt low o && nat_lt o length then bad_offset o length rest else Some (BadPlace o)
+
+abbrev pub split_fault : ℕ → List ℕ → Forest → Option Cause
+split_fault k offsets f =
+    option_or (unknown f k) (option_or (unlike is_text (kind_of f k))
+    (option_or (not_below f k) (bad_offset 0 (length_at f k) offsets)))
+
+-- the second doesn't come right behind the first
+abbrev pub is_key : Option ℕ → ℕ → Bool
+is_key None k = false
+is_key (Some found) k = found == k
+
+abbrev pub no_next : Forest → ℕ → ℕ → Option Cause
+no_next f first second = if is_key (next_of f first) second then None else Some (BadPlace second)
+
+abbrev pub join_fault : ℕ → ℕ → Forest → Option Cause
+join_fault first second f =
+    option_or (unknown f first) (option_or (unknown f second)
+    (option_or (unlike is_text (kind_of f first)) (option_or (unlike is_text (kind_of f second)) (no_next f first second))))

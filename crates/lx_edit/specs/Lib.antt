@@ -1,0 +1,5 @@
+pub mod InTurn
+pub mod Conditions
+pub mod Edits
+pub mod Texts
+pub mod Standing

@@ -1,0 +1,77 @@
+ghost use Rattle.std.specs.Prelude.{◌≡◌, Ok, OnOk, IfErr};
+ghost use Rattle.lx_draft.specs.Faults.{Tells};
+ghost use Rattle.lx_edit.specs.Edits as edits;
+ghost use Rattle.lx_edit.specs.Edits.{children_step};
+ghost use Rattle.lx_edit.specs.InTurn.{in_turn};
+ghost use Rattle.lx_edit.specs.Standing.{Stands};
+
+use crate::conditions::{admitted, children_fault};
+use crate::places::{ASIDE, children_of};
+use lx_draft::{Draft, PointRule};
+use lx_node::{Fault, Key};
+use std::alloc::Global;
+
+/// Moves the children of one element, in order, to the end of another's. Points on the first go along: what
+/// stood before its child `i` stands before that child there. It is refused where one of the two isn't
+/// there, where one isn't an element, where the second is in the first's tree, and where the second may not
+/// hold one of the children; and as the draft's own edits are, where 100,000 counts were taken.
+#[tactic(auto, unfolding(crate::specs::Edits::children_step))]
+pub fn move_children(alloc: Global, draft: &mut Draft, from: Key, to: Key) -> Result<(), Fault>
+    ensures ok { OnOk result (children_step from to draft.old ≡ Ok draft.new) }
+    ensures err { IfErr result (λ e. Tells e (children_step from to draft.old)) }
+    ensures standing { IfErr result (λ e. Stands e draft.new) }
+{
+    let fault = children_fault(draft.links(), from, to);
+    admitted(draft, fault)?;
+    carry_children(alloc, draft, from, to)
+}
+
+/// The children with the points, where nothing refuses them.
+fn carry_children(alloc: Global, draft: &mut Draft, from: Key, to: Key) -> Result<(), Fault>
+    ensures ok { OnOk result (edits.children_moved from to draft.old ≡ Ok draft.new) }
+    ensures err { IfErr result (λ e. Tells e (edits.children_moved from to draft.old)) }
+    ensures standing { IfErr result (λ e. Stands e draft.new) }
+{
+    let children = children_of(alloc, draft.links(), from)?;
+    let size = draft.links().size(to);
+    draft.point_rule(PointRule::Children {
+        from,
+        to: ASIDE,
+        size: 0,
+    });
+    move_each(draft, to, &children)?;
+    draft.point_rule(PointRule::Children {
+        from: ASIDE,
+        to,
+        size,
+    });
+    Ok(())
+}
+
+/// Moves nodes, in order, to the end of an element's children.
+#[tactic(auto, using(crate::proofs::Turns::turns_done))]
+fn move_each(draft: &mut Draft, to: Key, keys: &[Key]) -> Result<(), Fault>
+    ensures ok { OnOk result (in_turn (edits.moved_to_end to) keys.now draft.old ≡ Ok draft.new) }
+    ensures err { IfErr result (λ e. Tells e (in_turn (edits.moved_to_end to) keys.now draft.old)) }
+    ensures standing { IfErr result (λ e. Stands e draft.new) }
+{
+    for key in keys {
+        match move_to_end(draft, to, *key) {
+            Ok(()) => {}
+            Err(fault) => return Err(fault),
+        }
+    }
+    Ok(())
+}
+
+/// Takes a node out, and puts it at the end of an element's children.
+#[tactic(auto, unfolding(crate::specs::Edits::moved_to_end))]
+pub(crate) fn move_to_end(draft: &mut Draft, parent: Key, key: Key) -> Result<(), Fault>
+    ensures ok { OnOk result (edits.moved_to_end parent key draft.old ≡ Ok draft.new) }
+    ensures err { IfErr result (λ e. Tells e (edits.moved_to_end parent key draft.old)) }
+    ensures standing { IfErr result (λ e. Stands e draft.new) }
+{
+    draft.take(key)?;
+    let index = draft.links().size(parent);
+    draft.put(key, parent, index)
+}

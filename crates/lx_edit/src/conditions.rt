@@ -1,0 +1,255 @@
+//! Why an edit is refused before it begins.
+
+ghost use Rattle.std.specs.Prelude.{◌≡◌, ◌≢◌, true, None, OnOk, IfErr};
+ghost use Rattle.lx_node.specs.Trees.{nil};
+ghost use Rattle.lx_node.specs.Kinds as kinds;
+ghost use Rattle.lx_forest.specs.Lookups as lookups;
+ghost use Rattle.lx_links.specs.Faults as faults;
+ghost use Rattle.lx_draft.specs.Selecting.{unlike};
+ghost use Rattle.lx_draft.specs.Faults.{Stops};
+ghost use Rattle.lx_edit.specs.Conditions as conditions;
+
+use crate::texts::length_at;
+use lx_draft::Draft;
+use lx_links::Links;
+use lx_node::{Cause, Fault, Key, Kind, Named, NoMemory};
+
+/// Goes on where the draft hasn't failed.
+pub(crate) fn living(draft: &Draft) -> Result<(), NoMemory>
+    ensures { OnOk result (draft.now.forest ≢ nil) }
+{
+    if draft.links().has_failed() {
+        Err(NoMemory)
+    } else {
+        Ok(())
+    }
+}
+
+/// Goes on where nothing refuses the edit, and the draft hasn't failed.
+pub(crate) fn admitted(draft: &Draft, fault: Option<Cause>) -> Result<(), Fault>
+    ensures allowed { OnOk result (fault ≡ None) }
+    ensures living { OnOk result (draft.now.forest ≢ nil) }
+    ensures err { IfErr result (λ e. Stops e fault draft.now) }
+{
+    if draft.links().has_failed() {
+        return Err(Fault::Memory);
+    }
+    match fault {
+        Some(cause) => Err(Fault::Cause(cause)),
+        None => Ok(()),
+    }
+}
+
+/// There is no node of the key.
+fn missing(links: &Links, key: Key) -> Option<Cause>
+    ensures { result ≡ faults.unknown links.now key }
+{
+    if links.has(key) {
+        None
+    } else {
+        Some(Cause::UnknownNode(Named::Key(key)))
+    }
+}
+
+/// It stands below nothing.
+fn not_below(links: &Links, key: Key) -> Option<Cause>
+    ensures { result ≡ faults.not_below links.now key }
+{
+    if links.parent(key).is_some() {
+        None
+    } else {
+        Some(Cause::BadPlace(key.number() as u64))
+    }
+}
+
+/// It is no element.
+fn no_element(links: &Links, key: Key) -> Option<Cause>
+    ensures { result ≡ unlike kinds.is_element (lookups.kind_of links.now key) }
+{
+    let kind = links.kind(key)?;
+    if kind.is_element() {
+        None
+    } else {
+        Some(Cause::WrongKind(kind))
+    }
+}
+
+/// What the node stands below is of this kind.
+fn kind_above(links: &Links, key: Key) -> Option<Kind>
+    ensures { result ≡ conditions.kind_above links.now key }
+{
+    match links.parent(key) {
+        Some(parent) => links.kind(parent),
+        None => None,
+    }
+}
+
+/// A parent of the one kind may not hold a child of the other.
+fn misfit(outer: Option<Kind>, inner: Option<Kind>) -> Option<Cause>
+    ensures { result ≡ faults.misfit outer inner }
+{
+    match (outer, inner) {
+        (Some(outer), Some(inner)) => {
+            if outer.may_hold(inner) {
+                None
+            } else {
+                Some(Cause::WrongKind(inner))
+            }
+        }
+        _ => None,
+    }
+}
+
+/// A parent of the kind may not hold one of the node's children, the first such.
+fn misfit_child(links: &Links, outer: Option<Kind>, key: Key) -> Option<Cause>
+    ensures { result ≡ conditions.misfit_among links.now outer (lookups.children_of links.now key) }
+{
+    for child in links.children(key) {
+        if let Some(cause) = misfit(outer, links.kind(child)) {
+            return Some(cause);
+        }
+    }
+    None
+}
+
+/// The other node is in the tree of the key.
+fn inside(links: &Links, key: Key, other: Key) -> Option<Cause>
+    ensures { result ≡ conditions.inside links.now key other }
+{
+    if links.is_within(key, other) {
+        Some(Cause::BadPlace(other.number() as u64))
+    } else {
+        None
+    }
+}
+
+/// It is the root, or stands below something, or the other node is in its tree.
+fn bound(links: &Links, other: Key, key: Key) -> Option<Cause>
+    ensures { result ≡ faults.bound_to links.now other key }
+{
+    if key == Key::root() || links.parent(key).is_some() || links.is_within(key, other) {
+        Some(Cause::BadPlace(key.number() as u64))
+    } else {
+        None
+    }
+}
+
+pub(crate) fn children_fault(links: &Links, from: Key, to: Key) -> Option<Cause>
+    ensures { result ≡ conditions.children_fault from to links.now }
+{
+    missing(links, from)
+        .or_else(|| missing(links, to))
+        .or_else(|| no_element(links, from))
+        .or_else(|| no_element(links, to))
+        .or_else(|| inside(links, from, to))
+        .or_else(|| misfit_child(links, links.kind(to), from))
+}
+
+/// The second can't have the children of the first.
+fn keep_fault(links: &Links, key: Key, with: Key) -> Option<Cause>
+    ensures { result ≡ conditions.keep_fault true key with links.now }
+{
+    no_element(links, key)
+        .or_else(|| no_element(links, with))
+        .or_else(|| misfit_child(links, links.kind(with), key))
+}
+
+/// The second can't stand where the first stands.
+fn instead_fault(links: &Links, key: Key, with: Key) -> Option<Cause>
+    ensures { result ≡ conditions.instead_fault key with links.now }
+{
+    missing(links, key)
+        .or_else(|| missing(links, with))
+        .or_else(|| not_below(links, key))
+        .or_else(|| bound(links, key, with))
+        .or_else(|| misfit(kind_above(links, key), links.kind(with)))
+}
+
+pub(crate) fn replace_fault(links: &Links, key: Key, with: Key, keep: bool) -> Option<Cause>
+    ensures { result ≡ conditions.replace_fault key with keep links.now }
+{
+    let fault = instead_fault(links, key, with);
+    if keep {
+        fault.or_else(|| keep_fault(links, key, with))
+    } else {
+        fault
+    }
+}
+
+pub(crate) fn wrap_fault(links: &Links, key: Key, outer: Key) -> Option<Cause>
+    ensures { result ≡ conditions.wrap_fault key outer links.now }
+{
+    instead_fault(links, key, outer).or_else(|| misfit(links.kind(outer), links.kind(key)))
+}
+
+pub(crate) fn unwrap_fault(links: &Links, key: Key) -> Option<Cause>
+    ensures { result ≡ conditions.unwrap_fault key links.now }
+{
+    missing(links, key)
+        .or_else(|| no_element(links, key))
+        .or_else(|| not_below(links, key))
+        .or_else(|| misfit_child(links, kind_above(links, key), key))
+}
+
+/// It is no text.
+fn no_text(links: &Links, key: Key) -> Option<Cause>
+    ensures { result ≡ unlike conditions.is_text (lookups.kind_of links.now key) }
+{
+    let kind = links.kind(key)?;
+    if matches!(kind, Kind::Text) {
+        None
+    } else {
+        Some(Cause::WrongKind(kind))
+    }
+}
+
+/// The first offset that isn't above the one before it and within a text of the length.
+fn bad_offset(length: u32, offsets: &[u32]) -> Option<Cause>
+    ensures { result ≡ conditions.bad_offset 0 length offsets.now }
+{
+    let mut low = 0;
+    for offset in offsets {
+        if *offset <= low || *offset >= length {
+            return Some(Cause::BadPlace(*offset as u64));
+        }
+        low = *offset;
+    }
+    None
+}
+
+/// Why a text can't be split at these offsets, the first cause, if there is one.
+pub fn split_fault(draft: &Draft, key: Key, offsets: &[u32]) -> Option<Cause>
+    ensures { result ≡ conditions.split_fault key offsets.now draft.now.forest }
+{
+    let links = draft.links();
+    missing(links, key)
+        .or_else(|| no_text(links, key))
+        .or_else(|| not_below(links, key))
+        .or_else(|| bad_offset(length_at(draft, key), offsets))
+}
+
+/// The second doesn't come right behind the first.
+fn no_next(links: &Links, first: Key, second: Key) -> Option<Cause>
+    ensures { result ≡ conditions.no_next links.now first second }
+{
+    match links.next(first) {
+        Some(next) => {
+            if next == second {
+                None
+            } else {
+                Some(Cause::BadPlace(second.number() as u64))
+            }
+        }
+        None => Some(Cause::BadPlace(second.number() as u64)),
+    }
+}
+
+pub(crate) fn join_fault(links: &Links, first: Key, second: Key) -> Option<Cause>
+    ensures { result ≡ conditions.join_fault first second links.now }
+{
+    missing(links, first)
+        .or_else(|| missing(links, second))
+        .or_else(|| no_text(links, first))
+        .or_else(|| no_text(links, second))
+        .or_else(|| no_next(links, first, second))
+}

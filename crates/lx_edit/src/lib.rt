@@ -1,0 +1,27 @@
+//! Composite edits of a draft: a node removed, replaced, wrapped or unwrapped, children that go elsewhere, and texts that
+//! are cut in pieces or joined. Each is made of the draft's own edits, which mark, count, and move points; what it adds is
+//! where points go that these would leave behind. A draft on which one was refused is only fit to be dropped.
+#![tactic(auto)]
+
+mod around;
+mod children;
+mod conditions;
+mod join;
+mod places;
+mod removing;
+mod replacing;
+mod split;
+mod texts;
+mod unwrapping;
+
+pub use around::join_around;
+pub use children::move_children;
+pub use conditions::split_fault;
+pub use join::join_texts;
+pub use removing::remove;
+pub use replacing::{replace, wrap};
+pub use split::split_text;
+pub use unwrapping::unwrap;
+
+#[cfg(test)]
+mod tests;

@@ -1,0 +1,78 @@
+ghost use Rattle.std.specs.Prelude.{◌≡◌, Ok, OnOk, IfErr};
+ghost use Rattle.lx_forest.specs.Lookups as lookups;
+ghost use Rattle.lx_draft.specs.Faults.{Tells};
+ghost use Rattle.lx_edit.specs.Edits as edits;
+ghost use Rattle.lx_edit.specs.Edits.{replace_step, wrap_step};
+ghost use Rattle.lx_edit.specs.Standing.{Stands};
+
+use crate::children::{move_children, move_to_end};
+use crate::conditions::{admitted, replace_fault, wrap_fault};
+use crate::places::{length_of, put_before};
+use crate::removing::remove;
+use lx_draft::{Draft, PointRule};
+use lx_links::Links;
+use lx_node::{Fault, Key, Kind};
+use std::alloc::Global;
+
+/// Puts the second node, which stands below nothing, in the place of the first, which is removed. With
+/// `keep` the children of the first go into the second before. Points on a text go to the same offset of a
+/// text that replaces it, or to its end. It is refused where one of the two isn't there; where the first
+/// stands below nothing; where the second is the root, stands below something, or has the first in its tree;
+/// where the parent may not hold it; with `keep`, where one of the two isn't an element, and where the second
+/// may not hold one of the children; and where 100,000 counts were taken.
+#[tactic(auto, unfolding(crate::specs::Edits::replace_step))]
+pub fn replace(
+    alloc: Global,
+    draft: &mut Draft,
+    key: Key,
+    with: Key,
+    keep: bool,
+) -> Result<(), Fault>
+    ensures ok { OnOk result (replace_step key with keep draft.old ≡ Ok draft.new) }
+    ensures err { IfErr result (λ e. Tells e (replace_step key with keep draft.old)) }
+    ensures standing { IfErr result (λ e. Stands e draft.new) }
+{
+    let fault = replace_fault(draft.links(), key, with, keep);
+    admitted(draft, fault)?;
+    put_before(draft, key, with)?;
+    if keep {
+        move_children(alloc, draft, key, with)?;
+    }
+    point_into_text(draft, key, with);
+    remove(draft, key)
+}
+
+/// Of two texts, sends the points on the first to the same offsets of the second.
+#[tactic(auto, unfolding(crate::specs::Edits::texts_pointed))]
+fn point_into_text(draft: &mut Draft, key: Key, with: Key)
+    ensures { draft.new ≡ edits.texts_pointed key with draft.old }
+{
+    if is_text(draft.links(), key) && is_text(draft.links(), with) {
+        let len = length_of(draft.links(), with);
+        draft.point_rule(PointRule::Replace {
+            old: key,
+            new: with,
+            len,
+        });
+    }
+}
+
+fn is_text(links: &Links, key: Key) -> bool
+    ensures { result ≡ edits.is_text_at (lookups.kind_of links.now key) }
+{
+    matches!(links.kind(key), Some(Kind::Text))
+}
+
+/// Puts the outer node, which stands below nothing, in the place of the other, which goes to the end of the
+/// outer one's children. It is refused as a replacing is, and where the outer one may not hold the other.
+#[tactic(auto, unfolding(crate::specs::Edits::wrap_step))]
+pub fn wrap(draft: &mut Draft, key: Key, outer: Key) -> Result<(), Fault>
+    ensures ok { OnOk result (wrap_step key outer draft.old ≡ Ok draft.new) }
+    ensures err { IfErr result (λ e. Tells e (wrap_step key outer draft.old)) }
+    ensures standing { IfErr result (λ e. Stands e draft.new) }
+{
+    let fault = wrap_fault(draft.links(), key, outer);
+    admitted(draft, fault)?;
+    put_before(draft, key, outer)?;
+    move_to_end(draft, outer, key)
+}

@@ -1,0 +1,107 @@
+ghost use Rattle.std.specs.Prelude.{◌≡◌, ◌+◌, ◌++◌, ◌∷◌, [], Ok, OnOk, IfOk, IfErr, length};
+ghost use Rattle.lx_node.specs.Trees.{nil};
+ghost use Rattle.lx_draft.specs.Faults.{Tells};
+ghost use Rattle.lx_edit.specs.Texts as texts;
+ghost use Rattle.lx_edit.specs.Texts.{split_step, keys_from};
+ghost use Rattle.lx_edit.specs.Standing.{Stands};
+
+use crate::conditions::{admitted, split_fault};
+use crate::texts::{length_at, tail_of};
+use lx_draft::{Draft, PointRule};
+use lx_node::{Cause, Fault, Key, Kind, NoMemory};
+use std::alloc::Global;
+
+/// Cuts a text at offsets, and answers the keys of the new texts. The text keeps what stands before the first
+/// offset. Each new text has the fields of the cut one and what stands up to the next offset, and comes
+/// right behind the piece before it; points behind an offset go along. Offsets count from the text's start,
+/// in the unit of `lx_text`. It is refused where there is no such node, where it isn't a text, where it
+/// stands below nothing, and for the first offset that isn't above the one before it, above 0 and below the
+/// text's length; where 100,000 counts were taken, and where the new texts would bring what was written above
+/// 16,777,216 scalar values.
+#[tactic(auto, unfolding(crate::specs::Texts::split_step))]
+pub fn split_text(alloc: Global, draft: &mut Draft, key: Key, at: &[u32]) -> Result<Vec<Key>, Fault>
+    ensures ok { OnOk result (split_step key at.now draft.old ≡ Ok draft.new) }
+    ensures keys { IfOk result (λ keys. keys.items ≡ keys_from draft.old.next_key (length at.now)) }
+    ensures err { IfErr result (λ e. Tells e (split_step key at.now draft.old)) }
+    ensures standing { IfErr result (λ e. Stands e draft.new) }
+{
+    let fault = split_fault(draft, key, at);
+    admitted(draft, fault)?;
+    cut_at(alloc, draft, key, at)
+}
+
+/// Cuts a text at each of the offsets, from the left.
+fn cut_at(alloc: Global, draft: &mut Draft, key: Key, offsets: &[u32]) -> Result<Vec<Key>, Fault>
+    ensures ok { OnOk result (texts.cut_at key 0 offsets.now draft.old ≡ Ok draft.new) }
+    ensures keys { IfOk result (λ keys. keys.items ≡ keys_from draft.old.next_key (length offsets.now)) }
+    ensures err { IfErr result (λ e. Tells e (texts.cut_at key 0 offsets.now draft.old)) }
+    ensures standing { IfErr result (λ e. Stands e draft.new) }
+{
+    let mut keys = Vec::new(alloc);
+    let mut piece = key;
+    let mut start = 0;
+    for offset in offsets {
+        match cut_in_two(alloc, draft, piece, offset.saturating_sub(start)) {
+            Ok(new) => piece = new,
+            Err(fault) => return Err(fault),
+        }
+        start = *offset;
+        keep_key(&mut keys, piece)?;
+    }
+    Ok(keys)
+}
+
+fn keep_key(keys: &mut Vec<Key>, key: Key) -> Result<(), NoMemory>
+    ensures { OnOk result (keys.new.items ≡ keys.old.items ++ (key ∷ [])) }
+{
+    keys.push(key)?;
+    Ok(())
+}
+
+/// Cuts a text in two at an offset, and answers the key of the new text behind.
+#[tactic(auto, unfolding(crate::specs::Texts::cut_in_two), using(crate::proofs::Tails::no_characters))]
+fn cut_in_two(alloc: Global, draft: &mut Draft, key: Key, offset: u32) -> Result<Key, Fault>
+    ensures ok { OnOk result (texts.cut_in_two key offset draft.old ≡ Ok draft.new) }
+    ensures key { IfOk result (λ new. new ≡ draft.old.next_key) }
+    ensures next_key { OnOk result (draft.new.next_key ≡ draft.old.next_key + 1) }
+    ensures err { IfErr result (λ e. Tells e (texts.cut_in_two key offset draft.old)) }
+    ensures standing { IfErr result (λ e. Stands e draft.new) }
+{
+    let end = length_at(draft, key);
+    let new = make_tail(alloc, draft, key, offset)?;
+    draft.splice(key, offset, end, "")?;
+    put_behind(draft, key, new)?;
+    Ok(new)
+}
+
+/// Makes a new text of what stands behind an offset, with the points there, and answers its key.
+#[tactic(auto, unfolding(crate::specs::Texts::tail_made))]
+fn make_tail(alloc: Global, draft: &mut Draft, key: Key, offset: u32) -> Result<Key, Fault>
+    ensures ok { OnOk result (texts.tail_made key offset draft.old ≡ Ok draft.new) }
+    ensures key { IfOk result (λ new. new ≡ draft.old.next_key) }
+    ensures next_key { OnOk result (draft.new.next_key ≡ draft.old.next_key + 1) }
+    ensures err { IfErr result (λ e. Tells e (texts.tail_made key offset draft.old)) }
+    ensures standing { IfErr result (λ e. Stands e draft.new) }
+{
+    let fields = tail_of(alloc, draft, key, offset)?;
+    let new = draft.new_node(Kind::Text, fields)?;
+    draft.point_rule(PointRule::Split {
+        key,
+        at: offset,
+        new,
+    });
+    Ok(new)
+}
+
+/// Puts a node right behind where another stands.
+#[tactic(auto, unfolding(crate::specs::Texts::put_behind), using(crate::proofs::Indices::index_small))]
+fn put_behind(draft: &mut Draft, other: Key, key: Key) -> Result<(), Fault>
+    ensures ok { OnOk result (texts.put_behind other key draft.old ≡ Ok draft.new) }
+    ensures err { IfErr result (λ e. Tells e (texts.put_behind other key draft.old)) }
+    ensures standing { IfErr result (λ e. Stands e draft.new) }
+{
+    match (draft.links().parent(other), draft.links().index_of(other)) {
+        (Some(parent), Some(index)) => draft.put(key, parent, index + 1),
+        _ => admitted(draft, Some(Cause::BadPlace(other.number() as u64))),
+    }
+}
