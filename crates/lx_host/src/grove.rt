@@ -1,4 +1,5 @@
 use crate::node::{HostNode, find_among, holder_of, place_of, take_from};
+use crate::page::Page;
 use lx_node::NoMemory;
 use std::alloc::Global;
 use std::marker::Model;
@@ -94,6 +95,17 @@ impl Grove {
             None => self.root.put(parent, before, host),
             Some(at) => self.unplaced[at].put(parent, before, host),
         }
+    }
+
+    ghost use Rattle.std.specs.Prelude.{◌++◌};
+    ghost use Rattle.lx_host.specs.Hosts.{shape_of};
+    ghost use Rattle.lx_host.specs.Html.{html_of, first_tree};
+
+    /// Writes the HTML of the root and of all below it.
+    pub fn print(&self, page: &mut Page) -> Result<(), NoMemory>
+        ensures { OnOk result (page.new ≡ page.old ++ html_of (first_tree (shape_of self.now))) }
+    {
+        self.root.print(page)
     }
 }
 

@@ -2,14 +2,17 @@
 //!
 //! A host tree is host 0 with the hosts below it, and hosts that aren't placed yet. Hosts are named by
 //! ids, which are given in the order of creation and never again. An operation fits a host tree, or it
-//! doesn't, and one that fits has one effect.
+//! doesn't, and one that fits has one effect. What host 0 shows, with all below it, has one HTML.
 #![tactic(auto)]
 
 mod grove;
 mod node;
 mod op;
 mod ops;
+mod page;
 mod tag;
+#[cfg(test)]
+mod tests;
 mod tree;
 
 pub use op::{Attrs, Op};

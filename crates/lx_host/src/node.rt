@@ -1,4 +1,5 @@
 use crate::op::Attrs;
+use crate::page::Page;
 use crate::tag::Tag;
 use lx_node::{Key, NoMemory, Txt};
 use std::alloc::Global;
@@ -118,6 +119,27 @@ impl HostNode {
         let at = holder_of(&self.children, parent);
         self.children[at].put(parent, before, host)
     }
+
+    ghost use Rattle.std.specs.Prelude.{◌++◌};
+    ghost use Rattle.lx_host.specs.Hosts.{shape_of};
+    ghost use Rattle.lx_host.specs.Html.{html_of};
+
+    /// Writes the HTML of this host and of all below it.
+    #[cycle(print)]
+    pub fn print(&self, page: &mut Page) -> Result<(), NoMemory>
+        ensures { OnOk result (page.new ≡ page.old ++ html_of (shape_of (trees_of (self.now ∷ [])))) }
+    {
+        page.open(self.tag, self.attrs.items())?;
+        if self.tag.is_void() {
+            return Ok(());
+        }
+        match &self.text {
+            Some(text) => page.push_text(text.as_str())?,
+            None => print_all(&self.children, page)?,
+        }
+        page.push_ending(self.ending)?;
+        page.close(self.tag)
+    }
 }
 
 ghost use Rattle.std.specs.Prelude.{◌≡◌, ℕ, ◌<◌, ◌==◌, [], ◌∷◌, length, OnOk, OnErr, IsTrue, slice_index_or};
@@ -199,6 +221,21 @@ fn insert_child(
             }
             None => unreachable!(),
         },
+    }
+    Ok(())
+}
+
+ghost use Rattle.std.specs.Prelude.{◌++◌};
+ghost use Rattle.lx_host.specs.Hosts.{shape_of};
+ghost use Rattle.lx_host.specs.Html.{html_of};
+
+/// Writes the HTML of these hosts and of all below them, one behind another.
+#[cycle(print)]
+pub fn print_all(hosts: &[HostNode], page: &mut Page) -> Result<(), NoMemory>
+    ensures { OnOk result (page.new ≡ page.old ++ html_of (shape_of (trees_of hosts.now))) }
+{
+    for host in hosts {
+        host.print(page)?;
     }
     Ok(())
 }

@@ -15,6 +15,39 @@ pub enum Outer {
     Sup,
 }
 
+impl Inner {
+    ghost use Rattle.std.specs.Prelude.{◌≡◌};
+    ghost use Rattle.lx_host.specs.Words.{inner_word};
+
+    /// The word of the element.
+    pub(crate) fn word(self) -> &'static str
+        ensures { result.now ≡ inner_word self }
+    {
+        match self {
+            Inner::Strong => "strong",
+            Inner::Em => "em",
+            Inner::Span => "span",
+        }
+    }
+}
+
+impl Outer {
+    ghost use Rattle.std.specs.Prelude.{◌≡◌};
+    ghost use Rattle.lx_host.specs.Words.{outer_word};
+
+    /// The word of the element.
+    pub(crate) fn word(self) -> &'static str
+        ensures { result.now ≡ outer_word self }
+    {
+        match self {
+            Outer::Code => "code",
+            Outer::Mark => "mark",
+            Outer::Sub => "sub",
+            Outer::Sup => "sup",
+        }
+    }
+}
+
 ghost use Rattle.std.specs.Prelude.{◌≡◌};
 ghost use Rattle.lx_host.specs.Words.{inline_word as word_of_inline};
 
@@ -131,6 +164,15 @@ impl Tag {
             Tag::Hr => "hr",
             Tag::Inline(outer, inner) => inline_word(outer, inner),
         }
+    }
+
+    ghost use Rattle.lx_host.specs.Pieces.{is_void};
+
+    /// Whether it is a start alone, with nothing inside and no end.
+    pub(crate) fn is_void(self) -> bool
+        ensures { result ≡ is_void self }
+    {
+        matches!(self, Tag::Br | Tag::Hr)
     }
 }
 

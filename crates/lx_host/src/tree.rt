@@ -1,8 +1,9 @@
 use crate::grove::Grove;
 use crate::node::HostNode;
 use crate::op::{Attrs, Op};
+use crate::page::Page;
 use crate::tag::Tag;
-use lx_node::{Key, NoMemory};
+use lx_node::{Key, NoMemory, Txt};
 use std::alloc::Global;
 use std::marker::Model;
 
@@ -132,6 +133,21 @@ impl HostTree {
     {
         let host = self.grove.take(child);
         self.grove.put(parent, before, host)
+    }
+
+    ghost use Rattle.lx_host.specs.Hosts.{shape_of};
+    ghost use Rattle.lx_host.specs.Html.{html_of, first_tree};
+    ghost use Rattle.lx_host.specs.Branches.{IsRooted};
+
+    /// The HTML of host 0 with all below it, the first tree. Hosts that aren't placed have no part in it. It takes
+    /// memory for its bytes.
+    pub fn print_html(&self) -> Result<Txt, NoMemory>
+        ensures html { IfOk result (λ html. html ≡ html_of (first_tree (shape_of self.now.hosts))) }
+        ensures rooted { IsRooted self.now.hosts }
+    {
+        let mut page = Page::new(self.alloc);
+        self.grove.print(&mut page)?;
+        page.text(self.alloc)
     }
 }
 
