@@ -1,0 +1,28 @@
+//! What a line asks for: the steps of an update, the references in them, and patches of fields.
+//!
+//! A step names nodes by reference, since some of them are only made while the line runs. Nothing here
+//! knows a forest. `Patch::onto` writes the members of a patch into fields.
+#![tactic(auto)]
+
+mod line;
+mod member;
+mod members;
+mod offsets;
+mod patch;
+mod reference;
+mod references;
+mod step;
+mod steps;
+
+pub use line::{Form, Line, Shown};
+pub use member::Member;
+pub use members::Members;
+pub use offsets::Offsets;
+pub use patch::Patch;
+pub use reference::{PointRef, Reference, SelectionRef};
+pub use references::References;
+pub use step::Step;
+pub use steps::Steps;
+
+#[cfg(test)]
+mod tests;

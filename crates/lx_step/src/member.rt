@@ -1,0 +1,69 @@
+ghost use Rattle.std.specs.Prelude.{◌≡◌};
+ghost use Rattle.lx_step.specs.Patches as patches;
+
+use lx_node::{Align, Direction, Kind, Mode, Txt};
+
+/// A member of a node's fields, with the value that it is to get. Which kinds have which members:
+///
+/// - elements: direction, align, indent (0 to 65,535), text format (bits, as those of a text) and text style
+/// - lists: start (0 to 1,000,000)
+/// - items: checked
+/// - links: rel, target, title, URL
+/// - cells: header state (0 none, 1 a row's, 2 a column's, 3 both), spans (1 to 1000), background
+/// - texts: text, format, style, detail (0 to 3), mode; of these a tab has format and style
+/// - embeds: source
+#[derive(Debug, Drop)]
+pub enum Member {
+    Direction(Direction),
+    Align(Align),
+    Indent(u16),
+    TextFormat(u16),
+    TextStyle(Txt),
+    Start(u32),
+    Checked(Option<bool>),
+    Rel(Option<Txt>),
+    Target(Option<Txt>),
+    Title(Option<Txt>),
+    Url(Txt),
+    HeaderState(u8),
+    ColSpan(u16),
+    RowSpan(u16),
+    Background(Option<Txt>),
+    Text(Txt),
+    Format(u16),
+    Style(Txt),
+    Detail(u8),
+    Mode(Mode),
+    Src(Txt),
+    /// A member of this name, which can be set on nodes of no kind.
+    Other(Txt),
+}
+
+impl Member {
+    /// Whether the member can be set on nodes of the kind.
+    #[tactic(auto, unfolding(crate::specs::Patches::has, crate::specs::Patches::is_text, crate::specs::Patches::is_text_or_tab, crate::specs::Patches::is_embed, lx_node::specs::Kinds::is_list, lx_node::specs::Kinds::is_item, lx_node::specs::Kinds::is_link, lx_node::specs::Kinds::is_cell))]
+    pub fn is_of(&self, kind: Kind) -> bool
+        ensures { result ≡ patches.has kind self.now }
+    {
+        match self {
+            Member::Direction(_)
+            | Member::Align(_)
+            | Member::Indent(_)
+            | Member::TextFormat(_)
+            | Member::TextStyle(_) => kind.is_element(),
+            Member::Start(_) => matches!(kind, Kind::List(_)),
+            Member::Checked(_) => matches!(kind, Kind::Item),
+            Member::Rel(_) | Member::Target(_) | Member::Title(_) | Member::Url(_) => {
+                matches!(kind, Kind::Link)
+            }
+            Member::HeaderState(_)
+            | Member::ColSpan(_)
+            | Member::RowSpan(_)
+            | Member::Background(_) => matches!(kind, Kind::Cell),
+            Member::Text(_) | Member::Detail(_) | Member::Mode(_) => matches!(kind, Kind::Text),
+            Member::Format(_) | Member::Style(_) => matches!(kind, Kind::Text | Kind::Tab),
+            Member::Src(_) => matches!(kind, Kind::Embed),
+            Member::Other(_) => false,
+        }
+    }
+}
