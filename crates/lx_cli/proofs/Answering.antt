@@ -1,7 +1,7 @@
 -- Lines that are answered one after another.
 use Rattle.std.proofs.Common.{◌≡◌, ℕ, ◌+◌, ◌≤◌, List, [], ◌∷◌, ◌++◌, sym, ap, ◌∙◌, refl, subst, append_assoc, length-append, arith}
 use Rattle.std.proofs.lemmas.List.{append-nil}
-use Rattle.lx_editor.specs.Editor.{Editor, used}
+use Rattle.lx_editor.specs.Editor.{Editor}
 use Rattle.lx_editor.specs.Follows.{Answers, FollowsTo}
 use Rattle.lx_cli.specs.declared.session.Unanswered.{Unanswered}
 use Rattle.lx_cli.specs.declared.session.Unanswered.TheVariants.{WriteFault, Memory}
@@ -78,7 +78,7 @@ pub AreAnswered-none : (editor : Editor) (sink : SinkSeen) → AreAnswered [] ed
 AreAnswered-none editor sink = record {
   written = [];
   follows = (refl, refl);
-  used = omega arith;
+  commits = omega arith;
   sink = AreWritten-none sink;
 }
 
@@ -87,7 +87,7 @@ pub AreAnswered-append : (a b c : Editor) (s t u : SinkSeen) (lines later : List
 AreAnswered-append a b c s t u lines later p q = record {
   written = p.written ++ q.written;
   follows = FollowsTo-append a b c lines later p.written q.written p.follows q.follows;
-  used = omega (arith, length-append lines later, p.used, q.used);
+  commits = omega (arith, length-append lines later, p.commits, q.commits);
   sink = AreWritten-append s t u p.written q.written p.sink q.sink;
 }
 
@@ -127,11 +127,11 @@ AreUnanswered-none editor sink lines = record {
 
 -- a line whose reply is written
 pub AreAnswered-one : (old new : Editor) (s t : SinkSeen) (line answer : List ℕ)
-    → Answers old line answer new → used new ≤ used old + 5 → AreWritten (answer ++ 10 ∷ []) s t → AreAnswered (line ∷ []) old new s t
+    → Answers old line answer new → new.commits ≤ old.commits + 1 → AreWritten (answer ++ 10 ∷ []) s t → AreAnswered (line ∷ []) old new s t
 AreAnswered-one old new s t line answer p q r = record {
   written = answer ++ 10 ∷ [];
   follows = FollowsTo-one old new line answer p;
-  used = q;
+  commits = q;
   sink = r;
 }
 

@@ -1,9 +1,9 @@
 -- Pieces that are read one after another.
-use Rattle.std.proofs.Common.{◌≡◌, ℕ, ◌+◌, ◌*◌, ◌<◌, ◌≤◌, List, [], ◌++◌, length, take, drop, Option, sym, ap, ◌∙◌, subst, append_assoc, length-append, arith}
+use Rattle.std.proofs.Common.{◌≡◌, ℕ, ◌+◌, ◌<◌, ◌≤◌, List, [], ◌++◌, length, take, drop, Option, sym, ap, ◌∙◌, subst, append_assoc, length-append, arith}
 use Rattle.std.proofs.Math.Seq.{take-append-add}
 use Rattle.std.proofs.lemmas.List.{length-take, take-take, take-append-drop}
 use Rattle.lx_io.specs.Devices.{Consumes, HasRisen, IsCounted}
-use Rattle.lx_editor.specs.Editor.{Editor, used}
+use Rattle.lx_editor.specs.Editor.{Editor}
 use Rattle.lx_cli.specs.declared.session.Unanswered.{Unanswered}
 use Rattle.lx_cli.specs.declared.session.Unanswered.TheVariants as unanswered
 use Rattle.lx_cli.specs.declared.reading.Stop.{Stop}
@@ -97,12 +97,12 @@ Stops-behind TooLong a b c all left xs ys e p q = record {
 }
 
 -- the numbers that the editor has given out, and those that the bytes still may want
-pub used-behind : (a b : Moment) (all left : ℕ) (xs : List ℕ) → length xs + left ≡ all → GoesOn all xs a b
-    → used b.session.editor + 5 * (length b.session.pending.items + left)
-    ≤ used a.session.editor + 5 * (length a.session.pending.items + all)
-used-behind a b all left xs e p =
+pub commits-behind : (a b : Moment) (all left : ℕ) (xs : List ℕ) → length xs + left ≡ all → GoesOn all xs a b
+    → b.session.editor.commits + length b.session.pending.items + left
+    ≤ a.session.editor.commits + length a.session.pending.items + all
+commits-behind a b all left xs e p =
     let waits = a.session.pending.items in
-    omega (arith, length-ended-le (waits ++ xs), length-append waits xs, ap length p.taken.waiting, p.taken.answered.used)
+    omega (arith, length-ended-le (waits ++ xs), length-append waits xs, ap length p.taken.waiting, p.taken.answered.commits)
 
 pub IsUnended-behind : (a b : Moment) (all : ℕ) (xs : List ℕ) → GoesOn all xs a b → IsUnended b.session.pending.items
 IsUnended-behind a b all xs p =

@@ -1,7 +1,7 @@
 -- Whole runs.
 use Rattle.std.proofs.Common.{◌≡◌, ◌≢◌, ℕ, ◌+◌, ◌<◌, ◌≤◌, inl, inr, List, [], ◌++◌, length, take, sym, ap, ◌∙◌, refl, subst, length-append, arith}
 use Rattle.lx_io.specs.Devices.{Consumes, HasRisen, IsCounted, last_count}
-use Rattle.lx_editor.specs.Editor.{Editor, new_editor, used}
+use Rattle.lx_editor.specs.Editor.{Editor, new_editor}
 use Rattle.lx_cli.specs.declared.session.Session.{Session}
 use Rattle.lx_cli.specs.declared.session.Unanswered.{Unanswered}
 use Rattle.lx_cli.specs.declared.session.Unanswered.TheVariants as unanswered
@@ -218,10 +218,10 @@ pub IsUnended-new : (session : Session) → IsNew session → IsUnended session.
 IsUnended-new session new = subst IsUnended (sym new.pending) IsUnended-none
 
 -- the editor has numbers for a last line
-pub used-end : (a b : Moment) (read : List ℕ) → IsNew a.session → IsEnd input_limit read a b → used b.session.editor < 4294967290
-used-end a b read new p =
+pub commits-end : (a b : Moment) (read : List ℕ) → IsNew a.session → IsEnd input_limit read a b → b.session.editor.commits < 4294967295
+commits-end a b read new p =
     let waits = a.session.pending.items in
-    omega (arith, length-ended-le (waits ++ read), length-append waits read, ap length new.pending, ap used new.editor, p.taken.answered.used, p.within)
+    omega (arith, length-ended-le (waits ++ read), length-append waits read, ap length new.pending, ap (λ (e : Editor). e.commits) new.editor, p.taken.answered.commits, p.within)
 
 pub HasRun-done : (a b : Moment) (end : Editor) (t : SinkSeen) → IsNew a.session → HasStopped stop.End input_limit a b
     → AreAnswered (last_line b.session.pending.items) b.session.editor end b.sink t

@@ -1,8 +1,8 @@
 -- What the parts of a run do.
-use Rattle.std.specs.Prelude.{◌≡◌, ℕ, ◌+◌, ◌*◌, ◌<◌, ◌≤◌, ◌==◌, if◌then◌else◌, List, [], ◌∷◌, ◌++◌, length, take, Result, Ok, Err}
+use Rattle.std.specs.Prelude.{◌≡◌, ℕ, ◌+◌, ◌<◌, ◌≤◌, ◌==◌, if◌then◌else◌, List, [], ◌∷◌, ◌++◌, length, take, Result, Ok, Err}
 use Rattle.lx_io.specs.Devices.{Consumes, Appends, IsAtEnd, HasRisen, IsCounted}
 use Rattle.lx_io.specs.declared.fault.Failed.{Failed}
-use Rattle.lx_editor.specs.Editor.{Editor, new_editor, used}
+use Rattle.lx_editor.specs.Editor.{Editor, new_editor}
 use Rattle.lx_editor.specs.Follows.{FollowsTo}
 use Rattle.lx_cli.specs.declared.session.Session.{Session}
 use Rattle.lx_cli.specs.declared.session.Unanswered.{Unanswered}
@@ -42,7 +42,7 @@ PieceEnds (Err failed) piece old new = IsPieceCutOff piece old new
 pub record AreAnswered (lines : List (List ℕ)) (old new : Editor) (sink_old sink_new : SinkSeen) : Type 0 where
   pub written : List ℕ
   pub follows : FollowsTo old lines written new
-  pub used : used new ≤ used old + 5 * length lines
+  pub commits : new.commits ≤ old.commits + length lines
   pub sink : AreWritten written sink_old sink_new
 
 -- A front of the replies is written, and then a write failed.

@@ -62,7 +62,13 @@ fn answers_lines(rt: HostRuntime) -> Result<(), Fail> {
     answers(&rt, alloc, TWICE, TWICE_REPLY)?;
     answers(&rt, alloc, "", "")?;
     answers(&rt, alloc, "\n", BAD_LINE_REPLY)?;
-    answers(&rt, alloc, "{\"update\":[]}\n", BAD_COMMAND_REPLY)?;
+    answers(&rt, alloc, "{\"update\":[]}\n", "{\"idle\":true}\n")?;
+    answers(
+        &rt,
+        alloc,
+        "{\"update\":[{\"append\":\"a\"},{\"new\":\"paragraph\"}]}\n",
+        BAD_COMMAND_REPLY,
+    )?;
     // The last line needs no end, and white space of JSON may stand before one.
     answers(&rt, alloc, "{\"update\":[{\"append\":\"Hi\"}]}", HI_REPLY)?;
     answers(
@@ -70,6 +76,59 @@ fn answers_lines(rt: HostRuntime) -> Result<(), Fail> {
         alloc,
         "{\"update\":[{\"append\":\"Hi\"}]}\r\n",
         HI_REPLY,
+    )
+}
+
+/// Lines, and the replies to them.
+const SCRIPTS: &[(&str, &str)] = &[
+    (
+        "{\"update\":[{\"append\":\"a\"},{\"append\":\"b\"}]}\n",
+        "{\"commit\":1,\"ops\":[[\"create\",1,1,\"p\",{},null,false],[\"create\",2,2,\"span\",{\"data-lexical-text\":\"true\"},\"a\",false],[\"place\",1,2,null],[\"place\",0,1,null],[\"create\",3,3,\"p\",{},null,false],[\"create\",4,4,\"span\",{\"data-lexical-text\":\"true\"},\"b\",false],[\"place\",3,4,null],[\"place\",0,3,null]]}\n",
+    ),
+    (
+        "{\"update\":[{\"select\":null}]}\n{\"show\":\"view\"}\n{\"show\":\"selection\"}\n",
+        "{\"idle\":true}\n{\"view\":\"<div></div>\"}\n{\"selection\":null}\n",
+    ),
+    // A select commits without operations, and selecting the same again does nothing.
+    (
+        "{\"update\":[{\"append\":\"Hi\"}]}\n{\"update\":[{\"select\":{\"anchor\":[2,1,\"text\"],\"focus\":[2,1,\"text\"]}}]}\n{\"show\":\"selection\"}\n{\"show\":\"view\"}\n{\"update\":[{\"select\":{\"anchor\":[2,1,\"text\"],\"focus\":[2,1,\"text\"]}}]}\n",
+        "{\"commit\":1,\"ops\":[[\"create\",1,1,\"p\",{},null,false],[\"create\",2,2,\"span\",{\"data-lexical-text\":\"true\"},\"Hi\",false],[\"place\",1,2,null],[\"place\",0,1,null]]}\n{\"commit\":2,\"ops\":[]}\n{\"selection\":{\"anchor\":[2,1,\"text\"],\"focus\":[2,1,\"text\"],\"format\":0,\"kind\":\"range\"}}\n{\"view\":\"<div><p><span data-lexical-text=\\\"true\\\">Hi</span></p></div>\"}\n{\"idle\":true}\n",
+    ),
+    // Steps that are refused tell which, and leave the steps before them undone.
+    (
+        "{\"update\":[{\"append\":\"a\"},{\"select\":{\"anchor\":[9,0,\"text\"],\"focus\":[9,0,\"text\"]}}]}\n{\"show\":\"view\"}\n",
+        "{\"refused\":{\"cause\":\"UnknownNode\",\"code\":3,\"detail\":9,\"step\":1}}\n{\"view\":\"<div></div>\"}\n",
+    ),
+];
+
+#[test]
+fn answers_scripts(rt: HostRuntime) -> Result<(), Fail> {
+    for (lines, replies) in SCRIPTS {
+        answers(&rt, rt.alloc(), lines, replies)?;
+    }
+    Ok(())
+}
+
+/// A line with so many appends of a letter.
+fn appends(alloc: Global, count: u32) -> Result<String, NoMemory> {
+    let mut line = String::from_str(alloc, "{\"update\":[{\"append\":\"x\"}")?;
+    for _ in 1..count {
+        line.push_str(",{\"append\":\"x\"}")?;
+    }
+    line.push_str("]}\n")?;
+    Ok(line)
+}
+
+#[test]
+fn refuses_too_many_steps(rt: HostRuntime) -> Result<(), Fail> {
+    let alloc = rt.alloc();
+    // Each append of a letter takes five counts of 100,000.
+    let line = appends(alloc, 20_001)?;
+    answers(
+        &rt,
+        alloc,
+        &line,
+        "{\"refused\":{\"cause\":\"StepLimit\",\"code\":9,\"detail\":100001,\"step\":20000}}\n",
     )
 }
 

@@ -1,6 +1,6 @@
 -- What the operations for a new last paragraph make of a host tree.
 use Rattle.std.proofs.Common.{◌≡◌, ◌≢◌, ◌∙◌, ◌+◌, ◌<◌, ℕ, Bool, true, false, eqb, ltb, List, [], ◌∷◌, Option, None, Some, refl, sym, ap, subst, arith, ne_eqb, eq-eqb, codes}
-use Rattle.lx_node.specs.Trees.{Trees, nil, tree, joined}
+use Rattle.lx_node.specs.Trees.{Trees, nil, joined}
 use Rattle.lx_host.specs.declared.tag.Tag.{Tag}
 use Rattle.lx_host.specs.declared.tag.Tag.TheVariants.{P, Inline}
 use Rattle.lx_host.specs.declared.tag.Inner.TheVariants.{Span}
@@ -9,12 +9,8 @@ use Rattle.lx_host.specs.declared.tag.Name.TheVariants.{DataLexicalText}
 use Rattle.lx_host.specs.declared.op.Op.{Op}
 use Rattle.lx_host.specs.declared.op.Op.TheVariants.{Create, Place}
 use Rattle.lx_host.specs.Hosts.{Face, Host, HostTree, count, has, without, alone, put_below, fits, effect, Leads, FitInTurn}
-use Rattle.lx_editor.specs.Operations.{operations_for}
+use Rattle.lx_editor.specs.Operations.{operations_for, keys_of, host_over, paragraph_face, text_face, hosts_for}
 use Rattle.lx_host.proofs.Laws.{joined-nil, count-joined, without-joined, alone-joined, put_below-joined, without-absent, alone-absent, put_below-absent}
-
--- a host with others below it
-abbrev pub host_over : ℕ → Face → Trees Host → Trees Host
-host_over id face below = tree (record { id = id; face = face }) below nil
 
 abbrev pub host_tree : Trees Host → ℕ → HostTree
 host_tree hosts next = record { hosts = hosts; next = next }
@@ -83,22 +79,6 @@ chain_leads x (then {ops = ops} f e rest) leads = chain_leads x rest (subst (λ 
 
 -- ---- a new last paragraph
 
-abbrev pub paragraph_face : ℕ → Bool → Face
-paragraph_face key ending = record { key = key; tag = P; attrs = []; text = None; ending = ending }
-
-abbrev pub text_face : ℕ → List ℕ → Face
-text_face key text = record { key = key; tag = Inline None Span; attrs = (DataLexicalText, codes "true") ∷ []; text = Some text; ending = false }
-
--- the hosts that show it
-abbrev pub hosts_for : ℕ → ℕ → List ℕ → Trees Host
-hosts_for id key [] = host_over id (paragraph_face key true) nil
-hosts_for id key (c ∷ text) =
-    host_over id (paragraph_face key false) (host_over (id + 1) (text_face (key + 1) (c ∷ text)) nil)
-
-abbrev pub ids_for : List ℕ → ℕ
-ids_for [] = 1
-ids_for (c ∷ text) = 2
-
 -- there is a root, and the next ids are free
 pub record IsReady (hosts : Trees Host) (next : ℕ) : Type 0 where
   pub free : (id : ℕ) → next < id + 1 → count id hosts ≡ 0
@@ -158,6 +138,6 @@ paragraph_with_text key next c text hosts ready =
     (effect_place 0 next (next + 2) face text_host hosts free)
     ended)))
 
-pub paragraph_placed : (key next : ℕ) (text : List ℕ) (hosts : Trees Host) → IsReady hosts next → Chain (host_tree hosts next) (operations_for next key text) (host_tree (put_below 0 None (hosts_for next key text) hosts) (next + ids_for text))
+pub paragraph_placed : (key next : ℕ) (text : List ℕ) (hosts : Trees Host) → IsReady hosts next → Chain (host_tree hosts next) (operations_for next key text) (host_tree (put_below 0 None (hosts_for next key text) hosts) (next + keys_of text))
 paragraph_placed key next [] hosts ready = paragraph_alone key next hosts ready
 paragraph_placed key next (c ∷ text) hosts ready = paragraph_with_text key next c text hosts ready

@@ -9,10 +9,11 @@ use Rattle.lx_forest.specs.Forest.{Forest}
 use Rattle.lx_forest.specs.Lookups as forest
 use Rattle.lx_plain.specs.Render.{render, face_of}
 use Rattle.lx_plain.specs.Allowed.{Shows, places_of, IsKept, kept_root, kept_below, hosts_of}
-use Rattle.lx_editor.specs.Appended.{paragraph, keys_of}
+use Rattle.lx_editor.specs.Operations.{hosts_for, keys_of, with_shown, all_shown, next_behind}
 use Rattle.lx_editor.specs.Standing.{IsOneTree}
-use Rattle.lx_editor.proofs.Grown.{grown, root_of}
-use Rattle.lx_editor.proofs.Placed.{hosts_for, ids_for, IsReady}
+use Rattle.lx_editor.proofs.Grown.{paragraph, grown, root_of}
+use Rattle.lx_editor.proofs.Placed.{IsReady}
+use Rattle.lx_editor.proofs.Ran.{below_with}
 
 -- ---- lists of trees
 
@@ -119,21 +120,31 @@ pub keys_of-le : (text : List ℕ) → (0 < keys_of text) × (keys_of text < 3)
 keys_of-le [] = (omega arith, omega arith)
 keys_of-le (c ∷ text) = (omega arith, omega arith)
 
-pub ids_for-le : (text : List ℕ) → ids_for text < 3
-ids_for-le [] = omega arith
-ids_for-le (c ∷ text) = omega arith
+-- ---- all of the texts
 
--- ---- the whole of it
+-- the host tree shows the root's tree with these children of the root, and the hosts of keys below one are where they were
+pub record IsView (fields : Fields) (below : Forest) (least : ℕ) (before after : HostTree) : Type 0 where
+  pub shows : Shows after (grown fields below nil)
+  pub one_tree : IsOneTree after.hosts
+  pub same : (k : ℕ) → k < least → hosts_of k after.hosts ≡ hosts_of k before.hosts
 
-pub allowed : (id key : ℕ) (text : List ℕ) (fields : Fields) (below : Forest) (before after : HostTree) → 0 < key → ((q : ℕ) → key ≤ q → forest.has q (grown fields below nil) ≡ false) → IsOneTree before.hosts
-    → Shows before (grown fields below nil) → after.hosts ≡ put_below 0 None (hosts_for id key text) before.hosts
-    → Shows after (grown fields (joined below (paragraph key text)) nil)
-    × ((k : ℕ) → IsKept (grown fields below nil) (grown fields (joined below (paragraph key text)) nil) k → hosts_of k after.hosts ≡ hosts_of k before.hosts)
-    × IsOneTree after.hosts
-allowed id key text fields below before after first free one shown is = (
-  ap shape_of is ∙ shows_appended id key text before.hosts fields below one shown,
-  λ k kept. ap (hosts_of k) is
-      ∙ hosts_of-put_below k (hosts_for id key text) before.hosts one
-      (hosts_of-hosts_for id key k text (kept_below_next key k (grown fields below nil) _ first free kept)),
-  subst IsOneTree (sym is) (one_tree_still (hosts_for id key text) before.hosts one),
-)
+-- one more text
+view_with : (fields : Fields) (below : Forest) (least : ℕ) (before after : HostTree) (text : List ℕ) → least ≤ after.next → IsView fields below least before after
+    → IsView fields (joined below (paragraph after.next text)) least before (with_shown text after)
+view_with fields below least before after text within v = record {
+  shows = shows_appended after.next after.next text after.hosts fields below v.one_tree v.shows;
+  one_tree = one_tree_still (hosts_for after.next after.next text) after.hosts v.one_tree;
+  same = λ k h. hosts_of-put_below k (hosts_for after.next after.next text) after.hosts v.one_tree (hosts_of-hosts_for after.next after.next k text (omega (arith, h, within)))
+      ∙ v.same k h;
+}
+
+pub view_with_all : (texts : List (List ℕ)) (fields : Fields) (below : Forest) (least : ℕ) (before after : HostTree) → least ≤ after.next → IsView fields below least before after
+    → IsView fields (below_with below after.next texts) least before (all_shown texts after)
+view_with_all [] fields below least before after within v = v
+view_with_all (text ∷ texts) fields below least before after within v =
+    view_with_all texts fields (joined below (paragraph after.next text)) least before (with_shown text after) (omega (arith, within))
+    (view_with fields below least before after text within v)
+
+pub next_shown : (texts : List (List ℕ)) (v : HostTree) → (all_shown texts v).next ≡ next_behind v.next texts
+next_shown [] v = refl
+next_shown (text ∷ texts) v = next_shown texts (with_shown text v)

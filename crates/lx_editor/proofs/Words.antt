@@ -7,6 +7,18 @@ pub chars-true : chars (codes "true") ≡ codes "true"
 unfolding chars
 chars-true = refl
 
+pub chars-anchor : chars (codes "@anchor") ≡ codes "@anchor"
+unfolding chars
+chars-anchor = refl
+
+pub chars-focus : chars (codes "@focus") ≡ codes "@focus"
+unfolding chars
+chars-focus = refl
+
+pub chars-block : chars (codes "@block") ≡ codes "@block"
+unfolding chars
+chars-block = refl
+
 pub chars-empty : chars (codes "") ≡ []
 unfolding chars
 chars-empty = refl

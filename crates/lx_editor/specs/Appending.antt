@@ -6,7 +6,7 @@ use Rattle.lx_forest.specs.Forest.{plain_element, plain_text}
 use Rattle.lx_forest.specs.Lookups.{size_of}
 use Rattle.lx_draft.specs.Working.{Working}
 use Rattle.lx_draft.specs.Faults.{after}
-use Rattle.lx_draft.specs.Steps.{count_step, new_step, put_step}
+use Rattle.lx_draft.specs.Steps.{new_step, put_step}
 
 -- a new text in a node without children
 abbrev pub text_step : ℕ → List ℕ → Working → Result Working Cause
@@ -17,9 +17,8 @@ abbrev pub filled : ℕ → List ℕ → Working → Result Working Cause
 filled parent [] w = Ok w
 filled parent (c ∷ text) w = text_step parent (c ∷ text) w
 
--- a count, a new paragraph, the text in it, and the paragraph at the root's end
-unfoldable pub append_step : List ℕ → Working → Result Working Cause
-append_step text w =
-    after (count_step w) (λ counted.
-    after (new_step Paragraph plain_element counted) (λ made.
-    after (filled counted.next_key text made) (λ full. put_step counted.next_key 0 (size_of full.forest 0) full)))
+-- a new paragraph, the text in it, and the paragraph at the root's end
+unfoldable pub appended : List ℕ → Working → Result Working Cause
+appended text w =
+    after (new_step Paragraph plain_element w) (λ made.
+    after (filled w.next_key text made) (λ full. put_step w.next_key 0 (size_of full.forest 0) full))

@@ -1,5 +1,5 @@
 -- What an editor is.
-use Rattle.std.specs.Prelude.{ℕ, ◌+◌}
+use Rattle.std.specs.Prelude.{ℕ}
 use Rattle.lx_host.specs.Hosts.{HostTree, new_tree}
 use Rattle.lx_select.specs.declared.selection.Selection.{Selection}
 use Rattle.lx_select.specs.declared.selection.Selection.TheVariants.{Nothing}
@@ -16,7 +16,3 @@ pub record Editor : Type 0 where
 
 abbrev pub new_editor : Editor
 new_editor = record { tree = root_alone; selection = Nothing; next_key = 1; commits = 0; view = new_tree }
-
--- how many numbers the editor has given out: commit numbers, keys and ids
-abbrev pub used : Editor → ℕ
-used editor = editor.commits + editor.next_key + editor.view.next

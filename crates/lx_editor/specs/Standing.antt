@@ -2,8 +2,6 @@
 use Rattle.std.specs.Prelude.{◌≡◌, ℕ, false}
 use Rattle.lx_node.specs.Trees.{Trees, nil, tree}
 use Rattle.lx_host.specs.Hosts.{Host, HostTree}
-use Rattle.lx_select.specs.declared.selection.Selection.{Selection}
-use Rattle.lx_select.specs.declared.selection.Selection.TheVariants.{Nothing}
 use Rattle.lx_forest.specs.Forest.{Forest}
 use Rattle.lx_forest.specs.Lookups.{IsForest}
 use Rattle.lx_plain.specs.Allowed.{Shows}
@@ -30,16 +28,16 @@ abbrev pub IsOneTree : Trees Host → Type 0
 IsOneTree nil = ⊥
 IsOneTree (tree host below rest) = (host.id ≡ 0) × (rest ≡ nil)
 
--- The tree is one from which an update may start, with no detached one beside it, nothing is selected, no host is unplaced,
--- and the view shows the tree.
-pub record AreSound (f : Forest) (selection : Selection) (next_key : ℕ) (view : HostTree) : Type 0 where
+-- The tree is one from which an update may start, with no detached one beside it, no host is unplaced, the view shows the
+-- tree, and the next id is the next key: each new node is shown by one new host.
+pub record AreSound (f : Forest) (next_key : ℕ) (view : HostTree) : Type 0 where
   pub in_order : IsForest f
   pub alone : IsOne f
   pub start : MayStart f next_key
-  pub nothing : selection ≡ Nothing
   pub one_tree : IsOneTree view.hosts
   pub shown : Shows view f
+  pub next : view.next ≡ next_key
 
 -- so they are, unless the editor met want of memory
 abbrev pub IsValid : Inside → Type 0
-IsValid a = a.failed ≡ false → AreSound a.state.links a.state.selection a.next_key a.view
+IsValid a = a.failed ≡ false → AreSound a.state.links a.next_key a.view

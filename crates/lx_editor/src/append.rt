@@ -1,7 +1,7 @@
 ghost use Rattle.std.specs.Prelude.{◌≡◌, Ok, chars, IfOk, OnOk, IfErr};
 ghost use Rattle.lx_forest.specs.Forest as forest;
 ghost use Rattle.lx_draft.specs.Faults.{Tells};
-ghost use Rattle.lx_editor.specs.Appending.{append_step, text_step};
+ghost use Rattle.lx_editor.specs.Appending.{appended, filled, text_step};
 
 use lx_draft::Draft;
 use lx_node::{
@@ -10,23 +10,28 @@ use lx_node::{
 };
 use std::alloc::Global;
 
-/// The step that appends a text to a draft: a new paragraph at the root's end, with a new text in it unless
-/// the text is empty.
-#[tactic(auto, unfolding(crate::specs::Appending::append_step))]
+/// A new paragraph at the root's end, with a new text in it unless the text is empty.
+#[tactic(auto, unfolding(crate::specs::Appending::appended))]
 pub(crate) fn append_paragraph(alloc: Global, draft: &mut Draft, text: &str) -> Result<(), Fault>
-    ensures ok { OnOk result (append_step (chars text.now) draft.old ≡ Ok draft.new) }
-    ensures err { IfErr result (λ e. Tells e (append_step (chars text.now) draft.old)) }
+    ensures ok { OnOk result (appended (chars text.now) draft.old ≡ Ok draft.new) }
+    ensures err { IfErr result (λ e. Tells e (appended (chars text.now) draft.old)) }
 {
-    match draft.count() {
-        Ok(()) => {}
-        Err(cause) => return Err(Fault::Cause(cause)),
-    }
     let paragraph = draft.new_node(Kind::Paragraph, element_fields(alloc)?)?;
-    if !text.is_empty() {
-        append_text(alloc, draft, paragraph, text)?;
-    }
+    fill(alloc, draft, paragraph, text)?;
     let index = draft.links().size(Key::root());
     draft.put(paragraph, Key::root(), index)
+}
+
+/// A new text in a node without children, unless it is empty.
+fn fill(alloc: Global, draft: &mut Draft, parent: Key, text: &str) -> Result<(), Fault>
+    ensures ok { OnOk result (filled parent (chars text.now) draft.old ≡ Ok draft.new) }
+    ensures err { IfErr result (λ e. Tells e (filled parent (chars text.now) draft.old)) }
+{
+    if text.is_empty() {
+        Ok(())
+    } else {
+        append_text(alloc, draft, parent, text)
+    }
 }
 
 /// A new text in a node without children.

@@ -1,9 +1,11 @@
-use crate::append::append_paragraph;
-use crate::operations::operations;
+use crate::leaving::{Refusal, leave};
 use crate::outcome::Outcome;
-use lx_draft::{Draft, Frozen, State};
+use crate::showing::show_texts;
+use lx_draft::{Frozen, State};
 use lx_host::HostTree;
-use lx_node::{Fault, Key, NoMemory, Txt};
+use lx_node::NoMemory;
+use lx_script::{Reply, write_reply};
+use lx_step::{Shown, Step};
 use std::alloc::Global;
 use std::marker::Model;
 
@@ -36,12 +38,12 @@ impl Model for Editor {
 }
 
 impl Editor {
-    ghost use Rattle.std.specs.Prelude.{◌≡◌, ◌+◌, ◌<◌, ◌≤◌, None, IfOk, OnOk, chars};
-    ghost use Rattle.lx_editor.specs.Editor.{new_editor, used};
-    ghost use Rattle.lx_editor.specs.Appended.{IsAppended, tree_after, key_after, append_refusal};
-    ghost use Rattle.lx_editor.specs.Standing.{AreSound};
+    ghost use Rattle.std.specs.Prelude.{◌≡◌, ◌+◌, ◌<◌, ◌≤◌, All, IfOk, OnOk};
+    ghost use Rattle.lx_step.specs.Sound.{IsSound};
     ghost use Rattle.lx_draft.specs.Working.{MayStart};
-    ghost use Rattle.lx_forest.specs.Lookups.{IsForest};
+    ghost use Rattle.lx_editor.specs.Editor.{new_editor};
+    ghost use Rattle.lx_editor.specs.Standing.{AreSound};
+    ghost use Rattle.lx_editor.specs.Updated.{IsUpdated, AreLeft, IsNothingNew, begun};
 
     /// A new editor: the root alone, nothing selected, no commit, and a view that shows it.
     pub fn new(alloc: Global) -> Result<Editor, NoMemory>
@@ -56,62 +58,89 @@ impl Editor {
         })
     }
 
-    /// Commits a text as a new last paragraph of the root. An empty text makes the paragraph alone. It is
-    /// refused, and changes nothing, where the text has more than 16,777,216 scalar values, and where the new
-    /// state is beyond a limit: 16,384 nodes, 1,048,576 scalar values in all strings, or the next key
-    /// 1,048,576. After want of memory the editor is only fit to be dropped.
-    pub fn append(&mut self, alloc: Global, text: &str) -> Result<Outcome, NoMemory>
-        requires { used self.old < 4294967290 }
-        ensures appended { IfOk result (λ outcome. IsAppended self.old (chars text.now) outcome self.new) }
-        ensures used { OnOk result (used self.new ≤ used self.old + 5) }
+    /// Runs steps one after another, and commits what they leave. Appends and selects are run, other than
+    /// selects of cells; all others are refused as `BadCommand`. A refused update changes nothing: its outcome
+    /// tells the step that was refused, or none where what all of them left is beyond a limit or has lost its
+    /// selection. Steps that mark nothing and leave the selection equal commit nothing. After want of memory
+    /// the editor is only fit to be dropped.
+    pub fn update(&mut self, alloc: Global, steps: &[Step]) -> Result<Outcome, NoMemory>
+        requires sound { All IsSound steps.now }
+        requires room { self.old.commits < 4294967295 }
+        ensures updated { IfOk result (λ outcome. IsUpdated self.old steps.now outcome self.new) }
+        ensures commits { OnOk result (self.new.commits ≤ self.old.commits + 1) }
     {
         if self.failed {
             return Err(NoMemory);
         }
-        let mut draft = Draft::start(alloc, &self.state, self.next_key)?;
-        match append_paragraph(alloc, &mut draft, text) {
-            Ok(()) => {}
-            Err(Fault::Cause(cause)) => {
-                return Ok(Outcome::Refused {
-                    cause,
-                    step: Some(0),
-                });
-            }
-            Err(Fault::Memory) => return Err(NoMemory),
-        }
-        match draft.freeze() {
-            Ok(frozen) => self.commit(alloc, frozen, text),
-            Err(Fault::Cause(cause)) => Ok(Outcome::Refused { cause, step: None }),
-            Err(Fault::Memory) => Err(NoMemory),
+        match leave(alloc, &self.state, self.next_key, steps) {
+            Ok(frozen) => self.take(alloc, frozen, steps),
+            Err(Refusal::Cause { cause, step }) => Ok(Outcome::Refused { cause, step }),
+            Err(Refusal::Memory) => Err(NoMemory),
         }
     }
 
-    /// Commits what the draft left that appended the text.
-    fn commit(&mut self, alloc: Global, frozen: Frozen, text: &str) -> Result<Outcome, NoMemory>
-        requires sound { AreSound self.old.tree self.old.selection self.old.next_key self.old.view }
-        requires room { used self.old < 4294967290 }
-        requires allowed { append_refusal self.old (chars text.now) ≡ None }
-        requires tree { frozen.state.links ≡ tree_after self.old (chars text.now) }
-        requires selection { frozen.state.selection ≡ self.old.selection }
-        requires key { frozen.next_key ≡ key_after self.old (chars text.now) }
-        requires order { IsForest frozen.state.links }
+    /// Commits what the steps left, unless it is nothing new.
+    fn take(&mut self, alloc: Global, frozen: Frozen, steps: &[Step]) -> Result<Outcome, NoMemory>
+        requires valid { AreSound self.old.tree self.old.next_key self.old.view }
+        requires room { self.old.commits < 4294967295 }
+        requires left { AreLeft steps.now (begun self.old) frozen.state.links frozen.state.selection frozen.marks frozen.next_key }
         requires start { MayStart frozen.state.links frozen.next_key }
-        ensures appended { IfOk result (λ outcome. IsAppended self.old (chars text.now) outcome self.new) }
-        ensures used { OnOk result (used self.new ≤ used self.old + 5) }
+        ensures updated { IfOk result (λ outcome. IsUpdated self.old steps.now outcome self.new) }
+        ensures commits { OnOk result (self.new.commits ≤ self.old.commits + 1) }
     {
-        let text = Txt::new(alloc, text)?;
-        let key = Key(self.next_key);
-        let ops = operations(alloc, self.view.next_id(), key, &text)?;
-        let told = ops.copy(alloc)?;
+        if frozen.marks.is_empty() && frozen.state.selection.is_equal(&self.state.selection) {
+            return Ok(Outcome::Idle);
+        }
+        self.commit(alloc, frozen, steps)
+    }
+
+    /// Commits what the steps left.
+    fn commit(&mut self, alloc: Global, frozen: Frozen, steps: &[Step]) -> Result<Outcome, NoMemory>
+        requires valid { AreSound self.old.tree self.old.next_key self.old.view }
+        requires room { self.old.commits < 4294967295 }
+        requires left { AreLeft steps.now (begun self.old) frozen.state.links frozen.state.selection frozen.marks frozen.next_key }
+        requires start { MayStart frozen.state.links frozen.next_key }
+        requires changed { IsNothingNew self.old frozen.state.selection frozen.marks → ⊥ }
+        ensures updated { IfOk result (λ outcome. IsUpdated self.old steps.now outcome self.new) }
+        ensures commits { OnOk result (self.new.commits ≤ self.old.commits + 1) }
+    {
         self.failed = true;
-        self.view.apply(ops.into_vec())?;
+        let ops = show_texts(alloc, &mut self.view, steps)?;
         self.state = frozen.state;
         self.next_key = frozen.next_key;
         self.failed = false;
         self.commits += 1;
         Ok(Outcome::Committed {
             number: self.commits,
-            ops: told,
+            ops,
         })
+    }
+
+    ghost use Rattle.lx_step.specs.declared.line.Shown.TheVariants as shown;
+    ghost use Rattle.lx_script.specs.Replies.{reply_text};
+    ghost use Rattle.lx_editor.specs.Follows.{shown_of};
+
+    /// Shows what is committed, as the bytes of a reply: the HTML of the view, or the selection.
+    pub fn show(&self, alloc: Global, shown: Shown) -> Result<Vec<u8>, NoMemory>
+        ensures { IfOk result (λ reply. reply.items ≡ reply_text (shown_of shown self.now)) }
+    {
+        match shown {
+            Shown::View => self.show_view(alloc),
+            Shown::Selection => {
+                let selection = self.state.selection.copy(alloc)?;
+                write_reply(alloc, &Reply::Selection(selection))
+            }
+        }
+    }
+
+    /// Shows the view.
+    fn show_view(&self, alloc: Global) -> Result<Vec<u8>, NoMemory>
+        ensures { IfOk result (λ reply. reply.items ≡ reply_text (shown_of shown.View self.now)) }
+    {
+        if self.failed {
+            return Err(NoMemory);
+        }
+        let html = self.view.print_html()?;
+        write_reply(alloc, &Reply::View(html))
     }
 }

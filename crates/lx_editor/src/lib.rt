@@ -3,12 +3,27 @@
 
 mod answer;
 mod append;
+mod choosing;
 mod editor;
+mod leaving;
+mod line;
+mod moving;
+mod names;
 mod operations;
 mod outcome;
+mod patching;
+mod resolving;
+mod script;
+#[cfg(test)]
+mod script_tests;
+mod showing;
+mod splitting;
+mod stepping;
 #[cfg(test)]
 mod tests;
 
 pub use answer::answer_line;
 pub use editor::Editor;
+pub use names::Names;
 pub use outcome::Outcome;
+pub use script::run_steps;

@@ -9,4 +9,6 @@ pub enum Outcome {
     /// It was refused for a cause and changed nothing. The step, from 0, is the one that was refused, where
     /// it was one.
     Refused { cause: Cause, step: Option<u32> },
+    /// It asked for nothing that isn't so already.
+    Idle,
 }

@@ -1,29 +1,34 @@
--- From what a value tells of itself to what the grammar of lines asks of it.
-use Rattle.std.proofs.Common.{◌≡◌, refl, ℕ, List, length, Some, None, Result, Ok, Err, IsUtf8}
-use Rattle.std.proofs.lemmas.Bool.{ne_eqb}
+-- From what a value tells of itself to what the grammar asks of it.
+use Rattle.std.proofs.Common.{◌≡◌, refl, ℕ, List, length, Some, None, ◌==◌, Result, Ok, Err, IsUtf8}
 use Rattle.serde_json.proofs.Views.{Entry, items_len-items_view, members_len-members_view}
-use Rattle.serde_json.specs.Data.{Data}
-use Rattle.serde_json.specs.Find.{as_array, as_object, at, get}
+use Rattle.serde_json.specs.Data.{Data, null, boolean, number, string, array, object}
+use Rattle.serde_json.specs.Find.{as_array, as_object}
 use Rattle.serde_json.specs.Read.{read}
 use Rattle.serde_json.specs.View.{items_view, members_view}
 use Rattle.serde_json.specs.declared.value.Value.{Value}
 use Rattle.lx_node.specs.declared.cause.Cause.TheVariants.{BadLine, BadCommand}
 use Rattle.lx_node.specs.declared.cause.Fault.{Fault}
 use Rattle.lx_node.specs.declared.cause.Fault.TheVariants.{Cause as Refused, Memory}
-use Rattle.lx_script.specs.Grammar.{IsJson, Makes, Reads, Tells, line_of, only_item, only_member}
-use Rattle.lx_script.specs.declared.line.Line.{Line}
+use Rattle.lx_step.specs.declared.line.Line.{Line}
+use Rattle.lx_script.specs.Grammar.{IsJson, Makes, Reads, Tells, line_of}
+use Rattle.lx_script.specs.References.{has_three}
+use Rattle.lx_script.specs.Values.{has_only, present}
 
-pub only_member-one : (name : List ℕ) (d : Data) (es : List Entry) → Some (members_view es) ≡ as_object d → length es ≡ 1 → only_member name d ≡ get name d
-only_member-one name d es is one = rw (← is, members_len-members_view es, one) refl
+pub has_only-object : (names : List (List ℕ)) (d : Data) (es : List Entry) → Some (members_view es) ≡ as_object d → has_only names d ≡ (length es == present names d)
+has_only-object names (object ms) es is = let same : members_view es ≡ ms = cc in rw (← same, members_len-members_view es) refl
+has_only-object names null es is = absurd (cc)
+has_only-object names (boolean b) es is = absurd (cc)
+has_only-object names (number n) es is = absurd (cc)
+has_only-object names (string s) es is = absurd (cc)
+has_only-object names (array ds) es is = absurd (cc)
 
-pub only_member-other : (name : List ℕ) (d : Data) (es : List Entry) → Some (members_view es) ≡ as_object d → (length es ≡ 1 → ⊥) → only_member name d ≡ None
-only_member-other name d es is other = rw (← is, members_len-members_view es, ne_eqb (length es) 1 other) refl
-
-pub only_item-one : (d : Data) (vs : List Value) → Some (items_view vs) ≡ as_array d → length vs ≡ 1 → only_item d ≡ at 0 d
-only_item-one d vs is one = rw (← is, items_len-items_view vs, one) refl
-
-pub only_item-other : (d : Data) (vs : List Value) → Some (items_view vs) ≡ as_array d → (length vs ≡ 1 → ⊥) → only_item d ≡ None
-only_item-other d vs is other = rw (← is, items_len-items_view vs, ne_eqb (length vs) 1 other) refl
+pub has_three-array : (d : Data) (vs : List Value) → Some (items_view vs) ≡ as_array d → has_three d ≡ (length vs == 3)
+has_three-array (array ds) vs is = let same : items_view vs ≡ ds = cc in rw (← same, items_len-items_view vs) refl
+has_three-array null vs is = absurd (cc)
+has_three-array (boolean b) vs is = absurd (cc)
+has_three-array (number n) vs is = absurd (cc)
+has_three-array (string s) vs is = absurd (cc)
+has_three-array (object ms) vs is = absurd (cc)
 
 -- what is made of the value that the bytes are tells what they ask for
 pub tells_of_json : (bytes : List ℕ) (d : Data) (result : Result Line Fault) → IsJson bytes d → Makes (line_of d) result → Tells bytes result

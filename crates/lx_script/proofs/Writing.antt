@@ -17,9 +17,11 @@ use Rattle.lx_host.specs.Words.{name_word}
 use Rattle.lx_host.specs.declared.op.Op.{Op}
 use Rattle.lx_host.specs.declared.op.Op.TheVariants.{Create, Place}
 use Rattle.lx_host.specs.declared.tag.Name.{Name}
-use Rattle.lx_script.specs.Replies.{attributes_onto, detail_of, lost_data, named_data, natural, op_data, or_null, reply_data, reply_text, text_data}
+use Rattle.lx_select.specs.declared.selection.Selection.{Selection}
+use Rattle.lx_select.specs.declared.selection.Selection.TheVariants as selection
+use Rattle.lx_script.specs.Replies.{selection_data, attributes_onto, detail_of, lost_data, named_data, natural, op_data, or_null, reply_data, reply_text, text_data}
 use Rattle.lx_script.specs.declared.reply.Reply.{Reply}
-use Rattle.lx_script.specs.declared.reply.Reply.TheVariants.{Committed, Refused}
+use Rattle.lx_script.specs.declared.reply.Reply.TheVariants.{Committed, Refused, Idle, View, Selection as Selected}
 
 neither : (a b : Bool) → (a || b) ≡ false → (a ≡ false) × (b ≡ false)
 neither true b is = cc
@@ -69,10 +71,23 @@ has_float-detail_of (UnknownNode named) = has_float-named_data named
 has_float-detail_of (SelectionLost lost) = has_float-lost_data lost
 has_float-detail_of _ = refl
 
+items_have_float-keys : (keys : List ℕ) → items_have_float (items_of (map natural keys)) ≡ false
+items_have_float-keys [] = refl
+items_have_float-keys (key ∷ keys) = items_have_float-keys keys
+
+has_float-selection_data : (shown : Selection) → has_float (selection_data shown) ≡ false
+has_float-selection_data selection.Nothing = refl
+has_float-selection_data (selection.Range anchor focus format) = refl
+has_float-selection_data (selection.Nodes keys) = rw (items_have_float-keys keys) refl
+has_float-selection_data (selection.Cells table anchor focus) = refl
+
 has_float-reply_data : (reply : Reply) → has_float (reply_data reply) ≡ false
 unfolding reply_data
 has_float-reply_data (Committed commit ops) = rw (items_have_float-ops ops) refl
 has_float-reply_data (Refused cause step) = rw (has_float-detail_of cause, has_float-or_null natural (λ _. refl) step) refl
+has_float-reply_data Idle = refl
+has_float-reply_data (View html) = refl
+has_float-reply_data (Selected shown) = rw (has_float-selection_data shown) refl
 
 pub text_of_reply : (reply : Reply) (d : Data) (bytes : List ℕ) → d ≡ reply_data reply → (has_float d ≡ false → bytes ≡ compact_text d) → bytes ≡ reply_text reply
 unfolding reply_text

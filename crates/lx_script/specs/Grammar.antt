@@ -1,35 +1,37 @@
 -- What a line of bytes asks for: the grammar of lines, over the JSON value that the bytes are.
-use Rattle.std.specs.Prelude.{◌≡◌, ◌==◌, ℕ, List, codes, chars, IsUtf8, if◌then◌else◌, Option, None, Some, option_map, option_and_then, Result, Ok, Err}
+use Rattle.std.specs.Prelude.{◌≡◌, ℕ, List, [], ◌∷◌, codes, IsUtf8, if◌then◌else◌, Option, None, Some, option_map, Result, Ok, Err}
+use Rattle.std.specs.Option.{option_or}
 use Rattle.serde_json.specs.Data.{Data}
-use Rattle.serde_json.specs.Events.{items_len, members_len}
-use Rattle.serde_json.specs.Find.{get, at, as_str, as_array, as_object}
 use Rattle.serde_json.specs.Read.{read}
 use Rattle.lx_node.specs.declared.cause.Cause.{Cause}
 use Rattle.lx_node.specs.declared.cause.Cause.TheVariants.{BadLine, BadCommand}
 use Rattle.lx_node.specs.declared.cause.Fault.{Fault}
 use Rattle.lx_node.specs.declared.cause.Fault.TheVariants.{Cause as Refused, Memory}
-use Rattle.lx_script.specs.declared.line.Line.{Line}
-use Rattle.lx_script.specs.declared.line.Line.TheVariants.{Append}
+use Rattle.lx_step.specs.declared.line.Form.{Form}
+use Rattle.lx_step.specs.declared.line.Form.TheVariants.{Update, Show}
+use Rattle.lx_step.specs.declared.line.Line.{Line}
+use Rattle.lx_script.specs.Steps.{step_of}
+use Rattle.lx_script.specs.Values.{named, has_only, required, list_of}
+use Rattle.lx_script.specs.Words.{questions}
 
 -- the bytes are this JSON value: UTF-8 that serde_json reads, which nests at most 127 deep
 abbrev pub IsJson : List ℕ → Data → Type 0
 IsJson bytes d = IsUtf8 bytes × (read bytes ≡ Some d)
 
--- The value of an object's only member, if that has the name. Of values under one name, an object keeps the last.
-abbrev pub only_member : List ℕ → Data → Option Data
-only_member name d = option_and_then (λ members. if members_len members == 1 then get name d else None) (as_object d)
+-- {"update":[STEP..]}
+abbrev pub update_of : Data → Option Form
+update_of d = if has_only (codes "update" ∷ []) d then option_map (λ steps. Update steps) (required (list_of step_of) (codes "update") d) else None
 
--- a list's only item
-abbrev pub only_item : Data → Option Data
-only_item d = option_and_then (λ items. if items_len items == 1 then at 0 d else None) (as_array d)
+-- {"show":"view"} or {"show":"selection"}
+abbrev pub show_of : Data → Option Form
+show_of d = if has_only (codes "show" ∷ []) d then option_map (λ shown. Show shown) (required (named questions) (codes "show") d) else None
 
--- a step: {"append":T}
-abbrev pub step_of : Data → Option Line
-step_of d = option_map (λ text. Append (chars text)) (option_and_then as_str (only_member (codes "append") d))
+abbrev pub line_with : Form → Line
+line_with form = record { form = form }
 
--- a line: {"update":[STEP]}
+-- a line: an update, or a question
 unfoldable pub line_of : Data → Option Line
-line_of d = option_and_then step_of (option_and_then only_item (only_member (codes "update") d))
+line_of d = option_map line_with (option_or (update_of d) (show_of d))
 
 -- Made of a value that asks for this, or for nothing: the line, a refusal as no command, or want of memory.
 abbrev pub Makes : Option Line → Result Line Fault → Type 0

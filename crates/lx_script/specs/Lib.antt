@@ -1,2 +1,9 @@
+pub mod Documents
 pub mod Grammar
+pub mod Members
+pub mod NewNodes
+pub mod References
 pub mod Replies
+pub mod Steps
+pub mod Values
+pub mod Words

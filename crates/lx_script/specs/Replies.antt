@@ -1,5 +1,5 @@
 -- The bytes of a reply: compact JSON, whose members stand in byte order, as serde_json writes a value.
-use Rattle.std.specs.Prelude.{ℕ, List, [], ◌∷◌, codes, map, encode_utf8_all, Option, None, Some}
+use Rattle.std.specs.Prelude.{ℕ, true, List, [], ◌∷◌, codes, map, encode_utf8_all, Option, None, Some}
 use Rattle.serde_json.specs.Data.{Data, null, boolean, number, unsigned, string, array, object, Members, no_members, member, put}
 use Rattle.serde_json.specs.View.{items_of}
 use Rattle.serde_json.specs.Written.{compact_text}
@@ -22,8 +22,10 @@ use Rattle.lx_host.specs.Words.{tag_word, name_word}
 use Rattle.lx_host.specs.declared.tag.Name.{Name}
 use Rattle.lx_host.specs.declared.op.Op.{Op}
 use Rattle.lx_host.specs.declared.op.Op.TheVariants.{Create, Place}
+use Rattle.lx_select.specs.declared.selection.Selection.{Selection}
+use Rattle.lx_select.specs.declared.selection.Selection.TheVariants as selection
 use Rattle.lx_script.specs.declared.reply.Reply.{Reply}
-use Rattle.lx_script.specs.declared.reply.Reply.TheVariants.{Committed, Refused}
+use Rattle.lx_script.specs.declared.reply.Reply.TheVariants.{Committed, Refused, Idle, View, Selection as Selected}
 
 -- ---- parts of replies
 
@@ -130,6 +132,39 @@ detail_of EmptyState = null
 detail_of HistoryInside = null
 detail_of TooManyRules = natural 256
 
+-- ---- selections
+
+-- {"anchor":[key,offset,kind],"focus":[key,offset,kind],"format":F,"kind":"range"}
+abbrev pub range_data : Point → Point → ℕ → Data
+range_data anchor focus format =
+    object
+    (member (codes "anchor") (point_data anchor)
+    (member (codes "focus") (point_data focus)
+    (member (codes "format") (natural format)
+    (member (codes "kind") (string (codes "range")) no_members))))
+
+-- {"keys":[..],"kind":"nodes"}
+abbrev pub nodes_data : List ℕ → Data
+nodes_data keys =
+    object
+    (member (codes "keys") (list_data (map natural keys))
+    (member (codes "kind") (string (codes "nodes")) no_members))
+
+-- {"anchor":KEY,"focus":KEY,"kind":"cells","table":KEY}
+abbrev pub cells_data : ℕ → ℕ → ℕ → Data
+cells_data table anchor focus =
+    object
+    (member (codes "anchor") (natural anchor)
+    (member (codes "focus") (natural focus)
+    (member (codes "kind") (string (codes "cells"))
+    (member (codes "table") (natural table) no_members))))
+
+abbrev pub selection_data : Selection → Data
+selection_data selection.Nothing = null
+selection_data (selection.Range anchor focus format) = range_data anchor focus format
+selection_data (selection.Nodes keys) = nodes_data keys
+selection_data (selection.Cells table anchor focus) = cells_data table anchor focus
+
 -- ---- replies
 
 -- {"commit":N,"ops":[..]}
@@ -146,9 +181,24 @@ refusal_data cause step =
     (member (codes "detail") (detail_of cause)
     (member (codes "step") (or_null natural step) no_members))))) no_members)
 
+-- {"idle":true}
+abbrev pub idle_data : Data
+idle_data = object (member (codes "idle") (boolean true) no_members)
+
+-- {"view":HTML}
+abbrev pub view_data : List ℕ → Data
+view_data html = object (member (codes "view") (text_data html) no_members)
+
+-- {"selection":S}
+abbrev pub shown_selection_data : Selection → Data
+shown_selection_data selection = object (member (codes "selection") (selection_data selection) no_members)
+
 unfoldable pub reply_data : Reply → Data
 reply_data (Committed commit ops) = commit_data commit ops
 reply_data (Refused cause step) = refusal_data cause step
+reply_data Idle = idle_data
+reply_data (View html) = view_data html
+reply_data (Selected selection) = shown_selection_data selection
 
 unfoldable pub reply_text : Reply → List ℕ
 reply_text reply = compact_text (reply_data reply)

@@ -63,7 +63,7 @@ fn point_kind_name(kind: PointKind) -> &'static str
     }
 }
 
-fn point_value(alloc: Global, point: Point) -> Result<Value, AllocError>
+pub(crate) fn point_value(alloc: Global, point: Point) -> Result<Value, AllocError>
     ensures { IfOk result (λ v. view v ≡ point_data point) }
 {
     json!(in alloc; [point.key.number(), point.offset, point_kind_name(point.kind)])

@@ -1,17 +1,33 @@
 //! Lines of the program's input, and the replies to them: what JSON asks for, and how an answer is
 //! written.
+//!
+//! A line is an update by steps, or a question. Each step is an object that names its members and has no
+//! others; `specs/Grammar.antt` begins the grammar, which is stated over JSON values. The fields of nodes
+//! are read from the same table for new nodes, for patches and for documents.
 #![tactic(auto)]
 
 mod causes;
-mod line;
+mod fields;
+mod members;
+mod new_nodes;
 mod ops;
 mod read;
+mod references;
 mod reply;
-#[cfg(test)]
-mod tests;
+mod selection;
+mod steps;
+mod values;
+mod words;
 mod write;
 
-pub use line::Line;
+pub use fields::{FieldFault, fields_of};
 pub use read::read_line;
 pub use reply::Reply;
 pub use write::write_reply;
+
+#[cfg(test)]
+mod tests;
+#[cfg(test)]
+mod tests_lines;
+#[cfg(test)]
+mod tests_replies;

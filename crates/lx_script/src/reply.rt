@@ -1,5 +1,6 @@
 use lx_host::Ops;
-use lx_node::Cause;
+use lx_node::{Cause, Txt};
+use lx_select::Selection;
 
 /// The answer to a line.
 #[derive(Debug, Drop)]
@@ -8,4 +9,10 @@ pub enum Reply {
     Committed { number: u32, ops: Ops },
     /// The line changed nothing, for this cause. The step is its index in the line's script, from 0.
     Refused { cause: Cause, step: Option<u32> },
+    /// The line asked for nothing that isn't so already.
+    Idle,
+    /// The HTML of the view, for a line that asked for it.
+    View(Txt),
+    /// The committed selection, for a line that asked for it.
+    Selection(Selection),
 }

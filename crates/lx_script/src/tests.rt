@@ -1,85 +1,10 @@
-use crate::{Line, Reply, read_line, write_reply};
+use crate::{Reply, write_reply};
 use lx_host::{Attrs, Inner, Name, Op, Ops, Tag};
 use lx_node::{
-    Cause, Fault, Key, Kind, Limit, Lost, Named, NoMemory, Point, PointKind, SelectionKind, Txt,
+    Cause, Key, Kind, Limit, Lost, Named, NoMemory, Point, PointKind, SelectionKind, Txt,
 };
 use std::alloc::Global;
 use std::test::Fail;
-
-// The text that a line appends, or the code of the cause for which it is refused.
-fn heard(alloc: Global, bytes: &[u8]) -> Result<Result<Txt, u8>, NoMemory> {
-    match read_line(alloc, bytes) {
-        Ok(Line::Append(text)) => Ok(Ok(text)),
-        Err(Fault::Cause(cause)) => Ok(Err(cause.code())),
-        Err(Fault::Memory) => Err(NoMemory),
-    }
-}
-
-#[test]
-fn commands_are_read(rt: HostRuntime) -> Result<(), Fail> {
-    for (line, text) in [
-        (r#"{"update":[{"append":"Hi"}]}"#, "Hi"),
-        (" {\t\"update\" : [ { \"append\":\"\" }\r] } \n", ""),
-        (r#"{"update":[{"append":"a\n\"\\\/\t"}]}"#, "a\n\"\\/\t"),
-        (
-            r#"{"update":[{"append":"\u00e9\ud83d\ude00\u0000"}]}"#,
-            "é😀\0",
-        ),
-        (r#"{"update":[{"append":"é😀漢"}]}"#, "é😀漢"),
-        (r#"{"\u0075pdate":[{"append":"x"}]}"#, "x"),
-    ] {
-        let heard = heard(rt.alloc(), line.as_bytes())?;
-        assert!(rt;
-            heard.is_ok_and(|heard| heard.as_str() == text),
-            "at {line}"
-        );
-    }
-    Ok(())
-}
-
-#[test]
-fn other_lines_are_refused(rt: HostRuntime) -> Result<(), Fail> {
-    for (line, code) in [
-        ("", 1u8),
-        (r#"{"update":["#, 1),
-        (r#"{"update":[{"append":"Hi"}]} 1"#, 1),
-        (r#"{"update":[{"append":"Hi",}]}"#, 1),
-        ("{\"update\":[{\"append\":\"\t\"}]}", 1),
-        (r#"{"update":[{"append":"\ud83d"}]}"#, 1),
-        (r#"{"update":[]}"#, 2),
-        (r#"{"update":3}"#, 2),
-        (r#"{"update":[{"append":"a"},{"append":"b"}]}"#, 2),
-        (r#"{"update":[{"append":1}]}"#, 2),
-        (r#"{"update":[{"append":"a"}],"at":1}"#, 2),
-        (r#"{"update":[{"append":"a","at":1}]}"#, 2),
-        (r#"{"update":[{"insert":"a"}]}"#, 2),
-        (r#"{"show":"view"}"#, 2),
-        (r#"[{"append":"a"}]"#, 2),
-        ("null", 2),
-    ] {
-        let heard = heard(rt.alloc(), line.as_bytes())?;
-        assert!(rt; heard.err() == Some(code), "at {line}");
-    }
-    let heard = heard(rt.alloc(), b"{\"update\":[{\"append\":\"\xff\"}]}")?;
-    assert!(rt; heard.err() == Some(1));
-    Ok(())
-}
-
-#[test]
-fn json_nests_at_most_127_deep(rt: HostRuntime) -> Result<(), Fail> {
-    for (depth, code) in [(127, 2u8), (128, 1)] {
-        let mut line = Vec::new(rt.alloc());
-        for _ in 0..depth {
-            line.push(b'[')?;
-        }
-        for _ in 0..depth {
-            line.push(b']')?;
-        }
-        let heard = heard(rt.alloc(), &line)?;
-        assert!(rt; heard.err() == Some(code));
-    }
-    Ok(())
-}
 
 fn paragraph(alloc: Global, text: &str) -> Result<Reply, NoMemory> {
     let place = |parent, child| Op::Place {

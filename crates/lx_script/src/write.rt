@@ -2,13 +2,15 @@
 
 ghost use Rattle.std.specs.Prelude.{◌≡◌, IfOk};
 ghost use Rattle.serde_json.specs.View.{view};
-ghost use Rattle.lx_script.specs.Replies.{reply_data, reply_text, commit_data, refusal_data};
+ghost use Rattle.lx_script.specs.Replies.{reply_data, reply_text, commit_data, refusal_data, view_data, shown_selection_data};
 
 use crate::causes::{cause_name, detail_value};
 use crate::ops::ops_value;
 use crate::reply::Reply;
+use crate::selection::selection_value;
 use lx_host::Op;
-use lx_node::{Cause, NoMemory};
+use lx_node::{Cause, NoMemory, Txt};
+use lx_select::Selection;
 use serde_json::{Value, json};
 use std::alloc::{AllocError, Global};
 
@@ -27,6 +29,9 @@ fn reply_value(alloc: Global, reply: &Reply) -> Result<Value, AllocError>
     match reply {
         Reply::Committed { number, ops } => commit_value(alloc, *number, ops.items()),
         Reply::Refused { cause, step } => refusal_value(alloc, cause, *step),
+        Reply::Idle => json!(in alloc; {"idle": true}),
+        Reply::View(html) => shown_view(alloc, html),
+        Reply::Selection(selection) => shown_selection(alloc, selection),
     }
 }
 
@@ -49,4 +54,18 @@ fn refusal_value(alloc: Global, cause: &Cause, step: Option<u32>) -> Result<Valu
             "step": step,
         }
     })
+}
+
+fn shown_view(alloc: Global, html: &Txt) -> Result<Value, AllocError>
+    ensures { IfOk result (λ v. view v ≡ view_data html.now) }
+{
+    let html = Value::try_from_str(alloc, html.as_str())?;
+    json!(in alloc; {"view": html})
+}
+
+fn shown_selection(alloc: Global, selection: &Selection) -> Result<Value, AllocError>
+    ensures { IfOk result (λ v. view v ≡ shown_selection_data selection.now) }
+{
+    let selection = selection_value(alloc, selection)?;
+    json!(in alloc; {"selection": selection})
 }

@@ -2,7 +2,7 @@ use Rattle.std.proofs.Common.{ℕ, List, subst, sym}
 use Rattle.lx_cli.specs.declared.status.Status.{Status}
 use Rattle.lx_cli.specs.Run.{source_seen, sink_seen, IsRun}
 use Rattle.lx_cli.specs.Steps.{moment}
-use Rattle.lx_cli.proofs.Runs.{IsUnended-new, used-end, wordless, HasRun-stopped, HasRun-done, HasRun-last_unanswered}
+use Rattle.lx_cli.proofs.Runs.{IsUnended-new, commits-end, wordless, HasRun-stopped, HasRun-done, HasRun-last_unanswered}
 use Rattle.lx_cli.proofs.program.answer_all.Goals as goal
 
 pub read_lines-requires-clause-unended : goal.read_lines-requires-clause-unended
@@ -12,7 +12,7 @@ pub finish-requires : goal.finish-requires
 finish-requires g c =
     let source = source_seen g.S.Source.left g.S.Source.faults g.S.Source.reads in
     let sink = sink_seen g.K.Sink.taken g.K.Sink.faults g.K.Sink.writes in
-    used-end
+    commits-end
     (moment c.args.session.now (source c.args.source.now) (sink c.args.sink.now))
     (moment c.read_lines.new.session (source c.read_lines.new.source) (sink c.read_lines.new.sink))
     c.in-End.ensures.bytes c.requires.session c.in-End.ensures.stops

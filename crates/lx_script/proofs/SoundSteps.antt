@@ -1,0 +1,262 @@
+-- Each step that the grammar makes is sound.
+use Rattle.std.proofs.Common.{◌≡◌, ◌≢◌, refl, ap, subst, ℕ, chars, List, [], ◌∷◌, Bool, true, false, ◌&&◌, leb, IsTrue, All, codes, if◌then◌else◌, Option, None, Some, option_map, option_and_then, is_some, Result, Ok, Err}
+use Rattle.std.specs.Option.{option_zip}
+use Rattle.std.specs.Result.{result_ok}
+use Rattle.std.specs.Str.{bytes_eq}
+use Rattle.std.proofs.lemmas.List.Elements.{All-nil, All-cons}
+use Rattle.serde_json.specs.Data.{Data, Items, no_items, item, Members, no_members, member}
+use Rattle.serde_json.specs.Find.{as_array, as_null, as_object, as_str, get}
+use Rattle.lx_node.specs.declared.kind.Kind.{Kind}
+use Rattle.lx_node.specs.declared.kind.Kind.TheVariants as kind
+use Rattle.lx_node.specs.declared.fields.Fields.{Fields}
+use Rattle.lx_node.specs.Kinds.{is_possible, type_name}
+use Rattle.lx_node.specs.OfKind.{IsOfKind}
+use Rattle.lx_step.specs.declared.line.Form.{Form}
+use Rattle.lx_step.specs.declared.line.Form.TheVariants.{Update}
+use Rattle.lx_step.specs.declared.member.Member.{Member}
+use Rattle.lx_step.specs.declared.member.Member.TheVariants.{Other}
+use Rattle.lx_step.specs.declared.reference.Reference.{Reference}
+use Rattle.lx_step.specs.declared.step.Step.{Step}
+use Rattle.lx_step.specs.declared.step.Step.TheVariants as step
+use Rattle.lx_step.specs.Patches.{is_in_range, IsInRange}
+use Rattle.lx_step.specs.Sound.{IsSound, IsSoundForm}
+use Rattle.lx_script.specs.declared.words.Name.{Name}
+use Rattle.lx_script.specs.declared.words.Name.TheVariants as name
+use Rattle.lx_script.specs.declared.words.Verb.{Verb}
+use Rattle.lx_script.specs.declared.words.Verb.TheVariants as verb
+use Rattle.lx_script.specs.Documents.{document_fields, members_in}
+use Rattle.lx_script.specs.Grammar.{update_of}
+use Rattle.lx_script.specs.Members.{patch_member, patch_members, patch_of}
+use Rattle.lx_script.specs.NewNodes.{or_default, kind_with, may_all_be_given, new_fields}
+use Rattle.lx_script.specs.References.{reference_of, selection_of}
+use Rattle.lx_script.specs.Steps.{fields_in, new_step, new_with, new_of, set_of, patch_from, one_node, two_nodes, step_for, step_of, truth_in}
+use Rattle.lx_script.specs.Values.{word_in, named, text_of, number_of, number_within, has_only, required, optional, first_member, all_of, list_of}
+use Rattle.lx_script.specs.Words.{kind_in, kind_of, levels, list_types, made_kinds, names, verbs}
+use Rattle.lx_script.proofs.Sound.{mapped, tested, settable-ranged, document_fields_of_kind}
+
+-- ---- what holds of all that an option can be
+
+chained : {A B : Type 0} (P : B → Type 0) (f : A → Option B) (o : Option A) → ((a : A) → o ≡ Some a → (b : B) → f a ≡ Some b → P b) → (b : B) → option_and_then f o ≡ Some b → P b
+chained P f None holds b is = absurd (cc)
+chained P f (Some a) holds b is = holds a refl b is
+
+zip_first : {A B : Type 0} (o : Option A) (p : Option B) (both : A × B) → option_zip o p ≡ Some both → o ≡ Some both.0
+zip_first None p both is = absurd (cc)
+zip_first (Some a) None both is = absurd (cc)
+zip_first {A = A} {B = B} (Some a) (Some b) both is =
+    let same : ◌≡◌ {A = A × B} (a, b) both = cc in
+    let P : A × B → Type 0 = λ q. Some a ≡ Some q.0 in
+    subst P same refl
+
+zip_second : {A B : Type 0} (o : Option A) (p : Option B) (both : A × B) → option_zip o p ≡ Some both → p ≡ Some both.1
+zip_second None p both is = absurd (cc)
+zip_second (Some a) None both is = absurd (cc)
+zip_second {A = A} {B = B} (Some a) (Some b) both is =
+    let same : ◌≡◌ {A = A × B} (a, b) both = cc in
+    let P : A × B → Type 0 = λ q. Some b ≡ Some q.1 in
+    subst P same refl
+
+of_ok : {A E : Type 0} (result : Result A E) (a : A) → result_ok result ≡ Some a → result ≡ Ok a
+of_ok (Ok b) a is = let same : b ≡ a = cc in ap (λ x. Ok x) same
+of_ok (Err e) a is = absurd (cc)
+
+all_hold : {A : Type 0} (P : A → Type 0) (reads : Data → Option A) → ((d : Data) (a : A) → reads d ≡ Some a → P a) → (items : Items) (made : List A) → all_of reads items ≡ Some made → All P made
+all_hold P reads holds no_items made is = let same : [] ≡ made = cc in subst (All P) same (All-nil P)
+all_hold P reads holds (item d ds) made is =
+    mapped (All P) (λ p. p.0 ∷ p.1) (option_zip (reads d) (all_of reads ds))
+    (λ p at. All-cons P p.0 p.1 (holds d p.0 (zip_first (reads d) (all_of reads ds) p at)) (all_hold P reads holds ds p.1 (zip_second (reads d) (all_of reads ds) p at)))
+    made is
+
+-- ---- patches
+
+member_ranged : (found : Option Name) (text : List ℕ) (d : Data) (m : Member) → patch_member found text d ≡ Some m → IsInRange m
+unfolding patch_member is_in_range
+member_ranged None text d m is = let same : Other (chars text) ≡ m = cc in subst IsInRange same refl
+member_ranged (Some name.Tag) text d m is = mapped IsInRange (λ level. Other (chars text)) (named levels d) (λ level at. refl) m is
+member_ranged (Some name.ListType) text d m is = mapped IsInRange (λ type. Other (chars text)) (named list_types d) (λ type at. refl) m is
+member_ranged (Some name.Value) text d m is = mapped IsInRange (λ value. Other (chars text)) (number_within 0 1200000 d) (λ value at. refl) m is
+member_ranged (Some known) text d m is = settable-ranged known d m is
+
+members_ranged : (members : Members) (made : List Member) → patch_members members ≡ Some made → All IsInRange made
+members_ranged no_members made is = let same : [] ≡ made = cc in subst (All IsInRange) same (All-nil IsInRange)
+members_ranged (member text d rest) made is =
+    let one = patch_member (word_in names text) text d in
+    mapped (All IsInRange) (λ p. p.0 ∷ p.1) (option_zip one (patch_members rest))
+    (λ p at. All-cons IsInRange p.0 p.1 (member_ranged (word_in names text) text d p.0 (zip_first one (patch_members rest) p at)) (members_ranged rest p.1 (zip_second one (patch_members rest) p at)))
+    made is
+
+patch_ranged : (d : Data) (made : List Member) → patch_of d ≡ Some made → All IsInRange made
+patch_ranged d made is = chained (All IsInRange) patch_members (as_object d) (λ members at. members_ranged members) made is
+
+-- ---- kinds
+
+abbrev EachRow : {A : Type 0} → (A → Type 0) → List (List ℕ × A) → Type 0
+EachRow P [] = Unit {0}
+EachRow P (row ∷ rows) = P row.1 × EachRow P rows
+
+-- what holds of each row of a table holds of what a word stands for
+word_holds : {A : Type 0} (P : A → Type 0) (rows : List (List ℕ × A)) → EachRow P rows → (text : List ℕ) (a : A) → word_in rows text ≡ Some a → P a
+word_holds P [] each text a is = absurd (cc)
+word_holds {A = A} P (row ∷ rows) each text a is = here (bytes_eq row.0 text) each.0 (word_holds P rows each.1 text a) is
+  where
+    here : (test : Bool) → P row.1 → (word_in rows text ≡ Some a → P a) → (if test then Some row.1 else word_in rows text) ≡ Some a → P a
+    here true holds rest is = let same : row.1 ≡ a = cc in subst P same holds
+    here false holds rest is = rest is
+
+named_holds : {A : Type 0} (P : A → Type 0) (rows : List (List ℕ × A)) → EachRow P rows → (d : Data) (a : A) → named rows d ≡ Some a → P a
+named_holds P rows each d a is = chained P (word_in rows) (as_str d) (λ text at. word_holds P rows each text) a is
+
+abbrev IsNewKind : Kind → Type 0
+IsNewKind of = IsTrue (is_possible of) × (of ≢ kind.Root)
+
+abbrev EachKind : List Kind → Type 0
+EachKind [] = Unit {0}
+EachKind (of ∷ kinds) = IsNewKind of × EachKind kinds
+
+kind_holds : (kinds : List Kind) → EachKind kinds → (text : List ℕ) (of : Kind) → kind_in kinds text ≡ Some of → IsNewKind of
+kind_holds [] each text of is = absurd (cc)
+kind_holds (first ∷ kinds) each text of is = here (bytes_eq (type_name first) text) each.0 (kind_holds kinds each.1 text of) is
+  where
+    here : (test : Bool) → IsNewKind first → (kind_in kinds text ≡ Some of → IsNewKind of) → (if test then Some first else kind_in kinds text) ≡ Some of → IsNewKind of
+    here true holds rest is = let same : first ≡ of = cc in subst IsNewKind same holds
+    here false holds rest is = rest is
+
+each_made : EachKind made_kinds
+unfolding is_possible
+each_made = (
+  (refl, λ e. cc),
+  (
+    (refl, λ e. cc),
+    (
+      (refl, λ e. cc),
+      (
+        (refl, λ e. cc),
+        (
+          (refl, λ e. cc),
+          (
+            (refl, λ e. cc),
+            (
+              (refl, λ e. cc),
+              ((refl, λ e. cc), ((refl, λ e. cc), ((refl, λ e. cc), ((refl, λ e. cc), ((refl, λ e. cc), ((refl, λ e. cc), ((refl, λ e. cc), tt))))))),
+            ),
+          ),
+        ),
+      ),
+    ),
+  ),
+)
+
+made_is_new : (d : Data) (of : Kind) → kind_of d ≡ Some of → IsNewKind of
+made_is_new d of is = chained IsNewKind (kind_in made_kinds) (as_str d) (λ text at. kind_holds made_kinds each_made text) of is
+
+IsLevel : ℕ → Type 0
+IsLevel level = IsTrue (leb 1 level && leb level 6)
+
+each_level : EachRow IsLevel levels
+unfolding IsLevel
+each_level = (refl, (refl, (refl, (refl, (refl, (refl, tt))))))
+
+default_holds : {A : Type 0} (P : A → Type 0) (default : A) (reads : Data → Option A) → P default → ((d : Data) (a : A) → reads d ≡ Some a → P a)
+    → (o : Option Data) (a : A) → or_default default reads o ≡ Some a → P a
+default_holds P default reads of holds None a is = let same : default ≡ a = cc in subst P same of
+default_holds P default reads of holds (Some d) a is = here (is_some (as_null d)) is
+  where
+    here : (test : Bool) → (if test then Some default else reads d) ≡ Some a → P a
+    here true is = let same : default ≡ a = cc in subst P same of
+    here false is = holds d a is
+
+heading_level : (level : ℕ) → IsNewKind (kind.Heading level) → IsLevel level
+unfolding is_possible IsLevel
+heading_level level of = of.0
+
+level_heading : (level : ℕ) → IsLevel level → IsNewKind (kind.Heading level)
+unfolding is_possible IsLevel
+level_heading level of = (of, λ e. cc)
+
+kind_with_new : (old : Kind) (d : Data) (new : Kind) → IsNewKind old → kind_with old d ≡ Some new → IsNewKind new
+unfolding kind_with is_possible
+kind_with_new (kind.Heading level) d new of is =
+    let found = or_default level (named levels) (get (codes "tag") d) in
+    mapped IsNewKind (λ level. kind.Heading level) found
+    (λ l at. level_heading l (default_holds IsLevel level (named levels) (heading_level level of) (named_holds IsLevel levels each_level) (get (codes "tag") d) l at)) new is
+kind_with_new (kind.List type) d new of is =
+    mapped IsNewKind (λ type. kind.List type) (or_default type (named list_types) (get (codes "listType") d)) (λ t at. (refl, λ e. cc)) new is
+kind_with_new old d new of is = let same : old ≡ new = cc in subst IsNewKind same of
+
+-- ---- steps
+
+new_fields_of_kind : (of : Kind) (d : Data) (fields : Fields) → IsTrue (is_possible of) → new_fields of d ≡ Some fields → IsOfKind of fields
+unfolding new_fields
+new_fields_of_kind of d fields possible is =
+    tested (IsOfKind of) (may_all_be_given of (members_in d)) (result_ok (document_fields of d))
+    (λ made at. document_fields_of_kind of d made possible (of_ok (document_fields of d) made at)) fields is
+
+new_step_sound : (of : Kind) (d : Data) (name : Option (List ℕ)) (s : Step) → IsNewKind of → new_step of d name ≡ Some s → IsSound s
+new_step_sound of d name s new is =
+    mapped IsSound (λ fields. step.New of fields name) (new_fields of d) (λ fields at. record { other = new.1; of_kind = new_fields_of_kind of d fields new.0 at }) s is
+
+new_with_sound : (of : Kind) (d : Data) (name : Option (Option (List ℕ))) (s : Step) → IsNewKind of → new_with of d name ≡ Some s → IsSound s
+new_with_sound of d name s new is =
+    chained IsSound (λ p. new_step p.0 d p.1) (option_zip (kind_with of d) name)
+    (λ p at s made. new_step_sound p.0 d p.1 s (kind_with_new of d p.0 new (zip_first (kind_with of d) name p at)) made) s is
+
+new_of_sound : (d : Data) (s : Step) → new_of d ≡ Some s → IsSound s
+new_of_sound d s is =
+    let type = required kind_of (codes "new") d in
+    let given = fields_in (get (codes "fields") d) in
+    tested IsSound (has_only (codes "new" ∷ codes "fields" ∷ codes "as" ∷ []) d) _
+    (chained IsSound (λ p. new_with p.0 p.1 (optional text_of (codes "as") d)) (option_zip type given)
+    (λ p at s made. new_with_sound p.0 p.1 (optional text_of (codes "as") d) s
+    (chained IsNewKind kind_of (get (codes "new") d) (λ e there. made_is_new e) p.0 (zip_first type given p at)) made))
+    s is
+
+set_of_sound : (d : Data) (s : Step) → set_of d ≡ Some s → IsSound s
+set_of_sound d s is =
+    let node = required reference_of (codes "set") d in
+    let patch = required patch_of (codes "fields") d in
+    tested IsSound (has_only (codes "set" ∷ codes "fields" ∷ []) d) _
+    (mapped IsSound (λ p. step.Set p.0 (patch_from p.1)) (option_zip node patch)
+    (λ p at. chained (All IsInRange) patch_of (get (codes "fields") d) (λ e there. patch_ranged e) p.1 (zip_second node patch p at)))
+    s is
+
+-- other steps are sound whatever they hold
+any : {A : Type 0} (test : Bool) (f : A → Step) → ((a : A) → IsSound (f a)) → (o : Option A) (s : Step) → (if test then option_map f o else None) ≡ Some s → IsSound s
+any test f sound o s is = tested IsSound test (option_map f o) (mapped IsSound f o (λ a at. sound a)) s is
+
+any_node : (f : Reference → Step) → ((node : Reference) → IsSound (f node)) → (name : List ℕ) (d : Data) (s : Step) → option_map f (one_node name d) ≡ Some s → IsSound s
+any_node f sound name d s is = mapped IsSound f (one_node name d) (λ a at. sound a) s is
+
+any_nodes : (f : Reference × Reference → Step) → ((p : Reference × Reference) → IsSound (f p)) → (first second : List ℕ) (d : Data) (s : Step) → option_map f (two_nodes first second d) ≡ Some s → IsSound s
+any_nodes f sound first second d s is = mapped IsSound f (two_nodes first second d) (λ a at. sound a) s is
+
+step_for_sound : (word : Verb) (d : Data) (s : Step) → step_for word d ≡ Some s → IsSound s
+unfolding step_for
+step_for_sound verb.Append d s is = any _ (λ text. step.Append text) (λ text. tt) (required text_of (codes "append") d) s is
+step_for_sound verb.New d s is = new_of_sound d s is
+step_for_sound verb.Put d s is =
+    any _ (λ p. step.Put p.0.0 p.0.1 p.1) (λ p. tt) (option_zip (option_zip (required reference_of (codes "put") d) (required reference_of (codes "into") d)) (optional number_of (codes "at") d)) s is
+step_for_sound verb.Remove d s is = any_node (λ node. step.Remove node) (λ node. tt) (codes "remove") d s is
+step_for_sound verb.Replace d s is =
+    any _ (λ p. step.Replace p.0.0 p.0.1 p.1) (λ p. tt) (option_zip (option_zip (required reference_of (codes "replace") d) (required reference_of (codes "with") d)) (truth_in (get (codes "keep") d))) s is
+step_for_sound verb.Set d s is = set_of_sound d s is
+step_for_sound verb.Mark d s is = any_node (λ node. step.Mark node) (λ node. tt) (codes "mark") d s is
+step_for_sound verb.Split d s is =
+    any _ (λ p. step.Split p.0.0 p.0.1 p.1) (λ p. tt) (option_zip (option_zip (required reference_of (codes "split") d) (required (list_of number_of) (codes "at") d)) (optional text_of (codes "as") d)) s is
+step_for_sound verb.Join d s is = any_nodes (λ p. step.Join p.0 p.1) (λ p. tt) (codes "join") (codes "with") d s is
+step_for_sound verb.Wrap d s is = any_nodes (λ p. step.Wrap p.0 p.1) (λ p. tt) (codes "wrap") (codes "in") d s is
+step_for_sound verb.Unwrap d s is = any_node (λ node. step.Unwrap node) (λ node. tt) (codes "unwrap") d s is
+step_for_sound verb.Children d s is = any_nodes (λ p. step.Children p.0 p.1) (λ p. tt) (codes "children") (codes "into") d s is
+step_for_sound verb.Select d s is = any _ (λ selection. step.Select selection) (λ selection. tt) (required selection_of (codes "select") d) s is
+
+step_of_sound : (d : Data) (s : Step) → step_of d ≡ Some s → IsSound s
+unfolding step_of
+step_of_sound d s is = chained IsSound (λ word. step_for word d) (first_member verbs d) (λ word at. step_for_sound word d) s is
+
+pub update_of_sound : (d : Data) (form : Form) → update_of d ≡ Some form → IsSoundForm form
+update_of_sound d form is =
+    let steps = required (list_of step_of) (codes "update") d in
+    tested IsSoundForm (has_only (codes "update" ∷ []) d) (option_map (λ steps. Update steps) steps)
+    (mapped IsSoundForm (λ steps. Update steps) steps
+    (λ made at. chained (All IsSound) (list_of step_of) (get (codes "update") d)
+    (λ e there. chained (All IsSound) (all_of step_of) (as_array e) (λ items in_it. all_hold IsSound step_of step_of_sound items)) made at))
+    form is

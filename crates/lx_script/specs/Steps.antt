@@ -1,0 +1,110 @@
+-- The steps of an update. Each is an object with the members that its sentence names; those with ? may be missing.
+use Rattle.std.specs.Prelude.{ℕ, List, [], ◌∷◌, Bool, false, codes, if◌then◌else◌, Option, None, Some, option_map, option_and_then}
+use Rattle.std.specs.Option.{option_zip}
+use Rattle.serde_json.specs.Data.{Data, null, object}
+use Rattle.serde_json.specs.Find.{get, as_bool}
+use Rattle.lx_node.specs.declared.kind.Kind.{Kind}
+use Rattle.lx_step.specs.declared.member.Member.{Member}
+use Rattle.lx_step.specs.declared.patch.Patch.{Patch}
+use Rattle.lx_step.specs.declared.reference.Reference.{Reference}
+use Rattle.lx_step.specs.declared.step.Step.{Step}
+use Rattle.lx_step.specs.declared.step.Step.TheVariants as step
+use Rattle.lx_script.specs.declared.words.Verb.{Verb}
+use Rattle.lx_script.specs.declared.words.Verb.TheVariants as verb
+use Rattle.lx_script.specs.Members.{patch_of}
+use Rattle.lx_script.specs.NewNodes.{kind_with, new_fields}
+use Rattle.lx_script.specs.References.{reference_of, selection_of}
+use Rattle.lx_script.specs.Values.{first_member, text_of, number_of, has_only, required, optional, list_of}
+use Rattle.lx_script.specs.Words.{kind_of, verbs}
+
+-- {"append":TEXT}
+abbrev pub append_of : Data → Option Step
+append_of d = if has_only (codes "append" ∷ []) d then option_map (λ text. step.Append text) (required text_of (codes "append") d) else None
+
+-- an object of fields, which is null where there is none
+abbrev pub fields_in : Option Data → Option Data
+fields_in None = Some null
+fields_in (Some (object members)) = Some (object members)
+fields_in (Some d) = None
+
+abbrev pub new_step : Kind → Data → Option (List ℕ) → Option Step
+new_step kind d name = option_map (λ fields. step.New kind fields name) (new_fields kind d)
+
+-- a node of a type, with the fields of an object, that gets a name where it has one
+abbrev pub new_with : Kind → Data → Option (Option (List ℕ)) → Option Step
+new_with kind d name = option_and_then (λ p. new_step p.0 d p.1) (option_zip (kind_with kind d) name)
+
+-- {"new":TYPE,"fields"?:FIELDS,"as"?:NAME}
+abbrev pub new_of : Data → Option Step
+new_of d =
+    if has_only (codes "new" ∷ codes "fields" ∷ codes "as" ∷ []) d then
+    option_and_then (λ p. new_with p.0 p.1 (optional text_of (codes "as") d)) (option_zip (required kind_of (codes "new") d) (fields_in (get (codes "fields") d)))
+    else None
+
+-- {"put":REF,"into":REF,"at"?:INDEX}
+abbrev pub put_of : Data → Option Step
+put_of d =
+    if has_only (codes "put" ∷ codes "into" ∷ codes "at" ∷ []) d then option_map (λ p. step.Put p.0.0 p.0.1 p.1)
+    (option_zip (option_zip (required reference_of (codes "put") d) (required reference_of (codes "into") d)) (optional number_of (codes "at") d))
+    else None
+
+-- a truth value, which is false where it is missing
+abbrev pub truth_in : Option Data → Option Bool
+truth_in None = Some false
+truth_in (Some d) = as_bool d
+
+-- {"replace":REF,"with":REF,"keep"?:TRUTH}
+abbrev pub replace_of : Data → Option Step
+replace_of d =
+    if has_only (codes "replace" ∷ codes "with" ∷ codes "keep" ∷ []) d then option_map (λ p. step.Replace p.0.0 p.0.1 p.1)
+    (option_zip (option_zip (required reference_of (codes "replace") d) (required reference_of (codes "with") d)) (truth_in (get (codes "keep") d)))
+    else None
+
+abbrev pub patch_from : List Member → Patch
+patch_from members = record { members = members }
+
+-- {"set":REF,"fields":FIELDS}
+abbrev pub set_of : Data → Option Step
+set_of d =
+    if has_only (codes "set" ∷ codes "fields" ∷ []) d then option_map (λ p. step.Set p.0 (patch_from p.1))
+    (option_zip (required reference_of (codes "set") d) (required patch_of (codes "fields") d))
+    else None
+
+-- {"split":REF,"at":[OFFSET..],"as"?:NAME}
+abbrev pub split_of : Data → Option Step
+split_of d =
+    if has_only (codes "split" ∷ codes "at" ∷ codes "as" ∷ []) d then option_map (λ p. step.Split p.0.0 p.0.1 p.1)
+    (option_zip (option_zip (required reference_of (codes "split") d) (required (list_of number_of) (codes "at") d)) (optional text_of (codes "as") d))
+    else None
+
+-- the node of a step that names one node: {"remove":REF} and the like
+abbrev pub one_node : List ℕ → Data → Option Reference
+one_node name d = if has_only (name ∷ []) d then required reference_of name d else None
+
+-- the nodes of a step that names two nodes: {"join":REF,"with":REF} and the like
+abbrev pub two_nodes : List ℕ → List ℕ → Data → Option (Reference × Reference)
+two_nodes first second d =
+    if has_only (first ∷ second ∷ []) d then option_zip (required reference_of first d) (required reference_of second d) else None
+
+-- {"select":SELECTION}
+abbrev pub select_of : Data → Option Step
+select_of d = if has_only (codes "select" ∷ []) d then option_map (λ selection. step.Select selection) (required selection_of (codes "select") d) else None
+
+unfoldable pub step_for : Verb → Data → Option Step
+step_for verb.Append d = append_of d
+step_for verb.New d = new_of d
+step_for verb.Put d = put_of d
+step_for verb.Remove d = option_map (λ node. step.Remove node) (one_node (codes "remove") d)
+step_for verb.Replace d = replace_of d
+step_for verb.Set d = set_of d
+step_for verb.Mark d = option_map (λ node. step.Mark node) (one_node (codes "mark") d)
+step_for verb.Split d = split_of d
+step_for verb.Join d = option_map (λ p. step.Join p.0 p.1) (two_nodes (codes "join") (codes "with") d)
+step_for verb.Wrap d = option_map (λ p. step.Wrap p.0 p.1) (two_nodes (codes "wrap") (codes "in") d)
+step_for verb.Unwrap d = option_map (λ node. step.Unwrap node) (one_node (codes "unwrap") d)
+step_for verb.Children d = option_map (λ p. step.Children p.0 p.1) (two_nodes (codes "children") (codes "into") d)
+step_for verb.Select d = select_of d
+
+-- a step, which one of its members tells from the others
+unfoldable pub step_of : Data → Option Step
+step_of d = option_and_then (λ verb. step_for verb d) (first_member verbs d)

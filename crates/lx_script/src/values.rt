@@ -1,0 +1,116 @@
+//! What the grammar asks of a JSON value.
+
+ghost use Rattle.std.specs.Prelude.{◌≡◌, map, IfOk};
+ghost use Rattle.serde_json.specs.View.{view};
+ghost use Rattle.lx_script.specs.Values as values;
+
+use lx_node::{NoMemory, Txt};
+use serde_json::Value;
+use std::alloc::Global;
+
+/// What a word stands for in a table of words.
+pub(crate) fn word_in<T: Copy>(rows: &[(&str, T)], text: &str) -> Option<T>
+    ensures { result ≡ values.word_in (map (λ row. (row.0.now, row.1)) rows.now) text.now }
+{
+    'rows: for (word, meaning) in rows {
+        if *word == text {
+            return Some(*meaning);
+        }
+    }
+    None
+}
+
+/// What a string stands for in a table of words.
+pub(crate) fn named<T: Copy>(rows: &[(&str, T)], value: &Value) -> Option<T>
+    ensures { result ≡ values.named (map (λ row. (row.0.now, row.1)) rows.now) (view value.now) }
+{
+    match value.as_str() {
+        Some(text) => word_in(rows, text),
+        None => None,
+    }
+}
+
+/// What the first word of a table that is a member's name stands for.
+pub(crate) fn first_member<T: Copy>(rows: &[(&str, T)], value: &Value) -> Option<T>
+    ensures { result ≡ values.first_member (map (λ row. (row.0.now, row.1)) rows.now) (view value.now) }
+{
+    'rows: for (word, meaning) in rows {
+        if value.get(*word).is_some() {
+            return Some(*meaning);
+        }
+    }
+    None
+}
+
+/// Whether it is an object that has no members but those of these names, which all differ.
+pub(crate) fn has_only(names: &[&str], value: &Value) -> bool
+    ensures { result ≡ values.has_only (map (λ name. name.now) names.now) (view value.now) }
+{
+    let Some(members) = value.as_object() else {
+        return false;
+    };
+    let mut present = 0usize;
+    'names: for name in names {
+        if value.get(*name).is_some() {
+            present += 1;
+        }
+    }
+    members.len() == present
+}
+
+/// The characters of a string.
+pub(crate) fn text_of(alloc: Global, value: &Value) -> Result<Option<Txt>, NoMemory>
+    ensures { IfOk result (λ text. text ≡ values.text_of (view value.now)) }
+{
+    match value.as_str() {
+        Some(text) => Ok(Some(Txt::new(alloc, text)?)),
+        None => Ok(None),
+    }
+}
+
+/// A whole number from 0 to 18,446,744,073,709,551,615.
+pub(crate) fn number_of(value: &Value) -> Option<u64>
+    ensures { result ≡ values.number_of (view value.now) }
+{
+    value.as_u64()
+}
+
+/// A whole number within two bounds.
+fn number_within(least: u64, most: u64, value: &Value) -> Option<u64>
+    ensures { result ≡ values.number_within least most (view value.now) }
+{
+    match value.as_u64() {
+        Some(number) => {
+            let is_within = least <= number && number <= most;
+            if is_within { Some(number) } else { None }
+        }
+        None => None,
+    }
+}
+
+pub(crate) fn small_within(most: u8, value: &Value) -> Option<u8>
+    ensures { result ≡ values.number_within 0 most (view value.now) }
+{
+    match number_within(0, most as u64, value) {
+        Some(number) => Some(number as u8),
+        None => None,
+    }
+}
+
+pub(crate) fn short_within(least: u16, most: u16, value: &Value) -> Option<u16>
+    ensures { result ≡ values.number_within least most (view value.now) }
+{
+    match number_within(least as u64, most as u64, value) {
+        Some(number) => Some(number as u16),
+        None => None,
+    }
+}
+
+pub(crate) fn long_within(most: u32, value: &Value) -> Option<u32>
+    ensures { result ≡ values.number_within 0 most (view value.now) }
+{
+    match number_within(0, most as u64, value) {
+        Some(number) => Some(number as u32),
+        None => None,
+    }
+}
