@@ -10,6 +10,7 @@ use Rattle.lx_node.specs.declared.cause.Fault.TheVariants.{Cause as Refused, Mem
 use Rattle.lx_step.specs.declared.line.Form.{Form}
 use Rattle.lx_step.specs.declared.line.Form.TheVariants.{Update, Show}
 use Rattle.lx_step.specs.declared.line.Line.{Line}
+use Rattle.lx_step.specs.Lines.{line_with}
 use Rattle.lx_script.specs.Steps.{step_of}
 use Rattle.lx_script.specs.Values.{named, has_only, required, list_of}
 use Rattle.lx_script.specs.Words.{questions}
@@ -26,10 +27,7 @@ update_of d = if has_only (codes "update" ∷ []) d then option_map (λ steps. U
 abbrev pub show_of : Data → Option Form
 show_of d = if has_only (codes "show" ∷ []) d then option_map (λ shown. Show shown) (required (named questions) (codes "show") d) else None
 
-abbrev pub line_with : Form → Line
-line_with form = record { form = form }
-
--- a line: an update, or a question
+-- a line: an update, or a question, neither with a moment nor with tags
 unfoldable pub line_of : Data → Option Line
 line_of d = option_map line_with (option_or (update_of d) (show_of d))
 

@@ -65,12 +65,12 @@ fn line_of(alloc: Global, value: &Value) -> Result<Line, Fault>
     ensures sound { IfOk result (λ line. IsSoundForm line.form) }
 {
     match update_of(alloc, value) {
-        Ok(Some(form)) => return Ok(Line { form }),
+        Ok(Some(form)) => return Ok(Line::of(form)),
         Ok(None) => {}
         Err(_) => return Err(Fault::Memory),
     }
     match show_of(value) {
-        Some(form) => Ok(Line { form }),
+        Some(form) => Ok(Line::of(form)),
         None => Err(Fault::Cause(Cause::BadCommand)),
     }
 }

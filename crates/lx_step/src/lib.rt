@@ -14,7 +14,7 @@ mod references;
 mod step;
 mod steps;
 
-pub use line::{Form, Line, Shown};
+pub use line::{Form, Line, Shown, Tags};
 pub use member::Member;
 pub use members::Members;
 pub use offsets::Offsets;

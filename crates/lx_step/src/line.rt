@@ -3,7 +3,21 @@ use crate::steps::Steps;
 /// What a line of input asks for.
 #[derive(Debug, Drop)]
 pub struct Line {
+    /// The moment of the line in milliseconds, if it tells one.
+    pub at: Option<u64>,
+    pub tags: Tags,
     pub form: Form,
+}
+
+/// What the tags of a line say of how its commit is recorded. Other tags say nothing.
+#[derive(Clone, Copy, Debug, PartialEq, Eq, Hash)]
+pub struct Tags {
+    /// `historic`: the commit isn't recorded.
+    pub historic: bool,
+    /// `history-merge`: the commit goes into the entry that is current.
+    pub merge: bool,
+    /// `history-push`: the commit becomes an entry of its own.
+    pub push: bool,
 }
 
 /// The form of a line, which says what is done with it.
@@ -13,6 +27,38 @@ pub enum Form {
     Update(Steps),
     /// A question, which changes nothing.
     Show(Shown),
+}
+
+impl Line {
+    ghost use Rattle.std.specs.Prelude.{◌≡◌};
+    ghost use Rattle.lx_step.specs.Lines.{line_with};
+
+    /// A line of this form that tells no moment and has no tags.
+    pub fn of(form: Form) -> Line
+        ensures { result ≡ line_with form }
+    {
+        Line {
+            at: None,
+            tags: Tags::none(),
+            form,
+        }
+    }
+}
+
+impl Tags {
+    ghost use Rattle.std.specs.Prelude.{◌≡◌};
+    ghost use Rattle.lx_step.specs.Lines.{untagged};
+
+    /// No tags.
+    pub fn none() -> Tags
+        ensures { result ≡ untagged }
+    {
+        Tags {
+            historic: false,
+            merge: false,
+            push: false,
+        }
+    }
 }
 
 /// What a line asks to be shown.

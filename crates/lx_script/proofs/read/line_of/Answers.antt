@@ -4,4 +4,5 @@ use Rattle.lx_script.proofs.SoundSteps.{update_of_sound}
 use Rattle.lx_script.proofs.read.line_of.Goals as goal
 
 pub returns-in-Ok-Some-clause-sound : goal.returns-in-Ok-Some-clause-sound
-returns-in-Ok-Some-clause-sound c = update_of_sound (view c.args.value.now) c.in-Ok-Some.form (sym c.in-Ok-Some.ensures ∙ c.in-Ok-Some.field-0-is)
+returns-in-Ok-Some-clause-sound c =
+    rw c.of.ensures (update_of_sound (view c.args.value.now) c.in-Ok-Some.form (sym c.in-Ok-Some.ensures ∙ c.in-Ok-Some.field-0-is))
