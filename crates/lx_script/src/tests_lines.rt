@@ -347,6 +347,17 @@ fn fields_are_those_of_documents(rt: HostRuntime) -> Result<(), Fail> {
             r#"Element(ElementFields { direction: Unset, format: Unset, indent: 0, text_format: 0, text_style: Txt { text: "" }, extra: List { start: 1 } })"#,
         ),
         (
+            Kind::Heading(6),
+            r#"{"direction":"ltr","format":"justify","indent":65535,"tag":"h6","textFormat":3,"textStyle":"s"}"#,
+            r#"Element(ElementFields { direction: Ltr, format: Justify, indent: 65535, text_format: 3, text_style: Txt { text: "s" }, extra: Plain })"#,
+        ),
+        (
+            Kind::Link,
+            r#"{"rel":"a","target":null,"title":"b","url":"u"}"#,
+            r#"Element(ElementFields { direction: Unset, format: Unset, indent: 0, text_format: 0, text_style: Txt { text: "" }, extra: Link { rel: Some(Txt { text: "a" }), target: None, title: Some(Txt { text: "b" }), url: Txt { text: "u" } } })"#,
+        ),
+        (Kind::Embed, r#"{"src":"s"}"#, r#"Embed(Txt { text: "s" })"#),
+        (
             Kind::List(ListType::Check),
             r#"{"listType":"x"}"#,
             "listType",
@@ -364,8 +375,30 @@ fn fields_are_those_of_documents(rt: HostRuntime) -> Result<(), Fail> {
         ),
         (Kind::Item, r#"{"value":1200001}"#, "value"),
         (Kind::Rule, r#"{"format":true}"#, "Bare"),
+        (Kind::Break, "{}", "Bare"),
     ] {
         assert!(rt; gives(rt.alloc(), kind, text, wanted)?, "at {text}");
+    }
+    Ok(())
+}
+
+// Kinds that have no member of their own.
+#[test]
+fn other_elements_are_plain(rt: HostRuntime) -> Result<(), Fail> {
+    for kind in [
+        Kind::Root,
+        Kind::Paragraph,
+        Kind::Quote,
+        Kind::Table,
+        Kind::Row,
+    ] {
+        let plain = gives(
+            rt.alloc(),
+            kind,
+            r#"{"checked":true,"url":3}"#,
+            r#"Element(ElementFields { direction: Unset, format: Unset, indent: 0, text_format: 0, text_style: Txt { text: "" }, extra: Plain })"#,
+        )?;
+        assert!(rt; plain, "at {kind:?}");
     }
     Ok(())
 }
