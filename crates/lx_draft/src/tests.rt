@@ -1,12 +1,12 @@
 ghost use Rattle.std.specs.Prelude.{IfOk};
 ghost use Rattle.lx_draft.specs.Working.{MayStart};
 
-use crate::{Draft, Frozen, State};
+use crate::{Draft, Frozen, PointRule, Round, State};
 use lx_node::{
     Align, Cause, Direction, ElementFields, Extra, Fault, Fields, Key, Kind, Lost, Mode, NoMemory,
     Point, PointKind, TextFields, Txt,
 };
-use lx_select::Selection;
+use lx_select::{Keys, Selection};
 use std::alloc::Global;
 use std::process::Abort;
 use std::test::Fail;
@@ -186,5 +186,113 @@ fn caret_moves(rt: &impl Abort, alloc: Global) -> Result<bool, Fault> {
 fn points_move_with_a_splice(rt: HostRuntime) -> Result<(), Fail> {
     let moved = caret_moves(&rt, rt.alloc())?;
     assert!(rt; moved);
+    Ok(())
+}
+
+fn copied(rt: &impl Abort, alloc: Global) -> Result<bool, Fault> {
+    let first = one_paragraph(rt, alloc)?;
+    let copy = first.state.copy(alloc)?;
+    Ok(copy.links.len() == 3 && copy.selection.is_equal(&first.state.selection))
+}
+
+#[test]
+fn states_are_copied(rt: HostRuntime) -> Result<(), Fail> {
+    let equal = copied(&rt, rt.alloc())?;
+    assert!(rt; equal);
+    Ok(())
+}
+
+/// Whether a set of a shorter text marks it, and keeps the caret within it.
+fn shortened(rt: &impl Abort, alloc: Global) -> Result<bool, Fault> {
+    let first = one_paragraph(rt, alloc)?;
+    let mut draft = Draft::start(alloc, &first.state, first.next_key)?;
+    draft.select(caret(Key(2), 2))?;
+    draft.set(Key(2), text(alloc, "H")?)?;
+    Ok(draft.marks().has_leaf(Key(2)) && draft.selection().is_equal(&caret(Key(2), 1)))
+}
+
+#[test]
+fn a_set_keeps_points_within(rt: HostRuntime) -> Result<(), Fail> {
+    let within = shortened(&rt, rt.alloc())?;
+    assert!(rt; within);
+    Ok(())
+}
+
+fn sent_to_the_start(rt: &impl Abort, alloc: Global) -> Result<bool, Fault> {
+    let first = one_paragraph(rt, alloc)?;
+    let mut draft = Draft::start(alloc, &first.state, first.next_key)?;
+    draft.select(caret(Key(2), 2))?;
+    draft.point_rule(PointRule::Move {
+        key: Key(2),
+        to: text_point(Key(2), 0),
+    });
+    Ok(draft.selection().is_equal(&caret(Key(2), 0)))
+}
+
+#[test]
+fn points_move_by_a_rule(rt: HostRuntime) -> Result<(), Fail> {
+    let moved = sent_to_the_start(&rt, rt.alloc())?;
+    assert!(rt; moved);
+    Ok(())
+}
+
+/// Whether the text 2 alone is to be handled.
+fn is_the_text(round: &Round) -> bool {
+    match round {
+        Round::Leaves(keys) => keys.items().len() == 1 && keys.items()[0] == Key(2),
+        _ => false,
+    }
+}
+
+/// Whether the paragraph 1 is to be handled itself, and the root for what is below it.
+fn is_the_paragraph(round: &Round) -> bool {
+    match round {
+        Round::Elements(flags) => {
+            flags.items().len() == 2
+                && flags.items()[0] == (Key(1), true)
+                && flags.items()[1] == (Key(0), false)
+        }
+        _ => false,
+    }
+}
+
+/// Whether a text that is marked, and its paragraph, which is marked without a count, are handled in two
+/// rounds.
+fn handled_in_rounds(rt: &impl Abort, alloc: Global) -> Result<bool, Fault> {
+    let first = one_paragraph(rt, alloc)?;
+    let mut draft = Draft::start(alloc, &first.state, first.next_key)?;
+    draft.mark(Key(2))?;
+    draft.mark_uncounted(Key(1))?;
+    let leaves = is_the_text(&draft.take_round()?);
+    let elements = is_the_paragraph(&draft.take_round()?);
+    let rest = matches!(draft.take_round()?, Round::Rest);
+    Ok(leaves && elements && rest && draft.counted() == 1)
+}
+
+#[test]
+fn marks_are_handled_in_rounds(rt: HostRuntime) -> Result<(), Fail> {
+    let handled = handled_in_rounds(&rt, rt.alloc())?;
+    assert!(rt; handled);
+    Ok(())
+}
+
+/// The paragraph 1, selected as a node.
+fn the_paragraph(alloc: Global) -> Result<Selection, NoMemory> {
+    Ok(Selection::Nodes(Keys::of(vec![in alloc; Key(1)]?)))
+}
+
+fn swept_with_its_selection(rt: &impl Abort, alloc: Global) -> Result<Frozen, Fault> {
+    let first = one_paragraph(rt, alloc)?;
+    let mut draft = Draft::start(alloc, &first.state, first.next_key)?;
+    draft.select(the_paragraph(alloc)?)?;
+    draft.take(Key(1))?;
+    draft.freeze()
+}
+
+#[test]
+fn swept_nodes_are_selected_no_longer(rt: HostRuntime) -> Result<(), Fail> {
+    let frozen = swept_with_its_selection(&rt, rt.alloc())?;
+    let nothing = frozen.state.selection.is_equal(&Selection::Nothing);
+    assert!(rt; nothing);
     Ok(())
 }
