@@ -3,7 +3,11 @@ pub mod Marked
 pub mod Points
 pub mod Measured
 pub mod Kept
+pub mod Covered
+pub mod CoveredEdits
+pub mod CoveredSteps
 pub mod Put
 pub mod Spliced
 pub mod Started
 pub mod Swept
+pub mod Touched

@@ -7,3 +7,5 @@ pub mod Freezing
 pub mod Inside
 pub mod Points
 pub mod Rounds
+pub mod Covering
+pub mod Laws

@@ -8,6 +8,7 @@ mod draft;
 mod edits;
 mod fields;
 mod freezing;
+mod laws;
 mod marking;
 mod places;
 mod rounds;
@@ -17,6 +18,7 @@ mod state;
 mod texts;
 
 pub use draft::Draft;
+pub use laws::drafts_are_covered;
 pub use rounds::{Flags, Round};
 pub use rules::PointRule;
 pub use state::{Frozen, State};

@@ -1,0 +1,181 @@
+-- Each step of a draft is covered by what it marks.
+use Rattle.std.proofs.Common.{◌≡◌, ◌∙◌, ℕ, ◌+◌, ◌≤◌, Bool, true, false, ltb, List, [], ◌∷◌, length, Option, None, refl, sym, ap, subst, arith, inl}
+use Rattle.std.specs.Prelude.{slice_get}
+use Rattle.std.specs.Option.{option_or}
+use Rattle.std.proofs.lemmas.Bool.Decides.{eqb_tells}
+use Rattle.lx_node.specs.Strings.{characters_of}
+use Rattle.lx_node.specs.declared.kind.Kind.{Kind}
+use Rattle.lx_node.specs.declared.fields.Fields.{Fields}
+use Rattle.lx_node.specs.declared.cause.Cause.{Cause}
+use Rattle.lx_select.specs.declared.selection.Selection.{Selection}
+use Rattle.lx_forest.specs.Forest.{Forest, Label}
+use Rattle.lx_forest.specs.Lookups.{has, count, label_of, kind_of, fields_of, children_of, IsForest}
+use Rattle.lx_forest.specs.Edits.{with_new, with_fields, take_out, put_in}
+use Rattle.lx_forest.proofs.Edits.{count-with_new, count-with_fields, count-take_out, count-put_in}
+use Rattle.lx_forest.proofs.Order.{IsForest-with_new, IsForest-with_fields, IsForest-take_out, IsForest-put_in}
+use Rattle.lx_links.specs.Faults.{unknown, wrong_fields, set_fault, not_below, detach_fault}
+use Rattle.lx_draft.specs.Working.{Working}
+use Rattle.lx_draft.specs.Marking.{near, mark_nodes, marked_in}
+use Rattle.lx_draft.specs.Selecting.{select_fault}
+use Rattle.lx_draft.specs.Faults.{over_counts, over_limits, put_fault, label_fault, splice_fault}
+use Rattle.lx_draft.specs.Steps.{counted_up, count_step, edited, wrote, made, new_step, differ, marked_if, refielded, set_points, set_step, label_with_piece, splice_points, splice_step, taken, take_step, placed, put_step, mark_step, mark_uncounted_step, select_step}
+use Rattle.lx_draft.specs.Covering.{IsReady, AreCovered, IsCovering}
+use Rattle.lx_draft.specs.Laws.{DraftsAreCovered}
+use Rattle.lx_draft.proofs.Put.{both_none, can_put}
+use Rattle.lx_draft.proofs.Covered.{IsTold, noted_up, covered, covered-same, covered-self, covered-then, covered-answer}
+use Rattle.lx_draft.proofs.CoveredEdits.{told_new, told_set, told_equal, told_take, told_put, index_place}
+
+known : (f : Forest) (k : ℕ) → unknown f k ≡ None → has k f ≡ true
+known f k e = grind (arith, e)
+
+known_first : (f : Forest) (k : ℕ) (rest : Option Cause) → option_or (unknown f k) rest ≡ None → has k f ≡ true
+known_first f k rest e = known f k ((both_none (unknown f k) rest e).0)
+
+-- the same keys are free
+free_still : (w : Working) (g : Forest) (q : ℕ) → IsReady w → w.next_key ≤ q → count q g ≡ count q w.forest → has q g ≡ false
+free_still w g q r e same = ap (λ n. ltb 0 n) same ∙ r.free q e
+
+-- ---- the forest stays
+
+pub covered-pointed : (w : Working) (selection : Selection) → IsReady w → AreCovered w (record w { selection = selection })
+covered-pointed w selection r = covered-same w (record w { selection = selection }) r refl refl refl refl
+
+pub covered-count : IsCovering count_step
+unfolding count_step
+covered-count w v r e = covered-answer w v (counted_up w) (over_counts w) e (λ none. covered-same w (counted_up w) r refl refl refl refl)
+
+pub covered-select : (selection : Selection) → IsCovering (select_step selection)
+unfolding select_step
+covered-select selection w v r e =
+    covered-answer w v (record w { selection = selection }) (select_fault selection w.forest) e (λ none. covered-pointed w selection r)
+
+-- ---- mark
+
+told_mark : (k : ℕ) (f : Forest) → IsForest f → IsTold f f f (k ∷ [])
+told_mark k f h = record {
+  seen = λ q. inl (refl, refl);
+  above = λ m up. noted_up f (k ∷ []) m h (λ q p was over. inl (up q p was over));
+}
+
+covered-marked : (w u : Working) (k : ℕ) → IsReady w → u.forest ≡ w.forest → u.next_key ≡ w.next_key → u.marks ≡ w.marks → u.fresh ≡ w.fresh → AreCovered w (marked_in w.forest (k ∷ []) u)
+covered-marked w u k r forest next marks fresh =
+    covered w (marked_in w.forest (k ∷ []) u) w.forest (k ∷ []) r.in_order (subst (λ g. IsTold w.forest g w.forest (k ∷ [])) (sym forest) (told_mark k w.forest r.in_order))
+    (ap (λ m. mark_nodes w.forest (k ∷ []) m) marks) (ap (λ m. mark_nodes w.forest (k ∷ []) m) fresh) (record {
+      in_order = subst IsForest (sym forest) r.in_order;
+      free = λ q e. ap (has q) forest ∙ r.free q (subst (λ n. n ≤ q) next e);
+    })
+
+pub covered-mark : (k : ℕ) → IsCovering (mark_step k)
+unfolding mark_step
+covered-mark k w v r e =
+    covered-answer w v (marked_in w.forest (k ∷ []) (edited w)) (option_or (unknown w.forest k) (over_counts w)) e (λ none. covered-marked w (edited w) k r refl refl refl refl)
+
+pub covered-mark_uncounted : (k : ℕ) → IsCovering (mark_uncounted_step k)
+unfolding mark_uncounted_step
+covered-mark_uncounted k w v r e =
+    covered-answer w v (marked_in w.forest (k ∷ []) w) (unknown w.forest k) e (λ none. covered-marked w w k r refl refl refl refl)
+
+-- ---- new
+
+new_free : (w : Working) (l : Label) (q : ℕ) → IsReady w → l.key ≡ w.next_key → w.next_key + 1 ≤ q → has q (with_new l w.forest) ≡ false
+new_free w l q r own e =
+    ap (λ n. ltb 0 n) (count-with_new q l w.forest) ∙ grind (arith, own, e, r.free q (omega (arith, e)), eqb_tells l.key q)
+
+covered-made : (kind : Kind) (fields : Fields) (w : Working) → IsReady w → AreCovered w (made kind fields w)
+covered-made kind fields w r =
+    let l : Label = record { key = w.next_key; kind = kind; fields = fields } in
+    let free : has l.key w.forest ≡ false = r.free w.next_key (omega arith) in
+    covered w (made kind fields w) (with_new l w.forest) (w.next_key ∷ []) (IsForest-with_new l w.forest r.in_order free) (told_new l w.forest r.in_order free) refl refl (record {
+      in_order = IsForest-with_new l w.forest r.in_order free;
+      free = λ q e. new_free w l q r refl e;
+    })
+
+pub covered-new : (kind : Kind) (fields : Fields) → IsCovering (new_step kind fields)
+unfolding new_step
+covered-new kind fields w v r e =
+    covered-answer w v (made kind fields w) (over_limits (characters_of fields) w) e (λ none. covered-made kind fields w r)
+
+-- ---- set and splice
+
+set_ready : (k : ℕ) (fields : Fields) (w v : Working) → IsReady w → v.forest ≡ with_fields k fields w.forest → v.next_key ≡ w.next_key → IsReady v
+set_ready k fields w v r forest next = record {
+  in_order = subst IsForest (sym forest) (IsForest-with_fields k fields w.forest r.in_order);
+  free = λ q e. ap (has q) forest ∙ free_still w (with_fields k fields w.forest) q r (subst (λ n. n ≤ q) next e) (count-with_fields q k fields w.forest);
+}
+
+covered-refielded_if : (differs : Bool) (k : ℕ) (fields : Fields) (more : ℕ) (selection : Selection) (w : Working) → IsReady w → has k w.forest ≡ true → differ (fields_of w.forest k) fields ≡ differs
+    → AreCovered w (record (marked_if differs w.forest k (wrote more w)) { forest = with_fields k fields w.forest; selection = selection })
+covered-refielded_if true k fields more selection w r there e =
+    let v : Working = record (marked_in w.forest (k ∷ []) (wrote more w)) { forest = with_fields k fields w.forest; selection = selection } in
+    covered w v w.forest (k ∷ []) r.in_order (told_set k fields w.forest r.in_order there) refl refl (set_ready k fields w v r refl refl)
+covered-refielded_if false k fields more selection w r there e =
+    let v : Working = record (wrote more w) { forest = with_fields k fields w.forest; selection = selection } in
+    covered w v w.forest [] r.in_order (told_equal k fields w.forest e) refl refl (set_ready k fields w v r refl refl)
+
+covered-refielded : (k : ℕ) (fields : Fields) (more : ℕ) (moved : Selection → Selection) (w : Working) → IsReady w → has k w.forest ≡ true → AreCovered w (refielded k fields more moved w)
+covered-refielded k fields more moved w r there =
+    covered-refielded_if (differ (fields_of w.forest k) fields) k fields more (moved w.selection) w r there refl
+
+pub covered-set : (k : ℕ) (fields : Fields) → IsCovering (set_step k fields)
+unfolding set_step
+covered-set k fields w v r e =
+    covered-answer w v (refielded k fields (characters_of fields) (set_points k fields) w) (option_or (set_fault k fields w.forest) (over_limits (characters_of fields) w)) e (λ none.
+    covered-refielded k fields (characters_of fields) (set_points k fields) w r
+    (known_first w.forest k (wrong_fields (kind_of w.forest k) fields) ((both_none (set_fault k fields w.forest) (over_limits (characters_of fields) w) none).0)))
+
+pub covered-splice : (k from to : ℕ) (new : List ℕ) → IsCovering (splice_step k from to new)
+unfolding splice_step
+covered-splice k from to new w v r e =
+    let fields : Fields = label_with_piece (label_of w.forest k) from to new in
+    covered-answer w v (refielded k fields (length new) (splice_points k from to new) w) (option_or (splice_fault k from to w.forest) (over_limits (length new) w)) e (λ none.
+    covered-refielded k fields (length new) (splice_points k from to new) w r
+    (known_first w.forest k (label_fault (label_of w.forest k) from to) ((both_none (splice_fault k from to w.forest) (over_limits (length new) w) none).0)))
+
+-- ---- take and put
+
+covered-taken : (k : ℕ) (w : Working) → IsReady w → has k w.forest ≡ true → AreCovered w (taken k w)
+covered-taken k w r there =
+    covered w (taken k w) w.forest (near w.forest k) r.in_order (told_take k w.forest r.in_order there) refl refl (record {
+      in_order = IsForest-take_out k w.forest r.in_order;
+      free = λ q e. free_still w (take_out k w.forest) q r e (count-take_out q k w.forest);
+    })
+
+pub covered-take : (k : ℕ) → IsCovering (take_step k)
+unfolding take_step
+covered-take k w v r e =
+    covered-answer w v (taken k w) (option_or (detach_fault k w.forest) (over_counts w)) e (λ none.
+    covered-taken k w r (known_first w.forest k (not_below w.forest k) ((both_none (detach_fault k w.forest) (over_counts w) none).0)))
+
+covered-placed : (k p index : ℕ) (w : Working) → IsReady w → put_fault k p index w.forest ≡ None → AreCovered w (placed k p index w)
+covered-placed k p index w r none =
+    let before : Option ℕ = slice_get (children_of w.forest p) index in
+    let can = can_put w.forest k p index none in
+    covered w (placed k p index w) (put_in p before k w.forest) (near (put_in p before k w.forest) k) (IsForest-put_in p before k w.forest r.in_order can)
+    (told_put p before k w.forest r.in_order can (index_place (children_of w.forest p) before index refl)) refl refl (record {
+      in_order = IsForest-put_in p before k w.forest r.in_order can;
+      free = λ q e. free_still w (put_in p before k w.forest) q r e (count-put_in q p before k w.forest r.in_order can.parent can.outside);
+    })
+
+pub covered-put : (k p index : ℕ) → IsCovering (put_step k p index)
+unfolding put_step
+covered-put k p index w v r e =
+    covered-answer w v (placed k p index w) (option_or (put_fault k p index w.forest) (over_counts w)) e (λ none.
+    covered-placed k p index w r ((both_none (put_fault k p index w.forest) (over_counts w) none).0))
+
+-- ---- all of them
+
+pub covered-steps : DraftsAreCovered
+covered-steps = record {
+  same = covered-self;
+  composed = covered-then;
+  pointed = covered-pointed;
+  count = covered-count;
+  new = covered-new;
+  set = covered-set;
+  splice = covered-splice;
+  take = covered-take;
+  put = covered-put;
+  mark = covered-mark;
+  mark_uncounted = covered-mark_uncounted;
+  select = covered-select;
+}

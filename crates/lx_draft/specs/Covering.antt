@@ -1,0 +1,55 @@
+-- What marks tell of a change: every node that isn't marked itself is as it was.
+use Rattle.std.specs.Prelude.{ℕ, ◌≡◌, ◌≤◌, ◌⊎◌, ◌||◌, Bool, true, false, is_some, Option, None, Some, Result, Ok}
+use Rattle.lx_node.specs.Siblings.{is_among}
+use Rattle.lx_node.specs.declared.cause.Cause.{Cause}
+use Rattle.lx_marks.specs.Marks.{Marked, flag_in}
+use Rattle.lx_forest.specs.Forest.{Forest}
+use Rattle.lx_forest.specs.Lookups.{has, spot, parent_of, IsForest}
+use Rattle.lx_forest.specs.Records.{record_at}
+use Rattle.lx_draft.specs.Working.{Working}
+
+-- ---- marks
+
+abbrev pub is_true_flag : Option Bool → Bool
+is_true_flag None = false
+is_true_flag (Some flag) = flag
+
+-- whether a node is marked itself: as a leaf, or as an element whose flag is true
+abbrev pub is_touched : Marked → ℕ → Bool
+is_touched m q = is_among q m.leaves || is_true_flag (flag_in m.elements q)
+
+-- whether it is marked at all: itself, or since something below it is
+abbrev pub is_noted : Marked → ℕ → Bool
+is_noted m q = is_among q m.leaves || is_some (flag_in m.elements q)
+
+-- above each marked node every node is marked
+abbrev pub IsNotedUp : Forest → Marked → Type 0
+IsNotedUp f m = (q p : ℕ) → is_noted m q ≡ true → parent_of f q ≡ Some p → is_noted m p ≡ true
+
+-- The marks n tell what changed from the forest f, with the marks m, to the forest g: each node that isn't marked itself has
+-- the label, the place, the neighbours and the children that it had; what was marked stays so; and above marked nodes all
+-- stay marked.
+pub record Covers (f : Forest) (m : Marked) (g : Forest) (n : Marked) : Type 0 where
+  pub touched : (q : ℕ) → is_touched m q ≡ true → is_touched n q ≡ true
+  pub noted : (q : ℕ) → is_noted m q ≡ true → is_noted n q ≡ true
+  pub seen : (q : ℕ) → ((spot g q ≡ spot f q) × (record_at g q ≡ record_at f q)) ⊎ (is_touched n q ≡ true)
+  pub above : IsNotedUp f m → IsNotedUp g n
+
+-- ---- drafts
+
+-- what an update can rely on between two edits of a draft: it hasn't failed, and the next key and those above it are free
+pub record IsReady (w : Working) : Type 0 where
+  pub in_order : IsForest w.forest
+  pub free : (q : ℕ) → w.next_key ≤ q → has q w.forest ≡ false
+
+-- What a draft became: the marks of the whole update cover it, and so do those that haven't been handled yet; what is marked
+-- anew by the first is so by the second too; and the next edit can rely on the same.
+pub record AreCovered (w v : Working) : Type 0 where
+  pub marks : Covers w.forest w.marks v.forest v.marks
+  pub fresh : Covers w.forest w.fresh v.forest v.fresh
+  pub told : (q : ℕ) → is_touched v.marks q ≡ true → (is_touched w.marks q ≡ true) ⊎ (is_touched v.fresh q ≡ true)
+  pub ready : IsReady v
+
+-- a step whose every result is covered
+abbrev pub IsCovering : (Working → Result Working Cause) → Type 0
+IsCovering step = (w v : Working) → IsReady w → step w ≡ Ok v → AreCovered w v
