@@ -4,3 +4,4 @@ pub mod Indices
 pub mod Tails
 pub mod Keyed
 pub mod Joined
+pub mod Covered

@@ -3,3 +3,4 @@ pub mod Conditions
 pub mod Edits
 pub mod Texts
 pub mod Standing
+pub mod Laws
