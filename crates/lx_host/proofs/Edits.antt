@@ -8,10 +8,10 @@ use Rattle.std.proofs.lemmas.List.{set_split, get_or_default, append-nil}
 use Rattle.std.proofs.Math.Numerals.{add-one, one-add}
 use Rattle.lx_host.proofs.Found.{is_some-position}
 use Rattle.lx_node.specs.Trees.{Trees, nil, tree, joined}
-use Rattle.lx_host.specs.Hosts.{Host, count, without, alone, ids_of, children_of, inserted, put_below}
+use Rattle.lx_host.specs.Hosts.{Host, count, without, alone, ids_of, children_of, inserted, put_below, Face, changed}
 use Rattle.lx_host.specs.Branches.{Branch, trees_of}
 use denote.Param.Weighed.{most}
-use Rattle.lx_host.proofs.Laws.{count-joined, without-joined, alone-joined, put_below-joined, children_of-joined, without-absent, alone-absent, put_below-absent, children_of-absent, joined-nil, inserted-None}
+use Rattle.lx_host.proofs.Laws.{count-joined, without-joined, alone-joined, put_below-joined, children_of-joined, without-absent, alone-absent, put_below-absent, children_of-absent, joined-nil, inserted-None, changed-joined, changed-absent}
 use Rattle.lx_host.proofs.Spotted.{trees_of-append, trees_of-at}
 
 -- Of these hosts b, at place i, is the only one that is the host of this id or has it below.
@@ -133,3 +133,21 @@ inserted_at before i n xs e =
 
 pub has_place : (before : ℕ) (xs : List Branch) → position (λ b. eqb b.host.id before) xs ≡ None → list_any (λ i. eqb i before) (ids_of (trees_of xs)) ≡ true → ⊥
 has_place before xs e f = let none = sym (ap is_some e) ∙ is_some-position before xs ∙ f in cc
+
+-- ---- what one of these shows, or one below it, changed
+
+pub changed_held : (id : ℕ) (change : Face → Face) (xs : List Branch) (i : ℕ) (b c : Branch) → IsOnlyHolder id xs i b → trees_of (c ∷ []) ≡ changed id change (trees_of (b ∷ [])) → trees_of (set xs i c) ≡ changed id change (trees_of xs)
+changed_held id change xs i b c h e =
+    let F = trees_of (take i xs) in
+    let K = trees_of (drop (i + 1) xs) in
+    trees_of-set xs i c h.within ∙ ap (λ t. joined F (joined t K)) e
+    ∙ sym (ap (changed id change) h.is ∙ changed-joined id change F (tree b.host b.below K)
+    ∙ rw (changed-absent id change F h.front, changed-absent id change K h.back) refl)
+
+pub changed_here : (id : ℕ) (change : Face → Face) (b c : Branch) → count id (trees_of (b ∷ [])) ≡ 1 → b.host.id ≡ id → c ≡ record { host = record { id = b.host.id; face = change b.host.face }; below = b.below } → trees_of (c ∷ []) ≡ changed id change (trees_of (b ∷ []))
+changed_here id change b c once e is =
+    let here = rw (eq-eqb b.host.id id e) at once in
+    ap (λ x. trees_of (x ∷ [])) is ∙ sym (rw (eq-eqb b.host.id id e, changed-absent id change b.below (omega (arith, here))) refl)
+
+pub changed_deeper : (id : ℕ) (change : Face → Face) (w : Trees Host) (b : Branch) (h : Host) → (b.host.id ≡ id → ⊥) → h ≡ b.host → w ≡ changed id change b.below → tree h w nil ≡ changed id change (trees_of (b ∷ []))
+changed_deeper id change w b h e host is = rw (ne_eqb b.host.id id e) (ap (λ x. tree x w nil) host ∙ ap (λ x. tree b.host x nil) is)

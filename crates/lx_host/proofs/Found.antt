@@ -1,5 +1,5 @@
 -- Where no id stands twice, what the first host of an id says of all hosts of that id.
-use Rattle.std.proofs.Common.{◌≡◌, ℕ, ◌+◌, ◌<◌, Bool, true, false, cond, eqb, ltb, not, List, [], ◌∷◌, ◌++◌, length, Option, None, Some, is_some, ◌||◌, refl, ap, ◌∙◌, arith, suc}
+use Rattle.std.proofs.Common.{◌≡◌, ℕ, ◌+◌, ◌<◌, Bool, true, false, cond, eqb, ltb, not, List, [], ◌∷◌, ◌++◌, length, Option, None, Some, is_some, ◌||◌, refl, sym, ap, ◌∙◌, arith, suc}
 use Rattle.std.specs.Cmp.{both_ways}
 use Rattle.std.specs.List.{list_any, position, position_or_len}
 use Rattle.std.specs.Option.{option_or}
@@ -8,7 +8,9 @@ use Rattle.std.proofs.lemmas.Option.{same_Some}
 use Rattle.std.proofs.lemmas.List.{append-nil}
 use Rattle.lx_node.specs.Trees.{Trees, nil, tree, joined}
 use Rattle.lx_host.specs.Hosts.{Host, count, alone, ids_of, children_of}
+use Rattle.lx_node.specs.Siblings.{first_of}
 use Rattle.lx_host.specs.Branches.{Branch, trees_of, spotted}
+use Rattle.lx_host.specs.Lookups.{first_child}
 use Rattle.lx_host.proofs.Laws.{alone-absent, children_of-absent, joined-nil}
 use Rattle.lx_host.proofs.Spotted.{count_unspotted, count_spotted}
 
@@ -59,3 +61,11 @@ is_some-cond false k = refl
 pub is_some-position : (id : ℕ) (xs : List Branch) → is_some (position (λ b. eqb b.host.id id) xs) ≡ list_any (λ i. eqb i id) (ids_of (trees_of xs))
 is_some-position id xs =
     is_some-cond (ltb (position_or_len (λ b. eqb b.host.id id) xs) (length xs)) (position_or_len (λ b. eqb b.host.id id) xs) ∙ ltb-position_or_len id xs
+
+-- ---- the first child
+
+pub first_child_found : (id : ℕ) (t : Trees Host) (b : Branch) → count id t < 2 → Some b ≡ spotted id t → first_of (ids_of b.below) ≡ first_child id t
+first_child_found id t b once e = ap first_of (sym (whole id t b once (sym e)).1)
+
+pub first_child_none : (id : ℕ) (t : Trees Host) → None ≡ spotted id t → None ≡ first_child id t
+first_child_none id t e = ap first_of (sym (children_of-absent id t (count_unspotted id t (sym e))))

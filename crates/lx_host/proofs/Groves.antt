@@ -3,9 +3,9 @@ use Rattle.std.proofs.Common.{◌≡◌, ℕ, ◌+◌, ◌<◌, List, [], ◌∷
 use Rattle.std.proofs.lemmas.Bool.{ne_eqb}
 use Rattle.std.proofs.lemmas.List.{get_or_default, append-nil}
 use Rattle.lx_node.specs.Trees.{Trees, nil, tree, joined}
-use Rattle.lx_host.specs.Hosts.{Host, count, without, alone, children_of, put_below}
+use Rattle.lx_host.specs.Hosts.{Host, Face, count, without, alone, children_of, put_below, changed}
 use Rattle.lx_host.specs.Branches.{Branch, trees_of}
-use Rattle.lx_host.proofs.Laws.{count-joined, without-joined, alone-joined, put_below-joined, children_of-joined, without-absent, alone-absent, put_below-absent, children_of-absent, joined-nil}
+use Rattle.lx_host.proofs.Laws.{count-joined, without-joined, alone-joined, put_below-joined, children_of-joined, without-absent, alone-absent, put_below-absent, children_of-absent, joined-nil, changed-joined, changed-absent}
 use Rattle.lx_host.proofs.Spotted.{trees_of-at}
 
 -- ---- in the first tree
@@ -25,6 +25,9 @@ module _ (id : ℕ) (h : Host) (w rest : Trees Host) (once : count id (tree h w 
 
   pub children_first : children_of id (tree h w rest) ≡ children_of id (tree h w nil)
   children_first = children_of-joined id (tree h w nil) rest ∙ rw (children_of-absent id rest absent_behind) (append-nil (children_of id (tree h w nil)))
+
+  pub changed_first : (change : Face → Face) → changed id change (tree h w rest) ≡ joined (changed id change (tree h w nil)) rest
+  changed_first change = rw (changed-absent id change rest absent_behind)
 
 -- ---- behind it
 
@@ -50,3 +53,6 @@ module _ (id : ℕ) (h : Host) (w rest : Trees Host) (once : count id (tree h w 
 
   pub children_behind : children_of id (tree h w rest) ≡ children_of id rest
   children_behind = children_of-joined id (tree h w nil) rest ∙ ap (λ ids. ids ++ children_of id rest) (children_of-absent id (tree h w nil) absent_first)
+
+  pub changed_behind : (change : Face → Face) → changed id change (tree h w rest) ≡ tree h w (changed id change rest)
+  changed_behind change = changed-joined id change (tree h w nil) rest ∙ ap (λ f. joined f (changed id change rest)) (changed-absent id change (tree h w nil) absent_first)

@@ -7,7 +7,7 @@ use Rattle.std.specs.List.{list_any}
 use Rattle.lx_node.specs.Trees.{Trees, nil, tree, joined}
 use Rattle.lx_node.proofs.NamedTrees as trees
 pub use Rattle.lx_node.proofs.NamedTrees.{joined-nil, joined-assoc}
-use Rattle.lx_host.specs.Hosts.{Host, id_of, count, without, alone, ids_of, children_of, inserted, put_below}
+use Rattle.lx_host.specs.Hosts.{Host, Face, id_of, count, without, alone, ids_of, children_of, inserted, put_below, changed_at, changed}
 
 -- ---- one behind another
 
@@ -25,6 +25,9 @@ put_below-joined = trees.put_below-joined id_of
 
 pub children_of-joined : (id : ℕ) (s t : Trees Host) → children_of id (joined s t) ≡ children_of id s ++ children_of id t
 children_of-joined = trees.children_of-joined id_of
+
+pub changed-joined : (id : ℕ) (change : Face → Face) (s t : Trees Host) → changed id change (joined s t) ≡ joined (changed id change s) (changed id change t)
+changed-joined id change = trees.mapped-joined (changed_at id change)
 
 pub inserted-None : (new t : Trees Host) → inserted None new t ≡ joined t new
 inserted-None new nil = refl
@@ -44,6 +47,16 @@ put_below-absent = trees.put_below-absent id_of
 pub children_of-absent : (id : ℕ) (t : Trees Host) → count id t ≡ 0 → children_of id t ≡ []
 children_of-absent = trees.children_of-absent id_of
 
+absent_parts : (b : Bool) (m n : ℕ) → cond b 1 0 + m + n ≡ 0 → (b ≡ false) × (m ≡ 0) × (n ≡ 0)
+absent_parts true m n e = absurd (omega arith)
+absent_parts false m n e = (refl, omega arith, omega arith)
+
+pub changed-absent : (id : ℕ) (change : Face → Face) (t : Trees Host) → count id t ≡ 0 → changed id change t ≡ t
+changed-absent id change nil e = refl
+changed-absent id change (tree h below rest) e =
+    let p = absent_parts (eqb h.id id) (count id below) (count id rest) e in
+    rw (p.0, changed-absent id change below p.1, changed-absent id change rest p.2) refl
+
 -- ---- counts after an edit
 
 pub count-without-alone : (q id : ℕ) (t : Trees Host) → count q (without id t) + count q (alone id t) ≡ count q t
@@ -57,9 +70,8 @@ count-put_below-le q parent before new t once =
       | inr none ↦ omega (arith, ap (count q) (put_below-absent parent before new t (omega arith)))
     ]
 
-absent_parts : (b : Bool) (m n : ℕ) → cond b 1 0 + m + n ≡ 0 → (b ≡ false) × (m ≡ 0) × (n ≡ 0)
-absent_parts true m n e = absurd (omega arith)
-absent_parts false m n e = (refl, omega arith, omega arith)
+pub count-changed : (q id : ℕ) (change : Face → Face) (t : Trees Host) → count q (changed id change t) ≡ count q t
+count-changed q id change = trees.count-mapped id_of (changed_at id change) (λ _. refl) q
 
 -- ---- a child that stays among the children when another is taken out
 

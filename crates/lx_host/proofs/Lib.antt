@@ -1,3 +1,4 @@
+pub mod Attributes
 pub mod Edits
 pub mod Found
 pub mod Groves

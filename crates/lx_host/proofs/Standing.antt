@@ -7,13 +7,13 @@ use Rattle.std.proofs.lemmas.Bool.{eqb-true, eqb-false, eq-eqb, ne_eqb, ltb-true
 use Rattle.std.proofs.Math.Bool.{not-not}
 use Rattle.std.proofs.lemmas.Bool.Decides.{eqb_tells}
 use Rattle.lx_node.specs.Trees.{Trees, nil, tree, joined}
-use Rattle.lx_host.specs.declared.op.Op.TheVariants.{Create, Place}
+use Rattle.lx_host.specs.declared.op.Op.TheVariants.{Create, Place, Drop}
 use Rattle.lx_host.specs.declared.tag.Tag.{Tag}
-use Rattle.lx_host.specs.Hosts.{Host, HostTree, Face, count, has, without, alone, put_below, one_host, ids_of, children_of, fits_before, fits, effect}
+use Rattle.lx_host.specs.Hosts.{Host, HostTree, Face, count, has, without, alone, put_below, one_host, ids_of, children_of, fits_before, changed, fits, effect}
 use Rattle.lx_host.specs.Branches.{Branch, trees_of, spotted, has_before, IsRooted, IsStanding}
 use Rattle.lx_host.proofs.Found.{whole}
 use Rattle.lx_host.proofs.Spotted.{is_some-spotted, is_found}
-use Rattle.lx_host.proofs.Laws.{children_of-without, count-joined, count-without-alone, count-put_below-le}
+use Rattle.lx_host.proofs.Laws.{children_of-without, count-joined, count-without-alone, count-put_below-le, count-changed}
 
 both : (s t : Bool) → (s && t) ≡ true → (s ≡ true) × (t ≡ true)
 both true t e = (refl, e)
@@ -53,6 +53,22 @@ fits_place parent child before w e =
       before_in = p.1;
     }
 
+pub record FitsDrop (id : ℕ) (w : HostTree) : Type 0 where
+  pub other : id ≡ 0 → ⊥
+  pub here : IsTrue (has id w.hosts)
+
+pub fits_drop : (id : ℕ) (w : HostTree) → IsTrue (fits (Drop id) w) → FitsDrop id w
+unfolding fits
+fits_drop id w e =
+    let p = both (not (eqb id 0)) (has id w.hosts) e in
+    record { other = eqb-false id 0 (not-true _ p.0); here = p.1 }
+
+pub has_once : (id : ℕ) (w : HostTree) → IsStanding w → IsTrue (has id w.hosts) → count id w.hosts ≡ 1
+has_once id w s e = omega (arith, s.numbered.once id, ltb-true 0 (count id w.hosts) e)
+
+pub dropped_once : (id : ℕ) (w : HostTree) → IsStanding w → FitsDrop id w → count id w.hosts ≡ 1
+dropped_once id w s f = has_once id w s f.here
+
 -- ---- the host of an id, and its parent, where a child is taken out
 
 pub child_once : (parent child : ℕ) (before : Option ℕ) (w : HostTree) → IsStanding w → FitsPlace parent child before w → count child w.hosts ≡ 1
@@ -80,6 +96,10 @@ rooted_put_below : (id : ℕ) (before : Option ℕ) (new t : Trees Host) → IsR
 rooted_put_below id before new nil r = absurd r
 rooted_put_below id before new (tree h below rest) r = r
 
+rooted_changed : (id : ℕ) (change : Face → Face) (t : Trees Host) → IsRooted t → IsRooted (changed id change t)
+rooted_changed id change nil r = absurd r
+rooted_changed id change (tree h below rest) r = r
+
 rooted_joined : (s t : Trees Host) → IsRooted s → IsRooted (joined s t)
 rooted_joined nil t r = absurd r
 rooted_joined (tree h below rest) t r = r
@@ -91,6 +111,15 @@ standing_without id w other s = record {
     below = λ q h. omega (arith, s.numbered.below q h, count-without-alone q id w.hosts);
   };
   rooted = rooted_without id w.hosts other s.rooted;
+}
+
+pub standing_changed : (id : ℕ) (change : Face → Face) (w : HostTree) → IsStanding w → IsStanding (record { hosts = changed id change w.hosts; next = w.next })
+standing_changed id change w s = record {
+  numbered = record {
+    once = λ q. omega (arith, s.numbered.once q, count-changed q id change w.hosts);
+    below = λ q h. omega (arith, s.numbered.below q h, count-changed q id change w.hosts);
+  };
+  rooted = rooted_changed id change w.hosts s.rooted;
 }
 
 pub standing_place : (parent child : ℕ) (before : Option ℕ) (w : HostTree) → IsStanding w → FitsPlace parent child before w → IsStanding (record { hosts = put_below parent before (alone child w.hosts) (without child w.hosts); next = w.next })
@@ -130,6 +159,10 @@ effect_place parent child before w = refl
 pub effect_create : (id key : ℕ) (tag : Tag) (attrs : _) (text : _) (ending : Bool) (w : HostTree) → record { hosts = joined w.hosts (one_host id (record { key = key; tag = tag; attrs = attrs; text = text; ending = ending })); next = w.next + 1 } ≡ effect (Create id key tag attrs text ending) w
 unfolding effect
 effect_create id key tag attrs text ending w = refl
+
+pub effect_drop : (id : ℕ) (w : HostTree) → record { hosts = without id w.hosts; next = w.next } ≡ effect (Drop id) w
+unfolding effect
+effect_drop id w = refl
 
 -- ---- whether a host can be placed, by what is asked in turn
 

@@ -1,12 +1,13 @@
 -- Host trees, and what an operation does to one.
-use Rattle.std.specs.Prelude.{ℕ, ◌+◌, ◌<◌, ◌==◌, ◌≡◌, ◌&&◌, Bool, true, false, not, nat_lt, IsTrue, List, [], ◌∷◌, Option, None, Some}
+use Rattle.std.specs.Prelude.{ℕ, ◌+◌, ◌<◌, ◌==◌, ◌≡◌, ◌&&◌, if◌then◌else◌, Bool, true, false, not, nat_lt, IsTrue, List, [], ◌∷◌, Option, None, Some}
 use Rattle.std.specs.List.{list_any}
 use Rattle.lx_node.specs.Trees.{Trees, nil, tree, joined}
 use Rattle.lx_node.specs.NamedTrees as named
+use Rattle.lx_host.specs.Words.{with_attribute}
 use Rattle.lx_host.specs.declared.tag.Tag.{Tag}
 use Rattle.lx_host.specs.declared.tag.Name.{Name}
 use Rattle.lx_host.specs.declared.op.Op.{Op}
-use Rattle.lx_host.specs.declared.op.Op.TheVariants.{Create, Place}
+use Rattle.lx_host.specs.declared.op.Op.TheVariants.{Create, Place, Drop, Text, Attr, Break}
 
 -- What a host shows, beside its children: a node's key, an element with its attributes, a text or none, and whether a
 -- line break ends it.
@@ -71,18 +72,50 @@ inserted before new hosts = named.inserted id_of before new hosts
 abbrev pub put_below : ℕ → Option ℕ → Trees Host → Trees Host → Trees Host
 put_below parent before new hosts = named.put_below id_of parent before new hosts
 
+-- ---- what a host shows, changed
+
+abbrev pub with_text : List ℕ → Face → Face
+with_text text face =
+    record { key = face.key; tag = face.tag; attrs = face.attrs; text = Some text; ending = face.ending }
+
+-- with the attribute given this value, or taken away
+abbrev pub with_value : Name → Option (List ℕ) → Face → Face
+with_value name value face =
+    record { key = face.key; tag = face.tag; attrs = with_attribute name value face.attrs; text = face.text; ending = face.ending }
+
+-- with a line break at its end, or without
+abbrev pub with_ending : Bool → Face → Face
+with_ending ending face =
+    record { key = face.key; tag = face.tag; attrs = face.attrs; text = face.text; ending = ending }
+
+-- a host, with what it shows changed if it has this id
+abbrev pub changed_at : ℕ → (Face → Face) → Host → Host
+changed_at id change host =
+    record { id = host.id; face = if host.id == id then change host.face else host.face }
+
+-- hosts, with what the one of that id shows changed
+abbrev pub changed : ℕ → (Face → Face) → Trees Host → Trees Host
+changed id change hosts = named.mapped (changed_at id change) hosts
+
+-- ---- operations
+
 -- whether a child may be put before this among the children with these ids
 abbrev pub fits_before : ℕ → Option ℕ → List ℕ → Bool
 fits_before child None ids = true
 fits_before child (Some before) ids = list_any (λ id. id == before) ids && not (before == child)
 
 -- Whether an operation fits now. A host is created under the next id, while there is one. A host other than 0 can be
--- placed below each host that isn't below it, before one of that host's children, other than itself, or at the end.
+-- placed below each host that isn't below it, before one of that host's children, other than itself, or at the end. A host
+-- other than 0 can be dropped, and what each host shows can be changed.
 unfoldable pub fits : Op → HostTree → Bool
 fits (Create id key tag attrs text ending) w = (id == w.next) && nat_lt w.next 4294967295
 fits (Place parent child before) w =
     not (child == 0) && has child w.hosts && has parent w.hosts && not (has parent (alone child w.hosts))
     && fits_before child before (children_of parent w.hosts)
+fits (Drop id) w = not (id == 0) && has id w.hosts
+fits (Text id text) w = has id w.hosts
+fits (Attr id name value) w = has id w.hosts
+fits (Break id ending) w = has id w.hosts
 
 -- What an operation makes of a host tree that it fits.
 unfoldable pub effect : Op → HostTree → HostTree
@@ -93,6 +126,10 @@ effect (Create id key tag attrs text ending) w =
     }
 effect (Place parent child before) w =
     record { hosts = put_below parent before (alone child w.hosts) (without child w.hosts); next = w.next }
+effect (Drop id) w = record { hosts = without id w.hosts; next = w.next }
+effect (Text id text) w = record { hosts = changed id (with_text text) w.hosts; next = w.next }
+effect (Attr id name value) w = record { hosts = changed id (with_value name value) w.hosts; next = w.next }
+effect (Break id ending) w = record { hosts = changed id (with_ending ending) w.hosts; next = w.next }
 
 -- The operations lead from the host tree v to w: each fits in turn, and w is what they make.
 abbrev pub Leads : HostTree → List Op → HostTree → Type 0

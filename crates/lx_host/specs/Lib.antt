@@ -4,3 +4,6 @@ pub mod Words
 pub mod Html
 pub mod Pieces
 pub mod Branches
+pub mod Changes
+pub mod Places
+pub mod Lookups

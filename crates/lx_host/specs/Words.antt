@@ -1,6 +1,7 @@
 -- The words of tags and of attributes' names, in bytes.
 use Rattle.std.specs.Prelude.{ℕ, ◌≤◌, ◌&&◌, Bool, true, List, [], ◌∷◌, ◌++◌, length, codes, Option, None, Some, IsTrue}
-use Rattle.std.specs.Ordering.{nat_cmp, is_lt}
+use Rattle.std.specs.declared.cmp.Ordering.{Ordering}
+use Rattle.std.specs.Ordering.{nat_cmp, is_lt, match_ordering}
 use Rattle.std.specs.Cmp.Lexicographic.{slice_cmp}
 use Rattle.lx_host.specs.declared.tag.Inner.{Inner}
 use Rattle.lx_host.specs.declared.tag.Inner.TheVariants.{Strong, Em, Span}
@@ -81,3 +82,22 @@ names_rise (a ∷ b ∷ rest) = is_lt (slice_cmp nat_cmp (name_word a.0) (name_w
 pub record AreAttributes (attributes : List (Name × List ℕ)) : Type 0 where
   pub rise : IsTrue (names_rise attributes)
   pub few : length attributes ≤ 4294967295
+
+-- the order of two names, which is that of their words
+abbrev pub name_order : Name → Name → Ordering
+name_order a b = slice_cmp nat_cmp (name_word a) (name_word b)
+
+-- an attribute before others, if it has a value
+abbrev pub before_others : Name → Option (List ℕ) → List (Name × List ℕ) → List (Name × List ℕ)
+before_others name None others = others
+before_others name (Some value) others = (name, value) ∷ others
+
+-- Attributes whose names rise, with this one: before the first whose name comes later, or in place of the one of its
+-- name. Without a value, the one of that name is left out.
+abbrev pub with_attribute : Name → Option (List ℕ) → List (Name × List ℕ) → List (Name × List ℕ)
+with_attribute name value [] = before_others name value []
+with_attribute name value (a ∷ rest) =
+    match_ordering (name_order name a.0)
+    (before_others name value (a ∷ rest))
+    (before_others name value rest)
+    (a ∷ with_attribute name value rest)

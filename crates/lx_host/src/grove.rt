@@ -1,6 +1,7 @@
-use crate::node::{HostNode, find_among, holder_of, place_of, take_from};
+use crate::change::Change;
+use crate::node::{HostNode, find_among, holder_of, next_among, place_of, take_from};
 use crate::page::Page;
-use lx_node::NoMemory;
+use lx_node::{Key, NoMemory};
 use std::alloc::Global;
 use std::marker::Model;
 
@@ -97,9 +98,45 @@ impl Grove {
         }
     }
 
+    ghost use Rattle.lx_host.specs.Html.{first_tree};
+    ghost use Rattle.lx_host.specs.Lookups.{next_sibling, host_of};
+
+    /// The id of the host behind the one of that id, among the children of a host.
+    pub fn next_sibling(&self, id: u32) -> Option<u32>
+        ensures { result ≡ next_sibling id self.now }
+    {
+        let next = self.root.next_sibling(id);
+        if next.is_some() {
+            return next;
+        }
+        next_among(&self.unplaced, id)
+    }
+
+    /// The least id of the hosts that show the key, among the root and all below it.
+    pub fn host_of(&self, key: Key) -> Option<u32>
+        ensures { result ≡ host_of key (first_tree self.now) }
+    {
+        self.root.host_of(key)
+    }
+
+    ghost use Rattle.lx_host.specs.Hosts.{changed};
+    ghost use Rattle.lx_host.specs.Changes.{face_with};
+
+    /// Changes what the host of that id shows. Without memory nothing changes.
+    pub fn change(&mut self, id: u32, change: Change) -> Result<(), NoMemory>
+        requires { count id self.old ≡ 1 }
+        ensures changed { OnOk result (self.new ≡ changed id (face_with change) self.old) }
+        ensures err { OnErr result (self.new ≡ self.old) }
+    {
+        match unplaced_holder(&self.root, &self.unplaced, id) {
+            None => self.root.change(id, change),
+            Some(at) => self.unplaced[at].change(id, change),
+        }
+    }
+
     ghost use Rattle.std.specs.Prelude.{◌++◌};
     ghost use Rattle.lx_host.specs.Hosts.{shape_of};
-    ghost use Rattle.lx_host.specs.Html.{html_of, first_tree};
+    ghost use Rattle.lx_host.specs.Html.{html_of};
 
     /// Writes the HTML of the root and of all below it.
     pub fn print(&self, page: &mut Page) -> Result<(), NoMemory>

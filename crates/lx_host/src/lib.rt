@@ -5,6 +5,7 @@
 //! doesn't, and one that fits has one effect. What host 0 shows, with all below it, has one HTML.
 #![tactic(auto)]
 
+mod change;
 mod grove;
 mod node;
 mod op;

@@ -1,3 +1,4 @@
+use crate::change::Change;
 use crate::op::Attrs;
 use crate::page::Page;
 use crate::tag::Tag;
@@ -120,6 +121,78 @@ impl HostNode {
         self.children[at].put(parent, before, host)
     }
 
+    ghost use Rattle.lx_node.specs.Siblings.{first_of};
+    ghost use Rattle.lx_host.specs.Lookups.{next_sibling, host_of};
+
+    /// The id of the first child.
+    pub fn first_child(&self) -> Option<u32>
+        ensures { result ≡ first_of (ids_of self.now.below) }
+    {
+        match self.children.first() {
+            Some(child) => Some(child.id),
+            None => None,
+        }
+    }
+
+    /// The id of the host behind the one of that id, among the children of this host or of one below it.
+    #[cycle(next)]
+    pub fn next_sibling(&self, id: u32) -> Option<u32>
+        ensures { result ≡ next_sibling id (trees_of (self.now ∷ [])) }
+    {
+        let next = next_of(&self.children, id);
+        if next.is_some() {
+            return next;
+        }
+        next_among(&self.children, id)
+    }
+
+    /// The least id of the hosts that show the key, among this one and all below it.
+    #[cycle(least)]
+    pub fn host_of(&self, key: Key) -> Option<u32>
+        ensures { result ≡ host_of key (trees_of (self.now ∷ [])) }
+    {
+        let below = least_among(&self.children, key);
+        if self.key == key {
+            lesser_of(Some(self.id), below)
+        } else {
+            below
+        }
+    }
+
+    ghost use Rattle.lx_host.specs.Hosts.{changed};
+    ghost use Rattle.lx_host.specs.Changes.{face_with, branch_with};
+
+    /// Changes what the host of that id shows, this one or one below it. Without memory nothing changes.
+    pub fn change(&mut self, id: u32, change: Change) -> Result<(), NoMemory>
+        requires { count id (trees_of (self.old ∷ [])) ≡ 1 }
+        ensures changed { OnOk result (trees_of (self.new ∷ []) ≡ changed id (face_with change) (trees_of (self.old ∷ []))) }
+        ensures err { OnErr result (self.new ≡ self.old) }
+    {
+        if self.id == id {
+            return self.show(change);
+        }
+        let at = holder_of(&self.children, id);
+        self.children[at].change(id, change)
+    }
+
+    /// Changes what this host shows. Without memory nothing changes.
+    fn show(&mut self, change: Change) -> Result<(), NoMemory>
+        ensures shown { OnOk result (self.new ≡ branch_with change self.old) }
+        ensures err { OnErr result (self.new ≡ self.old) }
+    {
+        match change {
+            Change::Text(text) => {
+                self.text = Some(text);
+                Ok(())
+            }
+            Change::Attr(name, value) => self.attrs.write(name, value),
+            Change::Break(ending) => {
+                self.ending = ending;
+                Ok(())
+            }
+        }
+    }
+
     ghost use Rattle.std.specs.Prelude.{◌++◌};
     ghost use Rattle.lx_host.specs.Hosts.{shape_of};
     ghost use Rattle.lx_host.specs.Html.{html_of};
@@ -167,6 +240,60 @@ pub fn find_among(hosts: &[HostNode], id: u32) -> Option<&HostNode>
         }
     }
     None
+}
+
+ghost use Rattle.lx_node.specs.Siblings.{next_in};
+ghost use Rattle.lx_host.specs.Lookups.{next_sibling, lesser, host_of};
+
+/// The id behind that one among these hosts, without what is below them.
+fn next_of(hosts: &[HostNode], id: u32) -> Option<u32>
+    ensures { result ≡ next_in (ids_of (trees_of hosts.now)) id }
+{
+    let mut met = false;
+    for host in hosts {
+        if met {
+            return Some(host.id);
+        }
+        met = host.id == id;
+    }
+    None
+}
+
+/// The id of the host behind the one of that id, among the children of these hosts or of one below them.
+#[cycle(next)]
+pub fn next_among(hosts: &[HostNode], id: u32) -> Option<u32>
+    ensures { result ≡ next_sibling id (trees_of hosts.now) }
+{
+    for host in hosts {
+        let next = host.next_sibling(id);
+        if next.is_some() {
+            return next;
+        }
+    }
+    None
+}
+
+/// The least id of the hosts that show the key, among these and all below them.
+#[cycle(least)]
+fn least_among(hosts: &[HostNode], key: Key) -> Option<u32>
+    ensures { result ≡ host_of key (trees_of hosts.now) }
+{
+    let mut least = None;
+    for host in hosts {
+        least = lesser_of(least, host.host_of(key));
+    }
+    least
+}
+
+/// The lesser of two ids, where there are.
+fn lesser_of(id: Option<u32>, other: Option<u32>) -> Option<u32>
+    ensures { result ≡ lesser id other }
+{
+    match (id, other) {
+        (None, other) => other,
+        (Some(id), None) => Some(id),
+        (Some(id), Some(other)) => Some(id.min(other)),
+    }
 }
 
 /// Which of these is the host of that id, or has it below.

@@ -1,6 +1,7 @@
 use crate::tag::{Name, Tag};
 use lx_node::{Key, NoMemory, Txt};
 use std::alloc::Global;
+use std::cmp::Ordering;
 use std::marker::Model;
 
 /// The attributes of a host, as the list of their names and values, whose names rise strictly in byte
@@ -49,6 +50,51 @@ impl Attrs {
         self.items
     }
 
+    ghost use Rattle.std.specs.Prelude.{OnOk, OnErr};
+    ghost use Rattle.lx_host.specs.Words.{with_attribute};
+
+    /// Gives the attribute of that name this value, or takes it away. Without memory nothing changes.
+    pub fn write(&mut self, name: Name, value: Option<Txt>) -> Result<(), NoMemory>
+        ensures ok { OnOk result (self.new ≡ with_attribute name value self.old) }
+        ensures err { OnErr result (self.new ≡ self.old) }
+    {
+        match value {
+            Some(value) => self.give(name, value),
+            None => {
+                self.take_away(name);
+                Ok(())
+            }
+        }
+    }
+
+    ghost use Rattle.std.specs.Prelude.{Some, None};
+
+    /// Gives the attribute of that name this value. Without memory nothing changes.
+    fn give(&mut self, name: Name, value: Txt) -> Result<(), NoMemory>
+        ensures ok { OnOk result (self.new ≡ with_attribute name (Some value) self.old) }
+        ensures err { OnErr result (self.new ≡ self.old) }
+    {
+        match place_of(&self.items, name) {
+            Ok(at) => {
+                self.items[at] = (name, value);
+                Ok(())
+            }
+            Err(at) => {
+                self.items.insert(at, (name, value))?;
+                Ok(())
+            }
+        }
+    }
+
+    /// Takes the attribute of that name away, if it is there.
+    fn take_away(&mut self, name: Name)
+        ensures { self.new ≡ with_attribute name None self.old }
+    {
+        if let Ok(at) = place_of(&self.items, name) {
+            self.items.remove(at);
+        }
+    }
+
     /// Equal attributes. They take memory for the list and for each value.
     pub fn copy(&self, alloc: Global) -> Result<Attrs, NoMemory>
         ensures { IfOk result (λ made. made ≡ self.now) }
@@ -80,6 +126,26 @@ pub enum Op {
         child: u32,
         before: Option<u32>,
     },
+    /// Takes a host away, with all below it.
+    Drop {
+        id: u32,
+    },
+    /// Gives a host this text in place of the one that it has, if any.
+    Text {
+        id: u32,
+        text: Txt,
+    },
+    /// Gives a host's attribute of that name this value, or takes the attribute away.
+    Attr {
+        id: u32,
+        name: Name,
+        value: Option<Txt>,
+    },
+    /// Has a line break end a host, or none.
+    Break {
+        id: u32,
+        ending: bool,
+    },
 }
 
 impl Op {
@@ -97,18 +163,7 @@ impl Op {
                 attrs,
                 text,
                 ending,
-            } => {
-                let attrs = attrs.copy(alloc)?;
-                let text = copy_text(alloc, text)?;
-                Ok(Op::Create {
-                    id: *id,
-                    key: *key,
-                    tag: *tag,
-                    attrs,
-                    text,
-                    ending: *ending,
-                })
-            }
+            } => copy_create(alloc, *id, *key, *tag, attrs, text, *ending),
             Op::Place {
                 parent,
                 child,
@@ -118,11 +173,49 @@ impl Op {
                 child: *child,
                 before: *before,
             }),
+            Op::Drop { id } => Ok(Op::Drop { id: *id }),
+            Op::Text { id, text } => Ok(Op::Text {
+                id: *id,
+                text: text.copy(alloc)?,
+            }),
+            Op::Attr { id, name, value } => Ok(Op::Attr {
+                id: *id,
+                name: *name,
+                value: copy_text(alloc, value)?,
+            }),
+            Op::Break { id, ending } => Ok(Op::Break {
+                id: *id,
+                ending: *ending,
+            }),
         }
     }
 }
 
 ghost use Rattle.std.specs.Prelude.{◌≡◌, IfOk};
+ghost use Rattle.lx_host.specs.declared.op.Op.TheVariants.{Create};
+
+fn copy_create(
+    alloc: Global,
+    id: u32,
+    key: Key,
+    tag: Tag,
+    attrs: &Attrs,
+    text: &Option<Txt>,
+    ending: bool,
+) -> Result<Op, NoMemory>
+    ensures { IfOk result (λ made. made ≡ Create id key tag attrs.now text.now ending) }
+{
+    let attrs = attrs.copy(alloc)?;
+    let text = copy_text(alloc, text)?;
+    Ok(Op::Create {
+        id,
+        key,
+        tag,
+        attrs,
+        text,
+        ending,
+    })
+}
 
 fn copy_text(alloc: Global, text: &Option<Txt>) -> Result<Option<Txt>, NoMemory>
     ensures { IfOk result (λ made. made ≡ text.now) }
@@ -134,4 +227,20 @@ fn copy_text(alloc: Global, text: &Option<Txt>) -> Result<Option<Txt>, NoMemory>
             Ok(Some(text))
         }
     }
+}
+
+ghost use Rattle.lx_host.specs.Places.{IsPlaceOf};
+
+/// Where the attribute of that name stands among these, or else, as an error, where it belongs.
+fn place_of(attributes: &[(Name, Txt)], name: Name) -> Result<usize, usize>
+    ensures { IsPlaceOf name attributes.now result }
+{
+    for (at, (other, _)) in attributes.iter().enumerate() {
+        match name.word().cmp(other.word()) {
+            Ordering::Less => return Err(at),
+            Ordering::Equal => return Ok(at),
+            Ordering::Greater => {}
+        }
+    }
+    Err(attributes.len())
 }

@@ -261,3 +261,163 @@ fn documents_are_printed(rt: HostRuntime) -> Result<(), Fail> {
     assert!(rt; is_page(document.as_str(), html));
     Ok(())
 }
+
+fn attr(alloc: Global, id: u32, name: Name, value: Option<&str>) -> Result<Op, NoMemory> {
+    let value = match value {
+        Some(value) => Some(Txt::new(alloc, value)?),
+        None => None,
+    };
+    Ok(Op::Attr { id, name, value })
+}
+
+fn text(alloc: Global, id: u32, text: &str) -> Result<Op, NoMemory> {
+    let text = Txt::new(alloc, text)?;
+    Ok(Op::Text { id, text })
+}
+
+// A root with a paragraph, host 1, that has a text, host 2, and a rule that isn't placed, host 3.
+fn small(alloc: Global) -> Result<HostTree, NoMemory> {
+    let mut tree = HostTree::new(alloc)?;
+    let paragraph = element(alloc, &mut tree, 0, Tag::P)?;
+    span(alloc, &mut tree, paragraph, "Hi")?;
+    element(alloc, &mut tree, 9, Tag::Hr)?;
+    Ok(tree)
+}
+
+// The changes that are made one after another.
+fn change(alloc: Global, index: usize) -> Result<Op, NoMemory> {
+    match index {
+        0 => text(alloc, 2, "a < b"),
+        1 => attr(alloc, 1, Name::Dir, Some("rtl")),
+        2 => attr(alloc, 1, Name::Class, Some("wide")),
+        3 => attr(alloc, 1, Name::Style, Some("top:0")),
+        4 => attr(alloc, 1, Name::Dir, Some("ltr")),
+        5 => attr(alloc, 1, Name::Class, None),
+        6 => attr(alloc, 1, Name::Title, None),
+        7 => Ok(Op::Break {
+            id: 1,
+            ending: true,
+        }),
+        8 => attr(alloc, 3, Name::Class, Some("thin")),
+        9 => Ok(Op::Place {
+            parent: 0,
+            child: 3,
+            before: Some(1),
+        }),
+        10 => Ok(Op::Break {
+            id: 1,
+            ending: false,
+        }),
+        _ => Ok(Op::Drop { id: 1 }),
+    }
+}
+
+// The HTML after so many of the changes.
+fn changed(alloc: Global, changes: usize) -> Result<Txt, NoMemory> {
+    let mut tree = small(alloc)?;
+    for index in 0..changes {
+        step(alloc, &mut tree, change(alloc, index)?)?;
+    }
+    tree.print_html()
+}
+
+#[test]
+fn hosts_are_changed(rt: HostRuntime) -> Result<(), Fail> {
+    for (changes, html) in [
+        "<p><span data-lexical-text=\"true\">Hi</span></p>",
+        "<p><span data-lexical-text=\"true\">a &lt; b</span></p>",
+        "<p dir=\"rtl\"><span data-lexical-text=\"true\">a &lt; b</span></p>",
+        "<p class=\"wide\" dir=\"rtl\"><span data-lexical-text=\"true\">a &lt; b</span></p>",
+        "<p class=\"wide\" dir=\"rtl\" style=\"top:0\"><span data-lexical-text=\"true\">a &lt; b</span></p>",
+        "<p class=\"wide\" dir=\"ltr\" style=\"top:0\"><span data-lexical-text=\"true\">a &lt; b</span></p>",
+        "<p dir=\"ltr\" style=\"top:0\"><span data-lexical-text=\"true\">a &lt; b</span></p>",
+        "<p dir=\"ltr\" style=\"top:0\"><span data-lexical-text=\"true\">a &lt; b</span></p>",
+        "<p dir=\"ltr\" style=\"top:0\"><span data-lexical-text=\"true\">a &lt; b</span><br></p>",
+        "<p dir=\"ltr\" style=\"top:0\"><span data-lexical-text=\"true\">a &lt; b</span><br></p>",
+        "<hr class=\"thin\"><p dir=\"ltr\" style=\"top:0\"><span data-lexical-text=\"true\">a &lt; b</span><br></p>",
+        "<hr class=\"thin\"><p dir=\"ltr\" style=\"top:0\"><span data-lexical-text=\"true\">a &lt; b</span></p>",
+        "<hr class=\"thin\">",
+    ]
+    .iter()
+    .enumerate()
+    {
+        let printed = changed(rt.alloc(), changes)?;
+        assert!(rt; is_page(printed.as_str(), html), "after {changes}");
+    }
+    Ok(())
+}
+
+// Whether the small tree fits this, before its paragraph is dropped and after.
+fn offered(alloc: Global, op: Op) -> Result<(bool, bool), NoMemory> {
+    let mut tree = small(alloc)?;
+    let before = tree.fits(&op);
+    step(alloc, &mut tree, Op::Drop { id: 1 })?;
+    Ok((before, tree.fits(&op)))
+}
+
+fn ending(id: u32) -> Op {
+    Op::Break { id, ending: true }
+}
+
+#[test]
+fn changes_fit_hosts_that_are_there(rt: HostRuntime) -> Result<(), Fail> {
+    let alloc = rt.alloc();
+    assert_eq!(rt; offered(alloc, Op::Drop { id: 0 })?, (false, false));
+    assert_eq!(rt; offered(alloc, Op::Drop { id: 1 })?, (true, false));
+    assert_eq!(rt; offered(alloc, Op::Drop { id: 3 })?, (true, true));
+    assert_eq!(rt; offered(alloc, ending(0))?, (true, true));
+    assert_eq!(rt; offered(alloc, ending(2))?, (true, false));
+    assert_eq!(rt; offered(alloc, ending(4))?, (false, false));
+    let written = text(alloc, 2, "")?;
+    assert_eq!(rt; offered(alloc, written)?, (true, false));
+    let given = attr(alloc, 9, Name::Dir, None)?;
+    assert_eq!(rt; offered(alloc, given)?, (false, false));
+    Ok(())
+}
+
+// The small tree, with a second paragraph, host 4, before the first one, and a host that shows the root too, host 5.
+fn wider(alloc: Global) -> Result<HostTree, NoMemory> {
+    let mut tree = small(alloc)?;
+    element(alloc, &mut tree, 9, Tag::P)?;
+    let place = Op::Place {
+        parent: 0,
+        child: 4,
+        before: Some(1),
+    };
+    step(alloc, &mut tree, place)?;
+    let create = Op::Create {
+        id: 5,
+        key: Key::root(),
+        tag: Tag::Hr,
+        attrs: none(alloc),
+        text: None,
+        ending: false,
+    };
+    step(alloc, &mut tree, create)?;
+    let place = Op::Place {
+        parent: 1,
+        child: 5,
+        before: None,
+    };
+    step(alloc, &mut tree, place)?;
+    Ok(tree)
+}
+
+#[test]
+fn hosts_are_looked_up(rt: HostRuntime) -> Result<(), Fail> {
+    let tree = wider(rt.alloc())?;
+    assert_eq!(rt; tree.first_child(0), Some(4));
+    assert_eq!(rt; tree.first_child(1), Some(2));
+    assert_eq!(rt; tree.first_child(4), None);
+    assert_eq!(rt; tree.first_child(9), None);
+    assert_eq!(rt; tree.next_sibling(4), Some(1));
+    assert_eq!(rt; tree.next_sibling(2), Some(5));
+    assert_eq!(rt; tree.next_sibling(1), None);
+    assert_eq!(rt; tree.next_sibling(0), None);
+    assert_eq!(rt; tree.next_sibling(3), None);
+    assert_eq!(rt; tree.host_of(Key(2)), Some(2));
+    assert_eq!(rt; tree.host_of(Key::root()), Some(0));
+    assert_eq!(rt; tree.host_of(Key(3)), None);
+    assert_eq!(rt; tree.host_of(Key(9)), None);
+    Ok(())
+}
