@@ -15,7 +15,7 @@ use Rattle.lx_node.specs.declared.cause.Named.{Named}
 use Rattle.lx_node.specs.declared.cause.Named.TheVariants as named
 use Rattle.lx_host.specs.Words.{name_word}
 use Rattle.lx_host.specs.declared.op.Op.{Op}
-use Rattle.lx_host.specs.declared.op.Op.TheVariants.{Create, Place}
+use Rattle.lx_host.specs.declared.op.Op.TheVariants.{Create, Place, Drop, Text, Attr, Break}
 use Rattle.lx_host.specs.declared.tag.Name.{Name}
 use Rattle.lx_select.specs.declared.selection.Selection.{Selection}
 use Rattle.lx_select.specs.declared.selection.Selection.TheVariants as selection
@@ -53,6 +53,10 @@ unfolding op_data
 has_float-op_data (Create id key tag attributes text ending) =
     rw (members_have_float-attributes_onto attributes no_members refl, has_float-or_null text_data (λ _. refl) text) refl
 has_float-op_data (Place parent child before) = rw (has_float-or_null natural (λ _. refl) before) refl
+has_float-op_data (Drop id) = refl
+has_float-op_data (Text id text) = refl
+has_float-op_data (Attr id name value) = rw (has_float-or_null text_data (λ _. refl) value) refl
+has_float-op_data (Break id ending) = refl
 
 items_have_float-ops : (ops : List Op) → items_have_float (items_of (map op_data ops)) ≡ false
 items_have_float-ops [] = refl

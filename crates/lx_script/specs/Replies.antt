@@ -21,7 +21,7 @@ use Rattle.lx_node.specs.declared.cause.Cause.TheVariants.{BadLine, BadCommand, 
 use Rattle.lx_host.specs.Words.{tag_word, name_word}
 use Rattle.lx_host.specs.declared.tag.Name.{Name}
 use Rattle.lx_host.specs.declared.op.Op.{Op}
-use Rattle.lx_host.specs.declared.op.Op.TheVariants.{Create, Place}
+use Rattle.lx_host.specs.declared.op.Op.TheVariants.{Create, Place, Drop, Text, Attr, Break}
 use Rattle.lx_select.specs.declared.selection.Selection.{Selection}
 use Rattle.lx_select.specs.declared.selection.Selection.TheVariants as selection
 use Rattle.lx_script.specs.declared.reply.Reply.{Reply}
@@ -53,12 +53,18 @@ attributes_onto members (attribute ∷ attributes) =
 abbrev pub attributes_data : List (Name × List ℕ) → Data
 attributes_data attributes = object (attributes_onto no_members attributes)
 
--- ["create",id,key,tag,attributes,text or null,ending] and ["place",parent,child,before or null]
+-- ["create",id,key,tag,attributes,text or null,ending], ["place",parent,child,before or null], ["drop",id],
+-- ["text",id,text], ["attr",id,name,value or null] and ["break",id,ending]
 unfoldable pub op_data : Op → Data
 op_data (Create id key tag attributes text ending) =
     list_data (string (codes "create") ∷ natural id ∷ natural key ∷ string (tag_word tag) ∷ attributes_data attributes ∷ or_null text_data text ∷ boolean ending ∷ [])
 op_data (Place parent child before) =
     list_data (string (codes "place") ∷ natural parent ∷ natural child ∷ or_null natural before ∷ [])
+op_data (Drop id) = list_data (string (codes "drop") ∷ natural id ∷ [])
+op_data (Text id text) = list_data (string (codes "text") ∷ natural id ∷ text_data text ∷ [])
+op_data (Attr id name value) =
+    list_data (string (codes "attr") ∷ natural id ∷ string (name_word name) ∷ or_null text_data value ∷ [])
+op_data (Break id ending) = list_data (string (codes "break") ∷ natural id ∷ boolean ending ∷ [])
 
 -- ---- causes
 

@@ -1,4 +1,5 @@
 use crate::{Reply, write_reply};
+use lx_host::{Name, Op, Ops};
 use lx_node::{Key, NoMemory, Point, PointKind, Txt};
 use lx_select::{Keys, Selection};
 use std::alloc::Global;
@@ -70,6 +71,71 @@ fn shown_replies_are_written(rt: HostRuntime) -> Result<(), Fail> {
     for index in 0..7 {
         let written = is_written(rt.alloc(), index)?;
         assert!(rt; written, "reply {index}");
+    }
+    Ok(())
+}
+
+fn attr(alloc: Global, name: Name, value: Option<&str>) -> Result<Op, NoMemory> {
+    let value = match value {
+        Some(value) => Some(Txt::new(alloc, value)?),
+        None => None,
+    };
+    Ok(Op::Attr { id: 3, name, value })
+}
+
+fn text(alloc: Global, text: &str) -> Result<Op, NoMemory> {
+    let text = Txt::new(alloc, text)?;
+    Ok(Op::Text { id: 2, text })
+}
+
+// An operation, and what is written of it.
+fn operation(alloc: Global, index: usize) -> Result<(Op, &'static str), NoMemory> {
+    Ok(match index {
+        0 => (Op::Drop { id: u32::MAX }, r#"["drop",4294967295]"#),
+        1 => (text(alloc, "é\"\n")?, r#"["text",2,"é\"\n"]"#),
+        2 => (text(alloc, "")?, r#"["text",2,""]"#),
+        3 => (
+            attr(alloc, Name::DataIndent, Some("1"))?,
+            r#"["attr",3,"data-indent","1"]"#,
+        ),
+        4 => (
+            attr(alloc, Name::Class, Some(""))?,
+            r#"["attr",3,"class",""]"#,
+        ),
+        5 => (
+            attr(alloc, Name::Class, None)?,
+            r#"["attr",3,"class",null]"#,
+        ),
+        6 => (
+            Op::Break {
+                id: 0,
+                ending: true,
+            },
+            r#"["break",0,true]"#,
+        ),
+        _ => (
+            Op::Break {
+                id: 1,
+                ending: false,
+            },
+            r#"["break",1,false]"#,
+        ),
+    })
+}
+
+fn is_told(alloc: Global, index: usize) -> Result<bool, NoMemory> {
+    let (op, told) = operation(alloc, index)?;
+    let ops = Ops::of(vec![in alloc; op]?);
+    let bytes = write_reply(alloc, &Reply::Committed { number: 3, ops })?;
+    let wanted = format!(in alloc; "{{\"commit\":3,\"ops\":[{told}]}}")?;
+    Ok(bytes.as_slice() == wanted.as_bytes())
+}
+
+#[test]
+fn operations_are_written(rt: HostRuntime) -> Result<(), Fail> {
+    for index in 0..8 {
+        let told = is_told(rt.alloc(), index)?;
+        assert!(rt; told, "operation {index}");
     }
     Ok(())
 }
