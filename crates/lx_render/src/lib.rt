@@ -1,0 +1,18 @@
+//! How a node is shown: its element, its attributes and its text, and whether a line break ends it.
+//!
+//! The attributes stand in byte order of their names. What has no value isn't among them.
+#![tactic(auto)]
+
+mod attributes;
+mod breaks;
+mod classes;
+mod format;
+mod shape;
+mod tags;
+#[cfg(test)]
+mod tests;
+mod values;
+
+pub use breaks::needs_break;
+pub use shape::{Shape, describe};
+pub use tags::tag_of;
