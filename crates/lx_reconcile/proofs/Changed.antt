@@ -1,0 +1,116 @@
+-- What operations make of one host: its attributes, its text and its ending, one after another.
+use Rattle.std.specs.Bool.{beq}
+use Rattle.std.proofs.Common.{◌≡◌, ◌∙◌, ℕ, Bool, true, false, List, [], ◌∷◌, ◌++◌, map, Option, Some, refl, sym, ap, subst, append_assoc, append-nil}
+use Rattle.lx_node.specs.Trees.{Trees, nil, tree}
+use Rattle.lx_node.specs.declared.kind.Kind.{Kind}
+use Rattle.lx_node.specs.declared.fields.Fields.{Fields}
+use Rattle.lx_host.specs.declared.tag.Tag.{Tag}
+use Rattle.lx_host.specs.declared.tag.Name.{Name}
+use Rattle.lx_host.specs.declared.op.Op.{Op}
+use Rattle.lx_host.specs.declared.op.Op.TheVariants.{Text, Attr, Break}
+use Rattle.lx_host.specs.Words.{with_attribute}
+use Rattle.lx_host.specs.Hosts.{Face, Host, with_ending}
+use Rattle.lx_plain.specs.Render.{attributes_of, text_of}
+use Rattle.lx_reconcile.specs.Reconciled.{LeadsAt, IsAt}
+use Rattle.lx_reconcile.specs.Changing.{write_op, all_written, Writes, Changes, shown_face}
+use Rattle.lx_reconcile.proofs.Frames.{at_same, at_then, at_text, at_attr, at_break}
+
+abbrev pub one : ℕ → Face → Trees Host → Trees Host
+one host face kids = tree (record { id = host; face = face }) kids nil
+
+at_one : (host : ℕ) (face : Face) (kids : Trees Host) → IsAt host (one host face kids)
+at_one host face kids = record { host = record { id = host; face = face }; below = kids; is = refl; id = refl }
+
+pub changes_none : (host : ℕ) (face : Face) (start : List Op) → Changes host face face start start
+changes_none host face start = record {
+  pushed = [];
+  list = sym (append-nil start);
+  leads = λ kids n. at_same host (one host face kids) n (at_one host face kids);
+}
+
+pub changes_then : (host : ℕ) (a b c : Face) (start mid end : List Op) → Changes host a b start mid → Changes host b c mid end → Changes host a c start end
+changes_then host a b c start mid end first then = record {
+  pushed = first.pushed ++ then.pushed;
+  list = then.list ∙ ap (λ l. l ++ then.pushed) first.list ∙ append_assoc start first.pushed then.pushed;
+  leads = λ kids n. at_then host (one host a kids) n first.pushed (one host b kids) n then.pushed (one host c kids) n (first.leads kids n) (then.leads kids n) (at_one host b kids);
+}
+
+pub changes_text : (host key : ℕ) (tag : Tag) (attrs : List (Name × List ℕ)) (old : Option (List ℕ)) (text : List ℕ) (ending : Bool) (start end : List Op) → end ≡ start ++ Text host text ∷ []
+    → Changes host (record { key = key; tag = tag; attrs = attrs; text = old; ending = ending }) (record { key = key; tag = tag; attrs = attrs; text = Some text; ending = ending }) start end
+changes_text host key tag attrs old text ending start end is =
+    let face : Face = record { key = key; tag = tag; attrs = attrs; text = old; ending = ending } in
+    record { pushed = Text host text ∷ []; list = is; leads = λ kids n. at_text host (record { id = host; face = face }) kids n text refl }
+
+pub changes_ending : (host : ℕ) (face : Face) (ending : Bool) (start end : List Op) → end ≡ start ++ Break host ending ∷ [] → Changes host face (with_ending ending face) start end
+changes_ending host face ending start end is =
+    record { pushed = Break host ending ∷ []; list = is; leads = λ kids n. at_break host (record { id = host; face = face }) kids n ending refl }
+
+pub same_ending : (host : ℕ) (face : Face) (ending : Bool) (start : List Op) → face.ending ≡ ending → Changes host face (with_ending ending face) start start
+same_ending host face ending start e = subst (λ b. Changes host face (with_ending b face) start start) e (changes_none host face start)
+
+both_same : (a b : Bool) → beq a b ≡ true → a ≡ b
+both_same true true e = refl
+both_same true false e = absurd (cc)
+both_same false true e = absurd (cc)
+both_same false false e = refl
+
+pub equal_ending : (host : ℕ) (face : Face) (old new : Bool) (start : List Op) → face.ending ≡ old → beq old new ≡ true → Changes host face (with_ending new face) start start
+equal_ending host face old new start e same = same_ending host face new start (e ∙ both_same old new same)
+
+-- with these attributes
+abbrev dressed : ℕ → Tag → Option (List ℕ) → Bool → List (Name × List ℕ) → Face
+dressed key tag text ending attrs = record { key = key; tag = tag; attrs = attrs; text = text; ending = ending }
+
+writes_lead : (host key : ℕ) (tag : Tag) (text : Option (List ℕ)) (ending : Bool) (writes : List (Name × Option (List ℕ))) (attrs : List (Name × List ℕ)) (kids : Trees Host) (n : ℕ)
+    → LeadsAt host (one host (dressed key tag text ending attrs) kids) n (map (write_op host) writes) (one host (dressed key tag text ending (all_written writes attrs)) kids) n
+writes_lead host key tag text ending [] attrs kids n = at_same host (one host (dressed key tag text ending attrs) kids) n (at_one host (dressed key tag text ending attrs) kids)
+writes_lead host key tag text ending (write ∷ writes) attrs kids n =
+    let from = dressed key tag text ending attrs in
+    let mid = dressed key tag text ending (with_attribute write.0 write.1 attrs) in
+    at_then host (one host from kids) n (Attr host write.0 write.1 ∷ []) (one host mid kids) n (map (write_op host) writes) (one host (dressed key tag text ending (all_written (write ∷ writes) attrs)) kids) n
+    (at_attr host (record { id = host; face = from }) kids n write.0 write.1 refl)
+    (writes_lead host key tag text ending writes (with_attribute write.0 write.1 attrs) kids n)
+    (at_one host mid kids)
+
+pub changes_attributes : (host key : ℕ) (tag : Tag) (text : Option (List ℕ)) (ending : Bool) (old new : List (Name × List ℕ)) (start end : List Op) → Writes host old new start end
+    → Changes host (dressed key tag text ending old) (dressed key tag text ending new) start end
+changes_attributes host key tag text ending old new start end w = record {
+  pushed = map (write_op host) w.writes;
+  list = w.list;
+  leads = λ kids n. subst (λ attrs. LeadsAt host (one host (dressed key tag text ending old) kids) n (map (write_op host) w.writes) (one host (dressed key tag text ending attrs) kids) n) w.written (writes_lead host key tag text ending w.writes old kids n);
+}
+
+-- ---- by what the code knows
+
+-- without a text before and after, or with equal ones
+pub same_text : (host key : ℕ) (tag : Tag) (attrs : List (Name × List ℕ)) (old new : Option (List ℕ)) (ending : Bool) (start : List Op) → old ≡ new
+    → Changes host (record { key = key; tag = tag; attrs = attrs; text = old; ending = ending }) (record { key = key; tag = tag; attrs = attrs; text = new; ending = ending }) start start
+same_text host key tag attrs old new ending start e =
+    let face : Face = record { key = key; tag = tag; attrs = attrs; text = old; ending = ending } in
+    subst (λ text. Changes host face (record { key = key; tag = tag; attrs = attrs; text = text; ending = ending }) start start) e (changes_none host face start)
+
+-- a text is written
+pub text_written : (host key : ℕ) (tag : Tag) (attrs : List (Name × List ℕ)) (old new : Option (List ℕ)) (text : List ℕ) (ending : Bool) (start end : List Op) → new ≡ Some text → end ≡ start ++ Text host text ∷ []
+    → Changes host (record { key = key; tag = tag; attrs = attrs; text = old; ending = ending }) (record { key = key; tag = tag; attrs = attrs; text = new; ending = ending }) start end
+text_written host key tag attrs old new text ending start end e is =
+    let face : Face = record { key = key; tag = tag; attrs = attrs; text = old; ending = ending } in
+    subst (λ o. Changes host face (record { key = key; tag = tag; attrs = attrs; text = o; ending = ending }) start end) (sym e) (changes_text host key tag attrs old text ending start end is)
+
+-- neither the kind nor the fields differ
+pub same_face : (host key : ℕ) (tag : Tag) (k l : Kind) (f g : Fields) (ending : Bool) (start : List Op) → (k ≡ l) × (f ≡ g) → Changes host (shown_face key tag k f ending) (shown_face key tag l g ending) start start
+same_face host key tag k l f g ending start e =
+    subst (λ l. Changes host (shown_face key tag k f ending) (shown_face key tag l g ending) start start) e.0
+    (subst (λ g. Changes host (shown_face key tag k f ending) (shown_face key tag k g ending) start start) e.1 (changes_none host (shown_face key tag k f ending) start))
+
+-- the attributes are written, and then the text
+pub face_written : (host : ℕ) (k l : Kind) (f g : Fields) (attrs news : List (Name × List ℕ)) (old new : Option (List ℕ)) (start mid end : List Op) → attrs ≡ attributes_of k f → news ≡ attributes_of l g → old ≡ text_of f → new ≡ text_of g
+    → Writes host attrs news start mid
+    → ((key : ℕ) (tag : Tag) (attrs : List (Name × List ℕ)) (ending : Bool) → Changes host (record { key = key; tag = tag; attrs = attrs; text = old; ending = ending }) (record { key = key; tag = tag; attrs = attrs; text = new; ending = ending }) mid end)
+    → (key : ℕ) (tag : Tag) (ending : Bool) → Changes host (shown_face key tag k f ending) (shown_face key tag l g ending) start end
+face_written host k l f g attrs news old new start mid end a b c d writes text key tag ending =
+    subst (λ x. Changes host (dressed key tag (text_of f) ending x) (shown_face key tag l g ending) start end) a
+    (subst (λ y. Changes host (dressed key tag (text_of f) ending attrs) (dressed key tag (text_of g) ending y) start end) b
+    (subst (λ x. Changes host (dressed key tag x ending attrs) (dressed key tag (text_of g) ending news) start end) c
+    (subst (λ y. Changes host (dressed key tag old ending attrs) (dressed key tag y ending news) start end) d
+    (changes_then host (dressed key tag old ending attrs) (dressed key tag old ending news) (dressed key tag new ending news) start mid end
+    (changes_attributes host key tag old ending attrs news start mid writes) (text key tag news ending)))))

@@ -1,0 +1,310 @@
+-- What the operations that make the hosts of trees lead to.
+use Rattle.std.proofs.Common.{◌≡◌, ◌≢◌, ◌∙◌, ◌+◌, ◌<◌, ◌≤◌, ℕ, Bool, true, false, cond, eqb, ltb, List, [], ◌∷◌, ◌++◌, Option, None, inl, inr, refl, sym, ap, subst, arith, ne_eqb, eq-eqb, append-nil}
+use Rattle.std.proofs.lemmas.Bool.{cases_lt}
+use Rattle.std.proofs.lemmas.Bool.Decides.{eqb_tells}
+use Rattle.lx_node.specs.Trees.{Trees, nil, tree, joined}
+use Rattle.lx_node.specs.NamedTrees.{total}
+use Rattle.lx_node.proofs.NamedTrees as trees
+use Rattle.lx_node.specs.declared.kind.Kind.{Kind}
+use Rattle.lx_host.specs.declared.op.Op.{Op}
+use Rattle.lx_host.specs.declared.op.Op.TheVariants.{Place}
+use Rattle.lx_host.specs.Hosts.{Face, Host, HostTree, id_of, one_host, shape_of, count, has, without, alone, put_below, children_of, fits_before, fits, effect, Leads, FitInTurn, IsNumbered}
+use Rattle.lx_host.proofs.Laws.{joined-nil, joined-assoc, inserted-None, count-joined, without-joined, alone-joined, put_below-joined, children_of-joined, children_of-absent, without-absent, alone-absent, put_below-absent}
+use Rattle.lx_forest.specs.Forest.{Label, Forest}
+use Rattle.lx_forest.specs.Lookups as forest
+use Rattle.lx_plain.specs.Allowed.{hosts_of}
+use Rattle.lx_plain.specs.Render.{render, face_of, last_kind}
+use Rattle.lx_reconcile.specs.Created.{numbered, create_op, creations, creation}
+
+abbrev pub host_tree : Trees Host → ℕ → HostTree
+host_tree hosts next = record { hosts = hosts; next = next }
+
+-- ---- operations one after another
+
+pub Leads-append : (a b : List Op) (u v w : HostTree) → Leads u a v → Leads v b w → Leads u (a ++ b) w
+Leads-append [] b u v w first then = subst (λ x. Leads x b w) first then
+Leads-append (op ∷ a) b u v w first then = (first.0, first.1, first.2, Leads-append a b first.0 v w first.3 then)
+
+pub Leads-fits : (ops : List Op) (v w : HostTree) → Leads v ops w → FitInTurn v ops
+Leads-fits [] v w leads = tt
+Leads-fits (op ∷ ops) v w leads = (leads.1, subst (λ u. FitInTurn u ops) leads.2 (Leads-fits ops leads.0 w leads.3))
+
+-- operations lead to one host tree
+pub Leads-same : (ops : List Op) (v w x : HostTree) → Leads v ops w → Leads v ops x → w ≡ x
+Leads-same [] v w x one other = one ∙ sym other
+Leads-same (op ∷ ops) v w x one other =
+    Leads-same ops one.0 w x one.3 (subst (λ u. Leads u ops x) (other.2 ∙ sym one.2) other.3)
+
+-- ---- hosts with ids in preorder
+
+pub total-render : (f : Forest) → total (render f) ≡ total f
+total-render nil = refl
+total-render (tree label below rest) = omega (arith, total-render below, total-render rest)
+
+pub total-numbered : (id : ℕ) (t : Trees Face) → total (numbered id t) ≡ total t
+total-numbered id nil = refl
+total-numbered id (tree face below rest) = omega (arith, total-numbered (id + 1) below, total-numbered (id + 1 + total below) rest)
+
+pub shape_of-numbered : (id : ℕ) (t : Trees Face) → shape_of (numbered id t) ≡ t
+shape_of-numbered id nil = refl
+shape_of-numbered id (tree face below rest) = rw (shape_of-numbered (id + 1) below, shape_of-numbered (id + 1 + total below) rest)
+
+pub count-numbered_before : (q id : ℕ) (t : Trees Face) → q < id → count q (numbered id t) ≡ 0
+count-numbered_before q id nil h = refl
+count-numbered_before q id (tree face below rest) h =
+    rw (ne_eqb id q (omega (arith, h))) (omega (arith, count-numbered_before q (id + 1) below (omega (arith, h)), count-numbered_before q (id + 1 + total below) rest (omega (arith, h))))
+
+pub count-numbered_behind : (q id : ℕ) (t : Trees Face) → id + total t ≤ q → count q (numbered id t) ≡ 0
+count-numbered_behind q id nil h = refl
+count-numbered_behind q id (tree face below rest) h =
+    rw (ne_eqb id q (omega (arith, h))) (omega (arith, count-numbered_behind q (id + 1) below (omega (arith, h)), count-numbered_behind q (id + 1 + total below) rest (omega (arith, h))))
+
+-- new hosts show the nodes of their trees alone
+pub hosts_of-numbered : (key id : ℕ) (f : Forest) → forest.count key f ≡ 0 → hosts_of key (numbered id (render f)) ≡ []
+hosts_of-numbered key id nil absent = refl
+hosts_of-numbered key id (tree label below rest) absent =
+    grind (arith, absent, hosts_of-numbered key (id + 1) below, hosts_of-numbered key (id + 1 + total (render below)) rest)
+
+pub put_below-nil : (p : ℕ) (t : Trees Host) → put_below p None nil t ≡ t
+put_below-nil p nil = refl
+put_below-nil p (tree h below rest) =
+    rw (inserted-None nil below, joined-nil below, put_below-nil p below, put_below-nil p rest) (ap (λ b. tree h b rest) (same (eqb h.id p) below)) where
+      same : (b : Bool) (t : Trees Host) → cond b t t ≡ t
+      same true t = refl
+      same false t = refl
+
+-- what is put behind a host's children, and more behind that
+pub put_below-twice : (p : ℕ) (new more t : Trees Host) → put_below p None more (put_below p None new t) ≡ put_below p None (joined new more) t
+put_below-twice p new more nil = refl
+put_below-twice p new more (tree h below rest) =
+    grind (arith, put_below-twice p new more below, put_below-twice p new more rest, inserted-None new below, inserted-None more (joined below new), inserted-None (joined new more) below, joined-assoc below new more)
+
+-- what new hosts need: the ids from the next one on are free, there are so many, and the parent stands once
+pub record IsReadyFor (parent more : ℕ) (hosts : Trees Host) (next : ℕ) : Type 0 where
+  pub free : (q : ℕ) → next < q + 1 → count q hosts ≡ 0
+  pub once : count parent hosts ≡ 1
+  pub room : next + more ≤ 4294967295
+
+pub parent_before : (parent more : ℕ) (hosts : Trees Host) (next : ℕ) → IsReadyFor parent more hosts next → parent < next
+parent_before parent more hosts next ready =
+    elim (cases_lt parent next) [ inl before ↦ before | inr behind ↦ absurd (omega (arith, ready.once, ready.free parent (omega (arith, behind)))) ]
+
+-- ---- one host
+
+abbrev pub host_over : ℕ → Face → Trees Host → Trees Host
+host_over id face below = tree (record { id = id; face = face }) below nil
+
+above : (a b : ℕ) → a < b → ltb a b ≡ true
+above a b h = grind (arith, h)
+
+fits_create : (next : ℕ) (label : Label) (last : Option Kind) (hosts : Trees Host) → next < 4294967295 → fits (create_op next label last) (host_tree hosts next) ≡ true
+unfolding fits
+fits_create next label last hosts h = rw (eq-eqb next next refl) (above next 4294967295 h)
+
+effect_create : (next : ℕ) (label : Label) (last : Option Kind) (hosts : Trees Host) → host_tree (joined hosts (one_host next (face_of label last))) (next + 1) ≡ effect (create_op next label last) (host_tree hosts next)
+unfolding effect
+effect_create next label last hosts = refl
+
+pub count_here : (id : ℕ) (face : Face) (below : Trees Host) → count id below ≡ 0 → count id (host_over id face below) ≡ 1
+count_here id face below h = rw (eq-eqb id id refl) (omega (arith, h))
+
+pub count_other : (q id : ℕ) (face : Face) (below : Trees Host) → id ≢ q → count q below ≡ 0 → count q (host_over id face below) ≡ 0
+count_other q id face below other h = rw (ne_eqb id q other) (omega (arith, h))
+
+-- what is put below the last host
+put_last : (id : ℕ) (face : Face) (new hosts : Trees Host) → count id hosts ≡ 0 → put_below id None new (joined hosts (one_host id face)) ≡ joined hosts (host_over id face new)
+put_last id face new hosts h =
+    put_below-joined id None new hosts (one_host id face)
+    ∙ rw (put_below-absent id None new hosts h) (rw (eq-eqb id id refl) refl)
+
+pub alone_last : (id : ℕ) (face : Face) (below hosts : Trees Host) → count id hosts ≡ 0 → alone id (joined hosts (host_over id face below)) ≡ host_over id face below
+alone_last id face below hosts h =
+    alone-joined id hosts (host_over id face below)
+    ∙ rw (alone-absent id hosts h) (rw (eq-eqb id id refl) refl)
+
+pub without_last : (id : ℕ) (face : Face) (below hosts : Trees Host) → count id hosts ≡ 0 → without id (joined hosts (host_over id face below)) ≡ hosts
+without_last id face below hosts h =
+    without-joined id hosts (host_over id face below)
+    ∙ rw (without-absent id hosts h) (rw (eq-eqb id id refl) (joined-nil hosts))
+
+pub effect_place : (parent id : ℕ) (before : Option ℕ) (next : ℕ) (face : Face) (below hosts : Trees Host) → count id hosts ≡ 0 → host_tree (put_below parent before (host_over id face below) hosts) next ≡ effect (Place parent id before) (host_tree (joined hosts (host_over id face below)) next)
+unfolding effect
+effect_place parent id before next face below hosts h =
+    sym (ap (λ w. host_tree w next) (rw (alone_last id face below hosts h) (rw (without_last id face below hosts h) refl)))
+
+pub has_if : (id : ℕ) (hosts : Trees Host) → 0 < count id hosts → has id hosts ≡ true
+has_if id hosts h = above 0 (count id hosts) h
+
+pub has_not : (id : ℕ) (hosts : Trees Host) → count id hosts ≡ 0 → has id hosts ≡ false
+has_not id hosts h = rw h refl
+
+pub fits_place : (parent id : ℕ) (before : Option ℕ) (next : ℕ) (face : Face) (below hosts : Trees Host) → id ≢ 0 → count id hosts ≡ 0 → count id below ≡ 0 → 0 < count parent hosts → count parent (host_over id face below) ≡ 0
+    → fits_before id before (children_of parent hosts) ≡ true → fits (Place parent id before) (host_tree (joined hosts (host_over id face below)) next) ≡ true
+unfolding fits
+fits_place parent id before next face below hosts nonzero absent outside_too there outside beside =
+    let new = host_over id face below in
+    let all = joined hosts new in
+    let not_root : eqb id 0 ≡ false = ne_eqb id 0 nonzero in
+    let child : has id all ≡ true = has_if id all (omega (arith, count-joined id hosts new, count_here id face below outside_too)) in
+    let onto : has parent all ≡ true = has_if parent all (omega (arith, count-joined parent hosts new, there)) in
+    let apart : has parent (alone id all) ≡ false = has_not parent (alone id all) (ap (count parent) (alone_last id face below hosts absent) ∙ outside) in
+    let children : children_of parent all ≡ children_of parent hosts =
+    children_of-joined parent hosts new ∙ ap (λ ids. children_of parent hosts ++ ids) (children_of-absent parent new outside) ∙ append-nil (children_of parent hosts) in
+    rw (not_root, child, onto, apart, children) beside
+
+-- ---- the hosts of trees
+
+-- a host with what is below it, last and not placed
+created_one : (next : ℕ) (hosts : Trees Host) (label : Label) (below : Forest) → next < 4294967295 → count next hosts ≡ 0
+    → Leads (host_tree (joined hosts (one_host next (face_of label (last_kind below)))) (next + 1)) (creations next (next + 1) below) (host_tree (put_below next None (numbered (next + 1) (render below)) (joined hosts (one_host next (face_of label (last_kind below))))) (next + 1 + total below))
+    → Leads (host_tree hosts next) (creation next label below) (host_tree (joined hosts (host_over next (face_of label (last_kind below)) (numbered (next + 1) (render below)))) (next + 1 + total below))
+created_one next hosts label below room free inner =
+    let face = face_of label (last_kind below) in (
+      host_tree (joined hosts (one_host next face)) (next + 1),
+      fits_create next label (last_kind below) hosts room,
+      effect_create next label (last_kind below) hosts,
+      subst (λ w. Leads (host_tree (joined hosts (one_host next face)) (next + 1)) (creations next (next + 1) below) (host_tree w (next + 1 + total below))) (put_last next face (numbered (next + 1) (render below)) hosts free) inner,
+    )
+
+-- ---- what is needed on the way
+
+-- below a host that was just created
+ready_below : (parent next : ℕ) (hosts : Trees Host) (label : Label) (below rest : Forest) → IsReadyFor parent (total (tree label below rest)) hosts next
+    → IsReadyFor next (total below) (joined hosts (one_host next (face_of label (last_kind below)))) (next + 1)
+ready_below parent next hosts label below rest ready =
+    let face = face_of label (last_kind below) in
+    record {
+      free = λ q h. omega (arith, h, ready.free q (omega (arith, h)), count-joined q hosts (one_host next face), count_other q next face nil (omega (arith, h)) refl);
+      once = omega (arith, ready.free next (omega arith), count-joined next hosts (one_host next face), count_here next face nil refl);
+      room = omega (arith, ready.room);
+    }
+
+-- behind a host that was just placed
+ready_behind : (parent next : ℕ) (hosts : Trees Host) (label : Label) (below rest : Forest) → IsReadyFor parent (total (tree label below rest)) hosts next
+    → IsReadyFor parent (total rest) (put_below parent None (host_over next (face_of label (last_kind below)) (numbered (next + 1) (render below))) hosts) (next + 1 + total below)
+ready_behind parent next hosts label below rest ready =
+    let face = face_of label (last_kind below) in
+    let inner = numbered (next + 1) (render below) in
+    let new = host_over next face inner in
+    let before = parent_before parent (total (tree label below rest)) hosts next ready in
+    let counted = λ (q : ℕ). trees.count-put_below id_of q parent None new hosts ready.once in
+    record {
+      free = λ q h. omega (arith, h, ready.free q (omega (arith, h)), counted q, count_other q next face inner (omega (arith, h)) (count-numbered_behind q (next + 1) (render below) (omega (arith, h, total-render below))));
+      once = omega (arith, ready.once, counted parent, count_other parent next face inner (omega (arith, before)) (count-numbered_before parent (next + 1) (render below) (omega (arith, before))));
+      room = omega (arith, ready.room);
+    }
+
+-- ---- the hosts of trees, one after another at the end of a host's children
+
+pub created : (parent next : ℕ) (hosts : Trees Host) (f : Forest) → IsReadyFor parent (total f) hosts next
+    → Leads (host_tree hosts next) (creations parent next f) (host_tree (put_below parent None (numbered next (render f)) hosts) (next + total f))
+created parent next hosts nil ready =
+    let none : next + 0 ≡ next = omega arith in
+    ap (λ h. host_tree h (next + 0)) (put_below-nil parent hosts) ∙ ap (host_tree hosts) none
+created parent next hosts (tree label below rest) ready =
+    let face = face_of label (last_kind below) in
+    let inner = numbered (next + 1) (render below) in
+    let new = host_over next face inner in
+    let before = parent_before parent (total (tree label below rest)) hosts next ready in
+    let free : count next hosts ≡ 0 = ready.free next (omega arith) in
+    let on = next + 1 + total below in
+    let behind = numbered on (render rest) in
+    let sum : on + total rest ≡ next + total (tree label below rest) = omega arith in
+    let same : on ≡ next + 1 + total (render below) = ap (λ n. next + 1 + n) (sym (total-render below)) in
+    let placed = put_below parent None new hosts in
+    Leads-append (creation next label below) (Place parent next None ∷ creations parent on rest) _ _ _
+    (created_one next hosts label below (omega (arith, ready.room)) free (created next (next + 1) (joined hosts (one_host next face)) below (ready_below parent next hosts label below rest ready))) (
+      host_tree placed on,
+      fits_place parent next None on face inner hosts (omega (arith, before)) free (count-numbered_before next (next + 1) (render below) (omega arith)) (omega (arith, ready.once)) (count_other parent next face inner (omega (arith, before)) (count-numbered_before parent (next + 1) (render below) (omega (arith, before)))) refl,
+      effect_place parent next None on face inner hosts free,
+      subst (λ w. Leads (host_tree placed on) (creations parent on rest) w) (
+          ap (λ h. host_tree h (on + total rest)) (put_below-twice parent new behind hosts)
+          ∙ ap (λ n. host_tree (put_below parent None (tree (record { id = next; face = face }) inner (numbered n (render rest))) hosts) (on + total rest)) same
+          ∙ ap (host_tree (put_below parent None (numbered next (render (tree label below rest))) hosts)) sum
+          ) (created parent on placed rest (ready_behind parent next hosts label below rest ready)),
+    )
+
+-- ---- one tree, not placed
+
+pub created_alone : (next : ℕ) (hosts : Trees Host) (label : Label) (below : Forest) → ((q : ℕ) → next < q + 1 → count q hosts ≡ 0) → next + 1 + total below ≤ 4294967295
+    → Leads (host_tree hosts next) (creation next label below) (host_tree (joined hosts (numbered next (render (tree label below nil)))) (next + 1 + total below))
+created_alone next hosts label below free room =
+    let face = face_of label (last_kind below) in
+    created_one next hosts label below (omega (arith, room)) (free next (omega arith)) (created next (next + 1) (joined hosts (one_host next face)) below (record {
+      free = λ q h. omega (arith, h, free q (omega (arith, h)), count-joined q hosts (one_host next face), count_other q next face nil (omega (arith, h)) refl);
+      once = omega (arith, free next (omega arith), count-joined next hosts (one_host next face), count_here next face nil refl);
+      room = room;
+    }))
+
+-- ---- by what is known of a host tree
+
+pub is_ready : (parent more : ℕ) (w : HostTree) → IsNumbered w → 0 < count parent w.hosts → w.next + more ≤ 4294967295 → IsReadyFor parent more w.hosts w.next
+is_ready parent more w numbered there room =
+    record { free = numbered.below; once = omega (arith, numbered.once parent, there); room = room }
+
+pub count-numbered : (q id : ℕ) (t : Trees Face) → count q (numbered id t) < 2
+count-numbered q id nil = omega arith
+count-numbered q id (tree face below rest) =
+    elim (eqb_tells id q) [
+      | inl same ↦ rw same.0 (omega (arith, same.1, count-numbered_before q (id + 1) below (omega (arith, same.1)), count-numbered_before q (id + 1 + total below) rest (omega (arith, same.1))))
+      | inr other ↦ rw other.0 (elim (cases_lt q (id + 1 + total below)) [
+        | inl before ↦ omega (arith, count-numbered q (id + 1) below, count-numbered_before q (id + 1 + total below) rest before)
+        | inr behind ↦ omega (arith, count-numbered q (id + 1 + total below) rest, count-numbered_behind q (id + 1) below behind)
+      ])
+    ]
+
+-- ---- by what is known of a host tree
+
+-- At the end of a host's children. A host tree that is numbered stays so.
+module _ (w : HostTree) (w_is : IsNumbered w) (parent : ℕ) (there : 0 < count parent w.hosts) (f : Forest) where
+  once : count parent w.hosts ≡ 1
+  once = omega (arith, w_is.once parent, there)
+
+  abbrev pub with_placed : HostTree
+  with_placed = host_tree (put_below parent None (numbered w.next (render f)) w.hosts) (w.next + total f)
+
+  pub creations_lead : w.next + total f ≤ 4294967295 → Leads w (creations parent w.next f) with_placed
+  creations_lead room = created parent w.next w.hosts f (record { free = w_is.below; once = once; room = room })
+
+  pub placed_numbered : IsNumbered with_placed
+  placed_numbered =
+      let new = numbered w.next (render f) in
+      let counted = λ (q : ℕ). trees.count-put_below id_of q parent None new w.hosts once in
+      record {
+        once = λ q. elim (cases_lt q w.next) [
+          | inl before ↦ omega (arith, counted q, w_is.once q, count-numbered_before q w.next (render f) before)
+          | inr behind ↦ omega (arith, counted q, w_is.below q (omega (arith, behind)), count-numbered q w.next (render f))
+        ];
+        below = λ q h. omega (arith, counted q, w_is.below q (omega (arith, h)), count-numbered_behind q w.next (render f) (omega (arith, h, total-render f)));
+      }
+
+-- One tree, behind all others: its host isn't placed.
+module _ (w : HostTree) (w_is : IsNumbered w) (label : Label) (below : Forest) where
+  abbrev pub with_created : HostTree
+  with_created = host_tree (joined w.hosts (numbered w.next (render (tree label below nil)))) (w.next + total (tree label below nil))
+
+  pub creation_leads : w.next + total (tree label below nil) ≤ 4294967295 → Leads w (creation w.next label below) with_created
+  creation_leads room =
+      let face = face_of label (last_kind below) in
+      let next = w.next in
+      let new = one_host next face in
+      let sum : next + 1 + total below ≡ next + total (tree label below nil) = omega arith in
+      let inner : Leads (host_tree (joined w.hosts new) (next + 1)) (creations next (next + 1) below) (host_tree (put_below next None (numbered (next + 1) (render below)) (joined w.hosts new)) (next + 1 + total below)) =
+      created next (next + 1) (joined w.hosts new) below (record {
+        free = λ q h. omega (arith, h, w_is.below q (omega (arith, h)), count-joined q w.hosts new, count_other q next face nil (omega (arith, h)) refl);
+        once = omega (arith, w_is.below next (omega arith), count-joined next w.hosts new, count_here next face nil refl);
+        room = omega (arith, room);
+      }) in
+      subst (λ n. Leads w (creation next label below) (host_tree (joined w.hosts (host_over next face (numbered (next + 1) (render below)))) n)) sum
+      (created_one next w.hosts label below (omega (arith, room)) (w_is.below next (omega arith)) inner)
+
+  pub created_numbered : IsNumbered with_created
+  created_numbered =
+      let new = numbered w.next (render (tree label below nil)) in
+      record {
+        once = λ q. elim (cases_lt q w.next) [
+          | inl before ↦ omega (arith, count-joined q w.hosts new, w_is.once q, count-numbered_before q w.next (render (tree label below nil)) before)
+          | inr behind ↦ omega (arith, count-joined q w.hosts new, w_is.below q (omega (arith, behind)), count-numbered q w.next (render (tree label below nil)))
+        ];
+        below = λ q h. omega (arith, count-joined q w.hosts new, w_is.below q (omega (arith, h)), count-numbered_behind q w.next (render (tree label below nil)) (omega (arith, h, total-render (tree label below nil))));
+      }

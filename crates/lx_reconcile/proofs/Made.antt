@@ -1,0 +1,408 @@
+-- What the operations for a node and its children come to, by what the code knows.
+use Rattle.std.specs.Result.{IfOk, OnOk}
+use Rattle.std.proofs.Common.{Result, Ok, Err, ◌≡◌, ◌∙◌, ◌+◌, ◌*◌, ◌<◌, ◌≤◌, ◌⊎◌, ℕ, Bool, true, false, not, ◌&&◌, List, [], ◌∷◌, ◌++◌, length, Option, None, Some, option_map, inl, inr, refl, sym, ap, subst, arith, append_assoc, append-nil, take, drop, get_or}
+use Rattle.std.proofs.lemmas.Bool.Decides.{eqb_tells}
+use Rattle.std.proofs.lemmas.List.{take_more, drop_more, take-append-drop}
+use Rattle.std.proofs.lemmas.Option.{same_Some}
+use Rattle.lx_node.specs.Trees.{Trees, nil, tree}
+use Rattle.lx_node.specs.NamedTrees.{total}
+use Rattle.lx_node.specs.Siblings.{is_among, is_place, first_of, from_name, next_in}
+use Rattle.lx_node.specs.Spots.{Spot}
+use Rattle.lx_node.specs.declared.node.Node.{Node}
+use Rattle.lx_node.proofs.NamedTrees.{total-joined}
+use Rattle.lx_node.proofs.Positions.{from_name-first}
+use Rattle.lx_node.proofs.Siblings.{next_in-among}
+use Rattle.lx_host.specs.declared.op.Op.{Op}
+use Rattle.lx_host.specs.declared.op.Op.TheVariants as op
+use Rattle.lx_host.specs.Hosts.{Host, HostTree}
+use Rattle.lx_host.specs.Html.{first_tree}
+use Rattle.lx_host.specs.Lookups as hosts
+use Rattle.lx_forest.specs.Forest.{Label, Forest}
+use Rattle.lx_forest.specs.Lookups.{alone, has, children_of, first_child, next_of, trees_of, IsForest}
+use Rattle.lx_forest.specs.Records.{record_at}
+use Rattle.lx_forest.proofs.Lookups.{has-child}
+use Rattle.lx_forest.proofs.Walks.{total-alone-lt}
+use Rattle.lx_links.specs.Stands.{node_of, Sound}
+use Rattle.lx_links.proofs.Placed.{parent_of-child}
+use Rattle.lx_plain.specs.Allowed.{hosts_of}
+use Rattle.lx_plain.specs.Render.{tag_of}
+use Rattle.lx_reconcile.specs.declared.moves.Move.{Move}
+use Rattle.lx_reconcile.specs.declared.moves.Move.TheVariants.{Stay, Leave, Make, Place}
+use Rattle.lx_reconcile.specs.Created.{creation_of}
+use Rattle.lx_reconcile.specs.Making.{IsBetween, Reconciles, MakesMoves, AreNext, IsNext, standing_total}
+use Rattle.lx_reconcile.specs.Reconciled.{host_in}
+use Rattle.lx_reconcile.specs.ToCome.{IsInWalk}
+use Rattle.lx_reconcile.specs.Walk.{is_waiting}
+use Rattle.lx_reconcile.proofs.Children.{label_from, is_read, child_left, stands_there}
+use Rattle.lx_reconcile.proofs.StartEnd.{only_host, child_stands}
+use Rattle.lx_reconcile.proofs.Walked.{walk_room, walk_both, walk_stay, walk_leave, walk_place, walk_make, walk_again}
+
+-- ---- the host that shows a node
+
+append_none : (xs ys : List ℕ) → xs ++ ys ≡ [] → (xs ≡ []) × (ys ≡ [])
+append_none [] ys e = (refl, e)
+append_none (x ∷ xs) ys e = absurd (cc)
+
+append_one : (xs ys : List ℕ) (i : ℕ) → xs ++ ys ≡ i ∷ [] → ((xs ≡ i ∷ []) × (ys ≡ [])) ⊎ ((xs ≡ []) × (ys ≡ i ∷ []))
+append_one [] ys i e = inr (refl, e)
+append_one (x ∷ xs) ys i e =
+    let rest : xs ++ ys ≡ [] = cc in
+    let none = append_none xs ys rest in
+    let first : x ≡ i = cc in
+    inl (ap (λ y. y ∷ xs) first ∙ ap (λ l. i ∷ l) none.0, none.1)
+
+none_shows : (k : ℕ) (t : Trees Host) → hosts_of k t ≡ [] → hosts.host_of k t ≡ None
+none_shows k nil e = refl
+none_shows k (tree host below rest) e = elim (eqb_tells host.face.key k) [
+  | inl same ↦ absurd (let h = rw same.0 at e in cc)
+  | inr other ↦
+      let none = append_none (hosts_of k below) (hosts_of k rest) (rw other.0 at e) in
+      rw (other.0, none_shows k below none.0, none_shows k rest none.1) refl
+]
+
+one_shows : (k i : ℕ) (t : Trees Host) → hosts_of k t ≡ i ∷ [] → hosts.host_of k t ≡ Some i
+one_shows k i nil e = absurd (cc)
+one_shows k i (tree host below rest) e = elim (eqb_tells host.face.key k) [
+  | inl same ↦
+      let h : host.id ∷ (hosts_of k below ++ hosts_of k rest) ≡ i ∷ [] = rw same.0 at e in
+      let left : hosts_of k below ++ hosts_of k rest ≡ [] = cc in
+      let none = append_none (hosts_of k below) (hosts_of k rest) left in
+      let first : host.id ≡ i = cc in
+      rw (same.0, none_shows k below none.0, none_shows k rest none.1) (ap (λ x. Some x) first)
+  | inr other ↦ elim (append_one (hosts_of k below) (hosts_of k rest) i (rw other.0 at e)) [
+    | inl one ↦ rw (other.0, one_shows k i below one.0, none_shows k rest one.1) refl
+    | inr one ↦ rw (other.0, none_shows k below one.0, one_shows k i rest one.1) refl
+  ]
+]
+
+found_is : (k : ℕ) (v : HostTree) (o : Option ℕ) → o ≡ hosts.host_of k (first_tree v.hosts) → first_tree v.hosts ≡ v.hosts → hosts_of k v.hosts ≡ host_in v k ∷ [] → o ≡ Some (host_in v k)
+found_is k v o e whole shown = e ∙ ap (hosts.host_of k) whole ∙ one_shows k (host_in v k) v.hosts shown
+
+pub found_id : (k : ℕ) (v : HostTree) (id : ℕ) → Some id ≡ hosts.host_of k (first_tree v.hosts) → first_tree v.hosts ≡ v.hosts → hosts_of k v.hosts ≡ host_in v k ∷ [] → id ≡ host_in v k
+found_id k v id e whole shown = same_Some id (host_in v k) (found_is k v (Some id) e whole shown)
+
+pub found_none : (k : ℕ) (v : HostTree) → None ≡ hosts.host_of k (first_tree v.hosts) → first_tree v.hosts ≡ v.hosts → hosts_of k v.hosts ≡ host_in v k ∷ [] → 0 ≡ host_in v k
+found_none k v e whole shown = absurd (let h = found_is k v None e whole shown in cc)
+
+-- ---- the keys of a node's children
+
+-- these are gathered, and `at` is the next one
+pub record IsGathered (f : Forest) (key : ℕ) (at : Option ℕ) (keys : List ℕ) : Type 0 where
+  pub place : is_place at (children_of f key) ≡ true
+  pub list : keys ++ from_name at (children_of f key) ≡ children_of f key
+
+first_place : (xs : List ℕ) → is_place (first_of xs) xs ≡ true
+first_place [] = refl
+first_place (x ∷ xs) = grind (arith, eqb_tells x x)
+
+next_place : (xs : List ℕ) (k : ℕ) → is_place (next_in xs k) xs ≡ true
+next_place xs k = by_next (next_in xs k) refl where
+  by_next : (o : Option ℕ) → next_in xs k ≡ o → is_place o xs ≡ true
+  by_next None e = refl
+  by_next (Some n) e = next_in-among xs k n e
+
+pub gathered_none : (f : Forest) (key : ℕ) (at : Option ℕ) (keys : List ℕ) → at ≡ first_child f key → keys ≡ [] → IsGathered f key at keys
+gathered_none f key at keys first none =
+    let kids = children_of f key in
+    record {
+      place = ap (λ o. is_place o kids) first ∙ first_place kids;
+      list = ap (λ l. l ++ from_name at kids) none ∙ ap (λ o. from_name o kids) first ∙ from_name-first kids;
+    }
+
+pub gathered_more : (f g : Forest) (key child : ℕ) (at next : Option ℕ) (keys more : List ℕ) → g ≡ f → Sound f → at ≡ Some child → IsGathered f key at keys → next ≡ next_of g child → more ≡ keys ++ child ∷ [] → IsGathered f key next more
+gathered_more f g key child at next keys more same s here m next_is more_is =
+    let kids = children_of f key in
+    let c = child_left f key child s (sym (ap (λ o. is_place o kids) here) ∙ m.place) in
+    let rest = from_name (next_in kids child) kids in
+    let is : next ≡ next_in kids child = next_is ∙ ap (λ f. next_of f child) same ∙ c.next in
+    record {
+      place = ap (λ o. is_place o kids) is ∙ next_place kids child;
+      list =
+          ap (λ l. l ++ from_name next kids) more_is
+          ∙ ap (λ o. (keys ++ child ∷ []) ++ from_name o kids) is
+          ∙ append_assoc keys (child ∷ []) rest
+          ∙ sym (ap (λ l. keys ++ l) (ap (λ o. from_name o kids) here ∙ c.left))
+          ∙ m.list;
+    }
+
+pub gathered_all : (f : Forest) (key : ℕ) (at : Option ℕ) (keys : List ℕ) → at ≡ None → IsGathered f key at keys → keys ≡ children_of f key
+gathered_all f key at keys none m = sym (append-nil keys) ∙ sym (ap (λ o. keys ++ from_name o (children_of f key)) none) ∙ m.list
+
+pub next_there : (f g : Forest) (key child : ℕ) (at : Option ℕ) (keys : List ℕ) → g ≡ f → Sound f → at ≡ Some child → IsGathered f key at keys → has child g ≡ true
+next_there f g key child at keys same s here m =
+    ap (has child) same ∙ (child_left f key child s (sym (ap (λ o. is_place o (children_of f key)) here) ∙ m.place)).there
+
+-- ---- where a source has been read, its forest is the same
+
+pub between_still : (f f_now g g_now : Forest) (v : HostTree) → f_now ≡ f → g_now ≡ g → IsBetween f g v → IsBetween f_now g_now v
+between_still f f_now g g_now v e d b = subst (λ x. IsBetween x g_now v) (sym e) (subst (λ y. IsBetween f y v) (sym d) b)
+
+pub moves_still : (f f_now g g_now : Forest) (v : HostTree) (k : ℕ) (ms : List Move) (n : ℕ) (start end : List Op) (m : ℕ) → f_now ≡ f → g_now ≡ g → MakesMoves f_now g_now v k ms n start end m → MakesMoves f g v k ms n start end m
+moves_still f f_now g g_now v k ms n start end m e d b =
+    subst (λ x. MakesMoves x g v k ms n start end m) e (subst (λ y. MakesMoves f_now y v k ms n start end m) d b)
+
+pub reconciles_still : (f f_now g g_now : Forest) (v : HostTree) (k n : ℕ) (start end : List Op) (m : ℕ) → f_now ≡ f → g_now ≡ g → Reconciles f_now g_now v k n start end m → Reconciles f g v k n start end m
+reconciles_still f f_now g g_now v k n start end m e d b =
+    subst (λ x. Reconciles x g v k n start end m) e (subst (λ y. Reconciles f_now y v k n start end m) d b)
+
+pub are_still : (f f_now g g_now : Forest) (v : HostTree) (k : ℕ) (ms : List Move) (n : ℕ) → f_now ≡ f → g_now ≡ g → AreNext f g v k ms n → AreNext f_now g_now v k ms n
+are_still f f_now g g_now v k ms n e d b = subst (λ x. AreNext x g_now v k ms n) (sym e) (subst (λ y. AreNext f y v k ms n) (sym d) b)
+
+pub next_still : (f f_now g g_now : Forest) (v : HostTree) (k : ℕ) (m : Move) (n : ℕ) → f_now ≡ f → g_now ≡ g → IsNext f g v k m n → IsNext f_now g_now v k m n
+next_still f f_now g g_now v k m n e d b = subst (λ x. IsNext x g_now v k m n) (sym e) (subst (λ y. IsNext f y v k m n) (sym d) b)
+
+-- ---- the next move
+
+both : (s t : Bool) → (s && t) ≡ true → (s ≡ true) × (t ≡ true)
+both true t e = (refl, e)
+both false t e = absurd (cc)
+
+module _ (old new : Forest) (v : HostTree) where
+  -- the host of a child is found
+  pub child_shown : (k c : ℕ) → IsBetween old new v → is_among c (children_of old k) ≡ true → hosts_of c v.hosts ≡ host_in v c ∷ []
+  child_shown k c b among = only_host old v c b.view.before b.view.shows (child_stands old k c b.view.before among)
+
+  pub stay_both : (k c n : ℕ) → IsNext old new v k (Stay c) n → (is_among c (children_of old k) ≡ true) × (is_among c (children_of new k) ≡ true)
+  stay_both k c n x = walk_both old new v k x.are.from x.are.ops x.are.a c x.more n x.are.walk
+
+  pub stay_room : (k c n : ℕ) → IsNext old new v k (Stay c) n → n + total (alone c new) ≤ 4294967295
+  stay_room k c n x = omega (arith, x.are.room, walk_room old new v k x.are.from x.are.ops x.are.a c (Stay c) x.more n x.are.walk refl)
+
+  pub leave_among : (k c n : ℕ) → IsNext old new v k (Leave c) n → is_among c (children_of old k) ≡ true
+  leave_among k c n x = x.are.walk.to_come.suited.0
+
+  pub make_among : (k c : ℕ) (before : Option ℕ) (n : ℕ) → IsNext old new v k (Make c before) n → is_among c (children_of new k) ≡ true
+  make_among k c before n x = x.are.walk.to_come.stays c (grind (arith, eqb_tells c c))
+
+  pub make_room : (k c : ℕ) (before : Option ℕ) (n : ℕ) → IsNext old new v k (Make c before) n → n + total (alone c new) ≤ 4294967295
+  make_room k c before n x = omega (arith, x.are.room, walk_room old new v k x.are.from x.are.ops x.are.a c (Make c before) x.more n x.are.walk refl)
+
+  pub place_among : (k c : ℕ) (before : Option ℕ) (n : ℕ) → IsNext old new v k (Place c before) n → is_among c (children_of old k) ≡ true
+  place_among k c before n x = x.are.walk.to_come.suited.0
+
+  waiting_among : (olds handled : List ℕ) (before : Option ℕ) (b : ℕ) → is_waiting olds handled before ≡ true → before ≡ Some b → is_among b olds ≡ true
+  waiting_among olds handled None b e is = absurd (cc)
+  waiting_among olds handled (Some k) b e is =
+      let same : k ≡ b = cc in
+      subst (λ q. is_among q olds ≡ true) same (both (is_among k olds) (not (is_among k handled)) e).0
+
+  pub make_before : (k c : ℕ) (before : Option ℕ) (n : ℕ) → IsBetween old new v → IsNext old new v k (Make c before) n → (b : ℕ) → before ≡ Some b → hosts_of b v.hosts ≡ host_in v b ∷ []
+  make_before k c before n w x b is = child_shown k b w (waiting_among (children_of old k) x.are.walk.handled before b x.are.walk.to_come.unhandled.0 is)
+
+  pub place_before : (k c : ℕ) (before : Option ℕ) (n : ℕ) → IsBetween old new v → IsNext old new v k (Place c before) n → (b : ℕ) → before ≡ Some b → hosts_of b v.hosts ≡ host_in v b ∷ []
+  place_before k c before n w x b is = child_shown k b w (waiting_among (children_of old k) x.are.walk.handled before b x.are.walk.to_come.unhandled.0 is)
+
+  -- where a child was placed, it stays next
+  pub placed_next : (k c : ℕ) (before : Option ℕ) (n : ℕ) → IsBetween old new v → IsNext old new v k (Place c before) n → IsNext old new v k (Stay c) n
+  placed_next k c before n w x = record {
+    more = x.more;
+    are = record {
+      from = x.are.from;
+      ops = x.are.ops ++ op.Place (host_in v k) (host_in v c) (option_map (host_in v) before) ∷ [];
+      a = x.are.a;
+      walk = walk_place old new v k x.are.from x.are.ops x.are.a c before x.more n w.view x.are.walk;
+      room = x.are.room;
+      there = x.are.there;
+    };
+  }
+
+  -- ---- what each move's operations are
+
+  pub makes_stay : (k c n : ℕ) (start end : List Op) (m : ℕ) → Reconciles old new v c n start end m → MakesMoves old new v k (Stay c ∷ []) n start end m
+  makes_stay k c n start end m r = record {
+    pushed = r.pushed;
+    list = r.list;
+    leads = λ from ops a more w. walk_stay old new v k from ops a c more n r.pushed m w r.done;
+  }
+
+  pub makes_leave : (k c h n : ℕ) (start end : List Op) → IsBetween old new v → h ≡ host_in v c → end ≡ start ++ op.Drop h ∷ [] → MakesMoves old new v k (Leave c ∷ []) n start end n
+  makes_leave k c h n start end b id is = record {
+    pushed = op.Drop (host_in v c) ∷ [];
+    list = is ∙ ap (λ i. start ++ op.Drop i ∷ []) id;
+    leads = λ from ops a more w. walk_leave old new v k from ops a c more n b.view w;
+  }
+
+  walk_to : (k from : ℕ) (ops : List Op) (a : Host) (more : List Move) (m l : ℕ) → m ≡ l → IsInWalk old new v k from ops a more m → IsInWalk old new v k from ops a more l
+  walk_to k from ops a more m l e w = subst (IsInWalk old new v k from ops a more) e w
+
+  pub makes_make : (k c h n : ℕ) (before place : Option ℕ) (start end : List Op) (m : ℕ) → IsBetween old new v → h ≡ host_in v k → place ≡ option_map (host_in v) before → n + total (alone c new) ≤ 4294967295
+      → m ≡ n + total (alone c new) → end ≡ start ++ creation_of n (alone c new) ++ op.Place h n place ∷ []
+      → MakesMoves old new v k (Make c before ∷ []) n start end m
+  makes_make k c h n before place start end m b id at room next is = record {
+    pushed = creation_of n (alone c new) ++ op.Place (host_in v k) n (option_map (host_in v) before) ∷ [];
+    list =
+        is
+        ∙ ap (λ i. start ++ creation_of n (alone c new) ++ op.Place i n place ∷ []) id
+        ∙ ap (λ o. start ++ creation_of n (alone c new) ++ op.Place (host_in v k) n o ∷ []) at
+        ∙ append_assoc start (creation_of n (alone c new)) (op.Place (host_in v k) n (option_map (host_in v) before) ∷ []);
+    leads = λ from ops a more w.
+        walk_to k from (ops ++ (creation_of n (alone c new) ++ op.Place (host_in v k) n (option_map (host_in v) before) ∷ [])) a more (n + total (alone c new)) m (sym next) (walk_make old new v k from ops a c before more n b.view w room);
+  }
+
+  -- made anew with another element
+  pub makes_again : (k c h i n : ℕ) (was now : Node) (start end : List Op) (m : ℕ) → IsBetween old new v → h ≡ host_in v k → i ≡ host_in v c → n + total (alone c new) ≤ 4294967295
+      → Some was ≡ option_map node_of (record_at old c) → Some now ≡ option_map node_of (record_at new c) → (tag_of was.kind was.fields ≡ tag_of now.kind now.fields → ⊥)
+      → m ≡ n + total (alone c new) → end ≡ start ++ creation_of n (alone c new) ++ op.Place h n (Some i) ∷ [] ++ op.Drop i ∷ []
+      → MakesMoves old new v k (Stay c ∷ []) n start end m
+  makes_again k c h i n was now start end m b id own room was_is now_is other next is =
+      let x = is_read old c was b.was_sound was_is in
+      let y = is_read new c now b.sound now_is in
+      let made = creation_of n (alone c new) in
+      let placing = op.Place (host_in v k) n (Some (host_in v c)) ∷ [] in
+      let dropping = op.Drop (host_in v c) ∷ [] in
+      record {
+        pushed = (made ++ placing) ++ dropping;
+        list =
+            is
+            ∙ ap (λ z. start ++ made ++ op.Place z n (Some i) ∷ [] ++ op.Drop i ∷ []) id
+            ∙ ap (λ z. start ++ made ++ op.Place (host_in v k) n (Some z) ∷ [] ++ op.Drop z ∷ []) own
+            ∙ ap (λ l. l ++ dropping) (append_assoc start made placing)
+            ∙ append_assoc start (made ++ placing) dropping;
+        leads = λ from ops a more w.
+            walk_to k from (ops ++ ((made ++ placing) ++ dropping)) a more (n + total (alone c new)) m (sym next) (
+            walk_again old new v k from ops a c more n (label_from c was) (label_from c now) b.view w
+            (ap (option_map (λ (s : Spot Label). s.label)) x.at_is ∙ ap (λ l. Some l) x.label)
+            (ap (option_map (λ (s : Spot Label). s.label)) y.at_is ∙ ap (λ l. Some l) y.label) other room
+            );
+      }
+
+  pub makes_place : (k c h i n : ℕ) (before place : Option ℕ) (start mid end : List Op) (m : ℕ) → IsBetween old new v → h ≡ host_in v k → i ≡ host_in v c → place ≡ option_map (host_in v) before
+      → mid ≡ start ++ op.Place h i place ∷ [] → MakesMoves old new v k (Stay c ∷ []) n mid end m
+      → MakesMoves old new v k (Place c before ∷ []) n start end m
+  makes_place k c h i n before place start mid end m b id own at is r =
+      let placing = op.Place (host_in v k) (host_in v c) (option_map (host_in v) before) ∷ [] in
+      let first : mid ≡ start ++ placing =
+      is
+      ∙ ap (λ z. start ++ op.Place z i place ∷ []) id
+      ∙ ap (λ z. start ++ op.Place (host_in v k) z place ∷ []) own
+      ∙ ap (λ z. start ++ op.Place (host_in v k) (host_in v c) z ∷ []) at in
+      record {
+        pushed = placing ++ r.pushed;
+        list = r.list ∙ ap (λ l. l ++ r.pushed) first ∙ append_assoc start placing r.pushed;
+        leads = λ from ops a more w.
+            subst (λ l. IsInWalk old new v k from l a more m) (append_assoc ops placing r.pushed)
+            (r.leads from (ops ++ placing) a more (walk_place old new v k from ops a c before more n b.view w));
+      }
+
+  -- ---- by what the code knows of a move
+
+  pub after_there : (k c : ℕ) → IsBetween old new v → is_among c (children_of new k) ≡ true → has c new ≡ true
+  after_there k c b among = has-child new c k (parent_of-child new c k b.sound among)
+
+  pub before_there : (k c : ℕ) → IsBetween old new v → is_among c (children_of old k) ≡ true → has c old ≡ true
+  before_there k c b among = child_stands old k c b.view.before among
+
+  pub to_case : (k n : ℕ) (s t : Move) → s ≡ t → IsNext old new v k s n → IsNext old new v k t n
+  to_case k n s t e x = subst (λ s. IsNext old new v k s n) e x
+
+  pub from_case : (k n : ℕ) (s t : Move) (start end : List Op) (m : ℕ) → s ≡ t → MakesMoves old new v k (t ∷ []) n start end m → MakesMoves old new v k (s ∷ []) n start end m
+  from_case k n s t start end m e x = subst (λ s. MakesMoves old new v k (s ∷ []) n start end m) (sym e) x
+
+  pub make_done : {E : Type 0} (r : Result ℕ E) (k c h n : ℕ) (before place : Option ℕ) (s : Move) (start end : List Op) → s ≡ Make c before → IsBetween old new v → IsNext old new v k (Make c before) n → h ≡ host_in v k → place ≡ option_map (host_in v) before
+      → OnOk r (end ≡ start ++ creation_of n (alone c new) ++ op.Place h n place ∷ []) → IfOk r (λ m. m ≡ n + total (alone c new)) → IfOk r (λ m. MakesMoves old new v k (s ∷ []) n start end m)
+  make_done (Ok m) k c h n before place s start end e b x id at is next =
+      from_case k n s (Make c before) start end m e (makes_make k c h n before place start end m b id at (make_room k c before n x) next is)
+  make_done (Err x) k c h n before place s start end e b y id at is next = tt
+
+  pub again_done : {E : Type 0} (r : Result ℕ E) (k c h i n : ℕ) (was now : Node) (start end : List Op) → IsBetween old new v → IsNext old new v k (Stay c) n → h ≡ host_in v k → i ≡ host_in v c
+      → Some was ≡ option_map node_of (record_at old c) → Some now ≡ option_map node_of (record_at new c) → (tag_of was.kind was.fields ≡ tag_of now.kind now.fields → ⊥)
+      → OnOk r (end ≡ start ++ creation_of n (alone c new) ++ op.Place h n (Some i) ∷ [] ++ op.Drop i ∷ []) → IfOk r (λ m. m ≡ n + total (alone c new)) → IfOk r (λ m. MakesMoves old new v k (Stay c ∷ []) n start end m)
+  again_done (Ok m) k c h i n was now start end b x id own was_is now_is other is next =
+      makes_again k c h i n was now start end m b id own (stay_room k c n x) was_is now_is other next is
+  again_done (Err x) k c h i n was now start end b y id own was_is now_is other is next = tt
+
+  pub place_done : {E : Type 0} (r : Result ℕ E) (k c h i n : ℕ) (before place : Option ℕ) (s : Move) (start mid end : List Op) → s ≡ Place c before → IsBetween old new v → h ≡ host_in v k → i ≡ host_in v c → place ≡ option_map (host_in v) before
+      → mid ≡ start ++ op.Place h i place ∷ [] → IfOk r (λ m. MakesMoves old new v k (Stay c ∷ []) n mid end m) → IfOk r (λ m. MakesMoves old new v k (s ∷ []) n start end m)
+  place_done (Ok m) k c h i n before place s start mid end e b id own at is made =
+      from_case k n s (Place c before) start end m e (makes_place k c h i n before place start mid end m b id own at is made)
+  place_done (Err x) k c h i n before place s start mid end e b id own at is made = tt
+
+  pub stay_done : {E : Type 0} (r : Result ℕ E) (f_now g_now : Forest) (k c n : ℕ) (start end : List Op) → f_now ≡ old → g_now ≡ new → IfOk r (λ m. Reconciles f_now g_now v c n start end m) → IfOk r (λ m. MakesMoves old new v k (Stay c ∷ []) n start end m)
+  stay_done (Ok m) f_now g_now k c n start end e d r = makes_stay k c n start end m (reconciles_still old f_now new g_now v c n start end m e d r)
+  stay_done (Err x) f_now g_now k c n start end e d r = tt
+
+  -- ---- one move after another
+
+  pub makes_none : (k n : ℕ) (start : List Op) → MakesMoves old new v k [] n start start n
+  makes_none k n start = record {
+    pushed = [];
+    list = sym (append-nil start);
+    leads = λ from ops a more w. subst (λ l. IsInWalk old new v k from l a more n) (sym (append-nil ops)) w;
+  }
+
+  makes_more : (k : ℕ) (ms : List Move) (s : Move) (n m l : ℕ) (start mid end : List Op) → MakesMoves old new v k ms n start mid m → MakesMoves old new v k (s ∷ []) m mid end l → MakesMoves old new v k (ms ++ s ∷ []) n start end l
+  makes_more k ms s n m l start mid end first then = record {
+    pushed = first.pushed ++ then.pushed;
+    list = then.list ∙ ap (λ x. x ++ then.pushed) first.list ∙ append_assoc start first.pushed then.pushed;
+    leads = λ from ops a more w.
+        subst (λ x. IsInWalk old new v k from x a more l) (append_assoc ops first.pushed then.pushed)
+        (then.leads from (ops ++ first.pushed) a more
+        (first.leads from ops a (s ∷ more) (subst (λ x. IsInWalk old new v k from ops a x n) (append_assoc ms (s ∷ []) more) w)));
+  }
+
+  -- of these moves those up to place i are made, and the next one is s
+  pub makes_next : (k : ℕ) (moves : List Move) (i : ℕ) (s : Move) (n m l : ℕ) (start mid end : List Op) → i < length moves → s ≡ get_or moves i s → MakesMoves old new v k (take i moves) n start mid m → MakesMoves old new v k (s ∷ []) m mid end l
+      → MakesMoves old new v k (take (i + 1) moves) n start end l
+  makes_next k moves i s n m l start mid end within item first then =
+      subst (λ x. MakesMoves old new v k x n start end l) (sym (take_more moves i s within ∙ ap (λ y. take i moves ++ y ∷ []) (sym item))) (makes_more k (take i moves) s n m l start mid end first then)
+
+  pub is_next : (k : ℕ) (moves : List Move) (i : ℕ) (s : Move) (n m : ℕ) (start mid : List Op) → i < length moves → s ≡ get_or moves i s → AreNext old new v k moves n → MakesMoves old new v k (take i moves) n start mid m → IsNext old new v k s m
+  is_next k moves i s n m start mid within item x made =
+      let split : take i moves ++ drop i moves ≡ moves = take-append-drop i moves in
+      let here : drop i moves ≡ s ∷ drop (i + 1) moves = drop_more moves i s within ∙ ap (λ y. y ∷ drop (i + 1) moves) (sym item) in
+      let walk : IsInWalk old new v k x.from x.ops x.a (take i moves ++ s ∷ drop (i + 1) moves) n =
+      subst (λ z. IsInWalk old new v k x.from x.ops x.a z n) (sym split ∙ ap (λ z. take i moves ++ z) here) x.walk in
+      record {
+        more = drop (i + 1) moves;
+        are = record { from = x.from; ops = x.ops ++ made.pushed; a = x.a; walk = made.leads x.from x.ops x.a (s ∷ drop (i + 1) moves) walk; room = x.room; there = x.there };
+      }
+
+  -- ---- how much smaller the trees become
+
+  stands_some : (k : ℕ) → IsForest new → has k new ≡ true → 0 < total (alone k new)
+  stands_some k h there =
+      let s = stands_there new k h there in
+      omega (arith, ap total s.tree_is)
+
+  one_total : (c : ℕ) → total (trees_of new (c ∷ [])) ≡ total (alone c new)
+  one_total c = omega (arith, total-joined (alone c new) nil)
+
+  child_less : (k c : ℕ) → IsBetween old new v → is_among c (children_of new k) ≡ true → total (alone c new) < total (alone k new)
+  child_less k c b among = total-alone-lt new c k b.view.after (parent_of-child new c k b.sound among)
+
+  standing_less : (k c : ℕ) → IsBetween old new v → is_among c (children_of new k) ≡ true → 4 * total (trees_of new (c ∷ [])) + 3 < 4 * total (alone k new)
+  standing_less k c b among = omega (arith, one_total c, child_less k c b among)
+
+  pub move_less : (k : ℕ) (s : Move) (n : ℕ) → IsBetween old new v → IsNext old new v k s n → 4 * standing_total new (s ∷ []) + 3 < 4 * total (alone k new)
+  move_less k (Stay c) n b x = standing_less k c b (x.are.walk.to_come.stays c (grind (arith, eqb_tells c c)))
+  move_less k (Leave c) n b x = omega (arith, stands_some k b.view.after x.are.there)
+  move_less k (Make c before) n b x = standing_less k c b (x.are.walk.to_come.stays c (grind (arith, eqb_tells c c)))
+  move_less k (Place c before) n b x = standing_less k c b (x.are.walk.to_come.stays c (grind (arith, eqb_tells c c)))
+
+  pub stay_less : (c : ℕ) (s : Move) → s ≡ Stay c → 4 * total (alone c new) + 2 < 4 * standing_total new (s ∷ []) + 3
+  stay_less c s e = omega (arith, one_total c, ap (λ s. standing_total new (s ∷ [])) e)
+
+  pub place_less : (c : ℕ) (before : Option ℕ) (s : Move) → s ≡ Place c before → 4 * total (alone c new) + 2 < 4 * standing_total new (s ∷ []) + 3
+  place_less c before s e = omega (arith, one_total c, ap (λ s. standing_total new (s ∷ [])) e)
+
+-- ---- the same where sources have been read
+
+pub again_done_still : {E : Type 0} (old new new_now : Forest) (v : HostTree) (r : Result ℕ E) (k c h i n : ℕ) (was now : Node) (start end : List Op) → new_now ≡ new → IsBetween old new v → IsNext old new v k (Stay c) n → h ≡ host_in v k → i ≡ host_in v c
+    → Some was ≡ option_map node_of (record_at old c) → Some now ≡ option_map node_of (record_at new c) → (tag_of was.kind was.fields ≡ tag_of now.kind now.fields → ⊥)
+    → OnOk r (end ≡ start ++ creation_of n (alone c new_now) ++ op.Place h n (Some i) ∷ [] ++ op.Drop i ∷ []) → IfOk r (λ m. m ≡ n + total (alone c new_now)) → IfOk r (λ m. MakesMoves old new v k (Stay c ∷ []) n start end m)
+again_done_still old new new_now v r k c h i n was now start end d b x id own was_is now_is other is next =
+    again_done old new v r k c h i n was now start end b x id own was_is now_is other
+    (subst (λ y. OnOk r (end ≡ start ++ creation_of n (alone c y) ++ op.Place h n (Some i) ∷ [] ++ op.Drop i ∷ [])) d is)
+    (subst (λ y. IfOk r (λ m. m ≡ n + total (alone c y))) d next)
+
+pub room_still : (g g_now : Forest) (c n : ℕ) → g_now ≡ g → n + total (alone c g) ≤ 4294967295 → n + total (alone c g_now) ≤ 4294967295
+room_still g g_now c n d h = subst (λ y. n + total (alone c y) ≤ 4294967295) (sym d) h
+
+pub read_still : (f f_now : Forest) (k : ℕ) (n : Node) → f_now ≡ f → Some n ≡ option_map node_of (record_at f k) → Some n ≡ option_map node_of (record_at f_now k)
+read_still f f_now k n d h = subst (λ y. Some n ≡ option_map node_of (record_at y k)) (sym d) h
+
+pub child_node_less : (f g : Forest) (k : ℕ) → g ≡ f → 4 * total (alone k g) + 1 < 4 * total (alone k f) + 2
+child_node_less f g k e = omega (arith, ap (λ f. total (alone k f)) e)
+
+pub move_less_still : (f g g_now : Forest) (v : HostTree) (k : ℕ) (s : Move) (n : ℕ) → g_now ≡ g → IsBetween f g v → IsNext f g v k s n → 4 * standing_total g_now (s ∷ []) + 3 < 4 * total (alone k g)
+move_less_still f g g_now v k s n d b x = subst (λ y. 4 * standing_total y (s ∷ []) + 3 < 4 * total (alone k g)) (sym d) (move_less f g v k s n b x)

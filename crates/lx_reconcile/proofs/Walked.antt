@@ -1,0 +1,263 @@
+-- The moves of a host's children by a walk, from the first to the last.
+use Rattle.std.proofs.Common.{◌≡◌, ◌≢◌, ◌∙◌, ◌+◌, ◌≤◌, ℕ, ◌&&◌, ◌||◌, Bool, true, false, not, cond, List, [], ◌∷◌, ◌++◌, map, Option, None, Some, option_map, refl, sym, ap, subst, arith}
+use Rattle.std.proofs.lemmas.List.Elements.{recursion_from_All}
+use Rattle.std.proofs.lemmas.Bool.Decides.{eqb_tells}
+use Rattle.lx_node.specs.Trees.{Trees, nil, tree}
+use Rattle.lx_node.specs.NamedTrees.{total}
+use Rattle.lx_node.proofs.NamedTrees.{total-joined}
+use Rattle.lx_node.specs.Siblings.{is_among, is_named, is_place, NoRepeats, names_without, names_with}
+use Rattle.lx_node.proofs.Siblings.{is_among-names_with}
+use Rattle.lx_host.specs.declared.op.Op.{Op}
+use Rattle.lx_host.specs.declared.op.Op.TheVariants as op
+use Rattle.lx_host.specs.Hosts.{Host, HostTree}
+use Rattle.lx_forest.specs.Forest.{Label, Forest}
+use Rattle.lx_forest.specs.Lookups as forest
+use Rattle.lx_forest.specs.Lookups.{children_of, trees_of, label_of}
+use Rattle.lx_forest.proofs.Lookups.{NoRepeats-children_of}
+use Rattle.lx_plain.specs.Render.{tag_of, face_of, last_kind}
+use Rattle.lx_reconcile.specs.declared.moves.Move.{Move}
+use Rattle.lx_reconcile.specs.declared.moves.Move.TheVariants.{Stay, Leave, Make, Place}
+use Rattle.lx_reconcile.specs.Created.{creation_of}
+use Rattle.lx_reconcile.specs.Reconciled.{LeadsAt, host_in}
+use Rattle.lx_reconcile.specs.Handled.{IsReconciled, IsLater}
+use Rattle.lx_reconcile.specs.Walk.{child_of, moved, is_suited, is_waiting, standing, leaving, missing, IsWalk}
+use Rattle.lx_reconcile.specs.ToCome.{IsView, AreToCome, IsInWalk}
+use Rattle.lx_reconcile.proofs.Children.{stands_there}
+use Rattle.lx_reconcile.proofs.Kept.{not_kept_new, not_kept_tag}
+use Rattle.lx_reconcile.proofs.StartEnd.{IsShownAt, child_stands, not_root, root_at, root_id, one_tree}
+use Rattle.lx_reconcile.proofs.Turns.{handled_none, handled_stay, handled_place, handled_leave, handled_make, handled_again, handled_face, handled_all, AreAllDone, all_done}
+
+-- ---- the children that moves are of
+
+pub children_among : (q : ℕ) (ms : List Move) → is_among q (map child_of ms) ≡ (is_among q (standing ms) || is_among q (leaving ms))
+children_among q [] = refl
+children_among q (Stay k ∷ ms) = grind (arith, children_among q ms)
+children_among q (Leave k ∷ ms) = grind (arith, children_among q ms)
+children_among q (Make k before ∷ ms) = grind (arith, children_among q ms)
+children_among q (Place k before ∷ ms) = grind (arith, children_among q ms)
+
+children_once : (ms : List Move) → NoRepeats (standing ms) → NoRepeats (leaving ms) → ((q : ℕ) → is_among q (standing ms) ≡ true → is_among q (leaving ms) ≡ false) → NoRepeats (map child_of ms)
+children_once [] s l apart = tt
+children_once (Stay k ∷ ms) s l apart = (grind (arith, children_among k ms, s.0, apart k, eqb_tells k k), children_once ms s.1 l (λ q e. apart q (grind (arith, e))))
+children_once (Leave k ∷ ms) s l apart = (grind (arith, children_among k ms, l.0, apart k, eqb_tells k k), children_once ms s l.1 (λ q e. grind (arith, apart q e)))
+children_once (Make k before ∷ ms) s l apart = (grind (arith, children_among k ms, s.0, apart k, eqb_tells k k), children_once ms s.1 l (λ q e. apart q (grind (arith, e))))
+children_once (Place k before ∷ ms) s l apart = (grind (arith, children_among k ms, s.0, apart k, eqb_tells k k), children_once ms s.1 l (λ q e. apart q (grind (arith, e))))
+
+among_missing : (q : ℕ) (xs ys : List ℕ) → is_among q (missing xs ys) ≡ (is_among q xs && not (is_among q ys))
+among_missing q [] ys = refl
+among_missing q (x ∷ xs) ys = grind (arith, among_missing q xs ys, eqb_tells x q)
+
+missing_once : (xs ys : List ℕ) → NoRepeats xs → NoRepeats (missing xs ys)
+missing_once [] ys once = tt
+missing_once (x ∷ xs) ys once = kept (is_among x ys) (missing_once xs ys once.1) where
+  kept : (b : Bool) → NoRepeats (missing xs ys) → NoRepeats (cond (not b) (x ∷ missing xs ys) (missing xs ys))
+  kept true rest = rest
+  kept false rest = (grind (arith, among_missing x xs ys, once.0), rest)
+
+-- ---- before the first move
+
+pub all_to_come : (olds news : List ℕ) (ms : List Move) → NoRepeats olds → NoRepeats news → IsWalk olds news ms → AreToCome olds news [] olds ms
+all_to_come olds news ms o n w = record {
+  can = w.can;
+  unhandled = w.unhandled;
+  suited = recursion_from_All (λ m. is_suited olds m ≡ true) ms w.suited;
+  once = children_once ms (subst NoRepeats (sym w.stands) n) (subst NoRepeats (sym w.leaves) (missing_once olds news o))
+      (λ q e. ap (is_among q) w.leaves ∙ grind (arith, among_missing q olds news, sym (ap (is_among q) w.stands) ∙ e));
+  fresh = λ q e. refl;
+  leads = w.leads;
+  each = λ q e. children_among q ms ∙ grind (arith, e, ap (is_among q) w.stands);
+  stays = λ q e. sym (ap (is_among q) w.stands) ∙ e;
+}
+
+-- ---- after a move
+
+later_step : (m : Move) (ms : List Move) (q : ℕ) → is_among q (standing ms) ≡ true → is_among q (standing (m ∷ ms)) ≡ true
+later_step (Stay k) ms q e = grind (arith, e)
+later_step (Leave k) ms q e = e
+later_step (Make k before) ms q e = grind (arith, e)
+later_step (Place k before) ms q e = grind (arith, e)
+
+pub one_came : (olds news handled now : List ℕ) (m : Move) (ms : List Move) → AreToCome olds news handled now (m ∷ ms) → AreToCome olds news (child_of m ∷ handled) (moved m now) ms
+one_came olds news handled now m ms t = record {
+  can = t.can.1;
+  unhandled = t.unhandled.1;
+  suited = t.suited.1;
+  once = t.once.1;
+  fresh = λ q e. grind (arith, e, t.once.0, t.fresh q, eqb_tells (child_of m) q);
+  leads = t.leads;
+  each = λ q e. grind (arith, t.each q e);
+  stays = λ q e. t.stays q (later_step m ms q e);
+}
+
+-- a child that is placed stays then
+pub placed_stays : (olds news handled now : List ℕ) (c : ℕ) (before : Option ℕ) (ms : List Move) → is_among c (moved (Place c before) now) ≡ true → AreToCome olds news handled now (Place c before ∷ ms)
+    → AreToCome olds news handled (moved (Place c before) now) (Stay c ∷ ms)
+placed_stays olds news handled now c before ms there t = record {
+  can = (there, t.can.1);
+  unhandled = (refl, t.unhandled.1);
+  suited = t.suited;
+  once = t.once;
+  fresh = t.fresh;
+  leads = t.leads;
+  each = t.each;
+  stays = t.stays;
+}
+
+-- ---- the next move
+
+both : (s t : Bool) → (s && t) ≡ true → (s ≡ true) × (t ≡ true)
+both true t e = (refl, e)
+both false t e = absurd (cc)
+
+not_both : (b : Bool) → not b ≡ true → b ≡ false
+not_both true e = absurd (cc)
+not_both false e = refl
+
+is_later : (olds handled : List ℕ) (before : Option ℕ) → is_waiting olds handled before ≡ true → IsLater handled before
+is_later olds handled None e = record { later = λ b is. absurd (cc) }
+is_later olds handled (Some k) e = record {
+  later = λ b is.
+      let same : k ≡ b = cc in
+      ap (λ q. is_among q handled) (sym same) ∙ not_both (is_among k handled) (both (is_among k olds) (not (is_among k handled)) e).1;
+}
+
+own_fresh : (olds news handled now : List ℕ) (m : Move) (ms : List Move) → AreToCome olds news handled now (m ∷ ms) → is_among (child_of m) handled ≡ false
+own_fresh olds news handled now m ms t = t.fresh (child_of m) (grind (arith, eqb_tells (child_of m) (child_of m)))
+
+placed_there : (c : ℕ) (before : Option ℕ) (now : List ℕ) → is_among c (names_with before (c ∷ []) (names_without c now)) ≡ true
+placed_there c before now = is_among-names_with before (c ∷ []) (names_without c now) c ∙ grind (arith, eqb_tells c c)
+
+-- ---- one move after another
+
+module _ (old new : Forest) (v : HostTree) where
+  pub walk_start : (k n : ℕ) (ms : List Move) → IsView old new v → (s : IsShownAt old v k) → IsWalk (children_of old k) (children_of new k) ms → IsInWalk old new v k n [] s.host ms n
+  walk_start k n ms view s w = record {
+    handled = [];
+    now = children_of old k;
+    state = handled_none old new v k n view.before view.shows view.numbered s;
+    to_come = all_to_come (children_of old k) (children_of new k) ms (NoRepeats-children_of old k view.before) (NoRepeats-children_of new k view.after) w;
+    grows = omega (arith, ap (λ ks. total (trees_of new ks)) w.stands);
+  }
+
+  one_less : (c : ℕ) (ks : List ℕ) → total (trees_of new (c ∷ ks)) ≡ total (forest.alone c new) + total (trees_of new ks)
+  one_less c ks = total-joined (forest.alone c new) (trees_of new ks)
+
+  -- there are ids left for the next child that stands in the end
+  pub walk_room : (k n : ℕ) (ops : List Op) (a : Host) (c : ℕ) (s : Move) (ms : List Move) (m : ℕ) → IsInWalk old new v k n ops a (s ∷ ms) m → standing (s ∷ ms) ≡ c ∷ standing ms
+      → m + total (forest.alone c new) ≤ n + total (trees_of new (children_of new k))
+  walk_room k n ops a c s ms m w stands = omega (arith, w.grows, ap (λ ks. total (trees_of new ks)) stands, one_less c (standing ms))
+
+  -- a child that stands in the end is one of the new node
+  pub walk_new : (k n : ℕ) (ops : List Op) (a : Host) (c : ℕ) (s : Move) (ms : List Move) (m : ℕ) → IsInWalk old new v k n ops a (s ∷ ms) m → standing (s ∷ ms) ≡ c ∷ standing ms
+      → is_among c (children_of new k) ≡ true
+  walk_new k n ops a c s ms m w stands = w.to_come.stays c (ap (is_among c) stands ∙ grind (arith, eqb_tells c c))
+
+  -- what a move's child is: among the children before, and among those after
+  pub walk_both : (k n : ℕ) (ops : List Op) (a : Host) (c : ℕ) (ms : List Move) (m : ℕ) → IsInWalk old new v k n ops a (Stay c ∷ ms) m → (is_among c (children_of old k) ≡ true) × (is_among c (children_of new k) ≡ true)
+  walk_both k n ops a c ms m w = (w.to_come.suited.0, w.to_come.stays c (grind (arith, eqb_tells c c)))
+
+  not_zero : (k c : ℕ) → IsView old new v → is_among c (children_of old k) ≡ true → host_in v c ≢ 0
+  not_zero k c view among = not_root old v k c view.before view.shows view.numbered view.rooted among
+
+  pub walk_stay : (k n : ℕ) (ops : List Op) (a : Host) (c : ℕ) (ms : List Move) (m : ℕ) (more : List Op) (l : ℕ) → IsInWalk old new v k n ops a (Stay c ∷ ms) m → IsReconciled old new v c m more l
+      → IsInWalk old new v k n (ops ++ more) a ms l
+  walk_stay k n ops a c ms m more l w r = record {
+    handled = c ∷ w.handled;
+    now = w.now;
+    state = handled_stay old new v k n ops a w.handled w.now m c more l w.state w.to_come.can.0 (own_fresh (children_of old k) (children_of new k) w.handled w.now (Stay c) ms w.to_come) r;
+    to_come = one_came (children_of old k) (children_of new k) w.handled w.now (Stay c) ms w.to_come;
+    grows = omega (arith, w.grows, r.grows, one_less c (standing ms));
+  }
+
+  pub walk_leave : (k n : ℕ) (ops : List Op) (a : Host) (c : ℕ) (ms : List Move) (m : ℕ) → IsView old new v → IsInWalk old new v k n ops a (Leave c ∷ ms) m
+      → IsInWalk old new v k n (ops ++ op.Drop (host_in v c) ∷ []) a ms m
+  walk_leave k n ops a c ms m view w = record {
+    handled = c ∷ w.handled;
+    now = names_without c w.now;
+    state = handled_leave old new v k n ops a w.handled w.now m c w.state w.to_come.can.0 (own_fresh (children_of old k) (children_of new k) w.handled w.now (Leave c) ms w.to_come) (not_zero k c view w.to_come.suited.0);
+    to_come = one_came (children_of old k) (children_of new k) w.handled w.now (Leave c) ms w.to_come;
+    grows = w.grows;
+  }
+
+  -- a child is placed, and stays then
+  pub walk_place : (k n : ℕ) (ops : List Op) (a : Host) (c : ℕ) (before : Option ℕ) (ms : List Move) (m : ℕ) → IsView old new v → IsInWalk old new v k n ops a (Place c before ∷ ms) m
+      → IsInWalk old new v k n (ops ++ op.Place (host_in v k) (host_in v c) (option_map (host_in v) before) ∷ []) a (Stay c ∷ ms) m
+  walk_place k n ops a c before ms m view w =
+      let t = w.to_come in
+      let can = both (is_among c w.now) (is_place before w.now && not (is_named before c)) t.can.0 in
+      let place = both (is_place before w.now) (not (is_named before c)) can.1 in
+      record {
+        handled = w.handled;
+        now = names_with before (c ∷ []) (names_without c w.now);
+        state = handled_place old new v k n ops a w.handled w.now m c before w.state can.0 (own_fresh (children_of old k) (children_of new k) w.handled w.now (Place c before) ms t)
+            (not_zero k c view t.suited.0) place.0 (not_both (is_named before c) place.1) (is_later (children_of old k) w.handled before t.unhandled.0);
+        to_come = placed_stays (children_of old k) (children_of new k) w.handled w.now c before ms (placed_there c before w.now) t;
+        grows = w.grows;
+      }
+
+  pub walk_make : (k n : ℕ) (ops : List Op) (a : Host) (c : ℕ) (before : Option ℕ) (ms : List Move) (m : ℕ) → IsView old new v → IsInWalk old new v k n ops a (Make c before ∷ ms) m
+      → m + total (forest.alone c new) ≤ 4294967295
+      → IsInWalk old new v k n (ops ++ (creation_of m (forest.alone c new) ++ op.Place (host_in v k) m (option_map (host_in v) before) ∷ [])) a ms (m + total (forest.alone c new))
+  walk_make k n ops a c before ms m view w room =
+      let t = w.to_come in
+      let can = both (not (is_among c w.now)) (is_place before w.now) t.can.0 in
+      let among : is_among c (children_of new k) ≡ true = t.stays c (grind (arith, eqb_tells c c)) in
+      let stands = stands_there new c view.after (child_stands new k c view.after among) in
+      record {
+        handled = c ∷ w.handled;
+        now = names_with before (c ∷ []) w.now;
+        state = handled_make old new v k n ops a w.handled w.now m c before stands.label stands.below w.state view.after stands.tree_is
+            (not_kept_new old new k c view.before view.after among (not_both (is_among c (children_of old k)) t.suited.0)) room
+            (not_both (is_among c w.now) can.0) can.1 (is_later (children_of old k) w.handled before t.unhandled.0);
+        to_come = one_came (children_of old k) (children_of new k) w.handled w.now (Make c before) ms t;
+        grows = omega (arith, w.grows, one_less c (standing ms));
+      }
+
+  -- a child whose element is another one is made anew in place of the old one
+  pub walk_again : (k n : ℕ) (ops : List Op) (a : Host) (c : ℕ) (ms : List Move) (m : ℕ) (x y : Label) → IsView old new v → IsInWalk old new v k n ops a (Stay c ∷ ms) m
+      → label_of old c ≡ Some x → label_of new c ≡ Some y → (tag_of x.kind x.fields ≡ tag_of y.kind y.fields → ⊥)
+      → m + total (forest.alone c new) ≤ 4294967295
+      → IsInWalk old new v k n (ops ++ ((creation_of m (forest.alone c new) ++ op.Place (host_in v k) m (Some (host_in v c)) ∷ []) ++ op.Drop (host_in v c) ∷ [])) a ms (m + total (forest.alone c new))
+  walk_again k n ops a c ms m x y view w was is other room =
+      let t = w.to_come in
+      let among : is_among c (children_of new k) ≡ true = t.stays c (grind (arith, eqb_tells c c)) in
+      let stands = stands_there new c view.after (child_stands new k c view.after among) in
+      record {
+        handled = c ∷ w.handled;
+        now = w.now;
+        state = handled_again old new v k n ops a w.handled w.now m c stands.label stands.below w.state view.after stands.tree_is
+            (not_kept_tag old new k c x y view.before view.after among was is other) room
+            t.can.0 (own_fresh (children_of old k) (children_of new k) w.handled w.now (Stay c) ms t) (not_zero k c view t.suited.0);
+        to_come = one_came (children_of old k) (children_of new k) w.handled w.now (Stay c) ms t;
+        grows = omega (arith, w.grows, one_less c (standing ms));
+      }
+
+  -- the host's own face changes
+  pub walk_face : (k n : ℕ) (ops : List Op) (a : Host) (ms : List Move) (m : ℕ) (more : List Op) (b : Host) → IsInWalk old new v k n ops a ms m → b.id ≡ a.id
+      → ((kids : Trees Host) → LeadsAt (host_in v k) (tree a kids nil) m more (tree b kids nil) m)
+      → IsInWalk old new v k n (ops ++ more) b ms m
+  walk_face k n ops a ms m more b w same step = record {
+    handled = w.handled;
+    now = w.now;
+    state = handled_face old new v k n ops a w.handled w.now m more b w.state same step;
+    to_come = w.to_come;
+    grows = w.grows;
+  }
+
+  -- no move is left
+  pub walk_end : (k n : ℕ) (ops : List Op) (a : Host) (m : ℕ) (l : Label) → IsView old new v → IsInWalk old new v k n ops a [] m
+      → forest.alone k new ≡ tree l (trees_of new (children_of new k)) nil
+      → a.face ≡ face_of l (last_kind (trees_of new (children_of new k)))
+      → IsReconciled old new v k n ops m
+  walk_end k n ops a m l view w is face =
+      handled_all old new v k n ops a w.handled w.now m l w.state view.before view.after view.shows w.to_come.leads
+      (λ c here. grind (arith, w.to_come.each c here)) is face (omega (arith, w.grows, ap total is))
+
+  pub walk_whole : (ops : List Op) (m : ℕ) → IsView old new v → forest.roots old ≡ 0 ∷ [] → forest.roots new ≡ 0 ∷ [] → IsReconciled old new v 0 v.next ops m → AreAllDone old new v ops m
+  walk_whole ops m view was is r =
+      all_done old new v ops m view.before view.after (one_tree old view.before was) (one_tree new view.after is) view.shows view.numbered view.rooted r
+
+  -- the root is shown by host 0
+  pub walk_root : IsView old new v → forest.roots old ≡ 0 ∷ [] → host_in v 0 ≡ 0
+  walk_root view only =
+      root_id old v view.before view.shows view.rooted (root_at v.hosts old view.before (one_tree old view.before only) view.shows view.rooted)

@@ -1,0 +1,186 @@
+-- A node from its first operation to its last, and the root.
+use Rattle.std.proofs.Common.{◌≡◌, ◌∙◌, ◌+◌, ◌*◌, ◌<◌, ◌≤◌, ℕ, Bool, true, List, [], ◌∷◌, ◌++◌, Some, option_map, is_some, refl, sym, ap, subst, arith, append_assoc, append-nil}
+use Rattle.std.proofs.lemmas.Option.{same_Some}
+use Rattle.lx_node.specs.Trees.{nil, tree}
+use Rattle.lx_node.specs.NamedTrees.{total}
+use Rattle.lx_node.specs.Spots.{Spot}
+use Rattle.lx_node.specs.declared.kind.Kind.TheVariants.{Root}
+use Rattle.lx_node.specs.declared.node.Node.{Node}
+use Rattle.lx_host.specs.declared.tag.Tag.{Tag}
+use Rattle.lx_host.specs.declared.op.Op.{Op}
+use Rattle.lx_host.specs.Branches.{IsRooted}
+use Rattle.lx_host.specs.Hosts.{Face, Host, HostTree, IsNumbered, with_ending}
+use Rattle.lx_host.specs.Html.{first_tree}
+use Rattle.lx_forest.specs.Forest.{Label, Forest}
+use Rattle.lx_forest.specs.Lookups.{alone, has, children_of, trees_of, IsForest}
+use Rattle.lx_forest.specs.Records.{record_at}
+use Rattle.lx_forest.specs.Views.{kind_at}
+use Rattle.lx_forest.proofs.Edits.{has-root, is_some-spot}
+use Rattle.lx_links.specs.Stands.{node_of}
+use Rattle.lx_plain.specs.Allowed.{Shows, hosts_of}
+use Rattle.lx_plain.specs.Render.{tag_of, attributes_of, text_of, face_of, last_kind, needs_break}
+use Rattle.lx_reconcile.specs.declared.moves.Move.{Move}
+use Rattle.lx_reconcile.specs.Allowing.{IsTree, IsAllowed}
+use Rattle.lx_reconcile.specs.Changing.{Changes, shown_face}
+use Rattle.lx_reconcile.specs.Making.{IsBetween, Reconciles, MakesMoves, AreNext}
+use Rattle.lx_reconcile.specs.Reconciled.{host_in}
+use Rattle.lx_reconcile.specs.ToCome.{IsInWalk}
+use Rattle.lx_reconcile.specs.Walk.{IsWalk}
+use Rattle.lx_reconcile.proofs.Children.{label_from, IsRead, is_read, tree_read, last_kind_read, total_read}
+use Rattle.lx_reconcile.proofs.Made.{reconciles_still}
+use Rattle.lx_reconcile.proofs.StartEnd.{only_host, is_shown_at, root_at, one_tree}
+use Rattle.lx_reconcile.proofs.Walked.{walk_start, walk_face, walk_end, walk_whole}
+
+there_read : (f : Forest) (k : ℕ) (n : Node) → IsRead f k n → has k f ≡ true
+there_read f k n r = sym (is_some-spot f k) ∙ ap is_some r.at_is
+
+-- ---- one node
+
+-- a host that shows a face
+abbrev showing : HostTree → ℕ → Face → Host
+showing v k face = record { id = host_in v k; face = face }
+
+host_same : (a : Host) (i : ℕ) (f : Face) → a.id ≡ i → a.face ≡ f → a ≡ record { id = i; face = f }
+host_same a i f e g = rw (← e, ← g) refl
+
+-- the end of the node's host before
+abbrev old_end : Forest → ℕ → Node → Bool
+old_end f k n = needs_break n.kind (last_kind (trees_of f (children_of f k)))
+
+abbrev FaceChanges : ℕ → Node → Node → List Op → List Op → Type 0
+FaceChanges h was now start end =
+    (key : ℕ) (tag : Tag) (ending : Bool) → Changes h (shown_face key tag was.kind was.fields ending) (shown_face key tag now.kind now.fields ending) start end
+
+module _ (old new : Forest) (v : HostTree) (k n : ℕ) (was now : Node) (moves : List Move) (b : IsBetween old new v)
+    (was_is : Some was ≡ option_map node_of (record_at old k)) (now_is : Some now ≡ option_map node_of (record_at new k)) where
+  before_read : IsRead old k was
+  before_read = is_read old k was b.was_sound was_is
+
+  after_read : IsRead new k now
+  after_read = is_read new k now b.sound now_is
+
+  abbrev first_face : Face
+  first_face = shown_face k (tag_of was.kind was.fields) was.kind was.fields (old_end old k was)
+
+  abbrev mid_face : Face
+  mid_face = shown_face k (tag_of was.kind was.fields) now.kind now.fields (old_end old k was)
+
+  -- its face is written, and its children are to come
+  face_walk : (start end : List Op) → IsWalk (children_of old k) (children_of new k) moves → (c : Changes (host_in v k) first_face mid_face start end)
+      → IsInWalk old new v k n c.pushed (showing v k mid_face) moves n
+  face_walk start end walk c =
+      let s = is_shown_at old v k b.view.before b.view.shows b.view.numbered (there_read old k was before_read) in
+      let same : s.host ≡ showing v k first_face = host_same s.host (host_in v k) first_face s.id (s.face (label_from k was) (trees_of old (children_of old k)) (tree_read old k was before_read)) in
+      let begun : IsInWalk old new v k n [] (showing v k first_face) moves n = subst (λ a. IsInWalk old new v k n [] a moves n) same (walk_start old new v k n moves b.view s walk) in
+      walk_face old new v k n [] (showing v k first_face) moves n c.pushed (showing v k mid_face) begun refl (λ kids. c.leads kids n)
+
+  written : (h : ℕ) (start end : List Op) → h ≡ host_in v k → FaceChanges h was now start end → Changes (host_in v k) first_face mid_face start end
+  written h start end id face = subst (λ i. Changes i first_face mid_face start end) id (face k (tag_of was.kind was.fields) (old_end old k was))
+
+  pub children_next : (h : ℕ) (start end : List Op) → h ≡ host_in v k → n + total (alone k new) ≤ 4294967295 → IsWalk (children_of old k) (children_of new k) moves → FaceChanges h was now start end
+      → AreNext old new v k moves n
+  children_next h start end id room walk face =
+      let c = written h start end id face in
+      record {
+        from = n;
+        ops = c.pushed;
+        a = showing v k mid_face;
+        walk = face_walk start end walk c;
+        room = omega (arith, room, total_read new k now after_read);
+        there = there_read new k now after_read;
+      }
+
+  last_face : (ended : Bool) → tag_of was.kind was.fields ≡ tag_of now.kind now.fields → ended ≡ needs_break now.kind (kind_at new now.last)
+      → with_ending ended mid_face ≡ face_of (label_from k now) (last_kind (trees_of new (children_of new k)))
+  last_face ended tag is =
+      let face : Tag → Bool → Face = λ t e. record { key = k; tag = t; attrs = attributes_of now.kind now.fields; text = text_of now.fields; ending = e } in
+      ap (λ t. face t ended) tag ∙ ap (λ e. face (tag_of now.kind now.fields) e) (is ∙ sym (ap (needs_break now.kind) (last_kind_read new k now b.sound after_read)))
+
+  pub node_done : (h : ℕ) (start one two end : List Op) (m : ℕ) (was_ended ended : Bool) → h ≡ host_in v k → tag_of was.kind was.fields ≡ tag_of now.kind now.fields → IsWalk (children_of old k) (children_of new k) moves
+      → FaceChanges h was now start one → MakesMoves old new v k moves n one two m
+      → was_ended ≡ needs_break was.kind (kind_at old was.last) → ended ≡ needs_break now.kind (kind_at new now.last)
+      → ((face : Face) → face.ending ≡ was_ended → Changes h face (with_ending ended face) two end)
+      → Reconciles old new v k n start end m
+  node_done h start one two end m was_ended ended id tag walk face made was_end end_is ending =
+      let c = written h start one id face in
+      let first = face_walk start one walk c in
+      let second : IsInWalk old new v k n (c.pushed ++ made.pushed) (showing v k mid_face) [] m =
+      made.leads n c.pushed (showing v k mid_face) [] (subst (λ ms. IsInWalk old new v k n c.pushed (showing v k mid_face) ms n) (sym (append-nil moves)) first) in
+      let ends : old_end old k was ≡ was_ended = ap (needs_break was.kind) (last_kind_read old k was b.was_sound before_read) ∙ sym was_end in
+      let d : Changes (host_in v k) mid_face (with_ending ended mid_face) two end = subst (λ i. Changes i mid_face (with_ending ended mid_face) two end) id (ending mid_face ends) in
+      let third : IsInWalk old new v k n ((c.pushed ++ made.pushed) ++ d.pushed) (showing v k (with_ending ended mid_face)) [] m =
+      walk_face old new v k n (c.pushed ++ made.pushed) (showing v k mid_face) [] m d.pushed (showing v k (with_ending ended mid_face)) second refl (λ kids. d.leads kids m) in
+      record {
+        pushed = (c.pushed ++ made.pushed) ++ d.pushed;
+        list =
+            d.list
+            ∙ ap (λ l. l ++ d.pushed) (made.list ∙ ap (λ l. l ++ made.pushed) c.list ∙ append_assoc start c.pushed made.pushed)
+            ∙ append_assoc start (c.pushed ++ made.pushed) d.pushed;
+        done = walk_end old new v k n ((c.pushed ++ made.pushed) ++ d.pushed) (showing v k (with_ending ended mid_face)) m (label_from k now) b.view third (tree_read new k now after_read) (last_face ended tag end_is);
+      }
+
+pub node_shown : (old new : Forest) (v : HostTree) (k : ℕ) (was : Node) → IsBetween old new v → Some was ≡ option_map node_of (record_at old k) → hosts_of k v.hosts ≡ host_in v k ∷ []
+node_shown old new v k was b was_is = only_host old v k b.view.before b.view.shows (there_read old k was (is_read old k was b.was_sound was_is))
+
+pub node_less : (f g : Forest) (k : ℕ) → g ≡ f → 4 * total (alone k g) < 4 * total (alone k f) + 1
+node_less f g k e = omega (arith, ap (λ f. total (alone k f)) e)
+
+-- ---- the whole
+
+tree_ordered : (f : Forest) → IsTree f → IsForest f
+tree_ordered nil t = absurd (let e = t.alone in cc)
+tree_ordered (tree l below rest) t = t.sound.in_order (λ e. absurd (cc))
+
+pub are_between : (old new : Forest) (v : HostTree) → IsTree old → IsTree new → Shows v old → IsNumbered v → IsRooted v.hosts → IsBetween old new v
+are_between old new v was is shows numbered rooted =
+    let at = root_at v.hosts old (tree_ordered old was) (one_tree old (tree_ordered old was) was.alone) shows rooted in
+    record {
+      view = record { before = tree_ordered old was; after = tree_ordered new is; shows = shows; numbered = numbered; rooted = rooted };
+      was_sound = was.sound;
+      sound = is.sound;
+      whole = ap first_tree at.is ∙ sym at.is;
+    }
+
+pub root_there : (f : Forest) → IsTree f → has 0 f ≡ true
+root_there f t = has-root f (tree_ordered f t)
+
+root_kind : (f : Forest) (n : Node) → IsTree f → Some n ≡ option_map node_of (record_at f 0) → n.kind ≡ Root
+root_kind f n t e =
+    let r = is_read f 0 n t.sound e in
+    let own : Some n.kind ≡ Some Root = sym (ap (λ (l : Label). Some l.kind) r.label) ∙ sym (ap (λ o. option_map (λ (l : Label). l.kind) (option_map (λ (s : Spot Label). s.label) o)) r.at_is) ∙ (tree_ordered f t).root in
+    same_Some n.kind Root own
+
+pub root_tag : (old new : Forest) (was now : Node) → IsTree old → IsTree new → Some was ≡ option_map node_of (record_at old 0) → Some now ≡ option_map node_of (record_at new 0) → tag_of was.kind was.fields ≡ tag_of now.kind now.fields
+root_tag old new was now s t e g =
+    ap (λ k. tag_of k was.fields) (root_kind old was s e) ∙ sym (ap (λ k. tag_of k now.fields) (root_kind new now t g))
+
+pub root_total : (f : Forest) → IsTree f → total (alone 0 f) ≡ total f
+root_total f t = ap total (one_tree f (tree_ordered f t) t.alone)
+
+pub all_allowed : (old new : Forest) (v : HostTree) (start ops : List Op) (m : ℕ) → IsTree old → IsTree new → IsBetween old new v → start ≡ [] → Reconciles old new v 0 v.next start ops m → IsAllowed old new v ops
+all_allowed old new v start ops m was is b none r =
+    let same : r.pushed ≡ ops = sym (r.list ∙ ap (λ l. l ++ r.pushed) none) in
+    let done = walk_whole old new v r.pushed m b.view was.alone is.alone r.done in
+    subst (IsAllowed old new v) same (record { hosts = done.hosts; next = m }, done.allowed)
+
+-- ---- by what the code knows
+
+pub root_found : (f : Forest) (k : ℕ) → k ≡ 0 → IsTree f → has k f ≡ true
+root_found f k e t = ap (λ k. has k f) e ∙ root_there f t
+
+root_read : (f : Forest) (k : ℕ) (n : Node) → k ≡ 0 → Some n ≡ option_map node_of (record_at f k) → Some n ≡ option_map node_of (record_at f 0)
+root_read f k n e h = subst (λ k. Some n ≡ option_map node_of (record_at f k)) e h
+
+pub root_same_tag : (old new : Forest) (k : ℕ) (was now : Node) → k ≡ 0 → IsTree old → IsTree new → Some was ≡ option_map node_of (record_at old k) → Some now ≡ option_map node_of (record_at new k) → tag_of was.kind was.fields ≡ tag_of now.kind now.fields
+root_same_tag old new k was now e s t f g = root_tag old new was now s t (root_read old k was e f) (root_read new k now e g)
+
+pub root_room : (v : HostTree) (f f_now : Forest) (k n : ℕ) → k ≡ 0 → n ≡ v.next → f_now ≡ f → IsTree f → v.next + total f ≤ 4294967295 → n + total (alone k f_now) ≤ 4294967295
+root_room v f f_now k n e is d t room =
+    omega (arith, room, is, root_total f t, ap (λ k. total (alone k f_now)) e, ap (λ f. total (alone 0 f)) d)
+
+pub root_allowed : (old old_now new new_now : Forest) (v : HostTree) (k n : ℕ) (start ops : List Op) (m : ℕ) → k ≡ 0 → n ≡ v.next → start ≡ [] → old_now ≡ old → new_now ≡ new → IsTree old → IsTree new → IsBetween old new v
+    → Reconciles old_now new_now v k n start ops m → IsAllowed old new v ops
+root_allowed old old_now new new_now v k n start ops m e is none a b s t w r =
+    let there = reconciles_still old old_now new new_now v k n start ops m a b r in
+    all_allowed old new v start ops m s t w none
+    (subst (λ k. Reconciles old new v k v.next start ops m) e (subst (λ n. Reconciles old new v k n start ops m) is there))

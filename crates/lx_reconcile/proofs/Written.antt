@@ -1,0 +1,321 @@
+-- Attributes written one after another, in byte order of their names, until they are those of another list.
+use Rattle.std.proofs.Common.{◌≡◌, ℕ, ◌+◌, ◌<◌, ◌≤◌, Bool, true, false, ◌&&◌, List, [], ◌∷◌, ◌++◌, length, map, take, drop, get_or, Option, None, Some, inl, inr, refl, sym, ap, ◌∙◌, subst, arith, append_assoc, append-nil, length-drop}
+use Rattle.std.proofs.lemmas.Bool.{cases_lt}
+use Rattle.std.proofs.lemmas.Cmp.{nat_list_cmp_total, on_total}
+use Rattle.std.proofs.lemmas.List.{take_more, drop_more, drop_all, take-append-drop}
+use Rattle.std.specs.Cmp.{IsTotalOrder}
+use Rattle.std.specs.declared.cmp.Ordering.{Ordering}
+use Rattle.std.specs.declared.cmp.Ordering.TheVariants.{Less, Equal, Greater}
+use Rattle.std.specs.Ordering.{is_lt, ordering_reverse}
+use Rattle.lx_host.specs.declared.tag.Name.{Name}
+use Rattle.lx_host.specs.declared.op.Op.{Op}
+use Rattle.lx_host.specs.declared.op.Op.TheVariants.{Attr}
+use Rattle.lx_host.specs.Words.{name_word, names_rise, name_order, with_attribute}
+use Rattle.lx_reconcile.specs.Changing.{write_op, all_written, next_order, Writes}
+
+order : IsTotalOrder name_order
+order = on_total name_word nat_list_cmp_total
+
+only_equal : (o : Ordering) → o ≡ ordering_reverse o → o ≡ Equal
+only_equal Less e = absurd (cc)
+only_equal Equal e = refl
+only_equal Greater e = absurd (cc)
+
+same_name : (a : Name) → name_order a a ≡ Equal
+same_name a = only_equal (name_order a a) (order.antisymm a a)
+
+both : (s t : Bool) → (s && t) ≡ true → (s ≡ true) × (t ≡ true)
+both true t e = (refl, e)
+both false t e = absurd (cc)
+
+is_less : (o : Ordering) → is_lt o ≡ true → o ≡ Less
+is_less Less e = refl
+is_less Equal e = absurd (cc)
+is_less Greater e = absurd (cc)
+
+later : (a b : Name) → name_order a b ≡ Less → name_order b a ≡ Greater
+later a b e = order.antisymm b a ∙ ap ordering_reverse e
+
+earlier : (a b : Name) → name_order a b ≡ Greater → name_order b a ≡ Less
+earlier a b e = order.antisymm b a ∙ ap ordering_reverse e
+
+abbrev pub Attributes : Type 0
+Attributes = List (Name × List ℕ)
+
+-- each of these comes before the name
+abbrev pub AllBefore : Name → Attributes → Type 0
+AllBefore name [] = Unit {0}
+AllBefore name (a ∷ rest) = (name_order name a.0 ≡ Greater) × AllBefore name rest
+
+before_later : (name more : Name) (done : Attributes) → name_order name more ≡ Less → AllBefore name done → AllBefore more done
+before_later name more [] e h = tt
+before_later name more (a ∷ rest) e h =
+    (later a.0 more (order.trans a.0 name more (earlier name a.0 h.0) e), before_later name more rest e h.1)
+
+before_more : (name : Name) (done : Attributes) (a : Name × List ℕ) → AllBefore name done → name_order a.0 name ≡ Less → AllBefore name (done ++ a ∷ [])
+before_more name [] a h e = (later a.0 name e, tt)
+before_more name (b ∷ rest) a h e = (h.0, before_more name rest a h.1 e)
+
+-- what is written of that name comes behind them
+with_behind : (name : Name) (value : Option (List ℕ)) (done rest : Attributes) → AllBefore name done → with_attribute name value (done ++ rest) ≡ done ++ with_attribute name value rest
+with_behind name value [] rest h = refl
+with_behind name value (a ∷ done) rest h = rw h.0 (ap (λ l. a ∷ l) (with_behind name value done rest h.1))
+
+-- the first of these, if there is one, comes behind those, and they rise
+pub record IsBehind (done rest : Attributes) : Type 0 where
+  pub rise : names_rise rest ≡ true
+  pub first : (a : Name × List ℕ) (more : Attributes) → rest ≡ a ∷ more → AllBefore a.0 done
+
+nothing_before : (rest : Attributes) → names_rise rest ≡ true → IsBehind [] rest
+nothing_before rest e = record { rise = e; first = λ a more is. tt }
+
+rise_less : (a b : Name × List ℕ) (more : Attributes) → names_rise (a ∷ b ∷ more) ≡ true → name_order a.0 b.0 ≡ Less
+rise_less a b more e = is_less _ (both (is_lt (name_order a.0 b.0)) _ e).0
+
+rise_rest : (a : Name × List ℕ) (more : Attributes) → names_rise (a ∷ more) ≡ true → names_rise more ≡ true
+rise_rest a [] e = refl
+rise_rest a (b ∷ more) e = (both _ _ e).1
+
+first_is : (a b : Name × List ℕ) (xs ys : Attributes) → (a ∷ xs) ≡ (b ∷ ys) → a ≡ b
+first_is a b xs ys e = cc
+
+-- without the first one
+behind_rest : (done : Attributes) (a : Name × List ℕ) (more : Attributes) → IsBehind done (a ∷ more) → IsBehind done more
+behind_rest done a more h = record {
+  rise = rise_rest a more h.rise;
+  first = λ b rest is. before_later a.0 b.0 done (rise_less a b rest (subst (λ l. names_rise (a ∷ l) ≡ true) is h.rise)) (h.first a more refl);
+}
+
+-- with the first one done
+behind_done : (done : Attributes) (a : Name × List ℕ) (more : Attributes) → IsBehind done (a ∷ more) → IsBehind (done ++ a ∷ []) more
+behind_done done a more h = record {
+  rise = rise_rest a more h.rise;
+  first = λ b rest is. before_more b.0 done a ((behind_rest done a more h).first b rest is) (rise_less a b rest (subst (λ l. names_rise (a ∷ l) ≡ true) is h.rise));
+}
+
+-- with one done that comes before its first
+behind_given : (done : Attributes) (b : Name × List ℕ) (rest : Attributes) → IsBehind done rest → ((a : Name × List ℕ) (more : Attributes) → rest ≡ a ∷ more → name_order b.0 a.0 ≡ Less) → IsBehind (done ++ b ∷ []) rest
+behind_given done b rest h less = record {
+  rise = h.rise;
+  first = λ a more is. before_more a.0 done b (h.first a more is) (less a more is);
+}
+
+all_written-append : (writes more : List (Name × Option (List ℕ))) (attributes : Attributes) → all_written (writes ++ more) attributes ≡ all_written more (all_written writes attributes)
+all_written-append [] more attributes = refl
+all_written-append (write ∷ writes) more attributes = all_written-append writes more (with_attribute write.0 write.1 attributes)
+
+map_more : (host : ℕ) (writes : List (Name × Option (List ℕ))) (write : Name × Option (List ℕ)) (start : List Op) → start ++ map (write_op host) (writes ++ write ∷ []) ≡ (start ++ map (write_op host) writes) ++ write_op host write ∷ []
+map_more host [] write start = sym (ap (λ l. l ++ write_op host write ∷ []) (append-nil start))
+map_more host (first ∷ writes) write start =
+    sym (append_assoc start (write_op host first ∷ []) (map (write_op host) (writes ++ write ∷ [])))
+    ∙ map_more host writes write (start ++ write_op host first ∷ [])
+    ∙ ap (λ l. l ++ write_op host write ∷ []) (append_assoc start (write_op host first ∷ []) (map (write_op host) writes))
+
+-- ---- where the writing stands
+
+-- Of the attributes before, `old` are still there, behind those of the ones after that are done; `new` are still to come.
+pub record IsWriting (host : ℕ) (olds done old new : Attributes) (start now : List Op) : Type 0 where
+  pub so_far : Writes host olds (done ++ old) start now
+  pub old_behind : IsBehind done old
+  pub new_behind : IsBehind done new
+
+pub writing_starts : (host : ℕ) (olds news : Attributes) (start : List Op) → names_rise olds ≡ true → names_rise news ≡ true → IsWriting host olds [] olds news start start
+writing_starts host olds news start rise risen = record {
+  so_far = record { writes = []; list = sym (append-nil start); written = refl };
+  old_behind = nothing_before olds rise;
+  new_behind = nothing_before news risen;
+}
+
+-- one more is written
+write_more : (host : ℕ) (olds now to : Attributes) (start ops more : List Op) (name : Name) (value : Option (List ℕ)) → Writes host olds now start ops → with_attribute name value now ≡ to → more ≡ ops ++ Attr host name value ∷ [] → Writes host olds to start more
+write_more host olds now to start ops more name value w e is = record {
+  writes = w.writes ++ (name, value) ∷ [];
+  list = is ∙ ap (λ l. l ++ Attr host name value ∷ []) w.list ∙ sym (map_more host w.writes (name, value) start);
+  written = all_written-append w.writes ((name, value) ∷ []) olds ∙ ap (with_attribute name value) w.written ∙ e;
+}
+
+-- what becomes of the rest
+with_away : (a : Name × List ℕ) (rest : Attributes) → with_attribute a.0 None (a ∷ rest) ≡ rest
+with_away a rest = rw (same_name a.0) refl
+
+with_given : (b : Name × List ℕ) (rest : Attributes) → ((a : Name × List ℕ) (more : Attributes) → rest ≡ a ∷ more → name_order b.0 a.0 ≡ Less) → with_attribute b.0 (Some b.1) rest ≡ b ∷ rest
+with_given b [] less = refl
+with_given b (a ∷ rest) less = rw (less a rest refl) refl
+
+with_same : (a b : Name × List ℕ) (rest : Attributes) → name_order a.0 b.0 ≡ Equal → with_attribute b.0 (Some b.1) (a ∷ rest) ≡ b ∷ rest
+with_same a b rest e = rw (order.antisymm b.0 a.0 ∙ ap ordering_reverse e) refl
+
+done_one : (b : Name × List ℕ) (done rest : Attributes) → done ++ b ∷ rest ≡ (done ++ b ∷ []) ++ rest
+done_one b done rest = sym (append_assoc done (b ∷ []) rest)
+
+-- the first of the old ones goes
+pub goes_away : (host : ℕ) (olds done old new : Attributes) (a : Name × List ℕ) (start now more : List Op) → IsWriting host olds done (a ∷ old) new start now → more ≡ now ++ Attr host a.0 None ∷ [] → IsWriting host olds done old new start more
+goes_away host olds done old new a start now more h is = record {
+  so_far = write_more host olds (done ++ a ∷ old) (done ++ old) start now more a.0 None h.so_far
+      (with_behind a.0 None done (a ∷ old) (h.old_behind.first a old refl) ∙ ap (λ l. done ++ l) (with_away a old)) is;
+  old_behind = behind_rest done a old h.old_behind;
+  new_behind = h.new_behind;
+}
+
+less_first : (b : Name × List ℕ) (old new : Attributes) → next_order old (b ∷ new) ≡ Some Greater → (a : Name × List ℕ) (more : Attributes) → old ≡ a ∷ more → name_order b.0 a.0 ≡ Less
+less_first b [] new e a more is = absurd (cc)
+less_first b (c ∷ old) new e a more is =
+    earlier a.0 b.0 (ap (λ (x : Name × List ℕ). name_order x.0 b.0) (sym (first_is c a old more is)) ∙ some_is (name_order c.0 b.0) Greater e) where
+      some_is : (x y : Ordering) → Some x ≡ Some y → x ≡ y
+      some_is x y e = cc
+
+-- the first of the new ones comes before the old ones
+pub comes_before : (host : ℕ) (olds done old new : Attributes) (b : Name × List ℕ) (start now more : List Op) → IsWriting host olds done old (b ∷ new) start now → next_order old (b ∷ new) ≡ Some Greater → more ≡ now ++ Attr host b.0 (Some b.1) ∷ [] → IsWriting host olds (done ++ b ∷ []) old new start more
+comes_before host olds done old new b start now more h e is = record {
+  so_far = write_more host olds (done ++ old) ((done ++ b ∷ []) ++ old) start now more b.0 (Some b.1) h.so_far
+      (with_behind b.0 (Some b.1) done old (h.new_behind.first b new refl) ∙ ap (λ l. done ++ l) (with_given b old (less_first b old new e)) ∙ done_one b done old) is;
+  old_behind = behind_given done b old h.old_behind (less_first b old new e);
+  new_behind = behind_done done b new h.new_behind;
+}
+
+-- both have an attribute of one name, which is written, or is equal
+pub is_written : (host : ℕ) (olds done old new : Attributes) (a b : Name × List ℕ) (start now more : List Op) → IsWriting host olds done (a ∷ old) (b ∷ new) start now → name_order a.0 b.0 ≡ Equal → more ≡ now ++ Attr host b.0 (Some b.1) ∷ [] → IsWriting host olds (done ++ b ∷ []) old new start more
+is_written host olds done old new a b start now more h e is = record {
+  so_far = write_more host olds (done ++ a ∷ old) ((done ++ b ∷ []) ++ old) start now more b.0 (Some b.1) h.so_far
+      (with_behind b.0 (Some b.1) done (a ∷ old) (h.new_behind.first b new refl) ∙ ap (λ l. done ++ l) (with_same a b old e) ∙ done_one b done old) is;
+  old_behind = behind_met done a b old h.old_behind (h.new_behind.first b new refl) e;
+  new_behind = behind_done done b new h.new_behind;
+} where
+  behind_met : (done : Attributes) (a b : Name × List ℕ) (old : Attributes) → IsBehind done (a ∷ old) → AllBefore b.0 done → name_order a.0 b.0 ≡ Equal → IsBehind (done ++ b ∷ []) old
+  behind_met done a b old h g e = record {
+    rise = rise_rest a old h.rise;
+    first = λ c rest is.
+        let less = rise_less a c rest (subst (λ l. names_rise (a ∷ l) ≡ true) is h.rise) in
+        let after : name_order b.0 c.0 ≡ Less = sym (order.congr a.0 b.0 c.0 e) ∙ less in
+        before_more c.0 done b (before_later b.0 c.0 done after g) after;
+  }
+
+pub is_equal : (host : ℕ) (olds done old new : Attributes) (a b : Name × List ℕ) (start now : List Op) → IsWriting host olds done (a ∷ old) (b ∷ new) start now → a ≡ b → IsWriting host olds (done ++ b ∷ []) old new start now
+is_equal host olds done old new a b start now h e = record {
+  so_far = subst (λ l. Writes host olds l start now) (ap (λ x. done ++ x ∷ old) e ∙ done_one b done old) h.so_far;
+  old_behind = behind_done done b old (subst (λ x. IsBehind done (x ∷ old)) e h.old_behind);
+  new_behind = behind_done done b new h.new_behind;
+}
+
+-- ---- by places
+
+-- the attributes after up to place j are done, and those before up to place i are gone or done
+pub record IsWritingAt (host : ℕ) (olds news : Attributes) (i j : ℕ) (start now : List Op) : Type 0 where
+  pub at : IsWriting host olds (take j news) (drop i olds) (drop j news) start now
+  pub old_within : i ≤ length olds
+  pub new_within : j ≤ length news
+
+pub starts_at : (host : ℕ) (olds news : Attributes) (start : List Op) → names_rise olds ≡ true → names_rise news ≡ true → IsWritingAt host olds news 0 0 start start
+starts_at host olds news start rise risen =
+    record { at = writing_starts host olds news start rise risen; old_within = omega arith; new_within = omega arith }
+
+some_less : (xs ys : Attributes) → next_order xs ys ≡ Some Less → 0 < length xs
+some_less [] [] e = absurd (cc)
+some_less [] (b ∷ ys) e = absurd (cc)
+some_less (a ∷ xs) ys e = omega arith
+
+some_greater : (xs ys : Attributes) → next_order xs ys ≡ Some Greater → 0 < length ys
+some_greater [] [] e = absurd (cc)
+some_greater xs (b ∷ ys) e = omega arith
+some_greater (a ∷ xs) [] e = absurd (cc)
+
+some_equal : (xs ys : Attributes) → next_order xs ys ≡ Some Equal → (0 < length xs) × (0 < length ys)
+some_equal [] [] e = absurd (cc)
+some_equal [] (b ∷ ys) e = absurd (cc)
+some_equal (a ∷ xs) [] e = absurd (cc)
+some_equal (a ∷ xs) (b ∷ ys) e = (omega arith, omega arith)
+
+within_drop : (i : ℕ) (xs : Attributes) → 0 < length (drop i xs) → i < length xs
+within_drop i xs h = elim (cases_lt i (length xs)) [
+  | inl less ↦ less
+  | inr end ↦ absurd (omega (arith, h, ap length (drop_all i xs end)))
+]
+
+pub less_within : (i j : ℕ) (xs ys : Attributes) → next_order (drop i xs) (drop j ys) ≡ Some Less → i < length xs
+less_within i j xs ys e = within_drop i xs (some_less (drop i xs) (drop j ys) e)
+
+pub greater_within : (i j : ℕ) (xs ys : Attributes) → next_order (drop i xs) (drop j ys) ≡ Some Greater → j < length ys
+greater_within i j xs ys e = within_drop j ys (some_greater (drop i xs) (drop j ys) e)
+
+pub equal_within : (i j : ℕ) (xs ys : Attributes) → next_order (drop i xs) (drop j ys) ≡ Some Equal → (i < length xs) × (j < length ys)
+equal_within i j xs ys e =
+    let both = some_equal (drop i xs) (drop j ys) e in
+    (within_drop i xs both.0, within_drop j ys both.1)
+
+left_less : (xs ys : Attributes) → 0 < length xs → ys ≡ [] → Some Less ≡ next_order xs ys
+left_less [] ys h e = absurd (omega (arith, h))
+left_less (a ∷ xs) ys h e = sym (rw e refl)
+
+left_greater : (xs ys : Attributes) → xs ≡ [] → 0 < length ys → Some Greater ≡ next_order xs ys
+left_greater xs [] e h = absurd (omega (arith, h))
+left_greater xs (b ∷ ys) e h = sym (rw e refl)
+
+pub only_old : (i j : ℕ) (xs ys : Attributes) → i < length xs → length ys ≤ j → Some Less ≡ next_order (drop i xs) (drop j ys)
+only_old i j xs ys h e = left_less (drop i xs) (drop j ys) (omega (arith, length-drop i xs, h)) (drop_all j ys e)
+
+pub only_new : (i j : ℕ) (xs ys : Attributes) → length xs ≤ i → j < length ys → Some Greater ≡ next_order (drop i xs) (drop j ys)
+only_new i j xs ys e h = left_greater (drop i xs) (drop j ys) (drop_all i xs e) (omega (arith, length-drop j ys, h))
+
+none_left : (xs ys : Attributes) → next_order xs ys ≡ None → (xs ≡ []) × (ys ≡ [])
+none_left [] [] e = (refl, refl)
+none_left [] (b ∷ ys) e = absurd (cc)
+none_left (a ∷ xs) [] e = absurd (cc)
+none_left (a ∷ xs) (b ∷ ys) e = absurd (cc)
+
+-- what stands at a place
+met : (xs : Attributes) (i : ℕ) (x : Name × List ℕ) → i < length xs → x ≡ get_or xs i x → drop i xs ≡ x ∷ drop (i + 1) xs
+met xs i x within item = drop_more xs i x within ∙ ap (λ y. y ∷ drop (i + 1) xs) (sym item)
+
+passed : (xs : Attributes) (i : ℕ) (x : Name × List ℕ) → i < length xs → x ≡ get_or xs i x → take (i + 1) xs ≡ take i xs ++ x ∷ []
+passed xs i x within item = take_more xs i x within ∙ ap (λ y. take i xs ++ y ∷ []) (sym item)
+
+module _ (host : ℕ) (olds news : Attributes) (i j : ℕ) (start now more : List Op) (w : IsWritingAt host olds news i j start now) where
+  pub away_at : (a : Name × List ℕ) → i < length olds → a ≡ get_or olds i a → more ≡ now ++ Attr host a.0 None ∷ [] → IsWritingAt host olds news (i + 1) j start more
+  away_at a within item is = record {
+    at = goes_away host olds (take j news) (drop (i + 1) olds) (drop j news) a start now more (subst (λ l. IsWriting host olds (take j news) l (drop j news) start now) (met olds i a within item) w.at) is;
+    old_within = omega (arith, within);
+    new_within = w.new_within;
+  }
+
+  pub given_at : (b : Name × List ℕ) → j < length news → b ≡ get_or news j b → next_order (drop i olds) (drop j news) ≡ Some Greater → more ≡ now ++ Attr host b.0 (Some b.1) ∷ [] → IsWritingAt host olds news i (j + 1) start more
+  given_at b within item e is =
+      let here = met news j b within item in
+      record {
+        at = subst (λ l. IsWriting host olds l (drop i olds) (drop (j + 1) news) start more) (sym (passed news j b within item)) (
+            comes_before host olds (take j news) (drop i olds) (drop (j + 1) news) b start now more
+            (subst (λ l. IsWriting host olds (take j news) (drop i olds) l start now) here w.at)
+            (sym (ap (next_order (drop i olds)) here) ∙ e) is
+            );
+        old_within = w.old_within;
+        new_within = omega (arith, within);
+      }
+
+  both_at : (a b : Name × List ℕ) → i < length olds → j < length news → a ≡ get_or olds i a → b ≡ get_or news j b → IsWriting host olds (take j news) (a ∷ drop (i + 1) olds) (b ∷ drop (j + 1) news) start now
+  both_at a b within fits item other =
+      subst (λ l. IsWriting host olds (take j news) l (b ∷ drop (j + 1) news) start now) (met olds i a within item)
+      (subst (λ l. IsWriting host olds (take j news) (drop i olds) l start now) (met news j b fits other) w.at)
+
+  order_met : (a b : Name × List ℕ) → i < length olds → j < length news → a ≡ get_or olds i a → b ≡ get_or news j b → next_order (drop i olds) (drop j news) ≡ Some Equal → name_order a.0 b.0 ≡ Equal
+  order_met a b within fits item other e =
+      let same : Some (name_order a.0 b.0) ≡ Some Equal = sym (ap (λ l. next_order l (b ∷ drop (j + 1) news)) (met olds i a within item)) ∙ sym (ap (next_order (drop i olds)) (met news j b fits other)) ∙ e in
+      cc
+
+  both_passed : (b : Name × List ℕ) → j < length news → b ≡ get_or news j b → i < length olds → (ops : List Op) → IsWriting host olds (take j news ++ b ∷ []) (drop (i + 1) olds) (drop (j + 1) news) start ops → IsWritingAt host olds news (i + 1) (j + 1) start ops
+  both_passed b fits other within ops h = record {
+    at = subst (λ l. IsWriting host olds l (drop (i + 1) olds) (drop (j + 1) news) start ops) (sym (passed news j b fits other)) h;
+    old_within = omega (arith, within);
+    new_within = omega (arith, fits);
+  }
+
+  pub written_at : (a b : Name × List ℕ) → i < length olds → j < length news → a ≡ get_or olds i a → b ≡ get_or news j b → next_order (drop i olds) (drop j news) ≡ Some Equal → more ≡ now ++ Attr host b.0 (Some b.1) ∷ [] → IsWritingAt host olds news (i + 1) (j + 1) start more
+  written_at a b within fits item other e is =
+      both_passed b fits other within more (is_written host olds (take j news) (drop (i + 1) olds) (drop (j + 1) news) a b start now more (both_at a b within fits item other) (order_met a b within fits item other e) is)
+
+  pub equal_at : (a b : Name × List ℕ) → i < length olds → j < length news → a ≡ get_or olds i a → b ≡ get_or news j b → a ≡ b → IsWritingAt host olds news (i + 1) (j + 1) start now
+  equal_at a b within fits item other e =
+      both_passed b fits other within now (is_equal host olds (take j news) (drop (i + 1) olds) (drop (j + 1) news) a b start now (both_at a b within fits item other) e)
+
+  pub ends_at : next_order (drop i olds) (drop j news) ≡ None → Writes host olds news start now
+  ends_at e =
+      let none = none_left (drop i olds) (drop j news) e in
+      subst (λ l. Writes host olds l start now) (ap (λ l. take j news ++ l) (none.0 ∙ sym none.1) ∙ take-append-drop j news) w.at.so_far

@@ -1,0 +1,24 @@
+use Rattle.std.proofs.Common.{◌≡◌, ◌+◌, ◌*◌, [], ◌∷◌, take}
+use Rattle.lx_node.specs.NamedTrees.{total}
+use Rattle.lx_forest.specs.Lookups.{alone}
+use Rattle.lx_reconcile.specs.Making.{MakesMoves, standing_total}
+use Rattle.lx_reconcile.proofs.reconciling.+reconciling.Given as goal
+
+abbrev pub decreases-reconcile_node : goal.decreases-reconcile_node
+decreases-reconcile_node g l = 4 * total (alone l.key (g.N.Look.forest l.after.now)) + 1
+
+abbrev pub decreases-make_moves : goal.decreases-make_moves
+decreases-make_moves g l = 4 * total (alone l.parent (g.N.Look.forest l.after.now))
+
+abbrev pub decreases-make_move : goal.decreases-make_move
+decreases-make_move g l = 4 * standing_total (g.N.Look.forest l.after.now) (l.step ∷ []) + 3
+
+abbrev pub decreases-reconcile_child : goal.decreases-reconcile_child
+decreases-reconcile_child g l = 4 * total (alone l.key (g.N.Look.forest l.after.now)) + 2
+
+abbrev pub invariant-make_moves-loop-step : goal.invariant-make_moves-loop-step
+invariant-make_moves-loop-step g l = record {
+  before : g.O.Look.forest l.before ≡ g.O.Look.forest l.initial.before;
+  after : g.N.Look.forest l.after ≡ g.N.Look.forest l.initial.after;
+  made : MakesMoves (g.O.Look.forest l.initial.before) (g.N.Look.forest l.initial.after) l.hosts l.parent (take l.step-index l.moves) l.fn.next l.initial.ops.items l.ops.items l.id;
+}

@@ -1,0 +1,14 @@
+use Rattle.std.proofs.Common.{◌≡◌, length}
+use Rattle.lx_node.specs.Siblings.{from_name}
+use Rattle.lx_forest.specs.Lookups.{children_of}
+use Rattle.lx_reconcile.proofs.Made.{IsGathered}
+use Rattle.lx_reconcile.proofs.reconciling.child_keys.Given as goal
+
+abbrev pub invariant-loop-at : goal.invariant-loop-at
+invariant-loop-at g l = record {
+  same : g.L.Look.forest l.source ≡ g.L.Look.forest l.initial.source;
+  gathered : IsGathered (g.L.Look.forest l.initial.source) l.fn.key l.at l.keys.items;
+}
+
+abbrev pub decreases-loop-at : goal.decreases-loop-at
+decreases-loop-at g l = length (from_name l.at (children_of (g.L.Look.forest l.fn.source) l.fn.key))

@@ -1,0 +1,17 @@
+-- What the operations of a commit owe.
+use Rattle.std.specs.Prelude.{◌≡◌, List, [], ◌∷◌}
+use Rattle.lx_host.specs.declared.op.Op.{Op}
+use Rattle.lx_host.specs.Hosts.{HostTree}
+use Rattle.lx_forest.specs.Forest.{Forest}
+use Rattle.lx_forest.specs.Lookups.{roots}
+use Rattle.lx_links.specs.Stands.{Sound}
+use Rattle.lx_plain.specs.Allowed.{AreAllowed}
+
+-- A forest that is the root's tree alone.
+pub record IsTree (f : Forest) : Type 0 where
+  pub sound : Sound f
+  pub alone : roots f ≡ 0 ∷ []
+
+-- The operations are allowed between two trees, from a host tree that shows the old one.
+abbrev pub IsAllowed : Forest → Forest → HostTree → List Op → Type 0
+IsAllowed old new v ops = (w : HostTree) × AreAllowed old new v ops w

@@ -1,0 +1,9 @@
+pub mod Allowing
+pub mod Changing
+pub mod Created
+pub mod Handled
+pub mod Making
+pub mod Reconciled
+pub mod ToCome
+pub mod Underway
+pub mod Walk

@@ -1,0 +1,24 @@
+//! From one tree to the next: the operations that make a view show a tree.
+#![tactic(auto)]
+
+mod batch;
+mod creation;
+mod faces;
+mod looks;
+mod moves;
+mod progress;
+mod reconciling;
+mod views;
+mod walking;
+
+pub use batch::{Batch, operations};
+pub use creation::{create_children, create_tree};
+pub use looks::{Look, Looked, Reads};
+pub use moves::Move;
+pub use views::fresh;
+pub use walking::walk;
+
+#[cfg(test)]
+mod commit_tests;
+#[cfg(test)]
+mod tests;

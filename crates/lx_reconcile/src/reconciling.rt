@@ -1,0 +1,370 @@
+//! The operations that bring the host of a node, with all below it, from one tree to another one. They go through both
+//! trees side by side.
+
+ghost use Rattle.std.specs.Prelude.{◌≡◌, ◌≢◌, ◌+◌, ◌*◌, ◌≤◌, ◌↔◌, ◌++◌, ◌∷◌, [], ℕ, true, IsTrue, None, Some, option_map, IfOk, OnOk};
+ghost use Rattle.lx_node.specs.NamedTrees.{total};
+ghost use Rattle.lx_host.specs.declared.op.Op.TheVariants as op;
+ghost use Rattle.lx_host.specs.Html.{first_tree};
+ghost use Rattle.lx_host.specs.Branches.{IsRooted};
+ghost use Rattle.lx_forest.specs.Lookups.{alone, trees_of, children_of, first_child, next_of, has, IsForest};
+ghost use Rattle.lx_forest.specs.Records.{record_at};
+ghost use Rattle.lx_links.specs.Stands.{node_of, Sound};
+ghost use Rattle.lx_plain.specs.Allowed.{hosts_of, Shows};
+ghost use Rattle.lx_reconcile.specs.Allowing.{IsTree, IsAllowed};
+ghost use Rattle.lx_plain.specs.Render as shown;
+ghost use Rattle.lx_reconcile.specs.Created.{creation_of};
+ghost use Rattle.lx_reconcile.specs.Reconciled.{host_in};
+ghost use Rattle.lx_reconcile.specs.Walk.{IsWalk};
+ghost use Rattle.lx_reconcile.specs.Making.{IsBetween, Reconciles, MakesMoves, AreNext, IsNext};
+ghost use Rattle.lx_reconcile.specs.declared.moves.Move.TheVariants.{Stay};
+
+use crate::creation::create_tree;
+use crate::faces::{is_ended, push_ending, push_face};
+use crate::looks::{Look, Looked};
+use crate::moves::Move;
+use crate::walking::walk;
+use lx_host::{HostTree, Op};
+use lx_node::{Key, NoMemory, Node};
+use lx_render::tag_of;
+use std::alloc::Global;
+
+/// The id of the host that shows a node.
+pub(crate) fn host_of(hosts: &HostTree, key: Key) -> u32
+    requires shown { hosts_of key hosts.now.hosts ≡ host_in hosts.now key ∷ [] }
+    requires whole { first_tree hosts.now.hosts ≡ hosts.now.hosts }
+    ensures { result ≡ host_in hosts.now key }
+{
+    match hosts.host_of(key) {
+        Some(id) => id,
+        None => 0,
+    }
+}
+
+/// The id of the host that shows a node, where one is named.
+fn host_before(hosts: &HostTree, before: Option<Key>) -> Option<u32>
+    requires shown { (k : ℕ) → before ≡ Some k → hosts_of k hosts.now.hosts ≡ host_in hosts.now k ∷ [] }
+    requires whole { first_tree hosts.now.hosts ≡ hosts.now.hosts }
+    ensures { result ≡ option_map (host_in hosts.now) before }
+{
+    match before {
+        None => None,
+        Some(key) => Some(host_of(hosts, key)),
+    }
+}
+
+/// The node of the key, which is there.
+fn found<S, L: Look<S>>(source: &mut S, key: Key) -> L::Item
+    requires there { has key (L.forest source.old) ≡ true }
+    ensures found { Some (L.Item.lent result) ≡ option_map node_of (record_at (L.forest source.old) key) }
+    ensures same { L.forest source.new ≡ L.forest source.old }
+{
+    match L::look(source, key) {
+        Some(item) => item,
+        None => unreachable!(),
+    }
+}
+
+/// The key of the node behind the one of this key, which is there.
+fn next_after<S, L: Look<S>>(source: &mut S, key: Key) -> Option<Key>
+    requires there { has key (L.forest source.old) ≡ true }
+    ensures next { result ≡ next_of (L.forest source.old) key }
+    ensures same { L.forest source.new ≡ L.forest source.old }
+{
+    let item = found::<S, L>(source, key);
+    item.node().next
+}
+
+/// The keys of a node's children, of which this is the first. It reads each of them.
+fn child_keys<S, L: Look<S>>(
+    alloc: Global,
+    source: &mut S,
+    key: Key,
+    first: Option<Key>,
+) -> Result<Vec<Key>, NoMemory>
+    requires sound { Sound (L.forest source.old) }
+    requires first { first ≡ first_child (L.forest source.old) key }
+    ensures keys { IfOk result (λ keys. keys.items ≡ children_of (L.forest source.old) key) }
+    ensures same { L.forest source.new ≡ L.forest source.old }
+{
+    let mut keys = Vec::new(alloc);
+    let mut at = first;
+    while let Some(child) = at {
+        keys.push(child)?;
+        at = next_after::<S, L>(source, child);
+    }
+    Ok(keys)
+}
+
+/// Whether a node is shown by the same element as before.
+fn has_same_tag(was: &Node, now: &Node) -> bool
+    ensures { IsTrue result ↔ (shown.tag_of was.now.kind was.now.fields ≡ shown.tag_of now.now.kind now.now.fields) }
+{
+    tag_of(was.kind, &was.fields) == tag_of(now.kind, &now.fields)
+}
+
+/// Adds the operations that make hosts for a node and all below it, and put them among the children of a host. Gives
+/// the next id.
+fn make_child<S, L: Look<S>>(
+    alloc: Global,
+    after: &mut S,
+    host: u32,
+    key: Key,
+    before: Option<u32>,
+    next: u32,
+    ops: &mut Vec<Op>,
+) -> Result<u32, NoMemory>
+    requires sound { Sound (L.forest after.old) }
+    requires there { has key (L.forest after.old) ≡ true }
+    requires room { next + total (alone key (L.forest after.old)) ≤ 4294967295 }
+    ensures ops { OnOk result (ops.new.items ≡ ops.old.items ++ creation_of next (alone key (L.forest after.old)) ++ op.Place host next before ∷ []) }
+    ensures end { IfOk result (λ end. end ≡ next + total (alone key (L.forest after.old))) }
+    ensures same { L.forest after.new ≡ L.forest after.old }
+{
+    let item = found::<S, L>(after, key);
+    let end = create_tree::<S, L>(alloc, after, key, item.node(), next, ops)?;
+    ops.push(Op::Place {
+        parent: host,
+        child: next,
+        before,
+    })?;
+    Ok(end)
+}
+
+/// Adds the operations that put new hosts of a node in place of its old ones, among the children of a host. Gives the
+/// next id.
+fn replace_child<S, L: Look<S>>(
+    alloc: Global,
+    after: &mut S,
+    host: u32,
+    key: Key,
+    old: u32,
+    next: u32,
+    ops: &mut Vec<Op>,
+) -> Result<u32, NoMemory>
+    requires sound { Sound (L.forest after.old) }
+    requires there { has key (L.forest after.old) ≡ true }
+    requires room { next + total (alone key (L.forest after.old)) ≤ 4294967295 }
+    ensures ops { OnOk result (ops.new.items ≡ ops.old.items ++ creation_of next (alone key (L.forest after.old)) ++ op.Place host next (Some old) ∷ [] ++ op.Drop old ∷ []) }
+    ensures end { IfOk result (λ end. end ≡ next + total (alone key (L.forest after.old))) }
+    ensures same { L.forest after.new ≡ L.forest after.old }
+{
+    let end = make_child::<S, L>(alloc, after, host, key, Some(old), next, ops)?;
+    ops.push(Op::Drop { id: old })?;
+    Ok(end)
+}
+
+/// What is to be done with the children of a node, by its records before and after.
+fn moves_of<B, A, O: Look<B>, N: Look<A>>(
+    alloc: Global,
+    before: &mut B,
+    after: &mut A,
+    key: Key,
+    was: Option<Key>,
+    now: Option<Key>,
+) -> Result<Vec<Move>, NoMemory>
+    requires was_sound { Sound (O.forest before.old) }
+    requires was_ordered { IsForest (O.forest before.old) }
+    requires sound { Sound (N.forest after.old) }
+    requires ordered { IsForest (N.forest after.old) }
+    requires was { was ≡ first_child (O.forest before.old) key }
+    requires now { now ≡ first_child (N.forest after.old) key }
+    ensures walk { IfOk result (λ moves. IsWalk (children_of (O.forest before.old) key) (children_of (N.forest after.old) key) moves.items) }
+    ensures before { O.forest before.new ≡ O.forest before.old }
+    ensures after { N.forest after.new ≡ N.forest after.old }
+{
+    let old = child_keys::<B, O>(alloc, before, key, was)?;
+    let new = child_keys::<A, N>(alloc, after, key, now)?;
+    walk(alloc, old.as_slice(), new.as_slice())
+}
+
+/// Adds the operations for a node that both trees have at the same place, with the same element. Gives the next id.
+#[cycle(reconciling)]
+pub(crate) fn reconcile_node<B, A, O: Look<B>, N: Look<A>>(
+    alloc: Global,
+    before: &mut B,
+    after: &mut A,
+    hosts: &HostTree,
+    key: Key,
+    was: &Node,
+    now: &Node,
+    next: u32,
+    ops: &mut Vec<Op>,
+) -> Result<u32, NoMemory>
+    requires between { IsBetween (O.forest before.old) (N.forest after.old) hosts.now }
+    requires was { Some was.now ≡ option_map node_of (record_at (O.forest before.old) key) }
+    requires now { Some now.now ≡ option_map node_of (record_at (N.forest after.old) key) }
+    requires tag { shown.tag_of was.now.kind was.now.fields ≡ shown.tag_of now.now.kind now.now.fields }
+    requires room { next + total (alone key (N.forest after.old)) ≤ 4294967295 }
+    ensures done { IfOk result (λ end. Reconciles (O.forest before.old) (N.forest after.old) hosts.now key next ops.old.items ops.new.items end) }
+    ensures before { O.forest before.new ≡ O.forest before.old }
+    ensures after { N.forest after.new ≡ N.forest after.old }
+{
+    let host = host_of(hosts, key);
+    push_face(alloc, host, was, now, ops)?;
+    let moves = moves_of::<B, A, O, N>(alloc, before, after, key, was.first, now.first)?;
+    let end = make_moves::<B, A, O, N>(
+        alloc,
+        before,
+        after,
+        hosts,
+        key,
+        host,
+        moves.as_slice(),
+        next,
+        ops,
+    )?;
+    let old = is_ended::<B, O>(before, was);
+    let new = is_ended::<A, N>(after, now);
+    push_ending(host, old, new, ops)?;
+    Ok(end)
+}
+
+/// Adds the operations for the children of a node, which are these moves. Gives the next id.
+#[cycle(reconciling)]
+fn make_moves<B, A, O: Look<B>, N: Look<A>>(
+    alloc: Global,
+    before: &mut B,
+    after: &mut A,
+    hosts: &HostTree,
+    parent: Key,
+    host: u32,
+    moves: &[Move],
+    next: u32,
+    ops: &mut Vec<Op>,
+) -> Result<u32, NoMemory>
+    requires between { IsBetween (O.forest before.old) (N.forest after.old) hosts.now }
+    requires host { host ≡ host_in hosts.now parent }
+    requires coming { AreNext (O.forest before.old) (N.forest after.old) hosts.now parent moves.now next }
+    ensures done { IfOk result (λ end. MakesMoves (O.forest before.old) (N.forest after.old) hosts.now parent moves.now next ops.old.items ops.new.items end) }
+    ensures before { O.forest before.new ≡ O.forest before.old }
+    ensures after { N.forest after.new ≡ N.forest after.old }
+{
+    let mut id = next;
+    for step in moves {
+        match make_move::<B, A, O, N>(alloc, before, after, hosts, parent, host, *step, id, ops) {
+            Ok(end) => id = end,
+            Err(error) => return Err(error),
+        }
+    }
+    Ok(id)
+}
+
+/// Adds the operations for one move. Gives the next id.
+#[cycle(reconciling)]
+fn make_move<B, A, O: Look<B>, N: Look<A>>(
+    alloc: Global,
+    before: &mut B,
+    after: &mut A,
+    hosts: &HostTree,
+    parent: Key,
+    host: u32,
+    step: Move,
+    next: u32,
+    ops: &mut Vec<Op>,
+) -> Result<u32, NoMemory>
+    requires between { IsBetween (O.forest before.old) (N.forest after.old) hosts.now }
+    requires host { host ≡ host_in hosts.now parent }
+    requires coming { IsNext (O.forest before.old) (N.forest after.old) hosts.now parent step next }
+    ensures done { IfOk result (λ end. MakesMoves (O.forest before.old) (N.forest after.old) hosts.now parent (step ∷ []) next ops.old.items ops.new.items end) }
+    ensures before { O.forest before.new ≡ O.forest before.old }
+    ensures after { N.forest after.new ≡ N.forest after.old }
+{
+    match step {
+        Move::Stay(key) => {
+            reconcile_child::<B, A, O, N>(alloc, before, after, hosts, parent, host, key, next, ops)
+        }
+        Move::Leave(key) => {
+            ops.push(Op::Drop {
+                id: host_of(hosts, key),
+            })?;
+            Ok(next)
+        }
+        Move::Make {
+            key,
+            before: behind,
+        } => {
+            let behind = host_before(hosts, behind);
+            make_child::<A, N>(alloc, after, host, key, behind, next, ops)
+        }
+        Move::Place {
+            key,
+            before: behind,
+        } => {
+            ops.push(Op::Place {
+                parent: host,
+                child: host_of(hosts, key),
+                before: host_before(hosts, behind),
+            })?;
+            reconcile_child::<B, A, O, N>(alloc, before, after, hosts, parent, host, key, next, ops)
+        }
+    }
+}
+
+/// Adds the operations for a child that both trees have. Gives the next id.
+#[cycle(reconciling)]
+fn reconcile_child<B, A, O: Look<B>, N: Look<A>>(
+    alloc: Global,
+    before: &mut B,
+    after: &mut A,
+    hosts: &HostTree,
+    parent: Key,
+    host: u32,
+    key: Key,
+    next: u32,
+    ops: &mut Vec<Op>,
+) -> Result<u32, NoMemory>
+    requires between { IsBetween (O.forest before.old) (N.forest after.old) hosts.now }
+    requires host { host ≡ host_in hosts.now parent }
+    requires coming { IsNext (O.forest before.old) (N.forest after.old) hosts.now parent (Stay key) next }
+    ensures done { IfOk result (λ end. MakesMoves (O.forest before.old) (N.forest after.old) hosts.now parent (Stay key ∷ []) next ops.old.items ops.new.items end) }
+    ensures before { O.forest before.new ≡ O.forest before.old }
+    ensures after { N.forest after.new ≡ N.forest after.old }
+{
+    let was = found::<B, O>(before, key);
+    let now = found::<A, N>(after, key);
+    if has_same_tag(was.node(), now.node()) {
+        reconcile_node::<B, A, O, N>(
+            alloc,
+            before,
+            after,
+            hosts,
+            key,
+            was.node(),
+            now.node(),
+            next,
+            ops,
+        )
+    } else {
+        replace_child::<A, N>(alloc, after, host, key, host_of(hosts, key), next, ops)
+    }
+}
+
+/// Adds the operations that bring a view of the root's tree to another tree. There are none before.
+pub(crate) fn reconcile_root<B, A, O: Look<B>, N: Look<A>>(
+    alloc: Global,
+    before: &mut B,
+    after: &mut A,
+    hosts: &HostTree,
+    ops: &mut Vec<Op>,
+) -> Result<(), NoMemory>
+    requires before { IsTree (O.forest before.old) }
+    requires after { IsTree (N.forest after.old) }
+    requires shown { Shows hosts.now (O.forest before.old) }
+    requires rooted { IsRooted hosts.now.hosts }
+    requires room { hosts.now.next + total (N.forest after.old) ≤ 4294967295 }
+    requires none { ops.old.items ≡ [] }
+    ensures allowed { OnOk result (IsAllowed (O.forest before.old) (N.forest after.old) hosts.now ops.new.items) }
+    ensures before { O.forest before.new ≡ O.forest before.old }
+    ensures after { N.forest after.new ≡ N.forest after.old }
+{
+    let key = Key::root();
+    let next = hosts.next_id();
+    let was = found::<B, O>(before, key);
+    let now = found::<A, N>(after, key);
+    let was_node = was.node();
+    let now_node = now.node();
+    reconcile_node::<B, A, O, N>(
+        alloc, before, after, hosts, key, was_node, now_node, next, ops,
+    )?;
+    Ok(())
+}
