@@ -61,6 +61,10 @@ unfoldable pub is_link : Kind → Bool
 is_link Link = true
 is_link _ = false
 
+unfoldable pub is_table : Kind → Bool
+is_table Table = true
+is_table _ = false
+
 unfoldable pub is_row : Kind → Bool
 is_row Row = true
 is_row _ = false
@@ -68,6 +72,28 @@ is_row _ = false
 unfoldable pub is_cell : Kind → Bool
 is_cell Cell = true
 is_cell _ = false
+
+unfoldable pub is_text : Kind → Bool
+is_text Text = true
+is_text _ = false
+
+unfoldable pub is_embed : Kind → Bool
+is_embed Embed = true
+is_embed _ = false
+
+-- what has characters
+unfoldable pub has_characters : Kind → Bool
+has_characters Text = true
+has_characters Tab = true
+has_characters _ = false
+
+-- what holds a line of text of its own
+unfoldable pub is_text_block : Kind → Bool
+is_text_block Paragraph = true
+is_text_block (Heading level) = true
+is_text_block Quote = true
+is_text_block Item = true
+is_text_block _ = false
 
 -- an element is what may have children; the others are leaves
 unfoldable pub is_element : Kind → Bool

@@ -1,7 +1,9 @@
 pub mod Causes
 pub mod Kinds
+pub mod Limits
 pub mod NamedTrees
 pub mod OfKind
+pub mod Plain
 pub mod Same
 pub mod Siblings
 pub mod Spots

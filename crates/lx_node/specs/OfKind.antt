@@ -60,12 +60,12 @@ is_tab_text (c ∷ []) = eqb c 9
 is_tab_text (c ∷ d ∷ cs) = false
 
 -- two detail bits
-unfoldable pub is_text : TextFields → Bool
-is_text text = leb text.detail 3
+unfoldable pub are_text_fields : TextFields → Bool
+are_text_fields text = leb text.detail 3
 
 -- a tab has its own text, is unmergeable and not directionless, and of normal mode
-unfoldable pub is_tab : TextFields → Bool
-is_tab text = is_tab_text text.text && (eqb text.detail 2 && is_normal text.mode)
+unfoldable pub are_tab_fields : TextFields → Bool
+are_tab_fields text = is_tab_text text.text && (eqb text.detail 2 && is_normal text.mode)
 
 -- ---- the fields of each kind
 
@@ -77,20 +77,20 @@ unfoldable pub is_text_of : (TextFields → Bool) → Fields → Bool
 is_text_of test (fields.Text text) = test text
 is_text_of test _ = false
 
-unfoldable pub is_embed : Fields → Bool
-is_embed (fields.Embed source) = true
-is_embed _ = false
+unfoldable pub are_embed_fields : Fields → Bool
+are_embed_fields (fields.Embed source) = true
+are_embed_fields _ = false
 
-unfoldable pub is_bare : Fields → Bool
-is_bare fields.Bare = true
-is_bare _ = false
+unfoldable pub are_bare : Fields → Bool
+are_bare fields.Bare = true
+are_bare _ = false
 
 unfoldable pub fits_kind : Kind → Fields → Bool
-fits_kind Text fields = is_text_of is_text fields
-fits_kind Tab fields = is_text_of is_tab fields
-fits_kind Break fields = is_bare fields
-fits_kind Rule fields = is_bare fields
-fits_kind Embed fields = is_embed fields
+fits_kind Text fields = is_text_of are_text_fields fields
+fits_kind Tab fields = is_text_of are_tab_fields fields
+fits_kind Break fields = are_bare fields
+fits_kind Rule fields = are_bare fields
+fits_kind Embed fields = are_embed_fields fields
 fits_kind kind fields = is_element_of kind fields
 
 -- the kind is one that a node can be, and the fields are of its variant and within its ranges

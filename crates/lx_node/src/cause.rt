@@ -37,6 +37,7 @@ pub enum Limit {
     Characters,
     KeyCount,
     Written,
+    Hosts,
 }
 
 /// What a step named in vain.

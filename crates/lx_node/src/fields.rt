@@ -1,5 +1,6 @@
-ghost use Rattle.std.specs.Prelude.{◌≡◌, IfOk};
+ghost use Rattle.std.specs.Prelude.{◌≡◌, IfOk, chars};
 ghost use Rattle.lx_node.specs.OfKind as of_kind;
+ghost use Rattle.lx_node.specs.Plain as plain;
 
 use crate::kind::Kind;
 use crate::memory::NoMemory;
@@ -94,6 +95,19 @@ pub enum Fields {
 }
 
 impl TextFields {
+    /// Those of a text of which only its characters and its detail are set: no format, mode normal, no style.
+    pub fn with(alloc: Global, text: Txt, detail: u8) -> TextFields
+        ensures { result ≡ plain.text_with text detail }
+    {
+        TextFields {
+            text,
+            format: 0,
+            detail,
+            mode: Mode::Normal,
+            style: Txt::empty(alloc),
+        }
+    }
+
     /// Equal fields.
     pub fn copy(&self, alloc: Global) -> Result<TextFields, NoMemory>
         ensures { IfOk result (λ made. made ≡ self.now) }
@@ -110,9 +124,9 @@ impl TextFields {
     }
 
     /// Whether they are those of a tab: the one character U+0009, unmergeable, of normal mode.
-    #[tactic(auto, unfolding(crate::specs::OfKind::is_tab, crate::specs::OfKind::is_normal))]
+    #[tactic(auto, unfolding(crate::specs::OfKind::are_tab_fields, crate::specs::OfKind::is_normal))]
     fn is_tab(&self) -> bool
-        ensures { result ≡ of_kind.is_tab self.now }
+        ensures { result ≡ of_kind.are_tab_fields self.now }
     {
         self.text.is_tab() && self.detail == 2 && matches!(self.mode, Mode::Normal)
     }
@@ -200,6 +214,20 @@ impl Extra {
 }
 
 impl ElementFields {
+    /// Those of an element of which only this is set.
+    pub fn with(alloc: Global, extra: Extra) -> ElementFields
+        ensures { result ≡ plain.element_with extra }
+    {
+        ElementFields {
+            direction: Direction::Unset,
+            format: Align::Unset,
+            indent: 0,
+            text_format: 0,
+            text_style: Txt::empty(alloc),
+            extra,
+        }
+    }
+
     /// Equal fields.
     pub fn copy(&self, alloc: Global) -> Result<ElementFields, NoMemory>
         ensures { IfOk result (λ made. made ≡ self.now) }
@@ -218,6 +246,21 @@ impl ElementFields {
 }
 
 impl Fields {
+    /// Those of an element of which nothing is set. They take no memory.
+    pub fn plain_element(alloc: Global) -> Fields
+        ensures { result ≡ plain.plain_element }
+    {
+        Fields::Element(ElementFields::with(alloc, Extra::Plain))
+    }
+
+    /// Those of a text of which only its characters are set.
+    pub fn plain_text(alloc: Global, text: &str) -> Result<Fields, NoMemory>
+        ensures { IfOk result (λ made. made ≡ plain.plain_text (chars text.now)) }
+    {
+        let text = Txt::new(alloc, text)?;
+        Ok(Fields::Text(TextFields::with(alloc, text, 0)))
+    }
+
     /// Equal fields.
     pub fn copy(&self, alloc: Global) -> Result<Fields, NoMemory>
         ensures { IfOk result (λ made. made ≡ self.now) }
@@ -241,7 +284,7 @@ impl Fields {
         kind.is_possible() && self.fits_kind(kind)
     }
 
-    #[tactic(auto, unfolding(crate::specs::OfKind::fits_kind, crate::specs::OfKind::is_element_of, crate::specs::OfKind::is_text_of, crate::specs::OfKind::is_text, crate::specs::OfKind::is_embed, crate::specs::OfKind::is_bare, crate::specs::Kinds::is_element))]
+    #[tactic(auto, unfolding(crate::specs::OfKind::fits_kind, crate::specs::OfKind::is_element_of, crate::specs::OfKind::is_text_of, crate::specs::OfKind::are_text_fields, crate::specs::OfKind::are_embed_fields, crate::specs::OfKind::are_bare, crate::specs::Kinds::is_element))]
     fn fits_kind(&self, kind: Kind) -> bool
         ensures { result ≡ of_kind.fits_kind kind self.now }
     {

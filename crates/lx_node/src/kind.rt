@@ -94,6 +94,25 @@ impl Kind {
         )
     }
 
+    /// Whether nodes of the kind hold a line of text of their own: paragraphs, headings, quotes and items.
+    #[tactic(auto, unfolding(crate::specs::Kinds::is_text_block))]
+    pub fn is_text_block(self) -> bool
+        ensures { result ≡ kinds.is_text_block self }
+    {
+        matches!(
+            self,
+            Kind::Paragraph | Kind::Heading(_) | Kind::Quote | Kind::Item
+        )
+    }
+
+    /// Whether nodes of the kind have characters: texts and tabs.
+    #[tactic(auto, unfolding(crate::specs::Kinds::has_characters))]
+    pub fn has_characters(self) -> bool
+        ensures { result ≡ kinds.has_characters self }
+    {
+        matches!(self, Kind::Text | Kind::Tab)
+    }
+
     /// Whether a node of the kind may have children of the other kind. A leaf may have none.
     #[tactic(auto, unfolding(crate::specs::Kinds::may_hold, crate::specs::Kinds::is_paragraph, crate::specs::Kinds::is_heading, crate::specs::Kinds::is_list, crate::specs::Kinds::is_item, crate::specs::Kinds::is_link, crate::specs::Kinds::is_row, crate::specs::Kinds::is_cell))]
     pub fn may_hold(self, child: Kind) -> bool

@@ -8,6 +8,7 @@ mod fields;
 mod key;
 mod kind;
 mod kinds;
+pub mod limits;
 mod memory;
 mod node;
 mod text;

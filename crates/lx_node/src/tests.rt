@@ -188,3 +188,32 @@ fn characters_are_scalar_values(rt: HostRuntime) -> Result<(), Fail> {
     assert_eq!(rt; Fields::Bare.characters(), 0);
     Ok(())
 }
+
+fn are_made_from_strings(alloc: Global) -> Result<bool, Fail> {
+    let text = Txt::of(String::from_str(alloc, "é")?);
+    Ok(text.is("é") && !text.is("e") && Txt::empty(alloc).is_empty())
+}
+
+#[test]
+fn texts_are_made_from_strings(rt: HostRuntime) -> Result<(), Fail> {
+    let made = are_made_from_strings(rt.alloc())?;
+    assert!(rt; made);
+    Ok(())
+}
+
+#[test]
+fn plain_fields_are_of_their_kinds(rt: HostRuntime) -> Result<(), Fail> {
+    let alloc = rt.alloc();
+    let words = Fields::plain_text(alloc, "a")?;
+    assert!(rt; words.is_of_kind(Kind::Text));
+    assert!(rt; Fields::plain_element(alloc).is_of_kind(Kind::Quote));
+    Ok(())
+}
+
+#[test]
+fn lines_of_text_are_held_by_blocks(rt: HostRuntime) {
+    assert!(rt; Kind::Quote.is_text_block());
+    assert!(rt; !Kind::Cell.is_text_block());
+    assert!(rt; Kind::Tab.has_characters());
+    assert!(rt; !Kind::Break.has_characters());
+}

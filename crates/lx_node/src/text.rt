@@ -17,7 +17,23 @@ impl Model for Txt {
 }
 
 impl Txt {
-    ghost use Rattle.std.specs.Prelude.{◌≡◌, ◌==◌, IfOk, chars, encode_utf8_all, length};
+    ghost use Rattle.std.specs.Prelude.{◌≡◌, ◌==◌, [], IfOk, chars, string_bytes, encode_utf8_all, length};
+
+    /// The text of a string, which is taken over. It takes no memory.
+    pub fn of(text: String) -> Txt
+        ensures { result ≡ chars (string_bytes text) }
+    {
+        Txt { text }
+    }
+
+    /// The text without characters. It takes no memory.
+    pub fn empty(alloc: Global) -> Txt
+        ensures { result ≡ [] }
+    {
+        Txt {
+            text: String::new(alloc),
+        }
+    }
 
     /// The text. It takes memory for its bytes.
     pub fn new(alloc: Global, text: &str) -> Result<Txt, NoMemory>
@@ -52,6 +68,13 @@ impl Txt {
         ensures told { IsTrue result ↔ (self.now ≡ other.now) }
     {
         self.as_str() == other.as_str()
+    }
+
+    /// Whether it is this text.
+    pub fn is(&self, text: &str) -> bool
+        ensures { IsTrue result ↔ (self.now ≡ chars text.now) }
+    {
+        self.as_str() == text
     }
 
     /// How many characters, Unicode scalar values, it has: from 0 to 18,446,744,073,709,551,615, which also

@@ -1,0 +1,28 @@
+-- The numbers that an editor doesn't go beyond.
+use Rattle.std.specs.Prelude.{ℕ}
+
+-- the last number of a u32
+abbrev pub last_u32 : ℕ
+last_u32 = 4294967295
+
+-- ---- limits of one update
+
+abbrev pub most_counts : ℕ
+most_counts = 100000
+
+abbrev pub most_written : ℕ
+most_written = 16777216
+
+-- ---- limits of a committed state
+
+abbrev pub most_depth : ℕ
+most_depth = 48
+
+abbrev pub most_nodes : ℕ
+most_nodes = 16384
+
+abbrev pub most_characters : ℕ
+most_characters = 1048576
+
+abbrev pub most_key : ℕ
+most_key = 1048576
