@@ -1,0 +1,15 @@
+pub mod Bounds
+pub mod Building
+pub mod Cuts
+pub mod Edits
+pub mod Firsts
+pub mod Leaves
+pub mod Lookups
+pub mod Order
+pub mod Places
+pub mod Preorder
+pub mod Records
+pub mod Siblings
+pub mod Up
+pub mod Walks
+pub mod Within

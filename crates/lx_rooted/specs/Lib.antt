@@ -1,0 +1,4 @@
+pub mod Edits
+pub mod Laws
+pub mod Lookups
+pub mod Records
