@@ -1,42 +1,38 @@
 -- What is read of a key after each edit, and how parents and children agree.
 use Rattle.std.proofs.Common.{List, ap, length, ◌≡◌, ℕ, true, false, cond, eqb, [], ◌∷◌, Option, None, Some, refl, sym, ◌∙◌, arith}
 use Rattle.std.specs.Prelude.{option_map}
-use Rattle.std.proofs.lemmas.Bool.Decides.{eqb_tells}
 use Rattle.std.proofs.lemmas.Option.{same_Some}
 use Rattle.lx_node.specs.Trees.{nil, tree}
 use Rattle.lx_node.specs.NamedTrees.{total}
-use Rattle.lx_node.specs.NamedTrees as named
 use Rattle.lx_node.specs.Siblings.{is_named, is_among, NoRepeats, names_without, names_with}
 use Rattle.lx_node.specs.Spots.{Spot}
 use Rattle.lx_node.specs.declared.fields.Fields.{Fields}
-use Rattle.lx_node.proofs.Spots.{is_among-children, is_among-children_self, NoRepeats-children}
-use Rattle.lx_node.proofs.NamedTrees.{is_among-preorder, length-preorder, NoRepeats-preorder}
-use Rattle.lx_node.proofs.Positions.{same_length}
-use Rattle.lx_node.proofs.Subtrees.{count-parent, alone-spot_below, gathered-names}
 use Rattle.lx_forest.specs.Forest.{Label, Forest}
 use Rattle.lx_forest.specs.Lookups.{spot, key_of, alone, roots, trees_of, has, label_of, kind_of, fields_of, parent_of, children_of, is_attached, IsForest}
 use Rattle.lx_forest.specs.Edits.{reset, fields_at, with_new, with_fields, take_out, put_in, drop_detached, CanPut}
-use Rattle.lx_forest.proofs.Edits.{spot-with_new, spot-with_fields, spot-take_out, spot-put_in, spot-drop_detached, is_some-spot, key-spot, option_map-map, option_map-agree}
+use Rattle.lx_forest.proofs.Edits.{spot-with_new, spot-with_fields, spot-take_out, spot-put_in, spot-drop_detached, key-spot, option_map-map, option_map-agree}
+use Rattle.lx_rooted.proofs.Lookups as rootedLookups
+use Rattle.lx_forest.proofs.Ordered.{ordered}
 
 -- ---- parents and children
 
 -- q is a child of p just where p is the parent of q
 pub is_among-children_of : (f : Forest) (q p : ℕ) → IsForest f → is_among q (children_of f p) ≡ is_named (parent_of f q) p
-is_among-children_of f q p h = is_among-children key_of None f q p h.once refl
+is_among-children_of f q p h1 = rootedLookups.is_among-children_of key_of f q p (ordered h1)
 
 pub NoRepeats-children_of : (f : Forest) (q : ℕ) → IsForest f → NoRepeats (children_of f q)
-NoRepeats-children_of f q h = NoRepeats-children key_of None f q h.once
+NoRepeats-children_of f q h1 = rootedLookups.NoRepeats-children_of key_of f q (ordered h1)
 
 -- a parent stands, and so does a child
 pub has-parent_of : (f : Forest) (q p : ℕ) → parent_of f q ≡ Some p → has p f ≡ true
-has-parent_of f q p e = grind (arith, count-parent key_of f q p e)
+has-parent_of f q p h1 = rootedLookups.has-parent_of key_of f q p h1
 
 pub has-child : (f : Forest) (q p : ℕ) → parent_of f q ≡ Some p → has q f ≡ true
-has-child f q p e = grind (arith, is_some-spot f q)
+has-child f q p h1 = rootedLookups.has-child key_of f q p h1
 
 -- nothing is its own parent
 pub parent_of-self : (f : Forest) (q : ℕ) → IsForest f → is_named (parent_of f q) q ≡ false
-parent_of-self f q h = sym (is_among-children_of f q q h) ∙ is_among-children_self key_of None f q h.once
+parent_of-self f q h1 = rootedLookups.parent_of-self key_of f q (ordered h1)
 
 -- a label has the key at which it stands
 pub key-label_of : (f : Forest) (q : ℕ) (l : Label) → label_of f q ≡ Some l → l.key ≡ q
@@ -48,19 +44,17 @@ key-label_of f q l e = from_spot (spot f q) (λ s at. key-spot f q s at) e where
 -- ---- a tree is its label above the trees of its children
 
 pub alone-spot : (f : Forest) (k : ℕ) (s : Spot Label) → IsForest f → spot f k ≡ Some s → alone k f ≡ tree s.label (trees_of f s.children) nil
-alone-spot f k s h e = alone-spot_below key_of None f k s h.once e
+alone-spot f k s h1 h2 = rootedLookups.alone-spot key_of f k s (ordered h1) h2
 
 -- the forest is the trees of its first keys
 pub trees_of-roots : (f : Forest) → IsForest f → trees_of f (roots f) ≡ f
-trees_of-roots f h = gathered-names key_of f h.once
+trees_of-roots f h1 = rootedLookups.trees_of-roots key_of f (ordered h1)
 
 -- ---- how many keys there are
 
 -- as many as a list of them has that names each once
 pub length-keys : (f : Forest) (ks : List ℕ) → IsForest f → NoRepeats ks → ((q : ℕ) → is_among q ks ≡ has q f) → length ks ≡ total f
-length-keys f ks h unrepeated same =
-    same_length ks (named.preorder key_of f) unrepeated (NoRepeats-preorder key_of f h.once) (λ q. same q ∙ sym (is_among-preorder key_of q f))
-    ∙ length-preorder key_of f
+length-keys f ks h1 h2 h3 = rootedLookups.length-keys key_of f ks (ordered h1) h2 h3
 
 -- ---- after new
 
@@ -71,10 +65,12 @@ pub kind_of-with_new : (l : Label) (f : Forest) (q : ℕ) → IsForest f → has
 kind_of-with_new l f q h free = grind (arith, spot-with_new l f q h free)
 
 pub parent_of-with_new : (l : Label) (f : Forest) (q : ℕ) → IsForest f → has l.key f ≡ false → parent_of (with_new l f) q ≡ parent_of f q
-parent_of-with_new l f q h free = grind (arith, spot-with_new l f q h free, eqb_tells q l.key, is_some-spot f q)
+unfolding with_new
+parent_of-with_new l f q h1 h2 = rootedLookups.parent_of-with_new key_of l f q (ordered h1) h2
 
 pub children_of-with_new : (l : Label) (f : Forest) (q : ℕ) → IsForest f → has l.key f ≡ false → children_of (with_new l f) q ≡ children_of f q
-children_of-with_new l f q h free = grind (arith, spot-with_new l f q h free, eqb_tells q l.key, is_some-spot f q)
+unfolding with_new
+children_of-with_new l f q h1 h2 = rootedLookups.children_of-with_new key_of l f q (ordered h1) h2
 
 -- ---- after set
 
@@ -106,10 +102,12 @@ pub kind_of-take_out : (k : ℕ) (f : Forest) (q : ℕ) → IsForest f → kind_
 kind_of-take_out k f q h = grind (arith, spot-take_out k f q h)
 
 pub parent_of-take_out : (k : ℕ) (f : Forest) (q : ℕ) → IsForest f → parent_of (take_out k f) q ≡ cond (eqb q k) None (parent_of f q)
-parent_of-take_out k f q h = grind (arith, spot-take_out k f q h)
+unfolding take_out
+parent_of-take_out k f q h1 = rootedLookups.parent_of-take_out key_of k f q (ordered h1)
 
 pub children_of-take_out : (k : ℕ) (f : Forest) (q : ℕ) → IsForest f → children_of (take_out k f) q ≡ names_without k (children_of f q)
-children_of-take_out k f q h = grind (arith, spot-take_out k f q h)
+unfolding take_out
+children_of-take_out k f q h1 = rootedLookups.children_of-take_out key_of k f q (ordered h1)
 
 -- ---- after put
 
@@ -120,10 +118,12 @@ pub kind_of-put_in : (p : ℕ) (before : Option ℕ) (k : ℕ) (f : Forest) (q :
 kind_of-put_in p before k f q h c = grind (arith, spot-put_in p before k f q h c)
 
 pub parent_of-put_in : (p : ℕ) (before : Option ℕ) (k : ℕ) (f : Forest) (q : ℕ) → IsForest f → CanPut p k f → parent_of (put_in p before k f) q ≡ cond (eqb q k) (Some p) (parent_of f q)
-parent_of-put_in p before k f q h c = grind (arith, spot-put_in p before k f q h c, eqb_tells q k, c.there, is_some-spot f k)
+unfolding put_in
+parent_of-put_in p before k f q h1 h2 = rootedLookups.parent_of-put_in key_of p before k f q (ordered h1) h2
 
 pub children_of-put_in : (p : ℕ) (before : Option ℕ) (k : ℕ) (f : Forest) (q : ℕ) → IsForest f → CanPut p k f → children_of (put_in p before k f) q ≡ cond (eqb q p) (names_with before (k ∷ []) (children_of f q)) (children_of f q)
-children_of-put_in p before k f q h c = grind (arith, spot-put_in p before k f q h c, eqb_tells q p, c.parent, is_some-spot f p)
+unfolding put_in
+children_of-put_in p before k f q h1 h2 = rootedLookups.children_of-put_in key_of p before k f q (ordered h1) h2
 
 -- ---- after the detached trees are dropped
 

@@ -1,22 +1,20 @@
 -- The laws of records: what each edit does to the links at a key, and that records determine a forest.
-use Rattle.std.proofs.Common.{◌≡◌, ◌≢◌, ℕ, ◌+◌, ◌-◌, Bool, true, false, cond, eqb, ◌&&◌, not, List, [], ◌∷◌, length, Option, None, Some, refl, sym, ap, ◌∙◌, arith, ◌⊎◌, inl, inr}
-use Rattle.std.specs.Prelude.{is_some, is_none, option_map}
-use Rattle.std.proofs.lemmas.Option.{same_Some}
+use Rattle.std.proofs.Common.{◌≡◌, ◌≢◌, ℕ, true, false, cond, eqb, Option, None, Some, sym, ◌∙◌, arith, ◌⊎◌, inl, inr}
+use Rattle.std.specs.Prelude.{is_some, option_map}
 use Rattle.std.proofs.lemmas.Bool.{cases_Bool}
-use Rattle.std.proofs.lemmas.Bool.Decides.{eqb_tells}
-use Rattle.lx_node.specs.Siblings.{is_named, is_among, NoRepeats, first_of, last_of, next_in, previous_in, names_without, names_with, is_place, place_behind}
-use Rattle.lx_node.specs.Spots.{Spot, parent_at, children_at}
+use Rattle.lx_node.specs.Siblings.{is_named, is_among, next_in, previous_in, is_place, place_behind}
 use Rattle.lx_node.specs.declared.fields.Fields.{Fields}
-use Rattle.lx_node.proofs.Siblings.{last_from-apart, previous_from-apart, is_named_tells, names_without-absent_list, first_of-names_without, last_of-names_without, length-names_without, next_in-names_without, previous_from-names_without, is_none-previous_in, is_none-next_in, same_names, length-names_with, first_of-names_with, last_of-names_with, next_in-names_with, previous_in-names_with, next_in-names_with_self, previous_in-names_with_self}
+use Rattle.lx_node.proofs.Siblings.{is_named_tells}
 use Rattle.lx_forest.specs.Forest.{Label, Forest}
-use Rattle.lx_forest.specs.Lookups.{has, spot, label_of, first_child, parent_of, children_of, siblings, previous_of, next_of, is_attached, IsForest}
-use Rattle.lx_forest.specs.Edits.{with_new, with_fields, take_out, put_in, drop_detached, CanPut, reset, taken, placed}
+use Rattle.lx_forest.specs.Lookups.{key_of, has, spot, parent_of, children_of, siblings, previous_of, next_of, is_attached, IsForest}
+use Rattle.lx_forest.specs.Edits.{with_new, with_fields, take_out, put_in, drop_detached, CanPut, reset}
 use Rattle.lx_forest.specs.Records.{Record, linked, record_at, IsRecordOf, StandsFor, lone, refielded, unlinked, linked_in}
-use Rattle.lx_forest.proofs.Edits.{spot-with_new, spot-with_fields, spot-take_out, spot-put_in, spot-drop_detached, is_some-spot, option_map-map, option_map-agree}
-use Rattle.lx_forest.proofs.Lookups.{is_among-children_of, NoRepeats-children_of}
-use Rattle.lx_forest.proofs.Order.{same_forest}
-use Rattle.lx_forest.proofs.Siblings.{parent_of-next, parent_of-previous, NoRepeats-siblings, siblings-with_new, siblings-with_fields, siblings-take_out, siblings-take_out_self, siblings-put_in, siblings-put_in_self, siblings-drop_detached}
+use Rattle.lx_forest.proofs.Edits.{spot-with_fields, spot-drop_detached, option_map-map}
+use Rattle.lx_forest.proofs.Lookups.{is_among-children_of}
+use Rattle.lx_forest.proofs.Siblings.{parent_of-next, parent_of-previous, siblings-with_fields, siblings-drop_detached}
 use Rattle.lx_forest.proofs.Walks.{cases_option}
+use Rattle.lx_rooted.proofs.Records as rootedRecords
+use Rattle.lx_forest.proofs.Ordered.{ordered}
 
 -- ---- beside one another
 
@@ -53,59 +51,19 @@ beside f q k h =
       ]
     ]
 
--- k is a child of q, and its siblings are these, or it isn't
-below : (f : Forest) (q k : ℕ) → IsForest f →
-    ((is_among k (children_of f q) ≡ true) × (is_named (parent_of f k) q ≡ true) × (previous_of f k ≡ previous_in (children_of f q) k) × (next_of f k ≡ next_in (children_of f q) k))
-    ⊎ ((is_among k (children_of f q) ≡ false) × (is_named (parent_of f k) q ≡ false))
-below f q k h =
-    elim (is_named_tells (parent_of f k) q) [
-      | inl child ↦ inl (is_among-children_of f k q h ∙ child.0, child.0, rw child.1, rw child.1)
-      | inr other ↦ inr (is_among-children_of f k q h ∙ other.0, other.0)
-    ]
-
-is_some-option_map : {X Y : Type 0} (f : X → Y) (o : Option X) → is_some (option_map f o) ≡ is_some o
-is_some-option_map f None = refl
-is_some-option_map f (Some x) = refl
-
 -- ---- what a record shows
 
 pub is_some-record_at : (f : Forest) (q : ℕ) → is_some (record_at f q) ≡ has q f
-is_some-record_at f q = is_some-option_map (linked (siblings f q) q) (spot f q) ∙ is_some-spot f q
-
-shows_from : (f : Forest) (q : ℕ) (r : Record) (s : Spot Label) → spot f q ≡ Some s → linked (siblings f q) q s ≡ r → IsRecordOf f q r
-shows_from f q r s at same =
-    record {
-      label = ap (option_map (λ (x : Spot Label). x.label)) at ∙ ap (λ (x : Record). Some x.label) same;
-      parent = ap parent_at at ∙ ap (λ (x : Record). x.parent) same;
-      prev = ap (λ (x : Record). x.prev) same;
-      next = ap (λ (x : Record). x.next) same;
-      first = ap (λ o. first_of (children_at o)) at ∙ ap (λ (x : Record). x.first) same;
-      last = ap (λ o. last_of (children_at o)) at ∙ ap (λ (x : Record). x.last) same;
-      size = ap (λ o. length (children_at o)) at ∙ ap (λ (x : Record). x.size) same;
-    }
+is_some-record_at f q = rootedRecords.is_some-record_at key_of f q
 
 pub IsRecordOf-record_at : (f : Forest) (q : ℕ) (r : Record) → record_at f q ≡ Some r → IsRecordOf f q r
-IsRecordOf-record_at f q r e =
-    elim (cases_option (spot f q)) [
-      | inl none ↦ absurd (grind (arith, ap (option_map (linked (siblings f q) q)) none, e))
-      | inr (s, at) ↦ shows_from f q r s at (same_Some _ _ (sym (ap (option_map (linked (siblings f q) q)) at) ∙ e))
-    ]
-
--- ---- equal records
-
-same_record : (l : Label) (p p' a a' b b' c c' d d' : Option ℕ) (n n' : ℕ) → p ≡ p' → a ≡ a' → b ≡ b' → c ≡ c' → d ≡ d' → n ≡ n' →
-    ◌≡◌ {A = Record} (record { label = l; parent = p; prev = a; next = b; first = c; last = d; size = n }) (record { label = l; parent = p'; prev = a'; next = b'; first = c'; last = d'; size = n' })
-same_record l p p' a a' b b' c c' d d' n n' e1 e2 e3 e4 e5 e6 = rw (e1, e2, e3, e4, e5, e6)
+IsRecordOf-record_at f q r h1 = rootedRecords.IsRecordOf-record_at key_of f q r h1
 
 -- ---- new and set
 
 pub record_at-with_new : (l : Label) (f : Forest) (q : ℕ) → IsForest f → has l.key f ≡ false → record_at (with_new l f) q ≡ cond (eqb q l.key) (Some (lone l)) (record_at f q)
-record_at-with_new l f q h free =
-    elim (eqb_tells q l.key) [
-      | inl own ↦
-          rw (spot-with_new l f q h free, own.0)
-      | inr other ↦ rw (siblings-with_new l f q h free, spot-with_new l f q h free, other.0)
-    ]
+unfolding with_new
+record_at-with_new l f q h1 h2 = rootedRecords.record_at-with_new key_of l f q (ordered h1) h2
 
 pub record_at-with_fields : (k : ℕ) (fields : Fields) (f : Forest) (q : ℕ) → record_at (with_fields k fields f) q ≡ option_map (refielded k fields q) (record_at f q)
 record_at-with_fields k fields f q =
@@ -114,115 +72,15 @@ record_at-with_fields k fields f q =
 
 -- ---- take
 
--- the lists of one parent, without k
-take_first : (xs : List ℕ) (k : ℕ) → NoRepeats xs → is_among k xs ≡ true → first_of (names_without k xs) ≡ cond (is_none (previous_in xs k)) (next_in xs k) (first_of xs)
-take_first xs k u e = first_of-names_without k xs u ∙ ap (λ b. cond b (next_in xs k) (first_of xs)) (sym (is_none-previous_in xs k u e))
-
-take_last : (xs : List ℕ) (k : ℕ) → NoRepeats xs → is_among k xs ≡ true → last_of (names_without k xs) ≡ cond (is_none (next_in xs k)) (previous_in xs k) (last_of xs)
-take_last xs k u e = last_of-names_without k xs u ∙ ap (λ b. cond b (previous_in xs k) (last_of xs)) (sym (is_none-next_in xs k u e))
-
-take_size : (xs : List ℕ) (k : ℕ) → NoRepeats xs → is_among k xs ≡ true → length (names_without k xs) ≡ length xs - 1
-take_size xs k u e = grind (arith, length-names_without k xs u)
-
-take_beside : (xs : List ℕ) (q k : ℕ) (prev next : Option ℕ) → NoRepeats xs → eqb q k ≡ false →
-    ((is_among k xs ≡ true) × (prev ≡ previous_in xs k) × (next ≡ next_in xs k)) ⊎ ((is_among k xs ≡ false) × (is_named prev q ≡ false) × (is_named next q ≡ false)) →
-    (previous_in (names_without k xs) q ≡ cond (is_named next q) prev (previous_in xs q)) × (next_in (names_without k xs) q ≡ cond (is_named prev q) next (next_in xs q))
-take_beside xs q k prev next u d (inl c) =
-    (rw (c.1, c.2) (previous_from-names_without None k q xs u d), rw (c.1, c.2) (next_in-names_without k q xs u d))
-take_beside xs q k prev next u d (inr c) = (rw (c.2, names_without-absent_list k xs c.0), rw (c.1, names_without-absent_list k xs c.0))
-
-take_below : (xs : List ℕ) (q k : ℕ) (parent prev next : Option ℕ) → NoRepeats xs →
-    ((is_among k xs ≡ true) × (is_named parent q ≡ true) × (prev ≡ previous_in xs k) × (next ≡ next_in xs k)) ⊎ ((is_among k xs ≡ false) × (is_named parent q ≡ false)) →
-    (first_of (names_without k xs) ≡ cond (is_named parent q && is_none prev) next (first_of xs)) × (last_of (names_without k xs) ≡ cond (is_named parent q && is_none next) prev (last_of xs)) × (length (names_without k xs) ≡ cond (is_named parent q) (length xs - 1) (length xs))
-take_below xs q k parent prev next u (inl c) = (rw (c.1, c.2, c.3) (take_first xs k u c.0), rw (c.1, c.2, c.3) (take_last xs k u c.0), rw c.1 (take_size xs k u c.0))
-take_below xs q k parent prev next u (inr c) = (rw (c.1, names_without-absent_list k xs c.0), rw (c.1, names_without-absent_list k xs c.0), rw (c.1, names_without-absent_list k xs c.0))
-
-take_links : (k : ℕ) (f : Forest) (n : Record) (q : ℕ) (s : Spot Label) → IsForest f → record_at f k ≡ Some n → spot f q ≡ Some s →
-    linked (siblings (take_out k f) q) q (taken k q s) ≡ unlinked k n q (linked (siblings f q) q s)
-take_links k f n q s h e at =
-    let parts = IsRecordOf-record_at f k n e in
-    let kids : children_of f q ≡ s.children = ap children_at at in
-    let unrepeated : NoRepeats s.children = rw kids at (NoRepeats-children_of f q h) in
-    let own = take_below s.children q k n.parent n.prev n.next unrepeated (rw (parts.prev, parts.next, parts.parent, kids) at (below f q k h)) in
-    let side : (previous_in (siblings (take_out k f) q) q ≡ cond (eqb q k) None (cond (is_named n.next q) n.prev (previous_in (siblings f q) q))) × (next_in (siblings (take_out k f) q) q ≡ cond (eqb q k) None (cond (is_named n.prev q) n.next (next_in (siblings f q) q))) =
-    elim (eqb_tells q k) [
-      | inl is ↦ (rw (is.0, is.1, siblings-take_out_self k f h), rw (is.0, is.1, siblings-take_out_self k f h))
-      | inr other ↦
-          let lists = take_beside (siblings f q) q k n.prev n.next (NoRepeats-siblings f q h) other.0 (rw (parts.prev, parts.next) at (beside f q k h)) in
-          (rw (siblings-take_out k f q h other.0, other.0) lists.0, rw (siblings-take_out k f q h other.0, other.0) lists.1)
-    ] in
-    same_record s.label _ _ _ _ _ _ _ _ _ _ _ _ refl side.0 side.1 own.0 own.1 own.2
-
 pub record_at-take_out : (k : ℕ) (f : Forest) (n : Record) (q : ℕ) → IsForest f → record_at f k ≡ Some n → record_at (take_out k f) q ≡ option_map (unlinked k n q) (record_at f q)
-record_at-take_out k f n q h e =
-    ap (option_map (linked (siblings (take_out k f) q) q)) (spot-take_out k f q h)
-    ∙ option_map-map (linked (siblings (take_out k f) q) q) (taken k q) (spot f q)
-    ∙ option_map-agree (λ s. linked (siblings (take_out k f) q) q (taken k q s)) (λ s. unlinked k n q (linked (siblings f q) q s)) (spot f q) (λ s at. take_links k f n q s h e at)
-    ∙ sym (option_map-map (unlinked k n q) (linked (siblings f q) q) (spot f q))
+unfolding take_out
+record_at-take_out k f n q h1 h2 = rootedRecords.record_at-take_out key_of k f n q (ordered h1) h2
 
 -- ---- put
 
-cond-not : {X : Type 0} (b : Bool) (x y : X) → cond b x y ≡ cond (not b) y x
-cond-not true x y = refl
-cond-not false x y = refl
-
-put_own : (before : Option ℕ) (k : ℕ) (xs : List ℕ) → is_place before xs ≡ true →
-    (first_of (names_with before (k ∷ []) xs) ≡ cond (is_none (place_behind before xs)) (Some k) (first_of xs)) × (last_of (names_with before (k ∷ []) xs) ≡ cond (is_none before) (Some k) (last_of xs)) × (length (names_with before (k ∷ []) xs) ≡ length xs + 1)
-put_own before k xs place =
-    (first_of-names_with before k xs place ∙ cond-not (is_some (place_behind before xs)) (first_of xs) (Some k), last_of-names_with before k xs place ∙ cond-not (is_some before) (last_of xs) (Some k), length-names_with before k xs)
-
-not_before : (before : Option ℕ) (xs : List ℕ) (q : ℕ) → is_place before xs ≡ true → is_among q xs ≡ false → is_named before q ≡ false
-not_before None xs q place absent = refl
-not_before (Some c) xs q place absent = grind (arith, eqb_tells q c)
-
-not_behind : (before : Option ℕ) (xs : List ℕ) (q : ℕ) → is_among q xs ≡ false → is_named (place_behind before xs) q ≡ false
-not_behind None xs q absent = last_from-apart None xs q refl absent
-not_behind (Some c) xs q absent = previous_from-apart None xs c q refl absent
-
-put_links : (p : ℕ) (before : Option ℕ) (k : ℕ) (f : Forest) (q : ℕ) (s : Spot Label) → IsForest f → CanPut p k f → is_place before (children_of f p) ≡ true → spot f q ≡ Some s →
-    linked (siblings (put_in p before k f) q) q (placed p before k q s) ≡ linked_in p (place_behind before (children_of f p)) before k q (linked (siblings f q) q s)
-put_links p before k f q s h c place at =
-    let kids : children_of f q ≡ s.children = ap children_at at in
-    let stranger : is_among k (children_of f p) ≡ false = is_among-children_of f k p h ∙ ap (λ o. is_named o p) c.detached in
-    let own : (first_of (cond (eqb q p) (names_with before (k ∷ []) s.children) s.children) ≡ cond (eqb q p && is_none (place_behind before (children_of f p))) (Some k) (first_of s.children))
-    × (last_of (cond (eqb q p) (names_with before (k ∷ []) s.children) s.children) ≡ cond (eqb q p && is_none before) (Some k) (last_of s.children))
-    × (length (cond (eqb q p) (names_with before (k ∷ []) s.children) s.children) ≡ cond (eqb q p) (length s.children + 1) (length s.children)) =
-    elim (eqb_tells q p) [
-      | inl is ↦
-          let here : children_of f p ≡ s.children = ap (children_of f) (sym is.1) ∙ kids in
-          let lists = put_own before k s.children (rw here at place) in
-          (rw (is.0, here) lists.0, rw is.0 lists.1, rw is.0 lists.2)
-      | inr other ↦ (rw other.0, rw other.0, rw other.0)
-    ] in
-    let side : (previous_in (siblings (put_in p before k f) q) q ≡ cond (eqb q k) (place_behind before (children_of f p)) (cond (is_named before q) (Some k) (previous_in (siblings f q) q)))
-    × (next_in (siblings (put_in p before k f) q) q ≡ cond (eqb q k) before (cond (is_named (place_behind before (children_of f p)) q) (Some k) (next_in (siblings f q) q))) =
-    elim (eqb_tells q k) [
-      | inl is ↦ (
-        rw (is.0, is.1, siblings-put_in_self p before k f h c) (previous_in-names_with_self before k (children_of f p) stranger place),
-        rw (is.0, is.1, siblings-put_in_self p before k f h c) (next_in-names_with_self before k (children_of f p) stranger place),
-      )
-      | inr other ↦ elim (is_named_tells (parent_of f q) p) [
-        | inl child ↦
-            let here : siblings f q ≡ children_of f p = rw child.1 in (
-              rw (siblings-put_in p before k f q h c other.0, other.0, child.0, here) (previous_in-names_with before k q (children_of f p) place other.0),
-              rw (siblings-put_in p before k f q h c other.0, other.0, child.0, here) (next_in-names_with before k q (children_of f p) (NoRepeats-children_of f p h) place other.0),
-            )
-        | inr apart ↦
-            let absent : is_among q (children_of f p) ≡ false = is_among-children_of f q p h ∙ apart.0 in (
-              rw (siblings-put_in p before k f q h c other.0, other.0, apart.0, not_before before (children_of f p) q place absent),
-              rw (siblings-put_in p before k f q h c other.0, other.0, apart.0, not_behind before (children_of f p) q absent),
-            )
-      ]
-    ] in
-    same_record s.label _ _ _ _ _ _ _ _ _ _ _ _ refl side.0 side.1 own.0 own.1 own.2
-
-pub record_at-put_in : (p : ℕ) (before : Option ℕ) (k : ℕ) (f : Forest) (q : ℕ) → IsForest f → CanPut p k f → is_place before (children_of f p) ≡ true →
-    record_at (put_in p before k f) q ≡ option_map (linked_in p (place_behind before (children_of f p)) before k q) (record_at f q)
-record_at-put_in p before k f q h c place =
-    ap (option_map (linked (siblings (put_in p before k f) q) q)) (spot-put_in p before k f q h c)
-    ∙ option_map-map (linked (siblings (put_in p before k f) q) q) (placed p before k q) (spot f q)
-    ∙ option_map-agree (λ s. linked (siblings (put_in p before k f) q) q (placed p before k q s)) (λ s. linked_in p (place_behind before (children_of f p)) before k q (linked (siblings f q) q s)) (spot f q) (λ s at. put_links p before k f q s h c place at)
-    ∙ sym (option_map-map (linked_in p (place_behind before (children_of f p)) before k q) (linked (siblings f q) q) (spot f q))
+pub record_at-put_in : (p : ℕ) (before : Option ℕ) (k : ℕ) (f : Forest) (q : ℕ) → IsForest f → CanPut p k f → is_place before (children_of f p) ≡ true → record_at (put_in p before k f) q ≡ option_map (linked_in p (place_behind before (children_of f p)) before k q) (record_at f q)
+unfolding put_in
+record_at-put_in p before k f q h1 h2 h3 = rootedRecords.record_at-put_in key_of p before k f q (ordered h1) h2 h3
 
 -- ---- the detached trees dropped
 
@@ -235,44 +93,9 @@ record_at-drop_detached f q h =
 
 -- ---- records determine a forest
 
-same_spot_parts : (o r : Option (Spot Label)) → option_map (λ s. s.label) o ≡ option_map (λ s. s.label) r → parent_at o ≡ parent_at r → children_at o ≡ children_at r → o ≡ r
-same_spot_parts None None e p c = refl
-same_spot_parts None (Some s) e p c = absurd (grind arith)
-same_spot_parts (Some s) None e p c = absurd (grind arith)
-same_spot_parts (Some s) (Some t) e p c =
-    let label : s.label ≡ t.label = same_Some s.label t.label e in
-    rw (label, p, c)
-
-no_spot : (f : Forest) (q : ℕ) → record_at f q ≡ None → spot f q ≡ None
-no_spot f q none = grind (arith, ap is_some none, is_some-record_at f q, is_some-spot f q)
-
-same_links : (f g : Forest) (q : ℕ) → record_at f q ≡ record_at g q → (label_of f q ≡ label_of g q) × (parent_of f q ≡ parent_of g q) × (next_of f q ≡ next_of g q) × (first_child f q ≡ first_child g q)
-same_links f g q e =
-    elim (cases_option (record_at f q)) [
-      | inl none ↦
-          let x : spot f q ≡ None = no_spot f q none in
-          let y : spot g q ≡ None = no_spot g q (sym e ∙ none) in
-          (rw (x, y), rw (x, y), rw (x, y), rw (x, y))
-      | inr (r, some) ↦
-          let x = IsRecordOf-record_at f q r some in
-          let y = IsRecordOf-record_at g q r (sym e ∙ some) in
-          (x.label ∙ sym y.label, x.parent ∙ sym y.parent, x.next ∙ sym y.next, x.first ∙ sym y.first)
-    ]
-
-same_spots : (f g : Forest) (q : ℕ) → IsForest f → IsForest g → ((q : ℕ) → record_at f q ≡ record_at g q) → spot f q ≡ spot g q
-same_spots f g q h i same =
-    let here = same_links f g q (same q) in
-    same_spot_parts (spot f q) (spot g q) here.0 here.1
-    (same_names (children_of f q) (children_of g q) (NoRepeats-children_of f q h) (NoRepeats-children_of g q i) here.3
-    (λ x among.
-    let up : parent_of f x ≡ Some q = grind (arith, among, is_among-children_of f x q h, is_named_tells (parent_of f x) q) in
-    let there = same_links f g x (same x) in
-    let up' : parent_of g x ≡ Some q = sym there.1 ∙ up in
-    rw (up, up') at there.2))
-
 -- forests in order with equal records are equal
 pub same_from_records : (f g : Forest) → IsForest f → IsForest g → ((q : ℕ) → record_at f q ≡ record_at g q) → f ≡ g
-same_from_records f g h i same = same_forest f g h i (λ q. same_spots f g q h i same)
+same_from_records f g h1 h2 h3 = rootedRecords.same_from_records key_of f g (ordered h1) (ordered h2) h3
 
 -- a map stands for one forest
 pub StandsFor-unique : (get : ℕ → Option Record) (f g : Forest) → StandsFor get f → StandsFor get g → f ≡ g

@@ -1,27 +1,30 @@
 -- The laws of ways through a forest: up from a key, and through the root's tree in preorder.
-use Rattle.std.proofs.Common.{◌≡◌, ◌≢◌, ℕ, ◌+◌, ◌<◌, true, false, cond, ◌&&◌, List, [], ◌∷◌, length, Option, None, Some, refl, sym, ap, ◌∙◌, arith, ◌⊎◌, inl, inr}
+use Rattle.std.proofs.Common.{◌≡◌, ◌≢◌, ℕ, ◌+◌, ◌<◌, true, false, cond, ◌&&◌, List, [], ◌∷◌, length, Option, None, Some, refl, sym, ap, ◌∙◌, arith, inl, inr}
 use Rattle.std.specs.Prelude.{is_some, option_map}
 use Rattle.std.proofs.lemmas.Bool.Decides.{eqb_tells, nat_tests}
 use Rattle.std.specs.declared.cmp.Ordering.TheVariants.{Less, Equal, Greater}
 use Rattle.lx_node.specs.NamedTrees.{total}
 use Rattle.lx_node.specs.NamedTrees as named
 use Rattle.lx_node.specs.Siblings.{is_among, first_of, index_in, ComesBefore, NoRepeats}
-use Rattle.lx_node.proofs.NamedTrees.{is_among-preorder, NoRepeats-preorder, count-without-alone, names-alone}
+use Rattle.lx_node.proofs.NamedTrees.{count-without-alone, names-alone}
 use Rattle.lx_node.proofs.Siblings.{is_some-index_in, is_named_tells}
-use Rattle.lx_node.proofs.Subtrees.{count-alone-le, total-alone_child-lt, alone-alone}
+use Rattle.lx_node.proofs.Subtrees.{total-alone_child-lt, alone-alone}
 use Rattle.lx_node.proofs.Walks as walks
 use Rattle.lx_forest.specs.Forest.{Forest}
 use Rattle.lx_forest.specs.Lookups.{key_of, count, has, roots, alone, spot, parent_of, children_of, first_child, next_of, is_within, is_attached, ancestors, depth, preorder, from, behind, order_between, order_of, IsForest}
 use Rattle.lx_forest.specs.Edits.{drop_detached}
-use Rattle.lx_forest.proofs.Edits.{has-root, parent_of-root, is_some-spot, spot-drop_detached}
+use Rattle.lx_forest.proofs.Edits.{has-root, spot-drop_detached}
 use Rattle.lx_forest.proofs.Lookups.{is_among-children_of}
-use Rattle.lx_forest.proofs.Within.{is_within-self, is_within-up, is_within-top}
+use Rattle.lx_rooted.proofs.Walks as rootedWalks
+use Rattle.lx_rooted.proofs.Up as rootedUp
+pub use Rattle.lx_rooted.proofs.Walks.{cases_option}
+use Rattle.lx_forest.proofs.Ordered.{ordered}
 
 -- ---- up
 
 -- what stands nowhere has no parent
 pub no_parent : (f : Forest) (q : ℕ) → has q f ≡ false → parent_of f q ≡ None
-no_parent f q absent = grind (arith, absent, is_some-spot f q)
+no_parent f q h1 = rootedWalks.no_parent key_of f q h1
 
 pub ancestors-top : (f : Forest) (q : ℕ) → parent_of f q ≡ None → ancestors f q ≡ []
 ancestors-top f q up = walks.ancestors-top key_of f q up
@@ -39,21 +42,17 @@ total-alone-lt f q p h up = total-alone_child-lt key_of f q p h.once up
 
 -- a child is attached just where its parent is
 pub is_attached-up : (f : Forest) (q p : ℕ) → IsForest f → parent_of f q ≡ Some p → is_attached f q ≡ is_attached f p
-is_attached-up f q p h up = is_within-up f 0 q p h up (λ e. grind (arith, e, up, parent_of-root f h))
+is_attached-up f q p h1 h2 = rootedWalks.is_attached-up key_of f q p (ordered h1) h2
 
 -- of the keys without a parent only the root is attached
 pub is_attached-top : (f : Forest) (q : ℕ) → IsForest f → parent_of f q ≡ None → q ≢ 0 → is_attached f q ≡ false
-is_attached-top f q h up other = is_within-top f 0 q h up other
+is_attached-top f q h1 h2 h3 = rootedWalks.is_attached-top key_of f q (ordered h1) h2 h3
 
 pub depth-root : (f : Forest) → IsForest f → depth f 0 ≡ Some 0
-depth-root f h = rw (is_within-self f 0, has-root f h, ancestors-top f 0 (parent_of-root f h))
+depth-root f h = rootedUp.depth-root key_of f (ordered h)
 
 pub depth-step : (f : Forest) (q p : ℕ) → IsForest f → parent_of f q ≡ Some p → depth f q ≡ option_map (λ d. d + 1) (depth f p)
-depth-step f q p h up = grind (arith, is_attached-up f q p h up, ap length (ancestors-step f q p h up))
-
-pub cases_option : {X : Type 0} (o : Option X) → (o ≡ None) ⊎ ((x : X) × (o ≡ Some x))
-cases_option None = inl refl
-cases_option (Some x) = inr (x, refl)
+depth-step f q p h up = rootedUp.depth-step key_of f q p (ordered h) up
 
 -- ---- preorder
 
@@ -62,14 +61,14 @@ unfolding drop_detached
 spot_in_tree f q h = spot-drop_detached f q h
 
 pub tree_distinct : (f : Forest) → IsForest f → named.IsDistinct key_of (alone 0 f)
-tree_distinct f h q = omega (arith, count-alone-le key_of q 0 f, h.once q)
+tree_distinct f h = rootedWalks.tree_distinct key_of f (ordered h)
 
 -- the keys of preorder are the attached ones, each once
 pub is_among-preorder_of : (f : Forest) (q : ℕ) → is_among q (preorder f) ≡ is_attached f q
-is_among-preorder_of f q = is_among-preorder key_of q (alone 0 f)
+is_among-preorder_of f q = rootedWalks.is_among-preorder_of key_of f q
 
 pub NoRepeats-preorder_of : (f : Forest) → IsForest f → NoRepeats (preorder f)
-NoRepeats-preorder_of f h = NoRepeats-preorder key_of (alone 0 f) (tree_distinct f h)
+NoRepeats-preorder_of f h = rootedWalks.NoRepeats-preorder_of key_of f (ordered h)
 
 root_first : (f : Forest) → IsForest f → roots (alone 0 f) ≡ 0 ∷ []
 root_first f h = names-alone key_of 0 f (grind (arith, h.once 0, has-root f h))

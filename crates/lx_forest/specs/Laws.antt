@@ -2,11 +2,13 @@
 use Rattle.std.specs.Prelude.{ℕ, ◌+◌, ◌≡◌, ◌≢◌, ◌==◌, ◌&&◌, ◌||◌, not, true, false, if◌then◌else◌, [], ◌∷◌, ◌++◌, length, Option, None, Some, option_map}
 use Rattle.std.specs.List.{filter}
 use Rattle.std.specs.Option.{option_or}
+use Rattle.std.specs.Ordering.{ordering_reverse}
+use Rattle.lx_node.specs.Trees.{nil, tree, joined}
 use Rattle.lx_node.specs.Siblings.{first_of, index_in, names_with, is_place, place_behind}
 use Rattle.lx_node.specs.declared.fields.Fields.{Fields}
 use Rattle.lx_forest.specs.Forest.{Label, Forest}
 use Rattle.lx_forest.specs.Lookups.{has, spot, children_of, is_within, is_attached, ancestors, depth, keys_within, preorder, behind, order_between, order_of, IsForest}
-use Rattle.lx_forest.specs.Edits.{with_new, with_fields, take_out, put_in, drop_detached, CanPut, reset, taken, placed}
+use Rattle.lx_forest.specs.Edits.{with_new, with_fields, take_out, put_in, last_below, drop_detached, CanPut, reset, taken, placed, order_from_place}
 use Rattle.lx_forest.specs.Records.{Record, record_at, StandsFor, lone, refielded, unlinked, linked_in}
 
 -- where each key stands after each edit
@@ -71,6 +73,7 @@ pub record PreorderFollows : Type 0 where
 
 -- which of two keys comes first after an edit
 pub record OrderFollows : Type 0 where
+  pub turned : (f : Forest) (a b : ℕ) → order_of f b a ≡ option_map ordering_reverse (order_of f a b)
   pub new : (l : Label) (f : Forest) (a b : ℕ) → IsForest f → has l.key f ≡ false → order_of (with_new l f) a b ≡ order_of f a b
   pub set : (k : ℕ) (fields : Fields) (f : Forest) (a b : ℕ) → order_of (with_fields k fields f) a b ≡ order_of f a b
   pub take : (k : ℕ) (f : Forest) (a b : ℕ) → IsForest f → k ≢ 0 →
@@ -80,6 +83,10 @@ pub record OrderFollows : Type 0 where
   pub put_inside : (p : ℕ) (before : Option ℕ) (k : ℕ) (f : Forest) (a b : ℕ) → IsForest f → CanPut p k f → is_place before (children_of f p) ≡ true →
       is_attached f p ≡ true → is_within f k a ≡ true → is_within f k b ≡ true →
       order_of (put_in p before k f) a b ≡ order_between (index_in (keys_within f k) a) (index_in (keys_within f k) b)
+  pub put_across : (p : ℕ) (before : Option ℕ) (k : ℕ) (f : Forest) (a b : ℕ) → IsForest f → CanPut p k f → is_place before (children_of f p) ≡ true →
+      is_attached f p ≡ true → is_within f k a ≡ true → is_within f k b ≡ false → order_of (put_in p before k f) a b ≡ order_from_place f p before b
+  pub put_detached : (p : ℕ) (before : Option ℕ) (k : ℕ) (f : Forest) (a b : ℕ) → IsForest f → CanPut p k f →
+      is_attached f p ≡ false → order_of (put_in p before k f) a b ≡ order_of f a b
   pub drop : (f : Forest) (a b : ℕ) → IsForest f → order_of (drop_detached f) a b ≡ order_of f a b
 
 -- a forest in order is determined by where its keys stand, and by the records that stand for it
@@ -97,3 +104,9 @@ pub record RecordsFollow : Type 0 where
   pub put : (p : ℕ) (before : Option ℕ) (k : ℕ) (f : Forest) (q : ℕ) → IsForest f → CanPut p k f → is_place before (children_of f p) ≡ true →
       record_at (put_in p before k f) q ≡ option_map (linked_in p (place_behind before (children_of f p)) before k q) (record_at f q)
   pub drop : (f : Forest) (q : ℕ) → IsForest f → record_at (drop_detached f) q ≡ (if is_attached f q then record_at f q else None)
+
+-- trees behind the children of a node come by primitive edits: a new node, then the trees below it, and more behind it
+pub record BuildingFollows : Type 0 where
+  pub new : (p : ℕ) (l : Label) (f : Forest) → has l.key f ≡ false → put_in p None l.key (with_new l f) ≡ last_below p (tree l nil nil) f
+  pub below : (p : ℕ) (l : Label) (s f : Forest) → has l.key f ≡ false → p ≢ l.key → last_below l.key s (last_below p (tree l nil nil) f) ≡ last_below p (tree l s nil) f
+  pub behind : (p : ℕ) (new more f : Forest) → has p new ≡ false → last_below p more (last_below p new f) ≡ last_below p (joined new more) f

@@ -2,5 +2,8 @@ pub mod Edits
 pub mod Forest
 pub mod Laws
 pub mod Lookups
+pub mod Loose
 pub mod Records
 pub mod Views
+pub mod Weights
+pub mod Suited

@@ -1,12 +1,13 @@
 -- What a forest says of a key: where the key stands, and all that is read from that.
-use Rattle.std.specs.Prelude.{ℕ, ◌<◌, ◌≡◌, ◌==◌, ◌&&◌, Bool, true, false, nat_lt, if◌then◌else◌, List, [], ◌∷◌, length, Option, None, Some, option_map}
+use Rattle.std.specs.Prelude.{ℕ, ◌<◌, ◌≡◌, Bool, true, List, length, Option, Some, option_map}
 use Rattle.std.specs.declared.cmp.Ordering.{Ordering}
-use Rattle.std.specs.Ordering.{nat_cmp}
 use Rattle.lx_node.specs.NamedTrees as named
 use Rattle.lx_node.specs.Siblings.{first_of, last_of, next_in, previous_in, index_in}
 use Rattle.lx_node.specs.Spots as spots
 use Rattle.lx_node.specs.Spots.{Spot, parent_at, children_at}
 use Rattle.lx_node.specs.Walks as walks
+pub use Rattle.lx_rooted.specs.Lookups.{rises_from, rises, order_between}
+use Rattle.lx_rooted.specs.Lookups as rooted
 use Rattle.lx_node.specs.declared.kind.Kind.{Kind}
 use Rattle.lx_node.specs.declared.kind.Kind.TheVariants.{Root}
 use Rattle.lx_node.specs.declared.fields.Fields.{Fields}
@@ -67,8 +68,7 @@ last_child f q = last_of (children_of f q)
 
 -- the children of a parent, if there is one
 abbrev pub children_below : Forest → Option ℕ → List ℕ
-children_below f None = []
-children_below f (Some p) = children_of f p
+children_below f o = rooted.children_below key_of f o
 
 -- the keys of the list in which a key stands, itself among them: none where it has no parent
 abbrev pub siblings : Forest → ℕ → List ℕ
@@ -98,11 +98,11 @@ ancestors f q = walks.ancestors key_of f q
 
 -- how many keys stand above an attached one
 abbrev pub depth : Forest → ℕ → Option ℕ
-depth f q = if is_attached f q then Some (length (ancestors f q)) else None
+depth f q = rooted.depth key_of f q
 
 -- the keys of the tree of k, each before those below it, and those before its next siblings
 abbrev pub keys_within : Forest → ℕ → List ℕ
-keys_within f k = named.preorder key_of (alone k f)
+keys_within f k = rooted.keys_within key_of f k
 
 -- the keys of the root's tree
 abbrev pub preorder : Forest → List ℕ
@@ -110,28 +110,14 @@ preorder f = keys_within f 0
 
 -- of these, the ones from q on, and those behind the tree of q
 abbrev pub from : Forest → ℕ → List ℕ
-from f q = walks.from key_of (alone 0 f) q
+from f q = rooted.from key_of f q
 
 abbrev pub behind : Forest → ℕ → List ℕ
-behind f q = walks.behind key_of (alone 0 f) q
+behind f q = rooted.behind key_of f q
 
 -- which of two attached keys comes first in preorder
-abbrev pub order_between : Option ℕ → Option ℕ → Option Ordering
-order_between (Some i) (Some j) = Some (nat_cmp i j)
-order_between _ _ = None
-
 abbrev pub order_of : Forest → ℕ → ℕ → Option Ordering
-order_of f a b = order_between (index_in (preorder f) a) (index_in (preorder f) b)
-
--- each key is greater than the one before it, the first one than this
-abbrev pub rises_from : ℕ → List ℕ → Bool
-rises_from low [] = true
-rises_from low (x ∷ xs) = nat_lt low x && rises_from x xs
-
--- the root's key first, and then rising
-abbrev pub rises : List ℕ → Bool
-rises [] = false
-rises (x ∷ xs) = (x == 0) && rises_from 0 xs
+order_of f a b = rooted.order_of key_of f a b
 
 -- A forest is in order: no key stands twice, the first tree is the root's, and the detached trees behind it stand by their
 -- keys.

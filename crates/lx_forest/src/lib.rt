@@ -2,7 +2,7 @@
 //! is no code here. The functions below do nothing: their contracts are the laws that all else stands on.
 #![tactic(auto)]
 
-ghost use Rattle.lx_forest.specs.Laws.{SpotsFollow, OrderIsKept, TreesFollow, AncestorsFollow, DepthsFollow, PreorderFollows, OrderFollows, ForestsAreTold, RecordsFollow};
+ghost use Rattle.lx_forest.specs.Laws.{SpotsFollow, OrderIsKept, TreesFollow, AncestorsFollow, DepthsFollow, PreorderFollows, OrderFollows, ForestsAreTold, RecordsFollow, BuildingFollows};
 
 /// Where each key stands after each primitive edit, as one equation for all keys.
 pub fn spots_follow()
@@ -47,4 +47,9 @@ pub fn forests_are_told()
 /// The links of each node after each primitive edit, as one equation for all keys.
 pub fn records_follow()
     ensures { RecordsFollow }
+{}
+
+/// Trees come behind the children of a node by primitive edits: a new node put there, then those below it, and more behind.
+pub fn building_follows()
+    ensures { BuildingFollows }
 {}
