@@ -1,5 +1,5 @@
 -- Pages in a vector that is sorted by their numbers: what stands at a place, and what an edit at a place does.
-use Rattle.std.proofs.Common.{◌≡◌, ℕ, zero, suc, ◌/◌, ◌%◌, replicate, ◌<◌, ◌≤◌, true, false, cond, List, [], ◌∷◌, length, get_or, set, Option, Some, None, Result, Ok, Err, IfOk, IfErr, refl, sym, ap, ◌∙◌, subst, arith}
+use Rattle.std.proofs.Common.{◌≡◌, ℕ, zero, suc, ◌/◌, ◌%◌, replicate, ◌<◌, ◌≤◌, true, false, cond, List, [], ◌∷◌, length, get_or, set, Option, Some, None, option_map, Result, Ok, Err, IfOk, IfErr, refl, sym, ap, ◌∙◌, subst, arith}
 use Rattle.std.specs.declared.cmp.Ordering.TheVariants.{Less}
 use Rattle.std.specs.Ordering.{nat_cmp, ordering_index}
 use Rattle.std.specs.BTreeMap.{is_at}
@@ -8,8 +8,10 @@ use Rattle.std.specs.List.{AllByRecursion, insert, remove}
 use Rattle.std.specs.List.Sorted.{IsStrictlySortedBy, IsSearchInRange, IsBinarySearchResult, IsNonDecreasingBy}
 use Rattle.std.proofs.lemmas.Map.Keys.{sorted_head, sorted_tail}
 use Rattle.std.proofs.lemmas.Cmp.{ranked}
+use Rattle.std.proofs.lemmas.List.{set-get_or}
 use Rattle.std.proofs.lemmas.List.Sorted.{IsNonDecreasingBy-from_default}
 use Rattle.std.proofs.lemmas.Bool.Decides.{nat_tests}
+use Rattle.lx_store.specs.Edits.{with_item, with_edit}
 use Rattle.lx_store.specs.Pages.{slot_at, written, number_at, StandsAt, GoesAt, IsTable}
 use Rattle.std.specs.declared.rc.Rc.{Rc}
 use Rattle.std.specs.FinMap.{get, insert as with_key, remove as without_key}
@@ -178,6 +180,14 @@ module _ {X Z : Type 0} where
 
     pub kept_stands : (w : Rc (List (Option X)) Z) → w.value ≡ e.1.value → paged (set es place (e.0, w)) ≡ paged es
     kept_stands w same = kept_paged es (set es place (e.0, w)) n e.1 w table.0 (table_set w).0 stands_found (after_set w) same
+
+    pub edit_stands : (k i : ℕ) (w : Rc (List (Option X)) Z) (edited : X → X) → n ≡ k / 32 → i ≡ k % 32 → w.value ≡ written e.1.value i (option_map edited (slot_at e.1.value i)) → length e.1.value ≡ 32 → paged (set es place (e.0, w)) ≡ with_edit edited k (paged es)
+    edit_stands k i w edited number slot new size =
+        (elim (slot_at e.1.value i) as (λ o. slot_at e.1.value i ≡ o → paged (set es place (e.0, w)) ≡ with_item (paged es) k (option_map edited o)) [
+          | None ↦ λ none. kept_stands w (new ∙ ap (λ o. written e.1.value i (option_map edited o)) none ∙ ap (written e.1.value i) (sym none) ∙ set-get_or e.1.value i None)
+          | Some item ↦ λ some. put_stands k i w (edited item) number slot (new ∙ ap (λ o. written e.1.value i (option_map edited o)) some) size
+        ] refl)
+        ∙ ap (λ o. with_item (paged es) k (option_map edited o)) (sym (read_stands k i e.1.value number slot refl))
 
     -- the pages without the one at the place
     pub table_remove : IsTable (remove es place)

@@ -7,14 +7,14 @@
 #![tactic(auto)]
 
 mod copies;
+mod edit;
 mod item;
 mod node;
 mod page;
 mod store;
 mod table;
-#[cfg(test)]
-mod tests;
 
 pub use copies::Copies;
+pub use edit::Edit;
 pub use item::{Item, Tally};
 pub use store::Store;

@@ -1,8 +1,9 @@
-ghost use Rattle.std.specs.Prelude.{◌≡◌, ◌<◌, ◌≤◌, ◌+◌, ◌/◌, ◌%◌, ℕ, length, replicate, IfOk, IsTrue};
+ghost use Rattle.std.specs.Prelude.{◌≡◌, ◌<◌, ◌≤◌, ◌+◌, ◌/◌, ◌%◌, ℕ, length, replicate, is_some, option_map, IfSome, IfOk, IsTrue};
 ghost use Rattle.std.specs.Option.{option_copied};
 ghost use Rattle.std.specs.declared.option.Option.TheVariants.{None};
 ghost use Rattle.lx_store.specs.Pages.{slot_at, written};
 
+use crate::edit::Edit;
 use crate::item::Item;
 use lx_node::{Key, NoMemory};
 use std::alloc::Global;
@@ -70,6 +71,23 @@ impl<V: Item> Page<V> {
         ensures size { length self.old ≡ 32 }
     {
         std::mem::replace(&mut self.slots[slot as usize], item)
+    }
+
+    /// Edits the item in the slot, and tells whether there is one.
+    pub fn change<E: Edit<V>>(&mut self, slot: u32, edit: E) -> bool
+        requires slot { slot < 32 }
+        requires fits { IfSome (slot_at self.old slot) (E.fits edit) }
+        ensures found { result ≡ is_some (slot_at self.old slot) }
+        ensures changed { self.new ≡ written self.old slot (option_map (E.edited edit) (slot_at self.old slot)) }
+        ensures size { length self.old ≡ 32 }
+    {
+        match &mut self.slots[slot as usize] {
+            Some(item) => {
+                edit.edit(item);
+                true
+            }
+            None => false,
+        }
     }
 
     /// Whether no slot has an item.

@@ -1,7 +1,9 @@
-ghost use Rattle.std.specs.Prelude.{◌≡◌, ◌<◌, ◌≤◌, ◌+◌, IfOk, OnOk, OnErr};
+ghost use Rattle.std.specs.Prelude.{◌≡◌, ◌<◌, ◌≤◌, ◌+◌, is_some, IfSome, IfOk, OnOk, OnErr};
 ghost use Rattle.std.specs.Option.{option_copied};
 ghost use Rattle.std.specs.FinMap as map;
+ghost use Rattle.lx_store.specs.Edits.{with_edit};
 
+use crate::edit::Edit;
 use crate::item::Item;
 use crate::table::Table;
 use lx_node::{Key, NoMemory};
@@ -76,6 +78,25 @@ impl<V: Item> Store<V> {
             self.count += 1;
         }
         Ok(old)
+    }
+
+    /// Edits the item under the key where it stands, and tells whether there is one. Every other key keeps its
+    /// item. The count may have risen, by at most 32, also where memory was wanting; the store is then as it
+    /// was.
+    pub fn change<E: Edit<V>>(
+        &mut self,
+        key: Key,
+        edit: E,
+        count: &mut V::Count,
+    ) -> Result<bool, NoMemory>
+        requires { IfSome (map.get self.old key) (E.fits edit) }
+        ensures found { IfOk result (λ found. found ≡ is_some (map.get self.old key)) }
+        ensures changed { OnOk result (self.new ≡ with_edit (E.edited edit) key self.old) }
+        ensures unchanged { OnErr result (self.new ≡ self.old) }
+        ensures counted { V.Count.total count.old ≤ V.Count.total count.new }
+        ensures few_twinned { V.Count.total count.new ≤ V.Count.total count.old + 32 }
+    {
+        self.held.change(key, edit, count)
     }
 
     /// Takes out the item under the key, where there is one. Every other key keeps its item. The count may

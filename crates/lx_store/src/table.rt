@@ -1,12 +1,14 @@
-ghost use Rattle.std.specs.Prelude.{◌≡◌, [], ◌∷◌, ◌<◌, ◌≤◌, ◌+◌, ◌*◌, ◌++◌, length, take, replicate, IfOk, IfErr, OnOk, OnErr};
+ghost use Rattle.std.specs.Prelude.{◌≡◌, [], ◌∷◌, ◌<◌, ◌≤◌, ◌+◌, ◌*◌, ◌++◌, length, take, replicate, is_some, option_map, IfSome, IfOk, IfErr, OnOk, OnErr};
 ghost use Rattle.std.specs.Option.{option_copied};
 ghost use Rattle.std.specs.declared.option.Option.TheVariants.{None, Some};
 ghost use Rattle.std.specs.Ordering.{nat_cmp};
 ghost use Rattle.std.specs.List.Sorted.{IsStrictlySortedBy};
 ghost use Rattle.std.specs.Map.{keys_of};
 ghost use Rattle.std.specs.FinMap as map;
+ghost use Rattle.lx_store.specs.Edits.{with_edit};
 ghost use Rattle.lx_store.specs.Pages.{slot_at, written, keyed, StandsAt, GoesAt};
 
+use crate::edit::Edit;
 use crate::item::Item;
 use crate::page::{Page, SLOTS, number_of, slot_of};
 use lx_node::{Key, NoMemory};
@@ -89,6 +91,29 @@ impl<V: Item> Table<V> {
                 Ok(None)
             }
         }
+    }
+
+    /// Edits the item under the key, and tells whether there is one.
+    pub fn change<E: Edit<V>>(
+        &mut self,
+        key: Key,
+        edit: E,
+        count: &mut V::Count,
+    ) -> Result<bool, NoMemory>
+        requires { IfSome (map.get self.old key) (E.fits edit) }
+        ensures found { IfOk result (λ found. found ≡ is_some (map.get self.old key)) }
+        ensures changed { OnOk result (self.new ≡ with_edit (E.edited edit) key self.old) }
+        ensures unchanged { OnErr result (self.new ≡ self.old) }
+        ensures counted { V.Count.total count.old ≤ V.Count.total count.new }
+        ensures few_twinned { V.Count.total count.new ≤ V.Count.total count.old + 32 }
+    {
+        let number = number_of(key);
+        let slot = slot_of(key);
+        let Ok(place) = place(&self.pages, number) else {
+            return Ok(false);
+        };
+        let page = &mut self.pages[place].1;
+        Ok(change(page, slot, edit, self.alloc, count)?)
     }
 
     /// Takes out the item under the key, where there is one.
@@ -182,6 +207,38 @@ fn write<V: Item>(
             let old = copy.write(slot, item);
             *page = Rc::new(alloc, copy)?;
             Ok(old)
+        }
+    }
+}
+
+// Edits the item in the slot, and tells whether there is one. No copy is made for a slot that is empty. A page
+// that others hold too stays with them as it was, and a copy takes its place here.
+fn change<V: Item, E: Edit<V>>(
+    page: &mut Rc<Page<V>>,
+    slot: u32,
+    edit: E,
+    alloc: Global,
+    count: &mut V::Count,
+) -> Result<bool, NoMemory>
+    requires slot { slot < 32 }
+    requires fits { IfSome (slot_at page.old.value slot) (E.fits edit) }
+    ensures found { IfOk result (λ found. found ≡ is_some (slot_at page.old.value slot)) }
+    ensures changed { OnOk result (page.new.value ≡ written page.old.value slot (option_map (E.edited edit) (slot_at page.old.value slot))) }
+    ensures unchanged { OnErr result (page.new.value ≡ page.old.value) }
+    ensures size { IfOk result (λ _. length page.old.value ≡ 32) }
+    ensures counted { V.Count.total count.old ≤ V.Count.total count.new }
+    ensures few_twinned { V.Count.total count.new ≤ V.Count.total count.old + 32 }
+{
+    if page.get(slot).is_none() {
+        return Ok(false);
+    }
+    match Rc::get_mut(page) {
+        Some(own) => Ok(own.change(slot, edit)),
+        None => {
+            let mut twin = page.twin(alloc, count)?;
+            let found = twin.change(slot, edit);
+            *page = Rc::new(alloc, twin)?;
+            Ok(found)
         }
     }
 }
