@@ -12,8 +12,6 @@ mod op;
 mod ops;
 mod page;
 mod tag;
-#[cfg(test)]
-mod tests;
 mod tree;
 
 pub use op::{Attrs, Op};

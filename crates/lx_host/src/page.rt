@@ -21,7 +21,7 @@ impl Model for Page {
 }
 
 impl Page {
-    ghost use Rattle.std.specs.Prelude.{◌≡◌, ◌++◌, [], ◌∷◌, IfOk, OnOk, chars};
+    ghost use Rattle.std.specs.Prelude.{◌≡◌, ◌++◌, [], ◌∷◌, OnOk, chars};
     ghost use Rattle.lx_host.specs.Html.{text_html, escaped, attribute_html, attributes_html, start_tag, end_tag, ending_html};
     ghost use Rattle.lx_host.specs.Pieces.{inline_opening, inline_closing, opening, closing};
 
@@ -34,11 +34,11 @@ impl Page {
         }
     }
 
-    /// What was written, as a text. It takes memory for its bytes.
-    pub fn text(&self, alloc: Global) -> Result<Txt, NoMemory>
-        ensures { IfOk result (λ text. text ≡ self.now) }
+    /// What was written, as a text. It takes no memory.
+    pub fn into_text(self) -> Txt
+        ensures { result ≡ self }
     {
-        Txt::new(alloc, self.written.as_str())
+        Txt::of(self.written)
     }
 
     /// Writes this as it is.

@@ -50,7 +50,7 @@ fn joined(alloc: Global, front: &str, middle: &str, back: &str) -> Result<Txt, N
     let mut whole = String::from_str(alloc, front)?;
     whole.push_str(middle)?;
     whole.push_str(back)?;
-    Txt::new(alloc, whole.as_str())
+    Ok(Txt::of(whole))
 }
 
 fn bad_place(offset: u32) -> Fault

@@ -1,4 +1,4 @@
-use Rattle.std.proofs.Common.{◌≡◌, ◌∙◌, ℕ, List, ◌++◌, ap, subst, chars, IsUtf8, IfOk}
+use Rattle.std.proofs.Common.{◌≡◌, ◌∙◌, ℕ, List, ◌++◌, ap, chars, IsUtf8}
 use Rattle.std.proofs.lemmas.Str.{IsUtf8-append, chars-append}
 use Rattle.lx_text.proofs.pieces.joined.Goals as goal
 
@@ -8,5 +8,5 @@ chars-three front middle back u v =
 
 pub returns : goal.returns
 returns c =
-    subst (λ cs. IfOk c.new.result (λ whole. whole ≡ cs))
-    (ap chars (c.as_str.ensures.value ∙ c.in_ok-push_str-2.ensures.bytes ∙ ap (λ bs. bs ++ c.args.back.now) (c.in_ok-push_str.ensures.bytes ∙ ap (λ bs. bs ++ c.args.middle.now) c.in_ok-whole.ensures.ok)) ∙ chars-three c.args.front.now c.args.middle.now c.args.back.now c.utf8.front c.utf8.middle) c.new.ensures
+    c.of.ensures ∙ ap chars (c.in_ok-push_str-2.ensures.bytes ∙ ap (λ bs. bs ++ c.args.back.now) (c.in_ok-push_str.ensures.bytes ∙ ap (λ bs. bs ++ c.args.middle.now) c.in_ok-whole.ensures.ok))
+    ∙ chars-three c.args.front.now c.args.middle.now c.args.back.now c.utf8.front c.utf8.middle
