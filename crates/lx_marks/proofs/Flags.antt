@@ -5,7 +5,7 @@ use Rattle.std.specs.Map.{keys_of}
 use Rattle.std.proofs.lemmas.Bool.Decides.{eqb_tells}
 use Rattle.lx_node.specs.Siblings.{is_among, NoRepeats}
 use Rattle.lx_marks.specs.Marks.{flag_in, flagged, all_flagged, with_name}
-use Rattle.lx_marks.specs.Laws.{joined}
+use Rattle.lx_marks.specs.Laws.{either_flag}
 use Rattle.lx_marks.proofs.Names.{is_among-with_name, NoRepeats-with_name}
 
 -- a key has a flag where it is among the keys
@@ -18,22 +18,22 @@ flag_in-absent [] q e = refl
 flag_in-absent (e ∷ es) q none = grind (arith, flag_in-absent es q, eqb_tells e.0 q, eqb_tells q e.0)
 
 pub flag_in-flagged : (k : ℕ) (flag : Bool) (es : List (ℕ × Bool)) (q : ℕ) →
-    flag_in (flagged k flag es) q ≡ cond (eqb q k) (joined (flag_in es q) (Some flag)) (flag_in es q)
+    flag_in (flagged k flag es) q ≡ cond (eqb q k) (either_flag (flag_in es q) (Some flag)) (flag_in es q)
 unfolding flagged
 flag_in-flagged k flag [] q = refl
 flag_in-flagged k flag (e ∷ es) q =
     grind (arith, flag_in-flagged k flag es q, eqb_tells k e.0, eqb_tells q e.0, eqb_tells q k)
 
-joined-none : (a : Option Bool) → joined a None ≡ a
-joined-none None = refl
-joined-none (Some x) = refl
+either_flag-none : (a : Option Bool) → either_flag a None ≡ a
+either_flag-none None = refl
+either_flag-none (Some x) = refl
 
 pub flag_in-all_flagged : (fs es : List (ℕ × Bool)) (q : ℕ) → NoRepeats (keys_of fs) →
-    flag_in (all_flagged fs es) q ≡ joined (flag_in es q) (flag_in fs q)
+    flag_in (all_flagged fs es) q ≡ either_flag (flag_in es q) (flag_in fs q)
 unfolding all_flagged
-flag_in-all_flagged [] es q once = sym (joined-none (flag_in es q))
+flag_in-all_flagged [] es q once = sym (either_flag-none (flag_in es q))
 flag_in-all_flagged (f ∷ fs) es q once =
-    grind (arith, flag_in-all_flagged fs (flagged f.0 f.1 es) q once.1, flag_in-flagged f.0 f.1 es q, once.0, flag_in-absent fs q, eqb_tells q f.0, joined-none (joined (flag_in es q) (Some f.1)))
+    grind (arith, flag_in-all_flagged fs (flagged f.0 f.1 es) q once.1, flag_in-flagged f.0 f.1 es q, once.0, flag_in-absent fs q, eqb_tells q f.0, either_flag-none (either_flag (flag_in es q) (Some f.1)))
 
 -- the keys are those of names
 pub keys_of-flagged : (k : ℕ) (flag : Bool) (es : List (ℕ × Bool)) → keys_of (flagged k flag es) ≡ with_name k (keys_of es)

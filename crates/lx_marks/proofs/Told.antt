@@ -4,30 +4,58 @@ use Rattle.std.specs.Prelude.{is_some}
 use Rattle.std.specs.Map.{keys_of}
 use Rattle.std.proofs.lemmas.Bool.Decides.{eqb_tells}
 use Rattle.lx_node.specs.Siblings.{is_among, NoRepeats}
-use Rattle.lx_marks.specs.Marks.{Marked, unmarked, flag_in, flagged, all_flagged, with_leaf, with_element, with_names, absorbed, is_marked, is_marked_by, IsMarked}
-use Rattle.lx_marks.specs.Laws.{joined}
+use Rattle.lx_marks.specs.Marks.{Marked, unmarked, flag_in, flagged, all_flagged, with_leaf, with_element, with_names, absorbed, is_true_flag, is_touched, is_noted, IsMarked}
+use Rattle.lx_marks.specs.Laws.{either_flag}
 use Rattle.lx_marks.proofs.Names.{is_among-with_name, is_among-with_names, NoRepeats-with_name, NoRepeats-with_names, with_names-apart}
 use Rattle.lx_marks.proofs.Flags.{flag_in-flagged, flag_in-all_flagged, once_flagged, all_flagged-apart, is_some-flag_in}
 
--- marked by two flags is marked by either
-is_marked_by-joined : (a b : Option Bool) (q : ℕ) → is_marked_by (joined a b) q ≡ (is_marked_by a q || is_marked_by b q)
-is_marked_by-joined None b q = refl
-is_marked_by-joined (Some x) None q = grind arith
-is_marked_by-joined (Some x) (Some y) q = grind arith
+-- ---- two flags of one key
 
-pub is_marked-with_leaf : (k : ℕ) (m : Marked) (q : ℕ) → is_marked (with_leaf k m) q ≡ (is_marked m q || eqb q k)
+pub true_flag-either : (a b : Option Bool) → is_true_flag (either_flag a b) ≡ (is_true_flag a || is_true_flag b)
+true_flag-either None b = refl
+true_flag-either (Some x) None = grind arith
+true_flag-either (Some x) (Some y) = refl
+
+is_some-either : (a b : Option Bool) → is_some (either_flag a b) ≡ (is_some a || is_some b)
+is_some-either None b = refl
+is_some-either (Some x) None = refl
+is_some-either (Some x) (Some y) = refl
+
+pub is_some-flagged : (a : Option Bool) (flag : Bool) → is_some (either_flag a (Some flag)) ≡ true
+is_some-flagged None flag = refl
+is_some-flagged (Some x) flag = refl
+
+-- ---- marked itself
+
+pub touched-leaf : (k : ℕ) (m : Marked) (q : ℕ) → is_touched (with_leaf k m) q ≡ (is_touched m q || eqb q k)
 unfolding with_leaf
-is_marked-with_leaf k m q = grind (arith, is_among-with_name k m.leaves q)
+touched-leaf k m q = grind (arith, is_among-with_name k m.leaves q)
 
-pub is_marked-with_element : (k : ℕ) (flag : Bool) (m : Marked) (q : ℕ) → is_marked (with_element k flag m) q ≡ (is_marked m q || (eqb q k && (flag || eqb q 0)))
+pub touched-element : (k : ℕ) (flag : Bool) (m : Marked) (q : ℕ) → is_touched (with_element k flag m) q ≡ (is_touched m q || (eqb q k && flag))
 unfolding with_element
-is_marked-with_element k flag m q =
-    grind (arith, flag_in-flagged k flag m.elements q, is_marked_by-joined (flag_in m.elements q) (Some flag) q)
+touched-element k flag m q =
+    grind (arith, flag_in-flagged k flag m.elements q, true_flag-either (flag_in m.elements q) (Some flag))
 
-pub is_marked-absorbed : (other m : Marked) (q : ℕ) → IsMarked other → is_marked (absorbed other m) q ≡ (is_marked m q || is_marked other q)
+pub touched-absorbed : (other m : Marked) (q : ℕ) → IsMarked other → is_touched (absorbed other m) q ≡ (is_touched m q || is_touched other q)
 unfolding absorbed
-is_marked-absorbed other m q once =
-    grind (arith, is_among-with_names other.leaves m.leaves q, flag_in-all_flagged other.elements m.elements q once.elements, is_marked_by-joined (flag_in m.elements q) (flag_in other.elements q) q)
+touched-absorbed other m q once =
+    grind (arith, is_among-with_names other.leaves m.leaves q, flag_in-all_flagged other.elements m.elements q once.elements, true_flag-either (flag_in m.elements q) (flag_in other.elements q))
+
+-- ---- marked at all
+
+pub noted-leaf : (k : ℕ) (m : Marked) (q : ℕ) → is_noted (with_leaf k m) q ≡ (is_noted m q || eqb q k)
+unfolding with_leaf
+noted-leaf k m q = grind (arith, is_among-with_name k m.leaves q)
+
+pub noted-element : (k : ℕ) (flag : Bool) (m : Marked) (q : ℕ) → is_noted (with_element k flag m) q ≡ (is_noted m q || eqb q k)
+unfolding with_element
+noted-element k flag m q =
+    grind (arith, flag_in-flagged k flag m.elements q, is_some-flagged (flag_in m.elements q) flag)
+
+pub noted-absorbed : (other m : Marked) (q : ℕ) → IsMarked other → is_noted (absorbed other m) q ≡ (is_noted m q || is_noted other q)
+unfolding absorbed
+noted-absorbed other m q once =
+    grind (arith, is_among-with_names other.leaves m.leaves q, flag_in-all_flagged other.elements m.elements q once.elements, is_some-either (flag_in m.elements q) (flag_in other.elements q))
 
 -- ---- what stays
 
@@ -38,26 +66,6 @@ pub flag_stays_all : (fs es : List (ℕ × Bool)) (q : ℕ) → flag_in es q ≡
 unfolding all_flagged
 flag_stays_all [] es q e = e
 flag_stays_all (f ∷ fs) es q e = flag_stays_all fs (flagged f.0 f.1 es) q (flag_stays f.0 f.1 es q e)
-
--- an element that is marked stays so
-by_flag_stays : (k : ℕ) (flag : Bool) (es : List (ℕ × Bool)) (q : ℕ) → is_marked_by (flag_in es q) q ≡ true → is_marked_by (flag_in (flagged k flag es) q) q ≡ true
-by_flag_stays k flag es q e = grind (arith, flag_in-flagged k flag es q, is_marked_by-joined (flag_in es q) (Some flag) q)
-
-by_flag_stays_all : (fs es : List (ℕ × Bool)) (q : ℕ) → is_marked_by (flag_in es q) q ≡ true → is_marked_by (flag_in (all_flagged fs es) q) q ≡ true
-unfolding all_flagged
-by_flag_stays_all [] es q e = e
-by_flag_stays_all (f ∷ fs) es q e = by_flag_stays_all fs (flagged f.0 f.1 es) q (by_flag_stays f.0 f.1 es q e)
-
-pub stays-with_leaf : (k : ℕ) (m : Marked) (q : ℕ) → is_marked m q ≡ true → is_marked (with_leaf k m) q ≡ true
-stays-with_leaf k m q e = grind (arith, is_marked-with_leaf k m q)
-
-pub stays-with_element : (k : ℕ) (flag : Bool) (m : Marked) (q : ℕ) → is_marked m q ≡ true → is_marked (with_element k flag m) q ≡ true
-stays-with_element k flag m q e = grind (arith, is_marked-with_element k flag m q)
-
-pub stays-absorbed : (other m : Marked) (q : ℕ) → is_marked m q ≡ true → is_marked (absorbed other m) q ≡ true
-unfolding absorbed
-stays-absorbed other m q e =
-    grind (arith, is_among-with_names other.leaves m.leaves q, by_flag_stays_all other.elements m.elements q)
 
 -- ---- no key twice
 

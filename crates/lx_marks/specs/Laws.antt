@@ -1,22 +1,29 @@
 -- The laws of marks: what is marked after a mark, as one equation for all keys.
 use Rattle.std.specs.Prelude.{ℕ, ◌≡◌, ◌==◌, ◌&&◌, ◌||◌, Bool, true, false, if◌then◌else◌, Option, None, Some, slice_get}
 use Rattle.lx_node.specs.Siblings.{is_among}
-use Rattle.lx_marks.specs.Marks.{Marked, unmarked, flag_in, with_leaf, with_element, absorbed, is_marked, IsMarked}
+use Rattle.lx_marks.specs.Marks.{Marked, unmarked, flag_in, with_leaf, with_element, absorbed, is_touched, is_noted, IsMarked}
 
 -- the flag that two tables give a key: true where either has it so
-abbrev pub joined : Option Bool → Option Bool → Option Bool
-joined None flag = flag
-joined (Some mine) None = Some mine
-joined (Some mine) (Some other) = Some (mine || other)
+abbrev pub either_flag : Option Bool → Option Bool → Option Bool
+either_flag None flag = flag
+either_flag (Some mine) None = Some mine
+either_flag (Some mine) (Some other) = Some (mine || other)
 
 pub record MarksAreTold : Type 0 where
   -- which keys are marked themselves
-  pub none_marked : (q : ℕ) → is_marked unmarked q ≡ false
-  pub marked_leaf : (k : ℕ) (m : Marked) (q : ℕ) → is_marked (with_leaf k m) q ≡ (is_marked m q || q == k)
-  pub marked_element : (k : ℕ) (flag : Bool) (m : Marked) (q : ℕ) →
-      is_marked (with_element k flag m) q ≡ (is_marked m q || (q == k && (flag || q == 0)))
-  pub marked_absorbed : (other m : Marked) (q : ℕ) → IsMarked other →
-      is_marked (absorbed other m) q ≡ (is_marked m q || is_marked other q)
+  pub none_touched : (q : ℕ) → is_touched unmarked q ≡ false
+  pub touched_leaf : (k : ℕ) (m : Marked) (q : ℕ) → is_touched (with_leaf k m) q ≡ (is_touched m q || q == k)
+  pub touched_element : (k : ℕ) (flag : Bool) (m : Marked) (q : ℕ) →
+      is_touched (with_element k flag m) q ≡ (is_touched m q || (q == k && flag))
+  pub touched_absorbed : (other m : Marked) (q : ℕ) → IsMarked other →
+      is_touched (absorbed other m) q ≡ (is_touched m q || is_touched other q)
+  -- which keys are marked at all
+  pub none_noted : (q : ℕ) → is_noted unmarked q ≡ false
+  pub noted_leaf : (k : ℕ) (m : Marked) (q : ℕ) → is_noted (with_leaf k m) q ≡ (is_noted m q || q == k)
+  pub noted_element : (k : ℕ) (flag : Bool) (m : Marked) (q : ℕ) →
+      is_noted (with_element k flag m) q ≡ (is_noted m q || q == k)
+  pub noted_absorbed : (other m : Marked) (q : ℕ) → IsMarked other →
+      is_noted (absorbed other m) q ≡ (is_noted m q || is_noted other q)
   -- which keys are among the leaves
   pub leaves_leaf : (k : ℕ) (m : Marked) (q : ℕ) → is_among q (with_leaf k m).leaves ≡ (is_among q m.leaves || q == k)
   pub leaves_element : (k : ℕ) (flag : Bool) (m : Marked) → (with_element k flag m).leaves ≡ m.leaves
@@ -26,17 +33,14 @@ pub record MarksAreTold : Type 0 where
   pub flags_leaf : (k : ℕ) (m : Marked) → (with_leaf k m).elements ≡ m.elements
   pub flags_element : (k : ℕ) (flag : Bool) (m : Marked) (q : ℕ) →
       flag_in (with_element k flag m).elements q
-      ≡ (if q == k then joined (flag_in m.elements q) (Some flag) else flag_in m.elements q)
+      ≡ (if q == k then either_flag (flag_in m.elements q) (Some flag) else flag_in m.elements q)
   pub flags_absorbed : (other m : Marked) (q : ℕ) → IsMarked other →
-      flag_in (absorbed other m).elements q ≡ joined (flag_in m.elements q) (flag_in other.elements q)
+      flag_in (absorbed other m).elements q ≡ either_flag (flag_in m.elements q) (flag_in other.elements q)
   -- what is read by place is there
   pub read_leaf : (m : Marked) (i k : ℕ) → slice_get m.leaves i ≡ Some k → is_among k m.leaves ≡ true
   pub read_element : (m : Marked) (i k : ℕ) (flag : Bool) → IsMarked m →
       slice_get m.elements i ≡ Some (k, flag) → flag_in m.elements k ≡ Some flag
-  -- a key once marked stays marked, and a flag that is true stays true
-  pub stays_leaf : (k : ℕ) (m : Marked) (q : ℕ) → is_marked m q ≡ true → is_marked (with_leaf k m) q ≡ true
-  pub stays_element : (k : ℕ) (flag : Bool) (m : Marked) (q : ℕ) → is_marked m q ≡ true → is_marked (with_element k flag m) q ≡ true
-  pub stays_absorbed : (other m : Marked) (q : ℕ) → is_marked m q ≡ true → is_marked (absorbed other m) q ≡ true
+  -- a flag that is true stays true
   pub flag_stays_element : (k : ℕ) (flag : Bool) (m : Marked) (q : ℕ) →
       flag_in m.elements q ≡ Some true → flag_in (with_element k flag m).elements q ≡ Some true
   pub flag_stays_absorbed : (other m : Marked) (q : ℕ) →

@@ -1,5 +1,5 @@
 -- The keys that edits marked, and what marking does to them. What marks doesn't unfold: its laws are in `specs/Laws.antt`.
-use Rattle.std.specs.Prelude.{ℕ, ◌==◌, ◌||◌, Bool, false, if◌then◌else◌, List, [], ◌∷◌, ◌++◌, Option, None, Some}
+use Rattle.std.specs.Prelude.{ℕ, ◌==◌, ◌||◌, Bool, false, is_some, if◌then◌else◌, List, [], ◌∷◌, ◌++◌, Option, None, Some}
 use Rattle.std.specs.Map.{keys_of}
 use Rattle.lx_node.specs.Siblings.{is_among, NoRepeats}
 
@@ -49,14 +49,19 @@ all_flagged (f ∷ fs) es = all_flagged fs (flagged f.0 f.1 es)
 unfoldable pub absorbed : Marked → Marked → Marked
 absorbed other m = record { leaves = with_names other.leaves m.leaves; elements = all_flagged other.elements m.elements }
 
--- whether an element with this flag is marked itself: the root is where it is there at all
-abbrev pub is_marked_by : Option Bool → ℕ → Bool
-is_marked_by None q = false
-is_marked_by (Some flag) q = flag || q == 0
+-- ---- which nodes are marked
 
--- whether a key is marked itself: as a leaf, or as an element
-abbrev pub is_marked : Marked → ℕ → Bool
-is_marked m q = is_among q m.leaves || is_marked_by (flag_in m.elements q) q
+abbrev pub is_true_flag : Option Bool → Bool
+is_true_flag None = false
+is_true_flag (Some flag) = flag
+
+-- whether a node is marked itself: as a leaf, or as an element whose flag is true
+abbrev pub is_touched : Marked → ℕ → Bool
+is_touched m q = is_among q m.leaves || is_true_flag (flag_in m.elements q)
+
+-- whether it is marked at all: itself, or since something below it is
+abbrev pub is_noted : Marked → ℕ → Bool
+is_noted m q = is_among q m.leaves || is_some (flag_in m.elements q)
 
 -- no key stands twice among the leaves, nor among the elements
 pub record IsMarked (m : Marked) : Type 0 where
