@@ -1,13 +1,14 @@
 -- Where each edit moves a point. An offset counts the characters of a text, or the children of an element. A point that
 -- no case names stays.
 use Rattle.std.specs.Prelude.{ℕ, ◌+◌, ◌-◌, ◌==◌, ◌&&◌, Bool, true, false, nat_lt, nat_le, min, if◌then◌else◌}
+use Rattle.lx_node.specs.Limits.{last_u32}
 use Rattle.lx_node.specs.declared.cause.Point.{Point}
 use Rattle.lx_node.specs.declared.cause.PointKind.{PointKind}
 use Rattle.lx_node.specs.declared.cause.PointKind.TheVariants.{Text, Element}
 
 -- a sum of offsets, which ends at the last number of a u32
 unfoldable pub offset_sum : ℕ → ℕ → ℕ
-offset_sum a b = min (a + b) 4294967295
+offset_sum a b = min (a + b) last_u32
 
 -- ---- a child comes or goes
 

@@ -1,4 +1,5 @@
--- What a selection is, and a selection whose points were moved.
+-- What a selection is, where its points are, and a selection whose points were moved.
+use Rattle.std.specs.Prelude.{ℕ, ◌==◌, ◌||◌, Bool, false, Option, None, Some, if◌then◌else◌}
 use Rattle.lx_node.specs.declared.cause.Point.{Point}
 use Rattle.lx_node.specs.declared.cause.SelectionKind.{SelectionKind}
 use Rattle.lx_node.specs.declared.cause.SelectionKind.TheVariants as kind
@@ -17,3 +18,28 @@ each_point moved Nothing = Nothing
 each_point moved (Range anchor focus format) = Range (moved anchor) (moved focus) format
 each_point moved (Nodes keys) = Nodes keys
 each_point moved (Cells table anchor focus) = Cells table anchor focus
+
+-- ---- where points are
+
+-- a point of the selection is on the key
+abbrev pub has_point_on : ℕ → Selection → Bool
+has_point_on key (Range anchor focus format) = anchor.key == key || focus.key == key
+has_point_on key other = false
+
+-- the two points of a range
+abbrev pub ends_of : Selection → Option (Point × Point)
+ends_of (Range anchor focus format) = Some (anchor, focus)
+ends_of other = None
+
+-- ---- points that go along
+
+-- Of where a point was before edits and where they left it: one that was on the key goes where a rule sends it from there.
+abbrev pub carried_point : ℕ → (Point → Point) → Point → Point → Point
+carried_point key moved before now = if before.key == key then moved before else now
+
+-- Of where the two points of a range were before edits: those that were on the key are brought along, and all others are where
+-- the edits left them.
+abbrev pub carried : ℕ → (Point → Point) → Option (Point × Point) → Selection → Selection
+carried key moved (Some (anchor, focus)) (Range a b format) =
+    Range (carried_point key moved anchor a) (carried_point key moved focus b) format
+carried key moved before now = now

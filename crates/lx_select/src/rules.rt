@@ -1,5 +1,6 @@
 ghost use Rattle.std.specs.Prelude.{◌≡◌};
 ghost use Rattle.lx_select.specs.Rules as rules;
+ghost use Rattle.lx_select.specs.Selection.{carried_point};
 
 use lx_node::{Key, Point, PointKind};
 
@@ -103,6 +104,19 @@ pub fn carry_moved(mut point: Point, from: Key, to: Key, at: u32) -> Point
         point.offset = at.saturating_add(point.offset);
     }
     point
+}
+
+/// Where a point is that edits left at `now`: one that was on the key `from` before goes to the key `to`, with what
+/// stood at 0 of the one and is now at the offset `at` of the other.
+#[tactic(auto, unfolding(crate::specs::Rules::carry_moves))]
+pub fn carried(now: Point, before: Point, from: Key, to: Key, at: u32) -> Point
+    ensures { result ≡ carried_point from (rules.carry_moves from to at) before now }
+{
+    if before.key == from {
+        carry_moved(before, from, to, at)
+    } else {
+        now
+    }
 }
 
 /// The point `to`, where a point is on the key.

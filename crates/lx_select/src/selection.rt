@@ -28,8 +28,9 @@ pub enum Selection {
 impl Selection {
     ghost use Rattle.std.specs.Prelude.{◌≡◌, ◌↔◌, IfOk, OnErr, IsTrue};
     ghost use Rattle.lx_node.specs.declared.cause.Point.{Point};
-    ghost use Rattle.lx_select.specs.Selection.{kind_of_selection, each_point};
-    ghost use Rattle.lx_select.specs.Rules.{put_moves, take_moves, splice_moves, set_moves, split_moves, join_moves, children_moves, unwrap_moves, replace_moves, moved_to};
+    ghost use Rattle.lx_select.specs.Same.{same_selection};
+    ghost use Rattle.lx_select.specs.Selection.{kind_of_selection, each_point, has_point_on, ends_of, carried};
+    ghost use Rattle.lx_select.specs.Rules.{put_moves, take_moves, splice_moves, set_moves, split_moves, join_moves, children_moves, unwrap_moves, replace_moves, carry_moves, moved_to};
 
     /// An equal selection. It takes memory for the keys of nodes, and none for any other selection.
     pub fn copy(&self, alloc: Global) -> Result<Selection, NoMemory>
@@ -62,6 +63,13 @@ impl Selection {
 
     /// Whether both are the same selection.
     pub fn is_equal(&self, other: &Selection) -> bool
+        ensures same { result ≡ same_selection self.now other.now }
+        ensures told { IsTrue result ↔ (self.now ≡ other.now) }
+    {
+        self.has_equal_parts(other)
+    }
+
+    fn has_equal_parts(&self, other: &Selection) -> bool
         ensures { IsTrue result ↔ (self.now ≡ other.now) }
     {
         match (self, other) {
@@ -104,6 +112,26 @@ impl Selection {
             Selection::Range { .. } => SelectionKind::Range,
             Selection::Nodes(_) => SelectionKind::Nodes,
             Selection::Cells { .. } => SelectionKind::Cells,
+        }
+    }
+
+    /// The two points of a range, the anchor first.
+    pub fn ends(&self) -> Option<(Point, Point)>
+        ensures { result ≡ ends_of self.now }
+    {
+        match self {
+            Selection::Range { anchor, focus, .. } => Some((*anchor, *focus)),
+            _ => None,
+        }
+    }
+
+    /// Whether a point of the selection is on the key.
+    pub fn has_point_on(&self, key: Key) -> bool
+        ensures { result ≡ has_point_on key self.now }
+    {
+        match self {
+            Selection::Range { anchor, focus, .. } => anchor.key == key || focus.key == key,
+            _ => false,
         }
     }
 
@@ -193,6 +221,20 @@ impl Selection {
         ensures { self.new ≡ each_point (replace_moves old new len) self.old }
     {
         self.move_each(|point| rules::replace_moved(point, old, new, len));
+    }
+
+    /// Brings points along with what a node had, after the edits that moved that elsewhere. The two points of the
+    /// range `before` those edits tell which were on the key `from`: such a point goes to the key `to`, where what
+    /// stood at 0 of the one is now at the offset `at`. Every other point stays where the edits left it.
+    pub fn carry(&mut self, before: Option<(Point, Point)>, from: Key, to: Key, at: u32)
+        ensures { self.new ≡ carried from (carry_moves from to at) before self.old }
+    {
+        if let (Some((was_anchor, was_focus)), Selection::Range { anchor, focus, .. }) = (
+            before, self,
+        ) {
+            *anchor = rules::carried(*anchor, was_anchor, from, to, at);
+            *focus = rules::carried(*focus, was_focus, from, to, at);
+        }
     }
 
     /// Makes every point on the key the point `to`.
