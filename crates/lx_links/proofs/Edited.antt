@@ -13,8 +13,8 @@ use Rattle.lx_node.specs.declared.kind.Kind.{Kind}
 use Rattle.lx_node.specs.declared.kind.Kind.TheVariants.{Root}
 use Rattle.lx_node.specs.declared.fields.Fields.{Fields}
 use Rattle.lx_node.specs.declared.node.Node.{Node}
-use Rattle.lx_forest.specs.Forest.{Forest, Label, root_alone, root_label, plain_element}
-use Rattle.lx_forest.specs.Lookups.{key_of, has, siblings}
+use Rattle.lx_forest.specs.Forest.{Forest, Label, root_alone, root_label}
+use Rattle.lx_forest.specs.Lookups.{key_of, has, kind_of, siblings}
 use Rattle.lx_forest.specs.Edits.{with_new, with_fields, take_out}
 use Rattle.lx_forest.specs.Records.{Record, StandsFor, record_at, linked, lone, refielded}
 use Rattle.lx_forest.specs.Records as recs
@@ -23,8 +23,11 @@ use Rattle.lx_forest.proofs.Edits.{total-with_new, total-with_fields, total-take
 use Rattle.lx_forest.proofs.Order.{IsForest-with_new, IsForest-with_fields, IsForest-take_out}
 use Rattle.lx_links.specs.declared.changes.Change.TheVariants.{Content}
 use Rattle.lx_node.specs.Kinds.{may_hold}
-use Rattle.lx_forest.proofs.Held.{IsHeld-root_alone}
-use Rattle.lx_forest.proofs.Held.{IsHeld-with_new, IsHeld-with_fields, IsHeld-take_out}
+use Rattle.lx_node.specs.OfKind.{IsOfKind}
+use Rattle.lx_node.specs.Plain.{plain_element}
+use Rattle.lx_forest.proofs.Held.{IsHeld-root_alone, IsHeld-with_new, IsHeld-with_fields, IsHeld-take_out}
+use Rattle.lx_forest.proofs.Suited.{IsSuited-root_alone, IsSuited-with_new, IsSuited-with_fields, IsSuited-take_out}
+use Rattle.lx_links.specs.Faults.{set_fault}
 use Rattle.lx_links.specs.Stands.{Nodes, Holds, node_of, record_of, records, lone_node}
 use Rattle.lx_links.specs.Changes.{changed, Differs, unlinked}
 use Rattle.lx_links.proofs.Maps.{insert_at, remove_at}
@@ -182,18 +185,26 @@ all_held m f h = all_in m f h.stands
 
 pub new_stands : (start new : Nodes) (k : ℕ) (n : Node) (fields : Fields) → start ≡ empty → k ≡ 0 → n ≡ lone_node Root fields → fields ≡ plain_element → new ≡ insert start k n → Holds new root_alone
 new_stands start new k n fields empty_is root node plain put =
-    record { stands = new_records start new k n fields empty_is root node plain put; held = IsHeld-root_alone may_hold }
+    record { stands = new_records start new k n fields empty_is root node plain put; held = IsHeld-root_alone may_hold; suited = IsSuited-root_alone }
 
-pub put_stands : (old new : Nodes) (f : Forest) (k : ℕ) (kind : Kind) (fields : Fields) (n : Node) → Holds old f → has k f ≡ false → total f < 4294967295 → n ≡ lone_node kind fields → new ≡ insert old k n → Holds new (with_new (record { key = k; kind = kind; fields = fields }) f)
-put_stands old new f k kind fields n h free room node put = record {
+pub put_stands : (old new : Nodes) (f : Forest) (k : ℕ) (kind : Kind) (fields : Fields) (n : Node) → Holds old f → has k f ≡ false → total f < 4294967295 → IsOfKind kind fields → n ≡ lone_node kind fields → new ≡ insert old k n → Holds new (with_new (record { key = k; kind = kind; fields = fields }) f)
+put_stands old new f k kind fields n h free room of_kind node put = record {
   stands = put_records old new f k kind fields n h.stands free room node put;
   held = IsHeld-with_new may_hold f h.stands.in_order h.held (record { key = k; kind = kind; fields = fields }) free;
+  suited = IsSuited-with_new f (record { key = k; kind = kind; fields = fields }) h.stands.in_order free of_kind h.suited;
 }
 
-pub set_stands : (old new : Nodes) (f : Forest) (k : ℕ) (fields : Fields) → Holds old f → Differs (λ q. changed (Content fields) (is_named (Some k) q)) old new → Holds new (with_fields k fields f)
-set_stands old new f k fields h d =
-    record { stands = set_records old new f k fields h.stands d; held = IsHeld-with_fields may_hold f h.stands.in_order h.held k fields }
+-- fields that were found to be of the node's kind
+right_fields : (f : Forest) (k : ℕ) (fields : Fields) (kind : Kind) → set_fault k fields f ≡ None → kind_of f k ≡ Some kind → IsOfKind kind fields
+right_fields f k fields kind none e = grind (arith, none, e)
+
+pub set_stands : (old new : Nodes) (f : Forest) (k : ℕ) (fields : Fields) → Holds old f → set_fault k fields f ≡ None → Differs (λ q. changed (Content fields) (is_named (Some k) q)) old new → Holds new (with_fields k fields f)
+set_stands old new f k fields h none d = record {
+  stands = set_records old new f k fields h.stands d;
+  held = IsHeld-with_fields may_hold f h.stands.in_order h.held k fields;
+  suited = IsSuited-with_fields f k fields (λ l here. right_fields f k fields l.kind none (ap (λ o. option_map (λ m. m.kind) o) here)) h.suited;
+}
 
 pub taken_stands : (old new : Nodes) (f : Forest) (k p : ℕ) (n : Node) → Holds old f → Some n ≡ option_map node_of (record_at f k) → n.parent ≡ Some p → Differs (unlinked k p n.prev n.next) old new → Holds new (take_out k f)
 taken_stands old new f k p n h e up d =
-    record { stands = taken_records old new f k p n h.stands e up d; held = IsHeld-take_out may_hold f h.stands.in_order h.held k }
+    record { stands = taken_records old new f k p n h.stands e up d; held = IsHeld-take_out may_hold f h.stands.in_order h.held k; suited = IsSuited-take_out f k h.stands.in_order h.suited }

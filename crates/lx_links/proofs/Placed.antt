@@ -23,6 +23,7 @@ use Rattle.lx_links.specs.Changes.{Differs, linked_in}
 use Rattle.lx_links.specs.Faults.{misfit, no_child, place_fault}
 use Rattle.lx_node.specs.Kinds.{may_hold}
 use Rattle.lx_node.specs.declared.kind.Kind.{Kind}
+use Rattle.lx_forest.proofs.Suited.{IsSuited-put_in}
 use Rattle.lx_forest.proofs.Held.{IsHeld-put_in}
 use Rattle.lx_links.specs.Stands.{Nodes, Holds, Sound, records}
 use Rattle.lx_links.proofs.Edited.{records_after}
@@ -132,4 +133,5 @@ placed_stands old new f p k before prev next h none behind is d =
     record {
       stands = placed_records old new f p k before prev next h.stands none behind is d;
       held = IsHeld-put_in may_hold f h.stands.in_order h.held p before k free.can (fitting (kind_of f p) (kind_of f k) free.fits);
+      suited = IsSuited-put_in f p before k h.stands.in_order free.can h.suited;
     }

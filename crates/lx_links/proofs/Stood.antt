@@ -9,6 +9,8 @@ use Rattle.lx_forest.specs.Lookups.{kind_of, IsHeld}
 use Rattle.lx_node.specs.Kinds.{may_hold}
 use Rattle.lx_node.specs.declared.kind.Kind.TheVariants.{Root}
 use Rattle.lx_forest.specs.Records.{Record, record_at, StandsFor}
+use Rattle.lx_forest.specs.Suited.{IsSuited}
+use Rattle.lx_forest.proofs.Suited.{IsSuited-nil}
 use Rattle.lx_links.specs.Stands.{Nodes, node_of, record_of, records, Stands, Standing, Holds, Sound, forest_in, forest_in-stands, forest_in-is}
 
 pub stood : (held : Option Nodes) (s : Standing held) (f : Forest) → forest_in held s ≡ f → Stands held f
@@ -41,9 +43,10 @@ sound_held : (held : Option Nodes) (f : Forest) → Stands held f → Sound f
 sound_held None f h = record {
   in_order = λ no. absurd (no h);
   held = subst (λ g. IsHeld may_hold g) (sym h) IsHeld-nil;
+  suited = subst IsSuited (sym h) IsSuited-nil;
   small = subst (λ g. total g < 2 ^ 32) (sym h) (omega arith);
 }
-sound_held (Some m) f h = record { in_order = λ no. h.stands.in_order; held = h.held; small = h.stands.small }
+sound_held (Some m) f h = record { in_order = λ no. h.stands.in_order; held = h.held; suited = h.suited; small = h.stands.small }
 
 pub sound : (held : Option Nodes) (s : Standing held) (f : Forest) → forest_in held s ≡ f → Sound f
 sound held s f e = sound_held held f (stood held s f e)

@@ -18,6 +18,7 @@ use Rattle.lx_forest.proofs.Edits.{total-drop_detached-le}
 use Rattle.lx_forest.proofs.Order.{IsForest-drop_detached}
 use Rattle.lx_forest.proofs.Records.{record_at-drop_detached, is_some-record_at}
 use Rattle.lx_node.specs.Kinds.{may_hold}
+use Rattle.lx_forest.proofs.Suited.{IsSuited-drop_detached}
 use Rattle.lx_forest.proofs.Held.{IsHeld-drop_detached}
 use Rattle.lx_links.specs.Stands.{Nodes, Holds, records, record_of}
 use Rattle.lx_links.proofs.Maps.{remove_at}
@@ -75,4 +76,4 @@ is_among-keys m f q h = keys_in m f q h.stands
 
 pub swept_stands : (old new : Nodes) (f : Forest) (xs : List ℕ) → Holds old f → ((q : ℕ) → is_among q xs ≡ (has q f && not (is_attached f q))) → ((q : ℕ) → get new q ≡ cond (is_among q xs) None (get old q)) → Holds new (drop_detached f)
 swept_stands old new f xs h found gone =
-    record { stands = swept_records old new f xs h.stands found gone; held = IsHeld-drop_detached may_hold f h.stands.in_order h.held }
+    record { stands = swept_records old new f xs h.stands found gone; held = IsHeld-drop_detached may_hold f h.stands.in_order h.held; suited = IsSuited-drop_detached f h.stands.in_order h.suited }

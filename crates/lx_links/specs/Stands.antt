@@ -12,6 +12,7 @@ use Rattle.lx_node.specs.declared.node.Node.{Node}
 use Rattle.lx_forest.specs.Forest.{Forest}
 use Rattle.lx_forest.specs.Lookups.{IsForest, IsHeld}
 use Rattle.lx_node.specs.Kinds.{may_hold}
+use Rattle.lx_forest.specs.Suited.{IsSuited}
 use Rattle.lx_forest.specs.Records.{Record, StandsFor}
 use Rattle.lx_forest.proofs.Records.{StandsFor-unique}
 
@@ -53,10 +54,11 @@ lone_node kind fields =
 abbrev pub records : Nodes → ℕ → Option Record
 records m q = option_map (record_of q) (get m q)
 
--- such a map for a forest in which each child is of a kind that its parent's kind may hold
+-- such a map for a forest in which each child is of a kind that its parent's kind may hold, and all fields are of their kinds
 pub record Holds (m : Nodes) (f : Forest) : Type 0 where
   pub stands : StandsFor (records m) f
   pub held : IsHeld may_hold f
+  pub suited : IsSuited f
 
 -- What stands for a forest: a map of nodes for one in order, and none for the empty one, which has no root.
 abbrev pub Stands : Option Nodes → Forest → Type 0
@@ -113,4 +115,5 @@ forest_in-is held s f h = Stands-unique held (forest_in held s) f (forest_in-sta
 pub record Sound (f : Forest) : Type 0 where
   pub in_order : f ≢ nil → IsForest f
   pub held : IsHeld may_hold f
+  pub suited : IsSuited f
   pub small : total f < 2 ^ 32

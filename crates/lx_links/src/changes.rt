@@ -1,3 +1,4 @@
+ghost use Rattle.lx_node.specs.Limits.{last_u32};
 ghost use Rattle.std.specs.Prelude.{◌≡◌, ◌<◌, ℕ, IfOk, OnOk, true, None, Some};
 ghost use Rattle.std.specs.FinMap as map;
 ghost use Rattle.lx_node.specs.Siblings.{is_named};
@@ -5,7 +6,7 @@ ghost use Rattle.lx_links.specs.Changes.{changed, Fits, Differs};
 ghost use Rattle.lx_node.specs.declared.node.Node.{Node};
 
 use lx_node::{Fields, Key, NoMemory, Node};
-use lx_store::{Copies, Store};
+use lx_store::{Copies, Edit, Store};
 
 /// What of one node an edit changes.
 #[derive(Drop)]
@@ -32,44 +33,45 @@ pub enum Change {
     },
 }
 
-/// The node after the change.
-fn apply(change: Change, mut node: Node) -> Node
-    requires { Fits change node }
-    ensures { result ≡ changed change true node }
-{
-    match change {
-        Change::Content(fields) => node.fields = fields,
-        Change::Next(next) => node.next = next,
-        Change::Prev(prev) => node.prev = prev,
-        Change::Place { parent, prev, next } => {
-            node.parent = parent;
-            node.prev = prev;
-            node.next = next;
-        }
-        Change::Left { prev, next } => {
-            if prev.is_none() {
-                node.first = next;
+impl Edit<Node> for Change {
+    ghost fits = { Fits };
+
+    ghost edited = { λ change node. changed change true node };
+
+    fn edit(self, node: &mut Node) {
+        match self {
+            Change::Content(fields) => node.fields = fields,
+            Change::Next(next) => node.next = next,
+            Change::Prev(prev) => node.prev = prev,
+            Change::Place { parent, prev, next } => {
+                node.parent = parent;
+                node.prev = prev;
+                node.next = next;
             }
-            if next.is_none() {
-                node.last = prev;
+            Change::Left { prev, next } => {
+                if prev.is_none() {
+                    node.first = next;
+                }
+                if next.is_none() {
+                    node.last = prev;
+                }
+                node.size = node.size.saturating_sub(1);
             }
-            node.size = node.size.saturating_sub(1);
-        }
-        Change::Joined {
-            key,
-            behind,
-            before,
-        } => {
-            if behind.is_none() {
-                node.first = Some(key);
+            Change::Joined {
+                key,
+                behind,
+                before,
+            } => {
+                if behind.is_none() {
+                    node.first = Some(key);
+                }
+                if before.is_none() {
+                    node.last = Some(key);
+                }
+                node.size += 1;
             }
-            if before.is_none() {
-                node.last = Some(key);
-            }
-            node.size += 1;
         }
     }
-    node
 }
 
 /// Takes the node of a key out of the store, where there is one.
@@ -83,7 +85,7 @@ pub fn take_node(store: &mut Store<Node>, key: Key) -> Result<Option<Node>, NoMe
 
 /// Puts a node into the store.
 pub fn put_node(store: &mut Store<Node>, key: Key, node: Node) -> Result<(), NoMemory>
-    requires { map.len store.old < 4294967295 }
+    requires { map.len store.old < last_u32 }
     ensures { OnOk result (store.new ≡ map.insert store.old key node) }
 {
     let mut copies = Copies::new();
@@ -91,8 +93,7 @@ pub fn put_node(store: &mut Store<Node>, key: Key, node: Node) -> Result<(), NoM
     Ok(())
 }
 
-/// Changes the node of a key, where one is given and there is one. It is taken out for that, so that no
-/// text is copied.
+/// Changes the node of a key where it stands, where a key is given and there is such a node.
 pub fn change_node(store: &mut Store<Node>, at: Option<Key>, change: Change) -> Result<(), NoMemory>
     requires { (k : ℕ) (n : Node) → at ≡ Some k → map.get store.old k ≡ Some n → Fits change n }
     ensures { OnOk result (Differs (λ q. changed change (is_named at q)) store.old store.new) }
@@ -100,9 +101,7 @@ pub fn change_node(store: &mut Store<Node>, at: Option<Key>, change: Change) -> 
     let Some(key) = at else {
         return Ok(());
     };
-    let _before = store.len();
-    match take_node(store, key)? {
-        Some(node) => put_node(store, key, apply(change, node)),
-        None => Ok(()),
-    }
+    let mut copies = Copies::new();
+    store.change(key, change, &mut copies)?;
+    Ok(())
 }

@@ -1,3 +1,5 @@
+ghost use Rattle.lx_node.specs.Limits.{last_u32};
+
 use crate::changes::{Change, change_node, put_node};
 use crate::joints::{Gap, link_in, unlink};
 use crate::links::Links;
@@ -18,18 +20,20 @@ impl Links {
     /// Adds a node without children that stands below nothing.
     pub fn insert_new(&mut self, key: Key, kind: Kind, fields: Fields) -> Result<(), NoMemory>
         requires free { lookups.has key self.old ≡ false }
-        requires room { total self.old < 4294967295 }
+        requires room { total self.old < last_u32 }
         requires other { kind ≢ Root }
         requires of_kind { IsOfKind kind fields }
         ensures added { OnOk result (self.new ≡ with_new (record { key = key; kind = kind; fields = fields }) self.old) }
         ensures living { OnOk result (self.old ≢ nil) }
         ensures failed { OnErr result (self.new ≡ nil) }
     {
+        let more = fields.characters() as u128;
         let Some(mut store) = self.held.take() else {
             return Err(NoMemory);
         };
         put_node(&mut store, key, lone_node(kind, fields))?;
         self.held = Some(store);
+        self.characters += more;
         Ok(())
     }
 
@@ -47,11 +51,14 @@ impl Links {
         if !fields.is_of_kind(node.kind) {
             return Err(Fault::Cause(Cause::WrongKind(node.kind)));
         }
+        let old = node.fields.characters() as u128;
+        let new = fields.characters() as u128;
         let Some(mut store) = self.held.take() else {
             return Err(Fault::Memory);
         };
         change_node(&mut store, Some(key), Change::Content(fields))?;
         self.held = Some(store);
+        self.characters = self.characters + new - old;
         Ok(())
     }
 

@@ -1,11 +1,27 @@
+ghost use Rattle.std.specs.Prelude.{◌≡◌};
+ghost use Rattle.lx_links.specs.Faults as faults;
+
 use crate::links::Links;
-use lx_node::{Cause, Key, Named};
+use lx_node::{Cause, Key, Kind, Named};
+
+/// A parent of the one kind may not hold a child of the other. Where one of the two isn't there, nothing is
+/// wrong.
+pub fn misfit(outer: Option<Kind>, inner: Option<Kind>) -> Option<Cause>
+    ensures { result ≡ faults.misfit outer inner }
+{
+    let outer = outer?;
+    let inner = inner?;
+    if outer.may_hold(inner) {
+        None
+    } else {
+        Some(Cause::WrongKind(inner))
+    }
+}
 
 impl Links {
-    ghost use Rattle.std.specs.Prelude.{◌≡◌, ◌==◌, ◌||◌, is_some};
+    ghost use Rattle.std.specs.Prelude.{◌==◌, ◌||◌, is_some};
     ghost use Rattle.lx_node.specs.Siblings.{is_among};
     ghost use Rattle.lx_forest.specs.Lookups as lookups;
-    ghost use Rattle.lx_links.specs.Faults as faults;
 
     /// Why a place isn't one for the key, the first cause: one of the nodes isn't there, the parent may not
     /// hold it, it can't go there, or the child that it is to come before isn't one of the parent's.
@@ -21,17 +37,17 @@ impl Links {
         if let Some(cause) = self.missing(key) {
             return Some(cause);
         }
-        if let Some(cause) = self.misfit(parent, key) {
+        if let Some(cause) = misfit(self.kind(parent), self.kind(key)) {
             return Some(cause);
         }
-        if self.is_bound(parent, key) {
-            return Some(Cause::BadPlace(key.number() as u64));
+        if let Some(cause) = self.bound(parent, key) {
+            return Some(cause);
         }
         self.no_child(parent, before)
     }
 
     /// There is no node of the key.
-    fn missing(&self, key: Key) -> Option<Cause>
+    pub fn missing(&self, key: Key) -> Option<Cause>
         ensures { result ≡ faults.unknown self.now key }
     {
         if self.has(key) {
@@ -41,25 +57,35 @@ impl Links {
         }
     }
 
+    /// It stands below nothing.
+    pub fn not_below(&self, key: Key) -> Option<Cause>
+        ensures { result ≡ faults.not_below self.now key }
+    {
+        if self.parent(key).is_some() {
+            None
+        } else {
+            Some(Cause::BadPlace(key.number() as u64))
+        }
+    }
+
+    /// It can't go below the parent: it is the root, or stands below a node already, or the parent is in its
+    /// tree.
+    pub fn bound(&self, parent: Key, key: Key) -> Option<Cause>
+        ensures { result ≡ faults.bound_to self.now parent key }
+    {
+        if self.is_bound(parent, key) {
+            Some(Cause::BadPlace(key.number() as u64))
+        } else {
+            None
+        }
+    }
+
     fn missing_before(&self, before: &Option<Key>) -> Option<Cause>
         ensures { result ≡ faults.unknown_before self.now before.now }
     {
         match before {
             Some(before) => self.missing(*before),
             None => None,
-        }
-    }
-
-    /// The parent may not hold such a child.
-    fn misfit(&self, parent: Key, key: Key) -> Option<Cause>
-        ensures { result ≡ faults.misfit (lookups.kind_of self.now parent) (lookups.kind_of self.now key) }
-    {
-        let outer = self.node(parent)?;
-        let inner = self.node(key)?;
-        if outer.kind.may_hold(inner.kind) {
-            None
-        } else {
-            Some(Cause::WrongKind(inner.kind))
         }
     }
 

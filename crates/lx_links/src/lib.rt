@@ -18,8 +18,6 @@ mod views;
 mod walks;
 
 pub use children::Children;
+pub use faults::misfit;
 pub use links::Links;
 pub use records::{Counted, Records};
-
-#[cfg(test)]
-mod tests;

@@ -1,8 +1,8 @@
 ghost use Rattle.lx_links.specs.Stands.{Standing, Standing-prop};
 
 use crate::changes::put_node;
-use crate::nodes::{lone_node, plain_fields};
-use lx_node::{Key, Kind, NoMemory, Node};
+use crate::nodes::lone_node;
+use lx_node::{Fields, Key, Kind, NoMemory, Node};
 use lx_store::{Copies, Store};
 use std::alloc::Global;
 use std::marker::Model;
@@ -14,6 +14,9 @@ pub struct Links {
     pub(crate) alloc: Global,
     /// The nodes, or none where the links have failed.
     pub(crate) held: Option<Store<Node>>,
+    /// The scalar values in the strings of all nodes, where there are any: the sum of what `characters`
+    /// answers for each.
+    pub(crate) characters: u128,
     ghost stands: { Standing held } by { Standing-prop held },
 }
 
@@ -27,8 +30,11 @@ impl Model for Links {
     ghost coded = { Prim.hlevel (codes, trees_code) };
 
     ghost use Rattle.lx_links.specs.Stands.{forest_in};
+    ghost use Rattle.lx_links.specs.Characters.{IsCounted};
 
     ghost view = { λ s. forest_in s.held s.stands };
+
+    ghost invariant = { λ s. IsCounted s.characters (forest_in s.held s.stands) };
 }
 
 impl Links {
@@ -44,11 +50,12 @@ impl Links {
         ensures { IfOk result (λ made. made ≡ root_alone) }
     {
         let mut store = Store::new(alloc)?;
-        let fields = plain_fields(alloc)?;
+        let fields = Fields::plain_element(alloc);
         put_node(&mut store, Key::root(), lone_node(Kind::Root, fields))?;
         Ok(Links {
             alloc,
             held: Some(store),
+            characters: 0,
         })
     }
 
@@ -65,6 +72,7 @@ impl Links {
                 Ok(Links {
                     alloc: self.alloc,
                     held: Some(fork),
+                    characters: self.characters,
                 })
             }
             None => Err(NoMemory),

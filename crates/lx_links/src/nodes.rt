@@ -1,15 +1,10 @@
-ghost use Rattle.std.specs.Prelude.{◌≡◌, IfOk};
+ghost use Rattle.std.specs.Prelude.{◌≡◌};
 ghost use Rattle.lx_node.specs.declared.cause.Cause.TheVariants.{UnknownNode, BadPlace};
 ghost use Rattle.lx_node.specs.declared.cause.Fault.TheVariants as fault;
 ghost use Rattle.lx_node.specs.declared.cause.Named.TheVariants as named;
-ghost use Rattle.lx_forest.specs.Forest.{plain_element};
 ghost use Rattle.lx_links.specs.Stands.{lone_node as a_lone_node};
 
-use lx_node::{
-    Align, Cause, Direction, ElementFields, Extra, Fault, Fields, Key, Kind, Named, NoMemory, Node,
-    Txt,
-};
-use std::alloc::Global;
+use lx_node::{Cause, Fault, Fields, Key, Kind, Named, Node};
 
 /// A node without links.
 pub fn lone_node(kind: Kind, fields: Fields) -> Node
@@ -25,20 +20,6 @@ pub fn lone_node(kind: Kind, fields: Fields) -> Node
         last: None,
         size: 0,
     }
-}
-
-/// The fields of an element of which nothing is set.
-pub fn plain_fields(alloc: Global) -> Result<Fields, NoMemory>
-    ensures { IfOk result (λ made. made ≡ plain_element) }
-{
-    Ok(Fields::Element(ElementFields {
-        direction: Direction::Unset,
-        format: Align::Unset,
-        indent: 0,
-        text_format: 0,
-        text_style: Txt::new(alloc, "")?,
-        extra: Extra::Plain,
-    }))
 }
 
 /// There is no node of the key.
