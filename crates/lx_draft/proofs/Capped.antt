@@ -4,7 +4,8 @@ use Rattle.std.specs.Option.{option_or}
 use Rattle.lx_node.specs.Strings.{capped}
 use Rattle.lx_node.specs.declared.cause.Cause.{Cause}
 use Rattle.lx_node.specs.declared.cause.Limit.TheVariants.{Written}
-use Rattle.lx_draft.specs.Working.{Working, most_written}
+use Rattle.lx_node.specs.Limits.{most_written}
+use Rattle.lx_draft.specs.Working.{Working}
 use Rattle.lx_draft.specs.Faults.{over_at, over_limits, over_counts, IsAdmitted}
 
 -- a sum that stands still at the end is the capped sum

@@ -2,14 +2,15 @@
 use Rattle.std.proofs.Common.{◌≡◌, ◌∙◌, ℕ, ◌≤◌, Bool, true, false, cond, ◌||◌, ◌&&◌, List, [], Option, None, Some, Result, Ok, Err, refl, sym, ap, subst, arith, inl, inr, ◌⊎◌}
 use Rattle.lx_node.specs.Siblings.{is_among}
 use Rattle.lx_node.specs.declared.cause.Cause.{Cause}
-use Rattle.lx_marks.specs.Marks.{Marked}
+use Rattle.lx_marks.specs.Marks.{Marked, is_touched, is_noted}
 use Rattle.lx_forest.specs.Forest.{Forest}
-use Rattle.lx_forest.specs.Lookups.{has, spot, parent_of, IsForest}
+use Rattle.lx_forest.specs.Lookups.{has, spot, kind_of, parent_of, IsForest}
 use Rattle.lx_forest.specs.Records.{record_at}
 use Rattle.lx_draft.specs.Working.{Working}
 use Rattle.lx_draft.specs.Faults.{answer, after}
 use Rattle.lx_draft.specs.Marking.{mark_nodes}
-use Rattle.lx_draft.specs.Covering.{is_touched, is_noted, IsNotedUp, Covers, IsReady, AreCovered, IsCovering}
+use Rattle.lx_draft.specs.Covering.{IsNotedUp, Covers, KindsStay, AreElements, IsReady, AreCovered, IsCovering}
+use Rattle.lx_draft.proofs.Elements.{sorted-nodes, sorted_stays, element_stays}
 use Rattle.lx_draft.proofs.Touched.{is_over, touched-nodes, noted-nodes, over_up, over_child}
 
 -- ---- marks that go up
@@ -52,13 +53,18 @@ both_told : (a b c d e : Bool) → c ≡ (a || e) → d ≡ (b || e) → c ≡ t
 both_told true b c d e whole new t = inl refl
 both_told false b c d e whole new t = inr (grind (arith, whole, new, t))
 
-pub covered : (w v : Working) (marked : Forest) (ks : List ℕ) → IsForest marked → IsTold w.forest v.forest marked ks
+pub covered : (w v : Working) (marked : Forest) (ks : List ℕ) → IsForest marked → IsTold w.forest v.forest marked ks → KindsStay w.forest v.forest → KindsStay marked v.forest
     → v.marks ≡ mark_nodes marked ks w.marks → v.fresh ≡ mark_nodes marked ks w.fresh → IsReady v → AreCovered w v
-covered w v marked ks h t marks fresh ready = record {
+covered w v marked ks h t kinds now marks fresh ready = record {
   marks = subst (λ n. Covers w.forest w.marks v.forest n) (sym marks) (covers w.forest v.forest marked ks w.marks h t);
   fresh = subst (λ n. Covers w.forest w.fresh v.forest n) (sym fresh) (covers w.forest v.forest marked ks w.fresh h t);
   told = λ q e. both_told (is_touched w.marks q) (is_touched w.fresh q) (is_touched v.marks q) (is_touched v.fresh q) (is_among q ks && has q marked)
       (ap (λ n. is_touched n q) marks ∙ touched-nodes marked ks w.marks q) (ap (λ n. is_touched n q) fresh ∙ touched-nodes marked ks w.fresh q) e;
+  noted = λ q e. both_told (is_noted w.marks q) (is_noted w.fresh q) (is_noted v.marks q) (is_noted v.fresh q) (is_over marked q ks)
+      (ap (λ n. is_noted n q) marks ∙ noted-nodes marked ks w.marks q h) (ap (λ n. is_noted n q) fresh ∙ noted-nodes marked ks w.fresh q h) e;
+  same = λ e. marks ∙ ap (mark_nodes marked ks) e ∙ sym fresh;
+  kinds = kinds;
+  elements = λ a. subst (AreElements v.forest) (sym fresh) (sorted-nodes v.forest marked ks w.fresh (sorted_stays w.forest v.forest w.fresh kinds a) (λ k e. element_stays marked v.forest k now e));
   ready = ready;
 }
 
@@ -67,10 +73,13 @@ covered w v marked ks h t marks fresh ready = record {
 pub told_same : (f : Forest) → IsTold f f f []
 told_same f = record { seen = λ q. inl (refl, refl); above = λ m up. up }
 
+pub kinds_at : (f g : Forest) → g ≡ f → KindsStay f g
+kinds_at f g e = record { each = λ q kind is. ap (λ x. kind_of x q) e ∙ is }
+
 -- a change that leaves forest, keys and marks
 pub covered-same : (w v : Working) → IsReady w → v.forest ≡ w.forest → v.marks ≡ w.marks → v.fresh ≡ w.fresh → v.next_key ≡ w.next_key → AreCovered w v
 covered-same w v r forest marks fresh next =
-    covered w v w.forest [] r.in_order (subst (λ g. IsTold w.forest g w.forest []) (sym forest) (told_same w.forest)) marks fresh (record {
+    covered w v w.forest [] r.in_order (subst (λ g. IsTold w.forest g w.forest []) (sym forest) (told_same w.forest)) (kinds_at w.forest v.forest forest) (kinds_at w.forest v.forest forest) marks fresh (record {
       in_order = subst IsForest (sym forest) r.in_order;
       free = λ q e. ap (has q) forest ∙ r.free q (subst (λ n. n ≤ q) next e);
     })
@@ -94,6 +103,13 @@ covered-then u v w a b = record {
     | inl before ↦ elim (a.told q before) [ inl was ↦ inl was | inr new ↦ inr (b.fresh.touched q new) ]
     | inr new ↦ inr new
   ];
+  noted = λ q e. elim (b.noted q e) [
+    | inl before ↦ elim (a.noted q before) [ inl was ↦ inl was | inr new ↦ inr (b.fresh.noted q new) ]
+    | inr new ↦ inr new
+  ];
+  same = λ e. b.same (a.same e);
+  kinds = record { each = λ q kind e. b.kinds.each q kind (a.kinds.each q kind e) };
+  elements = λ e. b.elements (a.elements e);
   ready = b.ready;
 }
 

@@ -1,5 +1,5 @@
 -- Each step of a draft is covered by what it marks.
-use Rattle.std.proofs.Common.{◌≡◌, ◌∙◌, ℕ, ◌+◌, ◌≤◌, Bool, true, false, ltb, List, [], ◌∷◌, length, Option, None, refl, sym, ap, subst, arith, inl}
+use Rattle.std.proofs.Common.{◌≡◌, ◌∙◌, ℕ, ◌+◌, ◌≤◌, Bool, true, false, cond, ltb, List, [], ◌∷◌, length, Option, None, Some, refl, sym, ap, subst, arith, inl, inr}
 use Rattle.std.specs.Prelude.{slice_get}
 use Rattle.std.specs.Option.{option_or}
 use Rattle.std.proofs.lemmas.Bool.Decides.{eqb_tells}
@@ -13,16 +13,18 @@ use Rattle.lx_forest.specs.Lookups.{has, count, label_of, kind_of, fields_of, ch
 use Rattle.lx_forest.specs.Edits.{with_new, with_fields, take_out, put_in}
 use Rattle.lx_forest.proofs.Edits.{count-with_new, count-with_fields, count-take_out, count-put_in}
 use Rattle.lx_forest.proofs.Order.{IsForest-with_new, IsForest-with_fields, IsForest-take_out, IsForest-put_in}
+use Rattle.lx_forest.proofs.Lookups.{kind_of-with_new, kind_of-with_fields, kind_of-take_out, kind_of-put_in}
+use Rattle.lx_draft.proofs.Touched.{is_some-kind_of}
 use Rattle.lx_links.specs.Faults.{unknown, wrong_fields, set_fault, not_below, detach_fault}
 use Rattle.lx_draft.specs.Working.{Working}
 use Rattle.lx_draft.specs.Marking.{near, mark_nodes, marked_in}
 use Rattle.lx_draft.specs.Selecting.{select_fault}
 use Rattle.lx_draft.specs.Faults.{over_counts, over_limits, put_fault, label_fault, splice_fault}
 use Rattle.lx_draft.specs.Steps.{counted_up, count_step, edited, wrote, made, new_step, differ, marked_if, refielded, set_points, set_step, label_with_piece, splice_points, splice_step, taken, take_step, placed, put_step, mark_step, mark_uncounted_step, select_step}
-use Rattle.lx_draft.specs.Covering.{IsReady, AreCovered, IsCovering}
+use Rattle.lx_draft.specs.Covering.{KindsStay, IsReady, AreCovered, IsCovering}
 use Rattle.lx_draft.specs.Laws.{DraftsAreCovered}
 use Rattle.lx_draft.proofs.Put.{both_none, can_put}
-use Rattle.lx_draft.proofs.Covered.{IsTold, noted_up, covered, covered-same, covered-self, covered-then, covered-answer}
+use Rattle.lx_draft.proofs.Covered.{IsTold, noted_up, covered, kinds_at, covered-same, covered-self, covered-then, covered-answer}
 use Rattle.lx_draft.proofs.CoveredEdits.{told_new, told_set, told_equal, told_take, told_put, index_place}
 
 known : (f : Forest) (k : ℕ) → unknown f k ≡ None → has k f ≡ true
@@ -59,7 +61,7 @@ told_mark k f h = record {
 
 covered-marked : (w u : Working) (k : ℕ) → IsReady w → u.forest ≡ w.forest → u.next_key ≡ w.next_key → u.marks ≡ w.marks → u.fresh ≡ w.fresh → AreCovered w (marked_in w.forest (k ∷ []) u)
 covered-marked w u k r forest next marks fresh =
-    covered w (marked_in w.forest (k ∷ []) u) w.forest (k ∷ []) r.in_order (subst (λ g. IsTold w.forest g w.forest (k ∷ [])) (sym forest) (told_mark k w.forest r.in_order))
+    covered w (marked_in w.forest (k ∷ []) u) w.forest (k ∷ []) r.in_order (subst (λ g. IsTold w.forest g w.forest (k ∷ [])) (sym forest) (told_mark k w.forest r.in_order)) (kinds_at w.forest u.forest forest) (kinds_at w.forest u.forest forest)
     (ap (λ m. mark_nodes w.forest (k ∷ []) m) marks) (ap (λ m. mark_nodes w.forest (k ∷ []) m) fresh) (record {
       in_order = subst IsForest (sym forest) r.in_order;
       free = λ q e. ap (has q) forest ∙ r.free q (subst (λ n. n ≤ q) next e);
@@ -81,11 +83,19 @@ new_free : (w : Working) (l : Label) (q : ℕ) → IsReady w → l.key ≡ w.nex
 new_free w l q r own e =
     ap (λ n. ltb 0 n) (count-with_new q l w.forest) ∙ grind (arith, own, e, r.free q (omega (arith, e)), eqb_tells l.key q)
 
+kinds_new : (l : Label) (f : Forest) → IsForest f → has l.key f ≡ false → KindsStay f (with_new l f)
+kinds_new l f h free = record {
+  each = λ q kind e. kind_of-with_new l f q h free ∙ elim (eqb_tells q l.key) [
+    | inl own ↦ absurd (grind (arith, own.0, own.1, free, e, is_some-kind_of f q))
+    | inr other ↦ ap (λ b. cond b (Some l.kind) (kind_of f q)) other.0 ∙ e
+  ];
+}
+
 covered-made : (kind : Kind) (fields : Fields) (w : Working) → IsReady w → AreCovered w (made kind fields w)
 covered-made kind fields w r =
     let l : Label = record { key = w.next_key; kind = kind; fields = fields } in
     let free : has l.key w.forest ≡ false = r.free w.next_key (omega arith) in
-    covered w (made kind fields w) (with_new l w.forest) (w.next_key ∷ []) (IsForest-with_new l w.forest r.in_order free) (told_new l w.forest r.in_order free) refl refl (record {
+    covered w (made kind fields w) (with_new l w.forest) (w.next_key ∷ []) (IsForest-with_new l w.forest r.in_order free) (told_new l w.forest r.in_order free) (kinds_new l w.forest r.in_order free) (kinds_at (with_new l w.forest) (with_new l w.forest) refl) refl refl (record {
       in_order = IsForest-with_new l w.forest r.in_order free;
       free = λ q e. new_free w l q r refl e;
     })
@@ -103,14 +113,17 @@ set_ready k fields w v r forest next = record {
   free = λ q e. ap (has q) forest ∙ free_still w (with_fields k fields w.forest) q r (subst (λ n. n ≤ q) next e) (count-with_fields q k fields w.forest);
 }
 
+kinds_set : (k : ℕ) (fields : Fields) (f : Forest) → KindsStay f (with_fields k fields f)
+kinds_set k fields f = record { each = λ q kind e. kind_of-with_fields k fields f q ∙ e }
+
 covered-refielded_if : (differs : Bool) (k : ℕ) (fields : Fields) (more : ℕ) (selection : Selection) (w : Working) → IsReady w → has k w.forest ≡ true → differ (fields_of w.forest k) fields ≡ differs
     → AreCovered w (record (marked_if differs w.forest k (wrote more w)) { forest = with_fields k fields w.forest; selection = selection })
 covered-refielded_if true k fields more selection w r there e =
     let v : Working = record (marked_in w.forest (k ∷ []) (wrote more w)) { forest = with_fields k fields w.forest; selection = selection } in
-    covered w v w.forest (k ∷ []) r.in_order (told_set k fields w.forest r.in_order there) refl refl (set_ready k fields w v r refl refl)
+    covered w v w.forest (k ∷ []) r.in_order (told_set k fields w.forest r.in_order there) (kinds_set k fields w.forest) (kinds_set k fields w.forest) refl refl (set_ready k fields w v r refl refl)
 covered-refielded_if false k fields more selection w r there e =
     let v : Working = record (wrote more w) { forest = with_fields k fields w.forest; selection = selection } in
-    covered w v w.forest [] r.in_order (told_equal k fields w.forest e) refl refl (set_ready k fields w v r refl refl)
+    covered w v w.forest [] r.in_order (told_equal k fields w.forest e) (kinds_set k fields w.forest) (kinds_set k fields w.forest) refl refl (set_ready k fields w v r refl refl)
 
 covered-refielded : (k : ℕ) (fields : Fields) (more : ℕ) (moved : Selection → Selection) (w : Working) → IsReady w → has k w.forest ≡ true → AreCovered w (refielded k fields more moved w)
 covered-refielded k fields more moved w r there =
@@ -133,9 +146,12 @@ covered-splice k from to new w v r e =
 
 -- ---- take and put
 
+kinds_take : (k : ℕ) (f : Forest) → IsForest f → KindsStay f (take_out k f)
+kinds_take k f h = record { each = λ q kind e. kind_of-take_out k f q h ∙ e }
+
 covered-taken : (k : ℕ) (w : Working) → IsReady w → has k w.forest ≡ true → AreCovered w (taken k w)
 covered-taken k w r there =
-    covered w (taken k w) w.forest (near w.forest k) r.in_order (told_take k w.forest r.in_order there) refl refl (record {
+    covered w (taken k w) w.forest (near w.forest k) r.in_order (told_take k w.forest r.in_order there) (kinds_take k w.forest r.in_order) (kinds_take k w.forest r.in_order) refl refl (record {
       in_order = IsForest-take_out k w.forest r.in_order;
       free = λ q e. free_still w (take_out k w.forest) q r e (count-take_out q k w.forest);
     })
@@ -151,7 +167,7 @@ covered-placed k p index w r none =
     let before : Option ℕ = slice_get (children_of w.forest p) index in
     let can = can_put w.forest k p index none in
     covered w (placed k p index w) (put_in p before k w.forest) (near (put_in p before k w.forest) k) (IsForest-put_in p before k w.forest r.in_order can)
-    (told_put p before k w.forest r.in_order can (index_place (children_of w.forest p) before index refl)) refl refl (record {
+    (told_put p before k w.forest r.in_order can (index_place (children_of w.forest p) before index refl)) (record { each = λ q kind e. kind_of-put_in p before k w.forest q r.in_order can ∙ e }) (kinds_at (put_in p before k w.forest) (put_in p before k w.forest) refl) refl refl (record {
       in_order = IsForest-put_in p before k w.forest r.in_order can;
       free = λ q e. free_still w (put_in p before k w.forest) q r e (count-put_in q p before k w.forest r.in_order can.parent can.outside);
     })

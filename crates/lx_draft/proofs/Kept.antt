@@ -1,24 +1,20 @@
 -- What holds of every draft still holds after each edit of its forest.
-use Rattle.std.proofs.Common.{◌≡◌, ℕ, ◌+◌, ◌≤◌, cond, ltb, Option, None, Some, Result, Ok, Err, refl, sym, ap, subst, ◌∙◌, arith, inl, inr, ◌⊎◌}
+use Rattle.std.proofs.Common.{◌≡◌, ℕ, ◌+◌, ◌≤◌, ltb, Option, None, Result, Ok, Err, refl, sym, ap, subst, ◌∙◌, arith, inl, inr, ◌⊎◌}
 use Rattle.std.specs.Prelude.{OnOk, OnErr, IfErr}
 use Rattle.std.proofs.lemmas.Bool.Decides.{eqb_tells}
 use Rattle.lx_node.specs.Trees.{nil}
 use Rattle.lx_node.specs.NamedTrees.{total}
-use Rattle.lx_node.specs.OfKind.{IsOfKind}
-use Rattle.lx_node.specs.declared.kind.Kind.{Kind}
 use Rattle.lx_node.specs.declared.fields.Fields.{Fields}
 use Rattle.lx_node.specs.declared.cause.Cause.{Cause}
 use Rattle.lx_node.specs.declared.cause.Fault.{Fault}
 use Rattle.lx_node.specs.declared.cause.Fault.TheVariants as fault
 use Rattle.lx_forest.specs.Forest.{Forest, Label}
-use Rattle.lx_forest.specs.Lookups.{has, count, label_of, kind_of, IsForest}
-use Rattle.lx_forest.specs.Edits.{with_new, with_fields, fields_at, take_out, put_in, CanPut}
+use Rattle.lx_forest.specs.Lookups.{has, count, IsForest}
+use Rattle.lx_forest.specs.Edits.{with_new, with_fields, take_out, put_in, CanPut}
 use Rattle.lx_forest.proofs.Edits.{count-with_new, count-with_fields, count-take_out, count-put_in, total-with_new, total-with_fields, total-take_out, total-put_in}
-use Rattle.std.specs.Prelude.{option_map}
-use Rattle.lx_forest.proofs.Walks.{cases_option}
-use Rattle.lx_forest.proofs.Lookups.{key-label_of, label_of-with_new, label_of-with_fields, label_of-take_out, label_of-put_in}
-use Rattle.lx_links.specs.Faults.{set_fault, Refuses}
-use Rattle.lx_draft.specs.Working.{Working, IsWorking, HasRoom, IsSuited, most_nodes}
+use Rattle.lx_links.specs.Faults.{Refuses}
+use Rattle.lx_node.specs.Limits.{most_nodes}
+use Rattle.lx_draft.specs.Working.{Working, IsWorking, HasRoom}
 
 -- a call of links after which a cause can't be, as there was none before
 pub after_call : (r : Result Unit Fault) (old new made : Forest) (first : Option Cause) → first ≡ None → OnOk r ((first ≡ None) × (new ≡ made)) → IfErr r (Refuses old first new) → (new ≡ made) ⊎ (new ≡ nil)
@@ -35,12 +31,11 @@ working_nil w h = record {
   next = h.next;
   free = λ q e. refl;
   few = omega arith;
-  suited = λ q. tt;
 }
 
--- the forest of another with the same keys, as many nodes and suited fields
-pub working_with : (w : Working) (g : Forest) → IsWorking w → ((q : ℕ) → count q g ≡ count q w.forest) → total g ≡ total w.forest → ((q : ℕ) → IsSuited (label_of g q)) → IsWorking (record w { forest = g })
-working_with w g h same few suited = record {
+-- the forest of another with the same keys and as many nodes
+pub working_with : (w : Working) (g : Forest) → IsWorking w → ((q : ℕ) → count q g ≡ count q w.forest) → total g ≡ total w.forest → IsWorking (record w { forest = g })
+working_with w g h same few = record {
   counted = h.counted;
   edits = h.edits;
   written = h.written;
@@ -48,41 +43,19 @@ working_with w g h same few suited = record {
   next = h.next;
   free = λ q e. ap (λ n. ltb 0 n) (same q) ∙ h.free q e;
   few = subst (λ n. n ≤ most_nodes + w.counted) (sym few) h.few;
-  suited = suited;
 }
 
 pub working_take : (w : Working) (k : ℕ) → IsForest w.forest → IsWorking w → IsWorking (record w { forest = take_out k w.forest })
 working_take w k i h =
-    working_with w (take_out k w.forest) h (λ q. count-take_out q k w.forest) (total-take_out k w.forest) (λ q. subst IsSuited (sym (label_of-take_out k w.forest q i)) (h.suited q))
+    working_with w (take_out k w.forest) h (λ q. count-take_out q k w.forest) (total-take_out k w.forest)
 
 pub working_put : (w : Working) (p : ℕ) (before : Option ℕ) (k : ℕ) → IsForest w.forest → CanPut p k w.forest → IsWorking w → IsWorking (record w { forest = put_in p before k w.forest })
 working_put w p before k i c h =
-    working_with w (put_in p before k w.forest) h (λ q. count-put_in q p before k w.forest i c.parent c.outside) (total-put_in p before k w.forest i c.parent c.outside) (λ q. subst IsSuited (sym (label_of-put_in p before k w.forest q i c)) (h.suited q))
+    working_with w (put_in p before k w.forest) h (λ q. count-put_in q p before k w.forest i c.parent c.outside) (total-put_in p before k w.forest i c.parent c.outside)
 
--- the fields that were found to be of the node's kind
-right_fields : (f : Forest) (k : ℕ) (fields : Fields) (kind : Kind) → set_fault k fields f ≡ None → kind_of f k ≡ Some kind → IsOfKind kind fields
-right_fields f k fields kind none e = grind (arith, none, e)
-
-suited_at : (k : ℕ) (fields : Fields) (l : Label) → IsOfKind l.kind l.fields → (l.key ≡ k → IsOfKind l.kind fields) → IsSuited (Some (fields_at k fields l))
-suited_at k fields l own other =
-    elim (eqb_tells l.key k) [
-      | inl same ↦ subst (λ f. IsOfKind l.kind f) (sym (ap (λ t. cond t fields l.fields) same.0)) (other same.1)
-      | inr apart ↦ subst (λ f. IsOfKind l.kind f) (sym (ap (λ t. cond t fields l.fields) apart.0)) own
-    ]
-
-suited_set : (f : Forest) (k : ℕ) (fields : Fields) (q : ℕ) → ((x : ℕ) → IsSuited (label_of f x)) → set_fault k fields f ≡ None → IsSuited (label_of (with_fields k fields f) q)
-suited_set f k fields q suited none =
-    elim (cases_option (label_of f q)) [
-      | inl absent ↦ subst IsSuited (sym (label_of-with_fields k fields f q ∙ ap (λ o. option_map (fields_at k fields) o) absent)) tt
-      | inr (l, there) ↦
-          subst IsSuited (sym (label_of-with_fields k fields f q ∙ ap (λ o. option_map (fields_at k fields) o) there))
-          (suited_at k fields l (subst IsSuited there (suited q))
-          (λ same. right_fields f k fields l.kind none (ap (λ x. kind_of f x) (sym same ∙ key-label_of f q l there) ∙ ap (λ o. option_map (λ m. m.kind) o) there)))
-    ]
-
-pub working_set : (w : Working) (k : ℕ) (fields : Fields) → set_fault k fields w.forest ≡ None → IsWorking w → IsWorking (record w { forest = with_fields k fields w.forest })
-working_set w k fields none h =
-    working_with w (with_fields k fields w.forest) h (λ q. count-with_fields q k fields w.forest) (total-with_fields k fields w.forest) (λ q. suited_set w.forest k fields q h.suited none)
+pub working_set : (w : Working) (k : ℕ) (fields : Fields) → IsWorking w → IsWorking (record w { forest = with_fields k fields w.forest })
+working_set w k fields h =
+    working_with w (with_fields k fields w.forest) h (λ q. count-with_fields q k fields w.forest) (total-with_fields k fields w.forest)
 
 -- so where such a call answers an error, the links have failed
 pub after_error : (r : Result Unit Fault) (old new : Forest) (first : Option Cause) → first ≡ None → IfErr r (Refuses old first new) → OnErr r (new ≡ nil)
@@ -91,9 +64,9 @@ after_error (Err (fault.Cause cause)) old new first none err = absurd (grind (ar
 after_error (Err fault.Memory) old new first none err = err.1
 
 -- a new node's key is the next one, and its count leaves room for it
-pub working_new : (w : Working) (g : Forest) (l : Label) → IsForest w.forest → IsWorking w → HasRoom w → l.key ≡ w.next_key → IsOfKind l.kind l.fields
+pub working_new : (w : Working) (g : Forest) (l : Label) → IsForest w.forest → IsWorking w → HasRoom w → l.key ≡ w.next_key
     → g ≡ with_new l w.forest → IsWorking (record w { forest = g; next_key = w.next_key + 1 })
-working_new w g l i h room key of_kind made = record {
+working_new w g l i h room key made = record {
   counted = h.counted;
   edits = h.edits;
   written = h.written;
@@ -101,8 +74,4 @@ working_new w g l i h room key of_kind made = record {
   next = omega (arith, room.next);
   free = λ q e. ap (λ f. has q f) made ∙ ap (λ n. ltb 0 n) (count-with_new q l w.forest) ∙ grind (arith, key, e, h.free q (omega (arith, e)), eqb_tells l.key q);
   few = omega (arith, ap total made, total-with_new l w.forest, room.few);
-  suited = λ q. subst IsSuited (sym (ap (λ f. label_of f q) made ∙ label_of-with_new l w.forest q i (ap (λ k. has k w.forest) key ∙ h.free w.next_key (omega arith)))) (elim (eqb_tells q l.key) [
-    | inl same ↦ subst IsSuited (sym (ap (λ t. cond t (Some l) (label_of w.forest q)) same.0)) of_kind
-    | inr apart ↦ subst IsSuited (sym (ap (λ t. cond t (Some l) (label_of w.forest q)) apart.0)) (h.suited q)
-  ]);
 }

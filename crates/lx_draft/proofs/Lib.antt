@@ -7,7 +7,12 @@ pub mod Covered
 pub mod CoveredEdits
 pub mod CoveredSteps
 pub mod Put
+pub mod Gaps
 pub mod Spliced
 pub mod Started
 pub mod Swept
 pub mod Touched
+pub mod Drafted
+pub mod Depths
+pub mod Raised
+pub mod Elements

@@ -1,7 +1,7 @@
 -- A text in which a piece is replaced: why that is refused, and that it still has fields of its kind.
 use Rattle.std.proofs.Common.{◌≡◌, ℕ, true, cond, List, Option, None, Some, refl, ◌∙◌, arith}
 use Rattle.std.specs.Prelude.{option_map, is_some}
-use Rattle.lx_node.specs.OfKind.{is_of_kind, fits_kind, is_text_of, is_text}
+use Rattle.lx_node.specs.OfKind.{IsOfKind, is_of_kind, fits_kind, is_text_of, are_text_fields}
 use Rattle.lx_node.specs.Kinds.{is_possible}
 use Rattle.lx_node.specs.declared.kind.Kind.{Kind}
 use Rattle.lx_node.specs.declared.kind.Kind.TheVariants as kind
@@ -21,7 +21,6 @@ use Rattle.lx_forest.specs.Records.{record_at}
 use Rattle.lx_links.specs.Stands.{node_of}
 use Rattle.lx_forest.proofs.Edits.{is_some-spot}
 use Rattle.lx_links.specs.Faults.{unknown, set_fault}
-use Rattle.lx_draft.specs.Working.{IsSuited}
 use Rattle.lx_draft.specs.Faults.{text_fields, text_in, splice_fault, TellsFault}
 use Rattle.lx_draft.specs.Steps.{with_text}
 
@@ -61,16 +60,16 @@ pub fault_of_text : (f : Forest) (k : ℕ) (t : TextFields) (from to : ℕ) → 
 fault_of_text f k t from to here = fault_by f k (label_of f k) t from to refl here
 
 -- fields that are a text's are of its kind with any other text too
-suited_text : (k : Kind) (x : Fields) (t : TextFields) (text : List ℕ) → text_fields k x ≡ Some t → is_of_kind k x ≡ true → is_of_kind k (with_text t text) ≡ true
-unfolding is_of_kind fits_kind is_text_of is_text is_possible
+suited_text : (k : Kind) (x : Fields) (t : TextFields) (text : List ℕ) → text_fields k x ≡ Some t → IsOfKind kind.Text (fields.Text t) → is_of_kind k (with_text t text) ≡ true
+unfolding is_of_kind fits_kind is_text_of are_text_fields is_possible
 suited_text kind.Text (fields.Text u) t text here h = grind (arith, here, h)
 suited_text k x t text here h = absurd (grind (arith, here))
 
-set_by : (f : Forest) (k : ℕ) (o : Option Label) (t : TextFields) (text : List ℕ) → label_of f k ≡ o → text_in o ≡ Some t → IsSuited o → set_fault k (with_text t text) f ≡ None
+set_by : (f : Forest) (k : ℕ) (o : Option Label) (t : TextFields) (text : List ℕ) → label_of f k ≡ o → text_in o ≡ Some t → IsOfKind kind.Text (fields.Text t) → set_fault k (with_text t text) f ≡ None
 set_by f k None t text e here h = absurd (grind (arith, here))
 set_by f k (Some l) t text e here h = rw (known_with_label f k l e, e, suited_text l.kind l.fields t text here h) refl
 
-pub set_of_text : (f : Forest) (k : ℕ) (t : TextFields) (text : List ℕ) → text_in (label_of f k) ≡ Some t → IsSuited (label_of f k) → set_fault k (with_text t text) f ≡ None
+pub set_of_text : (f : Forest) (k : ℕ) (t : TextFields) (text : List ℕ) → text_in (label_of f k) ≡ Some t → IsOfKind kind.Text (fields.Text t) → set_fault k (with_text t text) f ≡ None
 set_of_text f k t text here h = set_by f k (label_of f k) t text refl here h
 
 -- what an error of the text's own call tells

@@ -1,5 +1,6 @@
 -- What a sweep leaves of a draft, and when it may be committed.
-use Rattle.std.proofs.Common.{◌≡◌, ◌≢◌, ℕ, ◌-◌, ◌^◌, ◌<◌, ◌≤◌, Bool, true, false, cond, Option, None, Some, refl, sym, subst, arith}
+use Rattle.std.proofs.Common.{◌≡◌, ◌≢◌, ℕ, ◌-◌, ◌^◌, ◌<◌, ◌≤◌, false, List, Option, None, Some, refl, sym, ap, ◌∙◌, subst, arith, Result, Ok, Err}
+use Rattle.std.specs.Prelude.{OnOk}
 use Rattle.std.specs.Option.{option_or}
 use Rattle.std.proofs.lemmas.Bool.Decides.{nat_tests}
 use Rattle.lx_node.specs.Trees.{nil}
@@ -8,14 +9,20 @@ use Rattle.lx_node.specs.Strings.{capped}
 use Rattle.lx_node.specs.declared.cause.Cause.{Cause}
 use Rattle.lx_node.specs.declared.cause.Limit.{Limit}
 use Rattle.lx_node.specs.declared.cause.Limit.TheVariants.{Depth, Nodes, Characters, KeyCount}
-use Rattle.lx_forest.specs.Forest.{Forest, Label}
-use Rattle.lx_forest.specs.Lookups.{has, label_of, is_attached, IsForest}
+use Rattle.lx_forest.specs.Forest.{Forest}
+use Rattle.lx_forest.specs.Lookups.{has, IsForest}
 use Rattle.lx_forest.specs.Edits.{drop_detached}
 use Rattle.lx_forest.proofs.Edits.{total-drop_detached-le}
-use Rattle.lx_forest.proofs.Lookups.{label_of-drop_detached}
 use Rattle.lx_links.specs.Stands.{Sound}
 use Rattle.lx_links.proofs.Up.{not_within}
-use Rattle.lx_draft.specs.Working.{Working, IsWorking, IsSuited, MayStart, most_depth, most_nodes, most_characters, most_key}
+use Rattle.lx_forest.proofs.Loose.{moved-drop_detached}
+use Rattle.lx_forest.proofs.Order.{IsForest-drop_detached}
+use Rattle.lx_forest.proofs.Weights.{drop_detached-twice}
+use Rattle.lx_draft.proofs.Raised.{raised-drop_detached}
+use Rattle.lx_draft.proofs.Depths.{whole_of, le-tree_depth}
+use Rattle.lx_node.specs.Limits.{most_depth, most_nodes, most_characters, most_key}
+use Rattle.lx_draft.specs.Working.{Working, IsWorking, MayStart}
+use Rattle.lx_draft.specs.Drafted.{IsDrafted}
 use Rattle.lx_draft.specs.Selecting.{selection_lost}
 use Rattle.lx_draft.specs.Faults.{over}
 use Rattle.lx_draft.specs.Freezing.{freeze_fault, tree_depth, tree_characters}
@@ -27,13 +34,6 @@ absent_swept : (f : Forest) (q : ℕ) → has q f ≡ false → has q (drop_deta
 unfolding drop_detached
 absent_swept f q absent = not_within f 0 q absent
 
-suited_if : (attached : Bool) (o : Option Label) → IsSuited o → IsSuited (cond attached o None)
-suited_if true o h = h
-suited_if false o h = tt
-
-suited_swept : (f : Forest) (q : ℕ) → IsForest f → IsSuited (label_of f q) → IsSuited (label_of (drop_detached f) q)
-suited_swept f q h suited = subst IsSuited (sym (label_of-drop_detached f q h)) (suited_if (is_attached f q) (label_of f q) suited)
-
 working_swept : (w : Working) → IsForest w.forest → IsWorking w → IsWorking (record w { forest = drop_detached w.forest })
 working_swept w h i =
     record {
@@ -44,13 +44,24 @@ working_swept w h i =
       next = i.next;
       free = λ q above. absent_swept w.forest q (i.free q above);
       few = omega (arith, i.few, total-drop_detached-le w.forest);
-      suited = λ q. suited_swept w.forest q h (i.suited q);
     }
 
-pub is_working-swept : (v w : Working) (f : Forest) → w ≡ v → Sound v.forest → v.forest ≢ nil → IsWorking w → f ≡ drop_detached w.forest → IsWorking (record w { forest = f })
-is_working-swept v w f same sound living i e =
+pub drafted_swept : (v w : Working) (ks : List ℕ) (f : Forest) → w ≡ v → Sound v.forest → v.forest ≢ nil → IsDrafted w ks → f ≡ drop_detached w.forest → IsDrafted (record w { forest = f }) ks
+drafted_swept v w ks f same sound living i e =
     let in_order : IsForest w.forest = subst (λ (u : Working). IsForest u.forest) (sym same) (sound.in_order living) in
-    subst (λ g. IsWorking (record w { forest = g })) (sym e) (working_swept w in_order i)
+    subst (λ g. IsDrafted (record w { forest = g }) ks) (sym e) (record { working = working_swept w in_order i.working; moved = moved-drop_detached most_depth w.forest ks in_order i.moved; raised = raised-drop_detached w.forest w.marks in_order i.raised; raised_fresh = raised-drop_detached w.forest w.fresh in_order i.raised_fresh })
+
+-- what is left of the forest after a sweep
+pub swept_whole : {E : Type 0} (r : Result Unit E) (v w new : Working) (f : Forest) → Sound v.forest → v.forest ≢ nil → f ≡ drop_detached v.forest → w.forest ≡ f → OnOk r (new ≡ w) → OnOk r (drop_detached new.forest ≡ new.forest)
+swept_whole (Err e) v w new f sound living dropped same kept = tt
+swept_whole (Ok u) v w new f sound living dropped same kept =
+    let all : new.forest ≡ drop_detached v.forest = ap (λ (x : Working). x.forest) kept ∙ same ∙ dropped in
+    subst (λ x. drop_detached x ≡ x) (sym all) (drop_detached-twice v.forest (sound.in_order living))
+
+pub swept_in_order : {E : Type 0} (r : Result Unit E) (v w new : Working) (f : Forest) → Sound v.forest → v.forest ≢ nil → f ≡ drop_detached v.forest → w.forest ≡ f → OnOk r (new ≡ w) → OnOk r (IsForest new.forest)
+swept_in_order (Err e) v w new f sound living dropped same kept = tt
+swept_in_order (Ok u) v w new f sound living dropped same kept =
+    subst IsForest (sym (ap (λ (x : Working). x.forest) kept ∙ same ∙ dropped)) (IsForest-drop_detached v.forest (sound.in_order living))
 
 -- ---- the limits
 
@@ -67,16 +78,16 @@ unfolding capped
 within limit most n small h = grind (arith, nat_tests)
 
 -- a draft that nothing keeps from being committed leaves a forest from which an update may start
-pub may_start : (w : Working) → IsWorking w → freeze_fault w ≡ None → MayStart w.forest w.next_key
-may_start w i none =
+pub may_start : (w : Working) → IsWorking w → IsForest w.forest → drop_detached w.forest ≡ w.forest → freeze_fault w ≡ None → MayStart w.forest w.next_key
+may_start w i h same none =
     let limits = none_then (selection_lost w.selection w.forest) _ none in
     let wide = none_then (over Depth most_depth (tree_depth w.forest)) _ limits in
     let long = none_then (over Nodes most_nodes (total w.forest)) _ wide in
     let last = none_then (over Characters most_characters (tree_characters w.forest)) _ long in
     record {
-      first = i.first;
       next = within KeyCount most_key w.next_key (omega arith) last;
       free = i.free;
       few = within Nodes most_nodes (total w.forest) (omega arith) (none_first (over Nodes most_nodes (total w.forest)) _ wide);
-      suited = i.suited;
+      whole = λ q there. whole_of w.forest q h same there;
+      shallow = λ q d at. omega (arith, le-tree_depth w.forest q d at, within Depth most_depth (tree_depth w.forest) (omega arith) (none_first (over Depth most_depth (tree_depth w.forest)) _ limits));
     }

@@ -8,10 +8,8 @@ use Rattle.lx_node.specs.Kinds.{is_element}
 use Rattle.lx_node.specs.Spots.{Spot}
 use Rattle.lx_node.specs.declared.kind.Kind.{Kind}
 use Rattle.lx_node.proofs.Subtrees.{count-alone-le}
-use Rattle.lx_marks.specs.Marks.{Marked, flag_in, with_leaf, with_element}
-use Rattle.lx_marks.specs.Laws.{joined}
-use Rattle.lx_marks.proofs.Names.{is_among-with_name}
-use Rattle.lx_marks.proofs.Flags.{flag_in-flagged}
+use Rattle.lx_marks.specs.Marks.{Marked, is_touched, is_noted, with_leaf, with_element}
+use Rattle.lx_marks.proofs.Told.{touched-leaf, touched-element, noted-leaf, noted-element}
 use Rattle.lx_forest.specs.Forest.{Forest, Label}
 use Rattle.lx_forest.specs.Lookups.{has, spot, key_of, kind_of, parent_of, ancestors, is_within, IsForest}
 use Rattle.lx_forest.proofs.Edits.{is_some-spot}
@@ -19,36 +17,6 @@ use Rattle.lx_forest.proofs.Lookups.{has-child}
 use Rattle.lx_forest.proofs.Walks.{no_parent, ancestors-top, ancestors-step}
 use Rattle.lx_forest.proofs.Within.{is_within-ancestors, is_within-trans}
 use Rattle.lx_draft.specs.Marking.{mark_above, mark_itself, mark_node, mark_nodes}
-use Rattle.lx_draft.specs.Covering.{is_true_flag, is_touched, is_noted}
-
--- ---- one mark
-
-true_flag-joined : (a b : Option Bool) → is_true_flag (joined a b) ≡ (is_true_flag a || is_true_flag b)
-true_flag-joined None b = refl
-true_flag-joined (Some x) None = grind arith
-true_flag-joined (Some x) (Some y) = refl
-
-is_some-joined : (a : Option Bool) (flag : Bool) → is_some (joined a (Some flag)) ≡ true
-is_some-joined None flag = refl
-is_some-joined (Some x) flag = refl
-
-touched-leaf : (k : ℕ) (m : Marked) (q : ℕ) → is_touched (with_leaf k m) q ≡ (is_touched m q || eqb q k)
-unfolding with_leaf
-touched-leaf k m q = grind (arith, is_among-with_name k m.leaves q)
-
-touched-element : (k : ℕ) (flag : Bool) (m : Marked) (q : ℕ) → is_touched (with_element k flag m) q ≡ (is_touched m q || (eqb q k && flag))
-unfolding with_element
-touched-element k flag m q =
-    grind (arith, flag_in-flagged k flag m.elements q, true_flag-joined (flag_in m.elements q) (Some flag))
-
-noted-leaf : (k : ℕ) (m : Marked) (q : ℕ) → is_noted (with_leaf k m) q ≡ (is_noted m q || eqb q k)
-unfolding with_leaf
-noted-leaf k m q = grind (arith, is_among-with_name k m.leaves q)
-
-noted-element : (k : ℕ) (flag : Bool) (m : Marked) (q : ℕ) → is_noted (with_element k flag m) q ≡ (is_noted m q || eqb q k)
-unfolding with_element
-noted-element k flag m q =
-    grind (arith, flag_in-flagged k flag m.elements q, is_some-joined (flag_in m.elements q) flag)
 
 -- ---- a node and what is above it
 
@@ -95,7 +63,7 @@ touched-itself : (o : Option Kind) (k : ℕ) (m : Marked) (q : ℕ) → is_touch
 touched-itself None k m q = no_more (is_touched m q) (eqb q k)
 touched-itself (Some kind) k m q = touched-by (is_element kind) k m q ∙ as_told (is_touched m q) (eqb q k)
 
-noted-itself : (o : Option Kind) (k : ℕ) (m : Marked) (q : ℕ) → is_noted (mark_itself o k m) q ≡ (is_noted m q || (eqb q k && is_some o))
+pub noted-itself : (o : Option Kind) (k : ℕ) (m : Marked) (q : ℕ) → is_noted (mark_itself o k m) q ≡ (is_noted m q || (eqb q k && is_some o))
 noted-itself None k m q = no_more (is_noted m q) (eqb q k)
 noted-itself (Some kind) k m q = noted-by (is_element kind) k m q ∙ as_told (is_noted m q) (eqb q k)
 
@@ -103,7 +71,7 @@ some_mapped : {X Y : Type 0} (f : X → Y) (o : Option X) → is_some (option_ma
 some_mapped f None = refl
 some_mapped f (Some x) = refl
 
-is_some-kind_of : (f : Forest) (k : ℕ) → is_some (kind_of f k) ≡ has k f
+pub is_some-kind_of : (f : Forest) (k : ℕ) → is_some (kind_of f k) ≡ has k f
 is_some-kind_of f k =
     some_mapped (λ (l : Label). l.kind) (option_map (λ (s : Spot Label). s.label) (spot f k))
     ∙ some_mapped (λ (s : Spot Label). s.label) (spot f k) ∙ is_some-spot f k

@@ -1,26 +1,13 @@
 -- What marks tell of a change: every node that isn't marked itself is as it was.
-use Rattle.std.specs.Prelude.{ℕ, ◌≡◌, ◌≤◌, ◌⊎◌, ◌||◌, Bool, true, false, is_some, Option, None, Some, Result, Ok}
-use Rattle.lx_node.specs.Siblings.{is_among}
+use Rattle.std.specs.Prelude.{ℕ, ◌≡◌, ◌≤◌, ◌⊎◌, Bool, true, false, Option, None, Some, Result, Ok}
+use Rattle.lx_node.specs.Kinds.{is_element}
+use Rattle.lx_node.specs.declared.kind.Kind.{Kind}
 use Rattle.lx_node.specs.declared.cause.Cause.{Cause}
-use Rattle.lx_marks.specs.Marks.{Marked, flag_in}
+use Rattle.lx_marks.specs.Marks.{Marked, flag_in, is_true_flag, is_touched, is_noted}
 use Rattle.lx_forest.specs.Forest.{Forest}
-use Rattle.lx_forest.specs.Lookups.{has, spot, parent_of, IsForest}
+use Rattle.lx_forest.specs.Lookups.{has, spot, kind_of, parent_of, IsForest}
 use Rattle.lx_forest.specs.Records.{record_at}
 use Rattle.lx_draft.specs.Working.{Working}
-
--- ---- marks
-
-abbrev pub is_true_flag : Option Bool → Bool
-is_true_flag None = false
-is_true_flag (Some flag) = flag
-
--- whether a node is marked itself: as a leaf, or as an element whose flag is true
-abbrev pub is_touched : Marked → ℕ → Bool
-is_touched m q = is_among q m.leaves || is_true_flag (flag_in m.elements q)
-
--- whether it is marked at all: itself, or since something below it is
-abbrev pub is_noted : Marked → ℕ → Bool
-is_noted m q = is_among q m.leaves || is_some (flag_in m.elements q)
 
 -- above each marked node every node is marked
 abbrev pub IsNotedUp : Forest → Marked → Type 0
@@ -37,6 +24,18 @@ pub record Covers (f : Forest) (m : Marked) (g : Forest) (n : Marked) : Type 0 w
 
 -- ---- drafts
 
+-- every node keeps its kind
+pub record KindsStay (f g : Forest) : Type 0 where
+  pub each : (q : ℕ) (kind : Kind) → kind_of f q ≡ Some kind → kind_of g q ≡ Some kind
+
+abbrev pub is_element_in : Option Kind → Bool
+is_element_in None = false
+is_element_in (Some kind) = is_element kind
+
+-- only elements are marked as elements themselves
+pub record AreElements (f : Forest) (m : Marked) : Type 0 where
+  pub each : (q : ℕ) → is_true_flag (flag_in m.elements q) ≡ true → is_element_in (kind_of f q) ≡ true
+
 -- what an update can rely on between two edits of a draft: it hasn't failed, and the next key and those above it are free
 pub record IsReady (w : Working) : Type 0 where
   pub in_order : IsForest w.forest
@@ -48,6 +47,10 @@ pub record AreCovered (w v : Working) : Type 0 where
   pub marks : Covers w.forest w.marks v.forest v.marks
   pub fresh : Covers w.forest w.fresh v.forest v.fresh
   pub told : (q : ℕ) → is_touched v.marks q ≡ true → (is_touched w.marks q ≡ true) ⊎ (is_touched v.fresh q ≡ true)
+  pub noted : (q : ℕ) → is_noted v.marks q ≡ true → (is_noted w.marks q ≡ true) ⊎ (is_noted v.fresh q ≡ true)
+  pub same : w.marks ≡ w.fresh → v.marks ≡ v.fresh
+  pub kinds : KindsStay w.forest v.forest
+  pub elements : AreElements w.forest w.fresh → AreElements v.forest v.fresh
   pub ready : IsReady v
 
 -- a step whose every result is covered

@@ -18,7 +18,8 @@ use Rattle.lx_text.specs.Texts.{slice_fault}
 use Rattle.lx_forest.specs.Forest.{Forest, Label}
 use Rattle.lx_forest.specs.Lookups.{label_of, kind_of, size_of}
 use Rattle.lx_links.specs.Faults.{unknown, bound_to, misfit}
-use Rattle.lx_draft.specs.Working.{Working, most_counts, most_written}
+use Rattle.lx_node.specs.Limits.{most_counts, most_written}
+use Rattle.lx_draft.specs.Working.{Working}
 
 -- a number that was reached is beyond a limit
 abbrev pub over_at : Limit → ℕ → ℕ → Option Cause

@@ -12,7 +12,8 @@ use Rattle.lx_marks.specs.Marks.{Marked}
 use Rattle.lx_forest.specs.Forest.{Forest}
 use Rattle.lx_forest.specs.Lookups.{has, fields_of, depth, preorder}
 use Rattle.lx_forest.specs.Edits.{drop_detached}
-use Rattle.lx_draft.specs.Working.{Working, most_depth, most_nodes, most_characters, most_key}
+use Rattle.lx_node.specs.Limits.{most_depth, most_nodes, most_characters, most_key}
+use Rattle.lx_draft.specs.Working.{Working}
 use Rattle.lx_draft.specs.Selecting.{selection_lost}
 use Rattle.lx_draft.specs.Faults.{answer, over}
 
@@ -58,14 +59,20 @@ characters_at f k = characters_in (fields_of f k)
 abbrev pub tree_characters : Forest → ℕ
 tree_characters f = sum_by (characters_at f) (preorder f)
 
+-- the limits on what there is in a state with this next key, the first that it is beyond
+abbrev pub size_fault : Forest → ℕ → Option Cause
+size_fault f next_key =
+    option_or (over Nodes most_nodes (total f))
+    (option_or (over Characters most_characters (tree_characters f)) (over KeyCount most_key next_key))
+
+-- the first limit that a state with this next key is beyond
+abbrev pub limits_fault : Forest → ℕ → Option Cause
+limits_fault f next_key = option_or (over Depth most_depth (tree_depth f)) (size_fault f next_key)
+
 -- Why a state with this next key can't be committed, the first cause: what its selection has lost, and the limits that it
 -- is beyond.
 abbrev pub state_fault : Forest → Selection → ℕ → Option Cause
-state_fault f selection next_key =
-    option_or (selection_lost selection f)
-    (option_or (over Depth most_depth (tree_depth f))
-    (option_or (over Nodes most_nodes (total f))
-    (option_or (over Characters most_characters (tree_characters f)) (over KeyCount most_key next_key))))
+state_fault f selection next_key = option_or (selection_lost selection f) (limits_fault f next_key)
 
 abbrev pub freeze_fault : Working → Option Cause
 freeze_fault w = state_fault w.forest w.selection w.next_key

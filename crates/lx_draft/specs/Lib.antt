@@ -3,9 +3,12 @@ pub mod Marking
 pub mod Selecting
 pub mod Faults
 pub mod Steps
+pub mod Beside
 pub mod Freezing
 pub mod Inside
 pub mod Points
 pub mod Rounds
 pub mod Covering
 pub mod Laws
+pub mod Raised
+pub mod Drafted

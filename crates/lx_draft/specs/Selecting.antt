@@ -1,9 +1,9 @@
 -- Which selections a forest has a place for.
-use Rattle.std.specs.Prelude.{ℕ, Bool, true, false, ◌&&◌, nat_le, min, if◌then◌else◌, List, [], ◌∷◌, Option, None, Some}
+use Rattle.std.specs.Prelude.{ℕ, Bool, false, ◌&&◌, nat_le, min, if◌then◌else◌, List, [], ◌∷◌, Option, None, Some}
 use Rattle.std.specs.Option.{option_or}
-use Rattle.lx_node.specs.Kinds.{is_element}
+use Rattle.lx_node.specs.Kinds.{is_element, has_characters, is_table, is_cell}
+use Rattle.lx_node.specs.Limits.{last_u32}
 use Rattle.lx_node.specs.declared.kind.Kind.{Kind}
-use Rattle.lx_node.specs.declared.kind.Kind.TheVariants.{Text, Tab, Table, Cell}
 use Rattle.lx_node.specs.declared.fields.Fields.{Fields}
 use Rattle.lx_node.specs.declared.fields.Fields.TheVariants as fields
 use Rattle.lx_node.specs.declared.cause.Point.{Point}
@@ -19,28 +19,14 @@ use Rattle.lx_forest.specs.Forest.{Forest}
 use Rattle.lx_forest.specs.Lookups.{has, kind_of, fields_of, size_of, is_within}
 use Rattle.lx_links.specs.Faults.{unknown}
 
--- texts and tabs have characters
-abbrev pub is_text_kind : Kind → Bool
-is_text_kind Text = true
-is_text_kind Tab = true
-is_text_kind other = false
-
-abbrev pub is_table_kind : Kind → Bool
-is_table_kind Table = true
-is_table_kind other = false
-
-abbrev pub is_cell_kind : Kind → Bool
-is_cell_kind Cell = true
-is_cell_kind other = false
-
 -- a point counts characters in a text or tab, and children in an element
 abbrev pub counts_in : PointKind → Kind → Bool
-counts_in point.Text kind = is_text_kind kind
+counts_in point.Text kind = has_characters kind
 counts_in point.Element kind = is_element kind
 
 -- the length of a text as an offset tells it, which ends at the last number of a u32
 abbrev pub length_told : List ℕ → ℕ
-length_told text = min (text_length text) 4294967295
+length_told text = min (text_length text) last_u32
 
 abbrev pub length_of : Option Fields → ℕ
 length_of (Some (fields.Text text)) = length_told text.text
@@ -82,7 +68,7 @@ range_fault f a b =
 abbrev pub cells_fault : Forest → ℕ → ℕ → ℕ → Option Cause
 cells_fault f table a b =
     option_or (unknown f table) (option_or (unknown f a) (option_or (unknown f b)
-    (option_or (unlike is_table_kind (kind_of f table)) (option_or (unlike is_cell_kind (kind_of f a)) (option_or (unlike is_cell_kind (kind_of f b))
+    (option_or (unlike is_table (kind_of f table)) (option_or (unlike is_cell (kind_of f a)) (option_or (unlike is_cell (kind_of f b))
     (option_or (outside_table f table a) (outside_table f table b)))))))
 
 abbrev pub select_fault : Selection → Forest → Option Cause

@@ -2,6 +2,7 @@ ghost use Rattle.std.specs.Prelude.{◌≡◌};
 ghost use Rattle.lx_draft.specs.Faults.{over_at};
 
 use crate::draft::Draft;
+use lx_node::limits::{MOST_COUNTS, MOST_WRITTEN};
 use lx_node::{Cause, Limit};
 
 /// What was reached is beyond the limit.
@@ -17,7 +18,8 @@ pub(crate) fn over(limit: Limit, most: u64, reached: u64) -> Option<Cause>
 
 impl Draft {
     ghost use Rattle.std.specs.Prelude.{◌+◌, ◌≤◌, ◌<◌, None, Some, Ok, Err, OnOk, IfOk, IfErr, IfNone};
-    ghost use Rattle.lx_draft.specs.Working.{most_counts, most_written, HasRoom};
+    ghost use Rattle.lx_node.specs.Limits.{most_counts, most_written};
+    ghost use Rattle.lx_draft.specs.Working.{HasRoom};
     ghost use Rattle.lx_draft.specs.Faults.{over_counts, over_limits, IsAdmitted};
     ghost use Rattle.lx_draft.specs.Steps.{count_step, wrote};
 
@@ -42,7 +44,7 @@ impl Draft {
         ensures room { IfNone result (self.now.counted < most_counts) }
         ensures written { self.now.written ≤ most_written }
     {
-        if self.counted == 100_000 {
+        if self.counted == MOST_COUNTS {
             Some(Cause::StepLimit)
         } else {
             None
@@ -59,7 +61,7 @@ impl Draft {
             return Err(cause);
         }
         let reached = more.saturating_add(self.written as u64);
-        if let Some(cause) = over(Limit::Written, 16_777_216, reached) {
+        if let Some(cause) = over(Limit::Written, MOST_WRITTEN, reached) {
             return Err(cause);
         }
         Ok(more as u32)

@@ -1,19 +1,40 @@
+ghost use Rattle.std.specs.Prelude.{◌≡◌, OnOk, OnErr};
+ghost use Rattle.lx_node.specs.Trees.{nil};
+ghost use Rattle.lx_marks.specs.Marks.{with_leaf};
+
 use crate::draft::Draft;
 use crate::fields::{let_go, text_length_of};
+use crate::marking::mark_both_near;
 use crate::texts::characters;
+use lx_links::Links;
+use lx_marks::Marks;
 use lx_node::{Fault, Fields, Key, Kind, NoMemory};
 use lx_select::Selection;
 
+/// Notes that the key is made or taken out. Where memory is wanting the links have failed.
+fn loosen(loose: &mut Marks, links: &mut Links, key: Key) -> Result<(), NoMemory>
+    ensures noted { OnOk result (loose.new ≡ with_leaf key loose.old) }
+    ensures same { OnOk result (links.new ≡ links.old) }
+    ensures failed { OnErr result (links.new ≡ nil) }
+{
+    match loose.mark_leaf(key) {
+        Ok(()) => Ok(()),
+        Err(error) => {
+            links.fail();
+            Err(error)
+        }
+    }
+}
+
 impl Draft {
-    ghost use Rattle.std.specs.Prelude.{◌≡◌, ◌≢◌, ◌<◌, ◌≤◌, ◌+◌, None, Ok, chars, IfOk, OnOk, OnErr, IfErr};
-    ghost use Rattle.lx_node.specs.Trees.{nil};
+    ghost use Rattle.std.specs.Prelude.{◌≢◌, ◌<◌, ◌≤◌, ◌+◌, None, Ok, chars, IfOk, IfErr};
     ghost use Rattle.lx_node.specs.OfKind.{IsOfKind};
     ghost use Rattle.lx_node.specs.declared.kind.Kind.TheVariants.{Root};
     ghost use Rattle.lx_node.specs.Strings.{characters_of};
     ghost use Rattle.lx_forest.specs.Lookups.{IsForest};
     ghost use Rattle.lx_forest.specs.Edits.{take_out};
     ghost use Rattle.lx_links.specs.Faults.{set_fault, detach_fault};
-    ghost use Rattle.lx_draft.specs.Working.{most_counts, most_written};
+    ghost use Rattle.lx_node.specs.Limits.{most_counts, most_written};
     ghost use Rattle.lx_draft.specs.Faults.{IsAdmitted, Tells, Leaves, put_fault};
     ghost use Rattle.lx_draft.specs.Steps as steps;
     ghost use Rattle.lx_draft.specs.Steps.{new_step, set_step, splice_step, take_step, put_step, mark_step, mark_uncounted_step, select_step};
@@ -49,6 +70,7 @@ impl Draft {
     {
         self.note_edit(more);
         let key = Key(self.next_key);
+        loosen(&mut self.loose, &mut self.links, key)?;
         self.links.insert_new(key, kind, fields)?;
         self.next_key += 1;
         self.mark_key(key)?;
@@ -73,6 +95,7 @@ impl Draft {
 
     /// Writes fields whose strings have so many scalar values.
     fn write(&mut self, key: Key, fields: Fields, more: u32) -> Result<(), NoMemory>
+        requires order { IsForest self.old.forest }
         requires allowed { set_fault key fields self.old.forest ≡ None }
         requires admitted { IsAdmitted more (characters_of fields) self.old }
         ensures written { OnOk result (self.new ≡ steps.refielded key fields (characters_of fields) (steps.set_points key fields) self.old) }
@@ -116,6 +139,7 @@ impl Draft {
         to: u32,
         new: &str,
     ) -> Result<(), NoMemory>
+        requires order { IsForest self.old.forest }
         requires fault { set_fault key fields self.old.forest ≡ None }
         requires counts { self.old.counted < most_counts }
         requires written { self.old.written + more ≤ most_written }
@@ -171,7 +195,6 @@ impl Draft {
         self.note_edit(0);
         self.place(key, parent, index)?;
         self.selection.after_put(parent, index);
-        self.mark_around(key)?;
         Ok(())
     }
 
@@ -184,7 +207,7 @@ impl Draft {
         ensures living { OnOk result (self.old.forest ≢ nil) }
     {
         self.living()?;
-        if let Some(cause) = self.missing(key) {
+        if let Some(cause) = self.links.missing(key) {
             return Err(Fault::Cause(cause));
         }
         if let Some(cause) = self.over_counts() {
@@ -205,7 +228,7 @@ impl Draft {
         ensures living { OnOk result (self.old.forest ≢ nil) }
     {
         self.living()?;
-        if let Some(cause) = self.missing(key) {
+        if let Some(cause) = self.links.missing(key) {
             return Err(Fault::Cause(cause));
         }
         self.mark_key(key)?;
@@ -236,21 +259,23 @@ impl Draft {
         ensures detached { OnOk result (self.new ≡ record self.old { forest = take_out key self.old.forest }) }
         ensures failed { OnErr result (self.new.forest ≡ nil) }
     {
+        loosen(&mut self.loose, &mut self.links, key)?;
         match self.links.detach(key) {
             Ok(()) => Ok(()),
             Err(_) => Err(NoMemory),
         }
     }
 
+    /// Puts a node among the children of a parent, and marks it, the parent and its neighbours.
     fn place(&mut self, key: Key, parent: Key, index: u32) -> Result<(), NoMemory>
         requires fault { put_fault key parent index self.old.forest ≡ None }
         requires order { IsForest self.old.forest }
-        ensures placed { OnOk result (self.new ≡ record self.old { forest = steps.put_at key parent index self.old.forest }) }
+        ensures placed { OnOk result (self.new ≡ steps.placed_in key parent index self.old) }
         ensures failed { OnErr result (self.new.forest ≡ nil) }
     {
         let before = self.links.child_at(parent, index);
         match self.links.place(parent, before, key) {
-            Ok(()) => Ok(()),
+            Ok(()) => mark_both_near(&mut self.marks, &mut self.fresh, &mut self.links, key),
             Err(_) => Err(NoMemory),
         }
     }

@@ -6,7 +6,7 @@ ghost use Rattle.lx_forest.specs.Lookups as lookups;
 ghost use Rattle.lx_forest.specs.Lookups.{IsForest};
 ghost use Rattle.lx_forest.specs.Edits.{with_fields};
 ghost use Rattle.lx_links.specs.Faults.{set_fault};
-ghost use Rattle.lx_draft.specs.Working.{most_counts, most_written};
+ghost use Rattle.lx_node.specs.Limits.{most_counts, most_written};
 ghost use Rattle.lx_draft.specs.Faults.{over_limits, IsAdmitted, Stops};
 ghost use Rattle.lx_draft.specs.Steps as steps;
 
@@ -55,7 +55,7 @@ impl Draft {
     pub(crate) fn set_fault(&self, key: Key, fields: &Fields) -> Option<Cause>
         ensures { result ≡ set_fault key fields.now self.now.forest }
     {
-        if let Some(cause) = self.missing(key) {
+        if let Some(cause) = self.links.missing(key) {
             return Some(cause);
         }
         let kind = self.links.kind(key)?;
@@ -122,6 +122,7 @@ impl Draft {
 
     /// Sets fields of a node's kind.
     fn set_fields(&mut self, key: Key, fields: Fields) -> Result<(), NoMemory>
+        requires order { IsForest self.old.forest }
         requires fault { set_fault key fields self.old.forest ≡ None }
         ensures set { OnOk result (self.new ≡ record self.old { forest = with_fields key fields self.old.forest }) }
         ensures failed { OnErr result (self.new.forest ≡ nil) }
@@ -134,6 +135,7 @@ impl Draft {
 
     /// Writes fields that take so many scalar values, and marks the node if they differ.
     pub(crate) fn refield(&mut self, key: Key, fields: Fields, more: u32) -> Result<(), NoMemory>
+        requires order { IsForest self.old.forest }
         requires fault { set_fault key fields self.old.forest ≡ None }
         requires counts { self.old.counted < most_counts }
         requires written { self.old.written + more ≤ most_written }

@@ -1,47 +1,82 @@
-ghost use Rattle.std.specs.Prelude.{◌≡◌, ◌≢◌, Ok, IfOk, OnOk, IfErr};
+ghost use Rattle.std.specs.Prelude.{◌≡◌, ◌≢◌, ◌≤◌, ℕ, Some, Ok, IsTrue, IfOk, OnOk, IfErr};
 ghost use Rattle.lx_node.specs.Trees.{nil};
-ghost use Rattle.lx_node.specs.Strings.{capped};
 ghost use Rattle.lx_forest.specs.Lookups as lookups;
+ghost use Rattle.lx_forest.specs.Lookups.{IsForest};
+ghost use Rattle.lx_forest.specs.Edits.{drop_detached};
+ghost use Rattle.lx_node.specs.declared.cause.Limit.TheVariants.{Depth, Characters};
+ghost use Rattle.lx_node.specs.Limits.{most_depth, most_characters};
 ghost use Rattle.lx_draft.specs.Working.{MayStart};
-ghost use Rattle.lx_draft.specs.Faults.{Tells};
+ghost use Rattle.lx_draft.specs.Faults.{Tells, over as fault_over};
 ghost use Rattle.lx_draft.specs.Freezing as freezing;
 
 use crate::counts::over;
 use crate::draft::Draft;
 use crate::state::{Frozen, State};
 use lx_links::Links;
+use lx_node::limits::{MOST_CHARACTERS, MOST_DEPTH, MOST_KEY, MOST_NODES};
 use lx_node::{Cause, Fault, Key, Limit, NoMemory};
 use lx_select::{Keys, Selection};
 
-/// The greatest depth of the root's tree, and the scalar values in all its strings, up to 2^64 - 1. It
-/// walks the tree once.
-fn measure(links: &Links) -> (u32, u64)
-    ensures depth { result.0 ≡ freezing.tree_depth links.now }
-    ensures characters { result.1 ≡ capped (freezing.tree_characters links.now) }
+/// The greatest depth of the root's tree. It walks the tree once.
+fn measure_depth(links: &Links) -> u32
+    ensures { result ≡ freezing.tree_depth links.now }
 {
     if links.has_failed() {
-        return (0, 0);
+        return 0;
     }
     let mut deepest = 0;
-    let mut characters = 0;
     let mut at = Some((Key::root(), 0));
     while let Some((key, depth)) = at {
         deepest = deepest.max(depth);
-        characters = characters_of(links, key).saturating_add(characters);
         at = links.next_in_tree(key, depth);
     }
-    (deepest, characters)
+    deepest
 }
 
-/// The scalar values in the strings of a node, up to 2^64 - 1.
-#[tactic(auto, using(lx_node::proofs::Strings::capped_zero))]
-fn characters_of(links: &Links, key: Key) -> u64
-    ensures { result ≡ capped (freezing.characters_at links.now key) }
+/// The first limit that a state of these links with this next key is beyond: a depth of 48, 16,384 nodes,
+/// 1,048,576 scalar values in all strings, and the next key 1,048,576. Nothing is detached. It walks the tree.
+pub fn limits_fault(links: &Links, next_key: u32) -> Option<Cause>
+    requires order { IsForest links.now }
+    requires whole { drop_detached links.now ≡ links.now }
+    ensures { result ≡ freezing.limits_fault links.now next_key }
 {
-    match links.node(key) {
-        Some(node) => node.fields.characters(),
-        None => 0,
+    if let Some(cause) = too_deep(links) {
+        return Some(cause);
     }
+    size_fault(links, next_key)
+}
+
+/// The tree is too deep.
+#[tactic(auto, using(lx_node::proofs::Strings::capped_small))]
+fn too_deep(links: &Links) -> Option<Cause>
+    ensures { result ≡ fault_over Depth most_depth (freezing.tree_depth links.now) }
+{
+    over(Limit::Depth, MOST_DEPTH as u64, measure_depth(links) as u64)
+}
+
+/// There are too many nodes, or scalar values, or keys.
+#[tactic(auto, using(lx_node::proofs::Strings::capped_small))]
+fn size_fault(links: &Links, next_key: u32) -> Option<Cause>
+    requires order { IsForest links.now }
+    requires whole { drop_detached links.now ≡ links.now }
+    ensures { result ≡ freezing.size_fault links.now next_key }
+{
+    if let Some(cause) = over(Limit::Nodes, MOST_NODES, links.len() as u64) {
+        return Some(cause);
+    }
+    if let Some(cause) = too_long(links) {
+        return Some(cause);
+    }
+    over(Limit::KeyCount, MOST_KEY, next_key as u64)
+}
+
+/// There are too many scalar values in the strings.
+fn too_long(links: &Links) -> Option<Cause>
+    requires order { IsForest links.now }
+    requires whole { drop_detached links.now ≡ links.now }
+    ensures { result ≡ fault_over Characters most_characters (freezing.tree_characters links.now) }
+{
+    over(Limit::Characters, MOST_CHARACTERS, links.characters())
 }
 
 impl Draft {
@@ -76,9 +111,11 @@ impl Draft {
     fn sweep(&mut self) -> Result<(), NoMemory>
         ensures swept { OnOk result (self.new ≡ freezing.swept self.old) }
         ensures living { OnOk result (self.old.forest ≢ nil) }
+        ensures whole { OnOk result (drop_detached self.new.forest ≡ self.new.forest) }
+        ensures order { OnOk result (IsForest self.new.forest) }
     {
         self.living()?;
-        self.links.drop_detached()?;
+        self.links.drop_detached(self.loose.leaves())?;
         self.keep_selected()
     }
 
@@ -109,24 +146,47 @@ impl Draft {
         Ok(Selection::Nodes(Keys::of(kept)))
     }
 
-    /// Why the draft can't be committed as it is, the first cause.
-    #[tactic(auto, using(lx_node::proofs::Strings::capped_small))]
+    /// Why the draft, in which nothing is detached, can't be committed as it is, the first cause.
     fn freeze_fault(&self) -> Option<Cause>
+        requires order { IsForest self.now.forest }
+        requires whole { drop_detached self.now.forest ≡ self.now.forest }
         ensures { result ≡ freezing.freeze_fault self.now }
     {
         if let Some(cause) = self.selection_lost() {
             return Some(cause);
         }
-        let (depth, characters) = measure(&self.links);
-        if let Some(cause) = over(Limit::Depth, 48, depth as u64) {
+        if let Some(cause) = self.depth_fault() {
             return Some(cause);
         }
-        if let Some(cause) = over(Limit::Nodes, 16_384, self.links.len() as u64) {
-            return Some(cause);
+        size_fault(&self.links, self.next_key)
+    }
+
+    /// The tree is too deep. It is measured only where a node that was made or taken out stands in it and
+    /// has one too deep in its tree.
+    fn depth_fault(&self) -> Option<Cause>
+        ensures { result ≡ fault_over Depth most_depth (freezing.tree_depth self.now.forest) }
+    {
+        if self.is_shallow() {
+            return None;
         }
-        if let Some(cause) = over(Limit::Characters, 1_048_576, characters) {
-            return Some(cause);
+        too_deep(&self.links)
+    }
+
+    /// Whether no node that was made or taken out has one too deep in its tree. Where these are many, the
+    /// answer is false, since to measure the tree costs less.
+    fn is_shallow(&self) -> bool
+        ensures { IsTrue result → (q d : ℕ) → lookups.depth self.now.forest q ≡ Some d → d ≤ most_depth }
+    {
+        if self.loose.leaves().len() > self.links.len() as usize / 8 {
+            return false;
         }
-        over(Limit::KeyCount, 1_048_576, self.next_key as u64)
+        for key in self.loose.leaves() {
+            if let Some(depth) = self.links.depth(*key) {
+                if depth > MOST_DEPTH || !self.links.is_shallow(*key, MOST_DEPTH - depth) {
+                    return false;
+                }
+            }
+        }
+        true
     }
 }

@@ -3,6 +3,7 @@
 //! that marks what it touches, moves the points of the selection, and takes a count.
 #![tactic(auto)]
 
+mod beside;
 mod counts;
 mod draft;
 mod edits;
@@ -18,11 +19,9 @@ mod state;
 mod texts;
 
 pub use draft::Draft;
+pub use freezing::limits_fault;
 pub use laws::drafts_are_covered;
 pub use rounds::{Flags, Round};
 pub use rules::PointRule;
 pub use state::{Frozen, State};
 pub use texts::with_text;
-
-#[cfg(test)]
-mod tests;

@@ -66,7 +66,8 @@ pub enum PointRule {
 
 impl Draft {
     ghost use Rattle.std.specs.Prelude.{◌≡◌};
-    ghost use Rattle.lx_select.specs.Selection.{each_point};
+    ghost use Rattle.lx_select.specs.Selection.{each_point, carried};
+    ghost use Rattle.lx_select.specs.Rules.{carry_moves};
     ghost use Rattle.lx_draft.specs.Points.{moved_by};
 
     /// Moves the points of the selection by a rule.
@@ -89,5 +90,14 @@ impl Draft {
             PointRule::Replace { old, new, len } => self.selection.after_replace(old, new, len),
             PointRule::Move { key, to } => self.selection.move_points(key, to),
         }
+    }
+
+    /// Brings points along with what a node had, after the edits that moved that elsewhere. The two points of the
+    /// range `before` those edits tell which were on the key `from`: such a point goes to the key `to`, where what
+    /// stood at 0 of the one is now at the offset `at`. Every other point stays where the edits left it.
+    pub fn carry_points(&mut self, before: Option<(Point, Point)>, from: Key, to: Key, at: u32)
+        ensures { self.new ≡ record self.old { selection = carried from (carry_moves from to at) before self.old.selection } }
+    {
+        self.selection.carry(before, from, to, at);
     }
 }

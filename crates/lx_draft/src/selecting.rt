@@ -1,4 +1,5 @@
 ghost use Rattle.std.specs.Prelude.{◌≡◌};
+ghost use Rattle.lx_node.specs.Kinds as kinds;
 ghost use Rattle.lx_forest.specs.Lookups as lookups;
 ghost use Rattle.lx_draft.specs.Selecting as selecting;
 
@@ -12,7 +13,7 @@ fn counts_in(point: PointKind, kind: Kind) -> bool
     ensures { result ≡ selecting.counts_in point kind }
 {
     match point {
-        PointKind::Text => matches!(kind, Kind::Text | Kind::Tab),
+        PointKind::Text => kind.has_characters(),
         PointKind::Element => kind.is_element(),
     }
 }
@@ -38,10 +39,10 @@ impl Draft {
     fn range_fault(&self, anchor: &Point, focus: &Point) -> Option<Cause>
         ensures { result ≡ selecting.range_fault self.now.forest anchor.now focus.now }
     {
-        if let Some(cause) = self.missing(anchor.key) {
+        if let Some(cause) = self.links.missing(anchor.key) {
             return Some(cause);
         }
-        if let Some(cause) = self.missing(focus.key) {
+        if let Some(cause) = self.links.missing(focus.key) {
             return Some(cause);
         }
         if let Some(cause) = self.misfit_point(anchor) {
@@ -103,7 +104,7 @@ impl Draft {
         ensures { result ≡ selecting.unknown_among self.now.forest keys.now }
     {
         for key in keys {
-            if let Some(cause) = self.missing(*key) {
+            if let Some(cause) = self.links.missing(*key) {
                 return Some(cause);
             }
         }
@@ -114,13 +115,13 @@ impl Draft {
     fn cells_fault(&self, table: Key, anchor: Key, focus: Key) -> Option<Cause>
         ensures { result ≡ selecting.cells_fault self.now.forest table anchor focus }
     {
-        if let Some(cause) = self.missing(table) {
+        if let Some(cause) = self.links.missing(table) {
             return Some(cause);
         }
-        if let Some(cause) = self.missing(anchor) {
+        if let Some(cause) = self.links.missing(anchor) {
             return Some(cause);
         }
-        if let Some(cause) = self.missing(focus) {
+        if let Some(cause) = self.links.missing(focus) {
             return Some(cause);
         }
         if let Some(cause) = self.no_table(table) {
@@ -138,8 +139,9 @@ impl Draft {
         self.outside_table(table, focus)
     }
 
+    #[tactic(auto, unfolding(lx_node::specs::Kinds::is_table))]
     fn no_table(&self, key: Key) -> Option<Cause>
-        ensures { result ≡ selecting.unlike selecting.is_table_kind (lookups.kind_of self.now.forest key) }
+        ensures { result ≡ selecting.unlike kinds.is_table (lookups.kind_of self.now.forest key) }
     {
         let kind = self.links.kind(key)?;
         match kind {
@@ -148,8 +150,9 @@ impl Draft {
         }
     }
 
+    #[tactic(auto, unfolding(lx_node::specs::Kinds::is_cell))]
     fn no_cell(&self, key: Key) -> Option<Cause>
-        ensures { result ≡ selecting.unlike selecting.is_cell_kind (lookups.kind_of self.now.forest key) }
+        ensures { result ≡ selecting.unlike kinds.is_cell (lookups.kind_of self.now.forest key) }
     {
         let kind = self.links.kind(key)?;
         match kind {

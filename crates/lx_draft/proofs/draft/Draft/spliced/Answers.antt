@@ -20,7 +20,7 @@ returns-in_ok-with_text-in-Ok-splice-clause-suited c =
     let forest : w.forest ≡ c.args.self.now.forest = ap (λ (v : Working). v.forest) c.self.view_is in
     subst (λ x. set_fault c.args.key x c.args.self.now.forest ≡ None) (sym c.in_ok-with_text-in-Ok-splice.ensures)
     (subst (λ f. set_fault c.args.key (with_text c.in-Ok.text.now c.in-Ok-splice.spliced) f ≡ None) forest
-    (set_of_text w.forest c.args.key c.in-Ok.text.now c.in-Ok-splice.spliced (subst (λ f. text_in (label_of f c.args.key) ≡ Some c.in-Ok.text.now) (sym forest) c.in-Ok.ensures.found) (c.self.invariant.suited c.args.key)))
+    (set_of_text w.forest c.args.key c.in-Ok.text.now c.in-Ok-splice.spliced (subst (λ f. text_in (label_of f c.args.key) ≡ Some c.in-Ok.text.now) (sym forest) c.in-Ok.ensures.found) c.in-Ok.ensures.of_kind))
 
 pub returns-in-Err-splice-clause-refused : goal.returns-in-Err-splice-clause-refused
 returns-in-Err-splice-clause-refused c =
