@@ -2,6 +2,8 @@
 use Rattle.std.proofs.Common.{◌≡◌, ◌≢◌, ◌∙◌, ◌+◌, ℕ, Bool, true, false, cond, List, [], ◌∷◌, Option, None, Some, Result, Ok, Err, refl, ap, sym, inl, inr}
 use Rattle.lx_node.specs.declared.cause.Cause.{Cause}
 use Rattle.lx_node.specs.Trees.{nil}
+use Rattle.lx_select.specs.Selection.{has_point_on}
+use Rattle.lx_select.proofs.Apart.{moved_to-apart}
 use Rattle.lx_links.specs.Stands.{Sound}
 use Rattle.lx_forest.specs.Lookups.{kind_of, parent_of, index_of, ancestors, IsForest}
 use Rattle.lx_forest.specs.Edits.{take_out}
@@ -19,6 +21,11 @@ use Rattle.lx_edit.specs.Edits.{sent_from, sent_away, goes_too, goes_next, remov
 pub answered : {A : Type 0} (o : Option Cause) (a v : A) → answer o a ≡ Ok v → v ≡ a
 answered None a v e = cc
 answered (Some cause) a v e = cc
+
+-- the two parts of a step after another
+pub first_part : (r : Result Working Cause) (next : Working → Result Working Cause) (v : Working) → after r next ≡ Ok v → (mid : Working) × (r ≡ Ok mid) × (next mid ≡ Ok v)
+first_part (Ok mid) next v e = (mid, refl, e)
+first_part (Err cause) next v e = absurd (cc)
 
 sent_forest : (k : ℕ) (p index : Option ℕ) (w : Working) → (sent_from k p index w).forest ≡ w.forest
 sent_forest k None index w = refl
@@ -38,6 +45,16 @@ sent_counted k (Some p) (Some index) w = refl
 pub sent_away-counted : (k : ℕ) (w : Working) → (sent_away k w).counted ≡ w.counted
 unfolding sent_away
 sent_away-counted k w = sent_counted k (parent_of w.forest k) (index_of w.forest k) w
+
+sent_apart : (k : ℕ) (p index : Option ℕ) (w : Working) → has_point_on k w.selection ≡ false → sent_from k p index w ≡ w
+sent_apart k None index w e = refl
+sent_apart k (Some p) None w e = refl
+sent_apart k (Some p) (Some index) w e = ap (λ s. record w { selection = s }) (moved_to-apart k _ w.selection e)
+
+-- where no point is on the node, none is sent away
+pub sent_away-apart : (k : ℕ) (w : Working) → has_point_on k w.selection ≡ false → sent_away k w ≡ w
+unfolding sent_away
+sent_away-apart k w e = sent_apart k (parent_of w.forest k) (index_of w.forest k) w e
 
 pub taken-forest : (k : ℕ) (w v : Working) → take_step k w ≡ Ok v → v.forest ≡ take_out k w.forest
 unfolding take_step

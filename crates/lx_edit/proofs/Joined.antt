@@ -7,7 +7,8 @@ use Rattle.lx_node.specs.declared.cause.Cause.{Cause}
 use Rattle.lx_node.specs.declared.cause.Cause.TheVariants.{StepLimit}
 use Rattle.lx_node.specs.declared.cause.Fault.{Fault}
 use Rattle.lx_node.specs.declared.cause.Fault.TheVariants as fault
-use Rattle.lx_draft.specs.Working.{Working, most_counts}
+use Rattle.lx_node.specs.Limits.{most_counts}
+use Rattle.lx_draft.specs.Working.{Working}
 use Rattle.lx_draft.specs.Faults.{answer, after, over_counts, text_in, Tells}
 use Rattle.lx_draft.specs.Steps.{take_step, splice_step, marked_if}
 use Rattle.lx_forest.specs.Forest.{Forest}
@@ -17,7 +18,7 @@ use Rattle.lx_edit.specs.declared.around.Found.TheVariants.{Nothing, Empty, Alik
 use Rattle.lx_edit.specs.Edits.{pointed, sent_away, goes_too, removed, remove_step}
 use Rattle.lx_edit.specs.Conditions.{length_at, join_fault}
 use Rattle.lx_edit.specs.Texts.{enough, text_of, found_behind, found_before, joined_behind, joined_before, join_on, join_back, joined, join_step}
-use Rattle.lx_edit.proofs.Climbed.{answered, sent_away-counted}
+use Rattle.lx_edit.proofs.Climbed.{answered, first_part, sent_away-counted}
 
 -- ---- counts
 
@@ -56,11 +57,6 @@ sent_grows k w v e few =
 
 then_grows : (u w v : Working) → Grows u w → Grows w v → Grows u v
 then_grows u w v a b = record { more = omega (arith, a.more, b.more); within = b.within }
-
--- the two parts of a step after another
-first_part : (r : Result Working Cause) (next : Working → Result Working Cause) (v : Working) → after r next ≡ Ok v → (mid : Working) × (r ≡ Ok mid) × (next mid ≡ Ok v)
-first_part (Ok mid) next v e = (mid, refl, e)
-first_part (Err cause) next v e = absurd (grind (arith, e))
 
 ends_grow : (goes : Bool) (r : Result Working Cause) (u mid v : Working) → Grows u mid → (r ≡ Ok v → Grows mid v) → cond goes r (Ok mid) ≡ Ok v → Grows u v
 ends_grow true r u mid v g more e = then_grows u mid v g (more e)

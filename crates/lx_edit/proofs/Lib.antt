@@ -1,7 +1,9 @@
 pub mod Turns
 pub mod Climbed
-pub mod Indices
 pub mod Tails
 pub mod Keyed
 pub mod Joined
+pub mod Paths
 pub mod Covered
+pub mod Counted
+pub mod Homed

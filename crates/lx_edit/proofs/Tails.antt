@@ -2,7 +2,7 @@
 use Rattle.std.proofs.Common.{ℕ, ◌≡◌, ◌∙◌, List, [], Some, ap, sym, subst}
 use Rattle.std.specs.Prelude.{chars}
 use Rattle.std.proofs.lemmas.Str.{chars-nil}
-use Rattle.lx_node.specs.OfKind.{IsOfKind, is_of_kind, fits_kind, is_text_of, is_text}
+use Rattle.lx_node.specs.OfKind.{IsOfKind, is_of_kind, fits_kind, is_text_of, are_text_fields}
 use Rattle.lx_node.specs.Kinds.{is_possible}
 use Rattle.lx_node.specs.declared.kind.Kind.TheVariants.{Text}
 use Rattle.lx_node.specs.declared.fields.Fields.TheVariants as fields
@@ -23,7 +23,7 @@ no_characters = chars-nil
 
 -- what is of a text's kind is so with any other text
 pub text_of_kind : (t : TextFields) (text : List ℕ) → IsOfKind Text (fields.Text t) → IsOfKind Text (with_text t text)
-unfolding is_of_kind fits_kind is_text_of is_text is_possible
+unfolding is_of_kind fits_kind is_text_of are_text_fields is_possible
 text_of_kind t text h = h
 
 -- of a text, only the piece behind the offset can be refused

@@ -1,9 +1,8 @@
 -- Why an edit is refused before it begins, the first cause in the order in which they are looked for.
 use Rattle.std.specs.Prelude.{ℕ, ◌==◌, ◌&&◌, Bool, true, false, nat_lt, if◌then◌else◌, List, [], ◌∷◌, Option, None, Some, option_and_then}
 use Rattle.std.specs.Option.{option_or}
-use Rattle.lx_node.specs.Kinds.{is_element}
+use Rattle.lx_node.specs.Kinds.{is_element, is_text}
 use Rattle.lx_node.specs.declared.kind.Kind.{Kind}
-use Rattle.lx_node.specs.declared.kind.Kind.TheVariants.{Text}
 use Rattle.lx_node.specs.declared.fields.TextFields.{TextFields}
 use Rattle.lx_node.specs.declared.cause.Cause.{Cause}
 use Rattle.lx_node.specs.declared.cause.Cause.TheVariants.{BadPlace}
@@ -12,10 +11,6 @@ use Rattle.lx_forest.specs.Lookups.{label_of, kind_of, parent_of, next_of, child
 use Rattle.lx_links.specs.Faults.{unknown, not_below, bound_to, misfit}
 use Rattle.lx_draft.specs.Selecting.{unlike, length_told}
 use Rattle.lx_draft.specs.Faults.{text_in}
-
-abbrev pub is_text : Kind → Bool
-is_text Text = true
-is_text other = false
 
 -- the kind of what a node stands below
 abbrev pub kind_above : Forest → ℕ → Option Kind

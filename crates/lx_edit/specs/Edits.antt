@@ -1,21 +1,21 @@
 -- Edits that are made of others: what is removed, what stands for something else, and children that go elsewhere.
-use Rattle.std.specs.Prelude.{ℕ, ◌==◌, ◌&&◌, ◌||◌, Bool, true, false, not, is_some, if◌then◌else◌, List, [], ◌∷◌, Option, None, Some, Result, Ok, Err}
-use Rattle.lx_node.specs.Kinds.{is_element, may_be_empty, is_item, is_list}
+use Rattle.std.specs.Prelude.{ℕ, ◌==◌, ◌&&◌, ◌||◌, Bool, true, false, not, is_some, if◌then◌else◌, List, [], ◌∷◌, Option, None, Some, Result, Ok}
+use Rattle.lx_node.specs.Kinds.{is_element, is_text, may_be_empty, is_item, is_list, has_characters}
 use Rattle.lx_node.specs.declared.kind.Kind.{Kind}
 use Rattle.lx_node.specs.declared.cause.Cause.{Cause}
-use Rattle.lx_node.specs.declared.cause.Cause.TheVariants.{BadPlace}
 use Rattle.lx_node.specs.declared.cause.Point.{Point}
 use Rattle.lx_node.specs.declared.cause.PointKind.TheVariants as point
-use Rattle.lx_select.specs.Selection.{each_point}
-use Rattle.lx_select.specs.Rules.{children_moves, unwrap_moves, replace_moves, moved_to}
+use Rattle.lx_select.specs.Selection.{each_point, ends_of, carried}
+use Rattle.lx_select.specs.Rules.{carry_moves, replace_moves, moved_to}
 use Rattle.lx_forest.specs.Forest.{Forest}
 use Rattle.lx_forest.specs.Lookups.{kind_of, fields_of, parent_of, children_of, size_of, index_of, previous_of, next_of, ancestors}
 use Rattle.lx_draft.specs.Working.{Working}
-use Rattle.lx_draft.specs.Selecting.{is_text_kind, length_of}
+use Rattle.lx_draft.specs.Selecting.{length_of}
 use Rattle.lx_draft.specs.Faults.{answer, after}
 use Rattle.lx_draft.specs.Steps.{take_step, put_step}
+use Rattle.lx_draft.specs.Beside.{put_before_step}
 use Rattle.lx_edit.specs.InTurn.{in_turn}
-use Rattle.lx_edit.specs.Conditions.{is_text, children_fault, replace_fault, wrap_fault, unwrap_fault}
+use Rattle.lx_edit.specs.Conditions.{children_fault, replace_fault, wrap_fault, unwrap_fault}
 
 -- a draft whose points are moved
 abbrev pub pointed : (Point → Point) → Working → Working
@@ -33,30 +33,22 @@ text_point k offset = record { key = k; offset = offset; kind = point.Text }
 abbrev pub start_in : ℕ → Option Kind → Option Point
 start_in k None = None
 start_in k (Some kind) =
-    if is_text_kind kind then Some (text_point k 0)
+    if has_characters kind then Some (text_point k 0)
     else if is_element kind then Some (element_point k 0)
     else None
 
 abbrev pub end_in : Forest → ℕ → Option Kind → Option Point
 end_in f k None = None
 end_in f k (Some kind) =
-    if is_text_kind kind then Some (text_point k (length_of (fields_of f k)))
+    if has_characters kind then Some (text_point k (length_of (fields_of f k)))
     else if is_element kind then Some (element_point k (size_of f k))
     else None
 
 -- ---- one edit after another
 
--- put where another node stands, so that this one comes right behind it
-abbrev pub put_at : ℕ → ℕ → Option ℕ → Option ℕ → Working → Result Working Cause
-put_at k other (Some p) (Some index) w = put_step k p index w
-put_at k other _ _ w = Err (BadPlace other)
-
-unfoldable pub put_before : ℕ → ℕ → Working → Result Working Cause
-put_before other k w = put_at k other (parent_of w.forest other) (index_of w.forest other) w
-
 -- taken out, and put before another, or at the end of a node's children
 unfoldable pub moved_before : ℕ → ℕ → Working → Result Working Cause
-moved_before other k w = after (take_step k w) (put_before other k)
+moved_before other k w = after (take_step k w) (put_before_step k other)
 
 unfoldable pub moved_to_end : ℕ → ℕ → Working → Result Working Cause
 moved_to_end parent k w = after (take_step k w) (λ v. put_step k parent (size_of v.forest parent) v)
@@ -108,18 +100,17 @@ remove_step k w = removed k (ancestors w.forest k) w
 
 -- ---- children that go elsewhere
 
--- a key that no node has, to keep points aside while edits shift others
-abbrev pub aside : ℕ
-aside = 4294967295
+-- Of where the two points of a range were before edits: those that were on a node go along with what it had, so that what
+-- stood at 0 of it stands at this offset of another.
+abbrev pub brought : ℕ → ℕ → ℕ → Option (Point × Point) → Working → Working
+brought from to at before w = record w { selection = carried from (carry_moves from to at) before w.selection }
 
-abbrev pub set_aside : ℕ → Working → Working
-set_aside k w = pointed (children_moves k aside 0) w
-
--- The children go, in order, to another's end. Points on the first go along, untouched by these edits.
+-- The children go, in order, behind another's. Points that were on the first go along with them, and all others go as these
+-- edits move them.
 abbrev pub children_moved : ℕ → ℕ → Working → Result Working Cause
 children_moved from to w =
-    after (in_turn (moved_to_end to) (children_of w.forest from) (set_aside from w))
-    (λ v. Ok (pointed (children_moves aside to (size_of w.forest to)) v))
+    after (in_turn (moved_to_end to) (children_of w.forest from) w)
+    (λ v. Ok (brought from to (size_of w.forest to) (ends_of w.selection) v))
 
 unfoldable pub children_step : ℕ → ℕ → Working → Result Working Cause
 children_step from to w = after (answer (children_fault from to w.forest) w) (children_moved from to)
@@ -145,25 +136,27 @@ texts_pointed k with w =
 unfoldable pub replace_step : ℕ → ℕ → Bool → Working → Result Working Cause
 replace_step k with keep w =
     after (answer (replace_fault k with keep w.forest) w) (λ v.
-    after (put_before k with v) (λ put.
+    after (put_before_step with k v) (λ put.
     after (kept keep k with put) (λ moved. remove_step k (texts_pointed k with moved))))
 
 -- the outer one is put before the node, which then goes into it
 unfoldable pub wrap_step : ℕ → ℕ → Working → Result Working Cause
 wrap_step k outer w =
-    after (answer (wrap_fault k outer w.forest) w) (λ v. after (put_before k outer v) (moved_to_end outer k))
+    after (answer (wrap_fault k outer w.forest) w) (λ v. after (put_before_step outer k v) (moved_to_end outer k))
 
 -- ---- unwrap
 
-abbrev pub brought_to : Option ℕ → Option ℕ → Working → Working
-brought_to (Some p) (Some index) w = pointed (unwrap_moves aside p index) w
-brought_to _ _ w = w
+-- to the index where the node stood in its parent
+abbrev pub brought_up : ℕ → Option ℕ → Option ℕ → Option (Point × Point) → Working → Working
+brought_up k (Some p) (Some index) before w = brought k p index before w
+brought_up k _ _ before w = w
 
--- The children go, in order, before their parent, which is removed. Points on it go along, untouched by these edits.
+-- The children go, in order, before their parent, which is removed. Points that were on it go along with them, and all others
+-- go as these edits move them.
 abbrev pub unwrapped : ℕ → Working → Result Working Cause
 unwrapped k w =
-    after (in_turn (moved_before k) (children_of w.forest k) (set_aside k w))
-    (λ v. remove_step k (brought_to (parent_of w.forest k) (index_of w.forest k) v))
+    after (in_turn (moved_before k) (children_of w.forest k) w)
+    (λ v. remove_step k (brought_up k (parent_of w.forest k) (index_of w.forest k) (ends_of w.selection) v))
 
 unfoldable pub unwrap_step : ℕ → Working → Result Working Cause
 unwrap_step k w = after (answer (unwrap_fault k w.forest) w) (unwrapped k)

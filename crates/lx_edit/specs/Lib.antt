@@ -4,3 +4,4 @@ pub mod Edits
 pub mod Texts
 pub mod Standing
 pub mod Laws
+pub mod Homed

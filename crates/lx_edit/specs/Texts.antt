@@ -1,37 +1,30 @@
 -- Edits of texts that are made of others: a text cut in pieces, two texts joined, and a text joined with what stands around
 -- it.
-use Rattle.std.specs.Prelude.{ℕ, ◌+◌, ◌-◌, ◌==◌, ◌&&◌, Bool, true, false, nat_lt, if◌then◌else◌, List, [], ◌∷◌, zero, suc, Option, None, Some, Result, Ok, Err}
+use Rattle.std.specs.Prelude.{ℕ, ◌+◌, ◌-◌, ◌==◌, ◌&&◌, Bool, true, false, nat_lt, if◌then◌else◌, List, [], ◌∷◌, zero, suc, Option, None, Some, Result, Ok}
 use Rattle.lx_node.specs.declared.kind.Kind.TheVariants.{Text}
 use Rattle.lx_node.specs.declared.fields.Fields.{Fields}
 use Rattle.lx_node.specs.declared.fields.Fields.TheVariants as fields
 use Rattle.lx_node.specs.declared.fields.TextFields.{TextFields}
-use Rattle.lx_node.specs.declared.fields.Mode.{Mode}
-use Rattle.lx_node.specs.declared.fields.Mode.TheVariants as mode
 use Rattle.lx_node.specs.Same.{same_text}
+use Rattle.lx_node.specs.OfKind.{is_normal}
 use Rattle.lx_node.specs.declared.cause.Cause.{Cause}
-use Rattle.lx_node.specs.declared.cause.Cause.TheVariants.{BadPlace}
 use Rattle.lx_text.specs.Texts.{slice_of}
 use Rattle.lx_select.specs.Rules.{split_moves, join_moves}
 use Rattle.lx_forest.specs.Forest.{Forest}
-use Rattle.lx_forest.specs.Lookups.{label_of, parent_of, index_of, previous_of, next_of}
-use Rattle.lx_draft.specs.Working.{Working, most_counts}
+use Rattle.lx_forest.specs.Lookups.{label_of, previous_of, next_of}
+use Rattle.lx_links.specs.Faults.{unknown}
+use Rattle.lx_node.specs.Limits.{most_counts}
+use Rattle.lx_draft.specs.Working.{Working}
 use Rattle.lx_draft.specs.Selecting.{length_told}
 use Rattle.lx_draft.specs.Faults.{answer, after, text_in, splice_fault}
-use Rattle.lx_draft.specs.Steps.{with_text, new_step, splice_step, take_step, put_step}
+use Rattle.lx_draft.specs.Steps.{with_text, new_step, splice_step, take_step}
+use Rattle.lx_draft.specs.Beside.{put_behind_step}
 use Rattle.lx_edit.specs.declared.around.Found.{Found}
 use Rattle.lx_edit.specs.declared.around.Found.TheVariants.{Nothing, Empty, Alike}
 use Rattle.lx_edit.specs.Conditions.{length_at, split_fault, join_fault}
 use Rattle.lx_edit.specs.Edits.{pointed, remove_step}
 
 -- ---- split
-
--- put right behind where another stands
-abbrev pub put_after : ℕ → ℕ → Option ℕ → Option ℕ → Working → Result Working Cause
-put_after k other (Some p) (Some index) w = put_step k p (index + 1) w
-put_after k other _ _ w = Err (BadPlace other)
-
-unfoldable pub put_behind : ℕ → ℕ → Working → Result Working Cause
-put_behind other k w = put_after k other (parent_of w.forest other) (index_of w.forest other) w
 
 -- the fields of a text, with what stands behind an offset
 abbrev pub tail_in : Option TextFields → ℕ → Fields
@@ -51,7 +44,7 @@ tail_made k offset w =
 unfoldable pub cut_in_two : ℕ → ℕ → Working → Result Working Cause
 cut_in_two k offset w =
     after (tail_made k offset w) (λ made.
-    after (splice_step k offset (length_at w.forest k) [] made) (put_behind k w.next_key))
+    after (splice_step k offset (length_at w.forest k) [] made) (put_behind_step w.next_key k))
 
 -- the last piece so far, which begins at an offset of the whole, is cut at each of the others
 abbrev pub cut_at : ℕ → ℕ → List ℕ → Working → Result Working Cause
@@ -85,10 +78,6 @@ join_step first second w = after (answer (join_fault first second w.forest) w) (
 -- ---- the join step
 
 -- a text that may be joined with one like it: of normal mode, and not unmergeable
-abbrev pub is_normal : Mode → Bool
-is_normal mode.Normal = true
-is_normal other = false
-
 abbrev pub is_simple : TextFields → Bool
 is_simple text = is_normal text.mode && nat_lt text.detail 2
 
@@ -156,5 +145,8 @@ join_simple (Some true) k w = remove_step k w
 join_simple (Some false) k w = join_back enough k w
 
 -- An empty simple text is removed. Another is joined with what stands before it, and then with what stands behind.
+abbrev pub joined_around : ℕ → Working → Result Working Cause
+joined_around k w = join_simple (emptiness (simple_at w.forest k)) k w
+
 unfoldable pub join_around_step : ℕ → Working → Result Working Cause
-join_around_step k w = join_simple (emptiness (simple_at w.forest k)) k w
+join_around_step k w = after (answer (unknown w.forest k) w) (joined_around k)

@@ -1,12 +1,13 @@
 ghost use Rattle.std.specs.Prelude.{◌≡◌, ◌≤◌, Ok, OnOk, IfErr};
 ghost use Rattle.std.specs.Option.{option_copied};
 ghost use Rattle.lx_forest.specs.Lookups as lookups;
-ghost use Rattle.lx_draft.specs.Working.{most_counts};
+ghost use Rattle.lx_node.specs.Limits.{most_counts};
 ghost use Rattle.lx_draft.specs.Faults.{Tells};
 ghost use Rattle.lx_edit.specs.Texts as texts;
 ghost use Rattle.lx_edit.specs.Texts.{join_around_step};
 ghost use Rattle.lx_edit.specs.Standing.{Stands};
 
+use crate::conditions::admitted;
 use crate::join::join_texts;
 use crate::removing::remove;
 use crate::texts::text_at;
@@ -28,12 +29,23 @@ pub enum Found {
 /// Joins a simple text with what stands around it. A text is simple if its mode is normal and it isn't
 /// unmergeable; any other node is left as it is. An empty one is removed. Otherwise, again and again, an empty
 /// simple text before it is removed, and one of its format and style is joined with it, where the earlier of
-/// the two stays and goes on; and then the same with what stands behind. It is refused as the edits are that
-/// it makes.
+/// the two stays and goes on; and then the same with what stands behind. It is refused where there is no such
+/// node, and as the edits are that it makes.
 #[tactic(auto, unfolding(crate::specs::Texts::join_around_step))]
 pub fn join_around(alloc: Global, draft: &mut Draft, key: Key) -> Result<(), Fault>
     ensures ok { OnOk result (join_around_step key draft.old ≡ Ok draft.new) }
     ensures err { IfErr result (λ e. Tells e (join_around_step key draft.old)) }
+    ensures standing { IfErr result (λ e. Stands e draft.new) }
+{
+    let fault = draft.links().missing(key);
+    admitted(draft, fault)?;
+    join_there(alloc, draft, key)
+}
+
+/// Joins a node that is there with what stands around it.
+fn join_there(alloc: Global, draft: &mut Draft, key: Key) -> Result<(), Fault>
+    ensures ok { OnOk result (texts.joined_around key draft.old ≡ Ok draft.new) }
+    ensures err { IfErr result (λ e. Tells e (texts.joined_around key draft.old)) }
     ensures standing { IfErr result (λ e. Stands e draft.new) }
 {
     match emptiness(draft, key) {
@@ -88,6 +100,7 @@ fn join_on(alloc: Global, draft: &mut Draft, key: Key) -> Result<(), Fault>
     }
 }
 
+#[tactic(auto, unfolding(lx_node::specs::OfKind::is_normal))]
 fn is_simple(text: &TextFields) -> bool
     ensures { result ≡ texts.is_simple text.now }
 {

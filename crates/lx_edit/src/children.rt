@@ -6,8 +6,8 @@ ghost use Rattle.lx_edit.specs.InTurn.{in_turn};
 ghost use Rattle.lx_edit.specs.Standing.{Stands};
 
 use crate::conditions::{admitted, children_fault};
-use crate::places::{ASIDE, children_of};
-use lx_draft::{Draft, PointRule};
+use crate::places::children_of;
+use lx_draft::Draft;
 use lx_node::{Fault, Key};
 use std::alloc::Global;
 
@@ -26,7 +26,7 @@ pub fn move_children(alloc: Global, draft: &mut Draft, from: Key, to: Key) -> Re
     carry_children(alloc, draft, from, to)
 }
 
-/// The children with the points, where nothing refuses them.
+/// The children with the points that were on their parent, where nothing refuses them.
 fn carry_children(alloc: Global, draft: &mut Draft, from: Key, to: Key) -> Result<(), Fault>
     ensures ok { OnOk result (edits.children_moved from to draft.old ≡ Ok draft.new) }
     ensures err { IfErr result (λ e. Tells e (edits.children_moved from to draft.old)) }
@@ -34,23 +34,15 @@ fn carry_children(alloc: Global, draft: &mut Draft, from: Key, to: Key) -> Resul
 {
     let children = children_of(alloc, draft.links(), from)?;
     let size = draft.links().size(to);
-    draft.point_rule(PointRule::Children {
-        from,
-        to: ASIDE,
-        size: 0,
-    });
+    let before = draft.selection().ends();
     move_each(draft, to, &children)?;
-    draft.point_rule(PointRule::Children {
-        from: ASIDE,
-        to,
-        size,
-    });
+    draft.carry_points(before, from, to, size);
     Ok(())
 }
 
-/// Moves nodes, in order, to the end of an element's children.
+/// Moves nodes, one after another, to the end of an element's children. Points go as these edits move them.
 #[tactic(auto, using(crate::proofs::Turns::turns_done))]
-fn move_each(draft: &mut Draft, to: Key, keys: &[Key]) -> Result<(), Fault>
+pub fn move_each(draft: &mut Draft, to: Key, keys: &[Key]) -> Result<(), Fault>
     ensures ok { OnOk result (in_turn (edits.moved_to_end to) keys.now draft.old ≡ Ok draft.new) }
     ensures err { IfErr result (λ e. Tells e (in_turn (edits.moved_to_end to) keys.now draft.old)) }
     ensures standing { IfErr result (λ e. Stands e draft.new) }

@@ -4,15 +4,14 @@ ghost use Rattle.std.specs.Prelude.{◌≡◌, ◌≢◌, true, None, OnOk, IfEr
 ghost use Rattle.lx_node.specs.Trees.{nil};
 ghost use Rattle.lx_node.specs.Kinds as kinds;
 ghost use Rattle.lx_forest.specs.Lookups as lookups;
-ghost use Rattle.lx_links.specs.Faults as faults;
 ghost use Rattle.lx_draft.specs.Selecting.{unlike};
 ghost use Rattle.lx_draft.specs.Faults.{Stops};
 ghost use Rattle.lx_edit.specs.Conditions as conditions;
 
 use crate::texts::length_at;
 use lx_draft::Draft;
-use lx_links::Links;
-use lx_node::{Cause, Fault, Key, Kind, Named, NoMemory};
+use lx_links::{Links, misfit};
+use lx_node::{Cause, Fault, Key, Kind, NoMemory};
 
 /// Goes on where the draft hasn't failed.
 pub(crate) fn living(draft: &Draft) -> Result<(), NoMemory>
@@ -40,28 +39,6 @@ pub(crate) fn admitted(draft: &Draft, fault: Option<Cause>) -> Result<(), Fault>
     }
 }
 
-/// There is no node of the key.
-fn missing(links: &Links, key: Key) -> Option<Cause>
-    ensures { result ≡ faults.unknown links.now key }
-{
-    if links.has(key) {
-        None
-    } else {
-        Some(Cause::UnknownNode(Named::Key(key)))
-    }
-}
-
-/// It stands below nothing.
-fn not_below(links: &Links, key: Key) -> Option<Cause>
-    ensures { result ≡ faults.not_below links.now key }
-{
-    if links.parent(key).is_some() {
-        None
-    } else {
-        Some(Cause::BadPlace(key.number() as u64))
-    }
-}
-
 /// It is no element.
 fn no_element(links: &Links, key: Key) -> Option<Cause>
     ensures { result ≡ unlike kinds.is_element (lookups.kind_of links.now key) }
@@ -81,22 +58,6 @@ fn kind_above(links: &Links, key: Key) -> Option<Kind>
     match links.parent(key) {
         Some(parent) => links.kind(parent),
         None => None,
-    }
-}
-
-/// A parent of the one kind may not hold a child of the other.
-fn misfit(outer: Option<Kind>, inner: Option<Kind>) -> Option<Cause>
-    ensures { result ≡ faults.misfit outer inner }
-{
-    match (outer, inner) {
-        (Some(outer), Some(inner)) => {
-            if outer.may_hold(inner) {
-                None
-            } else {
-                Some(Cause::WrongKind(inner))
-            }
-        }
-        _ => None,
     }
 }
 
@@ -123,22 +84,12 @@ fn inside(links: &Links, key: Key, other: Key) -> Option<Cause>
     }
 }
 
-/// It is the root, or stands below something, or the other node is in its tree.
-fn bound(links: &Links, other: Key, key: Key) -> Option<Cause>
-    ensures { result ≡ faults.bound_to links.now other key }
-{
-    if key == Key::root() || links.parent(key).is_some() || links.is_within(key, other) {
-        Some(Cause::BadPlace(key.number() as u64))
-    } else {
-        None
-    }
-}
-
 pub(crate) fn children_fault(links: &Links, from: Key, to: Key) -> Option<Cause>
     ensures { result ≡ conditions.children_fault from to links.now }
 {
-    missing(links, from)
-        .or_else(|| missing(links, to))
+    links
+        .missing(from)
+        .or_else(|| links.missing(to))
         .or_else(|| no_element(links, from))
         .or_else(|| no_element(links, to))
         .or_else(|| inside(links, from, to))
@@ -158,10 +109,11 @@ fn keep_fault(links: &Links, key: Key, with: Key) -> Option<Cause>
 fn instead_fault(links: &Links, key: Key, with: Key) -> Option<Cause>
     ensures { result ≡ conditions.instead_fault key with links.now }
 {
-    missing(links, key)
-        .or_else(|| missing(links, with))
-        .or_else(|| not_below(links, key))
-        .or_else(|| bound(links, key, with))
+    links
+        .missing(key)
+        .or_else(|| links.missing(with))
+        .or_else(|| links.not_below(key))
+        .or_else(|| links.bound(key, with))
         .or_else(|| misfit(kind_above(links, key), links.kind(with)))
 }
 
@@ -185,15 +137,17 @@ pub(crate) fn wrap_fault(links: &Links, key: Key, outer: Key) -> Option<Cause>
 pub(crate) fn unwrap_fault(links: &Links, key: Key) -> Option<Cause>
     ensures { result ≡ conditions.unwrap_fault key links.now }
 {
-    missing(links, key)
+    links
+        .missing(key)
         .or_else(|| no_element(links, key))
-        .or_else(|| not_below(links, key))
+        .or_else(|| links.not_below(key))
         .or_else(|| misfit_child(links, kind_above(links, key), key))
 }
 
 /// It is no text.
+#[tactic(auto, unfolding(lx_node::specs::Kinds::is_text))]
 fn no_text(links: &Links, key: Key) -> Option<Cause>
-    ensures { result ≡ unlike conditions.is_text (lookups.kind_of links.now key) }
+    ensures { result ≡ unlike kinds.is_text (lookups.kind_of links.now key) }
 {
     let kind = links.kind(key)?;
     if matches!(kind, Kind::Text) {
@@ -222,9 +176,10 @@ pub fn split_fault(draft: &Draft, key: Key, offsets: &[u32]) -> Option<Cause>
     ensures { result ≡ conditions.split_fault key offsets.now draft.now.forest }
 {
     let links = draft.links();
-    missing(links, key)
+    links
+        .missing(key)
         .or_else(|| no_text(links, key))
-        .or_else(|| not_below(links, key))
+        .or_else(|| links.not_below(key))
         .or_else(|| bad_offset(length_at(draft, key), offsets))
 }
 
@@ -247,8 +202,9 @@ fn no_next(links: &Links, first: Key, second: Key) -> Option<Cause>
 pub(crate) fn join_fault(links: &Links, first: Key, second: Key) -> Option<Cause>
     ensures { result ≡ conditions.join_fault first second links.now }
 {
-    missing(links, first)
-        .or_else(|| missing(links, second))
+    links
+        .missing(first)
+        .or_else(|| links.missing(second))
         .or_else(|| no_text(links, first))
         .or_else(|| no_text(links, second))
         .or_else(|| no_next(links, first, second))

@@ -16,14 +16,12 @@ mod texts;
 mod unwrapping;
 
 pub use around::join_around;
-pub use children::move_children;
+pub use children::{move_children, move_each};
 pub use conditions::split_fault;
 pub use join::join_texts;
-pub use laws::edits_are_covered;
+pub use laws::{edits_are_covered, edits_are_homed};
 pub use removing::remove;
 pub use replacing::{replace, wrap};
 pub use split::split_text;
+pub use texts::length_at;
 pub use unwrapping::unwrap;
-
-#[cfg(test)]
-mod tests;

@@ -2,7 +2,7 @@ ghost use Rattle.std.specs.Prelude.{◌≡◌, ◌+◌, ◌≤◌, Ok, OnOk, IfO
 ghost use Rattle.lx_node.specs.Kinds as kinds;
 ghost use Rattle.lx_forest.specs.Lookups as lookups;
 ghost use Rattle.lx_forest.specs.Lookups.{IsForest};
-ghost use Rattle.lx_draft.specs.Working.{most_counts};
+ghost use Rattle.lx_node.specs.Limits.{most_counts};
 ghost use Rattle.lx_draft.specs.Steps.{take_step};
 ghost use Rattle.lx_draft.specs.Faults.{Tells};
 ghost use Rattle.lx_edit.specs.Edits as edits;
@@ -53,11 +53,14 @@ fn remove_one(draft: &mut Draft, key: Key) -> Result<Option<Key>, Fault>
     Ok(goes_next(draft.links(), kind, parent))
 }
 
-/// Sends the points on a node to a place beside it.
+/// Sends the points on a node to a place beside it. Where it stands is looked for only where there are any.
 #[tactic(auto, unfolding(crate::specs::Edits::sent_away))]
 fn send_points_away(draft: &mut Draft, key: Key)
     ensures { draft.new ≡ edits.sent_away key draft.old }
 {
+    if !draft.selection().has_point_on(key) {
+        return;
+    }
     if let (Some(parent), Some(index)) = (draft.links().parent(key), draft.links().index_of(key)) {
         let to = beside(draft.links(), key).unwrap_or(element_point(parent, index));
         draft.point_rule(PointRule::Move { key, to });

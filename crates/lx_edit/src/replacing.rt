@@ -7,7 +7,7 @@ ghost use Rattle.lx_edit.specs.Standing.{Stands};
 
 use crate::children::{move_children, move_to_end};
 use crate::conditions::{admitted, replace_fault, wrap_fault};
-use crate::places::{length_of, put_before};
+use crate::places::length_of;
 use crate::removing::remove;
 use lx_draft::{Draft, PointRule};
 use lx_links::Links;
@@ -34,7 +34,7 @@ pub fn replace(
 {
     let fault = replace_fault(draft.links(), key, with, keep);
     admitted(draft, fault)?;
-    put_before(draft, key, with)?;
+    draft.put_before(with, key)?;
     if keep {
         move_children(alloc, draft, key, with)?;
     }
@@ -57,6 +57,7 @@ fn point_into_text(draft: &mut Draft, key: Key, with: Key)
     }
 }
 
+#[tactic(auto, unfolding(lx_node::specs::Kinds::is_text))]
 fn is_text(links: &Links, key: Key) -> bool
     ensures { result ≡ edits.is_text_at (lookups.kind_of links.now key) }
 {
@@ -73,6 +74,6 @@ pub fn wrap(draft: &mut Draft, key: Key, outer: Key) -> Result<(), Fault>
 {
     let fault = wrap_fault(draft.links(), key, outer);
     admitted(draft, fault)?;
-    put_before(draft, key, outer)?;
+    draft.put_before(outer, key)?;
     move_to_end(draft, outer, key)
 }

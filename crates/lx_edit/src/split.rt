@@ -8,7 +8,7 @@ ghost use Rattle.lx_edit.specs.Standing.{Stands};
 use crate::conditions::{admitted, split_fault};
 use crate::texts::{length_at, tail_of};
 use lx_draft::{Draft, PointRule};
-use lx_node::{Cause, Fault, Key, Kind, NoMemory};
+use lx_node::{Fault, Key, Kind, NoMemory};
 use std::alloc::Global;
 
 /// Cuts a text at offsets, and answers the keys of the new texts. The text keeps what stands before the first
@@ -70,7 +70,7 @@ fn cut_in_two(alloc: Global, draft: &mut Draft, key: Key, offset: u32) -> Result
     let end = length_at(draft, key);
     let new = make_tail(alloc, draft, key, offset)?;
     draft.splice(key, offset, end, "")?;
-    put_behind(draft, key, new)?;
+    draft.put_behind(new, key)?;
     Ok(new)
 }
 
@@ -91,17 +91,4 @@ fn make_tail(alloc: Global, draft: &mut Draft, key: Key, offset: u32) -> Result<
         new,
     });
     Ok(new)
-}
-
-/// Puts a node right behind where another stands.
-#[tactic(auto, unfolding(crate::specs::Texts::put_behind), using(crate::proofs::Indices::index_small))]
-fn put_behind(draft: &mut Draft, other: Key, key: Key) -> Result<(), Fault>
-    ensures ok { OnOk result (texts.put_behind other key draft.old ≡ Ok draft.new) }
-    ensures err { IfErr result (λ e. Tells e (texts.put_behind other key draft.old)) }
-    ensures standing { IfErr result (λ e. Stands e draft.new) }
-{
-    match (draft.links().parent(other), draft.links().index_of(other)) {
-        (Some(parent), Some(index)) => draft.put(key, parent, index + 1),
-        _ => admitted(draft, Some(Cause::BadPlace(other.number() as u64))),
-    }
 }

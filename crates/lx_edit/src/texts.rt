@@ -25,8 +25,8 @@ pub(crate) fn text_at(draft: &Draft, key: Key) -> Option<&TextFields>
     }
 }
 
-/// The length of a text, and 0 of any other node.
-pub(crate) fn length_at(draft: &Draft, key: Key) -> u32
+/// The length of a text, in the unit of `lx_text`, and 0 of any other node.
+pub fn length_at(draft: &Draft, key: Key) -> u32
     ensures { result ≡ conditions.length_at draft.now.forest key }
 {
     match text_at(draft, key) {

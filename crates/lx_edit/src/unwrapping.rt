@@ -6,10 +6,10 @@ ghost use Rattle.lx_edit.specs.Edits.{unwrap_step};
 ghost use Rattle.lx_edit.specs.Standing.{Stands};
 
 use crate::conditions::{admitted, unwrap_fault};
-use crate::places::{ASIDE, children_of, put_before};
+use crate::places::children_of;
 use crate::removing::remove;
-use lx_draft::{Draft, PointRule};
-use lx_node::{Fault, Key};
+use lx_draft::Draft;
+use lx_node::{Fault, Key, Point};
 use std::alloc::Global;
 
 /// Puts the children of an element, in order, in its place, and removes it. Points on it go along: what
@@ -27,7 +27,7 @@ pub fn unwrap(alloc: Global, draft: &mut Draft, key: Key) -> Result<(), Fault>
     unfold_children(alloc, draft, key)
 }
 
-/// The children with the points, where nothing refuses them.
+/// The children with the points that were on their parent, where nothing refuses them.
 fn unfold_children(alloc: Global, draft: &mut Draft, key: Key) -> Result<(), Fault>
     ensures ok { OnOk result (edits.unwrapped key draft.old ≡ Ok draft.new) }
     ensures err { IfErr result (λ e. Tells e (edits.unwrapped key draft.old)) }
@@ -36,26 +36,24 @@ fn unfold_children(alloc: Global, draft: &mut Draft, key: Key) -> Result<(), Fau
     let children = children_of(alloc, draft.links(), key)?;
     let parent = draft.links().parent(key);
     let index = draft.links().index_of(key);
-    draft.point_rule(PointRule::Children {
-        from: key,
-        to: ASIDE,
-        size: 0,
-    });
+    let before = draft.selection().ends();
     move_each_before(draft, key, &children)?;
-    bring_points(draft, parent, index);
+    bring_up(draft, key, parent, index, before);
     remove(draft, key)
 }
 
-/// Brings the points that were set aside to a place in a parent, if there is one.
-fn bring_points(draft: &mut Draft, parent: Option<Key>, index: Option<u32>)
-    ensures { draft.new ≡ edits.brought_to parent index draft.old }
+/// Brings the points that were on a node to where it stood in its parent, if it stood in one.
+fn bring_up(
+    draft: &mut Draft,
+    key: Key,
+    parent: Option<Key>,
+    index: Option<u32>,
+    before: Option<(Point, Point)>,
+)
+    ensures { draft.new ≡ edits.brought_up key parent index before draft.old }
 {
     if let (Some(parent), Some(index)) = (parent, index) {
-        draft.point_rule(PointRule::Unwrap {
-            key: ASIDE,
-            parent,
-            index,
-        });
+        draft.carry_points(before, key, parent, index);
     }
 }
 
@@ -83,5 +81,5 @@ fn move_before(draft: &mut Draft, other: Key, key: Key) -> Result<(), Fault>
     ensures standing { IfErr result (λ e. Stands e draft.new) }
 {
     draft.take(key)?;
-    put_before(draft, other, key)
+    draft.put_before(key, other)
 }
