@@ -1,6 +1,7 @@
 -- How a node is shown. Each attribute stands where the byte order of the names puts it.
 use Rattle.std.specs.Prelude.{ℕ, ◌/◌, ◌%◌, ◌==◌, ◌&&◌, ◌++◌, Bool, true, false, not, nat_lt, if◌then◌else◌, List, [], ◌∷◌, codes, decimal, Option, None, Some}
 use Rattle.lx_node.specs.Trees.{Trees, nil, tree}
+use Rattle.lx_node.specs.Kinds.{is_text_block}
 use Rattle.lx_node.specs.declared.kind.Kind.{Kind}
 use Rattle.lx_node.specs.declared.kind.Kind.TheVariants as kind
 use Rattle.lx_node.specs.declared.kind.ListType.{ListType}
@@ -196,13 +197,6 @@ text_of (fields.Text t) = Some t.text
 text_of other = None
 
 -- ---- endings
-
-abbrev pub is_text_block : Kind → Bool
-is_text_block kind.Paragraph = true
-is_text_block (kind.Heading level) = true
-is_text_block kind.Quote = true
-is_text_block kind.Item = true
-is_text_block other = false
 
 -- whether a line that ends with this node, or is empty, needs a line break to have its height
 abbrev pub is_open : Option Kind → Bool

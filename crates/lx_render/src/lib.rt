@@ -9,8 +9,6 @@ mod classes;
 mod format;
 mod shape;
 mod tags;
-#[cfg(test)]
-mod tests;
 mod values;
 
 pub use breaks::needs_break;

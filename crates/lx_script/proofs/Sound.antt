@@ -11,7 +11,7 @@ use Rattle.lx_node.specs.declared.fields.Extra.TheVariants as extra
 use Rattle.lx_node.specs.declared.fields.Fields.{Fields}
 use Rattle.lx_node.specs.declared.fields.Fields.TheVariants as fields
 use Rattle.lx_node.specs.Kinds.{is_possible}
-use Rattle.lx_node.specs.OfKind.{IsOfKind, is_of_kind, fits_kind, is_element_of, is_text_of, is_text, is_tab, is_embed, is_bare, is_tab_text, is_normal, is_extra_of, is_plain, is_list_extra, is_item_extra, is_link_extra, is_cell_extra, is_span}
+use Rattle.lx_node.specs.OfKind.{IsOfKind, is_of_kind, fits_kind, is_element_of, is_text_of, are_text_fields, are_tab_fields, are_embed_fields, are_bare, is_tab_text, is_normal, is_extra_of, is_plain, is_list_extra, is_item_extra, is_link_extra, is_cell_extra, is_span}
 use Rattle.lx_step.specs.declared.member.Member.{Member}
 use Rattle.lx_step.specs.declared.member.Member.TheVariants as set
 use Rattle.lx_step.specs.Patches.{has, with_member, is_in_range, IsInRange}
@@ -111,7 +111,7 @@ extra_keeps kind value (extra.Link rel target title url) ranged of = of
 extra_keeps kind value (extra.Cell header row_span col_span background) ranged of = of
 
 fitting : (kind : Kind) (value : ℕ) (old : Fields) → IsTrue (leb value 1200000) → IsTrue (fits_kind kind old) → IsTrue (fits_kind kind (with_value value old))
-unfolding fits_kind is_element_of is_text_of is_embed is_bare with_value
+unfolding fits_kind is_element_of is_text_of are_embed_fields are_bare with_value
 fitting kind.Text value (fields.Element old) ranged of = absurd (cc)
 fitting kind.Tab value (fields.Element old) ranged of = absurd (cc)
 fitting kind.Break value (fields.Element old) ranged of = absurd (cc)
@@ -156,7 +156,7 @@ fields_keep kind (member text d rest) old new is of =
     (given_by kind (name_in kind text) d old) (λ mid at. given_by_keeps kind (name_in kind text) d old mid at of) is
 
 pub default_of_kind : (kind : Kind) → IsTrue (is_possible kind) → IsOfKind kind (default_fields kind)
-unfolding is_of_kind fits_kind is_element_of is_text_of is_text is_tab is_embed is_bare is_tab_text is_normal is_extra_of is_plain is_list_extra is_item_extra is_link_extra is_cell_extra is_span default_fields default_extra
+unfolding is_of_kind fits_kind is_element_of is_text_of are_text_fields are_tab_fields are_embed_fields are_bare is_tab_text is_normal is_extra_of is_plain is_list_extra is_item_extra is_link_extra is_cell_extra is_span default_fields default_extra
 default_of_kind of possible = and (is_possible of) _ possible (fit of)
   where
     fit : (of : Kind) → IsTrue (fits_kind of (default_fields of))

@@ -4,17 +4,13 @@ use Rattle.serde_json.specs.Data.{Data, object, Members, no_members, member}
 use Rattle.serde_json.specs.Find.{as_null}
 use Rattle.lx_node.specs.declared.kind.Kind.{Kind}
 use Rattle.lx_node.specs.declared.kind.Kind.TheVariants as kind
-use Rattle.lx_node.specs.declared.fields.Mode.TheVariants.{Normal}
-use Rattle.lx_node.specs.declared.fields.Direction.TheVariants as direction
-use Rattle.lx_node.specs.declared.fields.Align.TheVariants as align
-use Rattle.lx_node.specs.declared.fields.TextFields.{TextFields}
-use Rattle.lx_node.specs.declared.fields.ElementFields.{ElementFields}
 use Rattle.lx_node.specs.declared.fields.Extra.{Extra}
 use Rattle.lx_node.specs.declared.fields.Extra.TheVariants as extra
 use Rattle.lx_node.specs.declared.fields.Fields.{Fields}
 use Rattle.lx_node.specs.declared.fields.Fields.TheVariants as fields
-use Rattle.lx_node.specs.Kinds.{is_element, is_heading, is_list, is_item, is_link, is_cell}
-use Rattle.lx_step.specs.Patches.{has, is_text, is_text_or_tab, is_embed, with_member}
+use Rattle.lx_node.specs.Kinds.{is_element, is_heading, is_list, is_item, is_link, is_cell, is_text, has_characters, is_embed}
+use Rattle.lx_node.specs.Plain.{element_with, text_with}
+use Rattle.lx_step.specs.Patches.{has, with_member}
 use Rattle.lx_script.specs.declared.words.Name.{Name}
 use Rattle.lx_script.specs.declared.words.Name.TheVariants as name
 use Rattle.lx_script.specs.declared.fields.FieldFault.{FieldFault}
@@ -32,27 +28,20 @@ default_extra kind.Link = extra.Link None None None []
 default_extra kind.Cell = extra.Cell 0 1 1 None
 default_extra kind = extra.Plain
 
-abbrev pub default_element : Extra → ElementFields
-default_element extra = record { direction = direction.Unset; format = align.Unset; indent = 0; text_format = 0; text_style = []; extra = extra }
-
--- of normal mode, without format and style
-abbrev pub default_text : List ℕ → ℕ → TextFields
-default_text text detail = record { text = text; format = 0; detail = detail; mode = Normal; style = [] }
-
 -- a tab has the text U+0009 and detail 2, whatever is given
 unfoldable pub default_fields : Kind → Fields
-default_fields kind.Text = fields.Text (default_text [] 0)
-default_fields kind.Tab = fields.Text (default_text (9 ∷ []) 2)
+default_fields kind.Text = fields.Text (text_with [] 0)
+default_fields kind.Tab = fields.Text (text_with (9 ∷ []) 2)
 default_fields kind.Break = fields.Bare
 default_fields kind.Rule = fields.Bare
 default_fields kind.Embed = fields.Embed []
-default_fields kind = fields.Element (default_element (default_extra kind))
+default_fields kind = fields.Element (element_with (default_extra kind))
 
 -- ---- which members an object gives a kind, and what they give
 
 unfoldable pub takes : Kind → Name → Bool
 takes kind name.Direction = is_element kind
-takes kind name.Format = is_element kind || is_text_or_tab kind
+takes kind name.Format = is_element kind || has_characters kind
 takes kind name.Indent = is_element kind
 takes kind name.TextFormat = is_element kind
 takes kind name.TextStyle = is_element kind
@@ -70,7 +59,7 @@ takes kind name.ColSpan = is_cell kind
 takes kind name.RowSpan = is_cell kind
 takes kind name.Background = is_cell kind
 takes kind name.Text = is_text kind
-takes kind name.Style = is_text_or_tab kind
+takes kind name.Style = has_characters kind
 takes kind name.Detail = is_text kind
 takes kind name.Mode = is_text kind
 takes kind name.Src = is_embed kind

@@ -106,6 +106,7 @@ limit_name limit.Nodes = codes "nodes"
 limit_name limit.Characters = codes "characters"
 limit_name limit.KeyCount = codes "key"
 limit_name limit.Written = codes "written"
+limit_name limit.Hosts = codes "hosts"
 
 abbrev pub named_data : Named → Data
 named_data (named.Key key) = natural key

@@ -51,6 +51,7 @@ fn limit_name(limit: Limit) -> &'static str
         Limit::Characters => "characters",
         Limit::KeyCount => "key",
         Limit::Written => "written",
+        Limit::Hosts => "hosts",
     }
 }
 

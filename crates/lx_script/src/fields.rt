@@ -11,9 +11,7 @@ ghost use Rattle.lx_script.specs.Documents as documents;
 use crate::members::settable;
 use crate::values::long_within;
 use crate::words::{Name, level_of, list_type_of, name_of};
-use lx_node::{
-    Align, Direction, ElementFields, Extra, Fields, Kind, ListType, Mode, NoMemory, TextFields, Txt,
-};
+use lx_node::{ElementFields, Extra, Fields, Kind, ListType, NoMemory, TextFields, Txt};
 use lx_step::Member;
 use serde_json::{Map, Value};
 use std::alloc::Global;
@@ -26,86 +24,61 @@ pub enum FieldFault {
     Bad(Txt),
 }
 
-#[tactic(auto, unfolding(crate::specs::Documents::default_extra), using(crate::proofs::Characters::no_chars))]
-fn default_extra(alloc: Global, kind: Kind) -> Result<Extra, NoMemory>
-    ensures { IfOk result (λ made. made ≡ documents.default_extra kind) }
+/// What elements of a kind have beside what all elements have, where nothing is given.
+#[tactic(auto, unfolding(crate::specs::Documents::default_extra))]
+fn default_extra(alloc: Global, kind: Kind) -> Extra
+    ensures { result ≡ documents.default_extra kind }
 {
     match kind {
-        Kind::List(_) => Ok(Extra::List { start: 1 }),
-        Kind::Item => Ok(Extra::Item {
+        Kind::List(_) => Extra::List { start: 1 },
+        Kind::Item => Extra::Item {
             value: 1,
             checked: None,
-        }),
-        Kind::Link => Ok(Extra::Link {
+        },
+        Kind::Link => Extra::Link {
             rel: None,
             target: None,
             title: None,
-            url: Txt::new(alloc, "")?,
-        }),
-        Kind::Cell => Ok(Extra::Cell {
+            url: Txt::empty(alloc),
+        },
+        Kind::Cell => Extra::Cell {
             header: 0,
             row_span: 1,
             col_span: 1,
             background: None,
-        }),
-        _ => Ok(Extra::Plain),
+        },
+        _ => Extra::Plain,
     }
 }
 
-#[tactic(auto, using(crate::proofs::Characters::no_chars))]
-fn default_element(alloc: Global, extra: Extra) -> Result<ElementFields, NoMemory>
-    ensures { IfOk result (λ made. made ≡ documents.default_element extra) }
-{
-    Ok(ElementFields {
-        direction: Direction::Unset,
-        format: Align::Unset,
-        indent: 0,
-        text_format: 0,
-        text_style: Txt::new(alloc, "")?,
-        extra,
-    })
-}
-
-#[tactic(auto, using(crate::proofs::Characters::no_chars))]
-fn default_text(alloc: Global, text: &str, detail: u8) -> Result<TextFields, NoMemory>
-    ensures { IfOk result (λ made. made ≡ documents.default_text (chars text.now) detail) }
-{
-    let text = Txt::new(alloc, text)?;
-    let style = Txt::new(alloc, "")?;
-    Ok(TextFields {
-        text,
-        format: 0,
-        detail,
-        mode: Mode::Normal,
-        style,
-    })
-}
-
 /// The fields of a kind where nothing is given.
-#[tactic(auto, unfolding(crate::specs::Documents::default_fields), using(crate::proofs::Characters::no_chars, crate::proofs::Characters::tab_chars))]
+#[tactic(auto, unfolding(crate::specs::Documents::default_fields), using(crate::proofs::Characters::tab_chars))]
 fn default_fields(alloc: Global, kind: Kind) -> Result<Fields, NoMemory>
     ensures { IfOk result (λ made. made ≡ documents.default_fields kind) }
 {
     match kind {
-        Kind::Text => Ok(Fields::Text(default_text(alloc, "", 0)?)),
-        Kind::Tab => Ok(Fields::Text(default_text(alloc, "\t", 2)?)),
+        Kind::Text => Ok(Fields::Text(TextFields::with(alloc, Txt::empty(alloc), 0))),
+        Kind::Tab => {
+            let tab = Txt::new(alloc, "\t")?;
+            Ok(Fields::Text(TextFields::with(alloc, tab, 2)))
+        }
         Kind::Break | Kind::Rule => Ok(Fields::Bare),
-        Kind::Embed => Ok(Fields::Embed(Txt::new(alloc, "")?)),
+        Kind::Embed => Ok(Fields::Embed(Txt::empty(alloc))),
         _ => {
-            let extra = default_extra(alloc, kind)?;
-            Ok(Fields::Element(default_element(alloc, extra)?))
+            let extra = default_extra(alloc, kind);
+            Ok(Fields::Element(ElementFields::with(alloc, extra)))
         }
     }
 }
 
 /// Whether an object gives a node of the kind such a member.
-#[tactic(auto, unfolding(crate::specs::Documents::takes, lx_step::specs::Patches::is_text, lx_step::specs::Patches::is_text_or_tab, lx_step::specs::Patches::is_embed, lx_node::specs::Kinds::is_heading, lx_node::specs::Kinds::is_list, lx_node::specs::Kinds::is_item, lx_node::specs::Kinds::is_link, lx_node::specs::Kinds::is_cell))]
+#[tactic(auto, unfolding(crate::specs::Documents::takes, lx_node::specs::Kinds::is_text, lx_node::specs::Kinds::is_embed, lx_node::specs::Kinds::is_heading, lx_node::specs::Kinds::is_list, lx_node::specs::Kinds::is_item, lx_node::specs::Kinds::is_link, lx_node::specs::Kinds::is_cell))]
 fn takes(kind: Kind, name: Name) -> bool
     ensures { result ≡ documents.takes kind name }
 {
     match name {
         Name::Direction | Name::Indent | Name::TextFormat | Name::TextStyle => kind.is_element(),
-        Name::Format => kind.is_element() || matches!(kind, Kind::Text | Kind::Tab),
+        Name::Format => kind.is_element() || kind.has_characters(),
         Name::Tag => matches!(kind, Kind::Heading(_)),
         Name::ListType | Name::Start => matches!(kind, Kind::List(_)),
         Name::Checked | Name::Value => matches!(kind, Kind::Item),
@@ -114,7 +87,7 @@ fn takes(kind: Kind, name: Name) -> bool
             matches!(kind, Kind::Cell)
         }
         Name::Text | Name::Detail | Name::Mode => matches!(kind, Kind::Text),
-        Name::Style => matches!(kind, Kind::Text | Kind::Tab),
+        Name::Style => kind.has_characters(),
         Name::Src => matches!(kind, Kind::Embed),
     }
 }

@@ -24,10 +24,3 @@ pub use fields::{FieldFault, fields_of};
 pub use read::read_line;
 pub use reply::Reply;
 pub use write::write_reply;
-
-#[cfg(test)]
-mod tests;
-#[cfg(test)]
-mod tests_lines;
-#[cfg(test)]
-mod tests_replies;

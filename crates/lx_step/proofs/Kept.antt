@@ -10,12 +10,11 @@ use Rattle.lx_node.specs.declared.fields.TextFields.{TextFields}
 use Rattle.lx_node.specs.declared.fields.ElementFields.{ElementFields}
 use Rattle.lx_node.specs.declared.fields.Fields.{Fields}
 use Rattle.lx_node.specs.declared.fields.Fields.TheVariants as fields
-use Rattle.lx_node.specs.Kinds.{is_possible}
-use Rattle.lx_node.specs.OfKind.{IsOfKind, is_of_kind, fits_kind, is_element_of, is_text_of, is_text, is_tab, is_embed, is_bare, is_extra_of, is_plain, is_list_extra, is_item_extra, is_link_extra, is_cell_extra, is_span}
+use Rattle.lx_node.specs.Kinds.{is_possible, is_text}
+use Rattle.lx_node.specs.OfKind.{IsOfKind, is_of_kind, fits_kind, is_element_of, is_text_of, are_text_fields, are_tab_fields, are_embed_fields, are_bare, is_extra_of, is_plain, is_list_extra, is_item_extra, is_link_extra, is_cell_extra, is_span}
 use Rattle.lx_step.specs.declared.member.Member.{Member}
 use Rattle.lx_step.specs.declared.member.Member.TheVariants.{Direction, Align, Indent, TextFormat, TextStyle, Start, Checked, Rel, Target, Title, Url, HeaderState, ColSpan, RowSpan, Background, Text, Format, Style, Detail, Mode, Src, Other}
-use Rattle.lx_step.specs.Patches.{has, is_text_or_tab, with_extra, with_element, with_text, with_source, with_member, with_members, is_in_range, IsInRange}
-use Rattle.lx_step.specs.Patches as patches
+use Rattle.lx_step.specs.Patches.{has, with_extra, with_element, with_text, with_source, with_member, with_members, is_in_range, IsInRange}
 
 -- ---- an element
 
@@ -86,13 +85,13 @@ element_kept kind member old ranged of = extra_kept kind member old.extra ranged
 
 -- ---- a text, and a tab, whose text, detail and mode are its own
 
-text_kept : (member : Member) (old : TextFields) → IsInRange member → IsTrue (is_text old) → IsTrue (is_text (with_text member old))
-unfolding is_text with_text is_in_range
+text_kept : (member : Member) (old : TextFields) → IsInRange member → IsTrue (are_text_fields old) → IsTrue (are_text_fields (with_text member old))
+unfolding are_text_fields with_text is_in_range
 text_kept (Detail detail) old ranged of = ranged
 text_kept member old ranged of = of
 
-tab_kept : (member : Member) (old : TextFields) → IsTrue (has kind.Tab member) → IsTrue (is_tab old) → IsTrue (is_tab (with_text member old))
-unfolding is_tab with_text has patches.is_text
+tab_kept : (member : Member) (old : TextFields) → IsTrue (has kind.Tab member) → IsTrue (are_tab_fields old) → IsTrue (are_tab_fields (with_text member old))
+unfolding are_tab_fields with_text has is_text
 tab_kept (Text text) old may of = absurd (cc)
 tab_kept (Detail detail) old may of = absurd (cc)
 tab_kept (Mode mode) old may of = absurd (cc)
@@ -101,7 +100,7 @@ tab_kept member old may of = of
 -- ---- fields
 
 fitting : (kind : Kind) (member : Member) (old : Fields) → IsInRange member → IsTrue (has kind member) → IsTrue (fits_kind kind old) → IsTrue (fits_kind kind (with_member member old))
-unfolding fits_kind is_element_of is_text_of is_embed is_bare with_member
+unfolding fits_kind is_element_of is_text_of are_embed_fields are_bare with_member
 fitting kind.Text member (fields.Text old) ranged may of = text_kept member old ranged of
 fitting kind.Tab member (fields.Text old) ranged may of = tab_kept member old may of
 fitting kind.Text member _ ranged may of = absurd (cc)

@@ -12,25 +12,12 @@ use Rattle.lx_node.specs.declared.fields.Extra.{Extra}
 use Rattle.lx_node.specs.declared.fields.Extra.TheVariants as extra
 use Rattle.lx_node.specs.declared.fields.Fields.{Fields}
 use Rattle.lx_node.specs.declared.fields.Fields.TheVariants as fields
-use Rattle.lx_node.specs.Kinds.{is_element, is_list, is_item, is_link, is_cell}
+use Rattle.lx_node.specs.Kinds.{is_element, is_list, is_item, is_link, is_cell, is_text, has_characters, is_embed}
 use Rattle.lx_node.specs.OfKind.{is_span}
 use Rattle.lx_step.specs.declared.member.Member.{Member}
 use Rattle.lx_step.specs.declared.member.Member.TheVariants.{Direction, Align, Indent, TextFormat, TextStyle, Start, Checked, Rel, Target, Title, Url, HeaderState, ColSpan, RowSpan, Background, Text, Format, Style, Detail, Mode, Src, Other}
 
 -- ---- which kinds have a member that may be set
-
-unfoldable pub is_text : Kind → Bool
-is_text kind.Text = true
-is_text _ = false
-
-unfoldable pub is_text_or_tab : Kind → Bool
-is_text_or_tab kind.Text = true
-is_text_or_tab kind.Tab = true
-is_text_or_tab _ = false
-
-unfoldable pub is_embed : Kind → Bool
-is_embed kind.Embed = true
-is_embed _ = false
 
 -- A format is an alignment in elements, and a number in texts and tabs. A tab's text, detail and mode can't be set, nor
 -- can an item's value, a heading's level and the type of a list.
@@ -51,8 +38,8 @@ has kind (ColSpan span) = is_cell kind
 has kind (RowSpan span) = is_cell kind
 has kind (Background background) = is_cell kind
 has kind (Text text) = is_text kind
-has kind (Format format) = is_text_or_tab kind
-has kind (Style style) = is_text_or_tab kind
+has kind (Format format) = has_characters kind
+has kind (Style style) = has_characters kind
 has kind (Detail detail) = is_text kind
 has kind (Mode mode) = is_text kind
 has kind (Src source) = is_embed kind

@@ -41,7 +41,7 @@ pub enum Member {
 
 impl Member {
     /// Whether the member can be set on nodes of the kind.
-    #[tactic(auto, unfolding(crate::specs::Patches::has, crate::specs::Patches::is_text, crate::specs::Patches::is_text_or_tab, crate::specs::Patches::is_embed, lx_node::specs::Kinds::is_list, lx_node::specs::Kinds::is_item, lx_node::specs::Kinds::is_link, lx_node::specs::Kinds::is_cell))]
+    #[tactic(auto, unfolding(crate::specs::Patches::has, lx_node::specs::Kinds::is_text, lx_node::specs::Kinds::is_embed, lx_node::specs::Kinds::is_list, lx_node::specs::Kinds::is_item, lx_node::specs::Kinds::is_link, lx_node::specs::Kinds::is_cell))]
     pub fn is_of(&self, kind: Kind) -> bool
         ensures { result ≡ patches.has kind self.now }
     {
@@ -61,7 +61,7 @@ impl Member {
             | Member::RowSpan(_)
             | Member::Background(_) => matches!(kind, Kind::Cell),
             Member::Text(_) | Member::Detail(_) | Member::Mode(_) => matches!(kind, Kind::Text),
-            Member::Format(_) | Member::Style(_) => matches!(kind, Kind::Text | Kind::Tab),
+            Member::Format(_) | Member::Style(_) => kind.has_characters(),
             Member::Src(_) => matches!(kind, Kind::Embed),
             Member::Other(_) => false,
         }

@@ -142,8 +142,8 @@ impl Patch {
         self.members.items().iter().all(|member| member.is_of(kind))
     }
 
-    /// Writes the members into fields.
-    pub fn write(&self, alloc: Global, fields: &mut Fields) -> Result<(), NoMemory>
+    /// Writes the members into fields. After want of memory some of them are written.
+    fn write(&self, alloc: Global, fields: &mut Fields) -> Result<(), NoMemory>
         ensures { OnOk result (fields.new ≡ patches.with_members self.now.members fields.old) }
     {
         for member in self.members.items() {
