@@ -11,6 +11,7 @@ use Rattle.lx_node.proofs.NamedTrees.{without-absent, alone-absent, put_below-ab
 use Rattle.lx_node.proofs.Spots.{spot_below-absent}
 use Rattle.lx_forest.specs.Forest.{Forest, Label, paragraph_label, text_label}
 use Rattle.lx_forest.specs.Lookups.{key_of, count, has, alone, without, spot, children_of, size_of}
+use Rattle.lx_rooted.specs.Edits as rooted
 use Rattle.lx_forest.specs.Edits.{with_new, put_in, drop_detached}
 use Rattle.lx_draft.specs.Steps.{put_at}
 
@@ -44,7 +45,7 @@ module _ (fields : Fields) (below : Forest) (k : ℕ) (first : 0 < k) (free : (q
   absent q h = grind (arith, free q h, h, first, ne_eqb 0 q)
 
   pub with_paragraph : with_new (paragraph_label k) (grown fields below nil) ≡ grown fields below (leaf (paragraph_label k))
-  unfolding with_new
+  unfolding with_new rooted.with_new
   with_paragraph = rw (no_less k 0 (omega arith)) refl
 
   module _ (j : ℕ) (next : k < j) (text : List ℕ) where
@@ -58,7 +59,7 @@ module _ (fields : Fields) (below : Forest) (k : ℕ) (first : 0 < k) (free : (q
     inside = grown fields below (tree (paragraph_label k) (leaf (text_label j text)) nil)
 
     pub with_text : with_new (text_label j text) (grown fields below (leaf (paragraph_label k))) ≡ both
-    unfolding with_new
+    unfolding with_new rooted.with_new
     with_text = rw (no_less j 0 (omega arith), no_less j k (omega (arith, next))) refl
 
     parent_spot : spot both k ≡ Some (record { label = paragraph_label k; parent = None; children = [] })
@@ -74,7 +75,7 @@ module _ (fields : Fields) (below : Forest) (k : ℕ) (first : 0 < k) (free : (q
         rw (ne_eqb 0 j (omega (arith, first, next)), without-absent key_of j below (free j (omega (arith, next))), ne_eqb k j (omega (arith, next)), eq-eqb j j refl) refl
 
     pub text_put : put_at j k 0 both ≡ inside
-    unfolding put_in
+    unfolding put_in rooted.put_in
     text_put =
         ap (λ s. put_in k (slice_get (children_at s) 0) j both) parent_spot
         ∙ ap (λ t. put_below key_of k None t (without j both)) alone_text
@@ -96,7 +97,7 @@ module _ (fields : Fields) (below : Forest) (k : ℕ) (first : 0 < k) (free : (q
         rw (ne_eqb 0 k (omega (arith, first)), without-absent key_of k below (free k (omega arith)), eq-eqb k k refl) refl
 
     pub paragraph_put : put_at k 0 (size_of loose 0) loose ≡ grown fields (joined below (tree (paragraph_label k) inner nil)) nil
-    unfolding put_in
+    unfolding put_in rooted.put_in
     paragraph_put =
         ap (λ b. put_in 0 b k loose) (slice_get_past (children_of loose 0) (size_of loose 0) (omega arith))
         ∙ ap (λ t. put_below key_of 0 None t (without k loose)) alone_paragraph

@@ -12,7 +12,8 @@ use Rattle.lx_select.specs.declared.selection.Selection.{Selection}
 use Rattle.lx_step.specs.declared.step.Step.{Step}
 use Rattle.lx_step.specs.declared.step.Step.TheVariants as step
 use Rattle.lx_step.specs.declared.reference.SelectionRef.{SelectionRef}
-use Rattle.lx_forest.specs.Forest.{Forest, paragraph_label, text_label, plain_element, plain_text}
+use Rattle.lx_forest.specs.Forest.{Forest, paragraph_label, text_label}
+use Rattle.lx_node.specs.Plain.{plain_element, plain_text}
 use Rattle.lx_node.proofs.NamedTrees.{count-joined}
 use Rattle.lx_forest.specs.Lookups.{key_of, count, has, size_of, IsForest, children_of}
 use Rattle.lx_forest.specs.Edits.{with_new}

@@ -2,6 +2,7 @@
 use Rattle.std.proofs.Common.{◌≡◌, ◌≢◌, ◌∙◌, ◌+◌, ◌<◌, ◌≤◌, ℕ, cond, eqb, false, List, [], ◌∷◌, ◌++◌, Option, None, Some, refl, sym, ap, subst, arith, ne_eqb, eq-eqb, append_assoc, append-nil, inl, inr}
 use Rattle.std.proofs.lemmas.Bool.{cases_lt}
 use Rattle.lx_node.specs.Trees.{Trees, nil, tree, joined}
+use Rattle.lx_node.specs.Kinds.{is_text_block}
 use Rattle.lx_node.specs.declared.fields.Fields.{Fields}
 use Rattle.lx_host.specs.Hosts.{Host, HostTree, shape_of, count, put_below, IsNumbered}
 use Rattle.lx_host.proofs.Laws.{inserted-None}
@@ -60,6 +61,7 @@ is_ready view numbered one room =
 -- ---- rendering
 
 shape_of-hosts_for : (id key : ℕ) (text : List ℕ) → shape_of (hosts_for id key text) ≡ render (paragraph key text)
+unfolding is_text_block
 shape_of-hosts_for id key [] = refl
 shape_of-hosts_for id key (c ∷ text) = refl
 
@@ -75,6 +77,7 @@ shape_of-put_below new view one =
     ∙ sym (ap (λ v. with_more (shape_of new) (shape_of v)) p.3)
 
 pub shows_appended : (id key : ℕ) (text : List ℕ) (view : Trees Host) (fields : Fields) (below : Forest) → IsOneTree view → shape_of view ≡ render (grown fields below nil) → shape_of (put_below 0 None (hosts_for id key text) view) ≡ render (grown fields (joined below (paragraph key text)) nil)
+unfolding is_text_block
 shows_appended id key text view fields below one shown =
     shape_of-put_below (hosts_for id key text) view one
     ∙ ap (λ s. with_more s (shape_of view)) (shape_of-hosts_for id key text)

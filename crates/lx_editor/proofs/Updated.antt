@@ -2,6 +2,7 @@
 use Rattle.std.proofs.Common.{◌≡◌, ◌∙◌, ◌+◌, ◌<◌, ◌≤◌, ℕ, Bool, true, false, if◌then◌else◌, List, Option, None, Result, Ok, Err, refl, sym, ap, subst, arith}
 use Rattle.std.specs.List.{list_all}
 use Rattle.lx_node.specs.Trees.{Trees, nil, tree}
+use Rattle.lx_node.specs.Kinds.{is_text_block}
 use Rattle.lx_node.specs.declared.fields.Fields.{Fields}
 use Rattle.lx_node.specs.declared.cause.Cause.{Cause}
 use Rattle.lx_node.specs.declared.cause.Cause.TheVariants.{BadCommand}
@@ -14,7 +15,9 @@ use Rattle.lx_step.specs.declared.step.Step.{Step}
 use Rattle.lx_forest.specs.Forest.{Forest, Label, root_alone}
 use Rattle.lx_forest.specs.Lookups.{count, has, IsForest}
 use Rattle.lx_forest.specs.Edits.{drop_detached}
-use Rattle.lx_draft.specs.Working.{Working, MayStart, most_key}
+use Rattle.lx_forest.proofs.Edits.{has-root}
+use Rattle.lx_node.specs.Limits.{most_key}
+use Rattle.lx_draft.specs.Working.{Working, MayStart}
 use Rattle.lx_draft.specs.Freezing.{swept, freeze_step, freeze_fault, Freezes}
 use Rattle.lx_plain.specs.Render.{render}
 use Rattle.lx_plain.specs.Allowed.{Shows, AreAllowed}
@@ -28,6 +31,10 @@ use Rattle.lx_editor.specs.Updated.{is_run, at_commit, drafted, frozen_from, lef
 use Rattle.lx_editor.proofs.Grown.{grown, root_of, root_left}
 use Rattle.lx_editor.proofs.Ran.{answer_ok, IsAt, below_with, all_ran}
 use Rattle.lx_editor.proofs.Shown.{IsView, view_with_all, next_shown, kept_below_next}
+
+-- the root's key is below the next one
+first_key : (f : Forest) (next_key : ℕ) → IsForest f → MayStart f next_key → 0 < next_key
+first_key f next_key h start = grind (arith, start.free 0, has-root f h)
 
 -- ---- the root's tree
 
@@ -114,7 +121,7 @@ grown_so e steps fields below left is sound ok =
     let runs = were_run steps (begun e) left ok in
     let begins : IsAt (grown fields below nil) e.next_key (begun e) = record { order = subst IsForest is sound.in_order; forest = is; next_key = refl } in
     let free : (q : ℕ) → e.next_key ≤ q → count q below ≡ 0 = λ q h. absent_below fields below q (subst (λ f. has q f ≡ false) is (sound.start.free q h)) in
-    let ends = all_ran fields steps 0 below e.next_key sound.start.first free (scripted (begun e) no_names) runs.end begins runs.all runs.ran in
+    let ends = all_ran fields steps 0 below e.next_key (first_key e.tree e.next_key sound.in_order sound.start) free (scripted (begun e) no_names) runs.end begins runs.all runs.ran in
     let at = swept_at fields (below_with below e.next_key (texts_of steps)) _ _ runs.end.draft left refl ends runs.frozen in
     record { before = is; after = at.forest; next = at.next_key; order = subst IsForest (sym at.forest) at.order }
 
@@ -171,7 +178,7 @@ module _ (e : Editor) (steps : List Step) (f : Forest) (selection : Selection) (
         record {
           leads = leads;
           shows = subst (Shows after) (sym g.after) v.shows;
-          keeps = λ k kept. v.same k (kept_below_next e.next_key k e.tree f sound.start.first sound.start.free kept);
+          keeps = λ k kept. v.same k (kept_below_next e.next_key k e.tree f (first_key e.tree e.next_key sound.in_order sound.start) sound.start.free kept);
         }
 
     pub committed : (ops : List Op) → Leads e.view ops after → (IsNothingNew e selection marks → ⊥)
@@ -220,6 +227,7 @@ root_in_order : IsForest root_alone
 root_in_order = record { once = λ q. once_at q; rising = refl; root = refl }
 
 pub new_sound : (f : Forest) (view : HostTree) → f ≡ root_alone → MayStart f 1 → view ≡ new_tree → AreSound f 1 view
+unfolding is_text_block
 new_sound f view tree_is start shown = record {
   in_order = subst IsForest (sym tree_is) root_in_order;
   alone = subst IsOne (sym tree_is) refl;

@@ -2,7 +2,7 @@
 use Rattle.std.specs.Prelude.{ℕ, List, [], ◌∷◌, Result, Ok}
 use Rattle.lx_node.specs.declared.kind.Kind.TheVariants.{Paragraph, Text}
 use Rattle.lx_node.specs.declared.cause.Cause.{Cause}
-use Rattle.lx_forest.specs.Forest.{plain_element, plain_text}
+use Rattle.lx_node.specs.Plain.{plain_element, plain_text}
 use Rattle.lx_forest.specs.Lookups.{size_of}
 use Rattle.lx_draft.specs.Working.{Working}
 use Rattle.lx_draft.specs.Faults.{after}

@@ -3,6 +3,7 @@ use Rattle.std.specs.Prelude.{ℕ, ◌≡◌, ◌+◌, ◌==◌, ◌||◌, Bool,
 use Rattle.std.specs.Option.{option_or}
 use Rattle.std.specs.FinMap.{get}
 use Rattle.lx_node.specs.Siblings.{names_without}
+use Rattle.lx_node.specs.Kinds.{is_text_block}
 use Rattle.lx_node.specs.declared.kind.Kind.{Kind}
 use Rattle.lx_node.specs.declared.kind.Kind.TheVariants as kind
 use Rattle.lx_node.specs.declared.fields.Fields.{Fields}
@@ -55,18 +56,14 @@ abbrev pub focus_of : Selection → Option ℕ
 focus_of (selection.Range anchor focus format) = Some focus.key
 focus_of other = None
 
--- paragraphs, headings, quotes and items hold a line of text
-abbrev pub is_text_block : Option Kind → Bool
-is_text_block (Some kind.Paragraph) = true
-is_text_block (Some (kind.Heading level)) = true
-is_text_block (Some kind.Quote) = true
-is_text_block (Some kind.Item) = true
-is_text_block other = false
+abbrev pub is_text_block_in : Option Kind → Bool
+is_text_block_in None = false
+is_text_block_in (Some kind) = is_text_block kind
 
 -- of these nodes, the first that is a text block
 abbrev pub first_block : Forest → List ℕ → Option ℕ
 first_block f [] = None
-first_block f (k ∷ ks) = if is_text_block (kind_of f k) then Some k else first_block f ks
+first_block f (k ∷ ks) = if is_text_block_in (kind_of f k) then Some k else first_block f ks
 
 -- the text block of a node: itself, or the nearest above it
 abbrev pub block_of : Forest → Option ℕ → Option ℕ

@@ -1,3 +1,4 @@
+ghost use Rattle.lx_node.specs.Limits.{last_u32};
 ghost use Rattle.std.specs.Prelude.{◌+◌, ◌<◌, ◌≤◌, IfOk, OnOk};
 ghost use Rattle.lx_editor.specs.Follows.{Answers};
 
@@ -10,7 +11,7 @@ use std::alloc::Global;
 /// nothing. After want of memory the editor is only fit to be dropped.
 #[tactic(auto, unfolding(crate::specs::Follows::Answers))]
 pub fn answer_line(alloc: Global, editor: &mut Editor, line: &[u8]) -> Result<Vec<u8>, NoMemory>
-    requires { editor.old.commits < 4294967295 }
+    requires { editor.old.commits < last_u32 }
     ensures answer { IfOk result (λ reply. Answers editor.old line.now reply.items editor.new) }
     ensures commits { OnOk result (editor.new.commits ≤ editor.old.commits + 1) }
 {

@@ -215,7 +215,7 @@ fn counts_in(point: PointKind, kind: Kind) -> bool
     ensures { result ≡ selecting.counts_in point kind }
 {
     match point {
-        PointKind::Text => matches!(kind, Kind::Text | Kind::Tab),
+        PointKind::Text => kind.has_characters(),
         PointKind::Element => kind.is_element(),
     }
 }

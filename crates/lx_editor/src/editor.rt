@@ -1,3 +1,5 @@
+ghost use Rattle.lx_node.specs.Limits.{last_u32};
+
 use crate::leaving::{Refusal, leave};
 use crate::outcome::Outcome;
 use crate::showing::show_texts;
@@ -65,7 +67,7 @@ impl Editor {
     /// the editor is only fit to be dropped.
     pub fn update(&mut self, alloc: Global, steps: &[Step]) -> Result<Outcome, NoMemory>
         requires sound { All IsSound steps.now }
-        requires room { self.old.commits < 4294967295 }
+        requires room { self.old.commits < last_u32 }
         ensures updated { IfOk result (λ outcome. IsUpdated self.old steps.now outcome self.new) }
         ensures commits { OnOk result (self.new.commits ≤ self.old.commits + 1) }
     {
@@ -82,7 +84,7 @@ impl Editor {
     /// Commits what the steps left, unless it is nothing new.
     fn take(&mut self, alloc: Global, frozen: Frozen, steps: &[Step]) -> Result<Outcome, NoMemory>
         requires valid { AreSound self.old.tree self.old.next_key self.old.view }
-        requires room { self.old.commits < 4294967295 }
+        requires room { self.old.commits < last_u32 }
         requires left { AreLeft steps.now (begun self.old) frozen.state.links frozen.state.selection frozen.marks frozen.next_key }
         requires start { MayStart frozen.state.links frozen.next_key }
         ensures updated { IfOk result (λ outcome. IsUpdated self.old steps.now outcome self.new) }
@@ -97,7 +99,7 @@ impl Editor {
     /// Commits what the steps left.
     fn commit(&mut self, alloc: Global, frozen: Frozen, steps: &[Step]) -> Result<Outcome, NoMemory>
         requires valid { AreSound self.old.tree self.old.next_key self.old.view }
-        requires room { self.old.commits < 4294967295 }
+        requires room { self.old.commits < last_u32 }
         requires left { AreLeft steps.now (begun self.old) frozen.state.links frozen.state.selection frozen.marks frozen.next_key }
         requires start { MayStart frozen.state.links frozen.next_key }
         requires changed { IsNothingNew self.old frozen.state.selection frozen.marks → ⊥ }

@@ -14,13 +14,9 @@ mod outcome;
 mod patching;
 mod resolving;
 mod script;
-#[cfg(test)]
-mod script_tests;
 mod showing;
 mod splitting;
 mod stepping;
-#[cfg(test)]
-mod tests;
 
 pub use answer::answer_line;
 pub use editor::Editor;

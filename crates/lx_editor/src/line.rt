@@ -1,3 +1,5 @@
+ghost use Rattle.lx_node.specs.Limits.{last_u32};
+
 use crate::editor::Editor;
 use crate::outcome::Outcome;
 use lx_node::NoMemory;
@@ -17,7 +19,7 @@ impl Editor {
     #[tactic(auto, unfolding(crate::specs::Follows::RepliesTo))]
     pub fn line(&mut self, alloc: Global, line: Line) -> Result<Vec<u8>, NoMemory>
         requires sound { IsSoundForm line.form }
-        requires room { self.old.commits < 4294967295 }
+        requires room { self.old.commits < last_u32 }
         ensures replies { IfOk result (λ reply. RepliesTo self.old line.form reply.items self.new) }
         ensures commits { OnOk result (self.new.commits ≤ self.old.commits + 1) }
     {
@@ -30,7 +32,7 @@ impl Editor {
     /// Runs steps, and answers with the reply that tells the outcome.
     fn reply(&mut self, alloc: Global, steps: &[Step]) -> Result<Vec<u8>, NoMemory>
         requires sound { All IsSound steps.now }
-        requires room { self.old.commits < 4294967295 }
+        requires room { self.old.commits < last_u32 }
         ensures replies { IfOk result (λ reply. IsReplyOfUpdate self.old steps.now reply.items self.new) }
         ensures commits { OnOk result (self.new.commits ≤ self.old.commits + 1) }
     {

@@ -73,13 +73,13 @@ fn focus_of(selection: &Selection) -> Option<Key>
     }
 }
 
-fn is_text_block(kind: Option<Kind>) -> bool
-    ensures { result ≡ scripts.is_text_block kind }
+fn is_text_block_in(kind: Option<Kind>) -> bool
+    ensures { result ≡ scripts.is_text_block_in kind }
 {
-    matches!(
-        kind,
-        Some(Kind::Paragraph | Kind::Heading(_) | Kind::Quote | Kind::Item)
-    )
+    match kind {
+        Some(kind) => kind.is_text_block(),
+        None => false,
+    }
 }
 
 /// The text block of a node: itself, or the nearest above it.
@@ -87,7 +87,7 @@ fn block_of(links: &Links, key: Key) -> Option<Key>
     ensures { result ≡ scripts.first_block links.now (key ∷ lookups.ancestors links.now key) }
 {
     let mut at = key;
-    while !is_text_block(links.kind(at)) {
+    while !is_text_block_in(links.kind(at)) {
         match links.parent(at) {
             Some(parent) => at = parent,
             None => return None,

@@ -1,3 +1,4 @@
+ghost use Rattle.lx_node.specs.Limits.{most_key};
 ghost use Rattle.std.specs.Prelude.{◌≡◌, ◌≤◌, ◌++◌, IfOk, OnOk};
 ghost use Rattle.lx_host.specs.Hosts.{Leads};
 ghost use Rattle.lx_editor.specs.Operations.{with_shown, all_shown, texts_in, texts_of, next_behind, AreTold};
@@ -19,7 +20,7 @@ pub(crate) fn show_texts(
     steps: &[Step],
 ) -> Result<Ops, NoMemory>
     requires one_tree { IsOneTree view.old.hosts }
-    requires room { next_behind view.old.next (texts_of steps.now) ≤ 1048576 }
+    requires room { next_behind view.old.next (texts_of steps.now) ≤ most_key }
     ensures leads { IfOk result (λ ops. Leads view.old ops view.new) }
     ensures shown { OnOk result (view.new ≡ all_shown (texts_of steps.now) view.old) }
 {
@@ -38,7 +39,7 @@ fn show_step(
     told: &mut Vec<Op>,
 ) -> Result<(), NoMemory>
     requires one_tree { IsOneTree view.old.hosts }
-    requires room { next_behind view.old.next (texts_in step.now) ≤ 1048576 }
+    requires room { next_behind view.old.next (texts_in step.now) ≤ most_key }
     ensures shown { OnOk result (view.new ≡ all_shown (texts_in step.now) view.old) }
     ensures told { OnOk result (AreTold told.old.items view.old told.new.items view.new) }
 {
@@ -56,7 +57,7 @@ fn show_text(
     told: &mut Vec<Op>,
 ) -> Result<(), NoMemory>
     requires one_tree { IsOneTree view.old.hosts }
-    requires room { view.old.next ≤ 1048576 }
+    requires room { view.old.next ≤ most_key }
     ensures shown { OnOk result (view.new ≡ with_shown text.now view.old) }
     ensures told { OnOk result (AreTold told.old.items view.old told.new.items view.new) }
 {

@@ -7,6 +7,7 @@ use Rattle.std.specs.declared.cmp.Ordering.{Ordering}
 use Rattle.std.specs.declared.cmp.Ordering.TheVariants.{Less, Equal, Greater}
 use Rattle.std.specs.Ordering.{is_lt, ordering_reverse}
 use Rattle.lx_node.specs.Trees.{nil, tree}
+use Rattle.lx_node.specs.Kinds.{is_text_block}
 use Rattle.lx_node.specs.NamedTrees.{total}
 use Rattle.lx_node.proofs.NamedTrees.{total-without-alone}
 use Rattle.lx_node.specs.declared.kind.Kind.TheVariants.{Root}
@@ -134,6 +135,7 @@ fresh_leads label below room =
     (created 0 1 (one_host 0 (root_with attributes text)) below (ready_alone attributes text (total below) room))
 
 shows_root : (label : Label) (below : Forest) → label.key ≡ 0 → label.kind ≡ Root → Shows (shown_by label below) (tree label below nil)
+unfolding is_text_block
 shows_root label below key kind =
     let face : root_with (attributes_of label.kind label.fields) (text_of label.fields) ≡ face_of label (last_kind below) = rw (key, kind) refl in
     ap (λ s. tree (root_with (attributes_of label.kind label.fields) (text_of label.fields)) s nil) (shape_of-numbered 1 (render below))

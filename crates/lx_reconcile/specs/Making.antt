@@ -1,6 +1,7 @@
 -- What is known where the operations between two trees are made, and what each part of them does. Only this crate's own
 -- contracts cite it.
 use Rattle.std.specs.Prelude.{ℕ, ◌≡◌, ◌+◌, ◌≤◌, ◌++◌, true, List, ◌∷◌}
+use Rattle.lx_node.specs.Limits.{last_u32}
 use Rattle.lx_node.specs.NamedTrees.{total}
 use Rattle.lx_host.specs.declared.op.Op.{Op}
 use Rattle.lx_host.specs.Hosts.{Host, HostTree}
@@ -39,7 +40,7 @@ pub record AreNext (old new : Forest) (v : HostTree) (k : ℕ) (moves : List Mov
   pub ops : List Op
   pub a : Host
   pub walk : IsInWalk old new v k from ops a moves n
-  pub room : from + total (trees_of new (children_of new k)) ≤ 4294967295
+  pub room : from + total (trees_of new (children_of new k)) ≤ last_u32
   pub there : has k new ≡ true
 
 -- the same for one move, with any behind it

@@ -1,3 +1,5 @@
+ghost use Rattle.lx_node.specs.Limits.{last_u32};
+
 use crate::looks::Reads;
 use crate::reconciling::reconcile_root;
 use lx_host::{HostTree, Op, Ops};
@@ -59,14 +61,14 @@ pub fn operations<'a, R: Records<'a>>(
     requires after { IsTree (R.forest after.old) }
     requires shown { Shows hosts.now (R.forest before.old) }
     requires rooted { IsRooted hosts.now.hosts }
-    requires room { hosts.now.next + total (R.forest after.old) ≤ 4294967295 }
+    requires room { hosts.now.next + total (R.forest after.old) ≤ last_u32 }
     ensures allowed { IfOk result (λ batch. IsAllowed (R.forest before.old) (R.forest after.old) hosts.now batch) }
     ensures before { R.forest before.new ≡ R.forest before.old }
     ensures after { R.forest after.new ≡ R.forest after.old }
 {
     let mut ops = Vec::new(alloc);
     reconcile_root::<R, R, Reads<'a>, Reads<'a>>(alloc, before, after, hosts, &mut ops)?;
-    if ops.len() > 4_294_967_295 {
+    if ops.len() > u32::MAX as usize {
         return Err(NoMemory);
     }
     Ok(Batch { ops: Ops::of(ops) })

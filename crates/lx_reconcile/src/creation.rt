@@ -1,5 +1,6 @@
 //! The operations that make hosts for a node and for all below it.
 
+ghost use Rattle.lx_node.specs.Limits.{last_u32};
 ghost use Rattle.std.specs.Prelude.{◌≡◌, ◌+◌, ◌*◌, ◌≤◌, ◌++◌, ◌∷◌, [], true, None, Some, option_map, IfOk, OnOk};
 ghost use Rattle.lx_node.specs.NamedTrees.{total};
 ghost use Rattle.lx_host.specs.declared.op.Op.TheVariants.{Place};
@@ -65,7 +66,7 @@ pub fn create_tree<S, L: Look<S>>(
 ) -> Result<u32, NoMemory>
     requires sound { Sound (L.forest source.old) }
     requires read { Some node.now ≡ option_map node_of (record_at (L.forest source.old) key) }
-    requires room { id + total (alone key (L.forest source.old)) ≤ 4294967295 }
+    requires room { id + total (alone key (L.forest source.old)) ≤ last_u32 }
     ensures ops { OnOk result (ops.new.items ≡ ops.old.items ++ creation_of id (alone key (L.forest source.old))) }
     ensures next { IfOk result (λ next. next ≡ id + total (alone key (L.forest source.old))) }
     ensures same { L.forest source.new ≡ L.forest source.old }
@@ -89,7 +90,7 @@ pub fn create_children<S, L: Look<S>>(
 ) -> Result<u32, NoMemory>
     requires sound { Sound (L.forest source.old) }
     requires first { first ≡ first_child (L.forest source.old) key }
-    requires room { host + 1 + total (trees_of (L.forest source.old) (children_of (L.forest source.old) key)) ≤ 4294967295 }
+    requires room { host + 1 + total (trees_of (L.forest source.old) (children_of (L.forest source.old) key)) ≤ last_u32 }
     ensures ops { OnOk result (ops.new.items ≡ ops.old.items ++ creations host (host + 1) (trees_of (L.forest source.old) (children_of (L.forest source.old) key))) }
     ensures next { IfOk result (λ next. next ≡ host + 1 + total (trees_of (L.forest source.old) (children_of (L.forest source.old) key))) }
     ensures same { L.forest source.new ≡ L.forest source.old }
@@ -121,7 +122,7 @@ fn create_child<S, L: Look<S>>(
 ) -> Result<(u32, Option<Key>), NoMemory>
     requires sound { Sound (L.forest source.old) }
     requires there { has key (L.forest source.old) ≡ true }
-    requires room { id + total (alone key (L.forest source.old)) ≤ 4294967295 }
+    requires room { id + total (alone key (L.forest source.old)) ≤ last_u32 }
     ensures ops { OnOk result (ops.new.items ≡ ops.old.items ++ creation_of id (alone key (L.forest source.old)) ++ Place host id None ∷ []) }
     ensures next_id { IfOk result (λ next. next.0 ≡ id + total (alone key (L.forest source.old))) }
     ensures next { IfOk result (λ next. next.1 ≡ next_of (L.forest source.old) key) }

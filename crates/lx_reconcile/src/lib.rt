@@ -17,8 +17,3 @@ pub use looks::{Look, Looked, Reads};
 pub use moves::Move;
 pub use views::fresh;
 pub use walking::walk;
-
-#[cfg(test)]
-mod commit_tests;
-#[cfg(test)]
-mod tests;

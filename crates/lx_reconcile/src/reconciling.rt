@@ -1,6 +1,7 @@
 //! The operations that bring the host of a node, with all below it, from one tree to another one. They go through both
 //! trees side by side.
 
+ghost use Rattle.lx_node.specs.Limits.{last_u32};
 ghost use Rattle.std.specs.Prelude.{◌≡◌, ◌≢◌, ◌+◌, ◌*◌, ◌≤◌, ◌↔◌, ◌++◌, ◌∷◌, [], ℕ, true, IsTrue, None, Some, option_map, IfOk, OnOk};
 ghost use Rattle.lx_node.specs.NamedTrees.{total};
 ghost use Rattle.lx_host.specs.declared.op.Op.TheVariants as op;
@@ -115,7 +116,7 @@ fn make_child<S, L: Look<S>>(
 ) -> Result<u32, NoMemory>
     requires sound { Sound (L.forest after.old) }
     requires there { has key (L.forest after.old) ≡ true }
-    requires room { next + total (alone key (L.forest after.old)) ≤ 4294967295 }
+    requires room { next + total (alone key (L.forest after.old)) ≤ last_u32 }
     ensures ops { OnOk result (ops.new.items ≡ ops.old.items ++ creation_of next (alone key (L.forest after.old)) ++ op.Place host next before ∷ []) }
     ensures end { IfOk result (λ end. end ≡ next + total (alone key (L.forest after.old))) }
     ensures same { L.forest after.new ≡ L.forest after.old }
@@ -143,7 +144,7 @@ fn replace_child<S, L: Look<S>>(
 ) -> Result<u32, NoMemory>
     requires sound { Sound (L.forest after.old) }
     requires there { has key (L.forest after.old) ≡ true }
-    requires room { next + total (alone key (L.forest after.old)) ≤ 4294967295 }
+    requires room { next + total (alone key (L.forest after.old)) ≤ last_u32 }
     ensures ops { OnOk result (ops.new.items ≡ ops.old.items ++ creation_of next (alone key (L.forest after.old)) ++ op.Place host next (Some old) ∷ [] ++ op.Drop old ∷ []) }
     ensures end { IfOk result (λ end. end ≡ next + total (alone key (L.forest after.old))) }
     ensures same { L.forest after.new ≡ L.forest after.old }
@@ -194,7 +195,7 @@ pub(crate) fn reconcile_node<B, A, O: Look<B>, N: Look<A>>(
     requires was { Some was.now ≡ option_map node_of (record_at (O.forest before.old) key) }
     requires now { Some now.now ≡ option_map node_of (record_at (N.forest after.old) key) }
     requires tag { shown.tag_of was.now.kind was.now.fields ≡ shown.tag_of now.now.kind now.now.fields }
-    requires room { next + total (alone key (N.forest after.old)) ≤ 4294967295 }
+    requires room { next + total (alone key (N.forest after.old)) ≤ last_u32 }
     ensures done { IfOk result (λ end. Reconciles (O.forest before.old) (N.forest after.old) hosts.now key next ops.old.items ops.new.items end) }
     ensures before { O.forest before.new ≡ O.forest before.old }
     ensures after { N.forest after.new ≡ N.forest after.old }
@@ -351,7 +352,7 @@ pub(crate) fn reconcile_root<B, A, O: Look<B>, N: Look<A>>(
     requires after { IsTree (N.forest after.old) }
     requires shown { Shows hosts.now (O.forest before.old) }
     requires rooted { IsRooted hosts.now.hosts }
-    requires room { hosts.now.next + total (N.forest after.old) ≤ 4294967295 }
+    requires room { hosts.now.next + total (N.forest after.old) ≤ last_u32 }
     requires none { ops.old.items ≡ [] }
     ensures allowed { OnOk result (IsAllowed (O.forest before.old) (N.forest after.old) hosts.now ops.new.items) }
     ensures before { O.forest before.new ≡ O.forest before.old }

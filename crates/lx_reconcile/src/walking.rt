@@ -3,9 +3,6 @@ ghost use Rattle.lx_node.specs.Siblings.{NoRepeats};
 ghost use Rattle.lx_reconcile.specs.Walk.{IsWalk};
 ghost use Rattle.lx_reconcile.specs.Underway.{IsAlong, left_of};
 
-#[cfg(test)]
-mod tests;
-
 use crate::Move;
 use crate::progress::{Case, Progress, add_key, key_at, next_case, unhandled_from};
 use indexmap::IndexSet;
