@@ -1,6 +1,6 @@
 -- Whole runs.
-use Rattle.std.proofs.Common.{◌≡◌, ◌≢◌, ℕ, ◌+◌, ◌<◌, ◌≤◌, inl, inr, List, [], ◌++◌, length, take, sym, ap, ◌∙◌, refl, subst, length-append, arith}
-use Rattle.lx_io.specs.Devices.{Consumes, HasRisen, IsCounted, last_count}
+use Rattle.std.proofs.Common.{◌≡◌, ◌≢◌, ℕ, ◌+◌, ◌<◌, ◌≤◌, ◌⊎◌, inl, inr, List, [], ◌++◌, length, take, sym, ap, ◌∙◌, refl, subst, length-append, arith}
+use Rattle.lx_io.specs.Devices.{Consumes, IsAtEnd, HasRisen, IsCounted, last_count}
 use Rattle.lx_editor.specs.Editor.{Editor, new_editor}
 use Rattle.lx_cli.specs.declared.session.Session.{Session}
 use Rattle.lx_cli.specs.declared.session.Unanswered.{Unanswered}
@@ -14,7 +14,7 @@ use Rattle.lx_cli.specs.Run.{input_limit, SourceSeen, SinkSeen, Seen, Ends, IsRu
 use Rattle.lx_cli.specs.Steps.{AreAnswered, AreUnanswered, AreTaken, IsUnended, IsNew, Moment, IsEnd, IsBrokenOff, IsUnanswered, IsPastLimit, HasStopped, unanswered_status, stop_status}
 use Rattle.lx_cli.proofs.Lines.{IsUnended-none, length-ended-le}
 use Rattle.lx_cli.proofs.Devices.{Consumes-none, Appends-none, IsCounted-none, IsCounted-within, AreWritten-append}
-use Rattle.lx_cli.proofs.Answering.{FollowsTo-append, IsFrontOfReplies-none, AreUnanswered-append, AreUnanswered-later}
+use Rattle.lx_cli.proofs.Answering.{FollowsTo-append, IsFrontOfReplies-none, AreUnanswered-append}
 
 -- a run without words
 abbrev pub wordless : List ℕ → List ℕ → SourceSeen → SourceSeen → SinkSeen → SinkSeen → Seen
@@ -41,7 +41,9 @@ unfolding Ends
 IsRun-none q s = record {
   ends = record {
     no_words = refl;
-    front = IsFrontOfReplies-none new_editor (lines_of []);
+    lines = ended [];
+    may = inl refl;
+    front = IsFrontOfReplies-none new_editor (ended []);
     faultless = record { source = refl; sink = refl };
   };
   consumes = Consumes-none q.left;
@@ -153,14 +155,15 @@ Ran-too_long a b read new p =
       },
     )
 
-ran_unanswered : (why : Unanswered) (q r : SourceSeen) (s t : SinkSeen) (read : List ℕ)
+ran_unanswered : (why : Unanswered) (q r : SourceSeen) (s t : SinkSeen) (read : List ℕ) (lines : List (List ℕ))
     → length read ≤ input_limit + 1 → Consumes q.left r.left read → r.faults ≡ q.faults → IsCounted q.reads r.reads (length read + 1)
-    → AreUnanswered why (lines_of read) new_editor s t → Ran (unanswered_status why) read q r s t
+    → (lines ≡ ended read) ⊎ (IsAtEnd r.left × (lines ≡ lines_of read))
+    → AreUnanswered why lines new_editor s t → Ran (unanswered_status why) read q r s t
 unfolding Ends
-ran_unanswered unanswered.WriteFault q r s t read bounded consumes faults reads p = (
+ran_unanswered unanswered.WriteFault q r s t read lines bounded consumes faults reads may p = (
   p.written,
   record {
-    ends = record { no_words = refl; front = p.front; source = faults; sink = p.sink.faults };
+    ends = record { no_words = refl; lines = lines; may = may; front = p.front; source = faults; sink = p.sink.faults };
     consumes = consumes;
     appends = p.sink.appends;
     bounded = bounded;
@@ -169,10 +172,10 @@ ran_unanswered unanswered.WriteFault q r s t read bounded consumes faults reads 
     complete = λ words none short. absurd (HasRisen-not s.faults t.faults p.sink.faults none.faultless.sink none.sink);
   },
 )
-ran_unanswered unanswered.Memory q r s t read bounded consumes faults reads p = (
+ran_unanswered unanswered.Memory q r s t read lines bounded consumes faults reads may p = (
   p.written,
   record {
-    ends = record { no_words = refl; front = p.front; faultless = record { source = faults; sink = p.sink.faults } };
+    ends = record { no_words = refl; lines = lines; may = may; front = p.front; faultless = record { source = faults; sink = p.sink.faults } };
     consumes = consumes;
     appends = p.sink.appends;
     bounded = bounded;
@@ -189,9 +192,9 @@ Ran-unanswered why a b read new p =
     let lines : AreUnanswered why (ended read) new_editor a.sink b.sink =
     subst (λ (editor : Editor). AreUnanswered why (ended read) editor a.sink b.sink) new.editor
     (subst (λ (waits : List ℕ). AreUnanswered why (ended (waits ++ read)) a.session.editor a.sink b.sink) new.pending p.unanswered) in
-    ran_unanswered why a.source b.source a.sink b.sink read p.within p.source.consumes p.source.faults
+    ran_unanswered why a.source b.source a.sink b.sink read (ended read) p.within p.source.consumes p.source.faults
     (IsCounted-within a.source.reads b.source.reads (length read) (length read + 1) (omega arith) p.source.reads)
-    (AreUnanswered-later why new_editor a.sink b.sink (ended read) (last_line (unended read)) lines)
+    (inl refl) lines
 
 -- where the last line is not answered
 pub Ran-last_unanswered : (why : Unanswered) (a b : Moment) (t : SinkSeen) (read : List ℕ) → IsNew a.session → IsEnd input_limit read a b
@@ -202,7 +205,8 @@ Ran-last_unanswered why a b t read new p q =
     let last : AreUnanswered why (last_line (unended read)) b.session.editor b.sink t =
     subst (λ (waits : List ℕ). AreUnanswered why (last_line waits) b.session.editor b.sink t)
     (waiting_new a.session b.session a.sink b.sink read new p.taken) q in
-    ran_unanswered why a.source b.source a.sink t read (omega (arith, p.within)) p.source.consumes p.source.faults p.source.reads
+    ran_unanswered why a.source b.source a.sink t read (lines_of read) (omega (arith, p.within)) p.source.consumes p.source.faults p.source.reads
+    (inr (p.source.at_end, refl))
     (AreUnanswered-append why new_editor b.session.editor a.sink b.sink t (ended read) (last_line (unended read)) lines last)
 
 -- where no more was read before the end

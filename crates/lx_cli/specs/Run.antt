@@ -57,6 +57,11 @@ pub record IsFrontOfReplies (editor : Editor) (lines : List (List ℕ)) (written
   pub follows : Follows editor answered replies
   pub begun : written ++ later_bytes ≡ replies
 
+-- The lines that may be answered: those that ended in what was read, and what stands behind the last line end only where
+-- the input was read to its end.
+abbrev pub MayAnswer : Seen → List (List ℕ) → Type 0
+MayAnswer run lines = (lines ≡ ended run.read) ⊎ (IsAtEnd run.source_after.left × (lines ≡ lines_of run.read))
+
 -- The input was read to its end, and all of its lines are answered.
 pub record IsDone (run : Seen) : Type 0 where
   pub no_words : run.words ≡ 0
@@ -80,17 +85,21 @@ pub record IsReadFault (run : Seen) : Type 0 where
   pub source : HasRisen run.source_before.faults run.source_after.faults
   pub sink : run.sink_after.faults ≡ run.sink_before.faults
 
--- A write failed.
+-- A write failed, and a front of the replies to lines that may be answered is written.
 pub record IsWriteFault (run : Seen) : Type 0 where
   pub no_words : run.words ≡ 0
-  pub front : IsFrontOfReplies new_editor (lines_of run.read) run.written
+  pub lines : List (List ℕ)
+  pub may : MayAnswer run lines
+  pub front : IsFrontOfReplies new_editor lines run.written
   pub source : run.source_after.faults ≡ run.source_before.faults
   pub sink : HasRisen run.sink_before.faults run.sink_after.faults
 
--- Memory was wanting.
+-- Memory was wanting, and a front of the replies to lines that may be answered is written.
 pub record IsOutOfMemory (run : Seen) : Type 0 where
   pub no_words : run.words ≡ 0
-  pub front : IsFrontOfReplies new_editor (lines_of run.read) run.written
+  pub lines : List (List ℕ)
+  pub may : MayAnswer run lines
+  pub front : IsFrontOfReplies new_editor lines run.written
   pub faultless : IsFaultless run
 
 -- One byte more than the limit was read, and the lines that had ended before it are answered.

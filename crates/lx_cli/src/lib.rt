@@ -1,0 +1,14 @@
+//! A run of the program, from the bytes of a source to the bytes of a sink: each line of the input is answered by the
+//! editor. `run` is what the program `lexical` does, for any words, sources and sinks, and `Status` is how it ended.
+#![tactic(auto)]
+
+mod program;
+mod reading;
+mod session;
+mod status;
+#[cfg(test)]
+mod tests;
+mod writing;
+
+pub use program::run;
+pub use status::Status;

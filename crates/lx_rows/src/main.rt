@@ -1,0 +1,22 @@
+//! Replays stored sessions, each on a new editor, as the program `lexical` answers them. So one stored run shows many replies.
+//!
+//! Standard input holds the sessions one behind another. A line `=== NAME` begins each, and comes out again before its
+//! replies. A line that is too long to be stored, or has no end, is made of one that stands for it:
+//!
+//! - `*** steps COUNT STEP`: an update with the step so many times,
+//! - `*** letters COUNT`: an update that appends a text of so many letters,
+//! - `*** unended LINE`: the line without its end, at the end of a session.
+//!
+//! Of a reply of more than 4,096 bytes the first 60 come out, and then its number of bytes.
+#![tactic(auto)]
+
+mod lines;
+mod sessions;
+
+use std::io::Read;
+
+fn main(rt: HostRuntime) -> anyhow::Result<()> {
+    let mut input = Vec::new(rt.alloc());
+    rt.stdin().read_to_end(&mut input)?;
+    sessions::replay(rt.alloc(), &input, &mut rt.stdout())
+}

@@ -1,0 +1,63 @@
+use crate::lines::add_line;
+use anyhow::{Result, bail};
+use lx_cli::{Status, run};
+use lx_io::{MemorySink, MemorySource};
+use std::alloc::Global;
+use std::io::Write;
+
+/// What begins a session.
+const HEAD: &[u8] = b"=== ";
+
+/// How many bytes of replies a session may have.
+const ROOM: usize = 8_388_608;
+
+/// How many bytes are read or written at a time.
+const PIECE: usize = 65_536;
+
+/// How many bytes a reply may have that comes out whole.
+const LONGEST: usize = 4096;
+
+/// How many bytes of a longer reply come out.
+const SHOWN: usize = 60;
+
+/// Runs each session of the input.
+pub(crate) fn replay<W: Write>(alloc: Global, input: &[u8], out: &mut W) -> Result<()> {
+    let mut session = Vec::new(alloc);
+    for line in input.split_inclusive(|byte| *byte == b'\n') {
+        if line.starts_with(HEAD) {
+            answer(alloc, session, out)?;
+            session = Vec::new(alloc);
+            out.write_all(line)?;
+        } else {
+            add_line(&mut session, line)?;
+        }
+    }
+    answer(alloc, session, out)
+}
+
+/// Runs one session, and writes its replies.
+fn answer<W: Write>(alloc: Global, session: Vec<u8>, out: &mut W) -> Result<()> {
+    let mut source = MemorySource::new(session, PIECE, Vec::new(alloc));
+    let mut sink = MemorySink::new(alloc, ROOM, PIECE, Vec::new(alloc))?;
+    match run(alloc, &[], &mut source, &mut sink) {
+        Status::Done => {}
+        status => bail!("a session ended with {status:?}"),
+    }
+    for reply in sink.taken().split_inclusive(|byte| *byte == b'\n') {
+        write_reply(reply, out)?;
+    }
+    Ok(())
+}
+
+/// Writes a reply, or where it is long its front and its length.
+fn write_reply<W: Write>(reply: &[u8], out: &mut W) -> Result<()> {
+    let text = reply.strip_suffix(b"\n").unwrap_or(reply);
+    match text.get(..SHOWN) {
+        Some(front) if LONGEST < text.len() => {
+            out.write_all(front)?;
+            writeln!(out, " .. {}", text.len())?;
+        }
+        _ => out.write_all(reply)?,
+    }
+    Ok(())
+}
