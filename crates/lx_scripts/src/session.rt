@@ -1,0 +1,121 @@
+//! Lines that go on one from the other.
+
+ghost use Rattle.std.specs.Prelude.{IfOk, All};
+ghost use Rattle.lx_step.specs.Sound.{IsSound, IsSoundForm};
+ghost use Rattle.lx_draft.specs.Working.{MayStart};
+
+use crate::telling::tell;
+use anyhow::Result;
+use lx_draft::{Draft, Frozen, State};
+use lx_editor::{Names, run_steps};
+use lx_node::{Cause, Fault, NoMemory};
+use lx_reconcile::fresh;
+use lx_script::{Reply, read_line, write_reply};
+use lx_step::{Form, Line, Shown, Step};
+use std::alloc::Global;
+
+/// A state, and the key that the next new node gets: an update may start from them.
+#[derive(Drop)]
+pub(crate) struct Session {
+    state: State,
+    next_key: u32,
+    ghost may_start: { MayStart state.links next_key },
+}
+
+/// Why steps left nothing, and the one that was refused, where it was one.
+#[derive(Drop)]
+struct Refusal {
+    fault: Fault,
+    step: Option<u32>,
+}
+
+impl Session {
+    /// The state of a new editor.
+    pub(crate) fn new(alloc: Global) -> Result<Session, NoMemory> {
+        let state = State::new(alloc)?;
+        Ok(Session { state, next_key: 1 })
+    }
+
+    /// Does what a line asks for, and tells it in a line without its end.
+    pub(crate) fn answer(&mut self, alloc: Global, line: &[u8]) -> Result<Vec<u8>> {
+        match read_line(alloc, line) {
+            Ok(line) => self.line(alloc, line),
+            Err(fault) => refused(alloc, fault, None),
+        }
+    }
+
+    fn line(&mut self, alloc: Global, line: Line) -> Result<Vec<u8>>
+        requires { IsSoundForm line.form }
+    {
+        match &line.form {
+            Form::Update(steps) => self.update(alloc, steps.items()),
+            Form::Show(shown) => self.show(alloc, *shown),
+        }
+    }
+
+    fn show(&self, alloc: Global, shown: Shown) -> Result<Vec<u8>> {
+        let reply = match shown {
+            Shown::View => Reply::View(fresh(alloc, &self.state)?.print_html()?),
+            Shown::Selection => Reply::Selection(self.state.selection.copy(alloc)?),
+        };
+        Ok(write_reply(alloc, &reply)?)
+    }
+
+    /// Keeps what the steps leave, unless they are refused.
+    fn update(&mut self, alloc: Global, steps: &[Step]) -> Result<Vec<u8>>
+        requires { All IsSound steps.now }
+    {
+        match self.left_by(alloc, steps) {
+            Ok(frozen) => {
+                let told = tell(alloc, &frozen)?;
+                self.keep(frozen);
+                Ok(told)
+            }
+            Err(refusal) => refused(alloc, refusal.fault, refusal.step),
+        }
+    }
+
+    fn keep(&mut self, frozen: Frozen)
+        requires { MayStart frozen.state.links frozen.next_key }
+    {
+        self.state = frozen.state;
+        self.next_key = frozen.next_key;
+    }
+
+    /// What the steps leave of the state.
+    fn left_by(&self, alloc: Global, steps: &[Step]) -> Result<Frozen, Refusal>
+        requires { All IsSound steps.now }
+        ensures { IfOk result (λ frozen. MayStart frozen.state.links frozen.next_key) }
+    {
+        let mut draft = match Draft::start(alloc, &self.state, self.next_key) {
+            Ok(draft) => draft,
+            Err(NoMemory) => return Err(refused_at(Fault::Memory, None)),
+        };
+        let mut names = Names::new(alloc);
+        let mut at = 0;
+        match run_steps(alloc, &mut draft, &mut names, steps, &mut at) {
+            Ok(()) => {}
+            Err(fault) => return Err(refused_at(fault, Some(at))),
+        }
+        match draft.freeze() {
+            Ok(frozen) => Ok(frozen),
+            Err(fault) => Err(refused_at(fault, None)),
+        }
+    }
+}
+
+fn refused_at(fault: Fault, step: Option<u32>) -> Refusal {
+    Refusal { fault, step }
+}
+
+/// The reply to a line that is refused.
+fn refused(alloc: Global, fault: Fault, step: Option<u32>) -> Result<Vec<u8>> {
+    match fault {
+        Fault::Cause(cause) => Ok(write_refusal(alloc, cause, step)?),
+        Fault::Memory => Err(NoMemory.into()),
+    }
+}
+
+fn write_refusal(alloc: Global, cause: Cause, step: Option<u32>) -> Result<Vec<u8>, NoMemory> {
+    write_reply(alloc, &Reply::Refused { cause, step })
+}

@@ -1,0 +1,111 @@
+//! The fields of nodes in documents.
+
+use lx_node::{Kind, ListType, NoMemory};
+use lx_script::{FieldFault, fields_of};
+use serde_json::Value;
+use std::alloc::Global;
+use std::test::Fail;
+
+/// The fields that a text of JSON gives a kind, or the name of the bad member.
+fn given(alloc: Global, kind: Kind, text: &str) -> Result<String, NoMemory> {
+    let Ok(value) = Value::from_str(alloc, text) else {
+        return Err(NoMemory);
+    };
+    match fields_of(alloc, kind, &value) {
+        Ok(fields) => Ok(format!(in alloc; "{fields:?}")?),
+        Err(FieldFault::Bad(name)) => Ok(String::from_str(alloc, name.as_str())?),
+        Err(FieldFault::Memory) => Err(NoMemory),
+    }
+}
+
+fn gives(alloc: Global, kind: Kind, text: &str, wanted: &str) -> Result<bool, NoMemory> {
+    Ok(given(alloc, kind, text)?.as_str() == wanted)
+}
+
+/// Members of documents, and the fields that they give the kind, or the name of the bad member.
+const MEMBERS: [(Kind, &str, &str); 15] = [
+    (
+        Kind::Text,
+        r#"{"detail":3,"mode":"segmented","text":"x","version":1,"start":"?"}"#,
+        r#"Text(TextFields { text: Txt { text: "x" }, format: 0, detail: 3, mode: Segmented, style: Txt { text: "" } })"#,
+    ),
+    (
+        Kind::Tab,
+        r#"{"detail":9,"format":null,"text":7}"#,
+        r#"Text(TextFields { text: Txt { text: "\t" }, format: 0, detail: 2, mode: Normal, style: Txt { text: "" } })"#,
+    ),
+    (
+        Kind::Item,
+        r#"{"value":1200000,"checked":true}"#,
+        r#"Element(ElementFields { direction: Unset, format: Unset, indent: 0, text_format: 0, text_style: Txt { text: "" }, extra: Item { value: 1200000, checked: Some(true) } })"#,
+    ),
+    (
+        Kind::Cell,
+        r#"{"backgroundColor":"red","colSpan":2,"rowSpan":3,"headerState":1,"direction":"rtl"}"#,
+        r#"Element(ElementFields { direction: Rtl, format: Unset, indent: 0, text_format: 0, text_style: Txt { text: "" }, extra: Cell { header: 1, row_span: 3, col_span: 2, background: Some(Txt { text: "red" }) } })"#,
+    ),
+    (
+        Kind::List(ListType::Check),
+        r#"{"listType":"check","tag":3}"#,
+        r#"Element(ElementFields { direction: Unset, format: Unset, indent: 0, text_format: 0, text_style: Txt { text: "" }, extra: List { start: 1 } })"#,
+    ),
+    (
+        Kind::Heading(6),
+        r#"{"direction":"ltr","format":"justify","indent":65535,"tag":"h6","textFormat":3,"textStyle":"s"}"#,
+        r#"Element(ElementFields { direction: Ltr, format: Justify, indent: 65535, text_format: 3, text_style: Txt { text: "s" }, extra: Plain })"#,
+    ),
+    (
+        Kind::Link,
+        r#"{"rel":"a","target":null,"title":"b","url":"u"}"#,
+        r#"Element(ElementFields { direction: Unset, format: Unset, indent: 0, text_format: 0, text_style: Txt { text: "" }, extra: Link { rel: Some(Txt { text: "a" }), target: None, title: Some(Txt { text: "b" }), url: Txt { text: "u" } } })"#,
+    ),
+    (Kind::Embed, r#"{"src":"s"}"#, r#"Embed(Txt { text: "s" })"#),
+    (
+        Kind::List(ListType::Check),
+        r#"{"listType":"x"}"#,
+        "listType",
+    ),
+    (Kind::Heading(1), r#"{"tag":"h7","textFormat":-1}"#, "tag"),
+    (
+        Kind::Link,
+        r#"{"url":3,"title":false,"direction":"up","format":1}"#,
+        "direction",
+    ),
+    (
+        Kind::Link,
+        r#"{"url":3,"title":false,"format":1}"#,
+        "format",
+    ),
+    (Kind::Item, r#"{"value":1200001}"#, "value"),
+    (Kind::Rule, r#"{"format":true}"#, "Bare"),
+    (Kind::Break, "{}", "Bare"),
+];
+
+#[test]
+fn fields_are_those_of_documents(rt: HostRuntime) -> Result<(), Fail> {
+    for (kind, text, wanted) in MEMBERS {
+        assert!(rt; gives(rt.alloc(), kind, text, wanted)?, "at {text}");
+    }
+    Ok(())
+}
+
+/// Kinds that have no member of their own.
+#[test]
+fn other_elements_are_plain(rt: HostRuntime) -> Result<(), Fail> {
+    for kind in [
+        Kind::Root,
+        Kind::Paragraph,
+        Kind::Quote,
+        Kind::Table,
+        Kind::Row,
+    ] {
+        let plain = gives(
+            rt.alloc(),
+            kind,
+            r#"{"checked":true,"url":3}"#,
+            r#"Element(ElementFields { direction: Unset, format: Unset, indent: 0, text_format: 0, text_style: Txt { text: "" }, extra: Plain })"#,
+        )?;
+        assert!(rt; plain, "at {kind:?}");
+    }
+    Ok(())
+}

@@ -1,0 +1,211 @@
+//! Lines that are read, as the derived texts of their parts say them.
+
+use lx_node::{Fault, NoMemory};
+use lx_script::read_line;
+use std::alloc::Global;
+use std::test::Fail;
+
+/// What a line asks for, or the code of the cause for which it is refused.
+pub(crate) fn heard(alloc: Global, line: &str) -> Result<String, NoMemory> {
+    match read_line(alloc, line.as_bytes()) {
+        Ok(line) => Ok(format!(in alloc; "{:?}", line.form)?),
+        Err(Fault::Cause(cause)) => Ok(format!(in alloc; "{}", cause.code())?),
+        Err(Fault::Memory) => Err(NoMemory),
+    }
+}
+
+/// What a line of one step asks for.
+pub(crate) fn heard_step(alloc: Global, step: &str) -> Result<String, NoMemory> {
+    let line = format!(in alloc; "{{\"update\":[{step}]}}")?;
+    heard(alloc, line.as_str())
+}
+
+fn is_step(alloc: Global, step: &str, wanted: &str) -> Result<bool, NoMemory> {
+    let wanted = format!(in alloc; "Update(Steps {{ steps: [{wanted}] }})")?;
+    Ok(heard_step(alloc, step)?.as_str() == wanted.as_str())
+}
+
+#[test]
+fn texts_are_read(rt: HostRuntime) -> Result<(), Fail> {
+    for (step, wanted) in [
+        (r#"{"append":"Hi"}"#, r#""Hi""#),
+        ("\t{ \"append\":\"\" \r} \n", r#""""#),
+        (r#"{"append":"a\n\"\\\/\t"}"#, r#""a\n\"\\/\t""#),
+        (r#"{"append":"\u00e9\ud83d\ude00"}"#, r#""é😀""#),
+        (r#"{"\u0061ppend":"漢"}"#, r#""漢""#),
+    ] {
+        let wanted = format!(in rt.alloc(); "Append(Txt {{ text: {wanted} }})")?;
+        assert!(rt; is_step(rt.alloc(), step, wanted.as_str())?, "at {step}");
+    }
+    Ok(())
+}
+
+/// Steps, and what they ask for.
+const STEPS: [(&str, &str); 12] = [
+    (
+        r#"{"put":1,"into":"@anchor","at":18446744073709551615}"#,
+        "Put { node: Key(Key(1)), into: Anchor, index: Some(18446744073709551615) }",
+    ),
+    (
+        r#"{"into":"a","put":"@b"}"#,
+        r#"Put { node: Name(Txt { text: "@b" }), into: Name(Txt { text: "a" }), index: None }"#,
+    ),
+    (r#"{"remove":"@focus"}"#, "Remove(Focus)"),
+    (
+        r#"{"replace":"@block","with":4294967295,"keep":true}"#,
+        "Replace { node: Block, with: Key(Key(4294967295)), keep: true }",
+    ),
+    (
+        r#"{"replace":1,"with":2}"#,
+        "Replace { node: Key(Key(1)), with: Key(Key(2)), keep: false }",
+    ),
+    (r#"{"mark":0}"#, "Mark(Key(Key(0)))"),
+    (
+        r#"{"split":1,"at":[3,1],"as":"x"}"#,
+        r#"Split { node: Key(Key(1)), offsets: Offsets { offsets: [3, 1] }, name: Some(Txt { text: "x" }) }"#,
+    ),
+    (
+        r#"{"split":1,"at":[]}"#,
+        "Split { node: Key(Key(1)), offsets: Offsets { offsets: [] }, name: None }",
+    ),
+    (
+        r#"{"join":1,"with":2}"#,
+        "Join { node: Key(Key(1)), with: Key(Key(2)) }",
+    ),
+    (
+        r#"{"wrap":1,"in":2}"#,
+        "Wrap { node: Key(Key(1)), outer: Key(Key(2)) }",
+    ),
+    (r#"{"unwrap":1}"#, "Unwrap(Key(Key(1)))"),
+    (
+        r#"{"children":1,"into":2}"#,
+        "Children { from: Key(Key(1)), into: Key(Key(2)) }",
+    ),
+];
+
+#[test]
+fn steps_are_read(rt: HostRuntime) -> Result<(), Fail> {
+    for (step, wanted) in STEPS {
+        assert!(rt; is_step(rt.alloc(), step, wanted)?, "at {step}");
+    }
+    Ok(())
+}
+
+#[test]
+fn selections_are_read(rt: HostRuntime) -> Result<(), Fail> {
+    for (selection, wanted) in [
+        ("null", "Nothing"),
+        (
+            r#"{"keys":[1,"a"]}"#,
+            r#"Nodes(References { references: [Key(Key(1)), Name(Txt { text: "a" })] })"#,
+        ),
+        (r#"{"keys":[]}"#, "Nodes(References { references: [] })"),
+        (
+            r#"{"anchor":1,"focus":2,"table":3}"#,
+            "Cells { table: Key(Key(3)), anchor: Key(Key(1)), focus: Key(Key(2)) }",
+        ),
+        (
+            r#"{"anchor":[1,0,"text"],"focus":["a",9,"element"],"format":65535}"#,
+            r#"Range { anchor: PointRef { node: Key(Key(1)), offset: 0, kind: Text }, focus: PointRef { node: Name(Txt { text: "a" }), offset: 9, kind: Element }, format: Some(65535) }"#,
+        ),
+        (
+            r#"{"anchor":[1,0,"text"],"focus":[1,0,"text"]}"#,
+            "Range { anchor: PointRef { node: Key(Key(1)), offset: 0, kind: Text }, focus: PointRef { node: Key(Key(1)), offset: 0, kind: Text }, format: None }",
+        ),
+    ] {
+        let step = format!(in rt.alloc(); "{{\"select\":{selection}}}")?;
+        let wanted = format!(in rt.alloc(); "Select({wanted})")?;
+        assert!(rt;
+            is_step(rt.alloc(), step.as_str(), wanted.as_str())?,
+            "at {selection}"
+        );
+    }
+    Ok(())
+}
+
+#[test]
+fn patches_are_read(rt: HostRuntime) -> Result<(), Fail> {
+    for (fields, wanted) in [
+        ("{}", ""),
+        (
+            r#"{"format":3,"direction":null}"#,
+            "Direction(Unset), Format(3)",
+        ),
+        (
+            r#"{"format":"justify","checked":true}"#,
+            "Checked(Some(true)), Align(Justify)",
+        ),
+        (
+            r#"{"rel":null,"title":"t","text":"","mode":"token"}"#,
+            r#"Mode(Token), Rel(None), Text(Txt { text: "" }), Title(Some(Txt { text: "t" }))"#,
+        ),
+        (
+            r#"{"colSpan":1000,"headerState":3,"start":1000000,"detail":0}"#,
+            "ColSpan(1000), Detail(0), HeaderState(3), Start(1000000)",
+        ),
+        (
+            r#"{"tag":"h2","value":1200000,"z":null}"#,
+            r#"Other(Txt { text: "tag" }), Other(Txt { text: "value" }), Other(Txt { text: "z" })"#,
+        ),
+    ] {
+        let step = format!(in rt.alloc(); "{{\"set\":1,\"fields\":{fields}}}")?;
+        let wanted = format!(in rt.alloc();
+            "Set {{ node: Key(Key(1)), patch: Patch {{ members: Members {{ members: [{wanted}] }} }} }}"
+        )?;
+        assert!(rt;
+            is_step(rt.alloc(), step.as_str(), wanted.as_str())?,
+            "at {fields}"
+        );
+    }
+    Ok(())
+}
+
+#[test]
+fn new_nodes_are_read(rt: HostRuntime) -> Result<(), Fail> {
+    for (step, wanted) in [
+        (
+            r#"{"new":"linebreak"}"#,
+            "New { kind: Break, fields: Bare, name: None }",
+        ),
+        (
+            r#"{"new":"embed","fields":{"src":"s"},"as":"e"}"#,
+            r#"New { kind: Embed, fields: Embed(Txt { text: "s" }), name: Some(Txt { text: "e" }) }"#,
+        ),
+        (
+            r#"{"new":"tab","fields":{"format":1,"style":null}}"#,
+            r#"New { kind: Tab, fields: Text(TextFields { text: Txt { text: "\t" }, format: 1, detail: 2, mode: Normal, style: Txt { text: "" } }), name: None }"#,
+        ),
+        (
+            r#"{"new":"heading","fields":{"tag":"h3","indent":65535}}"#,
+            r#"New { kind: Heading(3), fields: Element(ElementFields { direction: Unset, format: Unset, indent: 65535, text_format: 0, text_style: Txt { text: "" }, extra: Plain }), name: None }"#,
+        ),
+        (
+            r#"{"new":"list","fields":{"listType":null,"format":"end"}}"#,
+            r#"New { kind: List(Bullet), fields: Element(ElementFields { direction: Unset, format: End, indent: 0, text_format: 0, text_style: Txt { text: "" }, extra: List { start: 1 } }), name: None }"#,
+        ),
+        (
+            r#"{"new":"listitem","fields":{"value":null,"checked":false}}"#,
+            r#"New { kind: Item, fields: Element(ElementFields { direction: Unset, format: Unset, indent: 0, text_format: 0, text_style: Txt { text: "" }, extra: Item { value: 1, checked: Some(false) } }), name: None }"#,
+        ),
+    ] {
+        assert!(rt; is_step(rt.alloc(), step, wanted)?, "at {step}");
+    }
+    Ok(())
+}
+
+#[test]
+fn lines_are_read(rt: HostRuntime) -> Result<(), Fail> {
+    for (line, wanted) in [
+        (r#"{"update":[]}"#, "Update(Steps { steps: [] })"),
+        (
+            r#"{"update":[{"mark":1},{"mark":2}]}"#,
+            "Update(Steps { steps: [Mark(Key(Key(1))), Mark(Key(Key(2)))] })",
+        ),
+        (r#"{"show":"view"}"#, "Show(View)"),
+        (r#"{"show":"selection"}"#, "Show(Selection)"),
+    ] {
+        let heard = heard(rt.alloc(), line)?;
+        assert_eq!(rt; heard.as_str(), wanted);
+    }
+    Ok(())
+}

@@ -1,0 +1,14 @@
+//! Tests of stores, links between nodes, host trees and how nodes are shown, through their public calls: what no clause
+//! can say, as that a call succeeds where memory is ample, and values that come from outside.
+#![tactic(auto)]
+
+#[cfg(test)]
+mod hosts;
+#[cfg(test)]
+mod links;
+#[cfg(test)]
+mod making;
+#[cfg(test)]
+mod shapes;
+#[cfg(test)]
+mod stores;

@@ -1,0 +1,227 @@
+//! A store and its forks.
+
+use crate::making::lone;
+use lx_node::{Fields, Key, Kind, NoMemory, Node, Txt};
+use lx_store::{Copies, Edit, Item, Store, Tally};
+use std::alloc::Global;
+use std::test::Fail;
+
+fn embed(alloc: Global, source: &str) -> Result<Node, NoMemory> {
+    let fields = Fields::Embed(Txt::new(alloc, source)?);
+    Ok(lone(Kind::Embed, fields))
+}
+
+fn source(node: Option<&Node>) -> &str {
+    match node {
+        Some(node) => match &node.fields {
+            Fields::Embed(source) => source.as_str(),
+            _ => "no embed",
+        },
+        None => "none",
+    }
+}
+
+/// Puts an embed into a store, which has room.
+fn put(
+    alloc: Global,
+    store: &mut Store<Node>,
+    key: u32,
+    name: &str,
+    count: &mut Copies,
+) -> Result<Option<Node>, NoMemory> {
+    if store.len() > 100 {
+        return Err(NoMemory);
+    }
+    store.put(Key(key), embed(alloc, name)?, count)
+}
+
+/// The sources of the embeds under the keys 0, 7, 33 and 4,294,967,295.
+fn told(alloc: Global, store: &Store<Node>) -> Result<String, Fail> {
+    let mut text = format!(in alloc; "{}:", store.len())?;
+    for key in [0, 7, 33, u32::MAX] {
+        write!(text, " {}", source(store.get(Key(key))))?;
+    }
+    Ok(text)
+}
+
+fn three(alloc: Global, count: &mut Copies) -> Result<Store<Node>, NoMemory> {
+    let mut store = Store::new(alloc)?;
+    for (key, name) in [(7, "seven"), (0, "zero"), (u32::MAX, "last")] {
+        drop(put(alloc, &mut store, key, name, count)?);
+    }
+    Ok(store)
+}
+
+/// Writes to a fork: the source of the embed that was under 7.
+fn fork_written(
+    alloc: Global,
+    fork: &mut Store<Node>,
+    count: &mut Copies,
+) -> Result<String, NoMemory> {
+    let old = put(alloc, fork, 7, "new", count)?;
+    drop(put(alloc, fork, 33, "more", count)?);
+    Ok(String::from_str(alloc, source(old.as_ref()))?)
+}
+
+/// The source of the embed that was under a key, of which nothing is left there.
+fn taken(
+    alloc: Global,
+    store: &mut Store<Node>,
+    key: u32,
+    count: &mut Copies,
+) -> Result<String, NoMemory> {
+    let node = store.take(Key(key), count)?;
+    Ok(String::from_str(alloc, source(node.as_ref()))?)
+}
+
+/// The store and its fork.
+fn both_told(alloc: Global, store: &Store<Node>, fork: &Store<Node>) -> Result<String, Fail> {
+    let ours = told(alloc, store)?;
+    let theirs = told(alloc, fork)?;
+    Ok(format!(in alloc; "{}; {}", ours.as_str(), theirs.as_str())?)
+}
+
+/// The store and its fork, after a write to each.
+fn written_apart(alloc: Global) -> Result<String, Fail> {
+    let mut count = Copies::new();
+    let mut store = three(alloc, &mut count)?;
+    let mut fork = store.fork(&mut count)?;
+    let old = fork_written(alloc, &mut fork, &mut count)?;
+    let zero = taken(alloc, &mut store, 0, &mut count)?;
+    let one = taken(alloc, &mut store, 1, &mut count)?;
+    let both = both_told(alloc, &store, &fork)?;
+    Ok(format!(in alloc;
+        "{}; {} {} {}",
+        both.as_str(),
+        old.as_str(),
+        zero.as_str(),
+        one.as_str()
+    )?)
+}
+
+#[test]
+fn a_fork_and_the_store_are_apart(rt: HostRuntime) -> Result<(), Fail> {
+    let text = written_apart(rt.alloc())?;
+    assert_eq!(rt;
+        text.as_str(),
+        "2: none seven none last; 4: zero new more last; seven zero none"
+    );
+    Ok(())
+}
+
+fn keys_of_three(alloc: Global) -> Result<Vec<Key>, NoMemory> {
+    let store = three(alloc, &mut Copies::new())?;
+    store.keys()
+}
+
+#[test]
+fn keys_ascend(rt: HostRuntime) -> Result<(), Fail> {
+    let keys = keys_of_three(rt.alloc())?;
+    assert_eq!(rt; keys.as_slice(), [Key(0), Key(7), Key(u32::MAX)].as_slice());
+    Ok(())
+}
+
+/// A store with an old embed under each key from 0 to 95.
+fn filled(alloc: Global, count: &mut Copies) -> Result<Store<Node>, NoMemory> {
+    let mut store = Store::new(alloc)?;
+    for key in 0..96 {
+        drop(put(alloc, &mut store, key, "old", count)?);
+    }
+    Ok(store)
+}
+
+/// Whether the embed under each key from `first` to `last` has the source.
+fn has(store: &Store<Node>, first: u32, last: u32, name: &str) -> bool {
+    for key in first..=last {
+        if source(store.get(Key(key))) != name {
+            return false;
+        }
+    }
+    true
+}
+
+/// Whether a write to a fork and one to the store leave the other as it was, where they share pages.
+fn writes_stay_apart(alloc: Global) -> Result<bool, NoMemory> {
+    let mut count = Copies::new();
+    let mut store = filled(alloc, &mut count)?;
+    let mut fork = store.fork(&mut count)?;
+    drop(put(alloc, &mut fork, 33, "new", &mut count)?);
+    drop(store.take(Key(64), &mut count)?);
+    let forked = has(&fork, 0, 32, "old") && has(&fork, 33, 33, "new") && has(&fork, 34, 95, "old");
+    let kept = has(&store, 0, 63, "old")
+        && has(&store, 64, 64, "none")
+        && has(&store, 65, 95, "old");
+    Ok(forked && kept && fork.len() == 96 && store.len() == 95)
+}
+
+/// An edit that gives an embed another source.
+#[derive(Drop)]
+struct Renamed(Txt);
+
+impl Edit<Node> for Renamed {
+    ghost use Rattle.lx_node.specs.declared.fields.Fields.TheVariants.{Embed};
+
+    ghost fits = { λ _ _. Unit {0} };
+
+    ghost edited = { λ edit node. record node { fields = Embed edit.0 } };
+
+    fn edit(self, node: &mut Node) {
+        node.fields = Fields::Embed(self.0);
+    }
+}
+
+/// Whether an edit of a page that a fork shares leaves the fork as it was, and one of a page that none shares
+/// copies nothing.
+fn edits_stay_apart(alloc: Global) -> Result<bool, NoMemory> {
+    let mut count = Copies::new();
+    let mut store = filled(alloc, &mut count)?;
+    let fork = store.fork(&mut count)?;
+    let found = store.change(Key(33), Renamed(Txt::new(alloc, "new")?), &mut count)?;
+    let copied = count.total();
+    let again = store.change(Key(34), Renamed(Txt::new(alloc, "new")?), &mut count)?;
+    let absent = store.change(Key(96), Renamed(Txt::new(alloc, "new")?), &mut count)?;
+    let edited = has(&store, 0, 32, "old") && has(&store, 33, 34, "new");
+    let rest = has(&store, 35, 95, "old") && has(&store, 96, 96, "none");
+    let kept = has(&fork, 0, 95, "old") && store.len() == 96;
+    Ok(found && again && !absent && edited && rest && kept && count.total() == copied)
+}
+
+#[test]
+fn edits_are_made_in_place(rt: HostRuntime) -> Result<(), Fail> {
+    let apart = edits_stay_apart(rt.alloc())?;
+    assert!(rt; apart);
+    Ok(())
+}
+
+#[test]
+fn shared_pages_are_copied_before_a_write(rt: HostRuntime) -> Result<(), Fail> {
+    let apart = writes_stay_apart(rt.alloc())?;
+    assert!(rt; apart);
+    Ok(())
+}
+
+fn total<T: Tally>(count: &T) -> u64 {
+    count.total()
+}
+
+fn twin_of<V: Item>(alloc: Global, item: &V, count: &mut V::Count) -> Result<V, NoMemory> {
+    item.twin(alloc, count)
+}
+
+/// The twin of an embed, the count of twins, and that count raised.
+fn twinned(alloc: Global) -> Result<String, Fail> {
+    let mut count = Copies::new();
+    let node = embed(alloc, "one")?;
+    let twin = twin_of(alloc, &node, &mut count)?;
+    let counted = total(&count);
+    count.raise();
+    let name = source(Some(&twin));
+    Ok(format!(in alloc; "{name} {counted} {}", total(&count))?)
+}
+
+#[test]
+fn a_twin_is_counted(rt: HostRuntime) -> Result<(), Fail> {
+    let text = twinned(rt.alloc())?;
+    assert_eq!(rt; text.as_str(), "one 1 2");
+    Ok(())
+}
