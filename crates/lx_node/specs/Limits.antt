@@ -5,6 +5,10 @@ use Rattle.std.specs.Prelude.{ℕ}
 abbrev pub last_u32 : ℕ
 last_u32 = 4294967295
 
+-- the last number of a u64
+abbrev pub last_u64 : ℕ
+last_u64 = 18446744073709551615
+
 -- ---- limits of one update
 
 abbrev pub most_counts : ℕ

@@ -9,21 +9,23 @@ pub struct Kinds {
 
 impl Model for Kinds {
     ghost use Rattle.std.specs.Prelude.{List, ◌≤◌, length};
+    ghost use Rattle.lx_node.specs.Limits.{last_u32};
     ghost use Rattle.lx_node.specs.declared.kind.Kind.{Kind};
 
     ghost Value = { List Kind };
 
     ghost view = { λ k. k.kinds.items };
 
-    ghost invariant = { λ k. length k.kinds.items ≤ 4294967295 };
+    ghost invariant = { λ k. length k.kinds.items ≤ last_u32 };
 }
 
 impl Kinds {
     ghost use Rattle.std.specs.Prelude.{◌≡◌, ◌≤◌, length, slice_get};
+    ghost use Rattle.lx_node.specs.Limits.{last_u32};
 
     /// The list of these kinds.
     pub fn of(items: Vec<Kind>) -> Kinds
-        requires { length items.items ≤ 4294967295 }
+        requires { length items.items ≤ last_u32 }
         ensures { result ≡ items.items }
     {
         Kinds { kinds: items }

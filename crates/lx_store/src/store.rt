@@ -1,6 +1,7 @@
 ghost use Rattle.std.specs.Prelude.{◌≡◌, ◌<◌, ◌≤◌, ◌+◌, is_some, IfSome, IfOk, OnOk, OnErr};
 ghost use Rattle.std.specs.Option.{option_copied};
 ghost use Rattle.std.specs.FinMap as map;
+ghost use Rattle.lx_node.specs.Limits.{last_u32};
 ghost use Rattle.lx_store.specs.Edits.{with_edit};
 
 use crate::edit::Edit;
@@ -66,7 +67,7 @@ impl<V: Item> Store<V> {
     /// Puts the item under the key, and answers the one that was there. Every other key keeps its item. The
     /// count may have risen, by at most 32, also where memory was wanting; the store is then as it was.
     pub fn put(&mut self, key: Key, item: V, count: &mut V::Count) -> Result<Option<V>, NoMemory>
-        requires { map.get self.old key ≡ None → map.len self.old < 4294967295 }
+        requires { map.get self.old key ≡ None → map.len self.old < last_u32 }
         ensures old { IfOk result (λ old. old ≡ map.get self.old key) }
         ensures put { OnOk result (self.new ≡ map.insert self.old key item) }
         ensures unchanged { OnErr result (self.new ≡ self.old) }
