@@ -1,6 +1,6 @@
 use Rattle.std.proofs.Common.{◌∙◌, sym, arith}
 use Rattle.lx_links.proofs.Up.{one_up, within_up, within_top, within_met, test_other, test_same}
-use Rattle.lx_links.proofs.links.Links.is_within.Goals as goal
+use Rattle.lx_links.proofs.links.Links.reaches.Goals as goal
 
 pub loop-at-smaller : goal.loop-at-smaller
 loop-at-smaller c = omega (arith, one_up c.args.self.now c.loop-at.at c.in-Some.parent c.parent.ensures.sound (sym c.parent.ensures.parent ∙ c.in-Some.is))
