@@ -3,7 +3,7 @@
 
 ghost use Rattle.std.specs.Prelude.{◌≡◌, ℕ, option_map};
 ghost use Rattle.lx_node.specs.declared.node.Node.{Node};
-ghost use Rattle.lx_store.specs.Counts.{raised};
+ghost use Rattle.lx_store.specs.Counts.{next_count};
 ghost use Rattle.lx_forest.specs.Forest.{Forest};
 ghost use Rattle.lx_forest.specs.Records.{record_at};
 ghost use Rattle.lx_links.specs.Stands.{node_of};
@@ -44,7 +44,7 @@ pub trait Look<S> {
     fn look(source: &mut S, key: Key) -> Option<Self::Item>
         ensures found { option_map Self.Item.lent result ≡ option_map node_of (record_at (forest source.old) key) }
         ensures same { forest source.new ≡ forest source.old }
-        ensures counted { count source.new ≡ raised (count source.old) };
+        ensures counted { count source.new ≡ next_count (count source.old) };
 }
 
 /// The way to look nodes up in records that lend them for this lifetime.
