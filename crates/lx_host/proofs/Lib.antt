@@ -7,3 +7,13 @@ pub mod Pages
 pub mod Printed
 pub mod Spotted
 pub mod Standing
+pub mod Stood
+pub mod Placed
+pub mod Changed
+pub mod Weights
+pub mod Kept
+pub mod Removed
+pub mod Shows
+pub mod Least
+pub mod Listed
+pub mod Beside

@@ -7,3 +7,8 @@ pub mod Branches
 pub mod Changes
 pub mod Places
 pub mod Lookups
+pub mod Links
+pub mod Stands
+pub mod Weights
+pub mod Shown
+pub mod Least

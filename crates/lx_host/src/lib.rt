@@ -7,10 +7,17 @@
 
 mod change;
 mod grove;
+mod joints;
+mod keyed;
+mod keys;
+mod linked;
+mod nested;
 mod node;
 mod op;
 mod ops;
 mod page;
+mod removal;
+mod scan;
 mod tag;
 mod tree;
 

@@ -1,5 +1,5 @@
 use crate::change::Change;
-use crate::grove::Grove;
+use crate::nested::Grove;
 use crate::node::HostNode;
 use crate::op::{Attrs, Op};
 use crate::page::Page;

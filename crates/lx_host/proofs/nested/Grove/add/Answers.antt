@@ -2,7 +2,7 @@ use Rattle.std.proofs.Common.{[], ◌∷◌, ap, ◌∙◌}
 use Rattle.lx_node.specs.Trees.{tree, joined}
 use Rattle.lx_host.specs.Branches.{trees_of}
 use Rattle.lx_host.proofs.Spotted.{trees_of-append}
-use Rattle.lx_host.proofs.grove.Grove.add.Goals as goal
+use Rattle.lx_host.proofs.nested.Grove.add.Goals as goal
 
 pub returns-clause-ok : goal.returns-clause-ok
 returns-clause-ok c =

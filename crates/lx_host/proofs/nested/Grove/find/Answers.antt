@@ -4,7 +4,7 @@ use Rattle.lx_node.specs.Trees.{Trees}
 use Rattle.lx_host.specs.Hosts.{Host, count}
 use Rattle.lx_host.specs.Branches.{spotted}
 use Rattle.lx_host.proofs.Spotted.{spotted_place}
-use Rattle.lx_host.proofs.grove.Grove.find.Goals as goal
+use Rattle.lx_host.proofs.nested.Grove.find.Goals as goal
 
 pub returns-in-Some : goal.returns-in-Some
 returns-in-Some c =

@@ -3,7 +3,7 @@ use Rattle.lx_node.specs.Trees.{tree}
 use Rattle.lx_host.specs.Hosts.{count, alone, without}
 use Rattle.lx_host.specs.Branches.{trees_of, IsRooted}
 use Rattle.lx_host.proofs.Groves.{without_first, alone_first, count_behind, without_behind, alone_behind}
-use Rattle.lx_host.proofs.grove.Grove.take.Goals as goal
+use Rattle.lx_host.proofs.nested.Grove.take.Goals as goal
 
 pub take_from-requires-clause-once : goal.take_from-requires-clause-once
 take_from-requires-clause-once c =

@@ -1,7 +1,7 @@
 use Rattle.std.proofs.Common.{[], ◌∷◌, sym, ◌∙◌, arith}
 use Rattle.lx_host.specs.Branches.{trees_of}
 use Rattle.lx_host.proofs.Spotted.{count_place, count_found, count_unfound}
-use Rattle.lx_host.proofs.grove.unplaced_holder.Goals as goal
+use Rattle.lx_host.proofs.nested.unplaced_holder.Goals as goal
 
 pub returns-in-Some-clause-holds : goal.returns-in-Some-clause-holds
 returns-in-Some-clause-holds c = count_place c.args.id c.args.unplaced.now c.in-Some.at (sym c.place_of.ensures ∙ c.in-Some.is)

@@ -6,7 +6,7 @@ use Rattle.lx_host.specs.Branches.{trees_of}
 use Rattle.lx_host.specs.Changes.{face_with}
 use Rattle.lx_host.proofs.Edits.{held, changed_held}
 use Rattle.lx_host.proofs.Groves.{changed_first, count_behind, changed_behind}
-use Rattle.lx_host.proofs.grove.Grove.change.Goals as goal
+use Rattle.lx_host.proofs.nested.Grove.change.Goals as goal
 
 pub change-requires-in-Some : goal.change-requires-in-Some
 change-requires-in-Some c =
