@@ -55,7 +55,7 @@ is_some-copied : (o : Option (Bor Linked)) → is_some (option_copied o) ≡ is_
 is_some-copied None = refl
 is_some-copied (Some n) = refl
 
-is_some-map : {A B : Type 0} (g : A → B) (o : Option A) → is_some (option_map g o) ≡ is_some o
+pub is_some-map : {A B : Type 0} (g : A → B) (o : Option A) → is_some (option_map g o) ≡ is_some o
 is_some-map g None = refl
 is_some-map g (Some x) = refl
 

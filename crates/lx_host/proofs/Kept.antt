@@ -1,13 +1,14 @@
 -- What is kept of hosts beside their links, after operations.
-use Rattle.std.proofs.Common.{ℕ, ◌≡◌, ◌≢◌, ◌+◌, ◌*◌, ◌<◌, ◌≤◌, ◌^◌, Bool, true, false, cond, eqb, nat_eq, Option, None, Some, IsTrue, refl, sym, ap, ◌∙◌, subst, arith, inl, inr}
+use Rattle.std.proofs.Common.{ℕ, ◌≡◌, ◌≢◌, ◌+◌, ◌*◌, ◌<◌, ◌≤◌, ◌^◌, Bool, true, false, cond, eqb, nat_eq, [], Option, None, Some, IsTrue, refl, sym, ap, ◌∙◌, subst, arith, inl, inr}
 use Rattle.std.proofs.lemmas.Bool.Decides.{eqb_tells}
 use Rattle.std.proofs.lemmas.Option.{same_Some}
 use Rattle.std.specs.HashMap.{HashMap}
+use Rattle.std.specs.Map.{lookup}
 use Rattle.indexmap.specs.IndexMap.{get}
 use Rattle.lx_node.specs.Trees.{Trees, nil, tree, joined}
 use Rattle.lx_node.specs.NamedTrees.{total}
-use Rattle.lx_node.proofs.NamedTrees.{count-joined, count-put_below, count-without-alone}
-use Rattle.lx_host.specs.Hosts.{Host, HostTree, Face, id_of, count, has, alone, without, put_below, one_host, fits, effect}
+use Rattle.lx_node.proofs.NamedTrees.{count-joined, count-put_below, count-without-alone, count-mapped}
+use Rattle.lx_host.specs.Hosts.{Host, HostTree, Face, id_of, count, has, alone, without, put_below, one_host, root_face, changed, changed_at, fits, effect}
 use Rattle.lx_host.specs.Html.{first_tree}
 use Rattle.lx_host.specs.Lookups.{host_of}
 use Rattle.lx_host.specs.declared.op.Op.TheVariants.{Create, Place, Drop}
@@ -20,7 +21,7 @@ use Rattle.lx_host.specs.declared.keys.Shown.{Shown}
 use Rattle.lx_host.specs.Shown.{with_one}
 use Rattle.lx_host.specs.Stands.{FitsPlace, Sound}
 use Rattle.lx_host.specs.Weights.{weighed, shows, id_shown, shown, ids_shown, entry_of, AreKeyed, IsKept}
-use Rattle.lx_host.proofs.Weights.{weighed-joined, weighed-put_below, weighed-without-alone, only_host, no_host, none_shown, one_shown, shown_counted}
+use Rattle.lx_host.proofs.Weights.{weighed-joined, weighed-mapped, weighed-put_below, weighed-without-alone, only_host, no_host, none_shown, one_shown, shown_counted}
 
 pub place_fits : (p k : ℕ) (before : Option ℕ) (w : HostTree) → IsTrue (fits (Place p k before) w) → FitsPlace p k before w.hosts
 place_fits p k before w e =
@@ -56,11 +57,15 @@ kept_placed keys next p k before f g e s c kept =
     } in
     subst (IsKept keys next) (sym e) made
 
-pub placed_tree : (p k : ℕ) (before : Option ℕ) (w : HostTree) (f g : Trees Host) (next : ℕ) → ◌≡◌ {A = HostTree} (record { hosts = f; next = next }) w → g ≡ put_below p before (alone k f) (without k f) → ◌≡◌ {A = HostTree} (record { hosts = g; next = next }) (effect (Place p k before) w)
-unfolding effect
-placed_tree p k before w f g next e is =
-    let P : HostTree → Type 0 = λ v. ◌≡◌ {A = HostTree} (record { hosts = g; next = next }) (record { hosts = put_below p before (alone k v.hosts) (without k v.hosts); next = v.next }) in
+-- a host tree and the fields that it is of, after an edit of its hosts
+pub tree_with : (make : Trees Host → Trees Host) (w : HostTree) (f g : Trees Host) (next : ℕ) → ◌≡◌ {A = HostTree} (record { hosts = f; next = next }) w → g ≡ make f → ◌≡◌ {A = HostTree} (record { hosts = g; next = next }) (record { hosts = make w.hosts; next = w.next })
+tree_with make w f g next e is =
+    let P : HostTree → Type 0 = λ v. ◌≡◌ {A = HostTree} (record { hosts = g; next = next }) (record { hosts = make v.hosts; next = v.next }) in
     subst P e (ap (λ h. record { hosts = h; next = next }) is)
+
+pub placed_tree : (p k : ℕ) (before : Option ℕ) (w : HostTree) (f g : Trees Host) (next : ℕ) → ◌≡◌ {A = HostTree} (record { hosts = f; next = next }) w → g ≡ put_below p before (alone k f) (without k f) → ◌≡◌ {A = HostTree} (record { hosts = g; next = next }) (effect (Place p k before) w)
+placed_tree p k before w f g next e is =
+    tree_with (λ h. put_below p before (alone k h) (without k h)) w f g next e is ∙ standing.effect_place p k before w
 
 -- ---- created
 
@@ -166,6 +171,10 @@ host_one keys next key f s h kept few e =
     let t = shown_entry (shown key f) (ids_shown key f) s (sym (kept.keyed.each key) ∙ e) in
     only_host key s.ids f h (omega (arith, t.2, few)) (sym t.1)
 
+pub few_shown : {S : Type 0} (keys : HashMap ℕ Shown S) (next key : ℕ) (f : Trees Host) (s : Shown) → IsKept keys next f → s.hosts < 2 → get nat_eq keys key ≡ Some s → shown key f < 2
+few_shown keys next key f s kept few e =
+    omega (arith, few, (shown_entry (shown key f) (ids_shown key f) s (sym (kept.keyed.each key) ∙ e)).0)
+
 -- its id is below the next one
 pub one_below : {S : Type 0} (keys : HashMap ℕ Shown S) (next key : ℕ) (f : Trees Host) (s : Shown) → IsKept keys next f → shown key f < 2 → get nat_eq keys key ≡ Some s → s.ids < next
 one_below keys next key f s kept few e =
@@ -179,10 +188,39 @@ pub drop_fits : (id : ℕ) (w : HostTree) → IsTrue (fits (Drop id) w) → (id 
 drop_fits id w e = let h = standing.fits_drop id w e in (h.other, h.here)
 
 pub dropped_tree : (id : ℕ) (w : HostTree) (f g : Trees Host) (next : ℕ) → ◌≡◌ {A = HostTree} (record { hosts = f; next = next }) w → g ≡ without id f → ◌≡◌ {A = HostTree} (record { hosts = g; next = next }) (effect (Drop id) w)
-unfolding effect
-dropped_tree id w f g next e is =
-    let P : HostTree → Type 0 = λ v. ◌≡◌ {A = HostTree} (record { hosts = g; next = next }) (record { hosts = without id v.hosts; next = v.next }) in
-    subst P e (ap (λ h. record { hosts = h; next = next }) is)
+dropped_tree id w f g next e is = tree_with (without id) w f g next e is ∙ standing.effect_drop id w
 
 pub kept_dropped : {S : Type 0} (new : HashMap ℕ Shown S) (next id : ℕ) (f g : Trees Host) → g ≡ without id f → ((q : ℕ) → next < q + 1 → count q f ≡ 0) → AreKeyed new g → IsKept new next g
 kept_dropped new next id f g e below keyed = record { keyed = keyed; below = λ q l. omega (arith, ap (count q) e, below q l, count-without-alone id_of q id f) }
+
+-- ---- what a host shows changed, beside its key
+
+key_stays : (id : ℕ) (change : Face → Face) → ((face : Face) → (change face).key ≡ face.key) → (host : Host) → (changed_at id change host).face.key ≡ host.face.key
+key_stays id change same host = by (eqb host.id id) where
+  by : (b : Bool) → (cond b (change host.face) host.face).key ≡ host.face.key
+  by true = same host.face
+  by false = refl
+
+pub kept_changed : {S : Type 0} (keys : HashMap ℕ Shown S) (next id : ℕ) (change : Face → Face) (f g : Trees Host) → ((face : Face) → (change face).key ≡ face.key) → g ≡ changed id change f → IsKept keys next f → IsKept keys next g
+kept_changed keys next id change f g same e kept =
+    let n : (key : ℕ) → shown key (changed id change f) ≡ shown key f = λ key. weighed-mapped (shows key) (changed_at id change) (λ host. ap (λ k. cond (eqb k key) 1 0) (key_stays id change same host)) f in
+    let m : (key : ℕ) → ids_shown key (changed id change f) ≡ ids_shown key f = λ key. weighed-mapped (id_shown key) (changed_at id change) (λ host. ap (λ k. cond (eqb k key) host.id 0) (key_stays id change same host)) f in
+    let made : IsKept keys next (changed id change f) = record {
+      keyed = record { each = λ key. kept.keyed.each key ∙ sym (ap (λ k. entry_by k (ids_shown key (changed id change f))) (n key) ∙ ap (entry_by (shown key f)) (m key)) };
+      below = λ q l. count-mapped id_of (changed_at id change) (λ a. refl) q f ∙ kept.below q l;
+    } in
+    subst (IsKept keys next) (sym e) made
+
+-- ---- host 0 alone
+
+root_entry : (q : ℕ) (b : Bool) → eqb 0 q ≡ b → cond b (Some (record { hosts = 1; ids = 0 })) None ≡ entry_of q (one_host 0 root_face)
+root_entry q true e = rw e refl
+root_entry q false e = rw e refl
+
+pub root_kept : {S : Type 0} (old new : HashMap ℕ Shown S) (f : Trees Host) → f ≡ one_host 0 root_face → old.entries ≡ [] → ((q : ℕ) → get nat_eq new q ≡ cond (nat_eq 0 q) (Some (record { hosts = 1; ids = 0 })) (get nat_eq old q)) → IsKept new 1 f
+root_kept old new f is empty put =
+    let made : IsKept new 1 (one_host 0 root_face) = record {
+      keyed = record { each = λ q. put q ∙ ap (λ o. cond (nat_eq 0 q) (Some (record { hosts = 1; ids = 0 })) o) (ap (λ es. lookup (nat_eq q) es) empty) ∙ root_entry q (eqb 0 q) refl };
+      below = λ q l. grind (arith, eqb_tells 0 q, l);
+    } in
+    subst (IsKept new 1) (sym is) made

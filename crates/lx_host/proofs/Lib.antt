@@ -1,11 +1,7 @@
 pub mod Attributes
-pub mod Edits
-pub mod Found
-pub mod Groves
 pub mod Laws
 pub mod Pages
 pub mod Printed
-pub mod Spotted
 pub mod Standing
 pub mod Stood
 pub mod Placed
@@ -17,3 +13,6 @@ pub mod Shows
 pub mod Least
 pub mod Listed
 pub mod Beside
+pub mod Roomy
+pub mod Tabled
+pub mod Needed

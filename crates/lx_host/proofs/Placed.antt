@@ -1,5 +1,5 @@
 -- When a host may be placed.
-use Rattle.std.proofs.Common.{ℕ, ◌≡◌, true, List, Option, None, Some, refl, sym, ap, ◌∙◌, arith}
+use Rattle.std.proofs.Common.{ℕ, ◌≡◌, true, eqb, not, ◌&&◌, List, Option, None, Some, refl, sym, ap, ◌∙◌, arith}
 use Rattle.lx_node.specs.Trees.{Trees}
 use Rattle.lx_node.specs.Siblings.{is_place, is_among, is_named, names_without, place_behind, previous_in}
 use Rattle.lx_node.proofs.Siblings.{is_among-names_without, is_named_tells}
@@ -41,3 +41,9 @@ behind_of f p b before s is place =
     let among : is_among b (children_of id_of f p) ≡ true = sym (ap (λ o. is_place o (children_of id_of f p)) is) ∙ place in
     let up : parent_of id_of f b ≡ Some p = above_of (parent_of id_of f b) p (sym (is_among-children_of id_of f b p s.in_order) ∙ among) in
     ap (λ o. previous_in (children_below id_of f o) b) up ∙ sym (ap (λ o. place_behind o (children_of id_of f p)) is)
+
+-- whether a host may be put before another, by the parent of that one
+pub fits_before_is : (f : Trees Host) (p k b : ℕ) (before : Option ℕ) → IsOrdered id_of f → before ≡ Some b → (is_named (parent_of id_of f b) p && not (eqb b k)) ≡ fits_before k before (hosts.children_of p f)
+fits_before_is f p k b before h is =
+    ap (λ t. t && not (eqb b k)) (sym (is_among-children_of id_of f b p h) ∙ ap (is_among b) (children-same f p h))
+    ∙ sym (ap (λ o. fits_before k o (hosts.children_of p f)) is)

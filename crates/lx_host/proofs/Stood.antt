@@ -1,5 +1,5 @@
 -- What is known of a table that stands for trees, and what edits of it leave.
-use Rattle.std.proofs.Common.{ℕ, ◌≡◌, ◌<◌, ◌+◌, ◌-◌, ◌^◌, cond, true, false, ◌&&◌, nat_eq, Option, None, Some, option_map, is_some, is_none, refl, sym, ap, ◌∙◌, subst, arith}
+use Rattle.std.proofs.Common.{ℕ, ◌≡◌, ◌<◌, ◌+◌, ◌-◌, ◌^◌, cond, true, false, ◌&&◌, nat_eq, List, Option, None, Some, option_map, is_some, is_none, refl, sym, ap, ◌∙◌, subst, arith}
 use Rattle.std.specs.HashMap.{HashMap}
 use Rattle.indexmap.specs.IndexMap.{get}
 use Rattle.lx_node.specs.Trees.{Trees}
@@ -78,8 +78,8 @@ module _ {S : Type 0} where
   }
 
   -- a table that is seen
-  pub stood_now : (m : HashMap ℕ Linked S) (s : Standing m) (v : GroveView) (room : ℕ) → ◌≡◌ {A = GroveView} (record { hosts = hosts_in m s; room = room }) v → Stands m v.hosts
-  stood_now m s v room e = stood m s v.hosts (ap (λ (v : GroveView). v.hosts) e)
+  pub stood_now : (m : HashMap ℕ Linked S) (s : Standing m) (v : GroveView) (room : ℕ) (ids : List ℕ) → ◌≡◌ {A = GroveView} (record { hosts = hosts_in m s; room = room; ids = ids }) v → Stands m v.hosts
+  stood_now m s v room ids e = stood m s v.hosts (ap (λ (v : GroveView). v.hosts) e)
 
   -- a host that isn't there, or stands below nothing, stays where it is
   pub absent_stays : (m : HashMap ℕ Linked S) (f : Trees Host) (k : ℕ) → Stands m f → get nat_eq m k ≡ None → f ≡ take_out id_of k f
@@ -91,5 +91,5 @@ module _ {S : Type 0} where
   top_stays m f k n s e top =
       sym (take_out-top id_of k f s.in_order ((IsRecordOf-record_at id_of f k (record_of k n) (record_by m f k n s e)).parent ∙ top))
 
-  pub room_now : (m : HashMap ℕ Linked S) (s : Standing m) (v : GroveView) (room : ℕ) → ◌≡◌ {A = GroveView} (record { hosts = hosts_in m s; room = room }) v → 0 < v.room → 0 < room
-  room_now m s v room e h = subst (λ n. 0 < n) (sym (ap (λ (v : GroveView). v.room) e)) h
+  pub room_now : (m : HashMap ℕ Linked S) (s : Standing m) (v : GroveView) (room : ℕ) (ids : List ℕ) → ◌≡◌ {A = GroveView} (record { hosts = hosts_in m s; room = room; ids = ids }) v → 0 < v.room → 0 < room
+  room_now m s v room ids e h = subst (λ n. 0 < n) (sym (ap (λ (v : GroveView). v.room) e)) h

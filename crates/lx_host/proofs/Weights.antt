@@ -5,7 +5,7 @@ use Rattle.std.proofs.lemmas.Bool.Decides.{eqb_tells, nat_tests}
 use Rattle.lx_node.specs.Trees.{Trees, nil, tree, joined}
 use Rattle.lx_node.specs.NamedTrees as named
 use Rattle.lx_node.proofs.NamedTrees.{count-without-alone, alone-absent}
-use Rattle.lx_host.specs.Hosts.{Host, id_of, count, alone, without}
+use Rattle.lx_host.specs.Hosts.{Host, shape_of, id_of, count, alone, without}
 use Rattle.lx_host.specs.Html.{first_tree}
 use Rattle.lx_host.specs.Lookups.{lesser, host_of}
 use Rattle.lx_rooted.specs.Lookups.{IsOrdered, is_attached}
@@ -93,6 +93,10 @@ shown_counted key q (tree host below rest) = grind (arith, shown_counted key q b
 pub first_alone : (f : Trees Host) → IsOrdered id_of f → first_tree f ≡ alone 0 f
 first_alone nil h = refl
 first_alone (tree host below rest) h = grind (arith, h.once 0, h.rising, eqb_tells host.id 0, alone-absent id_of 0 rest)
+
+pub first_shape : (f : Trees Host) → first_tree (shape_of f) ≡ shape_of (first_tree f)
+first_shape nil = refl
+first_shape (tree host below rest) = refl
 
 in_first : (key n : ℕ) (f : Trees Host) → IsOrdered id_of f → shown key (alone 0 f) ≡ 1 → ids_shown key (alone 0 f) ≡ n → IsLeast (is_shown key (alone 0 f)) (cond (is_attached id_of f n) (Some n) None)
 in_first key n f h one ids =

@@ -1,13 +1,21 @@
--- The least id among the entries of a table that pass a test.
-use Rattle.std.specs.Prelude.{ℕ, Bool, if◌then◌else◌, List, [], ◌∷◌, Option, None, Some}
+-- The least id of a list that passes a test.
+use Rattle.std.specs.Prelude.{ℕ, ◌&&◌, Bool, if◌then◌else◌, List, [], ◌∷◌, Option, None, Some}
+use Rattle.lx_node.specs.Trees.{Trees}
+use Rattle.lx_node.specs.Siblings.{is_named}
+use Rattle.lx_host.specs.Hosts.{Host, id_of}
 use Rattle.lx_host.specs.Lookups.{lesser}
-use Rattle.lx_host.specs.declared.linked.Linked.{Linked}
+use Rattle.lx_host.specs.Weights.{key_at}
+use Rattle.lx_rooted.specs.Lookups.{is_attached}
 
-abbrev pub least_in : (ℕ → Linked → Bool) → List (ℕ × Linked) → Option ℕ
+-- the id, if there is one that passes
+abbrev pub passing : (ℕ → Bool) → Option ℕ → Option ℕ
+passing test None = None
+passing test (Some id) = if test id then Some id else None
+
+abbrev pub least_in : (ℕ → Bool) → List ℕ → Option ℕ
 least_in test [] = None
-least_in test (e ∷ es) = lesser (if test e.0 e.1 then Some e.0 else None) (least_in test es)
+least_in test (id ∷ ids) = lesser (passing test (Some id)) (least_in test ids)
 
--- the id of an entry that passes
-abbrev pub id_passing : (ℕ → Linked → Bool) → Option (ℕ × Linked) → Option ℕ
-id_passing test None = None
-id_passing test (Some e) = if test e.0 e.1 then Some e.0 else None
+-- whether the host of an id is attached and shows the key
+abbrev pub shows_attached : ℕ → Trees Host → ℕ → Bool
+shows_attached key hosts id = is_named (key_at hosts id) key && is_attached id_of hosts id

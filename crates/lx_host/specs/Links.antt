@@ -1,9 +1,11 @@
 -- What changes in a node where an edit changes its links or its fields.
-use Rattle.std.specs.Prelude.{ℕ, ◌+◌, ◌-◌, ◌<◌, ◌^◌, ◌≡◌, ◌==◌, ◌&&◌, Bool, is_none, if◌then◌else◌, Option, None, Some, option_map}
+use Rattle.std.specs.Prelude.{ℕ, ◌+◌, ◌-◌, ◌<◌, ◌^◌, ◌≡◌, ◌==◌, ◌&&◌, Bool, is_none, if◌then◌else◌, List, Option, None, Some, option_map}
 use Rattle.std.specs.Prelude.{nat_eq}
 use Rattle.std.specs.HashMap.{HashMap}
 use Rattle.indexmap.specs.IndexMap.{get}
 use Rattle.lx_node.specs.Siblings.{is_named}
+use Rattle.lx_host.specs.Words.{with_attribute}
+use Rattle.lx_host.specs.declared.tag.Name.{Name}
 use Rattle.lx_host.specs.declared.linked.Linked.{Linked}
 use Rattle.lx_host.specs.declared.linked.Change.{Change}
 use Rattle.lx_host.specs.declared.linked.Change.TheVariants.{Text, Break, Next, Prev, Place, Left, Joined}
@@ -32,6 +34,10 @@ changed (Joined id behind before) here n =
       last = (if here && is_none before then Some id else n.last);
       size = (if here then n.size + 1 else n.size);
     }
+
+-- a host with an attribute given or taken away, if it is the one
+abbrev pub attributed : Name → Option (List ℕ) → Bool → Linked → Linked
+attributed name value here n = record n { attrs = (if here then with_attribute name value n.attrs else n.attrs) }
 
 -- a node's size stays below 2 ^ 32
 abbrev pub Fits : Change → Linked → Type 0

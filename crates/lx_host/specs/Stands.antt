@@ -1,5 +1,5 @@
 -- When a table of hosts stands for trees.
-use Rattle.std.specs.Prelude.{ℕ, ◌^◌, ◌<◌, ◌≡◌, ◌≢◌, true, false, nat_eq, Option, option_map}
+use Rattle.std.specs.Prelude.{ℕ, ◌^◌, ◌<◌, ◌≡◌, ◌≢◌, true, false, nat_eq, List, Option, option_map}
 use Rattle.std.specs.Coded.{Coded-set, codes, le_prop}
 use Rattle.std.specs.HashMap.{HashMap}
 use Rattle.indexmap.specs.IndexMap.{get}
@@ -12,10 +12,11 @@ use Rattle.lx_rooted.specs.Records.{Record, StandsFor}
 use Rattle.lx_rooted.proofs.Records.{StandsFor-unique}
 use Rattle.lx_host.specs.declared.linked.Linked.{Linked}
 
--- what contracts see of a grove: its hosts, and how many more can be added without memory
+-- what contracts see of a grove: its hosts, how many more can be added without memory, and the ids in its table's own order
 pub record GroveView : Type 0 where
   pub hosts : Trees Host
   pub room : ℕ
+  pub ids : List ℕ
 
 -- a host as the record of its id, and back
 abbrev pub record_of : ℕ → Linked → Record Host

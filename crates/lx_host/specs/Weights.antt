@@ -52,10 +52,6 @@ pub record IsKept {S : Type 0} (keys : HashMap ℕ Shown S) (next : ℕ) (hosts 
   pub keyed : AreKeyed keys hosts
   pub below : (q : ℕ) → next < q + 1 → count q hosts ≡ 0
 
--- a host tree, with room for more hosts
-pub record Held : Type 0 where
-  pub tree : HostTree
-  pub room : ℕ
 
 -- the key that the host of an id shows
 abbrev pub key_at : Trees Host → ℕ → Option ℕ

@@ -1,13 +1,17 @@
-use crate::linked::{Change, Linked, change_host};
 use crate::joints::{Gap, link_in, unlink};
-use indexmap::IndexMap;
+use crate::linked::{Change, Linked, change_host, write_attribute};
 use crate::op::Attrs;
-use crate::tag::Tag;
+use crate::page::Page;
+use crate::stock::Stock;
+use crate::tag::{Name, Tag};
+use indexmap::IndexMap;
 use lx_node::{Key, NoMemory, Txt};
 use std::alloc::Global;
 use std::marker::Model;
 
-/// Host 0 with all below it, and the hosts that aren't placed yet.
+/// Host 0 with all below it, and the hosts that aren't placed yet: a table of them by their ids, each with its
+/// parent, its neighbours and its ends. It is seen as the trees that the table stands for, the ids in the table's
+/// own order, and how many more hosts can be added without memory.
 #[derive(Drop)]
 pub struct Grove {
     table: IndexMap<u32, Linked>,
@@ -26,9 +30,9 @@ impl Model for Grove {
     ghost coded = { Prim.hlevel (codes, trees_code) };
 
     ghost use Rattle.lx_host.specs.Stands.{hosts_in};
-    ghost use Rattle.indexmap.specs.IndexMap.{spare};
+    ghost use Rattle.indexmap.specs.IndexMap.{spare, keys};
 
-    ghost view = { λ g. record { hosts = hosts_in g.table g.stands; room = spare g.table } };
+    ghost view = { λ g. record { hosts = hosts_in g.table g.stands; room = spare g.table; ids = keys g.table } };
 }
 
 impl Grove {
@@ -62,6 +66,13 @@ impl Grove {
         let mut table = IndexMap::new(alloc);
         table.insert(0, root)?;
         Ok(Grove { table })
+    }
+
+    /// Each grove's hosts are in order.
+    pub fn in_order(&self)
+        ensures { Sound self.now.hosts }
+    {
+        let _table = &self.table;
     }
 
     /// The host of an id, where there is one.
@@ -312,7 +323,76 @@ impl Grove {
         self.has(outer)
     }
 
-    ghost use Rattle.lx_host.specs.Hosts.{changed, with_text, with_ending};
+    ghost use Rattle.lx_node.specs.Siblings.{is_named};
+
+    /// Whether the host of that id is there and shows the key.
+    pub fn shows(&self, id: u32, key: Key) -> bool
+        ensures { result ≡ is_named (key_at self.now.hosts id) key }
+    {
+        match self.key(id) {
+            Some(own) => key == own,
+            None => false,
+        }
+    }
+
+    /// Whether the host of that id is there and stands below that one.
+    fn is_child(&self, id: u32, parent: u32) -> bool
+        ensures child { result ≡ is_named (lookups.parent_of id_of self.now.hosts id) parent }
+        ensures sound { Sound self.now.hosts }
+    {
+        match self.parent(id) {
+            Some(own) => parent == own,
+            None => false,
+        }
+    }
+
+    ghost use Rattle.std.specs.Prelude.{◌&&◌, not};
+    ghost use Rattle.lx_host.specs.Hosts.{fits_before, children_of};
+
+    /// Whether a child may be put before that host, among the children of the parent.
+    fn fits_before(&self, parent: u32, child: u32, before: Option<u32>) -> bool
+        ensures { result ≡ fits_before child before (children_of parent self.now.hosts) }
+    {
+        match before {
+            None => true,
+            Some(before) => self.is_child(before, parent) && before != child,
+        }
+    }
+
+    /// Whether a host can be placed there now.
+    pub fn fits_place(&self, parent: u32, child: u32, before: Option<u32>) -> bool
+        ensures { result ≡ (not (child == 0) && has child self.now.hosts && has parent self.now.hosts && not (has parent (alone child self.now.hosts)) && fits_before child before (children_of parent self.now.hosts)) }
+    {
+        child != 0
+            && self.has(child)
+            && self.has(parent)
+            && !self.is_within(child, parent)
+            && self.fits_before(parent, child, before)
+    }
+
+    ghost use Rattle.std.specs.Prelude.{length, slice_get};
+    ghost use Rattle.lx_node.specs.Siblings.{is_among};
+
+    /// How many hosts there are.
+    pub fn len(&self) -> usize
+        ensures { result ≡ length self.now.ids }
+    {
+        self.table.len()
+    }
+
+    /// The id at a place of the table, where there is one.
+    pub fn id_at(&self, place: usize) -> Option<u32>
+        ensures id { result ≡ slice_get self.now.ids place }
+        ensures all { (q : ℕ) → is_among q self.now.ids ≡ has q self.now.hosts }
+    {
+        match self.table.get_index(place) {
+            Some((id, _)) => Some(*id),
+            None => None,
+        }
+    }
+
+    ghost use Rattle.lx_host.specs.Hosts.{changed, with_text, with_value, with_ending};
+    ghost use Rattle.lx_host.specs.Room.{one_for};
 
     /// Gives a host this text. The room stays.
     pub fn show_text(&mut self, id: u32, text: Txt)
@@ -322,19 +402,61 @@ impl Grove {
         change_host(&mut self.table, Some(id), Change::Text(text));
     }
 
-    ghost use Rattle.std.specs.Prelude.{◌++◌};
-    ghost use Rattle.lx_node.specs.NamedTrees.{preorder};
-
-    /// Writes the ids of the tree of a host, each before those below it.
-    #[cycle(list)]
-    pub fn list(&self, id: u32, ids: &mut Vec<u32>) -> Result<(), NoMemory>
-        requires there { has id self.now.hosts ≡ true }
-        ensures { OnOk result (ids.new.items ≡ ids.old.items ++ preorder id_of (alone id self.now.hosts)) }
+    /// Has a line break end a host, or none. The room stays.
+    pub fn end_with(&mut self, id: u32, ending: bool)
+        ensures changed { self.new.hosts ≡ changed id (with_ending ending) self.old.hosts }
+        ensures room { self.new.room ≡ self.old.room }
     {
-        ids.push(id)?;
+        change_host(&mut self.table, Some(id), Change::Break(ending));
+    }
+
+    /// Gives an attribute of a host this value, or takes it away. The room stays, and a value takes a vector of the
+    /// stock at most.
+    pub fn write(&mut self, stock: &mut Stock, id: u32, name: Name, value: Option<Txt>)
+        requires { one_for value ≤ stock.old }
+        ensures changed { self.new.hosts ≡ changed id (with_value name value) self.old.hosts }
+        ensures room { self.new.room ≡ self.old.room }
+        ensures left { stock.old ≤ stock.new + one_for value }
+    {
+        write_attribute(&mut self.table, stock, id, name, value);
+    }
+
+    ghost use Rattle.std.specs.Prelude.{◌++◌};
+    ghost use Rattle.lx_host.specs.Hosts.{shape_of};
+    ghost use Rattle.lx_host.specs.Html.{html_of};
+
+    /// Writes the HTML of a host and of all below it.
+    #[cycle(print)]
+    pub fn print(&self, id: u32, page: &mut Page) -> Result<(), NoMemory>
+        requires there { has id self.now.hosts ≡ true }
+        ensures { OnOk result (page.new ≡ page.old ++ html_of (shape_of (alone id self.now.hosts))) }
+    {
+        let Some(host) = self.host(id) else {
+            return Ok(());
+        };
+        page.open(host.tag, host.attrs.items())?;
+        if host.tag.is_void() {
+            return Ok(());
+        }
+        match &host.text {
+            Some(text) => page.push_text(text.as_str())?,
+            None => self.print_children(id, page)?,
+        }
+        page.push_ending(host.ending)?;
+        page.close(host.tag)
+    }
+
+    ghost use Rattle.lx_host.specs.Below.{below_of};
+
+    /// Writes the HTML of all below a host.
+    #[cycle(print)]
+    fn print_children(&self, id: u32, page: &mut Page) -> Result<(), NoMemory>
+        requires there { has id self.now.hosts ≡ true }
+        ensures { OnOk result (page.new ≡ page.old ++ html_of (shape_of (below_of self.now.hosts id))) }
+    {
         let mut at = self.first(id);
         while let Some(child) = at {
-            self.list(child, ids)?;
+            self.print(child, page)?;
             at = self.next(child);
         }
         Ok(())

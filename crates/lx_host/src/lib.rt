@@ -5,19 +5,17 @@
 //! doesn't, and one that fits has one effect. What host 0 shows, with all below it, has one HTML.
 #![tactic(auto)]
 
-mod change;
 mod grove;
 mod joints;
-mod keyed;
 mod keys;
 mod linked;
-mod nested;
-mod node;
 mod op;
 mod ops;
 mod page;
 mod removal;
+mod room;
 mod scan;
+mod stock;
 mod tag;
 mod tree;
 

@@ -4,9 +4,10 @@ ghost use Rattle.lx_node.specs.Siblings.{is_named};
 ghost use Rattle.lx_host.specs.declared.linked.Linked.{Linked};
 ghost use Rattle.lx_host.specs.Links.{changed, Fits, Differs};
 
-use indexmap::IndexMap;
 use crate::op::Attrs;
-use crate::tag::Tag;
+use crate::stock::Stock;
+use crate::tag::{Name, Tag};
+use indexmap::IndexMap;
 use lx_node::{Key, Txt};
 
 /// A host with its links.
@@ -97,5 +98,28 @@ pub fn change_host(table: &mut IndexMap<u32, Linked>, at: Option<u32>, change: C
     };
     if let Some(host) = table.get_mut(&id) {
         apply(change, host);
+    }
+}
+
+ghost use Rattle.std.specs.Prelude.{◌≤◌, ◌+◌, ◌==◌};
+ghost use Rattle.lx_host.specs.Links.{attributed};
+ghost use Rattle.lx_host.specs.Room.{one_for};
+
+/// Gives an attribute of the host of an id this value, or takes it away, where there is such a host. The room
+/// stays, and a value takes a vector of the stock at most.
+pub fn write_attribute(
+    table: &mut IndexMap<u32, Linked>,
+    stock: &mut Stock,
+    id: u32,
+    name: Name,
+    value: Option<Txt>,
+)
+    requires { one_for value ≤ stock.old }
+    ensures differs { Differs (λ q. attributed name value (q == id)) table.old table.new }
+    ensures room { spare table.new ≡ spare table.old }
+    ensures left { stock.old ≤ stock.new + one_for value }
+{
+    if let Some(host) = table.get_mut(&id) {
+        host.attrs.write(name, value, stock);
     }
 }

@@ -1,12 +1,12 @@
-ghost use Rattle.std.specs.Prelude.{slice_get, ◌≡◌, ◌&&◌, ◌==◌, ℕ};
-ghost use Rattle.lx_host.specs.Hosts.{id_of};
-ghost use Rattle.lx_host.specs.Lookups.{lesser};
-ghost use Rattle.lx_rooted.specs.Lookups as lookups;
-ghost use Rattle.lx_host.specs.Least.{least_in, id_passing};
-ghost use Rattle.lx_host.specs.declared.linked.Linked.{Linked};
+//! The least id of the attached hosts that show a key, where more than one shows it.
 
-use crate::linked::Linked;
-use indexmap::IndexMap;
+ghost use Rattle.std.specs.Prelude.{◌≡◌, slice_get};
+ghost use Rattle.lx_host.specs.Html.{first_tree};
+ghost use Rattle.lx_host.specs.Least.{passing, shows_attached};
+ghost use Rattle.lx_host.specs.Lookups.{lesser, host_of};
+
+use crate::grove::Grove;
+use lx_node::Key;
 
 /// The lesser of two numbers, where there are.
 fn lesser_of(a: Option<u32>, b: Option<u32>) -> Option<u32>
@@ -19,29 +19,29 @@ fn lesser_of(a: Option<u32>, b: Option<u32>) -> Option<u32>
     }
 }
 
-/// The id at a place of the table, where the host there shows the key.
-fn shown_at(table: &IndexMap<u32, Linked>, place: usize, key: u32) -> Option<u32>
-    ensures { result ≡ id_passing (λ q n. n.key == key) (slice_get table.now.entries place) }
+/// The id at a place of the table, where the host there is attached and shows the key.
+fn shown_at(grove: &Grove, place: usize, key: Key) -> Option<u32>
+    ensures { result ≡ passing (shows_attached key grove.now.hosts) (slice_get grove.now.ids place) }
 {
-    match table.get_index(place) {
-        Some((id, host)) => {
-            if host.key.number() == key {
-                Some(*id)
-            } else {
-                None
-            }
-        }
-        None => None,
+    let Some(id) = grove.id_at(place) else {
+        return None;
+    };
+    if grove.shows(id, key) && grove.is_within(0, id) {
+        Some(id)
+    } else {
+        None
     }
 }
 
-/// The least id of the hosts that show the key.
-pub fn least_shown(table: &IndexMap<u32, Linked>, key: u32) -> Option<u32>
-    ensures { result ≡ least_in (λ q n. n.key == key) table.now.entries }
+/// The least id of the hosts that show the key, among host 0 and all below it. It looks at each host.
+pub fn least_shown(grove: &Grove, key: Key) -> Option<u32>
+    ensures { result ≡ host_of key (first_tree grove.now.hosts) }
 {
+    grove.in_order();
+    grove.id_at(0);
     let mut least = None;
-    for place in 0..table.len() {
-        let own = shown_at(table, place, key);
+    for place in 0..grove.len() {
+        let own = shown_at(grove, place, key);
         least = lesser_of(least, own);
     }
     least
