@@ -1,15 +1,13 @@
 -- The host behind one, as hosts define it and by the links.
-use Rattle.std.proofs.Common.{ℕ, ◌≡◌, ◌+◌, ◌<◌, Bool, true, false, cond, eqb, ◌||◌, List, [], ◌∷◌, ◌++◌, Option, None, Some, refl, sym, ap, ◌∙◌, arith, inl, inr}
-use Rattle.std.specs.Option.{option_or}
+use Rattle.std.proofs.Common.{ℕ, ◌≡◌, ◌<◌, true, false, cond, eqb, ◌||◌, [], None, refl, sym, ap, ◌∙◌, arith, inl, inr}
 use Rattle.std.proofs.lemmas.Bool.{cases_Bool, cases_lt}
 use Rattle.std.proofs.lemmas.Bool.Decides.{eqb_tells}
 use Rattle.std.proofs.lemmas.List.{append-nil}
 use Rattle.lx_node.specs.Trees.{Trees, nil, tree}
-use Rattle.lx_node.specs.NamedTrees as named
 use Rattle.lx_node.specs.Siblings.{is_among, is_named, next_in}
 use Rattle.lx_node.proofs.NamedTrees.{children_of-absent}
 use Rattle.lx_node.proofs.Spots.{is_among-names, option_or-None}
-use Rattle.lx_node.proofs.Siblings.{is_among-append, next_in-absent, is_named_tells}
+use Rattle.lx_node.proofs.Siblings.{is_among-append, next_in-absent}
 use Rattle.lx_host.specs.Hosts.{Host, id_of, count, children_of, ids_of}
 use Rattle.lx_host.specs.Lookups.{next_sibling}
 use Rattle.lx_rooted.specs.Lookups as lookups

@@ -37,8 +37,17 @@ on_ok (Err e) i p = cc
 abbrev pub lone_host : Face → Linked
 lone_host face =
     record {
-      key = face.key; tag = face.tag; attrs = face.attrs; text = face.text; ending = face.ending;
-      parent = None; prev = None; next = None; first = None; last = None; size = 0;
+      key = face.key;
+      tag = face.tag;
+      attrs = face.attrs;
+      text = face.text;
+      ending = face.ending;
+      parent = None;
+      prev = None;
+      next = None;
+      first = None;
+      last = None;
+      size = 0;
     }
 
 last_new : (id : ℕ) (face : Face) (f : Trees Host) → ((q : ℕ) → id < q + 1 → count q f ≡ 0) → with_new id_of (record { id = id; face = face }) f ≡ joined f (one_host id face)

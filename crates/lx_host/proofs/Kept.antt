@@ -88,6 +88,7 @@ created_entry : (key id : ℕ) (face : Face) (f : Trees Host) → entry_of key (
 created_entry key id face f = by (eqb face.key key) refl where
   counted : (w : Host → ℕ) → weighed w (joined f (one_host id face)) ≡ weighed w f + w (record { id = id; face = face })
   counted w = weighed-joined w f (one_host id face) ∙ omega arith
+
   by : (b : Bool) → eqb face.key key ≡ b → entry_of key (joined f (one_host id face)) ≡ cond b (Some (with_one id (entry_of key f))) (entry_of key f)
   by true e = rw (counted (shows key), counted (id_shown key), e) (entry_more (shown key f) (ids_shown key f) id (λ none. (none_shown key 0 f none).1))
   by false e = rw (counted (shows key), counted (id_shown key), e) (entry_same (shown key f) (ids_shown key f))

@@ -1,8 +1,7 @@
 -- The least id of a table that passes a test, and the host of a key.
-use Rattle.std.proofs.Common.{ℕ, zero, suc, ◌+◌, ◌<◌, ◌≤◌, drop, slice_get, length, ◌≡◌, Bool, true, false, cond, eqb, ltb, ◌&&◌, ◌||◌, List, [], ◌∷◌, Option, None, Some, is_some, refl, sym, ap, ◌∙◌, subst, arith, inl, inr}
+use Rattle.std.proofs.Common.{ℕ, zero, suc, ◌+◌, drop, slice_get, ◌≡◌, Bool, true, false, cond, eqb, ◌&&◌, ◌||◌, List, [], ◌∷◌, Option, None, Some, is_some, refl, sym, ap, ◌∙◌, subst, arith, inl, inr}
 use Rattle.std.proofs.lemmas.Bool.{cases_Bool}
-use Rattle.std.proofs.lemmas.Bool.Decides.{eqb_tells, nat_tests}
-use Rattle.std.proofs.lemmas.List.{drop_all}
+use Rattle.std.proofs.lemmas.Bool.Decides.{eqb_tells}
 use Rattle.lx_node.specs.Trees.{Trees, nil, tree}
 use Rattle.lx_node.specs.NamedTrees.{gathered}
 use Rattle.lx_node.specs.Siblings.{is_among, is_named}
@@ -74,6 +73,7 @@ shown_spot : (key q : ℕ) (f : Trees Host) → IsOrdered id_of f → weighed (s
 shown_spot key q f h = by (spot id_of f q) refl where
   rest : weighed (shows_at key q) (without q f) ≡ 0
   rest = omega (arith, shown_counted key q (without q f), count-without id_of q f)
+
   by : (o : Option (Spot Host)) → spot id_of f q ≡ o → weighed (shows_at key q) f ≡ cond (is_named (key_at f q) key) 1 0
   by None at = rw at (omega (arith, shown_counted key q f, absent)) where
     absent : count q f ≡ 0
@@ -81,8 +81,10 @@ shown_spot key q f h = by (spot id_of f q) refl where
   by (Some s) at = rw at (omega (arith, weighed-without-alone (shows_at key q) id_of q f, rest, own)) where
     whole : alone q f ≡ tree s.label (gathered id_of f s.children) nil
     whole = alone-spot id_of f q s h at
+
     few : weighed (shows_at key q) (gathered id_of f s.children) ≡ 0
     few = grind (arith, key-spot id_of f q s at, eqb_tells q q, ap (count q) whole, count-alone-le id_of q q f, h.once q, shown_counted key q (gathered id_of f s.children))
+
     own : weighed (shows_at key q) (alone q f) ≡ cond (eqb key s.label.face.key) 1 0
     own = ap (weighed (shows_at key q)) whole ∙ grind (arith, few, key-spot id_of f q s at, eqb_tells q q, eqb_tells key s.label.face.key, eqb_tells s.label.face.key key)
 
@@ -102,6 +104,7 @@ is_shown-attached key q f h =
     by : (b : Bool) → weighed (shows_at key q) (alone 0 f) ≡ cond b 1 0 → is_shown key (alone 0 f) q ≡ (b && true)
     by true e = rw e refl
     by false e = rw e refl
+
     no : (b : Bool) → false ≡ (b && false)
     no true = refl
     no false = refl
@@ -119,5 +122,6 @@ least_host key f ids h all =
     both true c e = refl
     both false true e = e refl
     both false false e = refl
+
     same : (q : ℕ) → (is_among q ids && shows_attached key f q) ≡ is_shown key (alone 0 f) q
     same q = both (is_among q ids) (shows_attached key f q) (λ e. all q ∙ has_attached key q f e) ∙ sym (is_shown-attached key q f h)

@@ -1,15 +1,15 @@
 -- The HTML of what is below a host, child by child.
-use Rattle.std.proofs.Common.{ℕ, ◌≡◌, ◌<◌, true, false, List, [], ◌∷◌, ◌++◌, length, Option, None, Some, option_map, refl, sym, ap, ◌∙◌, subst, arith, append_assoc}
+use Rattle.std.proofs.Common.{ℕ, ◌≡◌, ◌<◌, true, List, ◌++◌, length, Option, None, Some, option_map, refl, sym, ap, ◌∙◌, subst, arith, append_assoc}
 use Rattle.std.proofs.lemmas.List.{append-nil}
 use Rattle.std.proofs.lemmas.Option.{same_Some}
-use Rattle.lx_node.specs.Trees.{Trees, nil, tree, joined}
+use Rattle.lx_node.specs.Trees.{Trees, nil, tree}
 use Rattle.lx_node.specs.NamedTrees.{total, gathered}
-use Rattle.lx_node.specs.Siblings.{first_of, next_in, from_name, is_among, is_named}
+use Rattle.lx_node.specs.Siblings.{next_in, from_name, is_among}
 use Rattle.lx_node.specs.Spots.{Spot, spot, children_at}
 use Rattle.lx_node.proofs.Positions.{from_name-first, from_name-step}
 use Rattle.lx_node.proofs.Siblings.{is_named_tells}
 use Rattle.lx_node.proofs.Subtrees.{total-alone_child-lt}
-use Rattle.lx_host.specs.Hosts.{Host, Face, id_of, has, alone, shape_of}
+use Rattle.lx_host.specs.Hosts.{Host, id_of, has, alone, shape_of}
 use Rattle.lx_host.specs.Below.{below_of}
 use Rattle.lx_host.specs.Html.{html_of}
 use Rattle.lx_host.specs.Stands.{linked_of}
@@ -17,7 +17,6 @@ use Rattle.lx_host.specs.declared.linked.Linked.{Linked}
 use Rattle.lx_host.proofs.Printed.{html_of-joined}
 use Rattle.lx_rooted.specs.Lookups.{IsOrdered, parent_of, children_of, children_below, siblings, first_child, next_of}
 use Rattle.lx_rooted.specs.Records.{linked, record_at}
-use Rattle.lx_rooted.proofs.Edits.{is_some-spot, key-spot}
 use Rattle.lx_rooted.proofs.Lookups.{alone-spot, is_among-children_of, NoRepeats-children_of, has-child}
 use Rattle.lx_rooted.proofs.Siblings.{parent_of-next}
 use Rattle.lx_host.proofs.Changed.{child_up}

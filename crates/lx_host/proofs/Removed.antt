@@ -65,6 +65,7 @@ keyed_gone old new f g key k e h leaf keyed shows_it each = subst (AreKeyed new)
       let m : ids_shown x f ≡ ids_shown x (without k f) = sym (leaf_weight (id_shown x) f k s h leaf is) ∙ ap (λ b. ids_shown x (without k f) + cond b (id_of s.label) 0) it ∙ omega arith in
       ap (λ b. cond b (without_one k (get nat_eq old key)) (get nat_eq old x)) t
       ∙ keyed.each x ∙ both (shown x f) _ (ids_shown x f) _ n m
+
   by : (o : Option (Spot Host)) → spot id_of f k ≡ o → Some key ≡ option_map (λ (s : Spot Host). s.label.face.key) o → AreKeyed new (without k f)
   by None is e = cc
   by (Some s) is e = record { each = λ x. each x ∙ at s is (let e' : Some key ≡ Some s.label.face.key = e in cc) x (eqb key x) refl }

@@ -1,5 +1,5 @@
 -- The ids of a table are those of the hosts for which it stands.
-use Rattle.std.proofs.Common.{ℕ, ◌≡◌, Bool, eqb, nat_eq, ◌||◌, List, [], ◌∷◌, Option, None, Some, option_map, is_some, refl, sym, ap, ◌∙◌, arith, inl, inr}
+use Rattle.std.proofs.Common.{ℕ, ◌≡◌, nat_eq, List, [], ◌∷◌, is_some, refl, sym, ap, ◌∙◌, arith, inl, inr}
 use Rattle.std.proofs.lemmas.Bool.Decides.{eqb_tells}
 use Rattle.std.specs.HashMap.{HashMap}
 use Rattle.std.specs.Map.{lookup, keys_of}

@@ -54,9 +54,10 @@ pub least_either : (p q r : ℕ → Bool) (a b : Option ℕ) → IsLeast p a →
 least_either p q r None None h k e = λ x. grind (arith, h x, k x, e x)
 least_either p q r None (Some m) h k e = (grind (arith, k.0, e m, cases_Bool (p m)), λ x t. grind (arith, h x, k.1 x, e x, t))
 least_either p q r (Some n) None h k e = (grind (arith, h.0, e n), λ x t. grind (arith, h.1 x, k x, e x, t))
-least_either p q r (Some n) (Some m) h k e =
-    (elim (cases_lt n m) [ inl l ↦ grind (arith, l, h.0, e n) | inr g ↦ grind (arith, g, k.0, e m, cases_Bool (p m)) ],
-    λ x t. grind (arith, h.1 x, k.1 x, e x, t, cases_Bool (p x)))
+least_either p q r (Some n) (Some m) h k e = (
+  elim (cases_lt n m) [ inl l ↦ grind (arith, l, h.0, e n) | inr g ↦ grind (arith, g, k.0, e m, cases_Bool (p m)) ],
+  λ x t. grind (arith, h.1 x, k.1 x, e x, t, cases_Bool (p x)),
+)
 
 one_least : (key : ℕ) (host : Host) → IsLeast (λ q. ltb 0 (shows_at key q host)) (cond (eqb host.face.key key) (Some host.id) None)
 one_least key host = by (eqb host.face.key key) refl where

@@ -4,7 +4,7 @@ use Rattle.std.specs.HashMap.{HashMap}
 use Rattle.indexmap.specs.IndexMap.{get}
 use Rattle.lx_node.specs.Trees.{Trees, nil, tree}
 use Rattle.lx_node.specs.Spots.{Spot, spot}
-use Rattle.lx_host.specs.Hosts.{Host, id_of, HostTree, count}
+use Rattle.lx_host.specs.Hosts.{Host, id_of, count}
 use Rattle.lx_host.specs.declared.keys.Shown.{Shown}
 
 -- what the labels of trees weigh together
@@ -51,7 +51,6 @@ IsLeast test (Some m) = (test m ≡ true) × ((q : ℕ) → test q ≡ true → 
 pub record IsKept {S : Type 0} (keys : HashMap ℕ Shown S) (next : ℕ) (hosts : Trees Host) : Type 0 where
   pub keyed : AreKeyed keys hosts
   pub below : (q : ℕ) → next < q + 1 → count q hosts ≡ 0
-
 
 -- the key that the host of an id shows
 abbrev pub key_at : Trees Host → ℕ → Option ℕ

@@ -42,7 +42,6 @@ impl Grove {
     ghost use Rattle.lx_rooted.specs.Records.{record_at};
     ghost use Rattle.lx_rooted.specs.Lookups as lookups;
     ghost use Rattle.lx_host.specs.Stands.{linked_of, Sound};
-
     ghost use Rattle.std.specs.Prelude.{IfOk};
     ghost use Rattle.lx_host.specs.Hosts.{one_host, root_face};
 

@@ -148,15 +148,7 @@ impl HostTree {
     }
 
     /// Adds a host that isn't placed yet.
-    fn create(
-        &mut self,
-        id: u32,
-        key: Key,
-        tag: Tag,
-        attrs: Attrs,
-        text: Option<Txt>,
-        ending: bool,
-    )
+    fn create(&mut self, id: u32, key: Key, tag: Tag, attrs: Attrs, text: Option<Txt>, ending: bool)
         requires fits { IsTrue (fits (Create id key tag attrs text ending) self.old.tree) }
         requires room { 0 < self.old.room.hosts }
         ensures created { self.new.tree ≡ effect (Create id key tag attrs text ending) self.old.tree }

@@ -1,10 +1,9 @@
-use Rattle.std.proofs.Common.{ap, sym, ◌∙◌, arith, ◌<◌, cond, nat_eq, None, Some}
+use Rattle.std.proofs.Common.{ap, sym, ◌∙◌, arith, cond, nat_eq, None, Some}
 use Rattle.std.specs.Option.{option_copied}
 use Rattle.indexmap.specs.IndexMap.{get}
 use Rattle.lx_host.specs.Html.{first_tree}
 use Rattle.lx_host.specs.Lookups.{host_of}
 use Rattle.lx_host.specs.Room.{Held}
-use Rattle.lx_host.specs.Weights.{shown}
 use Rattle.lx_host.proofs.Kept.{host_none, host_one, few_shown, one_below}
 use Rattle.lx_host.proofs.tree.HostTree.host_of.Goals as goal
 
