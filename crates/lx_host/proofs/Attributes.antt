@@ -224,6 +224,3 @@ written_insert name xs i v is = sym (is.is (Some v))
 
 pub written_remove : (name : Name) (xs : List (Name × List ℕ)) (i : ℕ) → IsWrittenAt name xs i (i + 1) → remove xs i ≡ with_attribute name None xs
 written_remove name xs i is = ap (λ k. take i xs ++ drop k xs) (sym (add-one i)) ∙ sym (is.is None)
-
-pub written_none : (name : Name) (xs : List (Name × List ℕ)) (i : ℕ) → IsWrittenAt name xs i i → xs ≡ with_attribute name None xs
-written_none name xs i is = sym (take-append-drop i xs) ∙ sym (is.is None)

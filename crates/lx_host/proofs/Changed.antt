@@ -7,6 +7,7 @@ use Rattle.std.proofs.lemmas.Bool.Decides.{eqb_tells}
 use Rattle.std.specs.HashMap.{HashMap}
 use Rattle.std.specs.Map.{lookup}
 use Rattle.indexmap.specs.IndexMap.{get}
+use Rattle.lx_node.specs.Limits.{last_u32}
 use Rattle.lx_node.specs.Trees.{Trees, joined}
 use Rattle.lx_node.specs.NamedTrees.{total}
 use Rattle.lx_node.specs.Walks.{ancestors}
@@ -82,7 +83,7 @@ gone_record k q f o h leaf e = elim (eqb_tells q k) [
     absent (Some x) z = cc
 
 module _ {S : Type 0} where
-  pub created_stands : (old new : HashMap ℕ Linked S) (f : Trees Host) (id : ℕ) (face : Face) → Stands old f → ((q : ℕ) → id < q + 1 → count q f ≡ 0) → id < 4294967295 → ((q : ℕ) → get nat_eq new q ≡ cond (nat_eq id q) (Some (lone_host face)) (get nat_eq old q)) → Stands new (joined f (one_host id face))
+  pub created_stands : (old new : HashMap ℕ Linked S) (f : Trees Host) (id : ℕ) (face : Face) → Stands old f → ((q : ℕ) → id < q + 1 → count q f ≡ 0) → id < last_u32 → ((q : ℕ) → get nat_eq new q ≡ cond (nat_eq id q) (Some (lone_host face)) (get nat_eq old q)) → Stands new (joined f (one_host id face))
   created_stands old new f id face s above below put =
       let l : Host = record { id = id; face = face } in
       let free : has id f ≡ false = grind (arith, above id) in
@@ -193,7 +194,7 @@ root_record q o none = rw none (by (eqb 0 q) refl) where
       subst P own refl
   by false e = rw e refl
 
-pub root_stands : {S : Type 0} (new : HashMap ℕ Linked S) (n : Linked) → n ≡ lone_host root_face → ((q : ℕ) → get nat_eq new q ≡ cond (nat_eq 0 q) (Some n) None) → Stands new (one_host 0 root_face)
+root_stands : {S : Type 0} (new : HashMap ℕ Linked S) (n : Linked) → n ≡ lone_host root_face → ((q : ℕ) → get nat_eq new q ≡ cond (nat_eq 0 q) (Some n) None) → Stands new (one_host 0 root_face)
 root_stands new n is put = record {
   in_order = record { once = λ q. grind (arith, eqb_tells 0 q); rising = refl };
   same = λ q. ap (option_map (record_of q)) (put q ∙ ap (λ m. cond (nat_eq 0 q) (Some m) None) is) ∙ root_record q None refl;
@@ -204,7 +205,7 @@ pub ok_was : {T E P : Type 0} (r : Result T E) (x : T) → r ≡ Ok x → OnOk r
 ok_was (Ok y) x e p = p
 ok_was (Err z) x e p = cc
 
-pub none_in : {S : Type 0} (m : HashMap ℕ Linked S) (q : ℕ) → m.entries ≡ [] → get nat_eq m q ≡ None
+none_in : {S : Type 0} (m : HashMap ℕ Linked S) (q : ℕ) → m.entries ≡ [] → get nat_eq m q ≡ None
 none_in m q e = ap (λ es. lookup (nat_eq q) es) e
 
 pub root_linked : (key : ℕ) (attrs items : List (Name × List ℕ)) → key ≡ 0 → attrs ≡ items → items ≡ [] → ◌≡◌ {A = Linked} (lone_host (record root_face { key = key; attrs = attrs })) (lone_host root_face)

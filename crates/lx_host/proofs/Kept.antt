@@ -5,6 +5,7 @@ use Rattle.std.proofs.lemmas.Option.{same_Some}
 use Rattle.std.specs.HashMap.{HashMap}
 use Rattle.std.specs.Map.{lookup}
 use Rattle.indexmap.specs.IndexMap.{get}
+use Rattle.lx_node.specs.Limits.{last_u32}
 use Rattle.lx_node.specs.Trees.{Trees, nil, tree, joined}
 use Rattle.lx_node.specs.NamedTrees.{total}
 use Rattle.lx_node.proofs.NamedTrees.{count-joined, count-put_below, count-without-alone, count-mapped}
@@ -20,33 +21,16 @@ use Rattle.lx_rooted.proofs.Leaves.{total-numbered}
 use Rattle.lx_host.specs.declared.keys.Shown.{Shown}
 use Rattle.lx_host.specs.Shown.{with_one}
 use Rattle.lx_host.specs.Stands.{FitsPlace, Sound}
-use Rattle.lx_host.specs.Weights.{weighed, shows, id_shown, shown, ids_shown, entry_of, AreKeyed, IsKept}
+use Rattle.lx_host.specs.Weights.{weighed, shows, id_shown, shown, ids_shown, entry_by, entry_of, AreKeyed, IsKept}
 use Rattle.lx_host.proofs.Weights.{weighed-joined, weighed-mapped, weighed-put_below, weighed-without-alone, only_host, no_host, none_shown, one_shown, shown_counted}
-
-pub place_fits : (p k : ℕ) (before : Option ℕ) (w : HostTree) → IsTrue (fits (Place p k before) w) → FitsPlace p k before w.hosts
-place_fits p k before w e =
-    let h = standing.fits_place p k before w e in
-    record {
-      other = h.other;
-      child_in = grind (arith, h.child_in);
-      parent_in = grind (arith, h.parent_in);
-      apart = grind (arith, h.apart);
-      before_in = h.before_in;
-    }
-
-placed_hosts : (p k : ℕ) (before : Option ℕ) → Trees Host → Trees Host
-placed_hosts p k before f = put_below p before (alone k f) (without k f)
 
 weighed_placed : (w : Host → ℕ) (p k : ℕ) (before : Option ℕ) (f : Trees Host) → IsOrdered id_of f → FitsPlace p k before f → weighed w (put_below p before (alone k f) (without k f)) ≡ weighed w f
 weighed_placed w p k before f h c =
     weighed-put_below w id_of p before (alone k f) (without k f) (outside_once id_of p k f h c.parent_in c.apart) ∙ omega (arith, weighed-without-alone w id_of k f)
 
-abbrev entry_by : ℕ → ℕ → Option Shown
-entry_by n ids = cond (eqb n 0) None (Some (record { hosts = n; ids = ids }))
-
 pub keyed_placed : {S : Type 0} (keys : HashMap ℕ Shown S) (p k : ℕ) (before : Option ℕ) (f : Trees Host) → IsOrdered id_of f → FitsPlace p k before f → AreKeyed keys f → AreKeyed keys (put_below p before (alone k f) (without k f))
 keyed_placed keys p k before f h c keyed = record {
-  each = λ key. keyed.each key ∙ sym (ap (λ n. cond (eqb n 0) None (Some (record { hosts = n; ids = ids_shown key (put_below p before (alone k f) (without k f)) }))) (weighed_placed (shows key) p k before f h c) ∙ ap (λ ids. cond (eqb (shown key f) 0) None (Some (record { hosts = shown key f; ids = ids }))) (weighed_placed (id_shown key) p k before f h c));
+  each = λ key. keyed.each key ∙ sym (ap (λ n. entry_by n (ids_shown key (put_below p before (alone k f) (without k f)))) (weighed_placed (shows key) p k before f h c) ∙ ap (entry_by (shown key f)) (weighed_placed (id_shown key) p k before f h c));
 }
 
 pub kept_placed : {S : Type 0} (keys : HashMap ℕ Shown S) (next p k : ℕ) (before : Option ℕ) (f g : Trees Host) → g ≡ put_below p before (alone k f) (without k f) → Sound f → FitsPlace p k before f → IsKept keys next f → IsKept keys next g
@@ -113,7 +97,7 @@ shown-le : (key : ℕ) (t : Trees Host) → shown key t ≤ total t
 shown-le key nil = omega arith
 shown-le key (tree host below rest) = grind (arith, shown-le key below, shown-le key rest)
 
-ids-le : (n key : ℕ) (t : Trees Host) → ((q : ℕ) → n < q + 1 → count q t ≡ 0) → n < 4294967296 → ids_shown key t ≤ 4294967296 * total t
+ids-le : (n key : ℕ) (t : Trees Host) → ((q : ℕ) → n < q + 1 → count q t ≡ 0) → n < 2 ^ 32 → ids_shown key t ≤ 2 ^ 32 * total t
 ids-le n key nil above small = omega arith
 ids-le n key (tree host below rest) above small =
     let id : host.id < n = grind (arith, above host.id, eqb_tells host.id host.id) in
@@ -134,7 +118,7 @@ shown_entry n ids s e =
     let same = from_cond (eqb n 0) (record { hosts = n; ids = ids }) s e in
     (sym (ap (λ (x : Shown). x.hosts) same.1), sym (ap (λ (x : Shown). x.ids) same.1), grind (arith, same.0, eqb_tells n 0))
 
-pub small_entry : {S : Type 0} (keys : HashMap ℕ Shown S) (next key id : ℕ) (f : Trees Host) (s : Shown) → IsOrdered id_of f → IsKept keys next f → next < 4294967295 → id ≡ next → get nat_eq keys key ≡ Some s → (s.hosts + 1 < 2 ^ 32) × (s.ids + id < 2 ^ 64)
+pub small_entry : {S : Type 0} (keys : HashMap ℕ Shown S) (next key id : ℕ) (f : Trees Host) (s : Shown) → IsOrdered id_of f → IsKept keys next f → next < last_u32 → id ≡ next → get nat_eq keys key ≡ Some s → (s.hosts + 1 < 2 ^ 32) × (s.ids + id < 2 ^ 64)
 small_entry keys next key id f s h kept small is e =
     let t = shown_entry (shown key f) (ids_shown key f) s (sym (kept.keyed.each key) ∙ e) in
     let few = total-numbered id_of next f h kept.below in
@@ -156,9 +140,6 @@ kept_created old new next key id face f g e kept is named each =
       below = λ q l. grind (arith, kept.below q, count-joined id_of q f (one_host id face), is, eqb_tells id q, l);
     } in
     subst (IsKept new (next + 1)) (sym e) made
-
-pub fits_created : (id key : ℕ) (tag : Tag) (attrs : _) (text : _) (ending : Bool) (w : HostTree) → IsTrue (fits (Create id key tag attrs text ending) w) → (id ≡ w.next) × (w.next < 4294967295)
-fits_created id key tag attrs text ending w e = let h = standing.fits_create id key tag attrs text ending w e in (h.is_next, h.below)
 
 -- ---- the host of a key
 
@@ -184,9 +165,6 @@ one_below keys next key f s kept few e =
     grind (arith, there, t.1, eqb_tells s.ids (ids_shown key f), shown_counted key s.ids f, kept.below s.ids)
 
 -- ---- dropped
-
-pub drop_fits : (id : ℕ) (w : HostTree) → IsTrue (fits (Drop id) w) → (id ≢ 0) × (has id w.hosts ≡ true)
-drop_fits id w e = let h = standing.fits_drop id w e in (h.other, h.here)
 
 pub dropped_tree : (id : ℕ) (w : HostTree) (f g : Trees Host) (next : ℕ) → ◌≡◌ {A = HostTree} (record { hosts = f; next = next }) w → g ≡ without id f → ◌≡◌ {A = HostTree} (record { hosts = g; next = next }) (effect (Drop id) w)
 dropped_tree id w f g next e is = tree_with (without id) w f g next e is ∙ standing.effect_drop id w

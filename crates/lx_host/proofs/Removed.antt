@@ -13,7 +13,7 @@ use Rattle.lx_rooted.proofs.Edits.{is_some-spot, key-spot}
 use Rattle.lx_rooted.proofs.Lookups.{alone-spot}
 use Rattle.lx_host.specs.declared.keys.Shown.{Shown}
 use Rattle.lx_host.specs.Shown.{without_one}
-use Rattle.lx_host.specs.Weights.{weighed, shows, id_shown, shown, ids_shown, entry_of, key_at, AreKeyed}
+use Rattle.lx_host.specs.Weights.{weighed, shows, id_shown, shown, ids_shown, entry_by, entry_of, key_at, AreKeyed}
 use Rattle.lx_host.proofs.Weights.{weighed-without-alone}
 
 -- a leaf's weight goes
@@ -22,9 +22,6 @@ leaf_weight w f k s h leaf at =
     let kids : s.children ≡ [] = sym (ap children_at at) ∙ leaf in
     let whole : alone k f ≡ tree s.label nil nil = alone-spot id_of f k s h at ∙ ap (λ ks. tree s.label (gathered id_of f ks) nil) kids in
     omega (arith, weighed-without-alone w id_of k f, ap (weighed w) whole)
-
-abbrev entry_by : ℕ → ℕ → Option Shown
-entry_by n ids = cond (eqb n 0) None (Some (record { hosts = n; ids = ids }))
 
 both : (n m i j : ℕ) → n ≡ m → i ≡ j → entry_by n i ≡ entry_by m j
 both n m i j e f = rw (e, f) refl

@@ -13,10 +13,6 @@ pub roomy_more : {X : Type 0} (vs : List (Vec X)) (v : Vec X) → AreRoomy vs �
 roomy_more [] v h e l = (e, l, tt)
 roomy_more (w ∷ ws) v h e l = (h.0, h.1, roomy_more ws v h.2 e l)
 
-pub when_ok : {T E X : Type 0} (r : Result T E) (x y z : X) → IsOk r → z ≡ cond (is_ok r) x y → z ≡ x
-when_ok (Ok t) x y z i e = e
-when_ok (Err t) x y z i e = cc
-
 pub pushed : {X : Type 0} (b : Bool) (xs ys zs : List X) → true ≡ b → zs ≡ cond b xs ys → zs ≡ xs
 pushed true xs ys zs e h = h
 pushed false xs ys zs e h = cc

@@ -1,6 +1,5 @@
--- What changes in a node where an edit changes its links or its fields.
-use Rattle.std.specs.Prelude.{ℕ, ◌+◌, ◌-◌, ◌<◌, ◌^◌, ◌≡◌, ◌==◌, ◌&&◌, Bool, is_none, if◌then◌else◌, List, Option, None, Some, option_map}
-use Rattle.std.specs.Prelude.{nat_eq}
+-- What of a host and its links a change of a table leaves.
+use Rattle.std.specs.Prelude.{ℕ, ◌+◌, ◌-◌, ◌<◌, ◌^◌, ◌≡◌, ◌==◌, ◌&&◌, Bool, nat_eq, is_none, if◌then◌else◌, List, Option, None, Some, option_map}
 use Rattle.std.specs.HashMap.{HashMap}
 use Rattle.indexmap.specs.IndexMap.{get}
 use Rattle.lx_node.specs.Siblings.{is_named}
@@ -10,7 +9,7 @@ use Rattle.lx_host.specs.declared.linked.Linked.{Linked}
 use Rattle.lx_host.specs.declared.linked.Change.{Change}
 use Rattle.lx_host.specs.declared.linked.Change.TheVariants.{Text, Break, Next, Prev, Place, Left, Joined}
 
--- a node after a change, if it is the one that changes
+-- a host after a change, if it is the one that changes
 abbrev pub changed : Change → Bool → Linked → Linked
 changed (Text text) here n = record n { text = (if here then Some text else n.text) }
 changed (Break ending) here n = record n { ending = (if here then ending else n.ending) }
@@ -39,16 +38,16 @@ changed (Joined id behind before) here n =
 abbrev pub attributed : Name → Option (List ℕ) → Bool → Linked → Linked
 attributed name value here n = record n { attrs = (if here then with_attribute name value n.attrs else n.attrs) }
 
--- a node's size stays below 2 ^ 32
+-- the number of a host's children stays below 2 ^ 32
 abbrev pub Fits : Change → Linked → Type 0
 Fits (Joined id behind before) n = n.size + 1 < 2 ^ 32
 Fits _ n = Unit {0}
 
--- one map is the other with these changes, at each id that one has
+-- one table is the other with these changes, at each id that the other has
 pub record Differs {S : Type 0} (change : ℕ → Linked → Linked) (old new : HashMap ℕ Linked S) : Type 0 where
   pub each : (q : ℕ) → get nat_eq new q ≡ option_map (change q) (get nat_eq old q)
 
--- a node after the id left that one, and its neighbours
+-- a host after the one of that id left its parent and its neighbours
 abbrev pub unlinked : ℕ → ℕ → Option ℕ → Option ℕ → ℕ → Linked → Linked
 unlinked id parent prev next q n =
     record n {
@@ -60,7 +59,7 @@ unlinked id parent prev next q n =
       size = (if q == parent then n.size - 1 else n.size);
     }
 
--- a node after the id came below that one, between its neighbours
+-- a host after the one of that id came below a parent, between these neighbours
 abbrev pub linked_in : ℕ → ℕ → Option ℕ → Option ℕ → ℕ → Linked → Linked
 linked_in id parent behind before q n =
     record n {

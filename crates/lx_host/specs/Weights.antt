@@ -34,9 +34,12 @@ ids_shown key hosts = weighed (id_shown key) hosts
 abbrev pub is_shown : ℕ → Trees Host → ℕ → Bool
 is_shown key hosts q = nat_lt 0 (weighed (shows_at key q) hosts)
 
+-- what is known of a key that so many hosts show, with this sum of their ids
+abbrev pub entry_by : ℕ → ℕ → Option Shown
+entry_by hosts ids = if hosts == 0 then None else Some (record { hosts = hosts; ids = ids })
+
 abbrev pub entry_of : ℕ → Trees Host → Option Shown
-entry_of key hosts =
-    if shown key hosts == 0 then None else Some (record { hosts = shown key hosts; ids = ids_shown key hosts })
+entry_of key hosts = entry_by (shown key hosts) (ids_shown key hosts)
 
 -- a table by keys has of each key how many hosts show it, and the sum of their ids
 pub record AreKeyed {S : Type 0} (m : HashMap ℕ Shown S) (hosts : Trees Host) : Type 0 where
@@ -52,6 +55,6 @@ pub record IsKept {S : Type 0} (keys : HashMap ℕ Shown S) (next : ℕ) (hosts 
   pub keyed : AreKeyed keys hosts
   pub below : (q : ℕ) → next < q + 1 → count q hosts ≡ 0
 
--- the key that the host of an id shows
+-- the key that the host of that id shows, where there is one
 abbrev pub key_at : Trees Host → ℕ → Option ℕ
 key_at f q = option_map (λ (s : Spot Host). s.label.face.key) (spot id_of f q)

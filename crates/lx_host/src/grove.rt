@@ -36,14 +36,14 @@ impl Model for Grove {
 }
 
 impl Grove {
-    ghost use Rattle.std.specs.Prelude.{◌≡◌, option_map};
+    ghost use Rattle.std.specs.Prelude.{◌≡◌, ℕ, IfOk, option_map, length, slice_get};
     ghost use Rattle.std.specs.Option.{option_copied};
-    ghost use Rattle.lx_host.specs.Hosts.{id_of};
+    ghost use Rattle.lx_node.specs.Siblings.{is_among, is_named};
+    ghost use Rattle.lx_host.specs.Hosts.{id_of, one_host, root_face, has};
+    ghost use Rattle.lx_host.specs.Stands.{linked_of, Sound};
+    ghost use Rattle.lx_host.specs.Weights.{key_at};
     ghost use Rattle.lx_rooted.specs.Records.{record_at};
     ghost use Rattle.lx_rooted.specs.Lookups as lookups;
-    ghost use Rattle.lx_host.specs.Stands.{linked_of, Sound};
-    ghost use Rattle.std.specs.Prelude.{IfOk};
-    ghost use Rattle.lx_host.specs.Hosts.{one_host, root_face};
 
     /// Host 0 alone, which shows the root.
     pub fn new(alloc: Global) -> Result<Grove, NoMemory>
@@ -67,11 +67,29 @@ impl Grove {
         Ok(Grove { table })
     }
 
-    /// Each grove's hosts are in order.
+    /// Each grove's hosts are in order, and its ids are theirs.
     pub fn in_order(&self)
-        ensures { Sound self.now.hosts }
+        ensures sound { Sound self.now.hosts }
+        ensures ids { (q : ℕ) → is_among q self.now.ids ≡ has q self.now.hosts }
     {
         let _table = &self.table;
+    }
+
+    /// How many hosts there are.
+    pub fn len(&self) -> usize
+        ensures { result ≡ length self.now.ids }
+    {
+        self.table.len()
+    }
+
+    /// The id at a place of the table, where there is one.
+    pub fn id_at(&self, place: usize) -> Option<u32>
+        ensures { result ≡ slice_get self.now.ids place }
+    {
+        match self.table.get_index(place) {
+            Some((id, _)) => Some(*id),
+            None => None,
+        }
     }
 
     /// The host of an id, where there is one.
@@ -80,6 +98,14 @@ impl Grove {
         ensures sound { Sound self.now.hosts }
     {
         self.table.get(&id)
+    }
+
+    /// Whether there is a host of that id.
+    pub fn has(&self, id: u32) -> bool
+        ensures has { result ≡ has id self.now.hosts }
+        ensures sound { Sound self.now.hosts }
+    {
+        self.host(id).is_some()
     }
 
     /// The host below which it stands.
@@ -93,9 +119,16 @@ impl Grove {
         }
     }
 
-    ghost use Rattle.std.specs.Prelude.{true};
-    ghost use Rattle.lx_node.specs.Siblings.{is_place, place_behind};
-    ghost use Rattle.lx_rooted.specs.Edits.{take_out, put_in, CanPut};
+    /// The first of the host's children.
+    pub fn first(&self, id: u32) -> Option<u32>
+        ensures first { result ≡ lookups.first_child id_of self.now.hosts id }
+        ensures sound { Sound self.now.hosts }
+    {
+        match self.host(id) {
+            Some(host) => host.first,
+            None => None,
+        }
+    }
 
     /// The last of the host's children.
     fn last(&self, id: u32) -> Option<u32>
@@ -128,6 +161,142 @@ impl Grove {
             Some(host) => host.next,
             None => None,
         }
+    }
+
+    /// The key that a host shows.
+    pub fn key(&self, id: u32) -> Option<Key>
+        ensures key { result ≡ key_at self.now.hosts id }
+        ensures sound { Sound self.now.hosts }
+    {
+        match self.host(id) {
+            Some(host) => Some(host.key),
+            None => None,
+        }
+    }
+
+    /// Whether the host of that id is there and shows the key.
+    pub fn shows(&self, id: u32, key: Key) -> bool
+        ensures { result ≡ is_named (key_at self.now.hosts id) key }
+    {
+        match self.key(id) {
+            Some(own) => key == own,
+            None => false,
+        }
+    }
+
+    ghost use Rattle.std.specs.Prelude.{◌==◌, ◌&&◌, not, [], true};
+    ghost use Rattle.lx_host.specs.Hosts.{alone, children_of, fits_before};
+
+    /// Whether a host is in the tree of the outer one: that one itself, or below it. It walks up.
+    pub fn is_within(&self, outer: u32, id: u32) -> bool
+        ensures within { result ≡ lookups.is_within id_of self.now.hosts outer id }
+        ensures sound { Sound self.now.hosts }
+    {
+        let mut at = id;
+        while at != outer {
+            match self.parent(at) {
+                Some(parent) => at = parent,
+                None => return false,
+            }
+        }
+        self.has(outer)
+    }
+
+    /// A host without children in the tree of this one.
+    pub fn leaf_below(&self, id: u32) -> u32
+        requires there { has id self.now.hosts ≡ true }
+        ensures leaf { lookups.children_of id_of self.now.hosts result ≡ [] }
+        ensures within { lookups.is_within id_of self.now.hosts id result ≡ true }
+        ensures sound { Sound self.now.hosts }
+    {
+        let mut at = id;
+        while let Some(child) = self.first(at) {
+            at = child;
+        }
+        at
+    }
+
+    /// Whether the host of that id is there and stands below that one.
+    fn is_child(&self, id: u32, parent: u32) -> bool
+        ensures child { result ≡ is_named (lookups.parent_of id_of self.now.hosts id) parent }
+        ensures sound { Sound self.now.hosts }
+    {
+        match self.parent(id) {
+            Some(own) => parent == own,
+            None => false,
+        }
+    }
+
+    /// Whether a child may be put before that host, among the children of the parent.
+    fn fits_before(&self, parent: u32, child: u32, before: Option<u32>) -> bool
+        ensures { result ≡ fits_before child before (children_of parent self.now.hosts) }
+    {
+        match before {
+            None => true,
+            Some(before) => self.is_child(before, parent) && before != child,
+        }
+    }
+
+    /// Whether a host can be placed there now.
+    pub fn fits_place(&self, parent: u32, child: u32, before: Option<u32>) -> bool
+        ensures { result ≡ (not (child == 0) && has child self.now.hosts && has parent self.now.hosts && not (has parent (alone child self.now.hosts)) && fits_before child before (children_of parent self.now.hosts)) }
+    {
+        child != 0
+            && self.has(child)
+            && self.has(parent)
+            && !self.is_within(child, parent)
+            && self.fits_before(parent, child, before)
+    }
+
+    ghost use Rattle.std.specs.Prelude.{◌≢◌, ◌<◌, ◌≤◌, ◌+◌, None, OnOk};
+    ghost use Rattle.lx_node.specs.Limits.{last_u32};
+    ghost use Rattle.lx_node.specs.Siblings.{is_place, place_behind};
+    ghost use Rattle.lx_node.specs.Trees.{joined};
+    ghost use Rattle.lx_host.specs.Hosts.{count, put_below, without};
+    ghost use Rattle.lx_host.specs.Stands.{FitsPlace};
+    ghost use Rattle.lx_rooted.specs.Edits.{take_out, put_in, CanPut};
+
+    /// Room for so many more hosts. Nothing else changes.
+    pub fn reserve(&mut self, more: usize) -> Result<(), NoMemory>
+        ensures same { self.new.hosts ≡ self.old.hosts }
+        ensures room { OnOk result (more ≤ self.new.room) }
+        ensures kept { self.old.room ≤ self.new.room }
+    {
+        self.table.reserve(more)?;
+        Ok(())
+    }
+
+    /// Adds a host of a greater id than all others, which isn't placed yet. It takes up one place.
+    pub fn create(
+        &mut self,
+        id: u32,
+        key: Key,
+        tag: Tag,
+        attrs: Attrs,
+        text: Option<Txt>,
+        ending: bool,
+    )
+        requires above { (q : ℕ) → id < q + 1 → count q self.old.hosts ≡ 0 }
+        requires below { id < last_u32 }
+        requires room { 0 < self.old.room }
+        ensures created { self.new.hosts ≡ joined self.old.hosts (one_host id (record { key = key; tag = tag; attrs = attrs; text = text; ending = ending })) }
+        ensures room { self.old.room ≤ self.new.room + 1 }
+        ensures sound { Sound self.old.hosts }
+    {
+        let host = Linked {
+            key,
+            tag,
+            attrs,
+            text,
+            ending,
+            parent: None,
+            prev: None,
+            next: None,
+            first: None,
+            last: None,
+            size: 0,
+        };
+        let _ = self.table.insert(id, host);
     }
 
     /// Takes a host, with all below it, out from below its parent, where it has one. The room stays.
@@ -178,9 +347,6 @@ impl Grove {
         link_in(&mut self.table, id, parent, &gap);
     }
 
-    ghost use Rattle.lx_host.specs.Hosts.{put_below, alone, without};
-    ghost use Rattle.lx_host.specs.Stands.{FitsPlace};
-
     /// Places a host, with all below it, among the children of a parent. The room stays.
     pub fn place(&mut self, parent: u32, child: u32, before: Option<u32>)
         requires { FitsPlace parent child before self.old.hosts }
@@ -190,64 +356,6 @@ impl Grove {
     {
         self.detach(child);
         self.put(parent, before, child);
-    }
-
-    ghost use Rattle.std.specs.Prelude.{ℕ, ◌≢◌, ◌<◌, ◌≤◌, ◌+◌, ◌==◌, [], None, OnOk};
-    ghost use Rattle.lx_node.specs.Trees.{joined};
-    ghost use Rattle.lx_host.specs.Hosts.{count, has};
-
-    /// Room for so many more hosts. Nothing else changes.
-    pub fn reserve(&mut self, more: usize) -> Result<(), NoMemory>
-        ensures same { self.new.hosts ≡ self.old.hosts }
-        ensures room { OnOk result (more ≤ self.new.room) }
-        ensures kept { self.old.room ≤ self.new.room }
-    {
-        self.table.reserve(more)?;
-        Ok(())
-    }
-
-    /// Adds a host of a greater id than all others, which isn't placed yet. It takes up one place.
-    pub fn create(
-        &mut self,
-        id: u32,
-        key: Key,
-        tag: Tag,
-        attrs: Attrs,
-        text: Option<Txt>,
-        ending: bool,
-    )
-        requires above { (q : ℕ) → id < q + 1 → count q self.old.hosts ≡ 0 }
-        requires below { id < 4294967295 }
-        requires room { 0 < self.old.room }
-        ensures created { self.new.hosts ≡ joined self.old.hosts (one_host id (record { key = key; tag = tag; attrs = attrs; text = text; ending = ending })) }
-        ensures room { self.old.room ≤ self.new.room + 1 }
-        ensures sound { Sound self.old.hosts }
-    {
-        let host = Linked {
-            key,
-            tag,
-            attrs,
-            text,
-            ending,
-            parent: None,
-            prev: None,
-            next: None,
-            first: None,
-            last: None,
-            size: 0,
-        };
-        let _ = self.table.insert(id, host);
-    }
-
-    /// The first of the host's children.
-    pub fn first(&self, id: u32) -> Option<u32>
-        ensures first { result ≡ lookups.first_child id_of self.now.hosts id }
-        ensures sound { Sound self.now.hosts }
-    {
-        match self.host(id) {
-            Some(host) => host.first,
-            None => None,
-        }
     }
 
     /// Takes a host away that has no child and stands below nothing. The room stays.
@@ -270,124 +378,6 @@ impl Grove {
     {
         self.detach(id);
         self.take_lone(id);
-    }
-
-    /// A host without children in the tree of this one.
-    pub fn leaf_below(&self, id: u32) -> u32
-        requires there { has id self.now.hosts ≡ true }
-        ensures leaf { lookups.children_of id_of self.now.hosts result ≡ [] }
-        ensures within { lookups.is_within id_of self.now.hosts id result ≡ true }
-        ensures sound { Sound self.now.hosts }
-    {
-        let mut at = id;
-        while let Some(child) = self.first(at) {
-            at = child;
-        }
-        at
-    }
-
-    ghost use Rattle.lx_host.specs.Weights.{key_at};
-
-    /// The key that a host shows.
-    pub fn key(&self, id: u32) -> Option<Key>
-        ensures key { result ≡ key_at self.now.hosts id }
-        ensures sound { Sound self.now.hosts }
-    {
-        match self.host(id) {
-            Some(host) => Some(host.key),
-            None => None,
-        }
-    }
-
-    /// Whether there is a host of that id.
-    pub fn has(&self, id: u32) -> bool
-        ensures has { result ≡ has id self.now.hosts }
-        ensures sound { Sound self.now.hosts }
-    {
-        self.host(id).is_some()
-    }
-
-    /// Whether a host is in the tree of the outer one: that one itself, or below it. It walks up.
-    pub fn is_within(&self, outer: u32, id: u32) -> bool
-        ensures within { result ≡ lookups.is_within id_of self.now.hosts outer id }
-        ensures sound { Sound self.now.hosts }
-    {
-        let mut at = id;
-        while at != outer {
-            match self.parent(at) {
-                Some(parent) => at = parent,
-                None => return false,
-            }
-        }
-        self.has(outer)
-    }
-
-    ghost use Rattle.lx_node.specs.Siblings.{is_named};
-
-    /// Whether the host of that id is there and shows the key.
-    pub fn shows(&self, id: u32, key: Key) -> bool
-        ensures { result ≡ is_named (key_at self.now.hosts id) key }
-    {
-        match self.key(id) {
-            Some(own) => key == own,
-            None => false,
-        }
-    }
-
-    /// Whether the host of that id is there and stands below that one.
-    fn is_child(&self, id: u32, parent: u32) -> bool
-        ensures child { result ≡ is_named (lookups.parent_of id_of self.now.hosts id) parent }
-        ensures sound { Sound self.now.hosts }
-    {
-        match self.parent(id) {
-            Some(own) => parent == own,
-            None => false,
-        }
-    }
-
-    ghost use Rattle.std.specs.Prelude.{◌&&◌, not};
-    ghost use Rattle.lx_host.specs.Hosts.{fits_before, children_of};
-
-    /// Whether a child may be put before that host, among the children of the parent.
-    fn fits_before(&self, parent: u32, child: u32, before: Option<u32>) -> bool
-        ensures { result ≡ fits_before child before (children_of parent self.now.hosts) }
-    {
-        match before {
-            None => true,
-            Some(before) => self.is_child(before, parent) && before != child,
-        }
-    }
-
-    /// Whether a host can be placed there now.
-    pub fn fits_place(&self, parent: u32, child: u32, before: Option<u32>) -> bool
-        ensures { result ≡ (not (child == 0) && has child self.now.hosts && has parent self.now.hosts && not (has parent (alone child self.now.hosts)) && fits_before child before (children_of parent self.now.hosts)) }
-    {
-        child != 0
-            && self.has(child)
-            && self.has(parent)
-            && !self.is_within(child, parent)
-            && self.fits_before(parent, child, before)
-    }
-
-    ghost use Rattle.std.specs.Prelude.{length, slice_get};
-    ghost use Rattle.lx_node.specs.Siblings.{is_among};
-
-    /// How many hosts there are.
-    pub fn len(&self) -> usize
-        ensures { result ≡ length self.now.ids }
-    {
-        self.table.len()
-    }
-
-    /// The id at a place of the table, where there is one.
-    pub fn id_at(&self, place: usize) -> Option<u32>
-        ensures id { result ≡ slice_get self.now.ids place }
-        ensures all { (q : ℕ) → is_among q self.now.ids ≡ has q self.now.hosts }
-    {
-        match self.table.get_index(place) {
-            Some((id, _)) => Some(*id),
-            None => None,
-        }
     }
 
     ghost use Rattle.lx_host.specs.Hosts.{changed, with_text, with_value, with_ending};
@@ -421,6 +411,7 @@ impl Grove {
     }
 
     ghost use Rattle.std.specs.Prelude.{◌++◌};
+    ghost use Rattle.lx_host.specs.Below.{below_of};
     ghost use Rattle.lx_host.specs.Hosts.{shape_of};
     ghost use Rattle.lx_host.specs.Html.{html_of};
 
@@ -444,8 +435,6 @@ impl Grove {
         page.push_ending(host.ending)?;
         page.close(host.tag)
     }
-
-    ghost use Rattle.lx_host.specs.Below.{below_of};
 
     /// Writes the HTML of all below a host.
     #[cycle(print)]

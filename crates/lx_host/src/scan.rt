@@ -38,7 +38,6 @@ pub fn least_shown(grove: &Grove, key: Key) -> Option<u32>
     ensures { result ≡ host_of key (first_tree grove.now.hosts) }
 {
     grove.in_order();
-    grove.id_at(0);
     let mut least = None;
     for place in 0..grove.len() {
         let own = shown_at(grove, place, key);

@@ -10,7 +10,7 @@ use Rattle.lx_host.proofs.tree.HostTree.host_of.Goals as goal
 pub returns-in_default : goal.returns-in_default
 returns-in_default c =
     let at = ap (λ k. get nat_eq c.self.inside.keys k) (sym c.number.ensures) ∙ sym c.get.ensures.value ∙ ap option_copied c.in_default.is in
-    host_none c.self.inside.keys c.self.inside.next_id c.args.key c.self.inside.grove.hosts c.in_order.ensures.in_order c.self.invariant at
+    host_none c.self.inside.keys c.self.inside.next_id c.args.key c.self.inside.grove.hosts c.in_order.ensures.sound.in_order c.self.invariant at
     ∙ ap (λ (v : Held). host_of c.args.key (first_tree v.tree.hosts)) c.self.view_is
 
 pub overflow_cast-id : goal.overflow_cast-id
