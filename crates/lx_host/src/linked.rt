@@ -128,6 +128,6 @@ pub fn write_attribute(
     ensures left { stock.old ≤ stock.new + one_for value }
 {
     if let Some(host) = table.get_mut(&id) {
-        host.attrs.write(name, value, stock);
+        host.attrs.write_within(name, value, stock);
     }
 }
