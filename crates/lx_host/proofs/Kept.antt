@@ -1,5 +1,5 @@
 -- What is kept of hosts beside their links, after operations.
-use Rattle.std.proofs.Common.{ℕ, ◌≡◌, ◌≢◌, ◌+◌, ◌*◌, ◌<◌, ◌≤◌, ◌^◌, Bool, true, false, cond, eqb, nat_eq, [], Option, None, Some, IsTrue, refl, sym, ap, ◌∙◌, subst, arith, inl, inr}
+use Rattle.std.proofs.Common.{ℕ, ◌≡◌, ◌+◌, ◌*◌, ◌<◌, ◌≤◌, ◌^◌, Bool, true, false, cond, eqb, nat_eq, [], Option, None, Some, refl, sym, ap, ◌∙◌, subst, arith, inl, inr}
 use Rattle.std.proofs.lemmas.Bool.Decides.{eqb_tells}
 use Rattle.std.proofs.lemmas.Option.{same_Some}
 use Rattle.std.specs.HashMap.{HashMap}
@@ -9,7 +9,7 @@ use Rattle.lx_node.specs.Limits.{last_u32}
 use Rattle.lx_node.specs.Trees.{Trees, nil, tree, joined}
 use Rattle.lx_node.specs.NamedTrees.{total}
 use Rattle.lx_node.proofs.NamedTrees.{count-joined, count-put_below, count-without-alone, count-mapped}
-use Rattle.lx_host.specs.Hosts.{Host, HostTree, Face, id_of, count, has, alone, without, put_below, one_host, root_face, changed, changed_at, fits, effect}
+use Rattle.lx_host.specs.Hosts.{Host, HostTree, Face, id_of, count, alone, without, put_below, one_host, root_face, changed, changed_at, effect}
 use Rattle.lx_host.specs.Html.{first_tree}
 use Rattle.lx_host.specs.Lookups.{host_of}
 use Rattle.lx_host.specs.declared.op.Op.TheVariants.{Create, Place, Drop}
@@ -20,7 +20,7 @@ use Rattle.lx_rooted.proofs.Edits.{outside_once}
 use Rattle.lx_rooted.proofs.Leaves.{total-numbered}
 use Rattle.lx_host.specs.declared.keys.Shown.{Shown}
 use Rattle.lx_host.specs.Shown.{with_one}
-use Rattle.lx_host.specs.Stands.{FitsPlace, Sound}
+use Rattle.lx_host.specs.Stands.{FitsPlace}
 use Rattle.lx_host.specs.Weights.{weighed, shows, id_shown, shown, ids_shown, entry_by, entry_of, AreKeyed, IsKept}
 use Rattle.lx_host.proofs.Weights.{weighed-joined, weighed-mapped, weighed-put_below, weighed-without-alone, only_host, no_host, none_shown, one_shown, shown_counted}
 
@@ -33,11 +33,11 @@ keyed_placed keys p k before f h c keyed = record {
   each = λ key. keyed.each key ∙ sym (ap (λ n. entry_by n (ids_shown key (put_below p before (alone k f) (without k f)))) (weighed_placed (shows key) p k before f h c) ∙ ap (entry_by (shown key f)) (weighed_placed (id_shown key) p k before f h c));
 }
 
-pub kept_placed : {S : Type 0} (keys : HashMap ℕ Shown S) (next p k : ℕ) (before : Option ℕ) (f g : Trees Host) → g ≡ put_below p before (alone k f) (without k f) → Sound f → FitsPlace p k before f → IsKept keys next f → IsKept keys next g
-kept_placed keys next p k before f g e s c kept =
+pub kept_placed : {S : Type 0} (keys : HashMap ℕ Shown S) (next p k : ℕ) (before : Option ℕ) (f g : Trees Host) → g ≡ put_below p before (alone k f) (without k f) → IsOrdered id_of f → FitsPlace p k before f → IsKept keys next f → IsKept keys next g
+kept_placed keys next p k before f g e h c kept =
     let made : IsKept keys next (put_below p before (alone k f) (without k f)) = record {
-      keyed = keyed_placed keys p k before f s.in_order c kept.keyed;
-      below = λ q l. omega (arith, kept.below q l, count-put_below id_of q p before (alone k f) (without k f) (outside_once id_of p k f s.in_order c.parent_in c.apart), count-without-alone id_of q k f);
+      keyed = keyed_placed keys p k before f h c kept.keyed;
+      below = λ q l. omega (arith, kept.below q l, count-put_below id_of q p before (alone k f) (without k f) (outside_once id_of p k f h c.parent_in c.apart), count-without-alone id_of q k f);
     } in
     subst (IsKept keys next) (sym e) made
 

@@ -1,13 +1,9 @@
 -- The laws of trees whose labels have names, at the ids of hosts, and two more of host trees.
-use Rattle.std.proofs.Common.{◌≡◌, ℕ, ◌+◌, ◌<◌, ◌≤◌, Bool, true, false, cond, eqb, ◌||◌, List, [], ◌++◌, Option, None, refl, sym, ap, ◌∙◌, arith, inl, inr}
-use Rattle.std.proofs.lemmas.Bool.{cases_lt, ne_eqb}
-use Rattle.std.proofs.lemmas.Bool.Decides.{eqb_tells}
-use Rattle.std.proofs.lemmas.List.Folds.{list_any-append}
-use Rattle.std.specs.List.{list_any}
+use Rattle.std.proofs.Common.{◌≡◌, ℕ, ◌+◌, Bool, true, false, cond, eqb, [], ◌++◌, Option, None, refl, ap, arith}
 use Rattle.lx_node.specs.Trees.{Trees, nil, tree, joined}
 use Rattle.lx_node.proofs.NamedTrees as trees
 pub use Rattle.lx_node.proofs.NamedTrees.{joined-nil, joined-assoc}
-use Rattle.lx_host.specs.Hosts.{Host, Face, id_of, count, without, alone, ids_of, children_of, inserted, put_below, changed_at, changed}
+use Rattle.lx_host.specs.Hosts.{Host, Face, id_of, count, without, alone, children_of, inserted, put_below, changed_at, changed}
 
 -- ---- one behind another
 

@@ -11,7 +11,7 @@ use Rattle.lx_rooted.specs.Edits.{take_out, put_in, CanPut}
 use Rattle.lx_rooted.proofs.Lookups.{children_of-take_out, is_among-children_of}
 use Rattle.lx_rooted.proofs.Places.{CanPut-take_out}
 use Rattle.lx_rooted.proofs.Within.{put_in-take_out}
-use Rattle.lx_host.specs.Stands.{FitsPlace, Sound}
+use Rattle.lx_host.specs.Stands.{FitsPlace}
 
 -- the children of a host, by its spot
 pub children-same : (f : Trees Host) (q : ℕ) → IsOrdered id_of f → children_of id_of f q ≡ hosts.children_of q f
@@ -36,10 +36,10 @@ above_of : (o : Option ℕ) (p : ℕ) → is_named o p ≡ true → o ≡ Some p
 above_of o p e = grind (arith, e, is_named_tells o p)
 
 -- the child behind which the gap before another one is
-pub behind_of : (f : Trees Host) (p b : ℕ) (before : Option ℕ) → Sound f → before ≡ Some b → is_place before (children_of id_of f p) ≡ true → previous_of id_of f b ≡ place_behind before (children_of id_of f p)
-behind_of f p b before s is place =
+pub behind_of : (f : Trees Host) (p b : ℕ) (before : Option ℕ) → IsOrdered id_of f → before ≡ Some b → is_place before (children_of id_of f p) ≡ true → previous_of id_of f b ≡ place_behind before (children_of id_of f p)
+behind_of f p b before h is place =
     let among : is_among b (children_of id_of f p) ≡ true = sym (ap (λ o. is_place o (children_of id_of f p)) is) ∙ place in
-    let up : parent_of id_of f b ≡ Some p = above_of (parent_of id_of f b) p (sym (is_among-children_of id_of f b p s.in_order) ∙ among) in
+    let up : parent_of id_of f b ≡ Some p = above_of (parent_of id_of f b) p (sym (is_among-children_of id_of f b p h) ∙ among) in
     ap (λ o. previous_in (children_below id_of f o) b) up ∙ sym (ap (λ o. place_behind o (children_of id_of f p)) is)
 
 -- whether a host may be put before another, by the parent of that one

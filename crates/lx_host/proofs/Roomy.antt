@@ -1,6 +1,5 @@
 -- The last of vectors that have room.
-use Rattle.std.proofs.Common.{◌≡◌, ◌≤◌, List, [], ◌∷◌, ◌++◌, cond, Bool, true, false, Result, Ok, Err}
-use Rattle.std.specs.Result.{IsOk, is_ok}
+use Rattle.std.proofs.Common.{◌≡◌, ◌≤◌, List, [], ◌∷◌, ◌++◌, cond, Bool, true, false}
 use Rattle.std.specs.Global.{Vec}
 use Rattle.std.specs.Vec.{vec_capacity}
 use Rattle.lx_host.specs.Stocked.{AreRoomy, most_attributes}

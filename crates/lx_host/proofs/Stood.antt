@@ -18,7 +18,7 @@ use Rattle.lx_rooted.proofs.Places.{take_out-top}
 use Rattle.lx_rooted.proofs.Walks.{no_parent}
 use Rattle.lx_host.specs.declared.linked.Linked.{Linked}
 use Rattle.lx_host.specs.Links.{Differs, unlinked, linked_in}
-use Rattle.lx_host.specs.Stands.{GroveView, record_of, linked_of, records, Stands, Standing, Sound, hosts_in, hosts_in-stands}
+use Rattle.lx_host.specs.Stands.{GroveView, record_of, linked_of, records, Stands, Standing, hosts_in, hosts_in-stands}
 
 linked_again : (q : ℕ) (o : Option Linked) (r : Option (Record Host)) → option_map (record_of q) o ≡ r → o ≡ option_map linked_of r
 linked_again q None r e = ap (option_map linked_of) e
@@ -40,9 +40,6 @@ same_unlinked k p q n m e =
 module _ {S : Type 0} where
   pub stood : (m : HashMap ℕ Linked S) (s : Standing m) (f : Trees Host) → hosts_in m s ≡ f → Stands m f
   stood m s f e = subst (Stands m) e (hosts_in-stands m s)
-
-  pub sound : (m : HashMap ℕ Linked S) (f : Trees Host) → Stands m f → Sound f
-  sound m f s = record { in_order = s.in_order; small = s.small }
 
   pub get_stands : (m : HashMap ℕ Linked S) (f : Trees Host) (q : ℕ) → Stands m f → get nat_eq m q ≡ option_map linked_of (record_at id_of f q)
   get_stands m f q s = linked_again q (get nat_eq m q) (record_at id_of f q) (s.same q)

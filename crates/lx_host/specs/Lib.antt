@@ -6,11 +6,11 @@ pub mod Pieces
 pub mod Branches
 pub mod Places
 pub mod Lookups
+pub mod Room
+pub mod Stocked
 pub mod Links
 pub mod Stands
 pub mod Below
-pub mod Weights
 pub mod Shown
+pub mod Weights
 pub mod Least
-pub mod Room
-pub mod Stocked

@@ -1,13 +1,11 @@
 -- When a table of hosts stands for trees.
-use Rattle.std.specs.Prelude.{ℕ, ◌^◌, ◌<◌, ◌≡◌, ◌≢◌, true, false, nat_eq, List, Option, option_map}
+use Rattle.std.specs.Prelude.{ℕ, ◌≡◌, ◌≢◌, true, false, nat_eq, List, Option, option_map}
 use Rattle.std.specs.Coded.{Coded-set, codes, le_prop}
 use Rattle.std.specs.HashMap.{HashMap}
 use Rattle.indexmap.specs.IndexMap.{get}
 use Rattle.std.proofs.Common.{ap, subst}
 use Rattle.lx_node.specs.Trees.{Trees, trees_code}
-use Rattle.lx_node.specs.NamedTrees.{total}
 use Rattle.lx_host.specs.Hosts.{Host, id_of, has, alone, children_of, fits_before}
-use Rattle.lx_rooted.specs.Lookups.{IsOrdered}
 use Rattle.lx_rooted.specs.Records.{Record, StandsFor}
 use Rattle.lx_rooted.proofs.Records.{StandsFor-unique}
 use Rattle.lx_host.specs.declared.linked.Linked.{Linked}
@@ -84,11 +82,6 @@ module _ {S : Type 0} where
   -- whatever the table stands for
   pub hosts_in-is : (m : HashMap ℕ Linked S) (s : Standing m) (f : Trees Host) → Stands m f → hosts_in m s ≡ f
   hosts_in-is m s f h = StandsFor-unique id_of (records m) (hosts_in m s) f (hosts_in-stands m s) h
-
--- what a reader may take of any grove
-pub record Sound (f : Trees Host) : Type 0 where
-  pub in_order : IsOrdered id_of f
-  pub small : total f < 2 ^ 32
 
 -- a host may be placed there
 pub record FitsPlace (parent child : ℕ) (before : Option ℕ) (f : Trees Host) : Type 0 where

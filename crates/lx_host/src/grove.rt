@@ -1,3 +1,5 @@
+//! The hosts, by id. It knows no operation, no next id and no table of keys.
+
 use crate::joints::{Gap, link_in, unlink};
 use crate::linked::{Change, Linked, change_host, write_attribute};
 use crate::op::Attrs;
@@ -40,9 +42,10 @@ impl Grove {
     ghost use Rattle.std.specs.Option.{option_copied};
     ghost use Rattle.lx_node.specs.Siblings.{is_among, is_named};
     ghost use Rattle.lx_host.specs.Hosts.{id_of, one_host, root_face, has};
-    ghost use Rattle.lx_host.specs.Stands.{linked_of, Sound};
+    ghost use Rattle.lx_host.specs.Stands.{linked_of};
     ghost use Rattle.lx_host.specs.Weights.{key_at};
     ghost use Rattle.lx_rooted.specs.Records.{record_at};
+    ghost use Rattle.lx_rooted.specs.Lookups.{IsOrdered};
     ghost use Rattle.lx_rooted.specs.Lookups as lookups;
 
     /// Host 0 alone, which shows the root.
@@ -69,7 +72,7 @@ impl Grove {
 
     /// Each grove's hosts are in order, and its ids are theirs.
     pub fn in_order(&self)
-        ensures sound { Sound self.now.hosts }
+        ensures ordered { IsOrdered id_of self.now.hosts }
         ensures ids { (q : ℕ) → is_among q self.now.ids ≡ has q self.now.hosts }
     {
         let _table = &self.table;
@@ -95,7 +98,7 @@ impl Grove {
     /// The host of an id, where there is one.
     fn host(&self, id: u32) -> Option<&Linked>
         ensures host { option_copied result ≡ option_map linked_of (record_at id_of self.now.hosts id) }
-        ensures sound { Sound self.now.hosts }
+        ensures ordered { IsOrdered id_of self.now.hosts }
     {
         self.table.get(&id)
     }
@@ -103,7 +106,7 @@ impl Grove {
     /// Whether there is a host of that id.
     pub fn has(&self, id: u32) -> bool
         ensures has { result ≡ has id self.now.hosts }
-        ensures sound { Sound self.now.hosts }
+        ensures ordered { IsOrdered id_of self.now.hosts }
     {
         self.host(id).is_some()
     }
@@ -111,7 +114,7 @@ impl Grove {
     /// The host below which it stands.
     pub fn parent(&self, id: u32) -> Option<u32>
         ensures parent { result ≡ lookups.parent_of id_of self.now.hosts id }
-        ensures sound { Sound self.now.hosts }
+        ensures ordered { IsOrdered id_of self.now.hosts }
     {
         match self.host(id) {
             Some(host) => host.parent,
@@ -122,7 +125,7 @@ impl Grove {
     /// The first of the host's children.
     pub fn first(&self, id: u32) -> Option<u32>
         ensures first { result ≡ lookups.first_child id_of self.now.hosts id }
-        ensures sound { Sound self.now.hosts }
+        ensures ordered { IsOrdered id_of self.now.hosts }
     {
         match self.host(id) {
             Some(host) => host.first,
@@ -133,7 +136,7 @@ impl Grove {
     /// The last of the host's children.
     fn last(&self, id: u32) -> Option<u32>
         ensures last { result ≡ lookups.last_child id_of self.now.hosts id }
-        ensures sound { Sound self.now.hosts }
+        ensures ordered { IsOrdered id_of self.now.hosts }
     {
         match self.host(id) {
             Some(host) => host.last,
@@ -144,7 +147,7 @@ impl Grove {
     /// The host right before this one among the children of its parent.
     fn previous(&self, id: u32) -> Option<u32>
         ensures previous { result ≡ lookups.previous_of id_of self.now.hosts id }
-        ensures sound { Sound self.now.hosts }
+        ensures ordered { IsOrdered id_of self.now.hosts }
     {
         match self.host(id) {
             Some(host) => host.prev,
@@ -155,7 +158,7 @@ impl Grove {
     /// The host right behind this one among the children of its parent.
     pub fn next(&self, id: u32) -> Option<u32>
         ensures next { result ≡ lookups.next_of id_of self.now.hosts id }
-        ensures sound { Sound self.now.hosts }
+        ensures ordered { IsOrdered id_of self.now.hosts }
     {
         match self.host(id) {
             Some(host) => host.next,
@@ -166,7 +169,7 @@ impl Grove {
     /// The key that a host shows.
     pub fn key(&self, id: u32) -> Option<Key>
         ensures key { result ≡ key_at self.now.hosts id }
-        ensures sound { Sound self.now.hosts }
+        ensures ordered { IsOrdered id_of self.now.hosts }
     {
         match self.host(id) {
             Some(host) => Some(host.key),
@@ -190,7 +193,7 @@ impl Grove {
     /// Whether a host is in the tree of the outer one: that one itself, or below it. It walks up.
     pub fn is_within(&self, outer: u32, id: u32) -> bool
         ensures within { result ≡ lookups.is_within id_of self.now.hosts outer id }
-        ensures sound { Sound self.now.hosts }
+        ensures ordered { IsOrdered id_of self.now.hosts }
     {
         let mut at = id;
         while at != outer {
@@ -207,7 +210,7 @@ impl Grove {
         requires there { has id self.now.hosts ≡ true }
         ensures leaf { lookups.children_of id_of self.now.hosts result ≡ [] }
         ensures within { lookups.is_within id_of self.now.hosts id result ≡ true }
-        ensures sound { Sound self.now.hosts }
+        ensures ordered { IsOrdered id_of self.now.hosts }
     {
         let mut at = id;
         while let Some(child) = self.first(at) {
@@ -219,7 +222,7 @@ impl Grove {
     /// Whether the host of that id is there and stands below that one.
     fn is_child(&self, id: u32, parent: u32) -> bool
         ensures child { result ≡ is_named (lookups.parent_of id_of self.now.hosts id) parent }
-        ensures sound { Sound self.now.hosts }
+        ensures ordered { IsOrdered id_of self.now.hosts }
     {
         match self.parent(id) {
             Some(own) => parent == own,
@@ -281,7 +284,7 @@ impl Grove {
         requires room { 0 < self.old.room }
         ensures created { self.new.hosts ≡ joined self.old.hosts (one_host id (record { key = key; tag = tag; attrs = attrs; text = text; ending = ending })) }
         ensures room { self.old.room ≤ self.new.room + 1 }
-        ensures sound { Sound self.old.hosts }
+        ensures ordered { IsOrdered id_of self.old.hosts }
     {
         let host = Linked {
             key,
@@ -303,7 +306,7 @@ impl Grove {
     fn detach(&mut self, id: u32)
         ensures taken { self.new.hosts ≡ take_out id_of id self.old.hosts }
         ensures room { self.new.room ≡ self.old.room }
-        ensures sound { Sound self.old.hosts }
+        ensures ordered { IsOrdered id_of self.old.hosts }
     {
         let Some(host) = self.table.get(&id) else {
             return;
@@ -352,7 +355,7 @@ impl Grove {
         requires { FitsPlace parent child before self.old.hosts }
         ensures placed { self.new.hosts ≡ put_below parent before (alone child self.old.hosts) (without child self.old.hosts) }
         ensures room { self.new.room ≡ self.old.room }
-        ensures sound { Sound self.old.hosts }
+        ensures ordered { IsOrdered id_of self.old.hosts }
     {
         self.detach(child);
         self.put(parent, before, child);

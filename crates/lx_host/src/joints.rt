@@ -1,3 +1,5 @@
+//! A host out from between its neighbours, or in between others. It touches a parent, two neighbours and the host.
+
 ghost use Rattle.std.specs.Prelude.{◌≡◌, ◌==◌, ◌+◌, ◌<◌, ◌^◌, ℕ, nat_eq, None, Some};
 ghost use Rattle.indexmap.specs.IndexMap.{spare, get};
 ghost use Rattle.lx_node.specs.Siblings.{is_named};
@@ -15,6 +17,7 @@ pub struct Gap {
     pub next: Option<u32>,
 }
 
+/// Tells a host which one stands right behind it.
 fn set_next(table: &mut IndexMap<u32, Linked>, at: Option<u32>, next: Option<u32>)
     ensures differs { Differs (λ q. changed (Next next) (is_named at q)) table.old table.new }
     ensures room { spare table.new ≡ spare table.old }
@@ -22,6 +25,7 @@ fn set_next(table: &mut IndexMap<u32, Linked>, at: Option<u32>, next: Option<u32
     change_host(table, at, Change::Next(next));
 }
 
+/// Tells a host which one stands right before it.
 fn set_prev(table: &mut IndexMap<u32, Linked>, at: Option<u32>, prev: Option<u32>)
     ensures differs { Differs (λ q. changed (Prev prev) (is_named at q)) table.old table.new }
     ensures room { spare table.new ≡ spare table.old }

@@ -1,3 +1,5 @@
+//! The table of the keys that hosts show. It knows no links.
+
 ghost use Rattle.std.specs.Prelude.{◌≡◌, ◌<◌, ◌+◌, ◌≤◌, ◌^◌, ℕ, nat_eq, Some, if◌then◌else◌};
 ghost use Rattle.indexmap.specs.IndexMap.{spare, get};
 ghost use Rattle.lx_host.specs.declared.keys.Shown.{Shown};

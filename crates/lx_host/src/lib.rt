@@ -3,6 +3,9 @@
 //! A host tree is host 0 with the hosts below it, and hosts that aren't placed yet. Hosts are named by
 //! ids, which are given in the order of creation and never again. An operation fits a host tree, or it
 //! doesn't, and one that fits has one effect. What host 0 shows, with all below it, has one HTML.
+//!
+//! Room for operations is reserved first, which may want memory and changes nothing else. They are made after
+//! that, and take none.
 #![tactic(auto)]
 
 mod grove;

@@ -1,3 +1,5 @@
+//! The table of hosts by their ids, and what an edit changes in one of them, in its place. The room stays.
+
 ghost use Rattle.std.specs.Prelude.{◌≡◌, ℕ, nat_eq, true, None, Some};
 ghost use Rattle.indexmap.specs.IndexMap.{spare, get};
 ghost use Rattle.lx_node.specs.Siblings.{is_named};
@@ -10,7 +12,8 @@ use crate::tag::{Name, Tag};
 use indexmap::IndexMap;
 use lx_node::{Key, Txt};
 
-/// A host with its links.
+/// A host with its links: the host below which it stands, its neighbours there, the ends of its own children, and
+/// how many they are.
 #[derive(Drop)]
 pub struct Linked {
     pub key: Key,
@@ -29,9 +32,13 @@ pub struct Linked {
 /// What of one host an edit changes.
 #[derive(Drop)]
 pub enum Change {
+    /// It shows this text.
     Text(Txt),
+    /// A line break ends it, or none does.
     Break(bool),
+    /// This one stands right behind it.
     Next(Option<u32>),
+    /// This one stands right before it.
     Prev(Option<u32>),
     /// It goes below a parent, or below none, between these neighbours.
     Place {
@@ -52,6 +59,7 @@ pub enum Change {
     },
 }
 
+/// Changes a host.
 fn apply(change: Change, host: &mut Linked)
     requires { Fits change host.old }
     ensures { host.new ≡ changed change true host.old }
@@ -120,6 +128,6 @@ pub fn write_attribute(
     ensures left { stock.old ≤ stock.new + one_for value }
 {
     if let Some(host) = table.get_mut(&id) {
-        host.attrs.write(name, value, stock);
+        host.attrs.write_within(name, value, stock);
     }
 }

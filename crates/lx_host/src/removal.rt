@@ -1,3 +1,5 @@
+//! Hosts that are taken away, with the keys that they showed: a tree from its leaves up, in no memory.
+
 ghost use Rattle.std.specs.Prelude.{◌≡◌, ◌≢◌, ◌≤◌, [], Some, true};
 ghost use Rattle.indexmap.specs.IndexMap.{spare};
 ghost use Rattle.lx_host.specs.Hosts.{id_of, has, without};

@@ -2,7 +2,6 @@ use Rattle.std.proofs.Common.{◌≡◌, ◌≤◌, true, []}
 use Rattle.lx_node.specs.NamedTrees.{total}
 use Rattle.lx_host.specs.Hosts.{id_of, without}
 use Rattle.lx_rooted.specs.Lookups as lookups
-use Rattle.lx_host.specs.Stands.{Sound}
 use Rattle.lx_host.specs.Weights.{AreKeyed}
 use Rattle.indexmap.specs.IndexMap.{spare}
 use Rattle.lx_host.proofs.removal.remove_tree.Given as goal
@@ -13,7 +12,7 @@ invariant-loop-at l = record {
   within : lookups.is_within id_of l.grove.hosts l.fn.id l.at ≡ true;
   leaf : lookups.children_of id_of l.grove.hosts l.at ≡ [];
   room : l.fn.grove.room ≤ l.grove.room;
-  sound : Sound l.grove.hosts;
+  ordered : lookups.IsOrdered id_of l.grove.hosts;
   keyed : AreKeyed l.keys l.grove.hosts;
   keys_room : spare l.fn.keys ≤ spare l.keys;
 }

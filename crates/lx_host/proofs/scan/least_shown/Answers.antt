@@ -18,4 +18,4 @@ returns c =
     sym (lesser-None c.loop-place.least)
     ∙ sym (ap (λ ids. lesser c.loop-place.least (least_in (shows_attached c.args.key grove.hosts) ids)) (drop_all c.loop-place.place grove.ids (omega arith)))
     ∙ c.loop-place.invariant
-    ∙ least_host c.args.key grove.hosts grove.ids c.in_order.ensures.sound.in_order c.in_order.ensures.ids
+    ∙ least_host c.args.key grove.hosts grove.ids c.in_order.ensures.ordered c.in_order.ensures.ids

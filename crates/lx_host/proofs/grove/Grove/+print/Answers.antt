@@ -20,7 +20,7 @@ print-returns-then-is_void t c =
     let page = c.args.page.now in
     let hosts = c.args.self.now.hosts in
     let host = c.in-Some.host.now in
-    void_printed page _ (below_of hosts c.args.id) (alone c.args.id hosts) (shape_found hosts c.args.id host c.host.ensures.sound.in_order (sym (ap option_copied c.in-Some.is) ∙ c.host.ensures.host)) (sym c.if-is_void.ensures) (c.in_ok-open.ensures ∙ ap (λ a. page ++ opening host.tag a) c.items.ensures)
+    void_printed page _ (below_of hosts c.args.id) (alone c.args.id hosts) (shape_found hosts c.args.id host c.host.ensures.ordered (sym (ap option_copied c.in-Some.is) ∙ c.host.ensures.host)) (sym c.if-is_void.ensures) (c.in_ok-open.ensures ∙ ap (λ a. page ++ opening host.tag a) c.items.ensures)
 
 pub print-returns : goal.print-returns
 print-returns t c =
@@ -33,13 +33,13 @@ print-returns t c =
       | print-in-Some-text+in_ok-push_text-in-Some-text w ↦ rw w.in-Some-text.is (w.page-is ∙ w.in_ok-push_text-in-Some-text.ensures ∙ ap (λ t. c.open.new.self ++ text_html t) w.as_str.ensures.text)
       | print-in-None+in_ok-print_children-in-None w ↦ rw w.in-None.is (w.page-is ∙ w.in_ok-print_children-in-None.ensures)
     ] in
-    on_ok_weaker c.close.result (λ end. full_printed page _ (below_of hosts c.args.id) (alone c.args.id hosts) (shape_found hosts c.args.id host c.host.ensures.sound.in_order (sym (ap option_copied c.in-Some.is) ∙ c.host.ensures.host)) (sym c.if-is_void.ensures) start inside c.in_ok-push_ending.ensures end) c.close.ensures
+    on_ok_weaker c.close.result (λ end. full_printed page _ (below_of hosts c.args.id) (alone c.args.id hosts) (shape_found hosts c.args.id host c.host.ensures.ordered (sym (ap option_copied c.in-Some.is) ∙ c.host.ensures.host)) (sym c.if-is_void.ensures) start inside c.in_ok-push_ending.ensures end) c.close.ensures
 
 pub print_children-loop-at-init : goal.print_children-loop-at-init
 print_children-loop-at-init t c = record {
-  child = first_is_child c.args.self.now.hosts c.args.id c.first-at.result c.first-at.ensures.sound.in_order c.first-at.ensures.first;
+  child = first_is_child c.args.self.now.hosts c.args.id c.first-at.result c.first-at.ensures.ordered c.first-at.ensures.first;
   all = start_left c.args.self.now.hosts c.args.id c.first-at.result c.args.page.now c.first-at.ensures.first;
-  ordered = c.first-at.ensures.sound.in_order;
+  ordered = c.first-at.ensures.ordered;
 }
 
 pub print_children-print-requires : goal.print_children-print-requires

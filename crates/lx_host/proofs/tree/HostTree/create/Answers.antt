@@ -20,7 +20,7 @@ pub add_shown-requires-clause-small : goal.add_shown-requires-clause-small
 add_shown-requires-clause-small c = λ s e.
     let h = fits_create c.args.id c.args.key c.args.tag c.args.attrs c.args.text c.args.ending c.args.self.now.tree c.requires.fits in
     let n = ap (λ (v : Held). v.tree.next) c.self.view_is in
-    small_entry c.self.inside.keys c.self.inside.next_id _ c.args.id c.self.inside.grove.hosts s c.create.ensures.sound.in_order c.self.invariant (omega (arith, h.is_next, h.below, n)) (h.is_next ∙ sym n) e
+    small_entry c.self.inside.keys c.self.inside.next_id _ c.args.id c.self.inside.grove.hosts s c.create.ensures.ordered c.self.invariant (omega (arith, h.is_next, h.below, n)) (h.is_next ∙ sym n) e
 
 pub overflow_add-self : goal.overflow_add-self
 overflow_add-self c =

@@ -6,5 +6,5 @@ use Rattle.lx_host.proofs.tree.HostTree.next_sibling.Goals as goal
 
 pub returns : goal.returns
 returns c =
-    c.next.ensures.next ∙ sym (next_same c.self.inside.grove.hosts c.args.id c.next.ensures.sound.in_order)
+    c.next.ensures.next ∙ sym (next_same c.self.inside.grove.hosts c.args.id c.next.ensures.ordered)
     ∙ ap (λ (v : Held). next_sibling c.args.id v.tree.hosts) c.self.view_is

@@ -11,7 +11,7 @@ place-requires c = fits_place c.args.parent c.args.child c.args.before _ (subst 
 
 pub invariant_of-self : goal.invariant_of-self
 invariant_of-self c =
-    kept_placed c.self.inside.keys c.self.inside.next_id c.args.parent c.args.child c.args.before c.self.inside.grove.hosts c.place.new.self.hosts c.place.ensures.placed c.place.ensures.sound
+    kept_placed c.self.inside.keys c.self.inside.next_id c.args.parent c.args.child c.args.before c.self.inside.grove.hosts c.place.new.self.hosts c.place.ensures.placed c.place.ensures.ordered
     (fits_place c.args.parent c.args.child c.args.before _ (subst (λ (w : HostTree). IsTrue (fits (Place c.args.parent c.args.child c.args.before) w)) (sym (ap (λ (v : Held). v.tree) c.self.view_is)) c.requires.fits))
     c.self.invariant
 
