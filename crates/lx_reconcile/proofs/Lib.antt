@@ -1,8 +1,11 @@
 pub mod Along
+pub mod Attached
 pub mod Cases
 pub mod Changed
 pub mod Children
+pub mod Covered
 pub mod Created
+pub mod Due
 pub mod Ends
 pub mod Families
 pub mod Frames
@@ -15,10 +18,14 @@ pub mod Lists
 pub mod Made
 pub mod OneMove
 pub mod Places
+pub mod Reading
 pub mod Shown
+pub mod Skipped
 pub mod StartEnd
 pub mod Steps
+pub mod Touched
 pub mod Turns
+pub mod UnkeptNodes
 pub mod Walked
 pub mod Whole
 pub mod Written

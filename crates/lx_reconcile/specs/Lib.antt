@@ -3,7 +3,9 @@ pub mod Changing
 pub mod Created
 pub mod Handled
 pub mod Making
+pub mod Reading
 pub mod Reconciled
 pub mod ToCome
+pub mod Told
 pub mod Underway
 pub mod Walk

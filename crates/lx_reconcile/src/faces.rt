@@ -1,10 +1,11 @@
 //! The operations that change what a host shows of a node itself: its attributes, its text and its ending.
 
-ghost use Rattle.std.specs.Prelude.{◌≡◌, ◌++◌, ◌∷◌, [], ℕ, Bool, List, true, drop, OnOk, None, Some};
+ghost use Rattle.std.specs.Prelude.{◌≡◌, ◌↔◌, ◌++◌, ◌∷◌, ◌+◌, ◌≤◌, [], ℕ, Bool, List, true, drop, OnOk, None, Some};
 ghost use Rattle.lx_host.specs.declared.op.Op.TheVariants.{Attr};
 ghost use Rattle.lx_host.specs.declared.tag.Tag.{Tag};
 ghost use Rattle.lx_host.specs.Words.{names_rise};
 ghost use Rattle.lx_host.specs.Hosts.{Face, with_ending};
+ghost use Rattle.lx_forest.specs.Lookups.{has};
 ghost use Rattle.lx_forest.specs.Views.{kind_at};
 ghost use Rattle.lx_plain.specs.Render as shown;
 ghost use Rattle.lx_reconcile.specs.Changing.{next_order, Writes, Changes, shown_face};
@@ -67,7 +68,7 @@ fn push_given(
 
 /// Whether two attributes are equal.
 fn are_equal(old: &(Name, Txt), new: &(Name, Txt)) -> bool
-    ensures { result ≡ true → old.now ≡ new.now }
+    ensures { result ≡ true ↔ (old.now ≡ new.now) }
 {
     old.0 == new.0 && old.1.is_equal(&new.1)
 }
@@ -144,7 +145,7 @@ fn push_text(
 
 /// Whether a node has the kind and the fields that it had.
 fn is_same(was: &Node, now: &Node) -> bool
-    ensures { result ≡ true → (was.now.kind ≡ now.now.kind) × (was.now.fields ≡ now.now.fields) }
+    ensures { result ≡ true ↔ (was.now.kind ≡ now.now.kind) × (was.now.fields ≡ now.now.fields) }
 {
     was.kind == now.kind && was.fields.is_equal(&now.fields)
 }
@@ -158,7 +159,8 @@ pub(crate) fn push_face(
     now: &Node,
     ops: &mut Vec<Op>,
 ) -> Result<(), NoMemory>
-    ensures { OnOk result ((key : ℕ) (tag : Tag) (ending : Bool) → Changes host (shown_face key tag was.now.kind was.now.fields ending) (shown_face key tag now.now.kind now.now.fields ending) ops.old.items ops.new.items) }
+    ensures none { OnOk result (was.now.kind ≡ now.now.kind → was.now.fields ≡ now.now.fields → ops.new.items ≡ ops.old.items) }
+    ensures face { OnOk result ((key : ℕ) (tag : Tag) (ending : Bool) → Changes host (shown_face key tag was.now.kind was.now.fields ending) (shown_face key tag now.now.kind now.now.fields ending) ops.old.items ops.new.items) }
 {
     if is_same(was, now) {
         return Ok(());
@@ -176,7 +178,8 @@ pub(crate) fn push_ending(
     new: bool,
     ops: &mut Vec<Op>,
 ) -> Result<(), NoMemory>
-    ensures { OnOk result ((face : Face) → face.ending ≡ old → Changes host face (with_ending new face) ops.old.items ops.new.items) }
+    ensures none { OnOk result (old ≡ new → ops.new.items ≡ ops.old.items) }
+    ensures ending { OnOk result ((face : Face) → face.ending ≡ old → Changes host face (with_ending new face) ops.old.items ops.new.items) }
 {
     if old == new {
         return Ok(());
@@ -190,8 +193,13 @@ pub(crate) fn push_ending(
 
 /// Whether a line break ends this node. It reads its last child.
 pub(crate) fn is_ended<S, L: Look<S>>(source: &mut S, node: &Node) -> bool
+    requires there { (k : ℕ) → node.now.last ≡ Some k → has k (L.forest source.old) ≡ true }
     ensures ended { result ≡ shown.needs_break node.now.kind (kind_at (L.forest source.old) node.now.last) }
     ensures same { L.forest source.new ≡ L.forest source.old }
+    ensures lag { L.lag source.new ≤ L.lag source.old }
+    ensures place { L.place source.new ≡ L.place source.old }
+    ensures whole { L.whole source.new ≡ L.whole source.old }
+    ensures reads { L.count source.new ≤ L.count source.old + 1 }
 {
     let last = read_kind::<S, L>(source, node.last);
     needs_break(node.kind, last)
