@@ -23,6 +23,7 @@ pub mod Shown
 pub mod Skipped
 pub mod StartEnd
 pub mod Steps
+pub mod Texts
 pub mod Touched
 pub mod Turns
 pub mod UnkeptNodes

@@ -6,6 +6,7 @@ use Rattle.lx_node.specs.NamedTrees.{total}
 use Rattle.lx_node.specs.Spots.{Spot}
 use Rattle.lx_node.specs.declared.kind.Kind.TheVariants.{Root}
 use Rattle.lx_node.specs.declared.node.Node.{Node}
+use Rattle.lx_node.specs.OfKind.{is_of_kind}
 use Rattle.lx_host.specs.declared.tag.Tag.{Tag}
 use Rattle.lx_host.specs.declared.op.Op.{Op}
 use Rattle.lx_host.specs.Branches.{IsRooted}
@@ -15,6 +16,7 @@ use Rattle.lx_forest.specs.Forest.{Label, Forest}
 use Rattle.lx_forest.specs.Lookups.{alone, has, label_of, children_of, trees_of, IsForest}
 use Rattle.lx_forest.specs.Records.{record_at}
 use Rattle.lx_forest.specs.Views.{kind_at}
+use Rattle.lx_forest.specs.Suited.{is_suited}
 use Rattle.lx_forest.proofs.Edits.{has-root, is_some-spot}
 use Rattle.lx_links.specs.Stands.{node_of}
 use Rattle.lx_plain.specs.Allowed.{Marking, AreCovered, Shows, hosts_of, unkept, marked_children}
@@ -38,6 +40,7 @@ use Rattle.lx_links.specs.Stands.{Sound}
 use Rattle.lx_reconcile.specs.Reading.{reads_in, reads_below}
 use Rattle.lx_reconcile.proofs.Reading.{marked_children-total, weight, size_if, old_sizes_less, reads_less, roots_of}
 use Rattle.lx_reconcile.proofs.Skipped.{skipped}
+use Rattle.lx_reconcile.proofs.Texts.{none_of_kind}
 use Rattle.lx_reconcile.proofs.UnkeptNodes.{unkept-below, unkept-total}
 use Rattle.lx_reconcile.proofs.Made.{reconciles_still, reads_still}
 use Rattle.lx_reconcile.proofs.StartEnd.{only_host, is_shown_at, root_at, one_tree}
@@ -117,6 +120,15 @@ module _ (old new : Forest) (mk : Marking) (v : HostTree) (k n : ℕ) (was now :
   kind_same =
       let kinds : Some was.kind ≡ Some now.kind = sym (ap (option_map (λ (l : Label). l.kind)) label_was) ∙ b.covered.kinds k (there_read old k was before_read) (there_read new k now after_read) ∙ ap (option_map (λ (l : Label). l.kind)) label_now in
       same_Some was.kind now.kind kinds
+
+  -- a text stays one
+  own_fields : (f : Forest) (n : Node) → Sound f → label_of f k ≡ Some (label_from k n) → is_of_kind n.kind n.fields ≡ true
+  own_fields f n s at = sym (ap is_suited at) ∙ s.suited.each k
+
+  pub text_stays : text_of now.fields ≡ None → text_of was.fields ≡ None
+  text_stays none =
+      none_of_kind was.kind was.fields now.fields (own_fields old was b.was_sound label_was)
+      (ap (λ kind. is_of_kind kind now.fields) kind_same ∙ own_fields new now b.sound label_now) none
 
   untouched_face : {one start : List Op} → mk.touched k ≡ false → (was.kind ≡ now.kind → was.fields ≡ now.fields → one ≡ start) → one ≡ start
   untouched_face plain same =

@@ -110,19 +110,20 @@ fn push_attributes(
     Ok(())
 }
 
-/// Adds the operation that makes a host's text, which is the first, the second, where they differ. No operation takes
-/// a text away: where that is wanted, there is no answer.
+/// Adds the operation that makes a host's text, which is the first, the second, where they differ. A text that is there
+/// stays one, since no operation takes it away.
 fn push_text(
     host: u32,
     old: Option<Txt>,
     new: Option<Txt>,
     ops: &mut Vec<Op>,
 ) -> Result<(), NoMemory>
+    requires stays { new ≡ None → old ≡ None }
     ensures { OnOk result ((key : ℕ) (tag : Tag) (attrs : List (Name × List ℕ)) (ending : Bool) → Changes host (record { key = key; tag = tag; attrs = attrs; text = old; ending = ending }) (record { key = key; tag = tag; attrs = attrs; text = new; ending = ending }) ops.old.items ops.new.items) }
 {
     match (old, new) {
         (None, None) => Ok(()),
-        (Some(_), None) => Err(NoMemory),
+        (Some(_), None) => unreachable!(),
         (None, Some(new)) => {
             ops.push(Op::Text {
                 id: host,
@@ -151,7 +152,7 @@ fn is_same(was: &Node, now: &Node) -> bool
 }
 
 /// Adds the operations that make the host of a node, which shows its attributes and text as they were, show them as
-/// they are. Where neither the kind nor the fields differ it makes no description.
+/// they are. A text stays one. Where neither the kind nor the fields differ it makes no description.
 pub(crate) fn push_face(
     alloc: Global,
     host: u32,
@@ -159,6 +160,7 @@ pub(crate) fn push_face(
     now: &Node,
     ops: &mut Vec<Op>,
 ) -> Result<(), NoMemory>
+    requires stays { shown.text_of now.now.fields ≡ None → shown.text_of was.now.fields ≡ None }
     ensures none { OnOk result (was.now.kind ≡ now.now.kind → was.now.fields ≡ now.now.fields → ops.new.items ≡ ops.old.items) }
     ensures face { OnOk result ((key : ℕ) (tag : Tag) (ending : Bool) → Changes host (shown_face key tag was.now.kind was.now.fields ending) (shown_face key tag now.now.kind now.now.fields ending) ops.old.items ops.new.items) }
 {

@@ -1,3 +1,4 @@
+use Rattle.std.proofs.Common.{◌∙◌, sym}
 use Rattle.std.proofs.lemmas.Result.{on_ok_weaker}
 use Rattle.lx_reconcile.proofs.Changed.{same_face, face_written}
 use Rattle.lx_reconcile.proofs.faces.push_face.Goals as goal
@@ -10,3 +11,6 @@ returns-clause-face c =
     on_ok_weaker c.push_text.result (λ text. face_written c.args.host c.args.was.now.kind c.args.now.now.kind c.args.was.now.fields c.args.now.now.fields c.in_ok-old.old.attrs c.in_ok-new.new.attrs c.in_ok-old.old.text c.in_ok-new.new.text _ _ _
     c.in_ok-old.ensures.attributes c.in_ok-new.ensures.attributes c.in_ok-old.ensures.text c.in_ok-new.ensures.text (rw (c.items.ensures, c.items-2.ensures) at c.in_ok-push_attributes.ensures) text)
     c.push_text.ensures
+
+pub push_text-requires : goal.push_text-requires
+push_text-requires c = record { stays = λ none. c.in_ok-old.ensures.text ∙ c.requires.stays (sym c.in_ok-new.ensures.text ∙ none) }

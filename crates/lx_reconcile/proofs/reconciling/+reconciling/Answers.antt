@@ -279,6 +279,11 @@ pub reconcile_node-host_of-host-requires-clause-shown : goal.reconcile_node-host
 reconcile_node-host_of-host-requires-clause-shown g t c =
     Whole.node_shown (g.O.Look.forest c.args.before.now) (g.N.Look.forest c.args.after.now) (marking c.args.given.now.marks.now) c.args.given.now.hosts.now c.args.key c.args.was.now c.requires.between c.requires.was
 
+pub reconcile_node-push_face-requires : goal.reconcile_node-push_face-requires
+reconcile_node-push_face-requires g t c = record {
+  stays = Whole.text_stays (g.O.Look.forest c.args.before.now) (g.N.Look.forest c.args.after.now) (marking c.args.given.now.marks.now) c.args.given.now.hosts.now c.args.key 0 c.args.was.now c.args.now.now [] c.requires.between c.requires.was c.requires.now;
+}
+
 pub reconcile_node-make_moves-requires : goal.reconcile_node-make_moves-requires
 reconcile_node-make_moves-requires g t c =
     let old = g.O.Look.forest c.args.before.now in
