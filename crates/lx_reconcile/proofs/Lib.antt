@@ -3,6 +3,7 @@ pub mod Attached
 pub mod Cases
 pub mod Changed
 pub mod Children
+pub mod CountedNodes
 pub mod Covered
 pub mod Created
 pub mod Due

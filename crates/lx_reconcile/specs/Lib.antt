@@ -1,5 +1,6 @@
 pub mod Allowing
 pub mod Changing
+pub mod Counting
 pub mod Created
 pub mod Handled
 pub mod Making

@@ -62,7 +62,8 @@ ghost use Rattle.lx_forest.specs.Lookups.{alone, has};
 /// the view to one of that tree, keep the host of each node that stays below the same parent with the same element, and
 /// are about the hosts of marked nodes and of their children alone, and new ones. Nodes without marks, and all below them,
 /// are skipped: the two readers count at most 8 reads for each child that a marked node has in either tree, for each
-/// node that isn't kept, and for one more. The new hosts' ids go on from the view's next one.
+/// node that isn't kept, and for one more. The new hosts' ids go on from the view's next one; `unkept` tells how many
+/// they can be.
 pub fn operations<'a, R: Records<'a>>(
     alloc: Global,
     before: &mut R,

@@ -2,6 +2,7 @@
 #![tactic(auto)]
 
 mod batch;
+mod counting;
 mod creation;
 mod faces;
 mod looks;
@@ -12,6 +13,7 @@ mod views;
 mod walking;
 
 pub use batch::{Batch, operations};
+pub use counting::unkept;
 pub use creation::{create_children, create_tree};
 pub use looks::{Look, Looked, Reads};
 pub use moves::Move;

@@ -53,6 +53,8 @@ pub trait Look<S> {
     fn look(source: &mut S, key: Key) -> Option<Self::Item>
         ensures found { has key (forest source.old) ≡ true → option_map Self.Item.lent result ≡ option_map node_of (record_at (forest source.old) key) }
         ensures sound { Sound (forest source.old) }
+        ensures whole_found { option_map Self.Item.lent result ≡ option_map node_of (record_at (whole source.old) key) }
+        ensures whole_sound { Sound (whole source.old) }
         ensures same { forest source.new ≡ forest source.old }
         ensures reads { count source.new ≤ count source.old + 1 }
         ensures lag { lag source.new ≤ lag source.old }

@@ -112,7 +112,7 @@ fn child_keys<S, L: Look<S>>(
 }
 
 /// Whether a node is shown by the same element as before.
-fn has_same_tag(was: &Node, now: &Node) -> bool
+pub(crate) fn has_same_tag(was: &Node, now: &Node) -> bool
     ensures { IsTrue result ↔ (shown.tag_of was.now.kind was.now.fields ≡ shown.tag_of now.now.kind now.now.fields) }
 {
     tag_of(was.kind, &was.fields) == tag_of(now.kind, &now.fields)
