@@ -23,6 +23,7 @@ pub mod Reading
 pub mod Shown
 pub mod Skipped
 pub mod StartEnd
+pub mod Staying
 pub mod Steps
 pub mod Texts
 pub mod Touched
