@@ -10,7 +10,7 @@ use Rattle.lx_cli.specs.declared.reading.Stop.{Stop}
 use Rattle.lx_cli.specs.declared.reading.Stop.TheVariants.{End, ReadFault, WriteFault, Memory, TooLong}
 use Rattle.lx_cli.specs.Lines.{ended, unended}
 use Rattle.lx_cli.specs.Run.{SourceSeen, SinkSeen}
-use Rattle.lx_cli.specs.Steps.{AreUnanswered, AreTaken, IsUnended, AreBrokenOff, Moment, GoesOn, IsUnanswered, Stops}
+use Rattle.lx_cli.specs.Steps.{AreUnanswered, AreTaken, IsUnended, AreBrokenOff, Moment, ReadsOn, IsUnanswered, Stops}
 use Rattle.lx_cli.proofs.Lines.{ended-append, length-ended-le, IsUnended-unended}
 use Rattle.lx_cli.proofs.Devices.{Consumes-none, IsCounted-within, AreRead-none, AreRead-append, AreReadToEnd-append, AreBrokenOff-append}
 use Rattle.lx_cli.proofs.Answering.{AreUnanswered-later}
@@ -50,7 +50,7 @@ IsUnanswered-one why may_come count within into a b some fits most le consumes f
   unanswered = AreUnanswered-longer why a.session.editor a.sink b.sink a.session.pending.items into within count le unanswered;
 }
 
-pub GoesOn-none : (may_come : ℕ) (a : Moment) → IsUnended a.session.pending.items → GoesOn may_come [] a a
+pub GoesOn-none : (may_come : ℕ) (a : Moment) → IsUnended a.session.pending.items → ReadsOn may_come [] a a
 GoesOn-none may_come a h = record {
   within = omega arith;
   source = AreRead-none a.source;
@@ -58,7 +58,7 @@ GoesOn-none may_come a h = record {
 }
 
 pub GoesOn-append : (a b c : Moment) (all left : ℕ) (xs ys : List ℕ) → length xs + left ≡ all
-    → GoesOn all xs a b → GoesOn left ys b c → GoesOn all (xs ++ ys) a c
+    → ReadsOn all xs a b → ReadsOn left ys b c → ReadsOn all (xs ++ ys) a c
 GoesOn-append a b c all left xs ys e p q = record {
   within = omega (arith, length-append xs ys, q.within);
   source = AreRead-append a.source b.source c.source xs ys p.source q.source;
@@ -66,7 +66,7 @@ GoesOn-append a b c all left xs ys e p q = record {
 }
 
 pub IsUnanswered-behind : (why : Unanswered) (a b c : Moment) (all left : ℕ) (xs ys : List ℕ) → length xs + left ≡ all
-    → GoesOn all xs a b → IsUnanswered why left ys b c → IsUnanswered why all (xs ++ ys) a c
+    → ReadsOn all xs a b → IsUnanswered why left ys b c → IsUnanswered why all (xs ++ ys) a c
 IsUnanswered-behind why a b c all left xs ys e p q = record {
   within = omega (arith, length-append xs ys, q.within);
   source = AreRead-append a.source b.source c.source xs ys p.source q.source;
@@ -74,7 +74,7 @@ IsUnanswered-behind why a b c all left xs ys e p q = record {
 }
 
 pub Stops-behind : (stop : Stop) (a b c : Moment) (all left : ℕ) (xs ys : List ℕ) → length xs + left ≡ all
-    → GoesOn all xs a b → Stops stop left ys b c → Stops stop all (xs ++ ys) a c
+    → ReadsOn all xs a b → Stops stop left ys b c → Stops stop all (xs ++ ys) a c
 Stops-behind End a b c all left xs ys e p q = record {
   within = omega (arith, length-append xs ys, q.within);
   source = AreReadToEnd-append a.source b.source c.source xs ys p.source q.source;
@@ -97,13 +97,13 @@ Stops-behind TooLong a b c all left xs ys e p q = record {
 }
 
 -- the numbers that the editor has given out, and those that the bytes still may want
-pub commits-behind : (a b : Moment) (all left : ℕ) (xs : List ℕ) → length xs + left ≡ all → GoesOn all xs a b
+pub commits-behind : (a b : Moment) (all left : ℕ) (xs : List ℕ) → length xs + left ≡ all → ReadsOn all xs a b
     → b.session.editor.commits + length b.session.pending.items + left
     ≤ a.session.editor.commits + length a.session.pending.items + all
 commits-behind a b all left xs e p =
     let waits = a.session.pending.items in
     omega (arith, length-ended-le (waits ++ xs), length-append waits xs, ap length p.taken.waiting, p.taken.answered.commits)
 
-pub IsUnended-behind : (a b : Moment) (all : ℕ) (xs : List ℕ) → GoesOn all xs a b → IsUnended b.session.pending.items
+pub IsUnended-behind : (a b : Moment) (all : ℕ) (xs : List ℕ) → ReadsOn all xs a b → IsUnended b.session.pending.items
 IsUnended-behind a b all xs p =
     subst IsUnended (sym p.taken.waiting) (IsUnended-unended (a.session.pending.items ++ xs))

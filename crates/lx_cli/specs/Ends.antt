@@ -3,13 +3,13 @@ use Rattle.std.specs.Prelude.{ℕ, List, Option, None, Some, codes}
 use Rattle.lx_cli.specs.declared.status.Status.{Status}
 use Rattle.lx_cli.specs.declared.status.Status.TheVariants.{Done, Usage, ReadFault, WriteFault, Memory, InputTooLong}
 
-abbrev pub number_of : Status → ℕ
-number_of Done = 0
-number_of Usage = 2
-number_of ReadFault = 3
-number_of WriteFault = 4
-number_of Memory = 5
-number_of InputTooLong = 6
+abbrev pub number_of_status : Status → ℕ
+number_of_status Done = 0
+number_of_status Usage = 2
+number_of_status ReadFault = 3
+number_of_status WriteFault = 4
+number_of_status Memory = 5
+number_of_status InputTooLong = 6
 
 -- what is said of a run that isn't done
 abbrev pub message_of : Status → Option (List ℕ)

@@ -122,7 +122,7 @@ pub record Moment : Type 0 where
   pub sink : SinkSeen
 
 -- These bytes, no more than may come, were read and taken.
-pub record GoesOn (may_come : ℕ) (bytes : List ℕ) (old new : Moment) : Type 0 where
+pub record ReadsOn (may_come : ℕ) (bytes : List ℕ) (old new : Moment) : Type 0 where
   pub within : length bytes ≤ may_come
   pub source : AreRead bytes old.source new.source
   pub taken : AreTaken bytes old.session new.session old.sink new.sink
@@ -168,7 +168,7 @@ pub record GoesOnBy (count may_come : ℕ) (old new : Moment) : Type 0 where
   pub some : 0 < count
   pub bytes : List ℕ
   pub counted : length bytes ≡ count
-  pub goes_on : GoesOn may_come bytes old new
+  pub goes_on : ReadsOn may_come bytes old new
 
 -- No more is read, behind some bytes.
 pub record HasStopped (stop : Stop) (may_come : ℕ) (old new : Moment) : Type 0 where

@@ -17,11 +17,11 @@ pub enum Status {
 
 impl Status {
     ghost use Rattle.std.specs.Prelude.{◌≡◌, option_copied};
-    ghost use Rattle.lx_cli.specs.Ends.{number_of, message_of};
+    ghost use Rattle.lx_cli.specs.Ends.{number_of_status, message_of};
 
     /// The number that the process ends with.
     pub fn number(self) -> u8
-        ensures { result ≡ number_of self }
+        ensures { result ≡ number_of_status self }
     {
         match self {
             Status::Done => 0,

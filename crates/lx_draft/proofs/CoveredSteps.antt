@@ -20,7 +20,7 @@ use Rattle.lx_draft.specs.Working.{Working}
 use Rattle.lx_draft.specs.Marking.{near, mark_nodes, marked_in}
 use Rattle.lx_draft.specs.Selecting.{select_fault}
 use Rattle.lx_draft.specs.Faults.{over_counts, over_limits, put_fault, label_fault, splice_fault}
-use Rattle.lx_draft.specs.Steps.{counted_up, count_step, edited, wrote, made, new_step, differ, marked_if, refielded, set_points, set_step, label_with_piece, splice_points, splice_step, taken, take_step, placed, put_step, mark_step, mark_uncounted_step, select_step}
+use Rattle.lx_draft.specs.Steps.{counted_up, count_step, edited, wrote, made, new_step, differ, marked_if, fields_written, set_points, set_step, label_with_piece, splice_points, splice_step, node_taken, take_step, node_placed, put_step, mark_step, mark_uncounted_step, select_step}
 use Rattle.lx_draft.specs.Covering.{KindsStay, IsReady, AreCovered, IsCovering}
 use Rattle.lx_draft.specs.Laws.{DraftsAreCovered}
 use Rattle.lx_draft.proofs.Put.{both_none, can_put}
@@ -125,14 +125,14 @@ covered-refielded_if false k fields more selection w r there e =
     let v : Working = record (wrote more w) { forest = with_fields k fields w.forest; selection = selection } in
     covered w v w.forest [] r.in_order (told_equal k fields w.forest e) (kinds_set k fields w.forest) (kinds_set k fields w.forest) refl refl (set_ready k fields w v r refl refl)
 
-covered-refielded : (k : ℕ) (fields : Fields) (more : ℕ) (moved : Selection → Selection) (w : Working) → IsReady w → has k w.forest ≡ true → AreCovered w (refielded k fields more moved w)
+covered-refielded : (k : ℕ) (fields : Fields) (more : ℕ) (moved : Selection → Selection) (w : Working) → IsReady w → has k w.forest ≡ true → AreCovered w (fields_written k fields more moved w)
 covered-refielded k fields more moved w r there =
     covered-refielded_if (differ (fields_of w.forest k) fields) k fields more (moved w.selection) w r there refl
 
 pub covered-set : (k : ℕ) (fields : Fields) → IsCovering (set_step k fields)
 unfolding set_step
 covered-set k fields w v r e =
-    covered-answer w v (refielded k fields (characters_of fields) (set_points k fields) w) (option_or (set_fault k fields w.forest) (over_limits (characters_of fields) w)) e (λ none.
+    covered-answer w v (fields_written k fields (characters_of fields) (set_points k fields) w) (option_or (set_fault k fields w.forest) (over_limits (characters_of fields) w)) e (λ none.
     covered-refielded k fields (characters_of fields) (set_points k fields) w r
     (known_first w.forest k (wrong_fields (kind_of w.forest k) fields) ((both_none (set_fault k fields w.forest) (over_limits (characters_of fields) w) none).0)))
 
@@ -140,7 +140,7 @@ pub covered-splice : (k from to : ℕ) (new : List ℕ) → IsCovering (splice_s
 unfolding splice_step
 covered-splice k from to new w v r e =
     let fields : Fields = label_with_piece (label_of w.forest k) from to new in
-    covered-answer w v (refielded k fields (length new) (splice_points k from to new) w) (option_or (splice_fault k from to w.forest) (over_limits (length new) w)) e (λ none.
+    covered-answer w v (fields_written k fields (length new) (splice_points k from to new) w) (option_or (splice_fault k from to w.forest) (over_limits (length new) w)) e (λ none.
     covered-refielded k fields (length new) (splice_points k from to new) w r
     (known_first w.forest k (label_fault (label_of w.forest k) from to) ((both_none (splice_fault k from to w.forest) (over_limits (length new) w) none).0)))
 
@@ -149,9 +149,9 @@ covered-splice k from to new w v r e =
 kinds_take : (k : ℕ) (f : Forest) → IsForest f → KindsStay f (take_out k f)
 kinds_take k f h = record { each = λ q kind e. kind_of-take_out k f q h ∙ e }
 
-covered-taken : (k : ℕ) (w : Working) → IsReady w → has k w.forest ≡ true → AreCovered w (taken k w)
+covered-taken : (k : ℕ) (w : Working) → IsReady w → has k w.forest ≡ true → AreCovered w (node_taken k w)
 covered-taken k w r there =
-    covered w (taken k w) w.forest (near w.forest k) r.in_order (told_take k w.forest r.in_order there) (kinds_take k w.forest r.in_order) (kinds_take k w.forest r.in_order) refl refl (record {
+    covered w (node_taken k w) w.forest (near w.forest k) r.in_order (told_take k w.forest r.in_order there) (kinds_take k w.forest r.in_order) (kinds_take k w.forest r.in_order) refl refl (record {
       in_order = IsForest-take_out k w.forest r.in_order;
       free = λ q e. free_still w (take_out k w.forest) q r e (count-take_out q k w.forest);
     })
@@ -159,14 +159,14 @@ covered-taken k w r there =
 pub covered-take : (k : ℕ) → IsCovering (take_step k)
 unfolding take_step
 covered-take k w v r e =
-    covered-answer w v (taken k w) (option_or (detach_fault k w.forest) (over_counts w)) e (λ none.
+    covered-answer w v (node_taken k w) (option_or (detach_fault k w.forest) (over_counts w)) e (λ none.
     covered-taken k w r (known_first w.forest k (not_below w.forest k) ((both_none (detach_fault k w.forest) (over_counts w) none).0)))
 
-covered-placed : (k p index : ℕ) (w : Working) → IsReady w → put_fault k p index w.forest ≡ None → AreCovered w (placed k p index w)
+covered-placed : (k p index : ℕ) (w : Working) → IsReady w → put_fault k p index w.forest ≡ None → AreCovered w (node_placed k p index w)
 covered-placed k p index w r none =
     let before : Option ℕ = slice_get (children_of w.forest p) index in
     let can = can_put w.forest k p index none in
-    covered w (placed k p index w) (put_in p before k w.forest) (near (put_in p before k w.forest) k) (IsForest-put_in p before k w.forest r.in_order can)
+    covered w (node_placed k p index w) (put_in p before k w.forest) (near (put_in p before k w.forest) k) (IsForest-put_in p before k w.forest r.in_order can)
     (told_put p before k w.forest r.in_order can (index_place (children_of w.forest p) before index refl)) (record { each = λ q kind e. kind_of-put_in p before k w.forest q r.in_order can ∙ e }) (kinds_at (put_in p before k w.forest) (put_in p before k w.forest) refl) refl refl (record {
       in_order = IsForest-put_in p before k w.forest r.in_order can;
       free = λ q e. free_still w (put_in p before k w.forest) q r e (count-put_in q p before k w.forest r.in_order can.parent can.outside);
@@ -175,7 +175,7 @@ covered-placed k p index w r none =
 pub covered-put : (k p index : ℕ) → IsCovering (put_step k p index)
 unfolding put_step
 covered-put k p index w v r e =
-    covered-answer w v (placed k p index w) (option_or (put_fault k p index w.forest) (over_counts w)) e (λ none.
+    covered-answer w v (node_placed k p index w) (option_or (put_fault k p index w.forest) (over_counts w)) e (λ none.
     covered-placed k p index w r ((both_none (put_fault k p index w.forest) (over_counts w) none).0))
 
 -- ---- all of them

@@ -3,7 +3,7 @@ use Rattle.std.proofs.Common.{◌≡◌, ◌∙◌, ℕ, Bool, true, false, cond
 use Rattle.std.proofs.lemmas.Bool.Decides.{eqb_tells}
 use Rattle.lx_node.specs.Kinds.{is_element}
 use Rattle.lx_node.specs.declared.kind.Kind.{Kind}
-use Rattle.lx_marks.specs.Marks.{Marked, flag_in, is_true_flag, with_leaf, with_element}
+use Rattle.lx_marks.specs.Marks.{Marked, flag_in, is_true_flag, with_leaf, with_marked}
 use Rattle.lx_marks.proofs.Flags.{flag_in-flagged}
 use Rattle.lx_marks.proofs.Told.{true_flag-either}
 use Rattle.lx_forest.specs.Forest.{Forest}
@@ -11,8 +11,8 @@ use Rattle.lx_forest.specs.Lookups.{kind_of, ancestors}
 use Rattle.lx_draft.specs.Marking.{mark_above, mark_itself, mark_node, mark_nodes}
 use Rattle.lx_draft.specs.Covering.{is_element_in, KindsStay, AreElements}
 
-flag-element : (k : ℕ) (flag : Bool) (m : Marked) (q : ℕ) → is_true_flag (flag_in (with_element k flag m).elements q) ≡ (is_true_flag (flag_in m.elements q) || (eqb q k && flag))
-unfolding with_element
+flag-element : (k : ℕ) (flag : Bool) (m : Marked) (q : ℕ) → is_true_flag (flag_in (with_marked k flag m).elements q) ≡ (is_true_flag (flag_in m.elements q) || (eqb q k && flag))
+unfolding with_marked
 flag-element k flag m q =
     grind (arith, flag_in-flagged k flag m.elements q, true_flag-either (flag_in m.elements q) (Some flag))
 
@@ -22,7 +22,7 @@ flag-leaf k m q = refl
 
 flag-above : (ks : List ℕ) (m : Marked) (q : ℕ) → is_true_flag (flag_in (mark_above ks m).elements q) ≡ is_true_flag (flag_in m.elements q)
 flag-above [] m q = refl
-flag-above (k ∷ ks) m q = flag-above ks (with_element k false m) q ∙ flag-element k false m q ∙ none (is_true_flag (flag_in m.elements q)) (eqb q k) where
+flag-above (k ∷ ks) m q = flag-above ks (with_marked k false m) q ∙ flag-element k false m q ∙ none (is_true_flag (flag_in m.elements q)) (eqb q k) where
   none : (a b : Bool) → (a || (b && false)) ≡ a
   none a b = grind arith
 
@@ -31,7 +31,7 @@ flag-itself None k m q = none (is_true_flag (flag_in m.elements q)) (eqb q k) wh
   none : (a b : Bool) → a ≡ (a || (b && false))
   none a b = grind arith
 flag-itself (Some kind) k m q = by_kind (is_element kind) where
-  by_kind : (b : Bool) → is_true_flag (flag_in (cond b (with_element k true m) (with_leaf k m)).elements q) ≡ (is_true_flag (flag_in m.elements q) || (eqb q k && b))
+  by_kind : (b : Bool) → is_true_flag (flag_in (cond b (with_marked k true m) (with_leaf k m)).elements q) ≡ (is_true_flag (flag_in m.elements q) || (eqb q k && b))
   by_kind true = flag-element k true m q
   by_kind false = flag-leaf k m q ∙ grind arith
 

@@ -12,12 +12,12 @@ use Rattle.lx_forest.specs.Forest.{Forest, Label}
 use Rattle.lx_forest.specs.Lookups.{has, count, IsForest}
 use Rattle.lx_forest.specs.Edits.{with_new, with_fields, take_out, put_in, CanPut}
 use Rattle.lx_forest.proofs.Edits.{count-with_new, count-with_fields, count-take_out, count-put_in, total-with_new, total-with_fields, total-take_out, total-put_in}
-use Rattle.lx_links.specs.Faults.{Refuses}
+use Rattle.lx_links.specs.Faults.{RefusesEdit}
 use Rattle.lx_node.specs.Limits.{most_nodes}
 use Rattle.lx_draft.specs.Working.{Working, IsWorking, HasRoom}
 
 -- a call of links after which a cause can't be, as there was none before
-pub after_call : (r : Result Unit Fault) (old new made : Forest) (first : Option Cause) → first ≡ None → OnOk r ((first ≡ None) × (new ≡ made)) → IfErr r (Refuses old first new) → (new ≡ made) ⊎ (new ≡ nil)
+pub after_call : (r : Result Unit Fault) (old new made : Forest) (first : Option Cause) → first ≡ None → OnOk r ((first ≡ None) × (new ≡ made)) → IfErr r (RefusesEdit old first new) → (new ≡ made) ⊎ (new ≡ nil)
 after_call (Ok u) old new made first none ok err = inl ok.1
 after_call (Err (fault.Cause cause)) old new made first none ok err = absurd (grind (arith, none, err.1))
 after_call (Err fault.Memory) old new made first none ok err = inr err.1
@@ -58,7 +58,7 @@ working_set w k fields h =
     working_with w (with_fields k fields w.forest) h (λ q. count-with_fields q k fields w.forest) (total-with_fields k fields w.forest)
 
 -- so where such a call answers an error, the links have failed
-pub after_error : (r : Result Unit Fault) (old new : Forest) (first : Option Cause) → first ≡ None → IfErr r (Refuses old first new) → OnErr r (new ≡ nil)
+pub after_error : (r : Result Unit Fault) (old new : Forest) (first : Option Cause) → first ≡ None → IfErr r (RefusesEdit old first new) → OnErr r (new ≡ nil)
 after_error (Ok u) old new first none err = tt
 after_error (Err (fault.Cause cause)) old new first none err = absurd (grind (arith, none, err.1))
 after_error (Err fault.Memory) old new first none err = err.1

@@ -6,7 +6,7 @@ use Rattle.std.proofs.lemmas.Bool.Decides.{eqb_tells}
 use Rattle.lx_node.specs.Kinds.{is_element}
 use Rattle.lx_node.specs.declared.kind.Kind.{Kind}
 use Rattle.lx_node.specs.declared.fields.Fields.{Fields}
-use Rattle.lx_marks.specs.Marks.{Marked, flag_in, flagged, is_noted, with_leaf, with_element}
+use Rattle.lx_marks.specs.Marks.{Marked, flag_in, flagged, is_noted, with_leaf, with_marked}
 use Rattle.lx_marks.proofs.Flags.{flag_in-flagged}
 use Rattle.lx_marks.proofs.Told.{noted-element, is_some-flagged}
 use Rattle.lx_forest.specs.Forest.{Forest, Label}
@@ -17,13 +17,13 @@ use Rattle.lx_forest.proofs.Walks.{cases_option, ancestors-top, ancestors-step}
 use Rattle.lx_links.specs.Stands.{Sound}
 use Rattle.lx_links.proofs.Up.{in_order}
 use Rattle.lx_draft.specs.Marking.{mark_above, mark_itself}
-use Rattle.lx_draft.specs.Raised.{is_listed, IsRaisedBut, IsRaised}
+use Rattle.lx_draft.specs.Raised.{is_element_listed, IsRaisedBut, IsRaised}
 use Rattle.lx_draft.proofs.Touched.{noted-itself}
 
 -- ---- an element more
 
-listed-element : (k : ℕ) (flag : Bool) (m : Marked) (q : ℕ) → is_listed (with_element k flag m) q ≡ (is_listed m q || eqb q k)
-unfolding with_element
+listed-element : (k : ℕ) (flag : Bool) (m : Marked) (q : ℕ) → is_element_listed (with_marked k flag m) q ≡ (is_element_listed m q || eqb q k)
+unfolding with_marked
 listed-element k flag m q = grind (arith, flag_in-flagged k flag m.elements q, is_some-flagged (flag_in m.elements q) flag, eqb_tells q k)
 
 or_false : (e : ℕ × Bool) → (e.0, e.1 || false) ≡ e
@@ -39,15 +39,15 @@ flagged-again k (x ∷ es) e = elim (eqb_tells k x.0) [
 ]
 
 -- an element that is there stays as it is
-pub element-again : (k : ℕ) (m : Marked) → is_listed m k ≡ true → with_element k false m ≡ m
-unfolding with_element
+pub element-again : (k : ℕ) (m : Marked) → is_element_listed m k ≡ true → with_marked k false m ≡ m
+unfolding with_marked
 element-again k m e = ap (λ es. record { leaves = m.leaves; elements = es }) (flagged-again k m.elements e)
 
-listed_leaf : (k : ℕ) (m : Marked) (q : ℕ) → is_listed (with_leaf k m) q ≡ is_listed m q
+listed_leaf : (k : ℕ) (m : Marked) (q : ℕ) → is_element_listed (with_leaf k m) q ≡ is_element_listed m q
 unfolding with_leaf
 listed_leaf k m q = refl
 
-listed_noted : (m : Marked) (q : ℕ) → is_listed m q ≡ true → is_noted m q ≡ true
+listed_noted : (m : Marked) (q : ℕ) → is_element_listed m q ≡ true → is_noted m q ≡ true
 listed_noted m q e = grind (arith, e)
 
 -- ---- up
@@ -57,18 +57,18 @@ above-again zero f q m h up noted short = absurd (omega (arith, short))
 above-again (suc n) f q m h up noted short = elim (cases_option (parent_of f q)) [
   | inl none ↦ ap (λ ks. mark_above ks m) (ancestors-top f q none)
   | inr (p, some) ↦
-      let listed : is_listed m p ≡ true = up q p noted some in
+      let listed : is_element_listed m p ≡ true = up q p noted some in
       let step : ancestors f q ≡ p ∷ ancestors f p = ancestors-step f q p h some in
       ap (λ ks. mark_above ks m) step ∙ ap (mark_above (ancestors f p)) (element-again p m listed)
       ∙ above-again n f p m h up (listed_noted m p listed) (omega (arith, short, ap length step))
 ]
 
 -- the walk up may end where the parent is there
-pub above-met : (f : Forest) (q p : ℕ) (m : Marked) → Sound f → IsRaisedBut f q m → parent_of f q ≡ Some p → is_listed m p ≡ true → (mark_above (ancestors f q) m ≡ m) × IsRaised f m
+pub above-met : (f : Forest) (q p : ℕ) (m : Marked) → Sound f → IsRaisedBut f q m → parent_of f q ≡ Some p → is_element_listed m p ≡ true → (mark_above (ancestors f q) m ≡ m) × IsRaised f m
 above-met f q p m s up some listed =
     let h : IsForest f = in_order f q p s some in
     let all : IsRaised f m = λ x y noted at. elim (cases_eq x q) [
-      | inl own ↦ ap (is_listed m) (same_parent f x q p y own some at) ∙ listed
+      | inl own ↦ ap (is_element_listed m) (same_parent f x q p y own some at) ∙ listed
       | inr other ↦ up x y noted other at
     ] in (
       ap (λ ks. mark_above ks m) (ancestors-step f q p h some) ∙ ap (mark_above (ancestors f p)) (element-again p m listed)
@@ -86,13 +86,13 @@ above-top f q m up none = λ x y noted at. elim (cases_eq x q) [
 ]
 
 -- or else it goes on from the parent
-pub above-more : (f : Forest) (q p : ℕ) (m n : Marked) → IsRaisedBut f q m → parent_of f q ≡ Some p → n ≡ with_element p false m → IsRaisedBut f p n
+pub above-more : (f : Forest) (q p : ℕ) (m n : Marked) → IsRaisedBut f q m → parent_of f q ≡ Some p → n ≡ with_marked p false m → IsRaisedBut f p n
 above-more f q p m n up some e = subst (IsRaisedBut f p) (sym e) (λ x y noted other at.
     listed-element p false m y ∙ elim (cases_eq x q) [
       | inl own ↦ let h : Some y ≡ Some p = sym at ∙ ap (parent_of f) own ∙ some in let same : y ≡ p = cc in grind (arith, same, eqb_tells y p)
       | inr apart ↦ grind (arith, up x y (was x noted other) apart at)
     ]) where
-      was : (x : ℕ) → is_noted (with_element p false m) x ≡ true → x ≢ p → is_noted m x ≡ true
+      was : (x : ℕ) → is_noted (with_marked p false m) x ≡ true → x ≢ p → is_noted m x ≡ true
       was x noted other = grind (arith, noted, noted-element p false m x, eqb_tells x p, other)
 
 -- ---- a node marked
@@ -100,11 +100,11 @@ above-more f q p m n up some e = subst (IsRaisedBut f p) (sym e) (λ x y noted o
 -- a node that is marked itself needs its parent there
 pub raised_itself : (f : Forest) (o : Option Kind) (k : ℕ) (m n : Marked) → IsRaisedBut f k m → n ≡ mark_itself o k m → IsRaisedBut f k n
 raised_itself f o k m n up e = subst (IsRaisedBut f k) (sym e) (λ x y noted other at. still o k m y (up x y (grind (arith, noted, noted-itself o k m x, eqb_tells x k, other)) other at)) where
-  still_by : (element : Bool) (k : ℕ) (m : Marked) (y : ℕ) → is_listed m y ≡ true → is_listed (cond element (with_element k true m) (with_leaf k m)) y ≡ true
+  still_by : (element : Bool) (k : ℕ) (m : Marked) (y : ℕ) → is_element_listed m y ≡ true → is_element_listed (cond element (with_marked k true m) (with_leaf k m)) y ≡ true
   still_by true k m y e = listed-element k true m y ∙ grind (arith, e)
   still_by false k m y e = listed_leaf k m y ∙ e
 
-  still : (o : Option Kind) (k : ℕ) (m : Marked) (y : ℕ) → is_listed m y ≡ true → is_listed (mark_itself o k m) y ≡ true
+  still : (o : Option Kind) (k : ℕ) (m : Marked) (y : ℕ) → is_element_listed m y ≡ true → is_element_listed (mark_itself o k m) y ≡ true
   still None k m y e = e
   still (Some kind) k m y e = still_by (is_element kind) k m y e
 

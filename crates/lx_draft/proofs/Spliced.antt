@@ -12,7 +12,7 @@ use Rattle.lx_node.specs.declared.cause.Cause.TheVariants.{UnknownNode, WrongKin
 use Rattle.lx_node.specs.declared.cause.Named.TheVariants.{Key}
 use Rattle.lx_node.specs.declared.cause.Fault.{Fault}
 use Rattle.lx_node.specs.declared.cause.Fault.TheVariants as the_fault
-use Rattle.lx_text.specs.Texts.{slice_fault, Tells}
+use Rattle.lx_text.specs.Texts.{slice_fault, TellsFirst}
 use Rattle.lx_forest.specs.Forest.{Forest, Label}
 use Rattle.lx_forest.specs.Lookups.{spot, label_of}
 use Rattle.lx_node.specs.declared.node.Node.{Node}
@@ -22,7 +22,7 @@ use Rattle.lx_links.specs.Stands.{node_of}
 use Rattle.lx_forest.proofs.Edits.{is_some-spot}
 use Rattle.lx_links.specs.Faults.{unknown, set_fault}
 use Rattle.lx_draft.specs.Faults.{text_fields, text_in, splice_fault, TellsFault}
-use Rattle.lx_draft.specs.Steps.{with_text}
+use Rattle.lx_draft.specs.Steps.{text_replaced}
 
 -- ---- by the node
 
@@ -60,19 +60,19 @@ pub fault_of_text : (f : Forest) (k : ℕ) (t : TextFields) (from to : ℕ) → 
 fault_of_text f k t from to here = fault_by f k (label_of f k) t from to refl here
 
 -- fields that are a text's are of its kind with any other text too
-suited_text : (k : Kind) (x : Fields) (t : TextFields) (text : List ℕ) → text_fields k x ≡ Some t → IsOfKind kind.Text (fields.Text t) → is_of_kind k (with_text t text) ≡ true
+suited_text : (k : Kind) (x : Fields) (t : TextFields) (text : List ℕ) → text_fields k x ≡ Some t → IsOfKind kind.Text (fields.Text t) → is_of_kind k (text_replaced t text) ≡ true
 unfolding is_of_kind fits_kind is_text_of are_text_fields is_possible
 suited_text kind.Text (fields.Text u) t text here h = grind (arith, here, h)
 suited_text k x t text here h = absurd (grind (arith, here))
 
-set_by : (f : Forest) (k : ℕ) (o : Option Label) (t : TextFields) (text : List ℕ) → label_of f k ≡ o → text_in o ≡ Some t → IsOfKind kind.Text (fields.Text t) → set_fault k (with_text t text) f ≡ None
+set_by : (f : Forest) (k : ℕ) (o : Option Label) (t : TextFields) (text : List ℕ) → label_of f k ≡ o → text_in o ≡ Some t → IsOfKind kind.Text (fields.Text t) → set_fault k (text_replaced t text) f ≡ None
 set_by f k None t text e here h = absurd (grind (arith, here))
 set_by f k (Some l) t text e here h = rw (known_with_label f k l e, e, suited_text l.kind l.fields t text here h) refl
 
-pub set_of_text : (f : Forest) (k : ℕ) (t : TextFields) (text : List ℕ) → text_in (label_of f k) ≡ Some t → IsOfKind kind.Text (fields.Text t) → set_fault k (with_text t text) f ≡ None
+pub set_of_text : (f : Forest) (k : ℕ) (t : TextFields) (text : List ℕ) → text_in (label_of f k) ≡ Some t → IsOfKind kind.Text (fields.Text t) → set_fault k (text_replaced t text) f ≡ None
 set_of_text f k t text here h = set_by f k (label_of f k) t text refl here h
 
 -- what an error of the text's own call tells
-pub piece_refused : (f : Forest) (k : ℕ) (t : TextFields) (from to : ℕ) (fault : Fault) → text_in (label_of f k) ≡ Some t → Tells (slice_fault t.text from to) fault → TellsFault fault (splice_fault k from to f)
+pub piece_refused : (f : Forest) (k : ℕ) (t : TextFields) (from to : ℕ) (fault : Fault) → text_in (label_of f k) ≡ Some t → TellsFirst (slice_fault t.text from to) fault → TellsFault fault (splice_fault k from to f)
 piece_refused f k t from to (the_fault.Cause cause) here told = fault_of_text f k t from to here ∙ told
 piece_refused f k t from to the_fault.Memory here told = tt

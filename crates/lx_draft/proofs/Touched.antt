@@ -8,7 +8,7 @@ use Rattle.lx_node.specs.Kinds.{is_element}
 use Rattle.lx_node.specs.Spots.{Spot}
 use Rattle.lx_node.specs.declared.kind.Kind.{Kind}
 use Rattle.lx_node.proofs.Subtrees.{count-alone-le}
-use Rattle.lx_marks.specs.Marks.{Marked, is_touched, is_noted, with_leaf, with_element}
+use Rattle.lx_marks.specs.Marks.{Marked, is_touched, is_noted, with_leaf, with_marked}
 use Rattle.lx_marks.proofs.Told.{touched-leaf, touched-element, noted-leaf, noted-element}
 use Rattle.lx_forest.specs.Forest.{Forest, Label}
 use Rattle.lx_forest.specs.Lookups.{has, spot, key_of, kind_of, parent_of, ancestors, is_within, IsForest}
@@ -23,8 +23,8 @@ use Rattle.lx_draft.specs.Marking.{mark_above, mark_itself, mark_node, mark_node
 touched-above : (ks : List ℕ) (m : Marked) (q : ℕ) → is_touched (mark_above ks m) q ≡ is_touched m q
 touched-above [] m q = refl
 touched-above (k ∷ ks) m q =
-    let rest : is_touched (mark_above ks (with_element k false m)) q ≡ is_touched (with_element k false m) q = touched-above ks (with_element k false m) q in
-    let own : is_touched (with_element k false m) q ≡ (is_touched m q || (eqb q k && false)) = touched-element k false m q in
+    let rest : is_touched (mark_above ks (with_marked k false m)) q ≡ is_touched (with_marked k false m) q = touched-above ks (with_marked k false m) q in
+    let own : is_touched (with_marked k false m) q ≡ (is_touched m q || (eqb q k && false)) = touched-element k false m q in
     rest ∙ own ∙ or_none (is_touched m q) (eqb q k) where
       or_none : (a b : Bool) → (a || (b && false)) ≡ a
       or_none a b = grind arith
@@ -34,7 +34,7 @@ noted-above [] m q = or_false (is_noted m q) where
   or_false : (a : Bool) → a ≡ (a || false)
   or_false a = grind arith
 noted-above (k ∷ ks) m q =
-    noted-above ks (with_element k false m) q
+    noted-above ks (with_marked k false m) q
     ∙ ap (λ b. b || is_among q ks) (noted-element k false m q)
     ∙ apart (is_noted m q) (eqb q k) (eqb k q) (is_among q ks) (same_test q k) where
       same_test : (a b : ℕ) → eqb a b ≡ eqb b a
@@ -43,13 +43,13 @@ noted-above (k ∷ ks) m q =
       apart : (a b c d : Bool) → b ≡ c → ((a || b) || d) ≡ (a || (c || d))
       apart a b c d e = grind (arith, e)
 
-touched-by : (element : Bool) (k : ℕ) (m : Marked) (q : ℕ) → is_touched (cond element (with_element k true m) (with_leaf k m)) q ≡ (is_touched m q || eqb q k)
+touched-by : (element : Bool) (k : ℕ) (m : Marked) (q : ℕ) → is_touched (cond element (with_marked k true m) (with_leaf k m)) q ≡ (is_touched m q || eqb q k)
 touched-by true k m q = touched-element k true m q ∙ and_true (is_touched m q) (eqb q k) where
   and_true : (a b : Bool) → (a || (b && true)) ≡ (a || b)
   and_true a b = grind arith
 touched-by false k m q = touched-leaf k m q
 
-noted-by : (element : Bool) (k : ℕ) (m : Marked) (q : ℕ) → is_noted (cond element (with_element k true m) (with_leaf k m)) q ≡ (is_noted m q || eqb q k)
+noted-by : (element : Bool) (k : ℕ) (m : Marked) (q : ℕ) → is_noted (cond element (with_marked k true m) (with_leaf k m)) q ≡ (is_noted m q || eqb q k)
 noted-by true k m q = noted-element k true m q
 noted-by false k m q = noted-leaf k m q
 

@@ -88,9 +88,9 @@ answer None a = Ok a
 answer (Some cause) a = Err cause
 
 -- An error of a call whose step is this: refused for the step's cause, or memory was wanting.
-abbrev pub Tells : {A : Type 0} → Fault → Result A Cause → Type 0
-Tells (fault.Cause cause) step = step ≡ Err cause
-Tells fault.Memory step = Unit {0}
+abbrev pub TellsStep : {A : Type 0} → Fault → Result A Cause → Type 0
+TellsStep (fault.Cause cause) step = step ≡ Err cause
+TellsStep fault.Memory step = Unit {0}
 
 -- What an error leaves of a draft: refused for a cause, it is as it was and hasn't failed; after want of memory it has failed
 -- and has no nodes.
@@ -100,9 +100,9 @@ Leaves fault.Memory old new = new.forest ≡ nil
 
 -- An error of a call that looks for what refuses an edit: the first cause, in a draft that hasn't failed, or the draft has
 -- failed.
-abbrev pub Stops : Fault → Option Cause → Working → Type 0
-Stops (fault.Cause cause) first w = (first ≡ Some cause) × (w.forest ≢ nil)
-Stops fault.Memory first w = w.forest ≡ nil
+abbrev pub StopsAt : Fault → Option Cause → Working → Type 0
+StopsAt (fault.Cause cause) first w = (first ≡ Some cause) × (w.forest ≢ nil)
+StopsAt fault.Memory first w = w.forest ≡ nil
 
 -- An error of a call that this is the first cause to refuse: refused for it, or memory was wanting.
 abbrev pub TellsFault : Fault → Option Cause → Type 0

@@ -49,12 +49,12 @@ abbrev pub tree_depth : Forest → ℕ
 tree_depth f = greatest (depth_at f) (preorder f)
 
 -- the scalar values in all strings of the tree
-abbrev pub characters_in : Option Fields → ℕ
-characters_in None = 0
-characters_in (Some fields) = characters_of fields
+abbrev pub characters_of_found : Option Fields → ℕ
+characters_of_found None = 0
+characters_of_found (Some fields) = characters_of fields
 
 abbrev pub characters_at : Forest → ℕ → ℕ
-characters_at f k = characters_in (fields_of f k)
+characters_at f k = characters_of_found (fields_of f k)
 
 abbrev pub tree_characters : Forest → ℕ
 tree_characters f = sum_by (characters_at f) (preorder f)

@@ -2,7 +2,7 @@
 use Rattle.std.specs.Prelude.{ℕ, true, false, if◌then◌else◌, List, [], ◌∷◌, Option, None, Some}
 use Rattle.lx_node.specs.Kinds.{is_element}
 use Rattle.lx_node.specs.declared.kind.Kind.{Kind}
-use Rattle.lx_marks.specs.Marks.{Marked, with_leaf, with_element}
+use Rattle.lx_marks.specs.Marks.{Marked, with_leaf, with_marked}
 use Rattle.lx_forest.specs.Forest.{Forest}
 use Rattle.lx_forest.specs.Lookups.{kind_of, parent_of, previous_of, next_of, ancestors}
 use Rattle.lx_draft.specs.Working.{Working}
@@ -10,12 +10,12 @@ use Rattle.lx_draft.specs.Working.{Working}
 -- ancestors, from the nearest: something below them is marked
 abbrev pub mark_above : List ℕ → Marked → Marked
 mark_above [] m = m
-mark_above (k ∷ ks) m = mark_above ks (with_element k false m)
+mark_above (k ∷ ks) m = mark_above ks (with_marked k false m)
 
 -- a leaf, or an element itself, if there is one
 abbrev pub mark_itself : Option Kind → ℕ → Marked → Marked
 mark_itself None k m = m
-mark_itself (Some kind) k m = if is_element kind then with_element k true m else with_leaf k m
+mark_itself (Some kind) k m = if is_element kind then with_marked k true m else with_leaf k m
 
 -- a node, and then its ancestors
 unfoldable pub mark_node : Forest → ℕ → Marked → Marked

@@ -80,12 +80,12 @@ select_fault (Cells table a b) f = cells_fault f table a b
 -- ---- what of a selection isn't in the tree any more
 
 -- a point lies in the forest: its node is one that it counts in, and it isn't behind the end
-abbrev pub fits_kind : PointKind → Option Kind → Bool
-fits_kind kind None = false
-fits_kind kind (Some found) = counts_in kind found
+abbrev pub is_counted_in : PointKind → Option Kind → Bool
+is_counted_in kind None = false
+is_counted_in kind (Some found) = counts_in kind found
 
 abbrev pub lies_in : Forest → Point → Bool
-lies_in f p = fits_kind p.kind (kind_of f p.key) && nat_le p.offset (extent f p p.kind)
+lies_in f p = is_counted_in p.kind (kind_of f p.key) && nat_le p.offset (extent f p p.kind)
 
 abbrev pub lost_point : Forest → Point → Option Cause
 lost_point f p = if lies_in f p then None else Some (SelectionLost (lost.Point p))

@@ -21,7 +21,7 @@ impl Draft {
     ghost use Rattle.lx_select.specs.Rules.{put_moves};
     ghost use Rattle.lx_forest.specs.Lookups as lookups;
     ghost use Rattle.lx_forest.specs.Lookups.{IsForest};
-    ghost use Rattle.lx_draft.specs.Faults.{Tells, Leaves, put_fault};
+    ghost use Rattle.lx_draft.specs.Faults.{TellsStep, Leaves, put_fault};
     ghost use Rattle.lx_draft.specs.Steps as steps;
     ghost use Rattle.lx_draft.specs.Steps.{put_step};
     ghost use Rattle.lx_draft.specs.Beside.{gap_index, put_before_step, put_behind_step};
@@ -30,7 +30,7 @@ impl Draft {
     /// `put` is, and where the other stands below nothing. No children are counted, unless a point counts them.
     pub fn put_before(&mut self, key: Key, other: Key) -> Result<(), Fault>
         ensures ok { OnOk result (put_before_step key other self.old ≡ Ok self.new) }
-        ensures err { IfErr result (λ e. Tells e (put_before_step key other self.old)) }
+        ensures err { IfErr result (λ e. TellsStep e (put_before_step key other self.old)) }
         ensures left { IfErr result (λ e. Leaves e self.old self.new) }
         ensures living { OnOk result (self.old.forest ≢ nil) }
     {
@@ -45,7 +45,7 @@ impl Draft {
     /// `put` is, and where the other stands below nothing. No children are counted, unless a point counts them.
     pub fn put_behind(&mut self, key: Key, other: Key) -> Result<(), Fault>
         ensures ok { OnOk result (put_behind_step key other self.old ≡ Ok self.new) }
-        ensures err { IfErr result (λ e. Tells e (put_behind_step key other self.old)) }
+        ensures err { IfErr result (λ e. TellsStep e (put_behind_step key other self.old)) }
         ensures left { IfErr result (λ e. Leaves e self.old self.new) }
         ensures living { OnOk result (self.old.forest ≢ nil) }
     {
@@ -65,7 +65,7 @@ impl Draft {
         requires order { IsForest self.old.forest }
         requires place { is_place before (lookups.children_of self.old.forest parent) ≡ true }
         ensures ok { OnOk result (put_step key parent (gap_index before (lookups.children_of self.old.forest parent)) self.old ≡ Ok self.new) }
-        ensures err { IfErr result (λ e. Tells e (put_step key parent (gap_index before (lookups.children_of self.old.forest parent)) self.old)) }
+        ensures err { IfErr result (λ e. TellsStep e (put_step key parent (gap_index before (lookups.children_of self.old.forest parent)) self.old)) }
         ensures left { IfErr result (λ e. Leaves e self.old self.new) }
     {
         self.living()?;

@@ -5,8 +5,8 @@ use crate::draft::Draft;
 use lx_node::limits::{MOST_COUNTS, MOST_WRITTEN};
 use lx_node::{Cause, Limit};
 
-/// What was reached is beyond the limit.
-pub(crate) fn over(limit: Limit, most: u64, reached: u64) -> Option<Cause>
+/// What was reached is beyond the limit: `TooLarge` with both exactly where it is above `most`.
+pub fn over(limit: Limit, most: u64, reached: u64) -> Option<Cause>
     ensures { result ≡ over_at limit most reached }
 {
     if reached > most {

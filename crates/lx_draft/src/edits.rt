@@ -35,7 +35,7 @@ impl Draft {
     ghost use Rattle.lx_forest.specs.Edits.{take_out};
     ghost use Rattle.lx_links.specs.Faults.{set_fault, detach_fault};
     ghost use Rattle.lx_node.specs.Limits.{most_counts, most_written};
-    ghost use Rattle.lx_draft.specs.Faults.{IsAdmitted, Tells, Leaves, put_fault};
+    ghost use Rattle.lx_draft.specs.Faults.{IsAdmitted, TellsStep, Leaves, put_fault};
     ghost use Rattle.lx_draft.specs.Steps as steps;
     ghost use Rattle.lx_draft.specs.Steps.{new_step, set_step, splice_step, take_step, put_step, mark_step, mark_uncounted_step, select_step};
 
@@ -48,7 +48,7 @@ impl Draft {
         requires of_kind { IsOfKind kind fields }
         ensures ok { OnOk result (new_step kind fields self.old ≡ Ok self.new) }
         ensures key { IfOk result (λ key. key ≡ self.old.next_key) }
-        ensures err { IfErr result (λ e. Tells e (new_step kind fields self.old)) }
+        ensures err { IfErr result (λ e. TellsStep e (new_step kind fields self.old)) }
         ensures left { IfErr result (λ e. Leaves e self.old self.new) }
         ensures living { OnOk result (self.old.forest ≢ nil) }
     {
@@ -83,7 +83,7 @@ impl Draft {
     #[tactic(auto, unfolding(crate::specs::Steps::set_step))]
     pub fn set(&mut self, key: Key, fields: Fields) -> Result<(), Fault>
         ensures ok { OnOk result (set_step key fields self.old ≡ Ok self.new) }
-        ensures err { IfErr result (λ e. Tells e (set_step key fields self.old)) }
+        ensures err { IfErr result (λ e. TellsStep e (set_step key fields self.old)) }
         ensures left { IfErr result (λ e. Leaves e self.old self.new) }
         ensures living { OnOk result (self.old.forest ≢ nil) }
     {
@@ -98,7 +98,7 @@ impl Draft {
         requires order { IsForest self.old.forest }
         requires allowed { set_fault key fields self.old.forest ≡ None }
         requires admitted { IsAdmitted more (characters_of fields) self.old }
-        ensures written { OnOk result (self.new ≡ steps.refielded key fields (characters_of fields) (steps.set_points key fields) self.old) }
+        ensures written { OnOk result (self.new ≡ steps.fields_written key fields (characters_of fields) (steps.set_points key fields) self.old) }
         ensures failed { OnErr result (self.new.forest ≡ nil) }
     {
         let length = text_length_of(&fields);
@@ -113,7 +113,7 @@ impl Draft {
     #[tactic(auto, unfolding(crate::specs::Steps::splice_step))]
     pub fn splice(&mut self, key: Key, from: u32, to: u32, new: &str) -> Result<(), Fault>
         ensures ok { OnOk result (splice_step key from to (chars new.now) self.old ≡ Ok self.new) }
-        ensures err { IfErr result (λ e. Tells e (splice_step key from to (chars new.now) self.old)) }
+        ensures err { IfErr result (λ e. TellsStep e (splice_step key from to (chars new.now) self.old)) }
         ensures left { IfErr result (λ e. Leaves e self.old self.new) }
         ensures living { OnOk result (self.old.forest ≢ nil) }
     {
@@ -143,7 +143,7 @@ impl Draft {
         requires fault { set_fault key fields self.old.forest ≡ None }
         requires counts { self.old.counted < most_counts }
         requires written { self.old.written + more ≤ most_written }
-        ensures written { OnOk result (self.new ≡ steps.refielded key fields more (steps.splice_points key from to (chars new.now)) self.old) }
+        ensures written { OnOk result (self.new ≡ steps.fields_written key fields more (steps.splice_points key from to (chars new.now)) self.old) }
         ensures failed { OnErr result (self.new.forest ≡ nil) }
     {
         self.refield(key, fields, more)?;
@@ -157,7 +157,7 @@ impl Draft {
     #[tactic(auto, unfolding(crate::specs::Steps::take_step))]
     pub fn take(&mut self, key: Key) -> Result<(), Fault>
         ensures ok { OnOk result (take_step key self.old ≡ Ok self.new) }
-        ensures err { IfErr result (λ e. Tells e (take_step key self.old)) }
+        ensures err { IfErr result (λ e. TellsStep e (take_step key self.old)) }
         ensures left { IfErr result (λ e. Leaves e self.old self.new) }
         ensures living { OnOk result (self.old.forest ≢ nil) }
     {
@@ -181,7 +181,7 @@ impl Draft {
     #[tactic(auto, unfolding(crate::specs::Steps::put_step))]
     pub fn put(&mut self, key: Key, parent: Key, index: u32) -> Result<(), Fault>
         ensures ok { OnOk result (put_step key parent index self.old ≡ Ok self.new) }
-        ensures err { IfErr result (λ e. Tells e (put_step key parent index self.old)) }
+        ensures err { IfErr result (λ e. TellsStep e (put_step key parent index self.old)) }
         ensures left { IfErr result (λ e. Leaves e self.old self.new) }
         ensures living { OnOk result (self.old.forest ≢ nil) }
     {
@@ -202,7 +202,7 @@ impl Draft {
     #[tactic(auto, unfolding(crate::specs::Steps::mark_step))]
     pub fn mark(&mut self, key: Key) -> Result<(), Fault>
         ensures ok { OnOk result (mark_step key self.old ≡ Ok self.new) }
-        ensures err { IfErr result (λ e. Tells e (mark_step key self.old)) }
+        ensures err { IfErr result (λ e. TellsStep e (mark_step key self.old)) }
         ensures left { IfErr result (λ e. Leaves e self.old self.new) }
         ensures living { OnOk result (self.old.forest ≢ nil) }
     {
@@ -223,7 +223,7 @@ impl Draft {
     #[tactic(auto, unfolding(crate::specs::Steps::mark_uncounted_step))]
     pub fn mark_uncounted(&mut self, key: Key) -> Result<(), Fault>
         ensures ok { OnOk result (mark_uncounted_step key self.old ≡ Ok self.new) }
-        ensures err { IfErr result (λ e. Tells e (mark_uncounted_step key self.old)) }
+        ensures err { IfErr result (λ e. TellsStep e (mark_uncounted_step key self.old)) }
         ensures left { IfErr result (λ e. Leaves e self.old self.new) }
         ensures living { OnOk result (self.old.forest ≢ nil) }
     {
@@ -241,7 +241,7 @@ impl Draft {
     #[tactic(auto, unfolding(crate::specs::Steps::select_step))]
     pub fn select(&mut self, selection: Selection) -> Result<(), Fault>
         ensures ok { OnOk result (select_step selection self.old ≡ Ok self.new) }
-        ensures err { IfErr result (λ e. Tells e (select_step selection self.old)) }
+        ensures err { IfErr result (λ e. TellsStep e (select_step selection self.old)) }
         ensures left { IfErr result (λ e. Leaves e self.old self.new) }
         ensures living { OnOk result (self.old.forest ≢ nil) }
     {

@@ -7,7 +7,7 @@ ghost use Rattle.lx_forest.specs.Lookups.{IsForest};
 ghost use Rattle.lx_forest.specs.Edits.{with_fields};
 ghost use Rattle.lx_links.specs.Faults.{set_fault};
 ghost use Rattle.lx_node.specs.Limits.{most_counts, most_written};
-ghost use Rattle.lx_draft.specs.Faults.{over_limits, IsAdmitted, Stops};
+ghost use Rattle.lx_draft.specs.Faults.{over_limits, IsAdmitted, StopsAt};
 ghost use Rattle.lx_draft.specs.Steps as steps;
 
 use crate::draft::Draft;
@@ -40,7 +40,7 @@ fn counts_children_of(point: &Point, parent: Key) -> bool
 
 /// Whether a point of the selection counts children of the parent.
 fn counts_children(selection: &Selection, parent: Key) -> bool
-    ensures { result ≡ steps.counts_children parent selection.now }
+    ensures { result ≡ steps.has_point_counting parent selection.now }
 {
     match selection {
         Selection::Range { anchor, focus, .. } => {
@@ -94,7 +94,7 @@ impl Draft {
         ensures living { OnOk result (self.now.forest ≢ nil) }
         ensures order { OnOk result (IsForest self.now.forest) }
         ensures admitted { IfOk result (λ n. IsAdmitted n (characters_of fields.now) self.now) }
-        ensures err { IfErr result (λ e. Stops e (option_or (set_fault key fields.now self.now.forest) (over_limits (characters_of fields.now) self.now)) self.now) }
+        ensures err { IfErr result (λ e. StopsAt e (option_or (set_fault key fields.now self.now.forest) (over_limits (characters_of fields.now) self.now)) self.now) }
     {
         self.living()?;
         if let Some(cause) = self.set_fault(key, fields) {
@@ -111,7 +111,7 @@ impl Draft {
         ensures living { OnOk result (self.now.forest ≢ nil) }
         ensures order { OnOk result (IsForest self.now.forest) }
         ensures admitted { IfOk result (λ n. IsAdmitted n (characters_of fields.now) self.now) }
-        ensures err { IfErr result (λ e. Stops e (over_limits (characters_of fields.now) self.now) self.now) }
+        ensures err { IfErr result (λ e. StopsAt e (over_limits (characters_of fields.now) self.now) self.now) }
     {
         self.living()?;
         match self.admit_fields(fields) {
@@ -139,7 +139,7 @@ impl Draft {
         requires fault { set_fault key fields self.old.forest ≡ None }
         requires counts { self.old.counted < most_counts }
         requires written { self.old.written + more ≤ most_written }
-        ensures ok { OnOk result (self.new ≡ steps.refielded key fields more (λ s. s) self.old) }
+        ensures ok { OnOk result (self.new ≡ steps.fields_written key fields more (λ s. s) self.old) }
         ensures failed { OnErr result (self.new.forest ≡ nil) }
     {
         self.note_edit(more);

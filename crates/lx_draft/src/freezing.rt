@@ -6,7 +6,7 @@ ghost use Rattle.lx_forest.specs.Edits.{drop_detached};
 ghost use Rattle.lx_node.specs.declared.cause.Limit.TheVariants.{Depth, Characters};
 ghost use Rattle.lx_node.specs.Limits.{most_depth, most_characters};
 ghost use Rattle.lx_draft.specs.Working.{MayStart};
-ghost use Rattle.lx_draft.specs.Faults.{Tells, over as fault_over};
+ghost use Rattle.lx_draft.specs.Faults.{TellsStep, over as fault_over};
 ghost use Rattle.lx_draft.specs.Freezing as freezing;
 
 use crate::counts::over;
@@ -88,7 +88,7 @@ impl Draft {
     pub fn freeze(self) -> Result<Frozen, Fault>
         ensures ok { IfOk result (λ frozen. freezing.Freezes self frozen.state.links frozen.state.selection frozen.marks frozen.next_key) }
         ensures start { IfOk result (λ frozen. MayStart frozen.state.links frozen.next_key) }
-        ensures err { IfErr result (λ e. Tells e (freezing.freeze_step self)) }
+        ensures err { IfErr result (λ e. TellsStep e (freezing.freeze_step self)) }
         ensures living { OnOk result (self.forest ≢ nil) }
     {
         let mut draft = self;

@@ -18,6 +18,7 @@ mod selecting;
 mod state;
 mod texts;
 
+pub use counts::over;
 pub use draft::Draft;
 pub use freezing::limits_fault;
 pub use laws::drafts_are_covered;

@@ -23,7 +23,7 @@ pub(crate) fn characters(text: &str) -> u64
 
 /// The fields of a text or tab with another text.
 pub fn with_text(alloc: Global, fields: &TextFields, text: Txt) -> Result<Fields, NoMemory>
-    ensures { IfOk result (λ made. made ≡ steps.with_text fields.now text) }
+    ensures { IfOk result (λ made. made ≡ steps.text_replaced fields.now text) }
 {
     Ok(Fields::Text(TextFields {
         text,

@@ -13,7 +13,7 @@ use Rattle.lx_forest.proofs.Within.{is_within-parent}
 use Rattle.lx_draft.specs.Working.{Working}
 use Rattle.lx_node.specs.declared.cause.Fault.{Fault}
 use Rattle.lx_node.specs.declared.cause.Fault.TheVariants as fault
-use Rattle.lx_draft.specs.Faults.{answer, after, Tells}
+use Rattle.lx_draft.specs.Faults.{answer, after, TellsStep}
 use Rattle.lx_draft.specs.Steps.{take_step}
 use Rattle.lx_edit.specs.Edits.{sent_from, sent_away, goes_too, goes_next, removed, remove_step}
 
@@ -122,6 +122,6 @@ unfolding remove_step
 climb_refused k w cause e = climb_refused_by k (ancestors w.forest k) w cause e
 
 -- ... and so is all of it
-pub climb_told : (k : ℕ) (w : Working) (fault : Fault) (all : Result Working Cause) → remove_step k w ≡ all → Tells fault (take_step k (sent_away k w)) → Tells fault all
+pub climb_told : (k : ℕ) (w : Working) (fault : Fault) (all : Result Working Cause) → remove_step k w ≡ all → TellsStep fault (take_step k (sent_away k w)) → TellsStep fault all
 climb_told k w (fault.Cause cause) all same told = sym same ∙ climb_refused k w cause told
 climb_told k w fault.Memory all same told = tt

@@ -7,7 +7,7 @@ use Rattle.lx_select.specs.declared.selection.Selection.{Selection}
 use Rattle.lx_forest.specs.Forest.{Forest}
 use Rattle.lx_forest.specs.Lookups.{fields_of, label_of}
 use Rattle.lx_draft.specs.Working.{Working}
-use Rattle.lx_draft.specs.Steps.{differ, marked_if, refielded, set_points, splice_points, label_with_piece, new_step, set_step, splice_step, put_step}
+use Rattle.lx_draft.specs.Steps.{differ, marked_if, fields_written, set_points, splice_points, label_with_piece, new_step, set_step, splice_step, put_step}
 use Rattle.lx_edit.proofs.Climbed.{answered, taken-counted}
 use Rattle.lx_edit.proofs.Paths.{IsPath}
 
@@ -30,7 +30,7 @@ marked-counted : (b : Bool) (f : Forest) (k : ℕ) (w : Working) → (marked_if 
 marked-counted true f k w = refl
 marked-counted false f k w = refl
 
-refielded-counted : (k : ℕ) (fields : Fields) (more : ℕ) (moved : Selection → Selection) (w : Working) → (refielded k fields more moved w).counted ≡ w.counted + 1
+refielded-counted : (k : ℕ) (fields : Fields) (more : ℕ) (moved : Selection → Selection) (w : Working) → (fields_written k fields more moved w).counted ≡ w.counted + 1
 refielded-counted k fields more moved w = marked-counted (differ (fields_of w.forest k) fields) w.forest k _
 
 set-counted : (k : ℕ) (fields : Fields) (w v : Working) → set_step k fields w ≡ Ok v → v.counted ≡ w.counted + 1

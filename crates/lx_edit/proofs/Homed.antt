@@ -22,7 +22,7 @@ use Rattle.lx_links.specs.Faults.{set_fault, detach_fault}
 use Rattle.lx_draft.specs.Working.{Working}
 use Rattle.lx_draft.specs.Marking.{mark_nodes}
 use Rattle.lx_draft.specs.Faults.{over_counts, over_limits, put_fault, splice_fault}
-use Rattle.lx_draft.specs.Steps.{made, new_step, refielded, set_points, set_step, label_with_piece, splice_points, splice_step, taken, take_step, placed, put_step}
+use Rattle.lx_draft.specs.Steps.{made, new_step, fields_written, set_points, set_step, label_with_piece, splice_points, splice_step, node_taken, take_step, node_placed, put_step}
 use Rattle.lx_draft.specs.Covering.{IsReady, AreCovered}
 use Rattle.lx_draft.proofs.Put.{both_none, can_put}
 use Rattle.lx_draft.proofs.Touched.{touched-nodes}
@@ -87,19 +87,19 @@ homed_made rs kind fields w v r c is =
           (under-with_new l w.forest rs q free (ap (λ (x : Working). is_under x.forest rs q) is ∙ e));
     }
 
-homed_refielded : (rs : List ℕ) (k : ℕ) (fields : Fields) (more : ℕ) (moved : Selection → Selection) (w v : Working) → AreCovered w v → refielded k fields more moved w ≡ v → IsHomed rs w v
+homed_refielded : (rs : List ℕ) (k : ℕ) (fields : Fields) (more : ℕ) (moved : Selection → Selection) (w v : Working) → AreCovered w v → fields_written k fields more moved w ≡ v → IsHomed rs w v
 homed_refielded rs k fields more moved w v c is = record {
   covered = c;
   home = λ q e. inl (sym (under-with_fields k fields w.forest rs q) ∙ ap (λ (x : Working). is_under x.forest rs q) is ∙ e);
 }
 
-homed_taken : (rs : List ℕ) (k : ℕ) (w v : Working) → IsReady w → AreCovered w v → taken k w ≡ v → IsHomed rs w v
+homed_taken : (rs : List ℕ) (k : ℕ) (w v : Working) → IsReady w → AreCovered w v → node_taken k w ≡ v → IsHomed rs w v
 homed_taken rs k w v r c is = record {
   covered = c;
   home = λ q e. inl (under-take_out k w.forest rs q r.in_order (ap (λ (x : Working). is_under x.forest rs q) is ∙ e));
 }
 
-homed_placed : (rs : List ℕ) (k p index : ℕ) (w v : Working) → is_among k rs ≡ true → IsReady w → AreCovered w v → put_fault k p index w.forest ≡ None → placed k p index w ≡ v → IsHomed rs w v
+homed_placed : (rs : List ℕ) (k p index : ℕ) (w v : Working) → is_among k rs ≡ true → IsReady w → AreCovered w v → put_fault k p index w.forest ≡ None → node_placed k p index w ≡ v → IsHomed rs w v
 homed_placed rs k p index w v among r c none is =
     let before : Option ℕ = slice_get (children_of w.forest p) index in
     let can = can_put w.forest k p index none in
@@ -119,23 +119,23 @@ step_set : (rs : List ℕ) (k : ℕ) (fields : Fields) (w v : Working) → IsRea
 unfolding set_step
 step_set rs k fields w v r c e =
     homed_refielded rs k fields (characters_of fields) (set_points k fields) w v c
-    ((answered (option_or (set_fault k fields w.forest) (over_limits (characters_of fields) w)) (refielded k fields (characters_of fields) (set_points k fields) w) v e).1)
+    ((answered (option_or (set_fault k fields w.forest) (over_limits (characters_of fields) w)) (fields_written k fields (characters_of fields) (set_points k fields) w) v e).1)
 
 step_splice : (rs : List ℕ) (k from to : ℕ) (new : List ℕ) (w v : Working) → IsReady w → AreCovered w v → splice_step k from to new w ≡ Ok v → IsHomed rs w v
 unfolding splice_step
 step_splice rs k from to new w v r c e =
     let fields : Fields = label_with_piece (label_of w.forest k) from to new in
     homed_refielded rs k fields (length new) (splice_points k from to new) w v c
-    ((answered (option_or (splice_fault k from to w.forest) (over_limits (length new) w)) (refielded k fields (length new) (splice_points k from to new) w) v e).1)
+    ((answered (option_or (splice_fault k from to w.forest) (over_limits (length new) w)) (fields_written k fields (length new) (splice_points k from to new) w) v e).1)
 
 step_take : (rs : List ℕ) (k : ℕ) (w v : Working) → IsReady w → AreCovered w v → take_step k w ≡ Ok v → IsHomed rs w v
 unfolding take_step
-step_take rs k w v r c e = homed_taken rs k w v r c ((answered (option_or (detach_fault k w.forest) (over_counts w)) (taken k w) v e).1)
+step_take rs k w v r c e = homed_taken rs k w v r c ((answered (option_or (detach_fault k w.forest) (over_counts w)) (node_taken k w) v e).1)
 
 step_put : (rs : List ℕ) (k p index : ℕ) (w v : Working) → is_among k rs ≡ true → IsReady w → AreCovered w v → put_step k p index w ≡ Ok v → IsHomed rs w v
 unfolding put_step
 step_put rs k p index w v among r c e =
-    let a = answered (option_or (put_fault k p index w.forest) (over_counts w)) (placed k p index w) v e in
+    let a = answered (option_or (put_fault k p index w.forest) (over_counts w)) (node_placed k p index w) v e in
     homed_placed rs k p index w v among r c ((both_none (put_fault k p index w.forest) (over_counts w) a.0).0) a.1
 
 pub homed_path : (rs : List ℕ) → IsPath IsReady (IsHomed rs) (λ k. is_among k rs ≡ true)

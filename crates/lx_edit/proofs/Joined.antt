@@ -9,7 +9,7 @@ use Rattle.lx_node.specs.declared.cause.Fault.{Fault}
 use Rattle.lx_node.specs.declared.cause.Fault.TheVariants as fault
 use Rattle.lx_node.specs.Limits.{most_counts}
 use Rattle.lx_draft.specs.Working.{Working}
-use Rattle.lx_draft.specs.Faults.{answer, after, over_counts, text_in, Tells}
+use Rattle.lx_draft.specs.Faults.{answer, after, over_counts, text_in, TellsStep}
 use Rattle.lx_draft.specs.Steps.{take_step, splice_step, marked_if}
 use Rattle.lx_forest.specs.Forest.{Forest}
 use Rattle.lx_forest.specs.Lookups.{kind_of, label_of, ancestors}
@@ -17,7 +17,7 @@ use Rattle.lx_select.specs.Rules.{join_moves}
 use Rattle.lx_edit.specs.declared.around.Found.TheVariants.{Nothing, Empty, Alike}
 use Rattle.lx_edit.specs.Edits.{pointed, sent_away, goes_too, removed, remove_step}
 use Rattle.lx_edit.specs.Conditions.{length_at, join_fault}
-use Rattle.lx_edit.specs.Texts.{enough, text_of, found_behind, found_before, joined_behind, joined_before, join_on, join_back, joined, join_step}
+use Rattle.lx_edit.specs.Texts.{enough, text_or_none, found_behind, found_before, joined_behind, joined_before, join_on, join_back, texts_joined, join_step}
 use Rattle.lx_edit.proofs.Climbed.{answered, first_part, sent_away-counted}
 
 -- ---- counts
@@ -92,10 +92,10 @@ both_grow : (r : Result Working Cause) (next : Working → Result Working Cause)
 both_grow (Ok mid) next u v e one other = let g : Grows u mid = one mid refl in then_grows u mid v g (other mid g e)
 both_grow (Err cause) next u v e one other = absurd (grind (arith, e))
 
-joined_grows : (first second : ℕ) (w v : Working) → joined first second w ≡ Ok v → w.counted ≤ most_counts → Grows w v
+joined_grows : (first second : ℕ) (w v : Working) → texts_joined first second w ≡ Ok v → w.counted ≤ most_counts → Grows w v
 joined_grows first second w v e few =
     let end : ℕ = length_at w.forest first in
-    let text : List ℕ = text_of (text_in (label_of w.forest second)) in
+    let text : List ℕ = text_or_none (text_in (label_of w.forest second)) in
     both_grow (splice_step first end end text w) (λ x. take_step second (pointed (join_moves first end second) x)) w v e
     (λ mid made. splice_grows first end end text w mid made few)
     (λ mid g taken. let h : Grows (pointed (join_moves first end second) mid) v = take_grows second (pointed (join_moves first end second) mid) v taken g.within in
@@ -104,9 +104,9 @@ joined_grows first second w v e few =
 pub join_grows : (first second : ℕ) (w v : Working) → join_step first second w ≡ Ok v → w.counted ≤ most_counts → Grows w v
 unfolding join_step
 join_grows first second w v e few =
-    let parts = first_part (answer (join_fault first second w.forest) w) (joined first second) v e in
+    let parts = first_part (answer (join_fault first second w.forest) w) (texts_joined first second) v e in
     let is : parts.0 ≡ w = answered _ w parts.0 parts.1 in
-    joined_grows first second w v (ap (joined first second) (sym is) ∙ parts.2) few
+    joined_grows first second w v (ap (texts_joined first second) (sym is) ∙ parts.2) few
 
 -- ---- times
 
@@ -149,7 +149,7 @@ on_went k w v whole r few goes made grew left =
     )
 
 on_stopped : (k : ℕ) (w : Working) (whole r : Result Working Cause) (fault : Fault) → w.counted ≤ most_counts → ((again : Working → Result Working Cause) → joined_behind (found_behind w.forest k) k again w ≡ after r again)
-    → Tells fault r → Left join_on k w whole → Tells fault whole
+    → TellsStep fault r → Left join_on k w whole → TellsStep fault whole
 on_stopped k w whole r (fault.Cause cause) few goes told left =
     let more = on_left k w whole few left in
     sym more.2 ∙ goes (join_on more.0 k) ∙ ap (λ x. after x (join_on more.0 k)) told
@@ -169,10 +169,10 @@ pub on_joined : (k other : ℕ) (w v : Working) (whole : Result Working Cause) �
 on_joined k other w v whole few found made left =
     on_went k w v whole (join_step k other w) few (on_alike k other w found) made (join_grows k other w v made few).more left
 
-pub on_removing : (k other : ℕ) (w : Working) (whole : Result Working Cause) (fault : Fault) → w.counted ≤ most_counts → Empty other ≡ found_behind w.forest k → Tells fault (remove_step other w) → Left join_on k w whole → Tells fault whole
+pub on_removing : (k other : ℕ) (w : Working) (whole : Result Working Cause) (fault : Fault) → w.counted ≤ most_counts → Empty other ≡ found_behind w.forest k → TellsStep fault (remove_step other w) → Left join_on k w whole → TellsStep fault whole
 on_removing k other w whole fault few found told left = on_stopped k w whole (remove_step other w) fault few (on_empty k other w found) told left
 
-pub on_joining : (k other : ℕ) (w : Working) (whole : Result Working Cause) (fault : Fault) → w.counted ≤ most_counts → Alike other ≡ found_behind w.forest k → Tells fault (join_step k other w) → Left join_on k w whole → Tells fault whole
+pub on_joining : (k other : ℕ) (w : Working) (whole : Result Working Cause) (fault : Fault) → w.counted ≤ most_counts → Alike other ≡ found_behind w.forest k → TellsStep fault (join_step k other w) → Left join_on k w whole → TellsStep fault whole
 on_joining k other w whole fault few found told left = on_stopped k w whole (join_step k other w) fault few (on_alike k other w found) told left
 
 -- ---- before
@@ -200,7 +200,7 @@ back_went k j w v whole r few goes made grew left =
       sym (goes (join_back more.0) (join_on enough k) ∙ ap (λ x. after x (join_back more.0 j)) made) ∙ more.2,
     )
 
-back_stopped : (k j : ℕ) (w : Working) (whole r : Result Working Cause) (fault : Fault) → w.counted ≤ most_counts → GoesBack k j w r → Tells fault r → Left join_back k w whole → Tells fault whole
+back_stopped : (k j : ℕ) (w : Working) (whole r : Result Working Cause) (fault : Fault) → w.counted ≤ most_counts → GoesBack k j w r → TellsStep fault r → Left join_back k w whole → TellsStep fault whole
 back_stopped k j w whole r (fault.Cause cause) few goes told left =
     let more = back_left k w whole few left in
     sym more.2 ∙ goes (join_back more.0) (join_on enough k) ∙ ap (λ x. after x (join_back more.0 j)) told
@@ -220,8 +220,8 @@ pub back_joined : (k other : ℕ) (w v : Working) (whole : Result Working Cause)
 back_joined k other w v whole few found made left =
     back_went k other w v whole (join_step other k w) few (back_alike k other w found) made (join_grows other k w v made few).more left
 
-pub back_removing : (k other : ℕ) (w : Working) (whole : Result Working Cause) (fault : Fault) → w.counted ≤ most_counts → Empty other ≡ found_before w.forest k → Tells fault (remove_step other w) → Left join_back k w whole → Tells fault whole
+pub back_removing : (k other : ℕ) (w : Working) (whole : Result Working Cause) (fault : Fault) → w.counted ≤ most_counts → Empty other ≡ found_before w.forest k → TellsStep fault (remove_step other w) → Left join_back k w whole → TellsStep fault whole
 back_removing k other w whole fault few found told left = back_stopped k k w whole (remove_step other w) fault few (back_empty k other w found) told left
 
-pub back_joining : (k other : ℕ) (w : Working) (whole : Result Working Cause) (fault : Fault) → w.counted ≤ most_counts → Alike other ≡ found_before w.forest k → Tells fault (join_step other k w) → Left join_back k w whole → Tells fault whole
+pub back_joining : (k other : ℕ) (w : Working) (whole : Result Working Cause) (fault : Fault) → w.counted ≤ most_counts → Alike other ≡ found_before w.forest k → TellsStep fault (join_step other k w) → Left join_back k w whole → TellsStep fault whole
 back_joining k other w whole fault few found told left = back_stopped k other w whole (join_step other k w) fault few (back_alike k other w found) told left

@@ -7,3 +7,4 @@ pub mod Paths
 pub mod Covered
 pub mod Counted
 pub mod Homed
+pub mod Brought

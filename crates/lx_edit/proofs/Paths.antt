@@ -23,7 +23,7 @@ use Rattle.lx_edit.specs.declared.around.Found.TheVariants.{Nothing, Empty, Alik
 use Rattle.lx_edit.specs.InTurn.{in_turn}
 use Rattle.lx_edit.specs.Conditions.{length_at, children_fault, replace_fault, wrap_fault, unwrap_fault, split_fault, join_fault}
 use Rattle.lx_edit.specs.Edits.{pointed, moved_before, moved_to_end, sent_from, sent_away, goes_too, removed, remove_step, brought, children_moved, children_step, kept, texts_pointed, replace_step, wrap_step, brought_up, unwrapped, unwrap_step}
-use Rattle.lx_edit.specs.Texts.{tail_of, tail_made, cut_in_two, cut_at, split_step, keys_from, text_of, joined, join_step, simple_at, found_before, found_behind, enough, joined_behind, join_on, joined_before, join_back, emptiness, join_simple, joined_around, join_around_step}
+use Rattle.lx_edit.specs.Texts.{tail_of, tail_made, cut_in_two, cut_at, split_step, keys_from, text_or_none, texts_joined, join_step, simple_at, found_before, found_behind, enough, joined_behind, join_on, joined_before, join_back, emptiness, join_simple, joined_around, join_around_step}
 use Rattle.lx_edit.proofs.Keyed.{cut-next_key}
 
 -- A relation of a draft to what it became, that holds of each step and composes. A step may rely on D, which holds again behind
@@ -241,16 +241,16 @@ split_path {R = R} path k offsets w v r may e = allowed R w v (split_fault k off
 
 -- ---- join
 
-pub joined_path : {D : Working → Type 0} {R : Working → Working → Type 0} {P : ℕ → Type 0} → IsPath D R P → (first second : ℕ) → Leads D R (joined first second)
+pub joined_path : {D : Working → Type 0} {R : Working → Working → Type 0} {P : ℕ → Type 0} → IsPath D R P → (first second : ℕ) → Leads D R (texts_joined first second)
 joined_path path first second w v r e =
     let end : ℕ = length_at w.forest first in
-    let text : List ℕ = text_of (text_in (label_of w.forest second)) in
+    let text : List ℕ = text_or_none (text_in (label_of w.forest second)) in
     then path w v (splice_step first end end text w) (λ u. take_step second (pointed (join_moves first end second) u)) (λ u f. path.splice first end end text w u r f)
     (λ u a f. from_ path u (pointed (join_moves first end second) u) v (take_step second) (points path (join_moves first end second) u (path.ready w u a)) (λ x y s g. path.take second x y s g) f) e
 
 pub join_path : {D : Working → Type 0} {R : Working → Working → Type 0} {P : ℕ → Type 0} → IsPath D R P → (first second : ℕ) → Leads D R (join_step first second)
 unfolding join_step
-join_path {R = R} path first second w v r e = allowed R w v (join_fault first second w.forest) (joined first second) (joined_path path first second w v r) e
+join_path {R = R} path first second w v r e = allowed R w v (join_fault first second w.forest) (texts_joined first second) (joined_path path first second w v r) e
 
 pub joined_behind_path : {D : Working → Type 0} {R : Working → Working → Type 0} {P : ℕ → Type 0} → IsPath D R P → (found : Found) (k : ℕ) (again : Working → Result Working Cause) → Leads D R again → Leads D R (joined_behind found k again)
 joined_behind_path {R = R} path Nothing k again c w v r e = ok R w w v (self path w r) e

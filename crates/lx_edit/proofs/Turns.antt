@@ -6,7 +6,7 @@ use Rattle.lx_node.specs.declared.cause.Fault.{Fault}
 use Rattle.lx_node.specs.declared.cause.Fault.TheVariants as fault
 use Rattle.lx_node.specs.declared.cause.Cause.{Cause}
 use Rattle.lx_draft.specs.Working.{Working}
-use Rattle.lx_draft.specs.Faults.{after, Tells}
+use Rattle.lx_draft.specs.Faults.{after, TellsStep}
 use Rattle.lx_edit.specs.InTurn.{in_turn}
 
 one_more : (i : ℕ) → i + 1 ≡ suc i
@@ -44,7 +44,7 @@ turns_done step (x ∷ xs) (suc i) w h = turns_done step xs i w (omega (arith, h
 
 -- ... and so is all of it
 pub turn_told : {A : Type 0} (step : A → Working → Result Working Cause) (all : List A) (i : ℕ) (a : A) (w : Working) (fault : Fault) (whole : Result Working Cause) → slice_get all i ≡ Some a
-    → in_turn step (drop i all) w ≡ whole → Tells fault (step a w) → Tells fault whole
+    → in_turn step (drop i all) w ≡ whole → TellsStep fault (step a w) → TellsStep fault whole
 turn_told step all i a w (fault.Cause cause) whole at same told = sym same ∙ turn_refused step all i a w cause at told
 turn_told step all i a w fault.Memory whole at same told = tt
 

@@ -17,7 +17,7 @@ use Rattle.lx_node.specs.Limits.{most_counts}
 use Rattle.lx_draft.specs.Working.{Working}
 use Rattle.lx_draft.specs.Selecting.{length_told}
 use Rattle.lx_draft.specs.Faults.{answer, after, text_in, splice_fault}
-use Rattle.lx_draft.specs.Steps.{with_text, new_step, splice_step, take_step}
+use Rattle.lx_draft.specs.Steps.{text_replaced, new_step, splice_step, take_step}
 use Rattle.lx_draft.specs.Beside.{put_behind_step}
 use Rattle.lx_edit.specs.declared.around.Found.{Found}
 use Rattle.lx_edit.specs.declared.around.Found.TheVariants.{Nothing, Empty, Alike}
@@ -29,7 +29,7 @@ use Rattle.lx_edit.specs.Edits.{pointed, remove_step}
 -- the fields of a text, with what stands behind an offset
 abbrev pub tail_in : Option TextFields → ℕ → Fields
 tail_in None offset = fields.Bare
-tail_in (Some text) offset = with_text text (slice_of offset (length_told text.text) text.text)
+tail_in (Some text) offset = text_replaced text (slice_of offset (length_told text.text) text.text)
 
 abbrev pub tail_of : Forest → ℕ → ℕ → Fields
 tail_of f k offset = tail_in (text_in (label_of f k)) offset
@@ -61,19 +61,19 @@ keys_from k (suc n) = k ∷ keys_from (k + 1) n
 
 -- ---- join
 
-abbrev pub text_of : Option TextFields → List ℕ
-text_of None = []
-text_of (Some text) = text.text
+abbrev pub text_or_none : Option TextFields → List ℕ
+text_or_none None = []
+text_or_none (Some text) = text.text
 
 -- the second's text goes behind the first's, with the points there, and the second is taken out
-abbrev pub joined : ℕ → ℕ → Working → Result Working Cause
-joined first second w =
+abbrev pub texts_joined : ℕ → ℕ → Working → Result Working Cause
+texts_joined first second w =
     let end : ℕ = length_at w.forest first in
-    after (splice_step first end end (text_of (text_in (label_of w.forest second))) w)
+    after (splice_step first end end (text_or_none (text_in (label_of w.forest second))) w)
     (λ v. take_step second (pointed (join_moves first end second) v))
 
 unfoldable pub join_step : ℕ → ℕ → Working → Result Working Cause
-join_step first second w = after (answer (join_fault first second w.forest) w) (joined first second)
+join_step first second w = after (answer (join_fault first second w.forest) w) (texts_joined first second)
 
 -- ---- the join step
 

@@ -2,10 +2,10 @@ ghost use Rattle.std.specs.Prelude.{◌≡◌, ◌≤◌, Ok, OnOk, IfErr};
 ghost use Rattle.std.specs.Option.{option_copied};
 ghost use Rattle.lx_forest.specs.Lookups as lookups;
 ghost use Rattle.lx_node.specs.Limits.{most_counts};
-ghost use Rattle.lx_draft.specs.Faults.{Tells};
+ghost use Rattle.lx_draft.specs.Faults.{TellsStep};
 ghost use Rattle.lx_edit.specs.Texts as texts;
 ghost use Rattle.lx_edit.specs.Texts.{join_around_step};
-ghost use Rattle.lx_edit.specs.Standing.{Stands};
+ghost use Rattle.lx_edit.specs.Standing.{StillStands};
 
 use crate::conditions::admitted;
 use crate::join::join_texts;
@@ -34,8 +34,8 @@ pub enum Found {
 #[tactic(auto, unfolding(crate::specs::Texts::join_around_step))]
 pub fn join_around(alloc: Global, draft: &mut Draft, key: Key) -> Result<(), Fault>
     ensures ok { OnOk result (join_around_step key draft.old ≡ Ok draft.new) }
-    ensures err { IfErr result (λ e. Tells e (join_around_step key draft.old)) }
-    ensures standing { IfErr result (λ e. Stands e draft.new) }
+    ensures err { IfErr result (λ e. TellsStep e (join_around_step key draft.old)) }
+    ensures standing { IfErr result (λ e. StillStands e draft.new) }
 {
     let fault = draft.links().missing(key);
     admitted(draft, fault)?;
@@ -45,8 +45,8 @@ pub fn join_around(alloc: Global, draft: &mut Draft, key: Key) -> Result<(), Fau
 /// Joins a node that is there with what stands around it.
 fn join_there(alloc: Global, draft: &mut Draft, key: Key) -> Result<(), Fault>
     ensures ok { OnOk result (texts.joined_around key draft.old ≡ Ok draft.new) }
-    ensures err { IfErr result (λ e. Tells e (texts.joined_around key draft.old)) }
-    ensures standing { IfErr result (λ e. Stands e draft.new) }
+    ensures err { IfErr result (λ e. TellsStep e (texts.joined_around key draft.old)) }
+    ensures standing { IfErr result (λ e. StillStands e draft.new) }
 {
     match emptiness(draft, key) {
         Some(true) => remove(draft, key),
@@ -58,8 +58,8 @@ fn join_there(alloc: Global, draft: &mut Draft, key: Key) -> Result<(), Fault>
 /// Joins a text with what stands before it, and then with what stands behind.
 fn join_back(alloc: Global, draft: &mut Draft, key: Key) -> Result<(), Fault>
     ensures ok { OnOk result (texts.join_back texts.enough key draft.old ≡ Ok draft.new) }
-    ensures err { IfErr result (λ e. Tells e (texts.join_back texts.enough key draft.old)) }
-    ensures standing { IfErr result (λ e. Stands e draft.new) }
+    ensures err { IfErr result (λ e. TellsStep e (texts.join_back texts.enough key draft.old)) }
+    ensures standing { IfErr result (λ e. StillStands e draft.new) }
 {
     let mut at = key;
     'back: loop {
@@ -81,8 +81,8 @@ fn join_back(alloc: Global, draft: &mut Draft, key: Key) -> Result<(), Fault>
 /// Joins a text with what stands behind it.
 fn join_on(alloc: Global, draft: &mut Draft, key: Key) -> Result<(), Fault>
     ensures ok { OnOk result (texts.join_on texts.enough key draft.old ≡ Ok draft.new) }
-    ensures err { IfErr result (λ e. Tells e (texts.join_on texts.enough key draft.old)) }
-    ensures standing { IfErr result (λ e. Stands e draft.new) }
+    ensures err { IfErr result (λ e. TellsStep e (texts.join_on texts.enough key draft.old)) }
+    ensures standing { IfErr result (λ e. StillStands e draft.new) }
 {
     'on: loop {
         let found = found_behind(draft, key);

@@ -1,9 +1,9 @@
 ghost use Rattle.std.specs.Prelude.{◌≡◌, Ok, OnOk, IfErr};
-ghost use Rattle.lx_draft.specs.Faults.{Tells};
+ghost use Rattle.lx_draft.specs.Faults.{TellsStep};
 ghost use Rattle.lx_edit.specs.Edits as edits;
 ghost use Rattle.lx_edit.specs.Edits.{children_step};
 ghost use Rattle.lx_edit.specs.InTurn.{in_turn};
-ghost use Rattle.lx_edit.specs.Standing.{Stands};
+ghost use Rattle.lx_edit.specs.Standing.{StillStands};
 
 use crate::conditions::{admitted, children_fault};
 use crate::places::children_of;
@@ -18,8 +18,8 @@ use std::alloc::Global;
 #[tactic(auto, unfolding(crate::specs::Edits::children_step))]
 pub fn move_children(alloc: Global, draft: &mut Draft, from: Key, to: Key) -> Result<(), Fault>
     ensures ok { OnOk result (children_step from to draft.old ≡ Ok draft.new) }
-    ensures err { IfErr result (λ e. Tells e (children_step from to draft.old)) }
-    ensures standing { IfErr result (λ e. Stands e draft.new) }
+    ensures err { IfErr result (λ e. TellsStep e (children_step from to draft.old)) }
+    ensures standing { IfErr result (λ e. StillStands e draft.new) }
 {
     let fault = children_fault(draft.links(), from, to);
     admitted(draft, fault)?;
@@ -29,8 +29,8 @@ pub fn move_children(alloc: Global, draft: &mut Draft, from: Key, to: Key) -> Re
 /// The children with the points that were on their parent, where nothing refuses them.
 fn carry_children(alloc: Global, draft: &mut Draft, from: Key, to: Key) -> Result<(), Fault>
     ensures ok { OnOk result (edits.children_moved from to draft.old ≡ Ok draft.new) }
-    ensures err { IfErr result (λ e. Tells e (edits.children_moved from to draft.old)) }
-    ensures standing { IfErr result (λ e. Stands e draft.new) }
+    ensures err { IfErr result (λ e. TellsStep e (edits.children_moved from to draft.old)) }
+    ensures standing { IfErr result (λ e. StillStands e draft.new) }
 {
     let children = children_of(alloc, draft.links(), from)?;
     let size = draft.links().size(to);
@@ -44,8 +44,8 @@ fn carry_children(alloc: Global, draft: &mut Draft, from: Key, to: Key) -> Resul
 #[tactic(auto, using(crate::proofs::Turns::turns_done))]
 pub fn move_each(draft: &mut Draft, to: Key, keys: &[Key]) -> Result<(), Fault>
     ensures ok { OnOk result (in_turn (edits.moved_to_end to) keys.now draft.old ≡ Ok draft.new) }
-    ensures err { IfErr result (λ e. Tells e (in_turn (edits.moved_to_end to) keys.now draft.old)) }
-    ensures standing { IfErr result (λ e. Stands e draft.new) }
+    ensures err { IfErr result (λ e. TellsStep e (in_turn (edits.moved_to_end to) keys.now draft.old)) }
+    ensures standing { IfErr result (λ e. StillStands e draft.new) }
 {
     for key in keys {
         match move_to_end(draft, to, *key) {
@@ -60,8 +60,8 @@ pub fn move_each(draft: &mut Draft, to: Key, keys: &[Key]) -> Result<(), Fault>
 #[tactic(auto, unfolding(crate::specs::Edits::moved_to_end))]
 pub(crate) fn move_to_end(draft: &mut Draft, parent: Key, key: Key) -> Result<(), Fault>
     ensures ok { OnOk result (edits.moved_to_end parent key draft.old ≡ Ok draft.new) }
-    ensures err { IfErr result (λ e. Tells e (edits.moved_to_end parent key draft.old)) }
-    ensures standing { IfErr result (λ e. Stands e draft.new) }
+    ensures err { IfErr result (λ e. TellsStep e (edits.moved_to_end parent key draft.old)) }
+    ensures standing { IfErr result (λ e. StillStands e draft.new) }
 {
     draft.take(key)?;
     let index = draft.links().size(parent);

@@ -5,7 +5,7 @@ ghost use Rattle.lx_node.specs.Trees.{nil};
 ghost use Rattle.lx_node.specs.Kinds as kinds;
 ghost use Rattle.lx_forest.specs.Lookups as lookups;
 ghost use Rattle.lx_draft.specs.Selecting.{unlike};
-ghost use Rattle.lx_draft.specs.Faults.{Stops};
+ghost use Rattle.lx_draft.specs.Faults.{StopsAt};
 ghost use Rattle.lx_edit.specs.Conditions as conditions;
 
 use crate::texts::length_at;
@@ -28,7 +28,7 @@ pub(crate) fn living(draft: &Draft) -> Result<(), NoMemory>
 pub(crate) fn admitted(draft: &Draft, fault: Option<Cause>) -> Result<(), Fault>
     ensures allowed { OnOk result (fault ≡ None) }
     ensures living { OnOk result (draft.now.forest ≢ nil) }
-    ensures err { IfErr result (λ e. Stops e fault draft.now) }
+    ensures err { IfErr result (λ e. StopsAt e fault draft.now) }
 {
     if draft.links().has_failed() {
         return Err(Fault::Memory);

@@ -1,8 +1,8 @@
 ghost use Rattle.std.specs.Prelude.{◌≡◌, Ok, OnOk, IfErr};
-ghost use Rattle.lx_draft.specs.Faults.{Tells};
+ghost use Rattle.lx_draft.specs.Faults.{TellsStep};
 ghost use Rattle.lx_edit.specs.Texts as texts;
 ghost use Rattle.lx_edit.specs.Texts.{join_step};
-ghost use Rattle.lx_edit.specs.Standing.{Stands};
+ghost use Rattle.lx_edit.specs.Standing.{StillStands};
 
 use crate::conditions::{admitted, join_fault};
 use crate::texts::{length_at, text_of};
@@ -17,8 +17,8 @@ use std::alloc::Global;
 #[tactic(auto, unfolding(crate::specs::Texts::join_step))]
 pub fn join_texts(alloc: Global, draft: &mut Draft, first: Key, second: Key) -> Result<(), Fault>
     ensures ok { OnOk result (join_step first second draft.old ≡ Ok draft.new) }
-    ensures err { IfErr result (λ e. Tells e (join_step first second draft.old)) }
-    ensures standing { IfErr result (λ e. Stands e draft.new) }
+    ensures err { IfErr result (λ e. TellsStep e (join_step first second draft.old)) }
+    ensures standing { IfErr result (λ e. StillStands e draft.new) }
 {
     let fault = join_fault(draft.links(), first, second);
     admitted(draft, fault)?;
@@ -27,9 +27,9 @@ pub fn join_texts(alloc: Global, draft: &mut Draft, first: Key, second: Key) -> 
 
 /// Joins two texts that nothing keeps apart.
 fn join(alloc: Global, draft: &mut Draft, first: Key, second: Key) -> Result<(), Fault>
-    ensures ok { OnOk result (texts.joined first second draft.old ≡ Ok draft.new) }
-    ensures err { IfErr result (λ e. Tells e (texts.joined first second draft.old)) }
-    ensures standing { IfErr result (λ e. Stands e draft.new) }
+    ensures ok { OnOk result (texts.texts_joined first second draft.old ≡ Ok draft.new) }
+    ensures err { IfErr result (λ e. TellsStep e (texts.texts_joined first second draft.old)) }
+    ensures standing { IfErr result (λ e. StillStands e draft.new) }
 {
     let end = length_at(draft, first);
     let text = text_of(alloc, draft, second)?;

@@ -4,10 +4,10 @@ ghost use Rattle.lx_forest.specs.Lookups as lookups;
 ghost use Rattle.lx_forest.specs.Lookups.{IsForest};
 ghost use Rattle.lx_node.specs.Limits.{most_counts};
 ghost use Rattle.lx_draft.specs.Steps.{take_step};
-ghost use Rattle.lx_draft.specs.Faults.{Tells};
+ghost use Rattle.lx_draft.specs.Faults.{TellsStep};
 ghost use Rattle.lx_edit.specs.Edits as edits;
 ghost use Rattle.lx_edit.specs.Edits.{remove_step};
-ghost use Rattle.lx_edit.specs.Standing.{Stands};
+ghost use Rattle.lx_edit.specs.Standing.{StillStands};
 
 use crate::places::{beside, element_point};
 use lx_draft::{Draft, PointRule};
@@ -22,8 +22,8 @@ use lx_node::{Fault, Key, Kind};
 /// below nothing, and where 100,000 counts were taken.
 pub fn remove(draft: &mut Draft, key: Key) -> Result<(), Fault>
     ensures ok { OnOk result (remove_step key draft.old ≡ Ok draft.new) }
-    ensures err { IfErr result (λ e. Tells e (remove_step key draft.old)) }
-    ensures standing { IfErr result (λ e. Stands e draft.new) }
+    ensures err { IfErr result (λ e. TellsStep e (remove_step key draft.old)) }
+    ensures standing { IfErr result (λ e. StillStands e draft.new) }
 {
     let mut next = Some(key);
     while let Some(at) = next {
@@ -43,8 +43,8 @@ fn remove_one(draft: &mut Draft, key: Key) -> Result<Option<Key>, Fault>
     ensures counted { OnOk result (draft.new.counted ≡ draft.old.counted + 1) }
     ensures within { OnOk result (draft.new.counted ≤ most_counts) }
     ensures emptied { IfOk result (λ next. next ≡ edits.goes_next (lookups.kind_of draft.old.forest key) draft.new.forest (lookups.parent_of draft.old.forest key)) }
-    ensures err { IfErr result (λ e. Tells e (take_step key (edits.sent_away key draft.old))) }
-    ensures standing { IfErr result (λ e. Stands e draft.new) }
+    ensures err { IfErr result (λ e. TellsStep e (take_step key (edits.sent_away key draft.old))) }
+    ensures standing { IfErr result (λ e. StillStands e draft.new) }
 {
     let kind = draft.links().kind(key);
     let parent = draft.links().parent(key);

@@ -1,9 +1,9 @@
 ghost use Rattle.std.specs.Prelude.{◌≡◌, Ok, OnOk, IfErr};
 ghost use Rattle.lx_forest.specs.Lookups as lookups;
-ghost use Rattle.lx_draft.specs.Faults.{Tells};
+ghost use Rattle.lx_draft.specs.Faults.{TellsStep};
 ghost use Rattle.lx_edit.specs.Edits as edits;
 ghost use Rattle.lx_edit.specs.Edits.{replace_step, wrap_step};
-ghost use Rattle.lx_edit.specs.Standing.{Stands};
+ghost use Rattle.lx_edit.specs.Standing.{StillStands};
 
 use crate::children::{move_children, move_to_end};
 use crate::conditions::{admitted, replace_fault, wrap_fault};
@@ -29,8 +29,8 @@ pub fn replace(
     keep: bool,
 ) -> Result<(), Fault>
     ensures ok { OnOk result (replace_step key with keep draft.old ≡ Ok draft.new) }
-    ensures err { IfErr result (λ e. Tells e (replace_step key with keep draft.old)) }
-    ensures standing { IfErr result (λ e. Stands e draft.new) }
+    ensures err { IfErr result (λ e. TellsStep e (replace_step key with keep draft.old)) }
+    ensures standing { IfErr result (λ e. StillStands e draft.new) }
 {
     let fault = replace_fault(draft.links(), key, with, keep);
     admitted(draft, fault)?;
@@ -69,8 +69,8 @@ fn is_text(links: &Links, key: Key) -> bool
 #[tactic(auto, unfolding(crate::specs::Edits::wrap_step))]
 pub fn wrap(draft: &mut Draft, key: Key, outer: Key) -> Result<(), Fault>
     ensures ok { OnOk result (wrap_step key outer draft.old ≡ Ok draft.new) }
-    ensures err { IfErr result (λ e. Tells e (wrap_step key outer draft.old)) }
-    ensures standing { IfErr result (λ e. Stands e draft.new) }
+    ensures err { IfErr result (λ e. TellsStep e (wrap_step key outer draft.old)) }
+    ensures standing { IfErr result (λ e. StillStands e draft.new) }
 {
     let fault = wrap_fault(draft.links(), key, outer);
     admitted(draft, fault)?;

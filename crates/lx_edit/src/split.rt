@@ -1,9 +1,9 @@
 ghost use Rattle.std.specs.Prelude.{◌≡◌, ◌+◌, ◌++◌, ◌∷◌, [], Ok, OnOk, IfOk, IfErr, length};
 ghost use Rattle.lx_node.specs.Trees.{nil};
-ghost use Rattle.lx_draft.specs.Faults.{Tells};
+ghost use Rattle.lx_draft.specs.Faults.{TellsStep};
 ghost use Rattle.lx_edit.specs.Texts as texts;
 ghost use Rattle.lx_edit.specs.Texts.{split_step, keys_from};
-ghost use Rattle.lx_edit.specs.Standing.{Stands};
+ghost use Rattle.lx_edit.specs.Standing.{StillStands};
 
 use crate::conditions::{admitted, split_fault};
 use crate::texts::{length_at, tail_of};
@@ -22,8 +22,8 @@ use std::alloc::Global;
 pub fn split_text(alloc: Global, draft: &mut Draft, key: Key, at: &[u32]) -> Result<Vec<Key>, Fault>
     ensures ok { OnOk result (split_step key at.now draft.old ≡ Ok draft.new) }
     ensures keys { IfOk result (λ keys. keys.items ≡ keys_from draft.old.next_key (length at.now)) }
-    ensures err { IfErr result (λ e. Tells e (split_step key at.now draft.old)) }
-    ensures standing { IfErr result (λ e. Stands e draft.new) }
+    ensures err { IfErr result (λ e. TellsStep e (split_step key at.now draft.old)) }
+    ensures standing { IfErr result (λ e. StillStands e draft.new) }
 {
     let fault = split_fault(draft, key, at);
     admitted(draft, fault)?;
@@ -34,8 +34,8 @@ pub fn split_text(alloc: Global, draft: &mut Draft, key: Key, at: &[u32]) -> Res
 fn cut_at(alloc: Global, draft: &mut Draft, key: Key, offsets: &[u32]) -> Result<Vec<Key>, Fault>
     ensures ok { OnOk result (texts.cut_at key 0 offsets.now draft.old ≡ Ok draft.new) }
     ensures keys { IfOk result (λ keys. keys.items ≡ keys_from draft.old.next_key (length offsets.now)) }
-    ensures err { IfErr result (λ e. Tells e (texts.cut_at key 0 offsets.now draft.old)) }
-    ensures standing { IfErr result (λ e. Stands e draft.new) }
+    ensures err { IfErr result (λ e. TellsStep e (texts.cut_at key 0 offsets.now draft.old)) }
+    ensures standing { IfErr result (λ e. StillStands e draft.new) }
 {
     let mut keys = Vec::new(alloc);
     let mut piece = key;
@@ -64,8 +64,8 @@ fn cut_in_two(alloc: Global, draft: &mut Draft, key: Key, offset: u32) -> Result
     ensures ok { OnOk result (texts.cut_in_two key offset draft.old ≡ Ok draft.new) }
     ensures key { IfOk result (λ new. new ≡ draft.old.next_key) }
     ensures next_key { OnOk result (draft.new.next_key ≡ draft.old.next_key + 1) }
-    ensures err { IfErr result (λ e. Tells e (texts.cut_in_two key offset draft.old)) }
-    ensures standing { IfErr result (λ e. Stands e draft.new) }
+    ensures err { IfErr result (λ e. TellsStep e (texts.cut_in_two key offset draft.old)) }
+    ensures standing { IfErr result (λ e. StillStands e draft.new) }
 {
     let end = length_at(draft, key);
     let new = make_tail(alloc, draft, key, offset)?;
@@ -80,8 +80,8 @@ fn make_tail(alloc: Global, draft: &mut Draft, key: Key, offset: u32) -> Result<
     ensures ok { OnOk result (texts.tail_made key offset draft.old ≡ Ok draft.new) }
     ensures key { IfOk result (λ new. new ≡ draft.old.next_key) }
     ensures next_key { OnOk result (draft.new.next_key ≡ draft.old.next_key + 1) }
-    ensures err { IfErr result (λ e. Tells e (texts.tail_made key offset draft.old)) }
-    ensures standing { IfErr result (λ e. Stands e draft.new) }
+    ensures err { IfErr result (λ e. TellsStep e (texts.tail_made key offset draft.old)) }
+    ensures standing { IfErr result (λ e. StillStands e draft.new) }
 {
     let fields = tail_of(alloc, draft, key, offset)?;
     let new = draft.new_node(Kind::Text, fields)?;

@@ -8,7 +8,7 @@ ghost use Rattle.lx_forest.specs.Lookups as lookups;
 ghost use Rattle.lx_draft.specs.Faults.{splice_fault, text_in, TellsFault};
 ghost use Rattle.lx_edit.specs.Conditions as conditions;
 ghost use Rattle.lx_edit.specs.Texts as texts;
-ghost use Rattle.lx_edit.specs.Standing.{Stands};
+ghost use Rattle.lx_edit.specs.Standing.{StillStands};
 
 use crate::conditions::living;
 use lx_draft::{Draft, with_text};
@@ -38,7 +38,7 @@ pub fn length_at(draft: &Draft, key: Key) -> u32
 /// A copy of the text of a node, which is empty for one that isn't a text.
 #[tactic(auto, using(crate::proofs::Tails::no_characters))]
 pub(crate) fn text_of(alloc: Global, draft: &Draft, key: Key) -> Result<Txt, NoMemory>
-    ensures { IfOk result (λ text. text ≡ texts.text_of (text_in (lookups.label_of draft.now.forest key))) }
+    ensures { IfOk result (λ text. text ≡ texts.text_or_none (text_in (lookups.label_of draft.now.forest key))) }
 {
     match text_at(draft, key) {
         Some(text) => text.text.copy(alloc),
@@ -51,7 +51,7 @@ pub(crate) fn tail_of(alloc: Global, draft: &Draft, key: Key, offset: u32) -> Re
     ensures allowed { IfOk result (λ _. splice_fault key offset (conditions.length_at draft.now.forest key) draft.now.forest ≡ None) }
     ensures tail { IfOk result (λ fields. fields ≡ texts.tail_of draft.now.forest key offset) }
     ensures of_kind { IfOk result (λ fields. IsOfKind Text fields) }
-    ensures standing { IfErr result (λ e. Stands e draft.now) }
+    ensures standing { IfErr result (λ e. StillStands e draft.now) }
     ensures refused { IfErr result (λ e. TellsFault e (splice_fault key offset (conditions.length_at draft.now.forest key) draft.now.forest)) }
 {
     living(draft)?;

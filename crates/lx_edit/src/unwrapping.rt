@@ -1,9 +1,10 @@
 ghost use Rattle.std.specs.Prelude.{◌≡◌, Ok, OnOk, IfErr};
-ghost use Rattle.lx_draft.specs.Faults.{Tells};
+ghost use Rattle.lx_draft.specs.Faults.{TellsStep};
 ghost use Rattle.lx_edit.specs.InTurn.{in_turn};
 ghost use Rattle.lx_edit.specs.Edits as edits;
 ghost use Rattle.lx_edit.specs.Edits.{unwrap_step};
-ghost use Rattle.lx_edit.specs.Standing.{Stands};
+ghost use Rattle.lx_edit.specs.Brought.{BringsUp};
+ghost use Rattle.lx_edit.specs.Standing.{StillStands};
 
 use crate::conditions::{admitted, unwrap_fault};
 use crate::places::children_of;
@@ -19,8 +20,8 @@ use std::alloc::Global;
 #[tactic(auto, unfolding(crate::specs::Edits::unwrap_step))]
 pub fn unwrap(alloc: Global, draft: &mut Draft, key: Key) -> Result<(), Fault>
     ensures ok { OnOk result (unwrap_step key draft.old ≡ Ok draft.new) }
-    ensures err { IfErr result (λ e. Tells e (unwrap_step key draft.old)) }
-    ensures standing { IfErr result (λ e. Stands e draft.new) }
+    ensures err { IfErr result (λ e. TellsStep e (unwrap_step key draft.old)) }
+    ensures standing { IfErr result (λ e. StillStands e draft.new) }
 {
     let fault = unwrap_fault(draft.links(), key);
     admitted(draft, fault)?;
@@ -30,16 +31,28 @@ pub fn unwrap(alloc: Global, draft: &mut Draft, key: Key) -> Result<(), Fault>
 /// The children with the points that were on their parent, where nothing refuses them.
 fn unfold_children(alloc: Global, draft: &mut Draft, key: Key) -> Result<(), Fault>
     ensures ok { OnOk result (edits.unwrapped key draft.old ≡ Ok draft.new) }
-    ensures err { IfErr result (λ e. Tells e (edits.unwrapped key draft.old)) }
-    ensures standing { IfErr result (λ e. Stands e draft.new) }
+    ensures err { IfErr result (λ e. TellsStep e (edits.unwrapped key draft.old)) }
+    ensures standing { IfErr result (λ e. StillStands e draft.new) }
 {
     let children = children_of(alloc, draft.links(), key)?;
     let parent = draft.links().parent(key);
-    let index = draft.links().index_of(key);
+    let index = index_for_points(draft, key);
     let before = draft.selection().ends();
     move_each_before(draft, key, &children)?;
     bring_up(draft, key, parent, index, before);
     remove(draft, key)
+}
+
+/// The index of a node in its parent. It is looked for only where points are on the node, which need it.
+#[tactic(auto, using(crate::proofs::Brought::brought_same, crate::proofs::Brought::brought_apart))]
+fn index_for_points(draft: &Draft, key: Key) -> Option<u32>
+    ensures { BringsUp key draft.now result }
+{
+    if draft.selection().has_point_on(key) {
+        draft.links().index_of(key)
+    } else {
+        None
+    }
 }
 
 /// Brings the points that were on a node to where it stood in its parent, if it stood in one.
@@ -61,8 +74,8 @@ fn bring_up(
 #[tactic(auto, using(crate::proofs::Turns::turns_done))]
 fn move_each_before(draft: &mut Draft, other: Key, keys: &[Key]) -> Result<(), Fault>
     ensures ok { OnOk result (in_turn (edits.moved_before other) keys.now draft.old ≡ Ok draft.new) }
-    ensures err { IfErr result (λ e. Tells e (in_turn (edits.moved_before other) keys.now draft.old)) }
-    ensures standing { IfErr result (λ e. Stands e draft.new) }
+    ensures err { IfErr result (λ e. TellsStep e (in_turn (edits.moved_before other) keys.now draft.old)) }
+    ensures standing { IfErr result (λ e. StillStands e draft.new) }
 {
     for key in keys {
         match move_before(draft, other, *key) {
@@ -77,8 +90,8 @@ fn move_each_before(draft: &mut Draft, other: Key, keys: &[Key]) -> Result<(), F
 #[tactic(auto, unfolding(crate::specs::Edits::moved_before))]
 fn move_before(draft: &mut Draft, other: Key, key: Key) -> Result<(), Fault>
     ensures ok { OnOk result (edits.moved_before other key draft.old ≡ Ok draft.new) }
-    ensures err { IfErr result (λ e. Tells e (edits.moved_before other key draft.old)) }
-    ensures standing { IfErr result (λ e. Stands e draft.new) }
+    ensures err { IfErr result (λ e. TellsStep e (edits.moved_before other key draft.old)) }
+    ensures standing { IfErr result (λ e. StillStands e draft.new) }
 {
     draft.take(key)?;
     draft.put_before(key, other)

@@ -1,15 +1,6 @@
-pub mod Beside
-pub mod Blocks
-pub mod Composed
-pub mod Counted
-pub mod Counts
-pub mod Gathered
 pub mod Grown
-pub mod Held
 pub mod Placed
 pub mod Ran
-pub mod Runs
 pub mod Shown
 pub mod Told
 pub mod Updated
-pub mod Words

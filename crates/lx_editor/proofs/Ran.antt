@@ -20,11 +20,11 @@ use Rattle.lx_forest.specs.Edits.{with_new}
 use Rattle.lx_forest.proofs.Order.{IsForest-with_new, IsForest-put_in}
 use Rattle.lx_draft.specs.Working.{Working}
 use Rattle.lx_draft.specs.Faults.{answer, after, put_fault}
-use Rattle.lx_draft.specs.Steps.{counted_up, made, placed, put_at, count_step, new_step, put_step, select_step}
+use Rattle.lx_draft.specs.Steps.{counted_up, made, node_placed, put_at, count_step, new_step, put_step, select_step}
 use Rattle.lx_draft.proofs.Put.{can_put}
-use Rattle.lx_editor.specs.Appending.{appended, filled}
+use Rattle.lx_run.specs.Appending.{appended, filled}
 use Rattle.lx_editor.specs.Operations.{keys_of, texts_in, texts_of, next_behind}
-use Rattle.lx_editor.specs.Scripts.{Scripted, on_draft, run_step, run_on, run_from, selection_for}
+use Rattle.lx_run.specs.Scripts.{Scripted, on_draft, run_step, run_on, run_from, selection_for}
 use Rattle.lx_editor.specs.Updated.{is_run}
 use Rattle.lx_editor.proofs.Grown.{paragraph, grown, leaf, absent, with_paragraph, absent_too, with_text, both, text_put, paragraph_put}
 
@@ -85,7 +85,7 @@ new_made kind fields f key w v at absent ok =
 put_made : (k p index : ℕ) (f : Forest) (key : ℕ) (w v : Working) → IsAt f key w → put_step k p index w ≡ Ok v → IsAt (put_at k p index f) key v
 unfolding put_step
 put_made k p index f key w v at ok =
-    let answered = answer_ok _ (placed k p index w) v ok in
+    let answered = answer_ok _ (node_placed k p index w) v ok in
     let none : put_fault k p index f ≡ None = ap (put_fault k p index) (sym at.forest) ∙ first_none _ _ answered.0 in
     subst (IsAt (put_at k p index f) key) answered.1 (record {
       order = IsForest-put_in p (slice_get (children_of f p) index) k f at.order (can_put f k p index none);

@@ -24,8 +24,8 @@ use Rattle.lx_plain.specs.Allowed.{Shows}
 use Rattle.lx_editor.specs.declared.outcome.Outcome.TheVariants.{Committed, Refused, Idle}
 use Rattle.lx_editor.specs.Editor.{Editor}
 use Rattle.lx_editor.specs.Operations.{texts_of, all_shown, next_behind}
-use Rattle.lx_editor.specs.Naming.{no_names}
-use Rattle.lx_editor.specs.Scripts.{Scripted, scripted, run_from}
+use Rattle.lx_run.specs.Naming.{no_names}
+use Rattle.lx_run.specs.Scripts.{Scripted, scripted, run_from}
 use Rattle.lx_editor.specs.Standing.{AreSound, IsOne, IsOneTree}
 use Rattle.lx_editor.specs.Updated.{is_run, at_commit, drafted, frozen_from, left_by, begun, AreLeft, AreShowing, IsNothingNew, IsUpdated}
 use Rattle.lx_editor.proofs.Grown.{grown, root_of, root_left}

@@ -19,8 +19,8 @@ use Rattle.lx_editor.specs.declared.leaving.Refusal.TheVariants as refusal
 use Rattle.lx_editor.specs.declared.outcome.Outcome.{Outcome}
 use Rattle.lx_editor.specs.declared.outcome.Outcome.TheVariants.{Committed, Refused, Idle}
 use Rattle.lx_editor.specs.Editor.{Editor}
-use Rattle.lx_editor.specs.Naming.{no_names}
-use Rattle.lx_editor.specs.Scripts.{Scripted, scripted, run_from}
+use Rattle.lx_run.specs.Naming.{no_names}
+use Rattle.lx_run.specs.Scripts.{Scripted, scripted, run_from}
 
 -- Steps that an update runs: appends, and selects other than of cells. All others are no commands yet.
 abbrev pub is_run : Step → Bool

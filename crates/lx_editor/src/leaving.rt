@@ -2,14 +2,13 @@ ghost use Rattle.std.specs.Prelude.{◌≡◌, Ok, All, OnOk, IfOk, IfErr};
 ghost use Rattle.std.specs.List.{list_all};
 ghost use Rattle.lx_step.specs.Sound.{IsSound};
 ghost use Rattle.lx_draft.specs.Working.{MayStart, started};
-ghost use Rattle.lx_editor.specs.Naming.{no_names};
-ghost use Rattle.lx_editor.specs.Scripts.{scripted, run_from, TellsAt};
+ghost use Rattle.lx_run.specs.Naming.{no_names};
+ghost use Rattle.lx_run.specs.Scripts.{scripted, run_from, TellsAt};
 ghost use Rattle.lx_editor.specs.Updated.{is_run as is_run_step, left_by, AreLeft, TellsRefusal, drafted};
 
-use crate::names::Names;
-use crate::script::run_steps;
 use lx_draft::{Draft, Frozen, State};
 use lx_node::{Cause, Fault};
+use lx_run::{Names, run_steps};
 use lx_step::{SelectionRef, Step};
 use std::alloc::Global;
 

@@ -2,24 +2,13 @@
 #![tactic(auto)]
 
 mod answer;
-mod append;
-mod choosing;
 mod editor;
 mod leaving;
 mod line;
-mod moving;
-mod names;
 mod operations;
 mod outcome;
-mod patching;
-mod resolving;
-mod script;
 mod showing;
-mod splitting;
-mod stepping;
 
 pub use answer::answer_line;
 pub use editor::Editor;
-pub use names::Names;
 pub use outcome::Outcome;
-pub use script::run_steps;

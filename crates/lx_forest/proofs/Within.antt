@@ -1,14 +1,15 @@
 -- Which keys are in the tree of which, and of the root, and what edits do to that.
-use Rattle.std.proofs.Common.{◌≡◌, ◌≢◌, ℕ, true, false, eqb, ◌&&◌, ◌||◌, not, ◌∷◌, Option, None, Some, refl, arith}
+use Rattle.std.proofs.Common.{◌≡◌, ◌≢◌, ℕ, true, false, eqb, ◌&&◌, ◌||◌, not, [], ◌∷◌, Option, None, Some, refl, arith}
 use Rattle.lx_node.specs.NamedTrees.{put_below}
 use Rattle.lx_node.specs.Siblings.{is_among}
 use Rattle.lx_node.specs.declared.fields.Fields.{Fields}
 use Rattle.lx_node.proofs.NamedTrees.{alone-absent, alone-mapped, count-without-alone, count-mapped}
 use Rattle.lx_node.proofs.Subtrees.{alone-alone}
 use Rattle.lx_forest.specs.Forest.{Label, Forest}
-use Rattle.lx_forest.specs.Lookups.{key_of, count, has, alone, without, parent_of, is_within, is_attached, ancestors, IsForest}
+use Rattle.lx_forest.specs.Lookups.{key_of, count, has, alone, without, parent_of, children_of, is_within, is_attached, ancestors, IsForest}
 use Rattle.lx_forest.specs.Edits.{among_roots, with_new, fields_at, with_fields, take_out, put_in, drop_detached, CanPut}
 use Rattle.lx_forest.proofs.Edits.{has-root}
+use Rattle.lx_rooted.proofs.Leaves as rootedLeaves
 use Rattle.lx_rooted.proofs.Within as rootedWithin
 use Rattle.lx_rooted.proofs.Up as rootedUp
 use Rattle.lx_forest.proofs.Ordered.{ordered}
@@ -60,6 +61,10 @@ is_within-ancestors f k q h there = rootedUp.is_within-ancestors key_of f k q (o
 -- a key that stands is in its own tree
 pub is_within-self : (f : Forest) (k : ℕ) → is_within f k k ≡ has k f
 is_within-self f k = rootedWithin.is_within-self key_of f k
+
+-- nothing but itself is in the tree of a leaf
+pub is_within-leaf : (f : Forest) (k q : ℕ) → IsForest f → children_of f k ≡ [] → is_within f k q ≡ (eqb q k && has k f)
+is_within-leaf f k q h none = rootedLeaves.is_within-leaf key_of f k q (ordered h) none
 
 pub is_within-trans : (f : Forest) (k p q : ℕ) → IsForest f → is_within f k p ≡ true → is_within f p q ≡ true → is_within f k q ≡ true
 is_within-trans f k p q h1 h2 h3 = rootedWithin.is_within-trans key_of f k p q (ordered h1) h2 h3

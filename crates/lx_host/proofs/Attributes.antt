@@ -1,5 +1,5 @@
 -- Attributes stay in the order of their names, and are no more than there are names.
-use Rattle.std.proofs.Common.{◌≡◌, ℕ, ◌+◌, ◌<◌, ◌≤◌, Bool, true, false, not, ltb, ◌&&◌, ◌||◌, List, [], ◌∷◌, length, get_or, Option, None, Some, refl, sym, ap, ◌∙◌, arith, lit<, zero, suc, take, drop, ◌++◌, append_assoc, set}
+use Rattle.std.proofs.Common.{◌≡◌, ℕ, ◌+◌, ◌<◌, ◌≤◌, Bool, true, false, not, ltb, ◌&&◌, ◌||◌, List, [], ◌∷◌, length, get_or, Option, None, Some, refl, sym, ap, ◌∙◌, arith, lit<, zero, suc, take, drop, ◌++◌, append_assoc, length-append, set}
 use Rattle.std.proofs.lemmas.Cmp.{nat_list_cmp_total, on_total}
 use Rattle.std.proofs.lemmas.Bool.{ltb-true}
 use Rattle.std.proofs.lemmas.List.{take_more, drop_more, take_all, drop_all, set_split, take-append-drop}
@@ -13,6 +13,7 @@ use Rattle.lx_host.specs.declared.tag.Name.{Name}
 use Rattle.lx_host.specs.declared.tag.Name.TheVariants.{AriaChecked, Class, ColSpan, DataAlign, DataBg, DataIndent, DataLexicalDecorator, DataLexicalText, DataSrc, Dir, Href, Rel, Role, RowSpan, Start, Style, Target, Title, Value}
 use Rattle.lx_host.specs.Words.{name_word, names_rise, name_order, before_others, with_attribute, AreAttributes}
 use Rattle.lx_host.specs.Places.{IsWrittenAt}
+use Rattle.lx_host.specs.Stocked.{most_attributes}
 
 order : IsTotalOrder name_order
 order = on_total name_word nat_list_cmp_total
@@ -156,14 +157,14 @@ few_from a (b ∷ xs) e =
     let p = both (is_lt (name_order a.0 b.0)) _ e in
     omega (arith, place_lt a.0 b.0 (is_less _ p.0), few_from b xs p.1)
 
-few : (xs : List (Name × List ℕ)) → names_rise xs ≡ true → length xs ≤ 4294967295
+few : (xs : List (Name × List ℕ)) → names_rise xs ≡ true → length xs ≤ most_attributes
 few [] e = omega arith
 few (a ∷ xs) e = omega (arith, few_from a xs e)
 
 pub attributes_with : (name : Name) (value : Option (List ℕ)) (xs : List (Name × List ℕ)) → AreAttributes xs → AreAttributes (with_attribute name value xs)
 attributes_with name value xs are =
     let e = rise_with name value xs are.rise in
-    record { rise = e; few = few _ e }
+    record { rise = e; few = omega (arith, few _ e) }
 
 -- ---- where an attribute is written
 
@@ -206,6 +207,13 @@ belongs_behind name xs i n end is passed = record {
       ∙ ap (λ l. take n xs ++ before_others name value l) (sym (drop_all n xs (omega (arith, is))));
 }
 
+-- where one more can be written there aren't all yet
+pub few_before : (name : Name) (xs : List (Name × List ℕ)) (i : ℕ) (v : List ℕ) → AreAttributes xs → IsWrittenAt name xs i i → length xs < most_attributes
+few_before name xs i v are is =
+    let written = ap length (is.is (Some v)) ∙ length-append (take i xs) ((name, v) ∷ drop i xs) in
+    let split = ap length (take-append-drop i xs) in
+    omega (arith, few _ (rise_with name (Some v) xs are.rise), written, split, length-append (take i xs) (drop i xs))
+
 -- ---- writing it there
 
 pub written_set : (name : Name) (xs : List (Name × List ℕ)) (i : ℕ) (v : List ℕ) → IsWrittenAt name xs i (i + 1) → set xs i (name, v) ≡ with_attribute name (Some v) xs
@@ -216,6 +224,3 @@ written_insert name xs i v is = sym (is.is (Some v))
 
 pub written_remove : (name : Name) (xs : List (Name × List ℕ)) (i : ℕ) → IsWrittenAt name xs i (i + 1) → remove xs i ≡ with_attribute name None xs
 written_remove name xs i is = ap (λ k. take i xs ++ drop k xs) (sym (add-one i)) ∙ sym (is.is None)
-
-pub written_none : (name : Name) (xs : List (Name × List ℕ)) (i : ℕ) → IsWrittenAt name xs i i → xs ≡ with_attribute name None xs
-written_none name xs i is = sym (take-append-drop i xs) ∙ sym (is.is None)

@@ -1,31 +1,22 @@
 -- The HTML of hosts, one behind another.
-use Rattle.std.proofs.Common.{None, Some, ◌≡◌, ℕ, ◌+◌, ◌<◌, true, false, List, [], ◌∷◌, ◌++◌, take, length, get_or, refl, sym, ap, ◌∙◌, append_assoc}
-use Rattle.std.proofs.lemmas.List.{append-nil, take_more}
+use Rattle.std.proofs.Common.{None, Some, ◌≡◌, ℕ, true, false, List, [], ◌++◌, refl, sym, ap, ◌∙◌, append_assoc}
+use Rattle.std.proofs.lemmas.List.{append-nil}
 use Rattle.lx_node.specs.Trees.{Trees, nil, tree, joined}
 use Rattle.lx_host.specs.declared.tag.Name.{Name}
 use Rattle.lx_host.specs.declared.tag.Tag.{Tag}
 use Rattle.lx_host.specs.declared.tag.Tag.TheVariants.{Div, P, H1, H2, H3, H4, H5, H6, Blockquote, Ul, Ol, Li, A, Table, Tr, Th, Td, Br, Hr, Inline}
-use Rattle.lx_host.specs.Hosts.{Host, shape_of}
-use Rattle.lx_host.specs.Branches.{Branch, trees_of}
+use Rattle.lx_host.specs.Hosts.{Host, Face, shape_of}
 use Rattle.lx_host.specs.Html.{start_tag, end_tag, host_html, inside_html, ending_html, html_of}
 use Rattle.lx_host.specs.Pieces.{is_void, opening, closing}
 use Rattle.lx_host.specs.Words.{inner_word, outer_word, tag_word}
-use Rattle.lx_host.proofs.Spotted.{trees_of-append}
 use Rattle.lx_host.proofs.Pages.{behind}
 
-html_of-joined : (s t : Trees Host) → html_of (shape_of (joined s t)) ≡ html_of (shape_of s) ++ html_of (shape_of t)
+pub html_of-joined : (s t : Trees Host) → html_of (shape_of (joined s t)) ≡ html_of (shape_of s) ++ html_of (shape_of t)
 unfolding html_of
 html_of-joined nil t = refl
 html_of-joined (tree host below rest) t =
     let first = host_html host.face.tag host.face.attrs (inside_html host.face.text (html_of (shape_of below)) ++ ending_html host.face.ending) in
     ap (λ html. first ++ html) (html_of-joined rest t) ∙ sym (append_assoc first (html_of (shape_of rest)) (html_of (shape_of t)))
-
--- the HTML of hosts, with one more
-pub html_more : (hosts : List Branch) (i : ℕ) (host : Branch) → i < length hosts → host ≡ get_or hosts i host
-    → html_of (shape_of (trees_of (take (i + 1) hosts))) ≡ html_of (shape_of (trees_of (take i hosts))) ++ html_of (shape_of (trees_of (host ∷ [])))
-html_more hosts i host within item =
-    ap (λ l. html_of (shape_of (trees_of l))) (take_more hosts i host within ∙ ap (λ h. take i hosts ++ h ∷ []) (sym item))
-    ∙ ap (λ t. html_of (shape_of t)) (trees_of-append (take i hosts) (host ∷ [])) ∙ html_of-joined (trees_of (take i hosts)) (trees_of (host ∷ []))
 
 -- ---- the pieces of a host
 
@@ -80,30 +71,29 @@ full_html Tr attributes inside full = refl
 full_html Th attributes inside full = refl
 full_html Td attributes inside full = refl
 
--- ---- one host, where v is the record of its parts
+-- ---- one host
 
-html_of_one : (b : Branch) → host_html b.host.face.tag b.host.face.attrs (inside_html b.host.face.text (html_of (shape_of b.below)) ++ ending_html b.host.face.ending) ≡ html_of (shape_of (trees_of (b ∷ [])))
+html_of_one : (face : Face) (inside : Trees Face) → host_html face.tag face.attrs (inside_html face.text (html_of inside) ++ ending_html face.ending) ≡ html_of (tree face inside nil)
 unfolding html_of
-html_of_one b =
-    sym (append-nil (host_html b.host.face.tag b.host.face.attrs (inside_html b.host.face.text (html_of (shape_of b.below)) ++ ending_html b.host.face.ending)))
+html_of_one face inside =
+    sym (append-nil (host_html face.tag face.attrs (inside_html face.text (html_of inside) ++ ending_html face.ending)))
 
--- the HTML of one host, however what is inside was found
-module _ (page : List ℕ) (v b : Branch) (is : v ≡ b) where
-  printed : (html : List ℕ) → html ≡ host_html v.host.face.tag v.host.face.attrs (inside_html v.host.face.text (html_of (shape_of v.below)) ++ ending_html v.host.face.ending) → page ++ html ≡ page ++ html_of (shape_of (trees_of (b ∷ [])))
-  printed html e = ap (λ end. page ++ end) (e ∙ html_of_one v ∙ ap (λ host. html_of (shape_of (trees_of (host ∷ [])))) is)
+-- the HTML of a host that shows this face, with these trees below, however what is inside was found
+module _ (page : List ℕ) (face : Face) (below t : Trees Host) (is : shape_of t ≡ tree face (shape_of below) nil) where
+  printed : (html : List ℕ) → html ≡ host_html face.tag face.attrs (inside_html face.text (html_of (shape_of below)) ++ ending_html face.ending) → page ++ html ≡ page ++ html_of (shape_of t)
+  printed html e = ap (λ end. page ++ end) (e ∙ html_of_one face (shape_of below) ∙ sym (ap html_of is))
 
   -- a start alone
-  pub void_printed : {opened : List ℕ} → is_void v.host.face.tag ≡ true → opened ≡ page ++ opening v.host.face.tag v.host.face.attrs → opened ≡ page ++ html_of (shape_of (trees_of (b ∷ [])))
-  void_printed void start =
-      start ∙ printed (opening v.host.face.tag v.host.face.attrs) (void_html v.host.face.tag v.host.face.attrs _ void)
+  pub void_printed : {opened : List ℕ} → is_void face.tag ≡ true → opened ≡ page ++ opening face.tag face.attrs → opened ≡ page ++ html_of (shape_of t)
+  void_printed void start = start ∙ printed (opening face.tag face.attrs) (void_html face.tag face.attrs _ void)
 
   -- a start, what is inside, a line break if there is one, and an end
-  pub full_printed : {opened filled ended closed : List ℕ} → is_void v.host.face.tag ≡ false → opened ≡ page ++ opening v.host.face.tag v.host.face.attrs
-      → filled ≡ opened ++ inside_html v.host.face.text (html_of (shape_of v.below)) → ended ≡ filled ++ ending_html v.host.face.ending → closed ≡ ended ++ closing v.host.face.tag
-      → closed ≡ page ++ html_of (shape_of (trees_of (b ∷ [])))
+  pub full_printed : {opened filled ended closed : List ℕ} → is_void face.tag ≡ false → opened ≡ page ++ opening face.tag face.attrs
+      → filled ≡ opened ++ inside_html face.text (html_of (shape_of below)) → ended ≡ filled ++ ending_html face.ending → closed ≡ ended ++ closing face.tag
+      → closed ≡ page ++ html_of (shape_of t)
   full_printed full start inside ending end =
-      let A = opening v.host.face.tag v.host.face.attrs in
-      let I = inside_html v.host.face.text (html_of (shape_of v.below)) in
-      let E = ending_html v.host.face.ending in
-      let C = closing v.host.face.tag in
-      behind page (A ++ (I ++ E)) C (behind page A (I ++ E) start (behind _ I E inside ending)) end ∙ printed (A ++ (I ++ E) ++ C) (full_html v.host.face.tag v.host.face.attrs (I ++ E) full)
+      let A = opening face.tag face.attrs in
+      let I = inside_html face.text (html_of (shape_of below)) in
+      let E = ending_html face.ending in
+      let C = closing face.tag in
+      behind page (A ++ (I ++ E)) C (behind page A (I ++ E) start (behind _ I E inside ending)) end ∙ printed (A ++ (I ++ E) ++ C) (full_html face.tag face.attrs (I ++ E) full)

@@ -4,6 +4,13 @@ pub mod Words
 pub mod Html
 pub mod Pieces
 pub mod Branches
-pub mod Changes
 pub mod Places
 pub mod Lookups
+pub mod Links
+pub mod Stands
+pub mod Below
+pub mod Weights
+pub mod Shown
+pub mod Least
+pub mod Room
+pub mod Stocked

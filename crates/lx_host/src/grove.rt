@@ -1,172 +1,452 @@
-use crate::change::Change;
-use crate::node::{HostNode, find_among, holder_of, next_among, place_of, take_from};
+use crate::joints::{Gap, link_in, unlink};
+use crate::linked::{Change, Linked, change_host, write_attribute};
+use crate::op::Attrs;
 use crate::page::Page;
-use lx_node::{Key, NoMemory};
+use crate::stock::Stock;
+use crate::tag::{Name, Tag};
+use indexmap::IndexMap;
+use lx_node::{Key, NoMemory, Txt};
 use std::alloc::Global;
 use std::marker::Model;
 
-/// A host with all below it, the root, and hosts that aren't placed yet. Hosts that aren't placed are few
-/// and soon wanted, so each look-up begins with the root and with those, before it goes deep.
-#[derive(Debug, Drop)]
+/// Host 0 with all below it, and the hosts that aren't placed yet: a table of them by their ids, each with its
+/// parent, its neighbours and its ends. It is seen as the trees that the table stands for, the ids in the table's
+/// own order, and how many more hosts can be added without memory.
+#[derive(Drop)]
 pub struct Grove {
-    root: HostNode,
-    unplaced: Vec<HostNode>,
+    table: IndexMap<u32, Linked>,
+    ghost stands: { Standing table } by { Standing-prop table },
 }
+
+ghost use Rattle.lx_host.specs.Stands.{Standing, Standing-prop};
 
 impl Model for Grove {
     ghost use Rattle.std.specs.Coded.{codes};
-    ghost use Rattle.lx_node.specs.Trees.{Trees, tree, trees_code};
-    ghost use Rattle.lx_host.specs.Hosts.{Host};
-    ghost use Rattle.lx_host.specs.Branches.{trees_of};
+    ghost use Rattle.lx_node.specs.Trees.{trees_code};
+    ghost use Rattle.lx_host.specs.Stands.{GroveView};
 
-    ghost Value = { Trees Host };
+    ghost Value = { GroveView };
 
     ghost coded = { Prim.hlevel (codes, trees_code) };
 
-    ghost view = { λ g. tree g.root.host g.root.below (trees_of g.unplaced.items) };
+    ghost use Rattle.lx_host.specs.Stands.{hosts_in};
+    ghost use Rattle.indexmap.specs.IndexMap.{spare, keys};
+
+    ghost view = { λ g. record { hosts = hosts_in g.table g.stands; room = spare g.table; ids = keys g.table } };
 }
 
 impl Grove {
-    ghost use Rattle.std.specs.Prelude.{◌≡◌, ◌<◌, [], ◌∷◌, OnOk, OnErr, IsTrue};
+    ghost use Rattle.std.specs.Prelude.{◌≡◌, ℕ, IfOk, option_map, length, slice_get};
     ghost use Rattle.std.specs.Option.{option_copied};
+    ghost use Rattle.lx_node.specs.Siblings.{is_among, is_named};
+    ghost use Rattle.lx_host.specs.Hosts.{id_of, one_host, root_face, has};
+    ghost use Rattle.lx_host.specs.Stands.{linked_of, Sound};
+    ghost use Rattle.lx_host.specs.Weights.{key_at};
+    ghost use Rattle.lx_rooted.specs.Records.{record_at};
+    ghost use Rattle.lx_rooted.specs.Lookups as lookups;
+
+    /// Host 0 alone, which shows the root.
+    pub fn new(alloc: Global) -> Result<Grove, NoMemory>
+        ensures { IfOk result (λ made. made.hosts ≡ one_host 0 root_face) }
+    {
+        let root = Linked {
+            key: Key::root(),
+            tag: Tag::Div,
+            attrs: Attrs::of(Vec::new(alloc)),
+            text: None,
+            ending: false,
+            parent: None,
+            prev: None,
+            next: None,
+            first: None,
+            last: None,
+            size: 0,
+        };
+        let mut table = IndexMap::new(alloc);
+        table.insert(0, root)?;
+        Ok(Grove { table })
+    }
+
+    /// Each grove's hosts are in order, and its ids are theirs.
+    pub fn in_order(&self)
+        ensures sound { Sound self.now.hosts }
+        ensures ids { (q : ℕ) → is_among q self.now.ids ≡ has q self.now.hosts }
+    {
+        let _table = &self.table;
+    }
+
+    /// How many hosts there are.
+    pub fn len(&self) -> usize
+        ensures { result ≡ length self.now.ids }
+    {
+        self.table.len()
+    }
+
+    /// The id at a place of the table, where there is one.
+    pub fn id_at(&self, place: usize) -> Option<u32>
+        ensures { result ≡ slice_get self.now.ids place }
+    {
+        match self.table.get_index(place) {
+            Some((id, _)) => Some(*id),
+            None => None,
+        }
+    }
+
+    /// The host of an id, where there is one.
+    fn host(&self, id: u32) -> Option<&Linked>
+        ensures host { option_copied result ≡ option_map linked_of (record_at id_of self.now.hosts id) }
+        ensures sound { Sound self.now.hosts }
+    {
+        self.table.get(&id)
+    }
+
+    /// Whether there is a host of that id.
+    pub fn has(&self, id: u32) -> bool
+        ensures has { result ≡ has id self.now.hosts }
+        ensures sound { Sound self.now.hosts }
+    {
+        self.host(id).is_some()
+    }
+
+    /// The host below which it stands.
+    pub fn parent(&self, id: u32) -> Option<u32>
+        ensures parent { result ≡ lookups.parent_of id_of self.now.hosts id }
+        ensures sound { Sound self.now.hosts }
+    {
+        match self.host(id) {
+            Some(host) => host.parent,
+            None => None,
+        }
+    }
+
+    /// The first of the host's children.
+    pub fn first(&self, id: u32) -> Option<u32>
+        ensures first { result ≡ lookups.first_child id_of self.now.hosts id }
+        ensures sound { Sound self.now.hosts }
+    {
+        match self.host(id) {
+            Some(host) => host.first,
+            None => None,
+        }
+    }
+
+    /// The last of the host's children.
+    fn last(&self, id: u32) -> Option<u32>
+        ensures last { result ≡ lookups.last_child id_of self.now.hosts id }
+        ensures sound { Sound self.now.hosts }
+    {
+        match self.host(id) {
+            Some(host) => host.last,
+            None => None,
+        }
+    }
+
+    /// The host right before this one among the children of its parent.
+    fn previous(&self, id: u32) -> Option<u32>
+        ensures previous { result ≡ lookups.previous_of id_of self.now.hosts id }
+        ensures sound { Sound self.now.hosts }
+    {
+        match self.host(id) {
+            Some(host) => host.prev,
+            None => None,
+        }
+    }
+
+    /// The host right behind this one among the children of its parent.
+    pub fn next(&self, id: u32) -> Option<u32>
+        ensures next { result ≡ lookups.next_of id_of self.now.hosts id }
+        ensures sound { Sound self.now.hosts }
+    {
+        match self.host(id) {
+            Some(host) => host.next,
+            None => None,
+        }
+    }
+
+    /// The key that a host shows.
+    pub fn key(&self, id: u32) -> Option<Key>
+        ensures key { result ≡ key_at self.now.hosts id }
+        ensures sound { Sound self.now.hosts }
+    {
+        match self.host(id) {
+            Some(host) => Some(host.key),
+            None => None,
+        }
+    }
+
+    /// Whether the host of that id is there and shows the key.
+    pub fn shows(&self, id: u32, key: Key) -> bool
+        ensures { result ≡ is_named (key_at self.now.hosts id) key }
+    {
+        match self.key(id) {
+            Some(own) => key == own,
+            None => false,
+        }
+    }
+
+    ghost use Rattle.std.specs.Prelude.{◌==◌, ◌&&◌, not, [], true};
+    ghost use Rattle.lx_host.specs.Hosts.{alone, children_of, fits_before};
+
+    /// Whether a host is in the tree of the outer one: that one itself, or below it. It walks up.
+    pub fn is_within(&self, outer: u32, id: u32) -> bool
+        ensures within { result ≡ lookups.is_within id_of self.now.hosts outer id }
+        ensures sound { Sound self.now.hosts }
+    {
+        let mut at = id;
+        while at != outer {
+            match self.parent(at) {
+                Some(parent) => at = parent,
+                None => return false,
+            }
+        }
+        self.has(outer)
+    }
+
+    /// A host without children in the tree of this one.
+    pub fn leaf_below(&self, id: u32) -> u32
+        requires there { has id self.now.hosts ≡ true }
+        ensures leaf { lookups.children_of id_of self.now.hosts result ≡ [] }
+        ensures within { lookups.is_within id_of self.now.hosts id result ≡ true }
+        ensures sound { Sound self.now.hosts }
+    {
+        let mut at = id;
+        while let Some(child) = self.first(at) {
+            at = child;
+        }
+        at
+    }
+
+    /// Whether the host of that id is there and stands below that one.
+    fn is_child(&self, id: u32, parent: u32) -> bool
+        ensures child { result ≡ is_named (lookups.parent_of id_of self.now.hosts id) parent }
+        ensures sound { Sound self.now.hosts }
+    {
+        match self.parent(id) {
+            Some(own) => parent == own,
+            None => false,
+        }
+    }
+
+    /// Whether a child may be put before that host, among the children of the parent.
+    fn fits_before(&self, parent: u32, child: u32, before: Option<u32>) -> bool
+        ensures { result ≡ fits_before child before (children_of parent self.now.hosts) }
+    {
+        match before {
+            None => true,
+            Some(before) => self.is_child(before, parent) && before != child,
+        }
+    }
+
+    /// Whether a host can be placed there now.
+    pub fn fits_place(&self, parent: u32, child: u32, before: Option<u32>) -> bool
+        ensures { result ≡ (not (child == 0) && has child self.now.hosts && has parent self.now.hosts && not (has parent (alone child self.now.hosts)) && fits_before child before (children_of parent self.now.hosts)) }
+    {
+        child != 0
+            && self.has(child)
+            && self.has(parent)
+            && !self.is_within(child, parent)
+            && self.fits_before(parent, child, before)
+    }
+
+    ghost use Rattle.std.specs.Prelude.{◌≢◌, ◌<◌, ◌≤◌, ◌+◌, None, OnOk};
+    ghost use Rattle.lx_node.specs.Limits.{last_u32};
+    ghost use Rattle.lx_node.specs.Siblings.{is_place, place_behind};
     ghost use Rattle.lx_node.specs.Trees.{joined};
-    ghost use Rattle.lx_host.specs.Hosts.{count, without, alone, children_of, put_below};
-    ghost use Rattle.lx_host.specs.Branches.{trees_of, spotted, has_before, IsRooted};
+    ghost use Rattle.lx_host.specs.Hosts.{count, put_below, without};
+    ghost use Rattle.lx_host.specs.Stands.{FitsPlace};
+    ghost use Rattle.lx_rooted.specs.Edits.{take_out, put_in, CanPut};
 
-    /// A grove of this root alone.
-    pub fn new(alloc: Global, root: HostNode) -> Grove
-        ensures { result ≡ trees_of (root ∷ []) }
+    /// Room for so many more hosts. Nothing else changes.
+    pub fn reserve(&mut self, more: usize) -> Result<(), NoMemory>
+        ensures same { self.new.hosts ≡ self.old.hosts }
+        ensures room { OnOk result (more ≤ self.new.room) }
+        ensures kept { self.old.room ≤ self.new.room }
     {
-        Grove {
-            root,
-            unplaced: Vec::new(alloc),
-        }
-    }
-
-    /// The host of that id.
-    pub fn find(&self, id: u32) -> Option<&HostNode>
-        requires { count id self.now < 2 }
-        ensures { option_copied result ≡ spotted id self.now }
-    {
-        if self.root.id() == id {
-            return Some(&self.root);
-        }
-        if let Some(at) = place_of(&self.unplaced, id) {
-            return Some(&self.unplaced[at]);
-        }
-        let found = self.root.find(id);
-        if found.is_some() {
-            return found;
-        }
-        find_among(&self.unplaced, id)
-    }
-
-    /// Adds a host that isn't placed yet. Without memory nothing changes, and the host is dropped.
-    pub fn add(&mut self, host: HostNode) -> Result<(), NoMemory>
-        ensures ok { OnOk result (self.new ≡ joined self.old (trees_of (host ∷ []))) }
-        ensures err { OnErr result (self.new ≡ self.old) }
-    {
-        self.unplaced.push(host)?;
+        self.table.reserve(more)?;
         Ok(())
     }
 
-    /// Takes a host other than host 0, with all below it, out of the grove.
-    pub fn take(&mut self, id: u32) -> HostNode
-        requires once { count id self.old ≡ 1 }
-        requires rooted { IsRooted self.old }
-        requires other { id ≡ 0 → ⊥ }
-        ensures left { self.new ≡ without id self.old }
-        ensures taken { trees_of (result ∷ []) ≡ alone id self.old }
+    /// Adds a host of a greater id than all others, which isn't placed yet. It takes up one place.
+    pub fn create(
+        &mut self,
+        id: u32,
+        key: Key,
+        tag: Tag,
+        attrs: Attrs,
+        text: Option<Txt>,
+        ending: bool,
+    )
+        requires above { (q : ℕ) → id < q + 1 → count q self.old.hosts ≡ 0 }
+        requires below { id < last_u32 }
+        requires room { 0 < self.old.room }
+        ensures created { self.new.hosts ≡ joined self.old.hosts (one_host id (record { key = key; tag = tag; attrs = attrs; text = text; ending = ending })) }
+        ensures room { self.old.room ≤ self.new.room + 1 }
+        ensures sound { Sound self.old.hosts }
     {
-        match unplaced_holder(&self.root, &self.unplaced, id) {
-            None => self.root.take_below(id),
-            Some(at) => take_from(&mut self.unplaced, at, id),
+        let host = Linked {
+            key,
+            tag,
+            attrs,
+            text,
+            ending,
+            parent: None,
+            prev: None,
+            next: None,
+            first: None,
+            last: None,
+            size: 0,
+        };
+        let _ = self.table.insert(id, host);
+    }
+
+    /// Takes a host, with all below it, out from below its parent, where it has one. The room stays.
+    fn detach(&mut self, id: u32)
+        ensures taken { self.new.hosts ≡ take_out id_of id self.old.hosts }
+        ensures room { self.new.room ≡ self.old.room }
+        ensures sound { Sound self.old.hosts }
+    {
+        let Some(host) = self.table.get(&id) else {
+            return;
+        };
+        let Some(parent) = host.parent else {
+            return;
+        };
+        let gap = Gap {
+            prev: host.prev,
+            next: host.next,
+        };
+        unlink(&mut self.table, id, parent, &gap);
+    }
+
+    /// The gap before that child of the parent, or at the end.
+    fn gap(&self, parent: u32, before: Option<u32>) -> Gap
+        requires { is_place before (lookups.children_of id_of self.now.hosts parent) ≡ true }
+        ensures prev { result.prev ≡ place_behind before (lookups.children_of id_of self.now.hosts parent) }
+        ensures next { result.next ≡ before }
+    {
+        match before {
+            Some(id) => Gap {
+                prev: self.previous(id),
+                next: before,
+            },
+            None => Gap {
+                prev: self.last(parent),
+                next: None,
+            },
         }
     }
 
-    /// Puts a host among the children of the host of id `parent`, before one of them or at the end.
-    /// Without memory nothing changes here, and the host is dropped.
-    pub fn put(&mut self, parent: u32, before: Option<u32>, host: HostNode) -> Result<(), NoMemory>
-        requires once { count parent self.old ≡ 1 }
-        requires before { IsTrue (has_before before (children_of parent self.old)) }
-        ensures put { OnOk result (self.new ≡ put_below parent before (trees_of (host ∷ [])) self.old) }
-        ensures err { OnErr result (self.new ≡ self.old) }
+    /// Puts a host that stands below nothing among the children of a parent. The room stays.
+    fn put(&mut self, parent: u32, before: Option<u32>, id: u32)
+        requires can { CanPut id_of parent id self.old.hosts }
+        requires place { is_place before (lookups.children_of id_of self.old.hosts parent) ≡ true }
+        ensures put { self.new.hosts ≡ put_in id_of parent before id self.old.hosts }
+        ensures room { self.new.room ≡ self.old.room }
     {
-        match unplaced_holder(&self.root, &self.unplaced, parent) {
-            None => self.root.put(parent, before, host),
-            Some(at) => self.unplaced[at].put(parent, before, host),
-        }
+        let gap = self.gap(parent, before);
+        link_in(&mut self.table, id, parent, &gap);
     }
 
-    ghost use Rattle.lx_host.specs.Html.{first_tree};
-    ghost use Rattle.lx_host.specs.Lookups.{next_sibling, host_of};
-
-    /// The id of the host behind the one of that id, among the children of a host.
-    pub fn next_sibling(&self, id: u32) -> Option<u32>
-        ensures { result ≡ next_sibling id self.now }
+    /// Places a host, with all below it, among the children of a parent. The room stays.
+    pub fn place(&mut self, parent: u32, child: u32, before: Option<u32>)
+        requires { FitsPlace parent child before self.old.hosts }
+        ensures placed { self.new.hosts ≡ put_below parent before (alone child self.old.hosts) (without child self.old.hosts) }
+        ensures room { self.new.room ≡ self.old.room }
+        ensures sound { Sound self.old.hosts }
     {
-        let next = self.root.next_sibling(id);
-        if next.is_some() {
-            return next;
-        }
-        next_among(&self.unplaced, id)
+        self.detach(child);
+        self.put(parent, before, child);
     }
 
-    /// The least id of the hosts that show the key, among the root and all below it.
-    pub fn host_of(&self, key: Key) -> Option<u32>
-        ensures { result ≡ host_of key (first_tree self.now) }
+    /// Takes a host away that has no child and stands below nothing. The room stays.
+    fn take_lone(&mut self, id: u32)
+        requires other { id ≢ 0 }
+        requires top { lookups.parent_of id_of self.old.hosts id ≡ None }
+        requires leaf { lookups.children_of id_of self.old.hosts id ≡ [] }
+        ensures taken { self.new.hosts ≡ without id self.old.hosts }
+        ensures room { self.old.room ≤ self.new.room }
     {
-        self.root.host_of(key)
+        self.table.swap_remove(&id);
     }
 
-    ghost use Rattle.lx_host.specs.Hosts.{changed};
-    ghost use Rattle.lx_host.specs.Changes.{face_with};
-
-    /// Changes what the host of that id shows. Without memory nothing changes.
-    pub fn change(&mut self, id: u32, change: Change) -> Result<(), NoMemory>
-        requires { count id self.old ≡ 1 }
-        ensures changed { OnOk result (self.new ≡ changed id (face_with change) self.old) }
-        ensures err { OnErr result (self.new ≡ self.old) }
+    /// Takes a host away that has no child. The room stays.
+    pub fn take_leaf(&mut self, id: u32)
+        requires other { id ≢ 0 }
+        requires leaf { lookups.children_of id_of self.old.hosts id ≡ [] }
+        ensures taken { self.new.hosts ≡ without id self.old.hosts }
+        ensures room { self.old.room ≤ self.new.room }
     {
-        match unplaced_holder(&self.root, &self.unplaced, id) {
-            None => self.root.change(id, change),
-            Some(at) => self.unplaced[at].change(id, change),
-        }
+        self.detach(id);
+        self.take_lone(id);
+    }
+
+    ghost use Rattle.lx_host.specs.Hosts.{changed, with_text, with_value, with_ending};
+    ghost use Rattle.lx_host.specs.Room.{one_for};
+
+    /// Gives a host this text. The room stays.
+    pub fn show_text(&mut self, id: u32, text: Txt)
+        ensures changed { self.new.hosts ≡ changed id (with_text text) self.old.hosts }
+        ensures room { self.new.room ≡ self.old.room }
+    {
+        change_host(&mut self.table, Some(id), Change::Text(text));
+    }
+
+    /// Has a line break end a host, or none. The room stays.
+    pub fn end_with(&mut self, id: u32, ending: bool)
+        ensures changed { self.new.hosts ≡ changed id (with_ending ending) self.old.hosts }
+        ensures room { self.new.room ≡ self.old.room }
+    {
+        change_host(&mut self.table, Some(id), Change::Break(ending));
+    }
+
+    /// Gives an attribute of a host this value, or takes it away. The room stays, and a value takes a vector of the
+    /// stock at most.
+    pub fn write(&mut self, stock: &mut Stock, id: u32, name: Name, value: Option<Txt>)
+        requires { one_for value ≤ stock.old }
+        ensures changed { self.new.hosts ≡ changed id (with_value name value) self.old.hosts }
+        ensures room { self.new.room ≡ self.old.room }
+        ensures left { stock.old ≤ stock.new + one_for value }
+    {
+        write_attribute(&mut self.table, stock, id, name, value);
     }
 
     ghost use Rattle.std.specs.Prelude.{◌++◌};
+    ghost use Rattle.lx_host.specs.Below.{below_of};
     ghost use Rattle.lx_host.specs.Hosts.{shape_of};
     ghost use Rattle.lx_host.specs.Html.{html_of};
 
-    /// Writes the HTML of the root and of all below it.
-    pub fn print(&self, page: &mut Page) -> Result<(), NoMemory>
-        ensures { OnOk result (page.new ≡ page.old ++ html_of (first_tree (shape_of self.now))) }
+    /// Writes the HTML of a host and of all below it.
+    #[cycle(print)]
+    pub fn print(&self, id: u32, page: &mut Page) -> Result<(), NoMemory>
+        requires there { has id self.now.hosts ≡ true }
+        ensures { OnOk result (page.new ≡ page.old ++ html_of (shape_of (alone id self.now.hosts))) }
     {
-        self.root.print(page)
+        let Some(host) = self.host(id) else {
+            return Ok(());
+        };
+        page.open(host.tag, host.attrs.items())?;
+        if host.tag.is_void() {
+            return Ok(());
+        }
+        match &host.text {
+            Some(text) => page.push_text(text.as_str())?,
+            None => self.print_children(id, page)?,
+        }
+        page.push_ending(host.ending)?;
+        page.close(host.tag)
     }
-}
 
-ghost use Rattle.std.specs.Prelude.{◌≡◌, ◌<◌, [], ◌∷◌, length, IfNone, IfSome, slice_index_or};
-ghost use Rattle.lx_node.specs.Trees.{tree};
-ghost use Rattle.lx_host.specs.Hosts.{count};
-ghost use Rattle.lx_host.specs.Branches.{Branch, trees_of};
-
-/// Which of the hosts that aren't placed is the host of that id or has it below, if it isn't the root or
-/// below the root.
-fn unplaced_holder(root: &HostNode, unplaced: &[HostNode], id: u32) -> Option<usize>
-    requires { count id (trees_of (root.now ∷ unplaced.now)) ≡ 1 }
-    ensures root { IfNone result (count id (trees_of (root.now ∷ [])) ≡ 1) }
-    ensures within { IfSome result (λ at. at < length unplaced.now) }
-    ensures holds { IfSome result (λ at. (d : Branch) → 0 < count id (trees_of (slice_index_or unplaced.now at d ∷ []))) }
-{
-    if root.id() == id {
-        return None;
+    /// Writes the HTML of all below a host.
+    #[cycle(print)]
+    fn print_children(&self, id: u32, page: &mut Page) -> Result<(), NoMemory>
+        requires there { has id self.now.hosts ≡ true }
+        ensures { OnOk result (page.new ≡ page.old ++ html_of (shape_of (below_of self.now.hosts id))) }
+    {
+        let mut at = self.first(id);
+        while let Some(child) = at {
+            self.print(child, page)?;
+            at = self.next(child);
+        }
+        Ok(())
     }
-    if let Some(at) = place_of(unplaced, id) {
-        return Some(at);
-    }
-    if root.find(id).is_some() {
-        return None;
-    }
-    Some(holder_of(unplaced, id))
 }

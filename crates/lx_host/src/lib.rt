@@ -5,12 +5,17 @@
 //! doesn't, and one that fits has one effect. What host 0 shows, with all below it, has one HTML.
 #![tactic(auto)]
 
-mod change;
 mod grove;
-mod node;
+mod joints;
+mod keys;
+mod linked;
 mod op;
 mod ops;
 mod page;
+mod removal;
+mod room;
+mod scan;
+mod stock;
 mod tag;
 mod tree;
 

@@ -1,3 +1,4 @@
+use crate::stock::{Stock, insert_within};
 use crate::tag::{Name, Tag};
 use lx_node::{Key, NoMemory, Txt};
 use std::alloc::Global;
@@ -50,39 +51,34 @@ impl Attrs {
         self.items
     }
 
-    ghost use Rattle.std.specs.Prelude.{OnOk, OnErr};
+    ghost use Rattle.std.specs.Prelude.{◌≤◌, ◌<◌, ◌+◌};
     ghost use Rattle.lx_host.specs.Words.{with_attribute};
+    ghost use Rattle.lx_host.specs.Room.{one_for};
 
-    /// Gives the attribute of that name this value, or takes it away. Without memory nothing changes.
-    pub fn write(&mut self, name: Name, value: Option<Txt>) -> Result<(), NoMemory>
-        ensures ok { OnOk result (self.new ≡ with_attribute name value self.old) }
-        ensures err { OnErr result (self.new ≡ self.old) }
+    /// Gives the attribute of that name this value, or takes it away. It takes no memory, but a vector of the
+    /// stock at most where there is a value.
+    pub(crate) fn write(&mut self, name: Name, value: Option<Txt>, stock: &mut Stock)
+        requires { one_for value ≤ stock.old }
+        ensures written { self.new ≡ with_attribute name value self.old }
+        ensures left { stock.old ≤ stock.new + one_for value }
     {
         match value {
-            Some(value) => self.give(name, value),
-            None => {
-                self.take_away(name);
-                Ok(())
-            }
+            Some(value) => self.give(name, value, stock),
+            None => self.take_away(name),
         }
     }
 
     ghost use Rattle.std.specs.Prelude.{Some, None};
 
-    /// Gives the attribute of that name this value. Without memory nothing changes.
-    fn give(&mut self, name: Name, value: Txt) -> Result<(), NoMemory>
-        ensures ok { OnOk result (self.new ≡ with_attribute name (Some value) self.old) }
-        ensures err { OnErr result (self.new ≡ self.old) }
+    /// Gives the attribute of that name this value.
+    fn give(&mut self, name: Name, value: Txt, stock: &mut Stock)
+        requires { 0 < stock.old }
+        ensures given { self.new ≡ with_attribute name (Some value) self.old }
+        ensures left { stock.old ≤ stock.new + 1 }
     {
         match place_of(&self.items, name) {
-            Ok(at) => {
-                self.items[at] = (name, value);
-                Ok(())
-            }
-            Err(at) => {
-                self.items.insert(at, (name, value))?;
-                Ok(())
-            }
+            Ok(at) => self.items[at] = (name, value),
+            Err(at) => insert_within(&mut self.items, at, (name, value), stock),
         }
     }
 

@@ -1,60 +1,75 @@
-use crate::change::Change;
 use crate::grove::Grove;
-use crate::node::HostNode;
+use crate::keys::{Shown, add_shown};
 use crate::op::{Attrs, Op};
 use crate::page::Page;
-use crate::tag::Tag;
+use crate::removal::remove_tree;
+use crate::room::{hosts_among, values_among};
+use crate::scan::least_shown;
+use crate::stock::Stock;
+use crate::tag::{Name, Tag};
+use indexmap::IndexMap;
 use lx_node::{Key, NoMemory, Txt};
 use std::alloc::Global;
 use std::marker::Model;
 
-/// A host tree: host 0 with all below it, hosts that aren't placed yet, and the least id never used.
-/// No id stands twice in it.
-#[derive(Debug, Drop)]
+/// A host tree: host 0 with all below it, hosts that aren't placed yet, and the least id never used, with the room
+/// for more beside it. No id stands twice in it. Of each key that hosts show, a second table has how many show it.
+#[derive(Drop)]
 pub struct HostTree {
     alloc: Global,
     grove: Grove,
+    keys: IndexMap<u32, Shown>,
+    stock: Stock,
     next_id: u32,
 }
 
 impl Model for HostTree {
-    ghost use Rattle.lx_host.specs.Hosts.{HostTree};
-    ghost use Rattle.lx_host.specs.Branches.{IsStanding};
+    ghost use Rattle.std.specs.Prelude.{min};
     ghost use Rattle.std.specs.Coded.{codes};
     ghost use Rattle.lx_node.specs.Trees.{trees_code};
+    ghost use Rattle.indexmap.specs.IndexMap.{spare};
+    ghost use Rattle.lx_host.specs.Room.{Held};
+    ghost use Rattle.lx_host.specs.Weights.{IsKept};
 
-    ghost Value = { HostTree };
+    ghost Value = { Held };
 
     ghost coded = { Prim.hlevel (codes, trees_code) };
 
-    ghost view = { λ t. record { hosts = t.grove; next = t.next_id } };
+    ghost view = { λ t. record { tree = record { hosts = t.grove.hosts; next = t.next_id }; room = record { hosts = min t.grove.room (spare t.keys); values = t.stock } } };
 
-    ghost invariant = { λ t. IsStanding (record { hosts = t.grove; next = t.next_id }) };
+    ghost invariant = { λ t. IsKept t.keys t.next_id t.grove.hosts };
 }
 
 impl HostTree {
-    ghost use Rattle.std.specs.Prelude.{◌≡◌, IfOk, OnOk, IsTrue};
+    ghost use Rattle.std.specs.Prelude.{◌≡◌, ◌≤◌, ◌<◌, IfOk, OnOk, IsTrue};
+    ghost use Rattle.lx_host.specs.Branches.{IsRooted};
     ghost use Rattle.lx_host.specs.Hosts.{new_tree, fits, effect, FitInTurn, Leads, IsNumbered};
-    ghost use Rattle.lx_host.specs.declared.op.Op.TheVariants.{Place, Drop};
+    ghost use Rattle.lx_host.specs.Room.{HasRoom, Spends, one_for, hosts_for, values_for};
+    ghost use Rattle.lx_host.specs.declared.op.Op.TheVariants.{Create, Place, Drop, Text, Attr, Break};
 
     /// Host 0 alone, which shows the root.
     pub fn new(alloc: Global) -> Result<HostTree, NoMemory>
-        ensures { IfOk result (λ made. made ≡ new_tree) }
+        ensures { IfOk result (λ made. made.tree ≡ new_tree) }
     {
-        let attrs = Attrs::of(Vec::new(alloc));
-        let root = HostNode::new(alloc, 0, Key::root(), Tag::Div, attrs, None, false);
+        let grove = Grove::new(alloc)?;
+        let mut keys = IndexMap::new(alloc);
+        keys.insert(0, Shown { hosts: 1, ids: 0 })?;
         Ok(HostTree {
             alloc,
-            grove: Grove::new(alloc, root),
+            grove,
+            keys,
+            stock: Stock::new(alloc),
             next_id: 1,
         })
     }
 
     /// The least id never used. Ids are given in order, and no host has one twice.
     pub fn next_id(&self) -> u32
-        ensures next { result ≡ self.now.next }
-        ensures numbered { IsNumbered self.now }
+        ensures next { result ≡ self.now.tree.next }
+        ensures numbered { IsNumbered self.now.tree }
+        ensures rooted { IsRooted self.now.tree.hosts }
     {
+        self.grove.in_order();
         self.next_id
     }
 
@@ -63,7 +78,7 @@ impl HostTree {
     /// than 0 is dropped, and what a host shows is changed.
     #[tactic(auto, unfolding(crate::specs::Hosts::fits))]
     pub fn fits(&self, op: &Op) -> bool
-        ensures { result ≡ fits op.now self.now }
+        ensures { result ≡ fits op.now self.now.tree }
     {
         match op {
             Op::Create { id, .. } => *id == self.next_id && self.next_id < u32::MAX,
@@ -71,63 +86,45 @@ impl HostTree {
                 parent,
                 child,
                 before,
-            } => self.fits_place(*parent, *child, *before),
-            Op::Drop { id } => self.fits_drop(*id),
-            Op::Text { id, .. } => self.has(*id),
-            Op::Attr { id, .. } => self.has(*id),
-            Op::Break { id, .. } => self.has(*id),
+            } => self.grove.fits_place(*parent, *child, *before),
+            Op::Drop { id } => *id != 0 && self.grove.has(*id),
+            Op::Text { id, .. } => self.grove.has(*id),
+            Op::Attr { id, .. } => self.grove.has(*id),
+            Op::Break { id, .. } => self.grove.has(*id),
         }
     }
 
-    ghost use Rattle.std.specs.Prelude.{◌==◌, ◌&&◌, not};
-    ghost use Rattle.lx_host.specs.Hosts.{has};
-
-    /// Whether a host has that id.
-    fn has(&self, id: u32) -> bool
-        ensures { result ≡ has id self.now.hosts }
+    /// Room for these changes. Also without memory the tree is as it was.
+    pub fn reserve(&mut self, ops: &[Op]) -> Result<(), NoMemory>
+        ensures same { self.new.tree ≡ self.old.tree }
+        ensures room { OnOk result (HasRoom ops.now self.new.room) }
     {
-        self.grove.find(id).is_some()
-    }
-
-    /// Whether a host can be dropped now.
-    fn fits_drop(&self, id: u32) -> bool
-        ensures { result ≡ not (id == 0) && has id self.now.hosts }
-    {
-        id != 0 && self.has(id)
-    }
-
-    /// Whether a host can be placed there now.
-    fn fits_place(&self, parent: u32, child: u32, before: Option<u32>) -> bool
-        ensures { result ≡ fits (Place parent child before) self.now }
-    {
-        if child == 0 {
-            return false;
-        }
-        let Some(moved) = self.grove.find(child) else {
-            return false;
-        };
-        let Some(target) = self.grove.find(parent) else {
-            return false;
-        };
-        moved.find(parent).is_none() && target.fits_before(child, before)
-    }
-
-    /// Makes these changes in turn. After want of memory the tree is only fit to be dropped.
-    pub fn apply(&mut self, ops: Vec<Op>) -> Result<(), NoMemory>
-        requires { FitInTurn self.old ops.items }
-        ensures { OnOk result (Leads self.old ops.items self.new) }
-    {
-        for op in ops {
-            self.make(op)?;
-        }
+        let hosts = hosts_among(ops);
+        let values = values_among(ops);
+        self.grove.reserve(hosts)?;
+        self.keys.reserve(hosts)?;
+        self.stock.fill(self.alloc, values)?;
         Ok(())
     }
 
-    /// Makes one change. After want of memory the tree is only fit to be dropped.
-    #[tactic(auto, unfolding(crate::specs::Hosts::fits, crate::specs::Hosts::effect))]
-    fn make(&mut self, op: Op) -> Result<(), NoMemory>
-        requires { IsTrue (fits op self.old) }
-        ensures { OnOk result (self.new ≡ effect op self.old) }
+    /// Makes these changes in turn, in the room that was reserved for them. It takes no memory.
+    pub fn apply(&mut self, ops: Vec<Op>)
+        requires fit { FitInTurn self.old.tree ops.items }
+        requires room { HasRoom ops.items self.old.room }
+        ensures { Leads self.old.tree ops.items self.new.tree }
+    {
+        for op in ops {
+            self.make(op);
+        }
+    }
+
+    /// Makes one change.
+    fn make(&mut self, op: Op)
+        requires fits { IsTrue (fits op self.old.tree) }
+        requires hosts { hosts_for op ≤ self.old.room.hosts }
+        requires values { values_for op ≤ self.old.room.values }
+        ensures made { self.new.tree ≡ effect op self.old.tree }
+        ensures room { Spends (hosts_for op) (values_for op) self.old.room self.new.room }
     {
         match op {
             Op::Create {
@@ -137,53 +134,72 @@ impl HostTree {
                 attrs,
                 text,
                 ending,
-            } => {
-                let host = HostNode::new(self.alloc, id, key, tag, attrs, text, ending);
-                self.grove.add(host)?;
-                self.next_id += 1;
-                Ok(())
-            }
+            } => self.create(id, key, tag, attrs, text, ending),
             Op::Place {
                 parent,
                 child,
                 before,
             } => self.place(parent, child, before),
-            Op::Drop { id } => {
-                self.remove(id);
-                Ok(())
-            }
-            Op::Text { id, text } => self.change(id, Change::Text(text)),
-            Op::Attr { id, name, value } => self.change(id, Change::Attr(name, value)),
-            Op::Break { id, ending } => self.change(id, Change::Break(ending)),
+            Op::Drop { id } => self.remove(id),
+            Op::Text { id, text } => self.show_text(id, text),
+            Op::Attr { id, name, value } => self.write(id, name, value),
+            Op::Break { id, ending } => self.end_with(id, ending),
         }
     }
 
-    /// Places one host. After want of memory the child is gone.
-    fn place(&mut self, parent: u32, child: u32, before: Option<u32>) -> Result<(), NoMemory>
-        requires { IsTrue (fits (Place parent child before) self.old) }
-        ensures { OnOk result (self.new ≡ effect (Place parent child before) self.old) }
+    /// Adds a host that isn't placed yet.
+    fn create(&mut self, id: u32, key: Key, tag: Tag, attrs: Attrs, text: Option<Txt>, ending: bool)
+        requires fits { IsTrue (fits (Create id key tag attrs text ending) self.old.tree) }
+        requires room { 0 < self.old.room.hosts }
+        ensures created { self.new.tree ≡ effect (Create id key tag attrs text ending) self.old.tree }
+        ensures room { Spends 1 0 self.old.room self.new.room }
     {
-        let host = self.grove.take(child);
-        self.grove.put(parent, before, host)
+        self.grove.create(id, key, tag, attrs, text, ending);
+        add_shown(&mut self.keys, key.number(), id);
+        self.next_id += 1;
     }
 
-    /// Takes one host away, with all below it.
+    /// Places a host, with all below it, among the children of a parent.
+    fn place(&mut self, parent: u32, child: u32, before: Option<u32>)
+        requires fits { IsTrue (fits (Place parent child before) self.old.tree) }
+        ensures placed { self.new.tree ≡ effect (Place parent child before) self.old.tree }
+        ensures room { Spends 0 0 self.old.room self.new.room }
+    {
+        self.grove.place(parent, child, before);
+    }
+
+    /// Takes a host away, with all below it.
     fn remove(&mut self, id: u32)
-        requires { IsTrue (fits (Drop id) self.old) }
-        ensures { self.new ≡ effect (Drop id) self.old }
+        requires fits { IsTrue (fits (Drop id) self.old.tree) }
+        ensures dropped { self.new.tree ≡ effect (Drop id) self.old.tree }
+        ensures room { Spends 0 0 self.old.room self.new.room }
     {
-        self.grove.take(id);
+        remove_tree(&mut self.grove, &mut self.keys, id);
     }
 
-    ghost use Rattle.lx_host.specs.Hosts.{changed};
-    ghost use Rattle.lx_host.specs.Changes.{face_with};
-
-    /// Changes what one host shows. Without memory nothing changes.
-    fn change(&mut self, id: u32, change: Change) -> Result<(), NoMemory>
-        requires { IsTrue (has id self.old.hosts) }
-        ensures { OnOk result (self.new ≡ record { hosts = changed id (face_with change) self.old.hosts; next = self.old.next }) }
+    /// Gives a host this text.
+    fn show_text(&mut self, id: u32, text: Txt)
+        ensures changed { self.new.tree ≡ effect (Text id text) self.old.tree }
+        ensures room { Spends 0 0 self.old.room self.new.room }
     {
-        self.grove.change(id, change)
+        self.grove.show_text(id, text);
+    }
+
+    /// Gives an attribute of a host this value, or takes it away.
+    fn write(&mut self, id: u32, name: Name, value: Option<Txt>)
+        requires room { one_for value ≤ self.old.room.values }
+        ensures changed { self.new.tree ≡ effect (Attr id name value) self.old.tree }
+        ensures room { Spends 0 (one_for value) self.old.room self.new.room }
+    {
+        self.grove.write(&mut self.stock, id, name, value);
+    }
+
+    /// Has a line break end a host, or none.
+    fn end_with(&mut self, id: u32, ending: bool)
+        ensures changed { self.new.tree ≡ effect (Break id ending) self.old.tree }
+        ensures room { Spends 0 0 self.old.room self.new.room }
+    {
+        self.grove.end_with(id, ending);
     }
 
     ghost use Rattle.lx_host.specs.Html.{first_tree};
@@ -191,41 +207,52 @@ impl HostTree {
 
     /// The id of the first child of the host of that id.
     pub fn first_child(&self, id: u32) -> Option<u32>
-        ensures { result ≡ first_child id self.now.hosts }
+        ensures { result ≡ first_child id self.now.tree.hosts }
     {
-        match self.grove.find(id) {
-            Some(host) => host.first_child(),
-            None => None,
-        }
+        self.grove.first(id)
     }
 
     /// The id of the host behind the one of that id, among the children of one. Host 0 and hosts that aren't
     /// placed have none beside them.
     pub fn next_sibling(&self, id: u32) -> Option<u32>
-        ensures { result ≡ next_sibling id self.now.hosts }
+        ensures { result ≡ next_sibling id self.now.tree.hosts }
     {
-        self.grove.next_sibling(id)
+        self.grove.next(id)
     }
 
-    /// The least id of the hosts that show the key, among host 0 and all below it.
+    /// The least id of the hosts that show the key, among host 0 and all below it. Where more than one host shows
+    /// it, each host is looked at.
     pub fn host_of(&self, key: Key) -> Option<u32>
-        ensures { result ≡ host_of key (first_tree self.now.hosts) }
+        ensures { result ≡ host_of key (first_tree self.now.tree.hosts) }
     {
-        self.grove.host_of(key)
+        let _next = self.next_id();
+        self.grove.in_order();
+        let Some(shown) = self.keys.get(&key.number()) else {
+            return None;
+        };
+        if shown.hosts > 1 {
+            return least_shown(&self.grove, key);
+        }
+        let id = shown.ids as u32;
+        if self.grove.is_within(0, id) {
+            Some(id)
+        } else {
+            None
+        }
     }
 
     ghost use Rattle.lx_host.specs.Hosts.{shape_of};
     ghost use Rattle.lx_host.specs.Html.{html_of};
-    ghost use Rattle.lx_host.specs.Branches.{IsRooted};
 
     /// The HTML of host 0 with all below it, the first tree. Hosts that aren't placed have no part in it. It takes
     /// memory for its bytes.
     pub fn print_html(&self) -> Result<Txt, NoMemory>
-        ensures html { IfOk result (λ html. html ≡ html_of (first_tree (shape_of self.now.hosts))) }
-        ensures rooted { IsRooted self.now.hosts }
+        ensures html { IfOk result (λ html. html ≡ html_of (first_tree (shape_of self.now.tree.hosts))) }
+        ensures rooted { IsRooted self.now.tree.hosts }
     {
+        self.grove.in_order();
         let mut page = Page::new(self.alloc);
-        self.grove.print(&mut page)?;
+        self.grove.print(0, &mut page)?;
         Ok(page.into_text())
     }
 }

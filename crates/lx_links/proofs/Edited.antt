@@ -29,7 +29,7 @@ use Rattle.lx_forest.proofs.Held.{IsHeld-root_alone, IsHeld-with_new, IsHeld-wit
 use Rattle.lx_forest.proofs.Suited.{IsSuited-root_alone, IsSuited-with_new, IsSuited-with_fields, IsSuited-take_out}
 use Rattle.lx_links.specs.Faults.{set_fault}
 use Rattle.lx_links.specs.Stands.{Nodes, Holds, node_of, record_of, records, lone_node}
-use Rattle.lx_links.specs.Changes.{changed, Differs, unlinked}
+use Rattle.lx_links.specs.Changes.{node_after, Differs, node_unlinked}
 use Rattle.lx_links.proofs.Maps.{insert_at, remove_at}
 use Rattle.lx_links.proofs.Seen.{is_some-map}
 use Rattle.lx_links.proofs.Stood.{get_stands}
@@ -145,26 +145,26 @@ inserted_stands m f k kind fields s free room =
       small = omega (arith, total-with_new l f, room);
     }
 
-pub set_records : (old new : Nodes) (f : Forest) (k : ℕ) (fields : Fields) → StandsFor (records old) f → Differs (λ q. changed (Content fields) (is_named (Some k) q)) old new → StandsFor (records new) (with_fields k fields f)
+pub set_records : (old new : Nodes) (f : Forest) (k : ℕ) (fields : Fields) → StandsFor (records old) f → Differs (λ q. node_after (Content fields) (is_named (Some k) q)) old new → StandsFor (records new) (with_fields k fields f)
 set_records old new f k fields s d = record {
   in_order = IsForest-with_fields k fields f s.in_order;
-  same = λ q. records_after old new f (λ q. changed (Content fields) (is_named (Some k) q)) (refielded k fields) q s d (λ n. refl) ∙ sym (record_at-with_fields k fields f q);
+  same = λ q. records_after old new f (λ q. node_after (Content fields) (is_named (Some k) q)) (refielded k fields) q s d (λ n. refl) ∙ sym (record_at-with_fields k fields f q);
   small = omega (arith, total-with_fields k fields f, s.small);
 }
 
-same_unlinked : (k p q : ℕ) (n m : Node) → n.parent ≡ Some p → record_of q (unlinked k p n.prev n.next q m) ≡ recs.unlinked k (record_of k n) q (record_of q m)
+same_unlinked : (k p q : ℕ) (n m : Node) → n.parent ≡ Some p → record_of q (node_unlinked k p n.prev n.next q m) ≡ recs.unlinked k (record_of k n) q (record_of q m)
 same_unlinked k p q n m e =
-    let G : Option ℕ → Record = λ up. record (record_of q (unlinked k p n.prev n.next q m)) {
+    let G : Option ℕ → Record = λ up. record (record_of q (node_unlinked k p n.prev n.next q m)) {
       first = cond (is_named up q && is_none n.prev) n.next m.first;
       last = cond (is_named up q && is_none n.next) n.prev m.last;
       size = cond (is_named up q) (m.size - 1) m.size;
     } in
     ap G (sym e)
 
-pub taken_records : (old new : Nodes) (f : Forest) (k p : ℕ) (n : Node) → StandsFor (records old) f → Some n ≡ option_map node_of (record_at f k) → n.parent ≡ Some p → Differs (unlinked k p n.prev n.next) old new → StandsFor (records new) (take_out k f)
+pub taken_records : (old new : Nodes) (f : Forest) (k p : ℕ) (n : Node) → StandsFor (records old) f → Some n ≡ option_map node_of (record_at f k) → n.parent ≡ Some p → Differs (node_unlinked k p n.prev n.next) old new → StandsFor (records new) (take_out k f)
 taken_records old new f k p n s e up d = record {
   in_order = IsForest-take_out k f s.in_order;
-  same = λ q. records_after old new f (unlinked k p n.prev n.next) (recs.unlinked k (record_of k n)) q s d (λ m. same_unlinked k p q n m up)
+  same = λ q. records_after old new f (node_unlinked k p n.prev n.next) (recs.unlinked k (record_of k n)) q s d (λ m. same_unlinked k p q n m up)
       ∙ sym (record_at-take_out k f (record_of k n) q s.in_order (record_by old f k n s e));
   small = omega (arith, total-take_out k f, s.small);
 }
@@ -198,13 +198,13 @@ put_stands old new f k kind fields n h free room of_kind node put = record {
 right_fields : (f : Forest) (k : ℕ) (fields : Fields) (kind : Kind) → set_fault k fields f ≡ None → kind_of f k ≡ Some kind → IsOfKind kind fields
 right_fields f k fields kind none e = grind (arith, none, e)
 
-pub set_stands : (old new : Nodes) (f : Forest) (k : ℕ) (fields : Fields) → Holds old f → set_fault k fields f ≡ None → Differs (λ q. changed (Content fields) (is_named (Some k) q)) old new → Holds new (with_fields k fields f)
+pub set_stands : (old new : Nodes) (f : Forest) (k : ℕ) (fields : Fields) → Holds old f → set_fault k fields f ≡ None → Differs (λ q. node_after (Content fields) (is_named (Some k) q)) old new → Holds new (with_fields k fields f)
 set_stands old new f k fields h none d = record {
   stands = set_records old new f k fields h.stands d;
   held = IsHeld-with_fields may_hold f h.stands.in_order h.held k fields;
   suited = IsSuited-with_fields f k fields (λ l here. right_fields f k fields l.kind none (ap (λ o. option_map (λ m. m.kind) o) here)) h.suited;
 }
 
-pub taken_stands : (old new : Nodes) (f : Forest) (k p : ℕ) (n : Node) → Holds old f → Some n ≡ option_map node_of (record_at f k) → n.parent ≡ Some p → Differs (unlinked k p n.prev n.next) old new → Holds new (take_out k f)
+pub taken_stands : (old new : Nodes) (f : Forest) (k p : ℕ) (n : Node) → Holds old f → Some n ≡ option_map node_of (record_at f k) → n.parent ≡ Some p → Differs (node_unlinked k p n.prev n.next) old new → Holds new (take_out k f)
 taken_stands old new f k p n h e up d =
     record { stands = taken_records old new f k p n h.stands e up d; held = IsHeld-take_out may_hold f h.stands.in_order h.held k; suited = IsSuited-take_out f k h.stands.in_order h.suited }

@@ -1,15 +1,16 @@
 -- The key behind one in the root's tree, and its depth.
-use Rattle.std.proofs.Common.{ℕ, ◌≡◌, ◌+◌, ◌-◌, ◌<◌, ◌^◌, true, false, cond, length, List, [], ◌∷◌, Option, None, Some, option_map, refl, sym, ap, ◌∙◌, subst, inl, inr, arith, IfSome, IfNone}
+use Rattle.std.proofs.Common.{ℕ, ◌≡◌, ◌&&◌, eqb, ◌+◌, ◌-◌, ◌<◌, ◌^◌, true, false, cond, length, List, [], ◌∷◌, Option, None, Some, option_map, refl, sym, ap, ◌∙◌, subst, inl, inr, arith, IfSome, IfNone}
 use Rattle.std.proofs.lemmas.Bool.{cases_Bool, cases_eq}
 use Rattle.std.proofs.lemmas.Bool.Decides.{eqb_tells}
 use Rattle.lx_node.specs.Siblings.{is_among, first_of}
 use Rattle.lx_forest.specs.Forest.{Forest}
-use Rattle.lx_forest.specs.Lookups.{parent_of, children_of, first_child, next_of, ancestors, is_attached, depth, from, behind, IsForest}
+use Rattle.lx_forest.specs.Lookups.{has, parent_of, children_of, first_child, next_of, ancestors, is_within, is_attached, depth, from, behind, IsForest}
 use Rattle.lx_forest.proofs.Walks.{cases_option, depth-step, from-child, from-leaf, behind-next, behind-last, behind-root, is_attached-top}
 use Rattle.lx_forest.proofs.Siblings.{parent_of-next}
+use Rattle.lx_forest.proofs.Within.{is_within-leaf}
 use Rattle.lx_links.specs.Stands.{Sound}
 use Rattle.lx_links.proofs.Placed.{parent_of-child}
-use Rattle.lx_links.proofs.Up.{few_up}
+use Rattle.lx_links.proofs.Up.{few_up, in_order_at, not_within}
 
 -- ---- a key with a depth
 
@@ -55,6 +56,16 @@ among_first (x ∷ xs) c e = grind (arith, e, eqb_tells x c)
 none_first : (xs : List ℕ) → first_of xs ≡ None → xs ≡ []
 none_first [] e = refl
 none_first (x ∷ xs) e = cc
+
+-- nothing but itself is in the tree of a node without children
+pub within_leaf : (f : Forest) (k q : ℕ) → Sound f → first_child f k ≡ None → is_within f k q ≡ (eqb q k && has k f)
+within_leaf f k q s none = elim (cases_Bool (has q f)) [
+  | inl there ↦ is_within-leaf f k q (in_order_at f q s there) (none_first (children_of f k) none)
+  | inr absent ↦ not_within f k q absent ∙ elim (eqb_tells q k) [
+    | inl same ↦ sym (ap (λ b. b && has k f) same.0 ∙ ap (λ x. has x f) (sym same.1) ∙ absent)
+    | inr other ↦ sym (ap (λ b. b && has k f) other.0)
+  ]
+]
 
 pub record IsBehind (f : Forest) (q n d : ℕ) : Type 0 where
   pub next : from f q ≡ q ∷ from f n

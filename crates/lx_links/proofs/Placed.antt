@@ -19,7 +19,7 @@ use Rattle.lx_forest.proofs.Edits.{total-put_in}
 use Rattle.lx_forest.proofs.Lookups.{is_among-children_of}
 use Rattle.lx_forest.proofs.Order.{IsForest-put_in}
 use Rattle.lx_forest.proofs.Records.{record_at-put_in}
-use Rattle.lx_links.specs.Changes.{Differs, linked_in}
+use Rattle.lx_links.specs.Changes.{Differs, node_linked}
 use Rattle.lx_links.specs.Faults.{misfit, no_child, place_fault}
 use Rattle.lx_node.specs.Kinds.{may_hold}
 use Rattle.lx_node.specs.declared.kind.Kind.{Kind}
@@ -104,12 +104,12 @@ room_below m f p before k n s none e =
     let size = (seen f p n (sym e ∙ get_stands m f p s)).size in
     omega (arith, size, size_of-lt p k f s.in_order (placing p before k f none).can, s.small)
 
-pub placed_records : (old new : Nodes) (f : Forest) (p k : ℕ) (before prev next : Option ℕ) → StandsFor (records old) f → place_fault p before k f ≡ None → prev ≡ place_behind before (children_of f p) → next ≡ before → Differs (linked_in k p prev next) old new → StandsFor (records new) (put_in p before k f)
+pub placed_records : (old new : Nodes) (f : Forest) (p k : ℕ) (before prev next : Option ℕ) → StandsFor (records old) f → place_fault p before k f ≡ None → prev ≡ place_behind before (children_of f p) → next ≡ before → Differs (node_linked k p prev next) old new → StandsFor (records new) (put_in p before k f)
 placed_records old new f p k before prev next s none behind is d =
     let h = placing p before k f none in
     record {
       in_order = IsForest-put_in p before k f s.in_order h.can;
-      same = λ q. records_after old new f (linked_in k p prev next) (recs.linked_in p prev next k) q s d (λ n. refl)
+      same = λ q. records_after old new f (node_linked k p prev next) (recs.linked_in p prev next k) q s d (λ n. refl)
           ∙ ap (λ o. option_map (recs.linked_in p o next k q) (record_at f q)) behind
           ∙ ap (λ o. option_map (recs.linked_in p (place_behind before (children_of f p)) o k q) (record_at f q)) is
           ∙ sym (record_at-put_in p before k f q s.in_order h.can h.place);
@@ -127,7 +127,7 @@ fitting (Some outer) (Some inner) e = held (may_hold outer inner) e where
 pub place_room : (m : Nodes) (f : Forest) (p : ℕ) (before : Option ℕ) (k : ℕ) (n : Node) → Holds m f → place_fault p before k f ≡ None → get m p ≡ Some n → n.size + 1 < 2 ^ 32
 place_room m f p before k n h none e = room_below m f p before k n h.stands none e
 
-pub placed_stands : (old new : Nodes) (f : Forest) (p k : ℕ) (before prev next : Option ℕ) → Holds old f → place_fault p before k f ≡ None → prev ≡ place_behind before (children_of f p) → next ≡ before → Differs (linked_in k p prev next) old new → Holds new (put_in p before k f)
+pub placed_stands : (old new : Nodes) (f : Forest) (p k : ℕ) (before prev next : Option ℕ) → Holds old f → place_fault p before k f ≡ None → prev ≡ place_behind before (children_of f p) → next ≡ before → Differs (node_linked k p prev next) old new → Holds new (put_in p before k f)
 placed_stands old new f p k before prev next h none behind is d =
     let free = placing p before k f none in
     record {

@@ -14,7 +14,7 @@ use Rattle.lx_node.specs.declared.cause.Fault.TheVariants as fault
 use Rattle.lx_node.specs.Trees.{nil}
 use Rattle.lx_forest.specs.Forest.{Forest}
 use Rattle.lx_forest.specs.Lookups.{has, kind_of}
-use Rattle.lx_links.specs.Faults.{unknown, wrong_fields, set_fault, not_below, detach_fault, Refuses}
+use Rattle.lx_links.specs.Faults.{unknown, wrong_fields, set_fault, not_below, detach_fault, RefusesEdit}
 use Rattle.lx_links.proofs.Seen.{Seen}
 
 pub memory_err : {T : Type 0} (r : Result T Fault) (P : Fault → Type 0) → IsErrAnd r (λ y. y ≡ Memory) → P Memory → IfErr r P
@@ -56,9 +56,9 @@ detach_top k f n s e = detach_seen k f n None s e
 pub detach_fine : (k : ℕ) (f : Forest) (n : Node) (p : ℕ) → Seen f k n → n.parent ≡ Some p → detach_fault k f ≡ None
 detach_fine k f n p s e = detach_seen k f n (Some p) s e
 
-pub refused_by : (old new : Forest) (first : Option Cause) (e : Fault) (cause : Cause) → e ≡ fault.Cause cause → old ≢ nil → first ≡ Some cause → new ≡ old → Refuses old first new e
-refused_by old new first e cause is lives fault same = subst (Refuses old first new) (sym is) (lives, fault, same)
+pub refused_by : (old new : Forest) (first : Option Cause) (e : Fault) (cause : Cause) → e ≡ fault.Cause cause → old ≢ nil → first ≡ Some cause → new ≡ old → RefusesEdit old first new e
+refused_by old new first e cause is lives fault same = subst (RefusesEdit old first new) (sym is) (lives, fault, same)
 
 -- where no cause holds, memory was wanting
-pub failed_by_memory : {T : Type 0} (r : Result T Fault) (old new : Forest) (first : Option Cause) → IsErrAnd r (λ y. y ≡ Memory) → first ≡ None → new ≡ nil → IfErr r (Refuses old first new)
-failed_by_memory r old new first h none gone = memory_err r (Refuses old first new) h (λ lives. none, gone)
+pub failed_by_memory : {T : Type 0} (r : Result T Fault) (old new : Forest) (first : Option Cause) → IsErrAnd r (λ y. y ≡ Memory) → first ≡ None → new ≡ nil → IfErr r (RefusesEdit old first new)
+failed_by_memory r old new first h none gone = memory_err r (RefusesEdit old first new) h (λ lives. none, gone)

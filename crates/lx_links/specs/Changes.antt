@@ -8,23 +8,23 @@ use Rattle.lx_links.specs.declared.changes.Change.TheVariants.{Content, Next, Pr
 use Rattle.lx_links.specs.Stands.{Nodes}
 
 -- a node after a change, if it is the one that changes
-abbrev pub changed : Change → Bool → Node → Node
-changed (Content fields) here n = record n { fields = (if here then fields else n.fields) }
-changed (Next next) here n = record n { next = (if here then next else n.next) }
-changed (Prev prev) here n = record n { prev = (if here then prev else n.prev) }
-changed (Place parent prev next) here n =
+abbrev pub node_after : Change → Bool → Node → Node
+node_after (Content fields) here n = record n { fields = (if here then fields else n.fields) }
+node_after (Next next) here n = record n { next = (if here then next else n.next) }
+node_after (Prev prev) here n = record n { prev = (if here then prev else n.prev) }
+node_after (Place parent prev next) here n =
     record n {
       parent = (if here then parent else n.parent);
       prev = (if here then prev else n.prev);
       next = (if here then next else n.next);
     }
-changed (Left prev next) here n =
+node_after (Left prev next) here n =
     record n {
       first = (if here && is_none prev then next else n.first);
       last = (if here && is_none next then prev else n.last);
       size = (if here then n.size - 1 else n.size);
     }
-changed (Joined key behind before) here n =
+node_after (Joined key behind before) here n =
     record n {
       first = (if here && is_none behind then Some key else n.first);
       last = (if here && is_none before then Some key else n.last);
@@ -41,8 +41,8 @@ pub record Differs (change : ℕ → Node → Node) (old new : Nodes) : Type 0 w
   pub each : (q : ℕ) → get new q ≡ option_map (change q) (get old q)
 
 -- a node after the key left that one, and its neighbours
-abbrev pub unlinked : ℕ → ℕ → Option ℕ → Option ℕ → ℕ → Node → Node
-unlinked key parent prev next q n =
+abbrev pub node_unlinked : ℕ → ℕ → Option ℕ → Option ℕ → ℕ → Node → Node
+node_unlinked key parent prev next q n =
     record {
       kind = n.kind;
       fields = n.fields;
@@ -55,8 +55,8 @@ unlinked key parent prev next q n =
     }
 
 -- a node after the key came below that one, between its neighbours
-abbrev pub linked_in : ℕ → ℕ → Option ℕ → Option ℕ → ℕ → Node → Node
-linked_in key parent behind before q n =
+abbrev pub node_linked : ℕ → ℕ → Option ℕ → Option ℕ → ℕ → Node → Node
+node_linked key parent behind before q n =
     record {
       kind = n.kind;
       fields = n.fields;

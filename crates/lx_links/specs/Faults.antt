@@ -61,6 +61,6 @@ place_fault p before k f =
 
 -- What an edit of links does that answers an error, where this is the first cause: refused for it, it leaves the links as
 -- they were. Otherwise memory was wanting, and the links have failed.
-abbrev pub Refuses : Forest → Option Cause → Forest → Fault → Type 0
-Refuses old first new (fault.Cause cause) = (old ≢ nil) × (first ≡ Some cause) × (new ≡ old)
-Refuses old first new fault.Memory = (old ≢ nil → first ≡ None) × (new ≡ nil)
+abbrev pub RefusesEdit : Forest → Option Cause → Forest → Fault → Type 0
+RefusesEdit old first new (fault.Cause cause) = (old ≢ nil) × (first ≡ Some cause) × (new ≡ old)
+RefusesEdit old first new fault.Memory = (old ≢ nil → first ≡ None) × (new ≡ nil)

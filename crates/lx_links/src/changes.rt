@@ -2,7 +2,7 @@ ghost use Rattle.lx_node.specs.Limits.{last_u32};
 ghost use Rattle.std.specs.Prelude.{◌≡◌, ◌<◌, ℕ, IfOk, OnOk, true, None, Some};
 ghost use Rattle.std.specs.FinMap as map;
 ghost use Rattle.lx_node.specs.Siblings.{is_named};
-ghost use Rattle.lx_links.specs.Changes.{changed, Fits, Differs};
+ghost use Rattle.lx_links.specs.Changes.{node_after, Fits, Differs};
 ghost use Rattle.lx_node.specs.declared.node.Node.{Node};
 
 use lx_node::{Fields, Key, NoMemory, Node};
@@ -36,7 +36,7 @@ pub enum Change {
 impl Edit<Node> for Change {
     ghost fits = { Fits };
 
-    ghost edited = { λ change node. changed change true node };
+    ghost edited = { λ change node. node_after change true node };
 
     fn edit(self, node: &mut Node) {
         match self {
@@ -96,7 +96,7 @@ pub fn put_node(store: &mut Store<Node>, key: Key, node: Node) -> Result<(), NoM
 /// Changes the node of a key where it stands, where a key is given and there is such a node.
 pub fn change_node(store: &mut Store<Node>, at: Option<Key>, change: Change) -> Result<(), NoMemory>
     requires { (k : ℕ) (n : Node) → at ≡ Some k → map.get store.old k ≡ Some n → Fits change n }
-    ensures { OnOk result (Differs (λ q. changed change (is_named at q)) store.old store.new) }
+    ensures { OnOk result (Differs (λ q. node_after change (is_named at q)) store.old store.new) }
 {
     let Some(key) = at else {
         return Ok(());

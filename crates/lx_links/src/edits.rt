@@ -15,7 +15,7 @@ impl Links {
     ghost use Rattle.lx_node.specs.declared.kind.Kind.TheVariants.{Root};
     ghost use Rattle.lx_forest.specs.Lookups as lookups;
     ghost use Rattle.lx_forest.specs.Edits.{with_new, with_fields, take_out, put_in};
-    ghost use Rattle.lx_links.specs.Faults.{Refuses, set_fault, detach_fault, place_fault};
+    ghost use Rattle.lx_links.specs.Faults.{RefusesEdit, set_fault, detach_fault, place_fault};
 
     /// Adds a node without children that stands below nothing.
     pub fn insert_new(&mut self, key: Key, kind: Kind, fields: Fields) -> Result<(), NoMemory>
@@ -42,7 +42,7 @@ impl Links {
     pub fn set(&mut self, key: Key, fields: Fields) -> Result<(), Fault>
         ensures set { OnOk result ((set_fault key fields self.old ≡ None) × (self.new ≡ with_fields key fields self.old)) }
         ensures living { OnOk result (self.old ≢ nil) }
-        ensures refused { IfErr result (Refuses self.old (set_fault key fields self.old) self.new) }
+        ensures refused { IfErr result (RefusesEdit self.old (set_fault key fields self.old) self.new) }
     {
         self.living()?;
         let Some(node) = self.node(key) else {
@@ -67,7 +67,7 @@ impl Links {
     pub fn detach(&mut self, key: Key) -> Result<(), Fault>
         ensures detached { OnOk result ((detach_fault key self.old ≡ None) × (self.new ≡ take_out key self.old)) }
         ensures living { OnOk result (self.old ≢ nil) }
-        ensures refused { IfErr result (Refuses self.old (detach_fault key self.old) self.new) }
+        ensures refused { IfErr result (RefusesEdit self.old (detach_fault key self.old) self.new) }
     {
         self.living()?;
         let Some(node) = self.node(key) else {
@@ -95,7 +95,7 @@ impl Links {
     pub fn place(&mut self, parent: Key, before: Option<Key>, key: Key) -> Result<(), Fault>
         ensures placed { OnOk result ((place_fault parent before key self.old ≡ None) × (self.new ≡ put_in parent before key self.old)) }
         ensures living { OnOk result (self.old ≢ nil) }
-        ensures refused { IfErr result (Refuses self.old (place_fault parent before key self.old) self.new) }
+        ensures refused { IfErr result (RefusesEdit self.old (place_fault parent before key self.old) self.new) }
     {
         self.living()?;
         if let Some(cause) = self.place_fault(parent, &before, key) {

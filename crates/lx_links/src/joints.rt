@@ -3,7 +3,7 @@ ghost use Rattle.std.specs.FinMap as map;
 ghost use Rattle.lx_node.specs.Siblings.{is_named};
 ghost use Rattle.lx_node.specs.declared.node.Node.{Node};
 ghost use Rattle.lx_links.specs.declared.changes.Change.TheVariants.{Next, Prev, Place, Left, Joined};
-ghost use Rattle.lx_links.specs.Changes.{Differs, changed, unlinked, linked_in};
+ghost use Rattle.lx_links.specs.Changes.{Differs, node_after, node_unlinked, node_linked};
 
 use crate::changes::{Change, change_node};
 use lx_node::{Key, NoMemory, Node};
@@ -17,20 +17,20 @@ pub struct Gap {
 }
 
 fn set_next(store: &mut Store<Node>, at: Option<Key>, next: Option<Key>) -> Result<(), NoMemory>
-    ensures { OnOk result (Differs (λ q. changed (Next next) (is_named at q)) store.old store.new) }
+    ensures { OnOk result (Differs (λ q. node_after (Next next) (is_named at q)) store.old store.new) }
 {
     change_node(store, at, Change::Next(next))
 }
 
 fn set_prev(store: &mut Store<Node>, at: Option<Key>, prev: Option<Key>) -> Result<(), NoMemory>
-    ensures { OnOk result (Differs (λ q. changed (Prev prev) (is_named at q)) store.old store.new) }
+    ensures { OnOk result (Differs (λ q. node_after (Prev prev) (is_named at q)) store.old store.new) }
 {
     change_node(store, at, Change::Prev(prev))
 }
 
 /// Tells the key that it stands below nothing.
 fn set_free(store: &mut Store<Node>, key: Key) -> Result<(), NoMemory>
-    ensures { OnOk result (Differs (λ q. changed (Place None None None) (q == key)) store.old store.new) }
+    ensures { OnOk result (Differs (λ q. node_after (Place None None None) (q == key)) store.old store.new) }
 {
     change_node(
         store,
@@ -45,7 +45,7 @@ fn set_free(store: &mut Store<Node>, key: Key) -> Result<(), NoMemory>
 
 /// Tells the parent that a child has left it, and the gap that it leaves.
 fn leave(store: &mut Store<Node>, parent: Key, gap: &Gap) -> Result<(), NoMemory>
-    ensures { OnOk result (Differs (λ q. changed (Left gap.now.prev gap.now.next) (q == parent)) store.old store.new) }
+    ensures { OnOk result (Differs (λ q. node_after (Left gap.now.prev gap.now.next) (q == parent)) store.old store.new) }
 {
     let left = Change::Left {
         prev: gap.prev,
@@ -56,7 +56,7 @@ fn leave(store: &mut Store<Node>, parent: Key, gap: &Gap) -> Result<(), NoMemory
 
 /// Takes the key out from below its parent and from between its neighbours.
 pub fn unlink(store: &mut Store<Node>, key: Key, parent: Key, gap: &Gap) -> Result<(), NoMemory>
-    ensures { OnOk result (Differs (unlinked key parent gap.now.prev gap.now.next) store.old store.new) }
+    ensures { OnOk result (Differs (node_unlinked key parent gap.now.prev gap.now.next) store.old store.new) }
 {
     leave(store, parent, gap)?;
     set_next(store, gap.prev, gap.next)?;
@@ -66,7 +66,7 @@ pub fn unlink(store: &mut Store<Node>, key: Key, parent: Key, gap: &Gap) -> Resu
 
 /// Tells the key where it stands: below the parent, in the gap.
 fn set_below(store: &mut Store<Node>, key: Key, parent: Key, gap: &Gap) -> Result<(), NoMemory>
-    ensures { OnOk result (Differs (λ q. changed (Place (Some parent) gap.now.prev gap.now.next) (q == key)) store.old store.new) }
+    ensures { OnOk result (Differs (λ q. node_after (Place (Some parent) gap.now.prev gap.now.next) (q == key)) store.old store.new) }
 {
     let place = Change::Place {
         parent: Some(parent),
@@ -79,7 +79,7 @@ fn set_below(store: &mut Store<Node>, key: Key, parent: Key, gap: &Gap) -> Resul
 /// Tells the parent that the key is a child of it, in the gap.
 fn join(store: &mut Store<Node>, parent: Key, key: Key, gap: &Gap) -> Result<(), NoMemory>
     requires { (n : Node) → map.get store.old parent ≡ Some n → n.size + 1 < 2 ^ 32 }
-    ensures { OnOk result (Differs (λ q. changed (Joined key gap.now.prev gap.now.next) (q == parent)) store.old store.new) }
+    ensures { OnOk result (Differs (λ q. node_after (Joined key gap.now.prev gap.now.next) (q == parent)) store.old store.new) }
 {
     let joined = Change::Joined {
         key,
@@ -92,7 +92,7 @@ fn join(store: &mut Store<Node>, parent: Key, key: Key, gap: &Gap) -> Result<(),
 /// Puts the key below a parent, into a gap among its children.
 pub fn link_in(store: &mut Store<Node>, key: Key, parent: Key, gap: &Gap) -> Result<(), NoMemory>
     requires { (n : Node) → map.get store.old parent ≡ Some n → n.size + 1 < 2 ^ 32 }
-    ensures { OnOk result (Differs (linked_in key parent gap.now.prev gap.now.next) store.old store.new) }
+    ensures { OnOk result (Differs (node_linked key parent gap.now.prev gap.now.next) store.old store.new) }
 {
     join(store, parent, key, gap)?;
     set_next(store, gap.prev, Some(key))?;

@@ -30,11 +30,11 @@ impl Model for Links {
     ghost coded = { Prim.hlevel (codes, trees_code) };
 
     ghost use Rattle.lx_links.specs.Stands.{forest_in};
-    ghost use Rattle.lx_links.specs.Characters.{IsCounted};
+    ghost use Rattle.lx_links.specs.Characters.{CountsCharacters};
 
     ghost view = { λ s. forest_in s.held s.stands };
 
-    ghost invariant = { λ s. IsCounted s.characters (forest_in s.held s.stands) };
+    ghost invariant = { λ s. CountsCharacters s.characters (forest_in s.held s.stands) };
 }
 
 impl Links {

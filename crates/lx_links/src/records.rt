@@ -1,6 +1,6 @@
 ghost use Rattle.std.specs.Prelude.{◌≡◌, ℕ, option_map};
 ghost use Rattle.std.specs.Option.{option_copied};
-ghost use Rattle.lx_store.specs.Counts.{raised};
+ghost use Rattle.lx_store.specs.Counts.{next_count};
 ghost use Rattle.lx_forest.specs.Forest.{Forest};
 ghost use Rattle.lx_forest.specs.Records.{record_at};
 ghost use Rattle.lx_links.specs.Stands.{node_of, Sound};
@@ -22,7 +22,7 @@ pub trait Records<'a> {
     fn read(&mut self, key: Key) -> Option<&'a Node>
         ensures found { option_copied result ≡ option_map node_of (record_at (forest self.old) key) }
         ensures same { forest self.new ≡ forest self.old }
-        ensures counted { count self.new ≡ raised (count self.old) }
+        ensures counted { count self.new ≡ next_count (count self.old) }
         ensures sound { Sound (forest self.old) };
 }
 

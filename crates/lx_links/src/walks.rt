@@ -52,8 +52,21 @@ impl Links {
         }
     }
 
-    /// Whether the key is in the tree of the outer one: that one itself, or below it.
+    /// Whether the key is in the tree of the outer one: that one itself, or below it. Where the outer one has no
+    /// children it doesn't walk.
+    #[tactic(auto, using(crate::proofs::InTree::within_leaf))]
     pub fn is_within(&self, outer: Key, key: Key) -> bool
+        ensures within { result ≡ lookups.is_within self.now outer key }
+        ensures sound { Sound self.now }
+    {
+        match self.first(outer) {
+            Some(_) => self.reaches(outer, key),
+            None => key == outer && self.has(outer),
+        }
+    }
+
+    /// Whether the way up from the key meets the outer one.
+    fn reaches(&self, outer: Key, key: Key) -> bool
         ensures within { result ≡ lookups.is_within self.now outer key }
         ensures sound { Sound self.now }
     {

@@ -4,7 +4,7 @@ use Rattle.std.specs.Prelude.{is_some}
 use Rattle.std.specs.Map.{keys_of}
 use Rattle.std.proofs.lemmas.Bool.Decides.{eqb_tells}
 use Rattle.lx_node.specs.Siblings.{is_among, NoRepeats}
-use Rattle.lx_marks.specs.Marks.{Marked, unmarked, flag_in, flagged, all_flagged, with_leaf, with_element, with_names, absorbed, is_true_flag, is_touched, is_noted, IsMarked}
+use Rattle.lx_marks.specs.Marks.{Marked, unmarked, flag_in, flagged, all_flagged, with_leaf, with_marked, with_names, absorbed, is_true_flag, is_touched, is_noted, IsMarked}
 use Rattle.lx_marks.specs.Laws.{either_flag}
 use Rattle.lx_marks.proofs.Names.{is_among-with_name, is_among-with_names, NoRepeats-with_name, NoRepeats-with_names, with_names-apart}
 use Rattle.lx_marks.proofs.Flags.{flag_in-flagged, flag_in-all_flagged, once_flagged, all_flagged-apart, is_some-flag_in}
@@ -31,8 +31,8 @@ pub touched-leaf : (k : ℕ) (m : Marked) (q : ℕ) → is_touched (with_leaf k 
 unfolding with_leaf
 touched-leaf k m q = grind (arith, is_among-with_name k m.leaves q)
 
-pub touched-element : (k : ℕ) (flag : Bool) (m : Marked) (q : ℕ) → is_touched (with_element k flag m) q ≡ (is_touched m q || (eqb q k && flag))
-unfolding with_element
+pub touched-element : (k : ℕ) (flag : Bool) (m : Marked) (q : ℕ) → is_touched (with_marked k flag m) q ≡ (is_touched m q || (eqb q k && flag))
+unfolding with_marked
 touched-element k flag m q =
     grind (arith, flag_in-flagged k flag m.elements q, true_flag-either (flag_in m.elements q) (Some flag))
 
@@ -47,8 +47,8 @@ pub noted-leaf : (k : ℕ) (m : Marked) (q : ℕ) → is_noted (with_leaf k m) q
 unfolding with_leaf
 noted-leaf k m q = grind (arith, is_among-with_name k m.leaves q)
 
-pub noted-element : (k : ℕ) (flag : Bool) (m : Marked) (q : ℕ) → is_noted (with_element k flag m) q ≡ (is_noted m q || eqb q k)
-unfolding with_element
+pub noted-element : (k : ℕ) (flag : Bool) (m : Marked) (q : ℕ) → is_noted (with_marked k flag m) q ≡ (is_noted m q || eqb q k)
+unfolding with_marked
 noted-element k flag m q =
     grind (arith, flag_in-flagged k flag m.elements q, is_some-flagged (flag_in m.elements q) flag)
 
@@ -81,8 +81,8 @@ unfolding all_flagged
 once_all_flagged [] es once = once
 once_all_flagged (f ∷ fs) es once = once_all_flagged fs (flagged f.0 f.1 es) (once_flagged f.0 f.1 es once)
 
-pub IsMarked-with_element : (k : ℕ) (flag : Bool) (m : Marked) → IsMarked m → IsMarked (with_element k flag m)
-unfolding with_element
+pub IsMarked-with_element : (k : ℕ) (flag : Bool) (m : Marked) → IsMarked m → IsMarked (with_marked k flag m)
+unfolding with_marked
 IsMarked-with_element k flag m once = record { leaves = once.leaves; elements = once_flagged k flag m.elements once.elements }
 
 pub IsMarked-absorbed : (other m : Marked) → IsMarked m → IsMarked (absorbed other m)

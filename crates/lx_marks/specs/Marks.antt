@@ -32,8 +32,8 @@ unfoldable pub with_leaf : ℕ → Marked → Marked
 with_leaf k m = record m { leaves = with_name k m.leaves }
 
 -- an element is marked, itself where the flag is true
-unfoldable pub with_element : ℕ → Bool → Marked → Marked
-with_element k flag m = record m { elements = flagged k flag m.elements }
+unfoldable pub with_marked : ℕ → Bool → Marked → Marked
+with_marked k flag m = record m { elements = flagged k flag m.elements }
 
 -- the names with all of these, one after another
 unfoldable pub with_names : List ℕ → List ℕ → List ℕ

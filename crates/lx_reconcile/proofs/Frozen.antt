@@ -37,7 +37,7 @@ frozen_parts w f selection marks next_key frozen =
     (ap (λ (v : Working). v.forest) same, ap (λ (v : Working). v.marks) same)
 
 -- the sweep leaves one tree
-one_left : (f : Forest) → IsForest f → roots (drop_detached f) ≡ 0 ∷ []
+pub one_left : (f : Forest) → IsForest f → roots (drop_detached f) ≡ 0 ∷ []
 unfolding drop_detached
 one_left f order = names-alone key_of 0 f (grind (arith, order.once 0, has-root f order))
 
@@ -58,11 +58,11 @@ living (tree l below rest) only e = absurd (cc)
 whole : (f : Forest) → IsTree f → alone 0 f ≡ f
 whole f t = one_tree f (t.sound.in_order (living f t.alone)) t.alone
 
-swept_alone : (f : Forest) → alone 0 f ≡ drop_detached f
+pub swept_alone : (f : Forest) → alone 0 f ≡ drop_detached f
 unfolding drop_detached
 swept_alone f = refl
 
-kind_stays : (f g : Forest) (q : ℕ) → KindsStay f g → has q f ≡ true → kind_of f q ≡ kind_of g q
+pub kind_stays : (f g : Forest) (q : ℕ) → KindsStay f g → has q f ≡ true → kind_of f q ≡ kind_of g q
 kind_stays f g q stays there = from_spot (spot f q) refl where
   from_spot : (o : Option (Spot Label)) → spot f q ≡ o → kind_of f q ≡ kind_of g q
   from_spot None at = absurd (let none = ap is_some at in let e = is_some-spot f q in cc)

@@ -28,13 +28,20 @@ impl Model for Batch {
 }
 
 impl Batch {
-    ghost use Rattle.std.specs.Prelude.{◌≡◌};
+    ghost use Rattle.std.specs.Prelude.{◌≡◌, IfOk};
 
     /// The operations.
     pub fn ops(&self) -> &[Op]
         ensures { result.now ≡ self.now.ops }
     {
         self.ops.items()
+    }
+
+    /// A copy of the operations.
+    pub fn copy_ops(&self, alloc: Global) -> Result<Ops, NoMemory>
+        ensures { IfOk result (λ made. made ≡ self.now.ops) }
+    {
+        self.ops.copy(alloc)
     }
 
     /// The operations themselves.
@@ -53,7 +60,6 @@ impl Batch {
 }
 
 ghost use Rattle.std.specs.Prelude.{true, ◌≡◌, ◌+◌, ◌*◌, ◌≤◌, None, IfOk};
-ghost use Rattle.lx_host.specs.Branches.{IsRooted};
 ghost use Rattle.lx_plain.specs.Allowed.{AreCovered, Shows, marked_children, unkept};
 ghost use Rattle.lx_reconcile.specs.Allowing.{marking, IsAllowed};
 ghost use Rattle.lx_forest.specs.Lookups.{alone, has};
@@ -74,10 +80,9 @@ pub fn operations<'a, R: Records<'a>>(
     requires rooted_before { has 0 (R.forest before.old) ≡ true }
     requires rooted_after { has 0 (R.forest after.old) ≡ true }
     requires covered { AreCovered (alone 0 (R.forest before.old)) (alone 0 (R.forest after.old)) (marking marks.now) }
-    requires shown { Shows hosts.now (alone 0 (R.forest before.old)) }
-    requires rooted { IsRooted hosts.now.hosts }
-    requires room { hosts.now.next + unkept (alone 0 (R.forest before.old)) None (alone 0 (R.forest after.old)) ≤ last_u32 }
-    ensures allowed { IfOk result (λ batch. IsAllowed (alone 0 (R.forest before.old)) (alone 0 (R.forest after.old)) (marking marks.now) hosts.now batch.ops) }
+    requires shown { Shows hosts.now.tree (alone 0 (R.forest before.old)) }
+    requires room { hosts.now.tree.next + unkept (alone 0 (R.forest before.old)) None (alone 0 (R.forest after.old)) ≤ last_u32 }
+    ensures allowed { IfOk result (λ batch. IsAllowed (alone 0 (R.forest before.old)) (alone 0 (R.forest after.old)) (marking marks.now) hosts.now.tree batch.ops) }
     ensures before { R.forest before.new ≡ R.forest before.old }
     ensures after { R.forest after.new ≡ R.forest after.old }
     ensures bounded { IfOk result (λ batch. batch.reads ≤ 8 * (marked_children (marking marks.now).noted (alone 0 (R.forest before.old)) + marked_children (marking marks.now).noted (alone 0 (R.forest after.old)) + unkept (alone 0 (R.forest before.old)) None (alone 0 (R.forest after.old)) + 1)) }

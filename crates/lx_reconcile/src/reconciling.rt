@@ -6,7 +6,6 @@ ghost use Rattle.std.specs.Prelude.{◌≡◌, ◌≢◌, ◌+◌, ◌*◌, ◌<
 ghost use Rattle.lx_node.specs.NamedTrees.{total};
 ghost use Rattle.lx_host.specs.declared.op.Op.TheVariants as op;
 ghost use Rattle.lx_host.specs.Html.{first_tree};
-ghost use Rattle.lx_host.specs.Branches.{IsRooted};
 ghost use Rattle.lx_forest.specs.Lookups.{alone, roots, trees_of, children_of, first_child, next_of, has, IsForest};
 ghost use Rattle.lx_forest.specs.Records.{record_at};
 ghost use Rattle.lx_links.specs.Stands.{node_of, Sound};
@@ -33,9 +32,9 @@ use std::alloc::Global;
 
 /// The id of the host that shows a node.
 pub(crate) fn host_of(hosts: &HostTree, key: Key) -> u32
-    requires shown { hosts_of key hosts.now.hosts ≡ host_in hosts.now key ∷ [] }
-    requires whole { first_tree hosts.now.hosts ≡ hosts.now.hosts }
-    ensures { result ≡ host_in hosts.now key }
+    requires shown { hosts_of key hosts.now.tree.hosts ≡ host_in hosts.now.tree key ∷ [] }
+    requires whole { first_tree hosts.now.tree.hosts ≡ hosts.now.tree.hosts }
+    ensures { result ≡ host_in hosts.now.tree key }
 {
     match hosts.host_of(key) {
         Some(id) => id,
@@ -45,9 +44,9 @@ pub(crate) fn host_of(hosts: &HostTree, key: Key) -> u32
 
 /// The id of the host that shows a node, where one is named.
 fn host_before(hosts: &HostTree, before: Option<Key>) -> Option<u32>
-    requires shown { (k : ℕ) → before ≡ Some k → hosts_of k hosts.now.hosts ≡ host_in hosts.now k ∷ [] }
-    requires whole { first_tree hosts.now.hosts ≡ hosts.now.hosts }
-    ensures { result ≡ option_map (host_in hosts.now) before }
+    requires shown { (k : ℕ) → before ≡ Some k → hosts_of k hosts.now.tree.hosts ≡ host_in hosts.now.tree k ∷ [] }
+    requires whole { first_tree hosts.now.tree.hosts ≡ hosts.now.tree.hosts }
+    ensures { result ≡ option_map (host_in hosts.now.tree) before }
 {
     match before {
         None => None,
@@ -236,13 +235,13 @@ pub(crate) fn reconcile_node<B, A, O: Look<B>, N: Look<A>>(
     next: u32,
     ops: &mut Vec<Op>,
 ) -> Result<u32, NoMemory>
-    requires between { IsBetween (O.forest before.old) (N.forest after.old) (marking given.now.marks.now) given.now.hosts.now }
+    requires between { IsBetween (O.forest before.old) (N.forest after.old) (marking given.now.marks.now) given.now.hosts.now.tree }
     requires was { Some was.now ≡ option_map node_of (record_at (O.forest before.old) key) }
     requires now { Some now.now ≡ option_map node_of (record_at (N.forest after.old) key) }
     requires tag { shown.tag_of was.now.kind was.now.fields ≡ shown.tag_of now.now.kind now.now.fields }
-    requires behind { given.now.hosts.now.next ≤ next }
+    requires behind { given.now.hosts.now.tree.next ≤ next }
     requires room { next + unkept (O.forest before.old) (Some key) (trees_of (N.forest after.old) (children_of (N.forest after.old) key)) ≤ last_u32 }
-    ensures done { IfOk result (λ end. Reconciles (O.forest before.old) (N.forest after.old) (marking given.now.marks.now) given.now.hosts.now key next ops.old.items ops.new.items end) }
+    ensures done { IfOk result (λ end. Reconciles (O.forest before.old) (N.forest after.old) (marking given.now.marks.now) given.now.hosts.now.tree key next ops.old.items ops.new.items end) }
     ensures before { O.forest before.new ≡ O.forest before.old }
     ensures after { N.forest after.new ≡ N.forest after.old }
     ensures lag_before { O.lag before.new ≤ O.lag before.old }
@@ -284,10 +283,10 @@ fn make_moves<B, A, O: Look<B>, N: Look<A>>(
     next: u32,
     ops: &mut Vec<Op>,
 ) -> Result<u32, NoMemory>
-    requires between { IsBetween (O.forest before.old) (N.forest after.old) (marking given.now.marks.now) given.now.hosts.now }
-    requires host { host ≡ host_in given.now.hosts.now parent }
-    requires coming { AreNext (O.forest before.old) (N.forest after.old) given.now.hosts.now parent moves.now next }
-    ensures done { IfOk result (λ end. MakesMoves (O.forest before.old) (N.forest after.old) (marking given.now.marks.now) given.now.hosts.now parent moves.now next ops.old.items ops.new.items end) }
+    requires between { IsBetween (O.forest before.old) (N.forest after.old) (marking given.now.marks.now) given.now.hosts.now.tree }
+    requires host { host ≡ host_in given.now.hosts.now.tree parent }
+    requires coming { AreNext (O.forest before.old) (N.forest after.old) given.now.hosts.now.tree parent moves.now next }
+    ensures done { IfOk result (λ end. MakesMoves (O.forest before.old) (N.forest after.old) (marking given.now.marks.now) given.now.hosts.now.tree parent moves.now next ops.old.items ops.new.items end) }
     ensures before { O.forest before.new ≡ O.forest before.old }
     ensures after { N.forest after.new ≡ N.forest after.old }
     ensures lag_before { O.lag before.new ≤ O.lag before.old }
@@ -320,10 +319,10 @@ fn make_move<B, A, O: Look<B>, N: Look<A>>(
     next: u32,
     ops: &mut Vec<Op>,
 ) -> Result<u32, NoMemory>
-    requires between { IsBetween (O.forest before.old) (N.forest after.old) (marking given.now.marks.now) given.now.hosts.now }
-    requires host { host ≡ host_in given.now.hosts.now parent }
-    requires coming { IsNext (O.forest before.old) (N.forest after.old) given.now.hosts.now parent step next }
-    ensures done { IfOk result (λ end. MakesMoves (O.forest before.old) (N.forest after.old) (marking given.now.marks.now) given.now.hosts.now parent (step ∷ []) next ops.old.items ops.new.items end) }
+    requires between { IsBetween (O.forest before.old) (N.forest after.old) (marking given.now.marks.now) given.now.hosts.now.tree }
+    requires host { host ≡ host_in given.now.hosts.now.tree parent }
+    requires coming { IsNext (O.forest before.old) (N.forest after.old) given.now.hosts.now.tree parent step next }
+    ensures done { IfOk result (λ end. MakesMoves (O.forest before.old) (N.forest after.old) (marking given.now.marks.now) given.now.hosts.now.tree parent (step ∷ []) next ops.old.items ops.new.items end) }
     ensures before { O.forest before.new ≡ O.forest before.old }
     ensures after { N.forest after.new ≡ N.forest after.old }
     ensures lag_before { O.lag before.new ≤ O.lag before.old }
@@ -377,10 +376,10 @@ fn reconcile_child<B, A, O: Look<B>, N: Look<A>>(
     next: u32,
     ops: &mut Vec<Op>,
 ) -> Result<u32, NoMemory>
-    requires between { IsBetween (O.forest before.old) (N.forest after.old) (marking given.now.marks.now) given.now.hosts.now }
-    requires host { host ≡ host_in given.now.hosts.now parent }
-    requires coming { IsNext (O.forest before.old) (N.forest after.old) given.now.hosts.now parent (Stay key) next }
-    ensures done { IfOk result (λ end. MakesMoves (O.forest before.old) (N.forest after.old) (marking given.now.marks.now) given.now.hosts.now parent (Stay key ∷ []) next ops.old.items ops.new.items end) }
+    requires between { IsBetween (O.forest before.old) (N.forest after.old) (marking given.now.marks.now) given.now.hosts.now.tree }
+    requires host { host ≡ host_in given.now.hosts.now.tree parent }
+    requires coming { IsNext (O.forest before.old) (N.forest after.old) given.now.hosts.now.tree parent (Stay key) next }
+    ensures done { IfOk result (λ end. MakesMoves (O.forest before.old) (N.forest after.old) (marking given.now.marks.now) given.now.hosts.now.tree parent (Stay key ∷ []) next ops.old.items ops.new.items end) }
     ensures before { O.forest before.new ≡ O.forest before.old }
     ensures after { N.forest after.new ≡ N.forest after.old }
     ensures lag_before { O.lag before.new ≤ O.lag before.old }
@@ -425,11 +424,10 @@ pub(crate) fn reconcile_root<B, A, O: Look<B>, N: Look<A>>(
     requires alone_before { Sound (O.forest before.old) → roots (O.forest before.old) ≡ 0 ∷ [] }
     requires alone_after { Sound (N.forest after.old) → roots (N.forest after.old) ≡ 0 ∷ [] }
     requires covered { AreCovered (O.forest before.old) (N.forest after.old) (marking marks.now) }
-    requires shown { Shows hosts.now (O.forest before.old) }
-    requires rooted { IsRooted hosts.now.hosts }
-    requires room { hosts.now.next + unkept (O.forest before.old) None (N.forest after.old) ≤ last_u32 }
+    requires shown { Shows hosts.now.tree (O.forest before.old) }
+    requires room { hosts.now.tree.next + unkept (O.forest before.old) None (N.forest after.old) ≤ last_u32 }
     requires none { ops.old.items ≡ [] }
-    ensures allowed { OnOk result (IsAllowed (O.forest before.old) (N.forest after.old) (marking marks.now) hosts.now ops.new.items) }
+    ensures allowed { OnOk result (IsAllowed (O.forest before.old) (N.forest after.old) (marking marks.now) hosts.now.tree ops.new.items) }
     ensures fits { 8 * (marked_children (marking marks.now).noted (O.forest before.old) + marked_children (marking marks.now).noted (N.forest after.old) + unkept (O.forest before.old) None (N.forest after.old) + 1) < last_u64 }
     ensures before { O.forest before.new ≡ O.forest before.old }
     ensures after { N.forest after.new ≡ N.forest after.old }

@@ -10,7 +10,7 @@ use Rattle.lx_node.specs.declared.cause.Cause.TheVariants.{BadLine, BadCommand}
 use Rattle.lx_node.specs.declared.cause.Fault.{Fault}
 use Rattle.lx_node.specs.declared.cause.Fault.TheVariants.{Cause as Refused, Memory}
 use Rattle.lx_step.specs.declared.line.Line.{Line}
-use Rattle.lx_script.specs.Grammar.{IsJson, Makes, Reads, Tells, line_of}
+use Rattle.lx_script.specs.Grammar.{IsJson, Makes, Reads, TellsLine, line_of}
 use Rattle.lx_script.specs.References.{has_three}
 use Rattle.lx_script.specs.Values.{has_only, present}
 
@@ -31,7 +31,7 @@ has_three-array (string s) vs is = absurd (cc)
 has_three-array (object ms) vs is = absurd (cc)
 
 -- what is made of the value that the bytes are tells what they ask for
-pub tells_of_json : (bytes : List ℕ) (d : Data) (result : Result Line Fault) → IsJson bytes d → Makes (line_of d) result → Tells bytes result
+pub tells_of_json : (bytes : List ℕ) (d : Data) (result : Result Line Fault) → IsJson bytes d → Makes (line_of d) result → TellsLine bytes result
 unfolding Reads
 tells_of_json bytes d (Ok line) is made = (d, is, made)
 tells_of_json bytes d (Err (Refused BadLine)) is made = absurd made

@@ -18,9 +18,9 @@ use Rattle.lx_step.specs.Patches.{has, with_member, is_in_range, IsInRange}
 use Rattle.lx_step.proofs.Kept.{keeps_kind_with}
 use Rattle.lx_script.specs.declared.words.Name.{Name}
 use Rattle.lx_script.specs.declared.words.Name.TheVariants as name
-use Rattle.lx_script.specs.Documents.{default_extra, default_fields, extra_with_value, with_value, given, given_by, name_in, or_bad, fields_with, document_fields, members_in}
+use Rattle.lx_script.specs.Documents.{default_extra, default_fields, extra_with_value, item_with_value, with_given, given_by, name_in, or_bad, fields_with, document_fields, members_in}
 use Rattle.lx_script.specs.Members.{direction_of, settable}
-use Rattle.lx_script.specs.Values.{named, text_of, number_of, number_within, or_null_of}
+use Rattle.lx_script.specs.Values.{named, string_of, whole_of, number_within, or_null_of}
 use Rattle.lx_script.specs.Words.{levels, list_types, aligns, modes}
 
 -- ---- what holds of all that an option can be
@@ -57,7 +57,7 @@ and true b of_a of_b = of_b
 and false b of_a of_b = absurd (cc)
 
 up_to : (most : ℕ) (d : Data) (n : ℕ) → number_within 0 most d ≡ Some n → IsTrue (leb n most)
-up_to most d n is = right (leb 0 n) (leb n most) (within 0 most (number_of d) n is)
+up_to most d n is = right (leb 0 n) (leb n most) (within 0 most (whole_of d) n is)
 
 -- ---- members that are read
 
@@ -72,25 +72,25 @@ settable-ranged name.Format d m is =
     (any (λ align. set.Align align) (λ align. refl) (named aligns d)) (any (λ format. set.Format format) (λ format. refl) (number_within 0 65535 d)) m is
 settable-ranged name.Indent d m is = any (λ indent. set.Indent indent) (λ indent. refl) (number_within 0 65535 d) m is
 settable-ranged name.TextFormat d m is = any (λ format. set.TextFormat format) (λ format. refl) (number_within 0 65535 d) m is
-settable-ranged name.TextStyle d m is = any (λ style. set.TextStyle style) (λ style. refl) (text_of d) m is
+settable-ranged name.TextStyle d m is = any (λ style. set.TextStyle style) (λ style. refl) (string_of d) m is
 settable-ranged name.Tag d m is = absurd (cc)
 settable-ranged name.ListType d m is = absurd (cc)
 settable-ranged name.Start d m is = mapped IsInRange (λ start. set.Start start) (number_within 0 1000000 d) (λ n at. up_to 1000000 d n at) m is
 settable-ranged name.Checked d m is = any (λ checked. set.Checked checked) (λ checked. refl) (or_null_of as_bool d) m is
 settable-ranged name.Value d m is = absurd (cc)
-settable-ranged name.Rel d m is = any (λ rel. set.Rel rel) (λ rel. refl) (or_null_of text_of d) m is
-settable-ranged name.Target d m is = any (λ target. set.Target target) (λ target. refl) (or_null_of text_of d) m is
-settable-ranged name.Title d m is = any (λ title. set.Title title) (λ title. refl) (or_null_of text_of d) m is
-settable-ranged name.Url d m is = any (λ url. set.Url url) (λ url. refl) (text_of d) m is
+settable-ranged name.Rel d m is = any (λ rel. set.Rel rel) (λ rel. refl) (or_null_of string_of d) m is
+settable-ranged name.Target d m is = any (λ target. set.Target target) (λ target. refl) (or_null_of string_of d) m is
+settable-ranged name.Title d m is = any (λ title. set.Title title) (λ title. refl) (or_null_of string_of d) m is
+settable-ranged name.Url d m is = any (λ url. set.Url url) (λ url. refl) (string_of d) m is
 settable-ranged name.HeaderState d m is = mapped IsInRange (λ header. set.HeaderState header) (number_within 0 3 d) (λ n at. up_to 3 d n at) m is
-settable-ranged name.ColSpan d m is = mapped IsInRange (λ span. set.ColSpan span) (number_within 1 1000 d) (λ n at. within 1 1000 (number_of d) n at) m is
-settable-ranged name.RowSpan d m is = mapped IsInRange (λ span. set.RowSpan span) (number_within 1 1000 d) (λ n at. within 1 1000 (number_of d) n at) m is
-settable-ranged name.Background d m is = any (λ background. set.Background background) (λ background. refl) (or_null_of text_of d) m is
-settable-ranged name.Text d m is = any (λ text. set.Text text) (λ text. refl) (text_of d) m is
-settable-ranged name.Style d m is = any (λ style. set.Style style) (λ style. refl) (text_of d) m is
+settable-ranged name.ColSpan d m is = mapped IsInRange (λ span. set.ColSpan span) (number_within 1 1000 d) (λ n at. within 1 1000 (whole_of d) n at) m is
+settable-ranged name.RowSpan d m is = mapped IsInRange (λ span. set.RowSpan span) (number_within 1 1000 d) (λ n at. within 1 1000 (whole_of d) n at) m is
+settable-ranged name.Background d m is = any (λ background. set.Background background) (λ background. refl) (or_null_of string_of d) m is
+settable-ranged name.Text d m is = any (λ text. set.Text text) (λ text. refl) (string_of d) m is
+settable-ranged name.Style d m is = any (λ style. set.Style style) (λ style. refl) (string_of d) m is
 settable-ranged name.Detail d m is = mapped IsInRange (λ detail. set.Detail detail) (number_within 0 3 d) (λ n at. up_to 3 d n at) m is
 settable-ranged name.Mode d m is = any (λ mode. set.Mode mode) (λ mode. refl) (named modes d) m is
-settable-ranged name.Src d m is = any (λ source. set.Src source) (λ source. refl) (text_of d) m is
+settable-ranged name.Src d m is = any (λ source. set.Src source) (λ source. refl) (string_of d) m is
 
 -- ---- fields that an object gives
 
@@ -110,8 +110,8 @@ extra_keeps kind value (extra.List start) ranged of = of
 extra_keeps kind value (extra.Link rel target title url) ranged of = of
 extra_keeps kind value (extra.Cell header row_span col_span background) ranged of = of
 
-fitting : (kind : Kind) (value : ℕ) (old : Fields) → IsTrue (leb value 1200000) → IsTrue (fits_kind kind old) → IsTrue (fits_kind kind (with_value value old))
-unfolding fits_kind is_element_of is_text_of are_embed_fields are_bare with_value
+fitting : (kind : Kind) (value : ℕ) (old : Fields) → IsTrue (leb value 1200000) → IsTrue (fits_kind kind old) → IsTrue (fits_kind kind (item_with_value value old))
+unfolding fits_kind is_element_of is_text_of are_embed_fields are_bare item_with_value
 fitting kind.Text value (fields.Element old) ranged of = absurd (cc)
 fitting kind.Tab value (fields.Element old) ranged of = absurd (cc)
 fitting kind.Break value (fields.Element old) ranged of = absurd (cc)
@@ -122,17 +122,17 @@ fitting kind value (fields.Text old) ranged of = of
 fitting kind value (fields.Embed old) ranged of = of
 fitting kind value fields.Bare ranged of = of
 
-value_keeps : (kind : Kind) (value : ℕ) (old : Fields) → IsTrue (leb value 1200000) → IsOfKind kind old → IsOfKind kind (with_value value old)
+value_keeps : (kind : Kind) (value : ℕ) (old : Fields) → IsTrue (leb value 1200000) → IsOfKind kind old → IsOfKind kind (item_with_value value old)
 unfolding is_of_kind
 value_keeps kind value old ranged of =
     and (is_possible kind) _ (left (is_possible kind) (fits_kind kind old) of) (fitting kind value old ranged (right (is_possible kind) (fits_kind kind old) of))
 
-given_keeps : (kind : Kind) (known : Name) (d : Data) (old new : Fields) → given kind known d old ≡ Some new → IsOfKind kind old → IsOfKind kind new
-unfolding given
+given_keeps : (kind : Kind) (known : Name) (d : Data) (old new : Fields) → with_given kind known d old ≡ Some new → IsOfKind kind old → IsOfKind kind new
+unfolding with_given
 given_keeps kind name.Tag d old new is of = mapped (IsOfKind kind) (λ level. old) (named levels d) (λ level at. of) new is
 given_keeps kind name.ListType d old new is of = mapped (IsOfKind kind) (λ type. old) (named list_types d) (λ type at. of) new is
 given_keeps kind name.Value d old new is of =
-    mapped (IsOfKind kind) (λ value. with_value value old) (number_within 0 1200000 d) (λ value at. value_keeps kind value old (up_to 1200000 d value at) of) new is
+    mapped (IsOfKind kind) (λ value. item_with_value value old) (number_within 0 1200000 d) (λ value at. value_keeps kind value old (up_to 1200000 d value at) of) new is
 given_keeps kind known d old new is of = member_keeps kind (settable known d) old new (settable-ranged known d) is of
 
 given_by_keeps : (kind : Kind) (found : Option Name) (d : Data) (old new : Fields) → given_by kind found d old ≡ Some new → IsOfKind kind old → IsOfKind kind new
@@ -140,7 +140,7 @@ unfolding given_by
 given_by_keeps kind None d old new is of = let same : old ≡ new = cc in subst (IsOfKind kind) same of
 given_by_keeps kind (Some known) d old new is of = null_keeps (is_some (as_null d)) is
   where
-    null_keeps : (test : Bool) → (if test then Some old else given kind known d old) ≡ Some new → IsOfKind kind new
+    null_keeps : (test : Bool) → (if test then Some old else with_given kind known d old) ≡ Some new → IsOfKind kind new
     null_keeps true is = let same : old ≡ new = cc in subst (IsOfKind kind) same of
     null_keeps false is = given_keeps kind known d old new is of
 

@@ -29,9 +29,9 @@ use Rattle.lx_script.specs.Grammar.{update_of}
 use Rattle.lx_script.specs.Members.{patch_member, patch_members, patch_of}
 use Rattle.lx_script.specs.NewNodes.{or_default, kind_with, may_all_be_given, new_fields}
 use Rattle.lx_script.specs.References.{reference_of, selection_of}
-use Rattle.lx_script.specs.Steps.{fields_in, new_step, new_with, new_of, set_of, patch_from, one_node, two_nodes, step_for, step_of, truth_in}
-use Rattle.lx_script.specs.Values.{word_in, named, text_of, number_of, number_within, has_only, required, optional, first_member, all_of, list_of}
-use Rattle.lx_script.specs.Words.{kind_in, kind_of, levels, list_types, made_kinds, names, verbs}
+use Rattle.lx_script.specs.Steps.{fields_in, new_in, new_with, new_of, set_of, patch_from, one_node, two_nodes, step_for, step_of, truth_in}
+use Rattle.lx_script.specs.Values.{word_in, named, string_of, whole_of, number_within, has_only, required, optional, first_member, all_of, list_of}
+use Rattle.lx_script.specs.Words.{kind_in, kind_named, levels, list_types, made_kinds, names, verbs}
 use Rattle.lx_script.proofs.Sound.{mapped, tested, settable-ranged, document_fields_of_kind}
 
 -- ---- what holds of all that an option can be
@@ -146,7 +146,7 @@ each_made = (
   ),
 )
 
-made_is_new : (d : Data) (of : Kind) → kind_of d ≡ Some of → IsNewKind of
+made_is_new : (d : Data) (of : Kind) → kind_named d ≡ Some of → IsNewKind of
 made_is_new d of is = chained IsNewKind (kind_in made_kinds) (as_str d) (λ text at. kind_holds made_kinds each_made text) of is
 
 IsLevel : ℕ → Type 0
@@ -191,23 +191,23 @@ new_fields_of_kind of d fields possible is =
     tested (IsOfKind of) (may_all_be_given of (members_in d)) (result_ok (document_fields of d))
     (λ made at. document_fields_of_kind of d made possible (of_ok (document_fields of d) made at)) fields is
 
-new_step_sound : (of : Kind) (d : Data) (name : Option (List ℕ)) (s : Step) → IsNewKind of → new_step of d name ≡ Some s → IsSound s
+new_step_sound : (of : Kind) (d : Data) (name : Option (List ℕ)) (s : Step) → IsNewKind of → new_in of d name ≡ Some s → IsSound s
 new_step_sound of d name s new is =
     mapped IsSound (λ fields. step.New of fields name) (new_fields of d) (λ fields at. record { other = new.1; of_kind = new_fields_of_kind of d fields new.0 at }) s is
 
 new_with_sound : (of : Kind) (d : Data) (name : Option (Option (List ℕ))) (s : Step) → IsNewKind of → new_with of d name ≡ Some s → IsSound s
 new_with_sound of d name s new is =
-    chained IsSound (λ p. new_step p.0 d p.1) (option_zip (kind_with of d) name)
+    chained IsSound (λ p. new_in p.0 d p.1) (option_zip (kind_with of d) name)
     (λ p at s made. new_step_sound p.0 d p.1 s (kind_with_new of d p.0 new (zip_first (kind_with of d) name p at)) made) s is
 
 new_of_sound : (d : Data) (s : Step) → new_of d ≡ Some s → IsSound s
 new_of_sound d s is =
-    let type = required kind_of (codes "new") d in
+    let type = required kind_named (codes "new") d in
     let given = fields_in (get (codes "fields") d) in
     tested IsSound (has_only (codes "new" ∷ codes "fields" ∷ codes "as" ∷ []) d) _
-    (chained IsSound (λ p. new_with p.0 p.1 (optional text_of (codes "as") d)) (option_zip type given)
-    (λ p at s made. new_with_sound p.0 p.1 (optional text_of (codes "as") d) s
-    (chained IsNewKind kind_of (get (codes "new") d) (λ e there. made_is_new e) p.0 (zip_first type given p at)) made))
+    (chained IsSound (λ p. new_with p.0 p.1 (optional string_of (codes "as") d)) (option_zip type given)
+    (λ p at s made. new_with_sound p.0 p.1 (optional string_of (codes "as") d) s
+    (chained IsNewKind kind_named (get (codes "new") d) (λ e there. made_is_new e) p.0 (zip_first type given p at)) made))
     s is
 
 set_of_sound : (d : Data) (s : Step) → set_of d ≡ Some s → IsSound s
@@ -231,17 +231,17 @@ any_nodes f sound first second d s is = mapped IsSound f (two_nodes first second
 
 step_for_sound : (word : Verb) (d : Data) (s : Step) → step_for word d ≡ Some s → IsSound s
 unfolding step_for
-step_for_sound verb.Append d s is = any _ (λ text. step.Append text) (λ text. tt) (required text_of (codes "append") d) s is
+step_for_sound verb.Append d s is = any _ (λ text. step.Append text) (λ text. tt) (required string_of (codes "append") d) s is
 step_for_sound verb.New d s is = new_of_sound d s is
 step_for_sound verb.Put d s is =
-    any _ (λ p. step.Put p.0.0 p.0.1 p.1) (λ p. tt) (option_zip (option_zip (required reference_of (codes "put") d) (required reference_of (codes "into") d)) (optional number_of (codes "at") d)) s is
+    any _ (λ p. step.Put p.0.0 p.0.1 p.1) (λ p. tt) (option_zip (option_zip (required reference_of (codes "put") d) (required reference_of (codes "into") d)) (optional whole_of (codes "at") d)) s is
 step_for_sound verb.Remove d s is = any_node (λ node. step.Remove node) (λ node. tt) (codes "remove") d s is
 step_for_sound verb.Replace d s is =
     any _ (λ p. step.Replace p.0.0 p.0.1 p.1) (λ p. tt) (option_zip (option_zip (required reference_of (codes "replace") d) (required reference_of (codes "with") d)) (truth_in (get (codes "keep") d))) s is
 step_for_sound verb.Set d s is = set_of_sound d s is
 step_for_sound verb.Mark d s is = any_node (λ node. step.Mark node) (λ node. tt) (codes "mark") d s is
 step_for_sound verb.Split d s is =
-    any _ (λ p. step.Split p.0.0 p.0.1 p.1) (λ p. tt) (option_zip (option_zip (required reference_of (codes "split") d) (required (list_of number_of) (codes "at") d)) (optional text_of (codes "as") d)) s is
+    any _ (λ p. step.Split p.0.0 p.0.1 p.1) (λ p. tt) (option_zip (option_zip (required reference_of (codes "split") d) (required (list_of whole_of) (codes "at") d)) (optional string_of (codes "as") d)) s is
 step_for_sound verb.Join d s is = any_nodes (λ p. step.Join p.0 p.1) (λ p. tt) (codes "join") (codes "with") d s is
 step_for_sound verb.Wrap d s is = any_nodes (λ p. step.Wrap p.0 p.1) (λ p. tt) (codes "wrap") (codes "in") d s is
 step_for_sound verb.Unwrap d s is = any_node (λ node. step.Unwrap node) (λ node. tt) (codes "unwrap") d s is

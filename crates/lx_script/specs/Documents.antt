@@ -69,17 +69,17 @@ extra_with_value value (extra.Item old checked) = extra.Item value checked
 extra_with_value value extra = extra
 
 -- the fields with an item's value written
-unfoldable pub with_value : ℕ → Fields → Fields
-with_value value (fields.Element old) = fields.Element (record old { extra = extra_with_value value old.extra })
-with_value value old = old
+unfoldable pub item_with_value : ℕ → Fields → Fields
+item_with_value value (fields.Element old) = fields.Element (record old { extra = extra_with_value value old.extra })
+item_with_value value old = old
 
 -- The fields with a member of the kind written, where its value is one that it takes. The level of a heading and the type
 -- of a list are the kind's, and only looked at.
-unfoldable pub given : Kind → Name → Data → Fields → Option Fields
-given kind name.Tag d old = option_map (λ level. old) (named levels d)
-given kind name.ListType d old = option_map (λ type. old) (named list_types d)
-given kind name.Value d old = option_map (λ value. with_value value old) (number_within 0 1200000 d)
-given kind known d old = option_and_then (λ member. if has kind member then Some (with_member member old) else None) (settable known d)
+unfoldable pub with_given : Kind → Name → Data → Fields → Option Fields
+with_given kind name.Tag d old = option_map (λ level. old) (named levels d)
+with_given kind name.ListType d old = option_map (λ type. old) (named list_types d)
+with_given kind name.Value d old = option_map (λ value. item_with_value value old) (number_within 0 1200000 d)
+with_given kind known d old = option_and_then (λ member. if has kind member then Some (with_member member old) else None) (settable known d)
 
 -- the member of a name that the kind has
 abbrev pub name_in : Kind → List ℕ → Option Name
@@ -88,7 +88,7 @@ name_in kind text = option_and_then (λ known. if takes kind known then Some kno
 -- the fields with what a member gives: nothing where the kind has no such member, or where it is null
 unfoldable pub given_by : Kind → Option Name → Data → Fields → Option Fields
 given_by kind None d old = Some old
-given_by kind (Some known) d old = if is_some (as_null d) then Some old else given kind known d old
+given_by kind (Some known) d old = if is_some (as_null d) then Some old else with_given kind known d old
 
 abbrev pub or_bad : List ℕ → (Fields → Result Fields (List ℕ)) → Option Fields → Result Fields (List ℕ)
 or_bad text go_on None = Err (chars text)

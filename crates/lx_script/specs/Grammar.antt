@@ -46,7 +46,7 @@ Reads bytes (Err BadCommand) = (d : Data) × IsJson bytes d × (line_of d ≡ No
 Reads bytes (Err other) = ⊥
 
 -- A reading that doesn't want memory tells what the bytes ask for, or why they are refused.
-abbrev pub Tells : List ℕ → Result Line Fault → Type 0
-Tells bytes (Ok line) = Reads bytes (Ok line)
-Tells bytes (Err (Refused cause)) = Reads bytes (Err cause)
-Tells bytes (Err Memory) = Unit {0}
+abbrev pub TellsLine : List ℕ → Result Line Fault → Type 0
+TellsLine bytes (Ok line) = Reads bytes (Ok line)
+TellsLine bytes (Err (Refused cause)) = Reads bytes (Err cause)
+TellsLine bytes (Err Memory) = Unit {0}

@@ -11,7 +11,7 @@ use Rattle.lx_step.specs.declared.reference.Reference.TheVariants as reference
 use Rattle.lx_step.specs.declared.reference.PointRef.{PointRef}
 use Rattle.lx_step.specs.declared.reference.SelectionRef.{SelectionRef}
 use Rattle.lx_step.specs.declared.reference.SelectionRef.TheVariants as selection
-use Rattle.lx_script.specs.Values.{number_of, number_within, named, has_only, required, optional, list_of}
+use Rattle.lx_script.specs.Values.{whole_of, number_within, named, has_only, required, optional, list_of}
 use Rattle.lx_script.specs.Words.{point_kinds}
 
 -- The node that a string names. A string that isn't one of the three that begin with @ is a name, whatever it begins with.
@@ -37,7 +37,7 @@ point_from node offset kind = record { node = node; offset = offset; kind = kind
 abbrev pub point_of : Data → Option PointRef
 point_of d =
     if has_three d then option_map (λ p. point_from p.0.0 p.0.1 p.1)
-    (option_zip (option_zip (option_and_then reference_of (at 0 d)) (option_and_then number_of (at 1 d))) (option_and_then (named point_kinds) (at 2 d)))
+    (option_zip (option_zip (option_and_then reference_of (at 0 d)) (option_and_then whole_of (at 1 d))) (option_and_then (named point_kinds) (at 2 d)))
     else None
 
 -- {"keys":[REF..]}

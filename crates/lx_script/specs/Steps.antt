@@ -14,12 +14,12 @@ use Rattle.lx_script.specs.declared.words.Verb.TheVariants as verb
 use Rattle.lx_script.specs.Members.{patch_of}
 use Rattle.lx_script.specs.NewNodes.{kind_with, new_fields}
 use Rattle.lx_script.specs.References.{reference_of, selection_of}
-use Rattle.lx_script.specs.Values.{first_member, text_of, number_of, has_only, required, optional, list_of}
-use Rattle.lx_script.specs.Words.{kind_of, verbs}
+use Rattle.lx_script.specs.Values.{first_member, string_of, whole_of, has_only, required, optional, list_of}
+use Rattle.lx_script.specs.Words.{kind_named, verbs}
 
 -- {"append":TEXT}
 abbrev pub append_of : Data → Option Step
-append_of d = if has_only (codes "append" ∷ []) d then option_map (λ text. step.Append text) (required text_of (codes "append") d) else None
+append_of d = if has_only (codes "append" ∷ []) d then option_map (λ text. step.Append text) (required string_of (codes "append") d) else None
 
 -- an object of fields, which is null where there is none
 abbrev pub fields_in : Option Data → Option Data
@@ -27,25 +27,25 @@ fields_in None = Some null
 fields_in (Some (object members)) = Some (object members)
 fields_in (Some d) = None
 
-abbrev pub new_step : Kind → Data → Option (List ℕ) → Option Step
-new_step kind d name = option_map (λ fields. step.New kind fields name) (new_fields kind d)
+abbrev pub new_in : Kind → Data → Option (List ℕ) → Option Step
+new_in kind d name = option_map (λ fields. step.New kind fields name) (new_fields kind d)
 
 -- a node of a type, with the fields of an object, that gets a name where it has one
 abbrev pub new_with : Kind → Data → Option (Option (List ℕ)) → Option Step
-new_with kind d name = option_and_then (λ p. new_step p.0 d p.1) (option_zip (kind_with kind d) name)
+new_with kind d name = option_and_then (λ p. new_in p.0 d p.1) (option_zip (kind_with kind d) name)
 
 -- {"new":TYPE,"fields"?:FIELDS,"as"?:NAME}
 abbrev pub new_of : Data → Option Step
 new_of d =
     if has_only (codes "new" ∷ codes "fields" ∷ codes "as" ∷ []) d then
-    option_and_then (λ p. new_with p.0 p.1 (optional text_of (codes "as") d)) (option_zip (required kind_of (codes "new") d) (fields_in (get (codes "fields") d)))
+    option_and_then (λ p. new_with p.0 p.1 (optional string_of (codes "as") d)) (option_zip (required kind_named (codes "new") d) (fields_in (get (codes "fields") d)))
     else None
 
 -- {"put":REF,"into":REF,"at"?:INDEX}
 abbrev pub put_of : Data → Option Step
 put_of d =
     if has_only (codes "put" ∷ codes "into" ∷ codes "at" ∷ []) d then option_map (λ p. step.Put p.0.0 p.0.1 p.1)
-    (option_zip (option_zip (required reference_of (codes "put") d) (required reference_of (codes "into") d)) (optional number_of (codes "at") d))
+    (option_zip (option_zip (required reference_of (codes "put") d) (required reference_of (codes "into") d)) (optional whole_of (codes "at") d))
     else None
 
 -- a truth value, which is false where it is missing
@@ -74,7 +74,7 @@ set_of d =
 abbrev pub split_of : Data → Option Step
 split_of d =
     if has_only (codes "split" ∷ codes "at" ∷ codes "as" ∷ []) d then option_map (λ p. step.Split p.0.0 p.0.1 p.1)
-    (option_zip (option_zip (required reference_of (codes "split") d) (required (list_of number_of) (codes "at") d)) (optional text_of (codes "as") d))
+    (option_zip (option_zip (required reference_of (codes "split") d) (required (list_of whole_of) (codes "at") d)) (optional string_of (codes "as") d))
     else None
 
 -- the node of a step that names one node: {"remove":REF} and the like

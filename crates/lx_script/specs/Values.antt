@@ -24,15 +24,15 @@ first_member (row ∷ rows) d = if is_some (get row.0 d) then Some row.1 else fi
 
 -- ---- texts and numbers
 
-abbrev pub text_of : Data → Option (List ℕ)
-text_of d = option_map chars (as_str d)
+abbrev pub string_of : Data → Option (List ℕ)
+string_of d = option_map chars (as_str d)
 
 -- a whole number from 0 to 18,446,744,073,709,551,615
-abbrev pub number_of : Data → Option ℕ
-number_of d = option_and_then as_u64 (as_number d)
+abbrev pub whole_of : Data → Option ℕ
+whole_of d = option_and_then as_u64 (as_number d)
 
 abbrev pub number_within : ℕ → ℕ → Data → Option ℕ
-number_within least most d = option_and_then (λ n. if leb least n && leb n most then Some n else None) (number_of d)
+number_within least most d = option_and_then (λ n. if leb least n && leb n most then Some n else None) (whole_of d)
 
 -- null for none, or a value that is read
 abbrev pub or_null_of : {A : Type 0} → (Data → Option A) → Data → Option (Option A)

@@ -34,8 +34,8 @@ kind_in [] text = None
 kind_in (kind ∷ kinds) text = if bytes_eq (type_name kind) text then Some kind else kind_in kinds text
 
 -- the kind whose type a string is
-abbrev pub kind_of : Data → Option Kind
-kind_of d = option_and_then (kind_in made_kinds) (as_str d)
+abbrev pub kind_named : Data → Option Kind
+kind_named d = option_and_then (kind_in made_kinds) (as_str d)
 
 -- what a heading's tag says of its level
 abbrev pub levels : List (List ℕ × ℕ)

@@ -106,9 +106,9 @@ pub(crate) fn name_in(kind: Kind, text: &str) -> Option<Name>
 }
 
 /// Writes an item's value.
-#[tactic(auto, unfolding(crate::specs::Documents::with_value))]
+#[tactic(auto, unfolding(crate::specs::Documents::item_with_value))]
 fn write_value(value: u32, fields: &mut Fields)
-    ensures { fields.new ≡ documents.with_value value fields.old }
+    ensures { fields.new ≡ documents.item_with_value value fields.old }
 {
     if let Fields::Element(element) = fields {
         if let Extra::Item { value: old, .. } = &mut element.extra {
@@ -151,7 +151,7 @@ fn give_settable(
 }
 
 /// Writes what a member of the kind gives. It answers whether its value is one that it takes.
-#[tactic(auto, unfolding(crate::specs::Documents::given))]
+#[tactic(auto, unfolding(crate::specs::Documents::with_given))]
 fn give(
     alloc: Global,
     kind: Kind,
@@ -159,7 +159,7 @@ fn give(
     value: &Value,
     fields: &mut Fields,
 ) -> Result<bool, NoMemory>
-    ensures { IfOk result (λ is_taken. documents.given kind name (view value.now) fields.old ≡ (if is_taken then Some fields.new else None)) }
+    ensures { IfOk result (λ is_taken. documents.with_given kind name (view value.now) fields.old ≡ (if is_taken then Some fields.new else None)) }
 {
     match name {
         Name::Tag => Ok(level_of(value).is_some()),

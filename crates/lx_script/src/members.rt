@@ -27,7 +27,7 @@ fn direction_of(value: &Value) -> Option<Direction>
 
 /// A string, or none for null.
 fn text_or_null(alloc: Global, value: &Value) -> Result<Option<Option<Txt>>, NoMemory>
-    ensures { IfOk result (λ made. made ≡ values.or_null_of values.text_of (view value.now)) }
+    ensures { IfOk result (λ made. made ≡ values.or_null_of values.string_of (view value.now)) }
 {
     if value.is_null() {
         return Ok(Some(None));

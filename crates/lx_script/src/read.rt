@@ -3,7 +3,7 @@
 ghost use Rattle.std.specs.Prelude.{◌≡◌, IfOk};
 ghost use Rattle.serde_json.specs.View.{view};
 ghost use Rattle.lx_step.specs.Sound.{IsSoundForm};
-ghost use Rattle.lx_script.specs.Grammar.{Tells, Makes, line_of as line_of_data, update_of as update_of_data, show_of as show_of_data};
+ghost use Rattle.lx_script.specs.Grammar.{TellsLine, Makes, line_of as line_of_data, update_of as update_of_data, show_of as show_of_data};
 
 use crate::steps::steps_of;
 use crate::values::has_only;
@@ -17,7 +17,7 @@ use std::alloc::Global;
 /// `BadCommand` where the JSON is no command. A new node that a step of the line makes has fields of its kind,
 /// which isn't the root's, and the members that a step sets have values within their ranges.
 pub fn read_line(alloc: Global, bytes: &[u8]) -> Result<Line, Fault>
-    ensures tells { Tells bytes.now result }
+    ensures tells { TellsLine bytes.now result }
     ensures sound { IfOk result (λ line. IsSoundForm line.form) }
 {
     match Value::from_slice(alloc, bytes) {

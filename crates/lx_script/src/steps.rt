@@ -20,7 +20,7 @@ use std::alloc::Global;
 
 /// The characters of a member.
 fn member_text(alloc: Global, name: &str, value: &Value) -> Result<Option<Txt>, NoMemory>
-    ensures { IfOk result (λ made. made ≡ values.required values.text_of name.now (view value.now)) }
+    ensures { IfOk result (λ made. made ≡ values.required values.string_of name.now (view value.now)) }
 {
     match value.get(name) {
         Some(value) => text_of(alloc, value),
@@ -30,7 +30,7 @@ fn member_text(alloc: Global, name: &str, value: &Value) -> Result<Option<Txt>, 
 
 /// The name that a step gives to a node, which may be missing.
 fn name_given(alloc: Global, value: &Value) -> Result<Option<Option<Txt>>, NoMemory>
-    ensures { IfOk result (λ made. made ≡ values.optional values.text_of (codes "as") (view value.now)) }
+    ensures { IfOk result (λ made. made ≡ values.optional values.string_of (codes "as") (view value.now)) }
 {
     match value.get("as") {
         Some(value) => match text_of(alloc, value)? {
@@ -54,7 +54,7 @@ fn append_of(alloc: Global, value: &Value) -> Result<Option<Step>, NoMemory>
 }
 
 fn index_in(value: &Value) -> Option<Option<u64>>
-    ensures { result ≡ values.optional values.number_of (codes "at") (view value.now) }
+    ensures { result ≡ values.optional values.whole_of (codes "at") (view value.now) }
 {
     match value.get("at") {
         Some(value) => match number_of(value) {
@@ -129,7 +129,7 @@ fn set_of(alloc: Global, value: &Value) -> Result<Option<Step>, NoMemory>
 
 /// A list of numbers.
 fn offsets_of(alloc: Global, items: &[Value]) -> Result<Option<Offsets>, NoMemory>
-    ensures { IfOk result (λ made. made ≡ values.all_of values.number_of (items_view items.now)) }
+    ensures { IfOk result (λ made. made ≡ values.all_of values.whole_of (items_view items.now)) }
 {
     let mut made = Vec::with_capacity(alloc, items.len())?;
     'items: for item in items {
@@ -142,7 +142,7 @@ fn offsets_of(alloc: Global, items: &[Value]) -> Result<Option<Offsets>, NoMemor
 }
 
 fn member_offsets(alloc: Global, value: &Value) -> Result<Option<Offsets>, NoMemory>
-    ensures { IfOk result (λ made. made ≡ values.required (values.list_of values.number_of) (codes "at") (view value.now)) }
+    ensures { IfOk result (λ made. made ≡ values.required (values.list_of values.whole_of) (codes "at") (view value.now)) }
 {
     match value.get("at").and_then(Value::as_array) {
         Some(items) => offsets_of(alloc, items.as_slice()),
@@ -232,7 +232,7 @@ fn new_step(
     object: &Value,
     name: Option<Txt>,
 ) -> Result<Option<Step>, NoMemory>
-    ensures { IfOk result (λ made. made ≡ steps.new_step kind (view object.now) name) }
+    ensures { IfOk result (λ made. made ≡ steps.new_in kind (view object.now) name) }
 {
     match new_fields(alloc, kind, object)? {
         Some(fields) => Ok(Some(Step::New { kind, fields, name })),
@@ -247,7 +247,7 @@ fn new_with(
     object: &Value,
     value: &Value,
 ) -> Result<Option<Step>, NoMemory>
-    ensures { IfOk result (λ made. made ≡ steps.new_with kind (view object.now) (values.optional values.text_of (codes "as") (view value.now))) }
+    ensures { IfOk result (λ made. made ≡ steps.new_with kind (view object.now) (values.optional values.string_of (codes "as") (view value.now))) }
 {
     let Some(kind) = kind_with(kind, object) else {
         return Ok(None);

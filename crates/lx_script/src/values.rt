@@ -60,7 +60,7 @@ pub(crate) fn has_only(names: &[&str], value: &Value) -> bool
 
 /// The characters of a string.
 pub(crate) fn text_of(alloc: Global, value: &Value) -> Result<Option<Txt>, NoMemory>
-    ensures { IfOk result (λ text. text ≡ values.text_of (view value.now)) }
+    ensures { IfOk result (λ text. text ≡ values.string_of (view value.now)) }
 {
     match value.as_str() {
         Some(text) => Ok(Some(Txt::new(alloc, text)?)),
@@ -70,7 +70,7 @@ pub(crate) fn text_of(alloc: Global, value: &Value) -> Result<Option<Txt>, NoMem
 
 /// A whole number from 0 to 18,446,744,073,709,551,615.
 pub(crate) fn number_of(value: &Value) -> Option<u64>
-    ensures { result ≡ values.number_of (view value.now) }
+    ensures { result ≡ values.whole_of (view value.now) }
 {
     value.as_u64()
 }

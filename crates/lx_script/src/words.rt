@@ -71,7 +71,7 @@ fn kind_in(kinds: &[Kind], text: &str) -> Option<Kind>
 /// The kind whose type a string is, for all kinds but the root's. A heading and a list are those that they
 /// are by default.
 pub(crate) fn kind_of(value: &Value) -> Option<Kind>
-    ensures { result ≡ words.kind_of (view value.now) }
+    ensures { result ≡ words.kind_named (view value.now) }
 {
     let kinds = [
         Kind::Paragraph,

@@ -12,13 +12,13 @@ offset_sum a b = min (a + b) last_u32
 
 -- ---- a child comes or goes
 
-unfoldable pub counts_children : PointKind → Bool
-counts_children Text = false
-counts_children Element = true
+unfoldable pub is_counting_children : PointKind → Bool
+is_counting_children Text = false
+is_counting_children Element = true
 
 -- the point lies among the children of the parent, behind the child at the index
 unfoldable pub is_behind : ℕ → ℕ → Point → Bool
-is_behind parent index p = counts_children p.kind && (p.key == parent && nat_lt index p.offset)
+is_behind parent index p = is_counting_children p.kind && (p.key == parent && nat_lt index p.offset)
 
 -- a child comes to the index of the parent
 unfoldable pub put_moves : ℕ → ℕ → Point → Point
@@ -31,15 +31,15 @@ take_moves parent index p = if is_behind parent index p then record p { offset =
 -- ---- a text changes
 
 -- an offset, where a piece of this length replaces what stands between two others
-unfoldable pub spliced : ℕ → ℕ → ℕ → ℕ → ℕ
-spliced from to len o =
+unfoldable pub spliced_offset : ℕ → ℕ → ℕ → ℕ → ℕ
+spliced_offset from to len o =
     if nat_le o from then o
     else if nat_le to o then offset_sum (o - (to - from)) len
     else offset_sum from len
 
 -- a piece of this length replaces what stands between two offsets of the key
 unfoldable pub splice_moves : ℕ → ℕ → ℕ → ℕ → Point → Point
-splice_moves key from to len p = if p.key == key then record p { offset = spliced from to len p.offset } else p
+splice_moves key from to len p = if p.key == key then record p { offset = spliced_offset from to len p.offset } else p
 
 -- the key gets a text of this length
 unfoldable pub set_moves : ℕ → ℕ → Point → Point

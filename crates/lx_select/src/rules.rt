@@ -5,7 +5,7 @@ ghost use Rattle.lx_select.specs.Selection.{carried_point};
 use lx_node::{Key, Point, PointKind};
 
 /// Whether a point lies among the children of the parent, behind the child at the index.
-#[tactic(auto, unfolding(crate::specs::Rules::is_behind, crate::specs::Rules::counts_children))]
+#[tactic(auto, unfolding(crate::specs::Rules::is_behind, crate::specs::Rules::is_counting_children))]
 fn is_behind(point: &Point, parent: Key, index: u32) -> bool
     ensures { result ≡ rules.is_behind parent index point.now }
 {
@@ -35,9 +35,9 @@ pub fn take_moved(mut point: Point, parent: Key, index: u32) -> Point
 }
 
 /// Where an offset is after a piece of that length replaced what stood from `from` to `to`.
-#[tactic(auto, unfolding(crate::specs::Rules::spliced, crate::specs::Rules::offset_sum))]
+#[tactic(auto, unfolding(crate::specs::Rules::spliced_offset, crate::specs::Rules::offset_sum))]
 fn spliced(offset: u32, from: u32, to: u32, len: u32) -> u32
-    ensures { result ≡ rules.spliced from to len offset }
+    ensures { result ≡ rules.spliced_offset from to len offset }
 {
     if offset <= from {
         offset

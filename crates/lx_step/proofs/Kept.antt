@@ -14,7 +14,7 @@ use Rattle.lx_node.specs.Kinds.{is_possible, is_text}
 use Rattle.lx_node.specs.OfKind.{IsOfKind, is_of_kind, fits_kind, is_element_of, is_text_of, are_text_fields, are_tab_fields, are_embed_fields, are_bare, is_extra_of, is_plain, is_list_extra, is_item_extra, is_link_extra, is_cell_extra, is_span}
 use Rattle.lx_step.specs.declared.member.Member.{Member}
 use Rattle.lx_step.specs.declared.member.Member.TheVariants.{Direction, Align, Indent, TextFormat, TextStyle, Start, Checked, Rel, Target, Title, Url, HeaderState, ColSpan, RowSpan, Background, Text, Format, Style, Detail, Mode, Src, Other}
-use Rattle.lx_step.specs.Patches.{has, with_extra, with_element, with_text, with_source, with_member, with_members, is_in_range, IsInRange}
+use Rattle.lx_step.specs.Patches.{has, with_extra, element_with_member, text_with_member, with_source, with_member, with_members, is_in_range, IsInRange}
 
 -- ---- an element
 
@@ -74,8 +74,8 @@ extra_kept kind.Link member old ranged of = link_kept member old of
 extra_kept kind.Cell member old ranged of = cell_kept member old ranged of
 extra_kept _ member old ranged of = plain_kept member old of
 
-element_kept : (kind : Kind) (member : Member) (old : ElementFields) → IsInRange member → IsTrue (is_extra_of kind old.extra) → IsTrue (is_extra_of kind (with_element member old).extra)
-unfolding with_element
+element_kept : (kind : Kind) (member : Member) (old : ElementFields) → IsInRange member → IsTrue (is_extra_of kind old.extra) → IsTrue (is_extra_of kind (element_with_member member old).extra)
+unfolding element_with_member
 element_kept kind (Direction direction) old ranged of = of
 element_kept kind (Align align) old ranged of = of
 element_kept kind (Indent indent) old ranged of = of
@@ -85,13 +85,13 @@ element_kept kind member old ranged of = extra_kept kind member old.extra ranged
 
 -- ---- a text, and a tab, whose text, detail and mode are its own
 
-text_kept : (member : Member) (old : TextFields) → IsInRange member → IsTrue (are_text_fields old) → IsTrue (are_text_fields (with_text member old))
-unfolding are_text_fields with_text is_in_range
+text_kept : (member : Member) (old : TextFields) → IsInRange member → IsTrue (are_text_fields old) → IsTrue (are_text_fields (text_with_member member old))
+unfolding are_text_fields text_with_member is_in_range
 text_kept (Detail detail) old ranged of = ranged
 text_kept member old ranged of = of
 
-tab_kept : (member : Member) (old : TextFields) → IsTrue (has kind.Tab member) → IsTrue (are_tab_fields old) → IsTrue (are_tab_fields (with_text member old))
-unfolding are_tab_fields with_text has is_text
+tab_kept : (member : Member) (old : TextFields) → IsTrue (has kind.Tab member) → IsTrue (are_tab_fields old) → IsTrue (are_tab_fields (text_with_member member old))
+unfolding are_tab_fields text_with_member has is_text
 tab_kept (Text text) old may of = absurd (cc)
 tab_kept (Detail detail) old may of = absurd (cc)
 tab_kept (Mode mode) old may of = absurd (cc)

@@ -60,29 +60,29 @@ with_extra (ColSpan col_span) (extra.Cell header row_span old background) = extr
 with_extra (Background background) (extra.Cell header row_span col_span old) = extra.Cell header row_span col_span background
 with_extra member extra = extra
 
-unfoldable pub with_element : Member → ElementFields → ElementFields
-with_element (Direction direction) old = record old { direction = direction }
-with_element (Align align) old = record old { format = align }
-with_element (Indent indent) old = record old { indent = indent }
-with_element (TextFormat format) old = record old { text_format = format }
-with_element (TextStyle style) old = record old { text_style = style }
-with_element member old = record old { extra = with_extra member old.extra }
+unfoldable pub element_with_member : Member → ElementFields → ElementFields
+element_with_member (Direction direction) old = record old { direction = direction }
+element_with_member (Align align) old = record old { format = align }
+element_with_member (Indent indent) old = record old { indent = indent }
+element_with_member (TextFormat format) old = record old { text_format = format }
+element_with_member (TextStyle style) old = record old { text_style = style }
+element_with_member member old = record old { extra = with_extra member old.extra }
 
-unfoldable pub with_text : Member → TextFields → TextFields
-with_text (Text text) old = record old { text = text }
-with_text (Format format) old = record old { format = format }
-with_text (Style style) old = record old { style = style }
-with_text (Detail detail) old = record old { detail = detail }
-with_text (Mode mode) old = record old { mode = mode }
-with_text member old = old
+unfoldable pub text_with_member : Member → TextFields → TextFields
+text_with_member (Text text) old = record old { text = text }
+text_with_member (Format format) old = record old { format = format }
+text_with_member (Style style) old = record old { style = style }
+text_with_member (Detail detail) old = record old { detail = detail }
+text_with_member (Mode mode) old = record old { mode = mode }
+text_with_member member old = old
 
 unfoldable pub with_source : Member → List ℕ → List ℕ
 with_source (Src source) old = source
 with_source member old = old
 
 unfoldable pub with_member : Member → Fields → Fields
-with_member member (fields.Element old) = fields.Element (with_element member old)
-with_member member (fields.Text old) = fields.Text (with_text member old)
+with_member member (fields.Element old) = fields.Element (element_with_member member old)
+with_member member (fields.Text old) = fields.Text (text_with_member member old)
 with_member member (fields.Embed old) = fields.Embed (with_source member old)
 with_member member fields.Bare = fields.Bare
 
@@ -98,9 +98,9 @@ unfoldable pub patched : Kind → List Member → Fields → Option Fields
 patched kind members old = if list_all (has kind) members then Some (with_members members old) else None
 
 -- Refused for the kind, where a member can't be set on it; or memory was wanting.
-abbrev pub Refuses : Kind → Option Fields → Fault → Type 0
-Refuses kind made Memory = Unit {0}
-Refuses kind made (Refused cause) = (cause ≡ WrongKind kind) × (made ≡ None)
+abbrev pub RefusesKind : Kind → Option Fields → Fault → Type 0
+RefusesKind kind made Memory = Unit {0}
+RefusesKind kind made (Refused cause) = (cause ≡ WrongKind kind) × (made ≡ None)
 
 -- ---- values within their ranges: those that a field of its type may have, and no kind's fields
 

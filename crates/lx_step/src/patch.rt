@@ -2,7 +2,7 @@ ghost use Rattle.std.specs.Prelude.{◌≡◌, IfOk, IfErr, OnOk, OnErr, Some, A
 ghost use Rattle.std.specs.List.{list_all};
 ghost use Rattle.lx_node.specs.OfKind.{IsOfKind};
 ghost use Rattle.lx_step.specs.Patches as patches;
-ghost use Rattle.lx_step.specs.Patches.{patched, Refuses, IsInRange};
+ghost use Rattle.lx_step.specs.Patches.{patched, RefusesKind, IsInRange};
 
 use crate::member::Member;
 use crate::members::Members;
@@ -73,9 +73,9 @@ impl Member {
     }
 
     /// Writes the member into what an element has, if that has it.
-    #[tactic(auto, unfolding(crate::specs::Patches::with_element))]
+    #[tactic(auto, unfolding(crate::specs::Patches::element_with_member))]
     fn write_element(&self, alloc: Global, fields: &mut ElementFields) -> Result<(), NoMemory>
-        ensures ok { OnOk result (fields.new ≡ patches.with_element self.now fields.old) }
+        ensures ok { OnOk result (fields.new ≡ patches.element_with_member self.now fields.old) }
         ensures err { OnErr result (fields.new ≡ fields.old) }
     {
         match self {
@@ -90,9 +90,9 @@ impl Member {
     }
 
     /// Writes the member into what a text has, if that has it.
-    #[tactic(auto, unfolding(crate::specs::Patches::with_text))]
+    #[tactic(auto, unfolding(crate::specs::Patches::text_with_member))]
     fn write_text(&self, alloc: Global, fields: &mut TextFields) -> Result<(), NoMemory>
-        ensures ok { OnOk result (fields.new ≡ patches.with_text self.now fields.old) }
+        ensures ok { OnOk result (fields.new ≡ patches.text_with_member self.now fields.old) }
         ensures err { OnErr result (fields.new ≡ fields.old) }
     {
         match self {
@@ -159,7 +159,7 @@ impl Patch {
     pub fn onto(&self, alloc: Global, kind: Kind, fields: &Fields) -> Result<Fields, Fault>
         requires { IsOfKind kind fields.now }
         ensures ok { IfOk result (λ made. patched kind self.now.members fields.now ≡ Some made) }
-        ensures err { IfErr result (Refuses kind (patched kind self.now.members fields.now)) }
+        ensures err { IfErr result (RefusesKind kind (patched kind self.now.members fields.now)) }
         ensures of_kind { All IsInRange self.now.members → IfOk result (IsOfKind kind) }
     {
         if !self.is_of(kind) {

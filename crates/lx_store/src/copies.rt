@@ -17,7 +17,7 @@ impl Model for Copies {
 
 impl Copies {
     ghost use Rattle.std.specs.Prelude.{◌≡◌};
-    ghost use Rattle.lx_store.specs.Counts.{raised};
+    ghost use Rattle.lx_store.specs.Counts.{next_count};
 
     /// No copy so far.
     pub fn new() -> Copies
@@ -28,7 +28,7 @@ impl Copies {
 
     /// Counts one more. From 2^64 - 1 on the count stands still.
     pub fn raise(&mut self)
-        ensures { self.new ≡ raised self.old }
+        ensures { self.new ≡ next_count self.old }
     {
         self.count = self.count.saturating_add(1);
     }

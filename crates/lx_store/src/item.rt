@@ -1,5 +1,5 @@
 ghost use Rattle.std.specs.Prelude.{◌≡◌, ℕ, IfOk};
-ghost use Rattle.lx_store.specs.Counts.{raised};
+ghost use Rattle.lx_store.specs.Counts.{next_count};
 
 use lx_node::NoMemory;
 use std::alloc::Global;
@@ -22,5 +22,5 @@ pub trait Item: Sized + Drop {
     /// An equal item. It counts the call, whatever the answer is.
     fn twin(&self, alloc: Global, count: &mut Self::Count) -> Result<Self, NoMemory>
         ensures equal { IfOk result (λ made. made ≡ self.now) }
-        ensures counted { Self.Count.total count.new ≡ raised (Self.Count.total count.old) };
+        ensures counted { Self.Count.total count.new ≡ next_count (Self.Count.total count.old) };
 }

@@ -7,4 +7,6 @@
 #![tactic(auto)]
 
 #[cfg(test)]
+mod drafts;
+#[cfg(test)]
 mod moves;

@@ -3,7 +3,7 @@ use Rattle.std.proofs.Common.{◌≡◌, ◌∙◌, ℕ, ◌+◌, ◌-◌, ◌�
 use Rattle.std.proofs.lemmas.Bool.Decides.{nat_tests}
 use Rattle.std.proofs.lemmas.List.{length-take-le, take-append-drop, drop-drop}
 use Rattle.std.proofs.Math.Seq.{take-length}
-use Rattle.lx_text.specs.Texts.{text_length, is_offset, slice_of, spliced, slice_fault}
+use Rattle.lx_text.specs.Texts.{text_length, is_offset, slice_of, spliced_text, slice_fault}
 
 -- between these offsets there is a piece
 pub record IsPiece (from to : ℕ) (text : List ℕ) : Type 0 where
@@ -60,14 +60,14 @@ slice-parts from to text e =
     ∙ ap (λ cs. take from text ++ take (to - from) (drop from text) ++ cs) (slice-back to text) ∙ take_between from to text (piece_of from to text e).in_order
 
 pub splice-parts : (from to : ℕ) (new text : List ℕ) → slice_fault text from to ≡ None →
-    spliced from to new text ≡ slice_of 0 from text ++ new ++ slice_of to (text_length text) text
-unfolding spliced
+    spliced_text from to new text ≡ slice_of 0 from text ++ new ++ slice_of to (text_length text) text
+unfolding spliced_text
 splice-parts from to new text e =
     sym (ap (λ cs. cs ++ new ++ slice_of to (text_length text) text) (slice-front from text) ∙ ap (λ cs. take from text ++ new ++ cs) (slice-back to text))
 
 pub splice-length : (from to : ℕ) (new text : List ℕ) → slice_fault text from to ≡ None →
-    text_length (spliced from to new text) + to ≡ text_length text + text_length new + from
-unfolding spliced text_length
+    text_length (spliced_text from to new text) + to ≡ text_length text + text_length new + from
+unfolding spliced_text text_length
 splice-length from to new text e =
     let piece = piece_of from to text e in
     omega (arith, piece.in_order, piece.within, length-append (take from text ++ new) (drop to text), length-append (take from text) new, length-take-le from text (omega (arith, piece.in_order, piece.within)), length-drop to text)

@@ -1,6 +1,6 @@
 -- The laws of lengths, offsets and pieces, which hold whatever it is that offsets count.
 use Rattle.std.specs.Prelude.{ℕ, ◌+◌, ◌≤◌, ◌≡◌, ◌++◌, true, List, [], None}
-use Rattle.lx_text.specs.Texts.{text_length, is_offset, slice_of, spliced, slice_fault}
+use Rattle.lx_text.specs.Texts.{text_length, is_offset, slice_of, spliced_text, slice_fault}
 
 pub record TextsAreTold : Type 0 where
   -- lengths add up
@@ -17,6 +17,6 @@ pub record TextsAreTold : Type 0 where
       slice_of 0 from text ++ slice_of from to text ++ slice_of to (text_length text) text ≡ text
   -- a splice changes the piece between its offsets alone
   pub splice_parts : (from to : ℕ) (new text : List ℕ) → slice_fault text from to ≡ None →
-      spliced from to new text ≡ slice_of 0 from text ++ new ++ slice_of to (text_length text) text
+      spliced_text from to new text ≡ slice_of 0 from text ++ new ++ slice_of to (text_length text) text
   pub splice_length : (from to : ℕ) (new text : List ℕ) → slice_fault text from to ≡ None →
-      text_length (spliced from to new text) + to ≡ text_length text + text_length new + from
+      text_length (spliced_text from to new text) + to ≡ text_length text + text_length new + from

@@ -20,8 +20,8 @@ unfoldable pub slice_of : ℕ → ℕ → List ℕ → List ℕ
 slice_of from to text = take (to - from) (drop from text)
 
 -- the text with another piece in the place of the one between two offsets
-unfoldable pub spliced : ℕ → ℕ → List ℕ → List ℕ → List ℕ
-spliced from to new text = take from text ++ new ++ drop to text
+unfoldable pub spliced_text : ℕ → ℕ → List ℕ → List ℕ → List ℕ
+spliced_text from to new text = take from text ++ new ++ drop to text
 
 -- why there is no piece between two offsets, the first cause: the first offset is none of the text, or the second one is, or
 -- the first one is behind the second
@@ -35,6 +35,6 @@ abbrev pub slice_fault : List ℕ → ℕ → ℕ → Option Cause
 slice_fault text from to = option_or (no_offset text from) (option_or (no_offset text to) (turned_round from to))
 
 -- what an error tells, where this is the first cause: the call was refused for it, or there was none and memory was wanting
-abbrev pub Tells : Option Cause → Fault → Type 0
-Tells first (fault.Cause cause) = first ≡ Some cause
-Tells first fault.Memory = first ≡ None
+abbrev pub TellsFirst : Option Cause → Fault → Type 0
+TellsFirst first (fault.Cause cause) = first ≡ Some cause
+TellsFirst first fault.Memory = first ≡ None

@@ -1,7 +1,7 @@
 ghost use Rattle.std.specs.Prelude.{◌≡◌, ◌++◌, None, Some, IfOk, IfErr, chars, min};
 ghost use Rattle.lx_node.specs.declared.cause.Cause.TheVariants.{BadPlace};
 ghost use Rattle.lx_node.specs.declared.cause.Fault.TheVariants as fault;
-ghost use Rattle.lx_text.specs.Texts.{text_length, slice_of, spliced, slice_fault, Tells};
+ghost use Rattle.lx_text.specs.Texts.{text_length, slice_of, spliced_text, slice_fault, TellsFirst};
 
 use crate::offsets::pieces;
 use lx_node::{Cause, Fault, NoMemory, Txt};
@@ -21,7 +21,7 @@ pub fn length(text: &str) -> u32
 pub fn slice(alloc: Global, text: &str, from: u32, to: u32) -> Result<Txt, Fault>
     ensures cut { IfOk result (λ piece. piece ≡ slice_of from to (chars text.now)) }
     ensures allowed { IfOk result (λ _. slice_fault (chars text.now) from to ≡ None) }
-    ensures refused { IfErr result (Tells (slice_fault (chars text.now) from to)) }
+    ensures refused { IfErr result (TellsFirst (slice_fault (chars text.now) from to)) }
 {
     match pieces(text, from, to) {
         Ok((_, piece, _)) => Ok(Txt::new(alloc, piece)?),
@@ -31,11 +31,11 @@ pub fn slice(alloc: Global, text: &str, from: u32, to: u32) -> Result<Txt, Fault
 
 /// The text with `new` in the place of the piece between two offsets. They count as those of `slice`, and it is refused
 /// as `slice` is. `Memory` says that none was left for the text.
-#[tactic(auto, unfolding(crate::specs::Texts::spliced))]
+#[tactic(auto, unfolding(crate::specs::Texts::spliced_text))]
 pub fn splice(alloc: Global, text: &str, from: u32, to: u32, new: &str) -> Result<Txt, Fault>
-    ensures changed { IfOk result (λ whole. whole ≡ spliced from to (chars new.now) (chars text.now)) }
+    ensures changed { IfOk result (λ whole. whole ≡ spliced_text from to (chars new.now) (chars text.now)) }
     ensures allowed { IfOk result (λ _. slice_fault (chars text.now) from to ≡ None) }
-    ensures refused { IfErr result (Tells (slice_fault (chars text.now) from to)) }
+    ensures refused { IfErr result (TellsFirst (slice_fault (chars text.now) from to)) }
 {
     match pieces(text, from, to) {
         Ok((before, _, behind)) => Ok(joined(alloc, before, new, behind)?),

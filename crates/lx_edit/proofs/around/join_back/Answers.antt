@@ -1,7 +1,7 @@
 use Rattle.std.proofs.Common.{◌≡◌, Result, Ok, OnOk, IfErr, subst, arith}
 use Rattle.lx_node.specs.declared.cause.Cause.{Cause}
 use Rattle.lx_draft.specs.Working.{Working}
-use Rattle.lx_draft.specs.Faults.{Tells}
+use Rattle.lx_draft.specs.Faults.{TellsStep}
 use Rattle.lx_edit.specs.Texts.{enough, join_back}
 use Rattle.lx_edit.proofs.Joined.{Grows, remove_grows, join_grows, at_first, back_done, back_removed, back_joined, back_removing, back_joining}
 use Rattle.lx_edit.proofs.around.join_back.Goals as goal
@@ -16,7 +16,7 @@ returns-in-Nothing-clause-ok c =
 
 pub returns-in-Nothing-clause-err : goal.returns-in-Nothing-clause-err
 returns-in-Nothing-clause-err c =
-    let P : Result Working Cause → Type 0 = λ whole. IfErr c.join_on.result (λ e. Tells e whole) in
+    let P : Result Working Cause → Type 0 = λ whole. IfErr c.join_on.result (λ e. TellsStep e whole) in
     subst P (back_done c.back.at c.back.draft (join_back enough c.args.key c.args.draft.now) c.in-Nothing.ensures.counts c.in-Nothing.ensures.found c.back.invariant) c.join_on.ensures.err
 
 pub back-smaller-in-Ok : goal.back-smaller-in-Ok

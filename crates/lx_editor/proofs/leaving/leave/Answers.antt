@@ -1,8 +1,8 @@
 use Rattle.std.proofs.Common.{◌≡◌, ◌∙◌, true, Ok, sym, ap, arith}
 use Rattle.std.specs.List.{list_all}
 use Rattle.lx_draft.specs.Working.{Working, started}
-use Rattle.lx_editor.specs.Naming.{no_names}
-use Rattle.lx_editor.specs.Scripts.{scripted, run_from}
+use Rattle.lx_run.specs.Naming.{no_names}
+use Rattle.lx_run.specs.Scripts.{scripted, run_from}
 use Rattle.lx_editor.specs.Updated.{is_run, drafted}
 use Rattle.lx_editor.proofs.Updated.{are_left}
 use Rattle.lx_editor.proofs.leaving.leave.Goals as goal

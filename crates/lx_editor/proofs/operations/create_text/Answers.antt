@@ -1,5 +1,5 @@
 use Rattle.std.proofs.Common.{◌≡◌, ◌∙◌, rules, codes}
-use Rattle.lx_editor.proofs.Words.{chars-true}
+use Rattle.lx_run.proofs.Words.{chars-true}
 use Rattle.lx_editor.proofs.operations.create_text.Goals as goal
 
 pub returns : goal.returns

@@ -23,7 +23,7 @@ abbrev pub invariant-make_moves-loop-step : goal.invariant-make_moves-loop-step
 invariant-make_moves-loop-step g l = record {
   before : g.O.Look.forest l.before ≡ g.O.Look.forest l.initial.before;
   after : g.N.Look.forest l.after ≡ g.N.Look.forest l.initial.after;
-  made : MakesMoves (g.O.Look.forest l.initial.before) (g.N.Look.forest l.initial.after) (marking l.given.marks.now) l.given.hosts.now l.parent (take l.step-index l.moves) l.fn.next l.initial.ops.items l.ops.items l.id;
+  made : MakesMoves (g.O.Look.forest l.initial.before) (g.N.Look.forest l.initial.after) (marking l.given.marks.now) l.given.hosts.now.tree l.parent (take l.step-index l.moves) l.fn.next l.initial.ops.items l.ops.items l.id;
   lag_before : g.O.Look.lag l.before ≤ g.O.Look.lag l.initial.before;
   place_before : g.O.Look.place l.before ≡ g.O.Look.place l.initial.before;
   whole_before : g.O.Look.whole l.before ≡ g.O.Look.whole l.initial.before;

@@ -15,8 +15,8 @@ pub reconcile_node-requires-clause-between : goal.reconcile_node-requires-clause
 reconcile_node-requires-clause-between g c =
     let old = g.O.Look.forest c.args.before.now in
     let new = g.N.Look.forest c.args.after.now in
-    Made.between_still old _ new _ (marking c.args.marks.now) c.args.hosts.now c.found-was.ensures.same c.found-now.ensures.same
-    (Whole.are_between old new (marking c.args.marks.now) c.args.hosts.now c.requires.covered (Whole.is_tree (g.O.Look.forest c.args.before.now) c.found-was.ensures.sound c.requires.alone_before) (Whole.is_tree (g.N.Look.forest c.args.after.now) c.found-now.ensures.sound c.requires.alone_after) c.requires.shown c.next_id-next.ensures.numbered c.requires.rooted)
+    Made.between_still old _ new _ (marking c.args.marks.now) c.args.hosts.now.tree c.found-was.ensures.same c.found-now.ensures.same
+    (Whole.are_between old new (marking c.args.marks.now) c.args.hosts.now.tree c.requires.covered (Whole.is_tree (g.O.Look.forest c.args.before.now) c.found-was.ensures.sound c.requires.alone_before) (Whole.is_tree (g.N.Look.forest c.args.after.now) c.found-now.ensures.sound c.requires.alone_after) c.requires.shown c.next_id-next.ensures.numbered c.next_id-next.ensures.rooted)
 
 pub reconcile_node-requires-clause-was : goal.reconcile_node-requires-clause-was
 reconcile_node-requires-clause-was g c =
@@ -33,22 +33,22 @@ reconcile_node-requires-clause-tag g c =
 
 pub reconcile_node-requires-clause-room : goal.reconcile_node-requires-clause-room
 reconcile_node-requires-clause-room g c =
-    Whole.root_room c.args.hosts.now (g.O.Look.forest c.args.before.now) _ (g.N.Look.forest c.args.after.now) _ c.root-key.result c.next_id-next.result c.root-key.ensures c.next_id-next.ensures.next c.found-was.ensures.same c.found-now.ensures.same (Whole.is_tree (g.N.Look.forest c.args.after.now) c.found-now.ensures.sound c.requires.alone_after) c.requires.room
+    Whole.root_room c.args.hosts.now.tree (g.O.Look.forest c.args.before.now) _ (g.N.Look.forest c.args.after.now) _ c.root-key.result c.next_id-next.result c.root-key.ensures c.next_id-next.ensures.next c.found-was.ensures.same c.found-now.ensures.same (Whole.is_tree (g.N.Look.forest c.args.after.now) c.found-now.ensures.sound c.requires.alone_after) c.requires.room
 
 pub returns-clause-allowed : goal.returns-clause-allowed
 returns-clause-allowed g c =
     let old = g.O.Look.forest c.args.before.now in
     let new = g.N.Look.forest c.args.after.now in
-    Whole.root_allowed old _ new _ (marking c.args.marks.now) c.args.hosts.now c.root-key.result c.next_id-next.result _ _ _ c.root-key.ensures c.next_id-next.ensures.next c.requires.none c.found-was.ensures.same c.found-now.ensures.same (Whole.is_tree (g.O.Look.forest c.args.before.now) c.found-was.ensures.sound c.requires.alone_before) (Whole.is_tree (g.N.Look.forest c.args.after.now) c.found-now.ensures.sound c.requires.alone_after)
-    (Whole.are_between old new (marking c.args.marks.now) c.args.hosts.now c.requires.covered (Whole.is_tree (g.O.Look.forest c.args.before.now) c.found-was.ensures.sound c.requires.alone_before) (Whole.is_tree (g.N.Look.forest c.args.after.now) c.found-now.ensures.sound c.requires.alone_after) c.requires.shown c.next_id-next.ensures.numbered c.requires.rooted)
+    Whole.root_allowed old _ new _ (marking c.args.marks.now) c.args.hosts.now.tree c.root-key.result c.next_id-next.result _ _ _ c.root-key.ensures c.next_id-next.ensures.next c.requires.none c.found-was.ensures.same c.found-now.ensures.same (Whole.is_tree (g.O.Look.forest c.args.before.now) c.found-was.ensures.sound c.requires.alone_before) (Whole.is_tree (g.N.Look.forest c.args.after.now) c.found-now.ensures.sound c.requires.alone_after)
+    (Whole.are_between old new (marking c.args.marks.now) c.args.hosts.now.tree c.requires.covered (Whole.is_tree (g.O.Look.forest c.args.before.now) c.found-was.ensures.sound c.requires.alone_before) (Whole.is_tree (g.N.Look.forest c.args.after.now) c.found-now.ensures.sound c.requires.alone_after) c.requires.shown c.next_id-next.ensures.numbered c.next_id-next.ensures.rooted)
     c.in_ok-reconcile_node.ensures.done
 
 pub returns-then-not-is_noted-clause-allowed : goal.returns-then-not-is_noted-clause-allowed
 returns-then-not-is_noted-clause-allowed g c =
     let old = g.O.Look.forest c.args.before.now in
     let new = g.N.Look.forest c.args.after.now in
-    Whole.nothing_allowed old new (marking c.args.marks.now) c.args.hosts.now c.root-key.result _ c.root-key.ensures c.requires.none (Whole.is_tree (g.O.Look.forest c.args.before.now) c.found-was.ensures.sound c.requires.alone_before) (Whole.is_tree (g.N.Look.forest c.args.after.now) c.found-now.ensures.sound c.requires.alone_after)
-    (Whole.are_between old new (marking c.args.marks.now) c.args.hosts.now c.requires.covered (Whole.is_tree (g.O.Look.forest c.args.before.now) c.found-was.ensures.sound c.requires.alone_before) (Whole.is_tree (g.N.Look.forest c.args.after.now) c.found-now.ensures.sound c.requires.alone_after) c.requires.shown c.next_id-next.ensures.numbered c.requires.rooted)
+    Whole.nothing_allowed old new (marking c.args.marks.now) c.args.hosts.now.tree c.root-key.result _ c.root-key.ensures c.requires.none (Whole.is_tree (g.O.Look.forest c.args.before.now) c.found-was.ensures.sound c.requires.alone_before) (Whole.is_tree (g.N.Look.forest c.args.after.now) c.found-now.ensures.sound c.requires.alone_after)
+    (Whole.are_between old new (marking c.args.marks.now) c.args.hosts.now.tree c.requires.covered (Whole.is_tree (g.O.Look.forest c.args.before.now) c.found-was.ensures.sound c.requires.alone_before) (Whole.is_tree (g.N.Look.forest c.args.after.now) c.found-now.ensures.sound c.requires.alone_after) c.requires.shown c.next_id-next.ensures.numbered c.next_id-next.ensures.rooted)
     (sym c.is_noted.ensures ∙ c.if-not-is_noted.true)
 
 pub returns-clause-reads : goal.returns-clause-reads

@@ -5,7 +5,7 @@ use Rattle.lx_node.specs.declared.cause.Fault.{Fault}
 use Rattle.lx_node.specs.Siblings.{is_place}
 use Rattle.lx_forest.specs.Lookups.{parent_of, next_of, children_of, IsForest}
 use Rattle.lx_draft.specs.Working.{Working}
-use Rattle.lx_draft.specs.Faults.{Tells}
+use Rattle.lx_draft.specs.Faults.{TellsStep}
 use Rattle.lx_draft.specs.Steps.{put_step}
 use Rattle.lx_draft.specs.Beside.{gap_index, put_behind_step}
 use Rattle.lx_draft.proofs.Gaps.{next_is_place, behind_is, behind_none}
@@ -34,11 +34,11 @@ returns-in-Some-clause-err c =
     let order : IsForest w.forest = search rules in
     let up : parent_of w.forest c.args.other ≡ Some c.in-Some.parent = search rules in
     let next : c.next-next.result ≡ next_of w.forest c.args.other = search rules in
-    let told = subst (λ (o : Option ℕ). IfErr c.put_in_gap.result (λ e. Tells e (put_step c.args.key c.in-Some.parent (gap_index o (children_of w.forest c.in-Some.parent)) w))) next c.put_in_gap.ensures.err in
-    subst (λ (s : Result Working Cause). IfErr c.put_in_gap.result (λ e. Tells e s)) (behind_is w c.args.key c.in-Some.parent c.args.other order up) told
+    let told = subst (λ (o : Option ℕ). IfErr c.put_in_gap.result (λ e. TellsStep e (put_step c.args.key c.in-Some.parent (gap_index o (children_of w.forest c.in-Some.parent)) w))) next c.put_in_gap.ensures.err in
+    subst (λ (s : Result Working Cause). IfErr c.put_in_gap.result (λ e. TellsStep e s)) (behind_is w c.args.key c.in-Some.parent c.args.other order up) told
 
 pub returns-in-None-clause-err : goal.returns-in-None-clause-err
 returns-in-None-clause-err c =
     let w : Working = c.args.self.now in
     let top : parent_of w.forest c.args.other ≡ None = search rules in
-    subst (λ (e : Fault). Tells e (put_behind_step c.args.key c.args.other w)) (sym c.no_place_beside.ensures) (behind_none w c.args.key c.args.other top)
+    subst (λ (e : Fault). TellsStep e (put_behind_step c.args.key c.args.other w)) (sym c.no_place_beside.ensures) (behind_none w c.args.key c.args.other top)

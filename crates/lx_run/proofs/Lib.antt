@@ -1,0 +1,10 @@
+pub mod Beside
+pub mod Blocks
+pub mod Composed
+pub mod Counted
+pub mod Covered
+pub mod Gathered
+pub mod Held
+pub mod Paths
+pub mod Runs
+pub mod Words

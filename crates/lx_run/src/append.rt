@@ -1,0 +1,40 @@
+ghost use Rattle.std.specs.Prelude.{◌≡◌, Ok, chars, OnOk, IfErr};
+ghost use Rattle.lx_draft.specs.Faults.{TellsStep};
+ghost use Rattle.lx_run.specs.Appending.{appended, filled, text_step};
+
+use lx_draft::Draft;
+use lx_node::{Fault, Fields, Key, Kind};
+use std::alloc::Global;
+
+/// A new paragraph at the root's end, with a new text in it unless the text is empty.
+#[tactic(auto, unfolding(crate::specs::Appending::appended))]
+pub(crate) fn append_paragraph(alloc: Global, draft: &mut Draft, text: &str) -> Result<(), Fault>
+    ensures ok { OnOk result (appended (chars text.now) draft.old ≡ Ok draft.new) }
+    ensures err { IfErr result (λ e. TellsStep e (appended (chars text.now) draft.old)) }
+{
+    let paragraph = draft.new_node(Kind::Paragraph, Fields::plain_element(alloc))?;
+    fill(alloc, draft, paragraph, text)?;
+    let index = draft.links().size(Key::root());
+    draft.put(paragraph, Key::root(), index)
+}
+
+/// A new text in a node without children, unless it is empty.
+fn fill(alloc: Global, draft: &mut Draft, parent: Key, text: &str) -> Result<(), Fault>
+    ensures ok { OnOk result (filled parent (chars text.now) draft.old ≡ Ok draft.new) }
+    ensures err { IfErr result (λ e. TellsStep e (filled parent (chars text.now) draft.old)) }
+{
+    if text.is_empty() {
+        Ok(())
+    } else {
+        append_text(alloc, draft, parent, text)
+    }
+}
+
+/// A new text in a node without children.
+fn append_text(alloc: Global, draft: &mut Draft, parent: Key, text: &str) -> Result<(), Fault>
+    ensures ok { OnOk result (text_step parent (chars text.now) draft.old ≡ Ok draft.new) }
+    ensures err { IfErr result (λ e. TellsStep e (text_step parent (chars text.now) draft.old)) }
+{
+    let key = draft.new_node(Kind::Text, Fields::plain_text(alloc, text)?)?;
+    draft.put(key, parent, 0)
+}
