@@ -1,7 +1,7 @@
 -- The root's tree of a forest, as it is read.
-use Rattle.std.proofs.Common.{◌≡◌, ◌≢◌, ◌∙◌, ◌<◌, ◌≤◌, ℕ, Bool, true, false, cond, ltb, List, [], ◌∷◌, Option, None, Some, option_map, inl, inr, refl, sym, ap, subst, arith}
+use Rattle.std.proofs.Common.{◌≡◌, ◌≢◌, ◌∙◌, ◌<◌, ℕ, true, cond, ltb, [], ◌∷◌, Option, None, option_map, refl, sym, ap, subst, arith}
 use Rattle.std.proofs.lemmas.Bool.{ltb-true}
-use Rattle.lx_node.specs.Trees.{Trees, nil, tree}
+use Rattle.lx_node.specs.Trees.{nil, tree}
 use Rattle.lx_node.specs.NamedTrees.{total}
 use Rattle.lx_node.proofs.NamedTrees.{names-alone}
 use Rattle.lx_node.proofs.Subtrees.{count-alone_self}
@@ -9,8 +9,8 @@ use Rattle.lx_node.specs.declared.node.Node.{Node}
 use Rattle.lx_node.specs.Kinds.{may_hold}
 use Rattle.lx_forest.specs.Forest.{Forest}
 use Rattle.lx_forest.specs.Edits.{drop_detached}
-use Rattle.lx_forest.specs.Lookups.{key_of, count, has, alone, roots, is_attached, IsForest, IsHeld}
-use Rattle.lx_forest.specs.Records.{Record, record_at}
+use Rattle.lx_forest.specs.Lookups.{key_of, count, has, alone, roots, IsForest, IsHeld}
+use Rattle.lx_forest.specs.Records.{record_at}
 use Rattle.lx_forest.specs.Suited.{IsSuited}
 use Rattle.lx_forest.proofs.Edits.{total-drop_detached-le}
 use Rattle.lx_forest.proofs.Order.{IsForest-drop_detached}

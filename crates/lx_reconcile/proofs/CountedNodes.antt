@@ -1,11 +1,11 @@
 -- Which nodes are found kept, and how many aren't.
-use Rattle.std.proofs.Common.{◌≡◌, ◌≢◌, ◌∙◌, ◌+◌, ◌<◌, ◌≤◌, ℕ, ◌&&◌, ◌^◌, Bool, true, false, cond, eqb, List, [], ◌∷◌, length, Option, None, Some, option_map, is_some, inl, inr, refl, sym, ap, subst, arith, eq-eqb}
+use Rattle.std.proofs.Common.{◌≡◌, ◌∙◌, ◌+◌, ◌<◌, ◌≤◌, ℕ, ◌&&◌, ◌^◌, Bool, true, false, cond, eqb, ◌∷◌, Option, None, Some, option_map, is_some, inl, inr, refl, sym, ap, arith, eq-eqb}
 use Rattle.std.proofs.lemmas.Bool.{cases_Bool}
 use Rattle.std.proofs.lemmas.Bool.Decides.{eqb_tells}
 use Rattle.std.proofs.lemmas.Option.{same_Some}
-use Rattle.lx_node.specs.Trees.{Trees, nil, tree, joined}
+use Rattle.lx_node.specs.Trees.{nil, tree, joined}
 use Rattle.lx_node.specs.NamedTrees.{total}
-use Rattle.lx_node.specs.Siblings.{is_place, first_of, next_in, from_name}
+use Rattle.lx_node.specs.Siblings.{is_place, next_in, from_name}
 use Rattle.lx_node.specs.Spots.{Spot, parent_at, children_at}
 use Rattle.lx_node.specs.declared.node.Node.{Node}
 use Rattle.lx_node.proofs.NamedTrees.{total-joined, total-without-alone}
@@ -13,7 +13,7 @@ use Rattle.lx_node.proofs.Subtrees.{count-alone-le}
 use Rattle.lx_node.proofs.Positions.{from_name-first}
 use Rattle.lx_host.specs.declared.tag.Tag.{Tag}
 use Rattle.lx_forest.specs.Forest.{Label, Forest}
-use Rattle.lx_forest.specs.Lookups.{key_of, has, alone, spot, siblings, children_of, trees_of, first_child, next_of, parent_of, is_attached, IsForest}
+use Rattle.lx_forest.specs.Lookups.{key_of, has, alone, spot, siblings, children_of, trees_of, first_child, next_of, is_attached, IsForest}
 use Rattle.lx_forest.specs.Records.{linked, record_at}
 use Rattle.lx_forest.proofs.Edits.{is_some-spot}
 use Rattle.lx_forest.proofs.Lookups.{alone-spot}
@@ -21,7 +21,7 @@ use Rattle.lx_forest.proofs.Walks.{spot_in_tree, is_attached-up, total-alone-lt}
 use Rattle.lx_links.specs.Stands.{node_of, Sound}
 use Rattle.lx_links.proofs.Up.{in_order_at}
 use Rattle.lx_plain.specs.Render.{tag_of}
-use Rattle.lx_plain.specs.Allowed.{places_of, tag_number, is_parent, is_only, unkept}
+use Rattle.lx_plain.specs.Allowed.{places_of, tag_number, is_parent, is_only}
 use Rattle.lx_reconcile.specs.Counting.{IsInTree, unkept_in}
 use Rattle.lx_reconcile.proofs.Attached.{tree_order}
 use Rattle.lx_reconcile.proofs.Children.{label_from, is_read, tree_read, total_read, child_left, first_place, next_place}

@@ -1,13 +1,11 @@
 -- What each operation owes, one after another.
-use Rattle.std.proofs.Common.{◌≡◌, ◌≢◌, ◌∙◌, ◌+◌, ◌≤◌, ℕ, Bool, List, [], ◌∷◌, ◌++◌, Option, None, refl, sym, ap, subst, arith}
+use Rattle.std.proofs.Common.{◌+◌, ◌≤◌, ℕ, List, [], ◌∷◌, ◌++◌, Option, None, subst, arith}
 use Rattle.std.specs.List.{AllByRecursion}
 use Rattle.lx_node.specs.Trees.{nil, tree}
 use Rattle.lx_node.specs.NamedTrees.{total}
 use Rattle.lx_node.specs.declared.kind.Kind.{Kind}
-use Rattle.lx_host.specs.declared.tag.Tag.{Tag}
-use Rattle.lx_host.specs.declared.tag.Name.{Name}
 use Rattle.lx_host.specs.declared.op.Op.{Op}
-use Rattle.lx_host.specs.declared.op.Op.TheVariants.{Create, Place, Drop}
+use Rattle.lx_host.specs.declared.op.Op.TheVariants.{Place}
 use Rattle.lx_host.specs.Hosts.{HostTree, effect, Leads}
 use Rattle.lx_forest.specs.Forest.{Label, Forest}
 use Rattle.lx_plain.specs.Allowed.{AllWriteAnew, WritesAnew}

@@ -1,10 +1,9 @@
 -- What is frozen of a draft is one tree, its marks cover that and the tree that the draft began with, and there are ids for
 -- what isn't kept.
-use Rattle.std.proofs.Common.{◌≡◌, ◌≢◌, ◌∙◌, ◌+◌, ◌<◌, ◌≤◌, ℕ, true, List, [], ◌∷◌, Option, None, Some, is_some, option_map, Ok, refl, ap, subst, sym, arith}
+use Rattle.std.proofs.Common.{◌≡◌, ◌≢◌, ◌∙◌, ◌+◌, ◌≤◌, ℕ, true, [], ◌∷◌, Option, None, Some, is_some, option_map, refl, ap, subst, sym, arith}
 use Rattle.lx_node.specs.Trees.{nil, tree}
 use Rattle.lx_node.specs.NamedTrees.{total}
 use Rattle.lx_node.specs.Spots.{Spot}
-use Rattle.lx_node.specs.declared.kind.Kind.{Kind}
 use Rattle.lx_node.proofs.NamedTrees.{names-alone, total-without-alone}
 use Rattle.lx_select.specs.declared.selection.Selection.{Selection}
 use Rattle.lx_marks.specs.Marks.{Marked, unmarked}

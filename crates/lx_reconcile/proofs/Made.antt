@@ -6,12 +6,11 @@ use Rattle.std.proofs.lemmas.List.{take_more, drop_more, take-append-drop}
 use Rattle.std.proofs.lemmas.Option.{same_Some}
 use Rattle.lx_node.specs.Trees.{Trees, nil, tree}
 use Rattle.lx_node.specs.NamedTrees.{total}
-use Rattle.lx_node.specs.Siblings.{is_among, is_place, first_of, from_name, next_in}
+use Rattle.lx_node.specs.Siblings.{is_among, is_place, from_name, next_in}
 use Rattle.lx_node.specs.Spots.{Spot}
 use Rattle.lx_node.specs.declared.node.Node.{Node}
 use Rattle.lx_node.proofs.NamedTrees.{total-joined}
 use Rattle.lx_node.proofs.Positions.{from_name-first}
-use Rattle.lx_node.proofs.Siblings.{next_in-among}
 use Rattle.lx_host.specs.declared.op.Op.{Op}
 use Rattle.lx_host.specs.declared.op.Op.TheVariants as op
 use Rattle.lx_host.specs.Hosts.{Host, HostTree}

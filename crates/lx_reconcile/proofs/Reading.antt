@@ -1,22 +1,20 @@
 -- How many reads are needed, against the marked children and the nodes that aren't kept.
-use Rattle.std.proofs.Common.{◌≡◌, ◌≢◌, ◌∙◌, ◌+◌, ◌*◌, ◌<◌, ◌≤◌, ◌⊎◌, ℕ, Bool, true, false, cond, eqb, List, [], ◌∷◌, ◌++◌, length, Option, None, Some, option_map, inl, inr, refl, sym, ap, subst, arith, append-nil}
+use Rattle.std.proofs.Common.{◌≡◌, ◌∙◌, ◌+◌, ◌*◌, ◌<◌, ◌≤◌, ◌⊎◌, ℕ, Bool, true, false, cond, eqb, List, [], ◌∷◌, ◌++◌, length, Option, None, Some, inl, inr, refl, sym, ap, arith, append-nil}
 use Rattle.std.proofs.lemmas.Bool.{cases_Bool, cases_lt}
 use Rattle.std.proofs.lemmas.Bool.Decides.{eqb_tells}
-use Rattle.lx_node.specs.Trees.{Trees, nil, tree, joined}
+use Rattle.lx_node.specs.Trees.{nil, tree, joined}
 use Rattle.lx_node.specs.NamedTrees as named
 use Rattle.lx_node.specs.NamedTrees.{total}
 use Rattle.lx_node.specs.Siblings.{is_among, NoRepeats, names_without}
-use Rattle.lx_node.specs.Spots.{children_at}
 use Rattle.lx_node.proofs.NamedTrees.{is_among-preorder, NoRepeats-preorder}
 use Rattle.lx_node.proofs.Siblings.{is_among-names_without, names_without-absent_list}
 use Rattle.lx_node.proofs.Spots.{children_at-spot_below}
 use Rattle.lx_forest.specs.Forest.{Label, Forest}
-use Rattle.lx_forest.specs.Lookups.{key_of, has, count, alone, roots, label_of, children_of, trees_of, IsForest}
-use Rattle.lx_plain.specs.Render.{tag_of}
+use Rattle.lx_forest.specs.Lookups.{key_of, has, count, alone, roots, children_of, trees_of, IsForest}
 use Rattle.lx_plain.specs.Allowed.{unkept, marked_children}
-use Rattle.lx_reconcile.specs.Reading.{reads_in, reads_below}
+use Rattle.lx_reconcile.specs.Reading.{reads_in}
 use Rattle.lx_reconcile.proofs.Children.{stands_there}
-use Rattle.lx_reconcile.proofs.UnkeptNodes.{kept_here, new_unkept, other_unkept}
+use Rattle.lx_reconcile.proofs.UnkeptNodes.{kept_here}
 
 -- ---- sums over names
 

@@ -1,22 +1,21 @@
 -- What stands below a node without a mark is the same in both trees.
-use Rattle.std.proofs.Common.{◌≡◌, ◌∙◌, ◌+◌, ◌<◌, ℕ, Bool, true, false, List, [], ◌∷◌, ◌++◌, Option, None, Some, is_some, option_map, zero, suc, inl, inr, refl, sym, ap, subst, arith, append-nil}
+use Rattle.std.proofs.Common.{◌≡◌, ◌∙◌, ◌+◌, ◌<◌, ℕ, true, false, List, [], ◌∷◌, Option, None, Some, is_some, option_map, zero, suc, inl, inr, refl, sym, ap, arith, append-nil}
 use Rattle.std.proofs.lemmas.Bool.{cases_Bool}
 use Rattle.std.proofs.lemmas.Bool.Decides.{eqb_tells}
 use Rattle.std.proofs.lemmas.Option.{same_Some}
-use Rattle.lx_node.specs.Trees.{Trees, nil, tree, joined}
+use Rattle.lx_node.specs.Trees.{nil, tree, joined}
 use Rattle.lx_node.specs.NamedTrees.{total}
 use Rattle.lx_node.specs.Siblings.{is_among}
 use Rattle.lx_node.specs.Spots.{Spot, children_at}
 use Rattle.lx_host.specs.Hosts.{HostTree}
 use Rattle.lx_host.specs.declared.op.Op.{Op}
 use Rattle.lx_forest.specs.Forest.{Label, Forest}
-use Rattle.lx_forest.specs.Lookups.{has, alone, spot, label_of, kind_of, fields_of, children_of, trees_of, parent_of, IsForest}
+use Rattle.lx_forest.specs.Lookups.{has, alone, spot, label_of, children_of, trees_of, IsForest}
 use Rattle.lx_forest.proofs.Edits.{key-spot, is_some-spot}
 use Rattle.lx_forest.proofs.Lookups.{alone-spot}
 use Rattle.lx_forest.proofs.Walks.{total-alone-lt}
-use Rattle.lx_links.specs.Stands.{Sound}
 use Rattle.lx_links.proofs.Placed.{parent_of-child}
-use Rattle.lx_plain.specs.Allowed.{Marking, AreCovered, IsAlike}
+use Rattle.lx_plain.specs.Allowed.{Marking, IsAlike}
 use Rattle.lx_reconcile.specs.Making.{IsBetween, Reconciles}
 use Rattle.lx_reconcile.proofs.StartEnd.{child_stands}
 use Rattle.lx_reconcile.proofs.Turns.{reconciled_same}

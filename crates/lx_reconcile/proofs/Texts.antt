@@ -1,5 +1,5 @@
 -- The nodes of a kind all have a text, or none of them has.
-use Rattle.std.proofs.Common.{◌≡◌, ℕ, ◌&&◌, Bool, true, false, Option, None, Some, refl}
+use Rattle.std.proofs.Common.{◌≡◌, ◌&&◌, Bool, true, false, None, refl}
 use Rattle.lx_node.specs.declared.kind.Kind.{Kind}
 use Rattle.lx_node.specs.declared.kind.Kind.TheVariants.{Text, Tab}
 use Rattle.lx_node.specs.declared.fields.TextFields.{TextFields}

@@ -1,7 +1,7 @@
 -- What each operation owes, by the marks that cover two trees.
-use Rattle.std.proofs.Common.{◌≡◌, ◌≢◌, ◌∙◌, ◌+◌, ◌<◌, ◌≤◌, ◌⊎◌, ℕ, ◌||◌, Bool, true, false, cond, eqb, List, [], ◌∷◌, ◌++◌, length, length-append, Option, None, Some, option_map, inl, inr, refl, sym, ap, subst, arith}
-use Rattle.std.specs.List.{AllByRecursion, list_any}
-use Rattle.std.proofs.lemmas.Bool.{cases_Bool, cases_lt}
+use Rattle.std.proofs.Common.{◌≡◌, ◌∙◌, ◌+◌, ◌<◌, ◌≤◌, ◌⊎◌, ℕ, true, false, List, [], ◌∷◌, ◌++◌, length, length-append, Option, None, Some, option_map, inl, inr, refl, sym, ap, subst, arith}
+use Rattle.std.specs.List.{AllByRecursion}
+use Rattle.std.proofs.lemmas.Bool.{cases_Bool}
 use Rattle.std.proofs.lemmas.Bool.Decides.{eqb_tells}
 use Rattle.std.proofs.lemmas.Option.{same_Some}
 use Rattle.lx_node.specs.Trees.{Trees, nil, tree}
@@ -13,19 +13,18 @@ use Rattle.lx_host.specs.declared.op.Op.TheVariants as op
 use Rattle.lx_host.specs.Hosts as hosts
 use Rattle.lx_host.specs.Hosts.{Host, HostTree, count, IsNumbered}
 use Rattle.lx_forest.specs.Forest.{Label, Forest}
-use Rattle.lx_forest.specs.Lookups.{has, label_of, kind_of, fields_of, parent_of, children_of, last_child, alone}
+use Rattle.lx_forest.specs.Lookups.{has, label_of, parent_of, children_of, last_child, alone}
 use Rattle.lx_forest.specs.Views.{kind_at}
 use Rattle.lx_links.specs.Stands.{Sound}
 use Rattle.lx_links.proofs.Placed.{parent_of-child}
-use Rattle.lx_plain.specs.Allowed.{Marking, AreCovered, IsKept, KeepsOrder, hosts_of, new_host, of_touched, of_child, IsDue}
-use Rattle.lx_plain.specs.Render.{tag_of}
-use Rattle.lx_reconcile.specs.Created.{create_op, creation, creation_of}
+use Rattle.lx_plain.specs.Allowed.{Marking, AreCovered, KeepsOrder, hosts_of, new_host, of_touched, of_child, IsDue}
+use Rattle.lx_reconcile.specs.Created.{create_op, creation_of}
 use Rattle.lx_reconcile.specs.Changing.{IsWriteAt, is_text, is_attr, is_break}
 use Rattle.lx_reconcile.specs.Making.{IsBetween}
 use Rattle.lx_reconcile.specs.Reconciled.{host_in}
 use Rattle.lx_reconcile.proofs.Created.{has_if, has_not}
 use Rattle.lx_reconcile.proofs.Children.{stands_there, last_among}
-use Rattle.lx_reconcile.proofs.Due.{each_append, creation_each}
+use Rattle.lx_reconcile.proofs.Due.{creation_each}
 use Rattle.lx_reconcile.proofs.Shown.{count-hosts_of, among_one}
 use Rattle.lx_reconcile.proofs.StartEnd.{only_host, child_stands}
 

@@ -7,10 +7,9 @@ use Rattle.lx_node.specs.NamedTrees.{total}
 use Rattle.lx_node.specs.Siblings.{is_among, is_named, is_place, names_without, names_with}
 use Rattle.lx_node.proofs.Siblings.{is_among-names_without, is_among-names_with}
 use Rattle.lx_host.specs.declared.op.Op.{Op}
-use Rattle.lx_host.specs.declared.op.Op.TheVariants.{Place, Drop, Text, Attr, Break}
-use Rattle.lx_host.specs.declared.tag.Name.{Name}
+use Rattle.lx_host.specs.declared.op.Op.TheVariants.{Place, Drop}
 use Rattle.lx_host.specs.Branches.{IsRooted}
-use Rattle.lx_host.specs.Hosts.{Host, HostTree, alone, with_text, with_value, with_ending, IsNumbered}
+use Rattle.lx_host.specs.Hosts.{Host, HostTree, alone, IsNumbered}
 use Rattle.lx_forest.specs.Forest.{Label, Forest}
 use Rattle.lx_forest.specs.Lookups as forest
 use Rattle.lx_forest.specs.Lookups.{IsForest, children_of, trees_of}
@@ -22,7 +21,7 @@ use Rattle.lx_reconcile.specs.Handled.{IsReconciled, AreHandled, IsLater}
 use Rattle.lx_reconcile.proofs.Created.{host_tree, shape_of-numbered}
 use Rattle.lx_reconcile.proofs.StartEnd.{IsShownAt, shown_at_id, shown_same, is_started, are_reconciled, is_allowed, root_at, root_id}
 use Rattle.lx_reconcile.proofs.Families.{with_entry, alone-at}
-use Rattle.lx_reconcile.proofs.Frames.{at_same, at_then, at_text, at_attr, at_break, at_whole}
+use Rattle.lx_reconcile.proofs.Frames.{at_same, at_then, at_whole}
 use Rattle.lx_reconcile.proofs.Kept.{kept_up}
 use Rattle.lx_reconcile.proofs.OneMove.{at_stay, at_gone, at_new, at_moved, at_again}
 

@@ -1,5 +1,5 @@
 -- A node from its first operation to its last, and the root.
-use Rattle.std.proofs.Common.{◌≡◌, ◌∙◌, ◌+◌, ◌*◌, ◌<◌, ◌≤◌, ℕ, Bool, true, false, List, [], ◌∷◌, ◌++◌, None, Some, option_map, is_some, refl, sym, ap, subst, arith, append_assoc, append-nil}
+use Rattle.std.proofs.Common.{◌≡◌, ◌∙◌, ◌+◌, ◌*◌, ◌<◌, ◌≤◌, ℕ, Bool, true, false, List, [], ◌∷◌, ◌++◌, None, Some, option_map, refl, sym, ap, subst, arith, append_assoc, append-nil}
 use Rattle.std.proofs.lemmas.Option.{same_Some}
 use Rattle.lx_node.specs.Trees.{nil, tree}
 use Rattle.lx_node.specs.NamedTrees.{total}
@@ -17,7 +17,7 @@ use Rattle.lx_forest.specs.Lookups.{alone, has, label_of, children_of, trees_of,
 use Rattle.lx_forest.specs.Records.{record_at}
 use Rattle.lx_forest.specs.Views.{kind_at}
 use Rattle.lx_forest.specs.Suited.{is_suited}
-use Rattle.lx_forest.proofs.Edits.{has-root, is_some-spot}
+use Rattle.lx_forest.proofs.Edits.{has-root}
 use Rattle.lx_links.specs.Stands.{node_of}
 use Rattle.lx_plain.specs.Allowed.{Marking, AreCovered, Shows, hosts_of, unkept, marked_children}
 use Rattle.lx_plain.specs.Render.{tag_of, attributes_of, text_of, face_of, last_kind, needs_break}
@@ -28,7 +28,7 @@ use Rattle.lx_reconcile.specs.Making.{IsBetween, Reconciles, MakesMoves, AreNext
 use Rattle.lx_reconcile.specs.Reconciled.{host_in}
 use Rattle.lx_reconcile.specs.ToCome.{IsInWalk}
 use Rattle.lx_reconcile.specs.Walk.{IsWalk}
-use Rattle.lx_reconcile.proofs.Children.{stands_there, label_from, IsRead, is_read, there_read, tree_read, last_kind_read, total_read}
+use Rattle.lx_reconcile.proofs.Children.{stands_there, label_from, IsRead, is_read, there_read, tree_read, last_kind_read}
 use Rattle.lx_reconcile.proofs.Due.{each_append}
 use Rattle.lx_reconcile.proofs.Touched.{Due, last_same, writes_due}
 use Rattle.std.proofs.Common.{cond, length}

@@ -1,5 +1,5 @@
 -- How many reads the operations between two trees need. Only this crate's own contracts cite it.
-use Rattle.std.specs.Prelude.{ℕ, ◌+◌, ◌*◌, Bool, if◌then◌else◌, List, length, Option, None, Some}
+use Rattle.std.specs.Prelude.{ℕ, ◌+◌, ◌*◌, Bool, if◌then◌else◌, length, Option, None, Some}
 use Rattle.lx_node.specs.Trees.{nil, tree}
 use Rattle.lx_node.specs.NamedTrees.{total}
 use Rattle.lx_forest.specs.Forest.{Forest}

@@ -1,4 +1,4 @@
-use Rattle.std.proofs.Common.{◌≡◌, ◌+◌, ◌*◌, ◌≤◌, ℕ, [], ◌∷◌, take, Some}
+use Rattle.std.proofs.Common.{◌≡◌, ◌+◌, ◌*◌, ◌≤◌, [], ◌∷◌, take, Some}
 use Rattle.lx_node.specs.NamedTrees.{total}
 use Rattle.lx_forest.specs.Lookups.{alone, trees_of}
 use Rattle.lx_reconcile.specs.Allowing.{marking}

@@ -1,4 +1,3 @@
-use Rattle.std.proofs.Common.{◌≡◌, List}
 use Rattle.std.proofs.lemmas.Result.{IfOk-weaker}
 use Rattle.lx_reconcile.specs.Walk.{IsWalk}
 use Rattle.lx_reconcile.proofs.Staying.{all_staying}
