@@ -3,6 +3,7 @@ use Rattle.std.specs.Result.{IfOk}
 use Rattle.std.proofs.Common.{Result, Ok, Err, ◌≡◌, ◌∙◌, ◌+◌, ◌<◌, ◌≤◌, ◌⊎◌, ℕ, true, false, inl, inr, List, [], ◌∷◌, ◌++◌, length, Option, None, Some, option_map, is_some, refl, sym, ap, subst, arith, append_assoc, append-nil}
 use Rattle.std.proofs.lemmas.Bool.Decides.{eqb_tells}
 use Rattle.std.proofs.lemmas.Option.{same_Some}
+use Rattle.lx_node.specs.Limits.{last_u32}
 use Rattle.lx_node.specs.Trees.{nil, tree, joined}
 use Rattle.lx_node.specs.NamedTrees.{total}
 use Rattle.lx_node.specs.Siblings.{is_among, is_place, first_of, last_of, last_from, next_in, from_name}
@@ -180,11 +181,11 @@ made_tree f g key id n old mid new same s read first then =
 pub record ChildrenFit (f g : Forest) (key id : ℕ) (n : Node) : Type 0 where
   pub sound : Sound g
   pub first : n.first ≡ first_child g key
-  pub room : id + 1 + total (trees_of g (children_of g key)) ≤ 4294967295
+  pub room : id + 1 + total (trees_of g (children_of g key)) ≤ last_u32
   pub all : id + 1 + total (trees_of g (children_of g key)) ≡ id + total (alone key f)
   pub still : total (alone key g) ≡ total (alone key f)
 
-pub children_fit : (f g : Forest) (key id : ℕ) (n : Node) → g ≡ f → Sound f → Some n ≡ option_map node_of (record_at f key) → id + total (alone key f) ≤ 4294967295 → ChildrenFit f g key id n
+pub children_fit : (f g : Forest) (key id : ℕ) (n : Node) → g ≡ f → Sound f → Some n ≡ option_map node_of (record_at f key) → id + total (alone key f) ≤ last_u32 → ChildrenFit f g key id n
 children_fit f g key id n same s read room =
     let r = is_read f key n s read in
     let all = total_read f key n r in
@@ -304,11 +305,11 @@ made_child f g key host start child id at next next_id ops new same s here m nex
 pub record ChildFits (f g : Forest) (key child id : ℕ) (at : Option ℕ) : Type 0 where
   pub sound : Sound g
   pub there : has child g ≡ true
-  pub room : id + total (alone child g) ≤ 4294967295
+  pub room : id + total (alone child g) ≤ last_u32
   pub smaller : total (alone child g) < total (alone key f)
   pub part : total (alone child g) ≤ total (trees_of f (from_name at (children_of f key)))
 
-pub child_fits : (f g : Forest) (key host : ℕ) (start : List Op) (child id : ℕ) (at : Option ℕ) (ops : List Op) → g ≡ f → Sound f → at ≡ Some child → host + 1 + total (trees_of f (children_of f key)) ≤ 4294967295
+pub child_fits : (f g : Forest) (key host : ℕ) (start : List Op) (child id : ℕ) (at : Option ℕ) (ops : List Op) → g ≡ f → Sound f → at ≡ Some child → host + 1 + total (trees_of f (children_of f key)) ≤ last_u32
     → IsMadeUpTo f key host start at id ops → ChildFits f g key child id at
 child_fits f g key host start child id at ops same s here room m =
     let kids = children_of f key in
@@ -344,9 +345,9 @@ left_with f g key child at next same s here place next_is =
 
 -- ---- where the operations for a key's tree lead
 
-pub created_at : (f : Forest) (key : ℕ) (w : HostTree) → IsForest f → has key f ≡ true → IsNumbered w → w.next + total (alone key f) ≤ 4294967295
+pub created_at : (f : Forest) (key : ℕ) (w : HostTree) → IsForest f → has key f ≡ true → IsNumbered w → w.next + total (alone key f) ≤ last_u32
     → Leads w (creation_of w.next (alone key f)) (host_tree (joined w.hosts (numbered w.next (render (alone key f)))) (w.next + total (alone key f)))
 created_at f key w h there w_is room =
     let s = stands_there f key h there in
-    let P : Forest → Type 0 = λ t. w.next + total t ≤ 4294967295 → Leads w (creation_of w.next t) (host_tree (joined w.hosts (numbered w.next (render t))) (w.next + total t)) in
+    let P : Forest → Type 0 = λ t. w.next + total t ≤ last_u32 → Leads w (creation_of w.next t) (host_tree (joined w.hosts (numbered w.next (render t))) (w.next + total t)) in
     subst P (sym s.tree_is) (creation_leads w w_is s.label s.below) room

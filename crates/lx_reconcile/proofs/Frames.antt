@@ -2,6 +2,7 @@
 use Rattle.std.proofs.Common.{◌≡◌, ◌≢◌, ◌∙◌, ◌+◌, ◌<◌, ◌≤◌, ◌⊎◌, ℕ, Bool, true, false, refl, sym, ap, subst, arith, inl, inr, eqb, IsTrue, List, [], ◌∷◌, ◌++◌, append-nil, Option, None, Some}
 use Rattle.std.proofs.lemmas.Bool.{cases_lt, ne_eqb, eq-eqb, ltb-true}
 use Rattle.std.proofs.lemmas.Bool.Decides.{eqb_tells}
+use Rattle.lx_node.specs.Limits.{last_u32}
 use Rattle.lx_node.specs.Trees.{Trees, nil, tree, joined}
 use Rattle.lx_node.specs.NamedTrees.{total}
 use Rattle.lx_node.specs.Siblings.{is_among}
@@ -551,7 +552,7 @@ numbered_made h a kids w f before p =
     }
 
 -- at the id that is next
-made_here : (h : ℕ) (a : Host) (kids : Trees Host) (w : HostTree) (label : Label) (below : Forest) (before : Option ℕ) → IsHere h a kids w → w.next + total (tree label below nil) ≤ 4294967295 → has_before before (ids_of kids) ≡ true
+made_here : (h : ℕ) (a : Host) (kids : Trees Host) (w : HostTree) (label : Label) (below : Forest) (before : Option ℕ) → IsHere h a kids w → w.next + total (tree label below nil) ≤ last_u32 → has_before before (ids_of kids) ≡ true
     → Leads w (creation w.next label below ++ Place h w.next before ∷ []) (host_tree (replaced h (tree a (inserted before (numbered w.next (render (tree label below nil))) kids) nil) w.hosts) (w.next + total (tree label below nil)))
 made_here h a kids w label below before p room place =
     let n = w.next in
@@ -570,12 +571,12 @@ made_here h a kids w label below before p room place =
       refl,
     )
 
-pub at_make : (h : ℕ) (a : Host) (kids : Trees Host) (n : ℕ) (label : Label) (below : Forest) (before : Option ℕ) → a.id ≡ h → n + total (tree label below nil) ≤ 4294967295 → has_before before (ids_of kids) ≡ true
+pub at_make : (h : ℕ) (a : Host) (kids : Trees Host) (n : ℕ) (label : Label) (below : Forest) (before : Option ℕ) → a.id ≡ h → n + total (tree label below nil) ≤ last_u32 → has_before before (ids_of kids) ≡ true
     → LeadsAt h (tree a kids nil) n (creation n label below ++ Place h n before ∷ []) (tree a (inserted before (numbered n (render (tree label below nil))) kids) nil) (n + total (tree label below nil))
 at_make h a kids n label below before id room place w w_is next there is =
     let p = is_here h a kids w id w_is there is in
     let one = tree label below nil in
-    let enough : w.next + total one ≤ 4294967295 = omega (arith, room, next) in (
+    let enough : w.next + total one ≤ last_u32 = omega (arith, room, next) in (
       subst (λ n. Leads w (creation n label below ++ Place h n before ∷ []) (host_tree (replaced h (tree a (inserted before (numbered n (render one)) kids) nil) w.hosts) (n + total one))) next (made_here h a kids w label below before p enough place),
       subst (λ n. IsNumbered (host_tree (replaced h (tree a (inserted before (numbered n (render one)) kids) nil) w.hosts) (n + total one))) next (numbered_made h a kids w one before p),
       creation_writes n label below h before w,

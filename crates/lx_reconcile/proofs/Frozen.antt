@@ -1,6 +1,7 @@
 -- What is frozen of a draft is one tree, its marks cover that and the tree that the draft began with, and there are ids for
 -- what isn't kept.
 use Rattle.std.proofs.Common.{◌≡◌, ◌≢◌, ◌∙◌, ◌+◌, ◌≤◌, ℕ, true, [], ◌∷◌, Option, None, Some, is_some, option_map, refl, ap, subst, sym, arith}
+use Rattle.lx_node.specs.Limits.{last_u32}
 use Rattle.lx_node.specs.Trees.{nil, tree}
 use Rattle.lx_node.specs.NamedTrees.{total}
 use Rattle.lx_node.specs.Spots.{Spot}
@@ -82,5 +83,5 @@ frozen_covered w v f selection marks next_key none c frozen was is =
 
 -- ---- its ids
 
-pub room_behind : (v : HostTree) (f g : Forest) → v.next + total g ≤ 4294967295 → v.next + unkept (alone 0 f) None (alone 0 g) ≤ 4294967295
+pub room_behind : (v : HostTree) (f g : Forest) → v.next + total g ≤ last_u32 → v.next + unkept (alone 0 f) None (alone 0 g) ≤ last_u32
 room_behind v f g room = omega (arith, room, unkept-total (alone 0 f) None (alone 0 g), total-without-alone key_of 0 g)

@@ -4,6 +4,7 @@ use Rattle.std.proofs.Common.{Result, Ok, Err, ◌≡◌, ◌∙◌, ◌+◌, �
 use Rattle.std.proofs.lemmas.Bool.Decides.{eqb_tells}
 use Rattle.std.proofs.lemmas.List.{take_more, drop_more, take-append-drop}
 use Rattle.std.proofs.lemmas.Option.{same_Some}
+use Rattle.lx_node.specs.Limits.{last_u32}
 use Rattle.lx_node.specs.Trees.{Trees, nil, tree}
 use Rattle.lx_node.specs.NamedTrees.{total}
 use Rattle.lx_node.specs.Siblings.{is_among, is_place, from_name, next_in}
@@ -168,13 +169,13 @@ module _ (old new : Forest) (mk : Marking) (v : HostTree) where
   child_new : (k c : ℕ) → IsBetween old new mk v → is_among c (children_of new k) ≡ true → has c new ≡ true
   child_new k c b among = has-child new c k (parent_of-child new c k b.sound among)
 
-  pub stay_room : (k c n : ℕ) → IsBetween old new mk v → IsNext old new v k (Stay c) n → n + unkept old (Some c) (trees_of new (children_of new c)) ≤ 4294967295
+  pub stay_room : (k c n : ℕ) → IsBetween old new mk v → IsNext old new v k (Stay c) n → n + unkept old (Some c) (trees_of new (children_of new c)) ≤ last_u32
   stay_room k c n b x =
       omega (arith, x.are.room, walk_room old new v k x.are.from x.are.ops x.are.a c (Stay c) x.more n x.are.walk refl, child_unkept old new v k c b.view.after (child_new k c b (stay_both k c n x).1))
 
   -- and for all of it, where it is made anew
   pub again_room : (k c n : ℕ) (was now : Node) → IsBetween old new mk v → IsNext old new v k (Stay c) n → Some was ≡ option_map node_of (record_at old c) → Some now ≡ option_map node_of (record_at new c)
-      → (tag_of was.kind was.fields ≡ tag_of now.kind now.fields → ⊥) → n + total (alone c new) ≤ 4294967295
+      → (tag_of was.kind was.fields ≡ tag_of now.kind now.fields → ⊥) → n + total (alone c new) ≤ last_u32
   again_room k c n was now b x was_is now_is other =
       let p = is_read old c was b.was_sound was_is in
       let q = is_read new c now b.sound now_is in
@@ -193,7 +194,7 @@ module _ (old new : Forest) (mk : Marking) (v : HostTree) where
   pub make_among : (k c : ℕ) (before : Option ℕ) (n : ℕ) → IsNext old new v k (Make c before) n → is_among c (children_of new k) ≡ true
   make_among k c before n x = x.are.walk.to_come.stays c (grind (arith, eqb_tells c c))
 
-  pub make_room : (k c : ℕ) (before : Option ℕ) (n : ℕ) → IsBetween old new mk v → IsNext old new v k (Make c before) n → n + total (alone c new) ≤ 4294967295
+  pub make_room : (k c : ℕ) (before : Option ℕ) (n : ℕ) → IsBetween old new mk v → IsNext old new v k (Make c before) n → n + total (alone c new) ≤ last_u32
   make_room k c before n b x =
       omega (
         arith,
@@ -282,7 +283,7 @@ module _ (old new : Forest) (mk : Marking) (v : HostTree) where
   walk_to : (k from : ℕ) (ops : List Op) (a : Host) (more : List Move) (m l : ℕ) → m ≡ l → IsInWalk old new v k from ops a more m → IsInWalk old new v k from ops a more l
   walk_to k from ops a more m l e w = subst (IsInWalk old new v k from ops a more) e w
 
-  pub makes_make : (k c h n : ℕ) (before place : Option ℕ) (start end : List Op) (m : ℕ) → IsBetween old new mk v → has c new ≡ true → v.next ≤ n → h ≡ host_in v k → place ≡ option_map (host_in v) before → n + total (alone c new) ≤ 4294967295
+  pub makes_make : (k c h n : ℕ) (before place : Option ℕ) (start end : List Op) (m : ℕ) → IsBetween old new mk v → has c new ≡ true → v.next ≤ n → h ≡ host_in v k → place ≡ option_map (host_in v) before → n + total (alone c new) ≤ last_u32
       → m ≡ n + total (alone c new) → end ≡ start ++ creation_of n (alone c new) ++ op.Place h n place ∷ []
       → MakesMoves old new mk v k (Make c before ∷ []) n start end m
   makes_make k c h n before place start end m b there from id at room next is = record {
@@ -306,7 +307,7 @@ module _ (old new : Forest) (mk : Marking) (v : HostTree) where
       (λ kinds fields. other (ap (λ k. tag_of k was.fields) kinds ∙ ap (tag_of now.kind) fields))
 
   -- made anew with another element
-  pub makes_again : (k c h i n : ℕ) (was now : Node) (start end : List Op) (m : ℕ) → IsBetween old new mk v → v.next ≤ n → h ≡ host_in v k → i ≡ host_in v c → n + total (alone c new) ≤ 4294967295
+  pub makes_again : (k c h i n : ℕ) (was now : Node) (start end : List Op) (m : ℕ) → IsBetween old new mk v → v.next ≤ n → h ≡ host_in v k → i ≡ host_in v c → n + total (alone c new) ≤ last_u32
       → Some was ≡ option_map node_of (record_at old c) → Some now ≡ option_map node_of (record_at new c) → (tag_of was.kind was.fields ≡ tag_of now.kind now.fields → ⊥)
       → m ≡ n + total (alone c new) → end ≡ start ++ creation_of n (alone c new) ++ op.Place h n (Some i) ∷ [] ++ op.Drop i ∷ []
       → MakesMoves old new mk v k (Stay c ∷ []) n start end m
@@ -542,11 +543,11 @@ reads_still f f_now g g_now noted k e d = ap (λ x. reads_below x g_now noted k)
 pub move_reads_still : (f f_now g g_now : Forest) (noted : ℕ → Bool) (p : Option ℕ) (ks : List ℕ) → f_now ≡ f → g_now ≡ g → reads_in f_now noted p (trees_of g_now ks) ≡ reads_in f noted p (trees_of g ks)
 move_reads_still f f_now g g_now noted p ks e d = ap (λ x. reads_in x noted p (trees_of g_now ks)) e ∙ ap (λ y. reads_in f noted p (trees_of y ks)) d
 
-pub unkept_still : (f f_now g g_now : Forest) (c n : ℕ) → f_now ≡ f → g_now ≡ g → n + unkept f (Some c) (trees_of g (children_of g c)) ≤ 4294967295 → n + unkept f_now (Some c) (trees_of g_now (children_of g_now c)) ≤ 4294967295
-unkept_still f f_now g g_now c n e d h = subst (λ x. n + unkept x (Some c) (trees_of g_now (children_of g_now c)) ≤ 4294967295) (sym e) (subst (λ y. n + unkept f (Some c) (trees_of y (children_of y c)) ≤ 4294967295) (sym d) h)
+pub unkept_still : (f f_now g g_now : Forest) (c n : ℕ) → f_now ≡ f → g_now ≡ g → n + unkept f (Some c) (trees_of g (children_of g c)) ≤ last_u32 → n + unkept f_now (Some c) (trees_of g_now (children_of g_now c)) ≤ last_u32
+unkept_still f f_now g g_now c n e d h = subst (λ x. n + unkept x (Some c) (trees_of g_now (children_of g_now c)) ≤ last_u32) (sym e) (subst (λ y. n + unkept f (Some c) (trees_of y (children_of y c)) ≤ last_u32) (sym d) h)
 
-pub room_still : (g g_now : Forest) (c n : ℕ) → g_now ≡ g → n + total (alone c g) ≤ 4294967295 → n + total (alone c g_now) ≤ 4294967295
-room_still g g_now c n d h = subst (λ y. n + total (alone c y) ≤ 4294967295) (sym d) h
+pub room_still : (g g_now : Forest) (c n : ℕ) → g_now ≡ g → n + total (alone c g) ≤ last_u32 → n + total (alone c g_now) ≤ last_u32
+room_still g g_now c n d h = subst (λ y. n + total (alone c y) ≤ last_u32) (sym d) h
 
 pub read_still : (f f_now : Forest) (k : ℕ) (n : Node) → f_now ≡ f → Some n ≡ option_map node_of (record_at f k) → Some n ≡ option_map node_of (record_at f_now k)
 read_still f f_now k n d h = subst (λ y. Some n ≡ option_map node_of (record_at y k)) (sym d) h

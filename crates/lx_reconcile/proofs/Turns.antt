@@ -2,6 +2,7 @@
 use Rattle.std.proofs.Common.{◌≡◌, ◌≢◌, ◌∙◌, ◌+◌, ◌≤◌, ℕ, Bool, true, false, List, [], ◌∷◌, ◌++◌, Option, None, Some, option_map, inl, inr, refl, sym, ap, subst, arith, ne_eqb}
 use Rattle.std.specs.List.{AllByRecursion}
 use Rattle.std.proofs.lemmas.Bool.Decides.{eqb_tells}
+use Rattle.lx_node.specs.Limits.{last_u32}
 use Rattle.lx_node.specs.Trees.{Trees, nil, tree}
 use Rattle.lx_node.specs.NamedTrees.{total}
 use Rattle.lx_node.specs.Siblings.{is_among, is_named, is_place, names_without, names_with}
@@ -163,7 +164,7 @@ module _ (old new : Forest) (v : HostTree) where
   making h c m before label below is = sym (ap (λ t. creation_of m t ++ Place h m before ∷ []) is)
 
   pub handled_make : (k n : ℕ) (ops : List Op) (a : Host) (handled cs : List ℕ) (m c : ℕ) (before : Option ℕ) (label : Label) (below : Forest) → AreHandled old new v k n ops a handled cs m
-      → IsForest new → forest.alone c new ≡ tree label below nil → (IsKept old new c → ⊥) → m + total (forest.alone c new) ≤ 4294967295
+      → IsForest new → forest.alone c new ≡ tree label below nil → (IsKept old new c → ⊥) → m + total (forest.alone c new) ≤ last_u32
       → is_among c cs ≡ false → is_place before cs ≡ true → IsLater handled before
       → AreHandled old new v k n (ops ++ (creation_of m (forest.alone c new) ++ Place (host_in v k) m (option_map (host_in v) before) ∷ [])) a (c ∷ handled) (names_with before (c ∷ []) cs) (m + total (forest.alone c new))
   handled_make k n ops a handled cs m c before label below s h is anew room out place later =
@@ -176,7 +177,7 @@ module _ (old new : Forest) (v : HostTree) where
       subst (λ l. LeadsAt (host_in v k) (tree a (flat s.family cs) nil) m more (tree a then nil) (m + l)) size
       (subst (λ ops. LeadsAt (host_in v k) (tree a (flat s.family cs) nil) m ops (tree a then nil) (m + total (tree label below nil)))
       (ap (λ o. creation m label below ++ Place (host_in v k) m o ∷ []) (before_id handled cs s.ids s.family before u place later) ∙ making (host_in v k) c m (option_map (host_in v) before) label below is)
-      (at_new (host_in v k) a s.ids s.family cs m c before label below s.id u.at out place (subst (λ x. m + x ≤ 4294967295) (sym size) room))) in
+      (at_new (host_in v k) a s.ids s.family cs m c before label below s.id u.at out place (subst (λ x. m + x ≤ last_u32) (sym size) room))) in
       record {
         ids = with_entry c m s.ids;
         family = with_entry c to s.family;
@@ -189,7 +190,7 @@ module _ (old new : Forest) (v : HostTree) where
       was_among d e other = grind (arith, e, is_among-names_with before (c ∷ []) cs d, eqb_tells c d, other)
 
   pub handled_again : (k n : ℕ) (ops : List Op) (a : Host) (handled cs : List ℕ) (m c : ℕ) (label : Label) (below : Forest) → AreHandled old new v k n ops a handled cs m
-      → IsForest new → forest.alone c new ≡ tree label below nil → (IsKept old new c → ⊥) → m + total (forest.alone c new) ≤ 4294967295
+      → IsForest new → forest.alone c new ≡ tree label below nil → (IsKept old new c → ⊥) → m + total (forest.alone c new) ≤ last_u32
       → is_among c cs ≡ true → is_among c handled ≡ false → host_in v c ≢ 0
       → AreHandled old new v k n (ops ++ ((creation_of m (forest.alone c new) ++ Place (host_in v k) m (Some (host_in v c)) ∷ []) ++ Drop (host_in v c) ∷ [])) a (c ∷ handled) cs (m + total (forest.alone c new))
   handled_again k n ops a handled cs m c label below s h is anew room here waits nonzero =
@@ -203,7 +204,7 @@ module _ (old new : Forest) (v : HostTree) where
       subst (λ l. LeadsAt (host_in v k) (tree a (flat s.family cs) nil) m more (tree a then nil) (m + l)) size
       (subst (λ ops. LeadsAt (host_in v k) (tree a (flat s.family cs) nil) m ops (tree a then nil) (m + total (tree label below nil)))
       (ap (λ i. (creation m label below ++ Place (host_in v k) m (Some i) ∷ []) ++ Drop i ∷ []) own ∙ ap (λ ops. ops ++ Drop (host_in v c) ∷ []) (making (host_in v k) c m (Some (host_in v c)) label below is))
-      (at_again (host_in v k) a s.ids s.family cs m c label below s.id u.at here (λ e. nonzero (sym own ∙ e)) (subst (λ x. m + x ≤ 4294967295) (sym size) room))) in
+      (at_again (host_in v k) a s.ids s.family cs m c label below s.id u.at here (λ e. nonzero (sym own ∙ e)) (subst (λ x. m + x ≤ last_u32) (sym size) room))) in
       record {
         ids = with_entry c m s.ids;
         family = with_entry c to s.family;

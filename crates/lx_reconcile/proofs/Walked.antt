@@ -4,6 +4,7 @@ use Rattle.std.specs.List.{list_any, AllByRecursion}
 use Rattle.std.proofs.lemmas.List.Elements.{recursion_from_All}
 use Rattle.std.proofs.lemmas.Bool.Decides.{eqb_tells}
 use Rattle.std.proofs.lemmas.Option.{same_Some}
+use Rattle.lx_node.specs.Limits.{last_u32}
 use Rattle.lx_node.specs.Trees.{Trees, nil, tree}
 use Rattle.lx_node.specs.NamedTrees.{total}
 use Rattle.lx_node.specs.Siblings.{is_among, is_named, is_place, NoRepeats, names_without, names_with}
@@ -240,7 +241,7 @@ module _ (old new : Forest) (v : HostTree) where
       }
 
   pub walk_make : (k n : ℕ) (ops : List Op) (a : Host) (c : ℕ) (before : Option ℕ) (ms : List Move) (m : ℕ) → IsView old new v → IsInWalk old new v k n ops a (Make c before ∷ ms) m
-      → m + total (forest.alone c new) ≤ 4294967295
+      → m + total (forest.alone c new) ≤ last_u32
       → IsInWalk old new v k n (ops ++ (creation_of m (forest.alone c new) ++ op.Place (host_in v k) m (option_map (host_in v) before) ∷ [])) a ms (m + total (forest.alone c new))
   walk_make k n ops a c before ms m view w room =
       let t = w.to_come in
@@ -261,7 +262,7 @@ module _ (old new : Forest) (v : HostTree) where
   -- a child whose element is another one is made anew in place of the old one
   pub walk_again : (k n : ℕ) (ops : List Op) (a : Host) (c : ℕ) (ms : List Move) (m : ℕ) (x y : Label) → IsView old new v → IsInWalk old new v k n ops a (Stay c ∷ ms) m
       → label_of old c ≡ Some x → label_of new c ≡ Some y → (tag_of x.kind x.fields ≡ tag_of y.kind y.fields → ⊥)
-      → m + total (forest.alone c new) ≤ 4294967295
+      → m + total (forest.alone c new) ≤ last_u32
       → IsInWalk old new v k n (ops ++ ((creation_of m (forest.alone c new) ++ op.Place (host_in v k) m (Some (host_in v c)) ∷ []) ++ op.Drop (host_in v c) ∷ [])) a ms (m + total (forest.alone c new))
   walk_again k n ops a c ms m x y view w was is other room =
       let t = w.to_come in

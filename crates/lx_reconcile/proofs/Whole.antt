@@ -1,6 +1,7 @@
 -- A node from its first operation to its last, and the root.
 use Rattle.std.proofs.Common.{◌≡◌, ◌∙◌, ◌+◌, ◌*◌, ◌<◌, ◌≤◌, ℕ, Bool, true, false, List, [], ◌∷◌, ◌++◌, None, Some, option_map, refl, sym, ap, subst, arith, append_assoc, append-nil}
 use Rattle.std.proofs.lemmas.Option.{same_Some}
+use Rattle.lx_node.specs.Limits.{last_u32, last_u64}
 use Rattle.lx_node.specs.Trees.{nil, tree}
 use Rattle.lx_node.specs.NamedTrees.{total}
 use Rattle.lx_node.specs.Spots.{Spot}
@@ -89,7 +90,7 @@ module _ (old new : Forest) (mk : Marking) (v : HostTree) (k n : ℕ) (was now :
   written : (h : ℕ) (start end : List Op) → h ≡ host_in v k → FaceChanges h was now start end → Changes (host_in v k) first_face mid_face start end
   written h start end id face = subst (λ i. Changes i first_face mid_face start end) id (face k (tag_of was.kind was.fields) (old_end old k was))
 
-  pub children_next : (h : ℕ) (start end : List Op) → h ≡ host_in v k → v.next ≤ n → n + unkept old (Some k) (trees_of new (children_of new k)) ≤ 4294967295 → IsWalk (children_of old k) (children_of new k) moves → FaceChanges h was now start end
+  pub children_next : (h : ℕ) (start end : List Op) → h ≡ host_in v k → v.next ≤ n → n + unkept old (Some k) (trees_of new (children_of new k)) ≤ last_u32 → IsWalk (children_of old k) (children_of new k) moves → FaceChanges h was now start end
       → AreNext old new v k moves n
   children_next h start end id behind room walk face =
       let c = written h start end id face in
@@ -265,7 +266,7 @@ reads_bound old old_now f f_now noted k e c d was t marked =
     omega (arith, root_reads old f noted was t (ap noted (sym e) ∙ marked), ap (reads_below old_now f_now noted) e, reads_still old old_now f f_now noted 0 c d)
 
 -- no sum is too large
-pub bound_fits : (old f : Forest) (noted : ℕ → Bool) → IsTree old → IsTree f → 8 * (marked_children noted old + marked_children noted f + unkept old None f + 1) < 18446744073709551615
+pub bound_fits : (old f : Forest) (noted : ℕ → Bool) → IsTree old → IsTree f → 8 * (marked_children noted old + marked_children noted f + unkept old None f + 1) < last_u64
 bound_fits old f noted was t =
     omega (arith, marked_children-total noted old, marked_children-total noted f, unkept-total old None f, was.sound.small, t.sound.small)
 
@@ -274,7 +275,7 @@ pub nothing_allowed : (old new : Forest) (mk : Marking) (v : HostTree) (k : ℕ)
 nothing_allowed old new mk v k ops e none was is b plain =
     all_allowed old new mk v ops ops v.next was is b none (skipped old new mk v b 0 v.next ops (root_there new is) (ap mk.noted (sym e) ∙ plain))
 
-pub root_room : (v : HostTree) (old old_now f f_now : Forest) (k n : ℕ) → k ≡ 0 → n ≡ v.next → old_now ≡ old → f_now ≡ f → IsTree f → v.next + unkept old None f ≤ 4294967295 → n + unkept old_now (Some k) (trees_of f_now (children_of f_now k)) ≤ 4294967295
+pub root_room : (v : HostTree) (old old_now f f_now : Forest) (k n : ℕ) → k ≡ 0 → n ≡ v.next → old_now ≡ old → f_now ≡ f → IsTree f → v.next + unkept old None f ≤ last_u32 → n + unkept old_now (Some k) (trees_of f_now (children_of f_now k)) ≤ last_u32
 root_room v old old_now f f_now k n e is c d t room =
     omega (arith, room, is, root_unkept old f t, ap (λ k. unkept old_now (Some k) (trees_of f_now (children_of f_now k))) e, ap (λ f. unkept old_now (Some 0) (trees_of f (children_of f 0))) d, ap (λ o. unkept o (Some 0) (trees_of f (children_of f 0))) c)
 
