@@ -111,9 +111,9 @@ fn count_children<B, A, O: Look<B>, N: Look<A>>(
 }
 
 /// How many nodes of the root's tree in `after` aren't kept from that in `before`. The root is kept, and so is each node
-/// that both trees have below the same kept parent with the same element. It reads each node of the later tree, and
-/// those before that stand below kept ones too. A forest that is read has fewer than 2^32 nodes, so the number is never
-/// capped; and it takes no memory, so there is always an answer.
+/// that both trees have below the same kept parent with the same element. It reads each node of the later tree once, and
+/// where its parent is kept, also that of its key before. A forest that is read has fewer than 2^32 nodes, so the number
+/// is never capped. It takes no memory, and always has an answer.
 pub fn unkept<'a, R: Records<'a>>(before: &mut R, after: &mut R) -> Result<u32, NoMemory>
     requires rooted_before { has 0 (R.forest before.old) ≡ true }
     requires rooted_after { has 0 (R.forest after.old) ≡ true }
@@ -121,7 +121,6 @@ pub fn unkept<'a, R: Records<'a>>(before: &mut R, after: &mut R) -> Result<u32, 
     ensures before { R.forest before.new ≡ R.forest before.old }
     ensures after { R.forest after.new ≡ R.forest after.old }
 {
-    let counted =
-        count_child::<R, R, Reads<'a>, Reads<'a>>(before, after, None, true, Key::root());
-    Ok(counted.0)
+    let all = count_child::<R, R, Reads<'a>, Reads<'a>>(before, after, None, true, Key::root());
+    Ok(all.0)
 }
