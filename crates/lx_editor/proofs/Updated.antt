@@ -20,14 +20,14 @@ use Rattle.lx_node.specs.Limits.{most_key}
 use Rattle.lx_draft.specs.Working.{Working, MayStart}
 use Rattle.lx_draft.specs.Freezing.{swept, freeze_step, freeze_fault, Freezes}
 use Rattle.lx_plain.specs.Render.{render}
-use Rattle.lx_plain.specs.Allowed.{Shows, AreAllowed}
+use Rattle.lx_plain.specs.Allowed.{Shows}
 use Rattle.lx_editor.specs.declared.outcome.Outcome.TheVariants.{Committed, Refused, Idle}
 use Rattle.lx_editor.specs.Editor.{Editor}
 use Rattle.lx_editor.specs.Operations.{texts_of, all_shown, next_behind}
 use Rattle.lx_run.specs.Naming.{no_names}
 use Rattle.lx_run.specs.Scripts.{Scripted, scripted, run_from}
 use Rattle.lx_editor.specs.Standing.{AreSound, IsOne, IsOneTree}
-use Rattle.lx_editor.specs.Updated.{is_run, at_commit, drafted, frozen_from, left_by, begun, AreLeft, IsNothingNew, IsUpdated}
+use Rattle.lx_editor.specs.Updated.{is_run, at_commit, drafted, frozen_from, left_by, begun, AreLeft, AreShowing, IsNothingNew, IsUpdated}
 use Rattle.lx_editor.proofs.Grown.{grown, root_of, root_left}
 use Rattle.lx_editor.proofs.Ran.{answer_ok, IsAt, below_with, all_ran}
 use Rattle.lx_editor.proofs.Shown.{IsView, view_with_all, next_shown, kept_below_next}
@@ -171,8 +171,8 @@ module _ (e : Editor) (steps : List Step) (f : Forest) (selection : Selection) (
               ∙ ap (λ n. next_behind n (texts_of steps)) sound.next ∙ sym g.next;
         }
 
-    pub allowed : (ops : List Op) → Leads e.view ops after → AreAllowed e.tree f e.view ops after
-    allowed ops leads =
+    pub showing : (ops : List Op) → Leads e.view ops after → AreShowing e.tree f e.view ops after
+    showing ops leads =
         let g = has_grown.2 in
         let v = view_of has_grown.0 has_grown.1 g in
         record {
@@ -188,7 +188,7 @@ module _ (e : Editor) (steps : List Step) (f : Forest) (selection : Selection) (
       left.left,
       left.is_left,
       λ same. changed (subst (λ s. IsNothingNew e s marks) left.selected (subst (λ m. IsNothingNew e left.left.selection m) left.marked same)),
-      allowed ops leads,
+      showing ops leads,
       refl,
       rw (left.tree, left.selected, left.next) refl,
     )

@@ -9,7 +9,9 @@ use Rattle.lx_step.specs.declared.reference.SelectionRef.TheVariants.{Cells}
 use Rattle.lx_step.specs.declared.step.Step.{Step}
 use Rattle.lx_step.specs.declared.step.Step.TheVariants.{Append, Select}
 use Rattle.lx_forest.specs.Forest.{Forest}
-use Rattle.lx_plain.specs.Allowed.{AreAllowed}
+use Rattle.lx_host.specs.declared.op.Op.{Op}
+use Rattle.lx_host.specs.Hosts.{HostTree, Leads}
+use Rattle.lx_plain.specs.Allowed.{Shows, IsKept, hosts_of}
 use Rattle.lx_draft.specs.Working.{Working, started}
 use Rattle.lx_draft.specs.Freezing.{freeze_step}
 use Rattle.lx_editor.specs.declared.leaving.Refusal.{Refusal}
@@ -69,9 +71,16 @@ pub record IsNothingNew (old : Editor) (selection : Selection) (marks : Marked) 
   pub none_marked : marks ≡ unmarked
   pub selected : selection ≡ old.selection
 
+-- The operations bring a view of one tree to another tree: each fits in turn, what they lead to shows the new tree, and each
+-- kept node is shown by the host that showed it before.
+pub record AreShowing (old new : Forest) (before : HostTree) (ops : List Op) (after : HostTree) : Type 0 where
+  pub leads : Leads before ops after
+  pub shows : Shows after new
+  pub keeps : (key : ℕ) → IsKept old new key → hosts_of key after.hosts ≡ hosts_of key before.hosts
+
 -- The steps were refused with this outcome, and nothing changed. Or they left nothing new, and nothing changed. Or what
--- they left was committed: the outcome is the next commit number, and operations that are allowed. Of the new editor only
--- the host tree's ids are left to the operations.
+-- they left was committed: the outcome is the next commit number, and operations that bring the view to the new tree. Of the
+-- new editor only the host tree's ids are left to the operations.
 unfoldable pub IsUpdated : Editor → List Step → Outcome → Editor → Type 0
 IsUpdated old steps (Refused cause step) new = (left_by steps (begun old) ≡ Err (cause, step)) × (new ≡ old)
 IsUpdated old steps Idle new =
@@ -79,7 +88,7 @@ IsUpdated old steps Idle new =
 IsUpdated old steps (Committed commit ops) new =
     (left : Working) × (left_by steps (begun old) ≡ Ok left)
     × (IsNothingNew old left.selection left.marks → ⊥)
-    × AreAllowed old.tree new.tree old.view ops new.view
+    × AreShowing old.tree new.tree old.view ops new.view
     × (commit ≡ old.commits + 1)
     × (new ≡ record {
       tree = left.forest;

@@ -1,6 +1,7 @@
 -- What operations make of one host: its attributes, its text and its ending, one after another.
 use Rattle.std.specs.Bool.{beq}
-use Rattle.std.proofs.Common.{◌≡◌, ◌∙◌, ℕ, Bool, true, false, List, [], ◌∷◌, ◌++◌, map, Option, Some, refl, sym, ap, subst, append_assoc, append-nil}
+use Rattle.std.specs.List.{AllByRecursion}
+use Rattle.std.proofs.Common.{◌≡◌, ◌≢◌, ◌∙◌, ℕ, Bool, true, false, List, [], ◌∷◌, ◌++◌, map, Option, Some, refl, sym, ap, subst, append_assoc, append-nil}
 use Rattle.lx_node.specs.Trees.{Trees, nil, tree}
 use Rattle.lx_node.specs.declared.kind.Kind.{Kind}
 use Rattle.lx_node.specs.declared.fields.Fields.{Fields}
@@ -12,7 +13,8 @@ use Rattle.lx_host.specs.Words.{with_attribute}
 use Rattle.lx_host.specs.Hosts.{Face, Host, with_ending}
 use Rattle.lx_plain.specs.Render.{attributes_of, text_of}
 use Rattle.lx_reconcile.specs.Reconciled.{LeadsAt, IsAt}
-use Rattle.lx_reconcile.specs.Changing.{write_op, all_written, Writes, Changes, shown_face}
+use Rattle.lx_reconcile.specs.Changing.{write_op, all_written, AreAnew, Writes, IsWriteAt, is_text, is_attr, is_break, Changes, shown_face}
+use Rattle.lx_reconcile.proofs.Due.{each_append}
 use Rattle.lx_reconcile.proofs.Frames.{at_same, at_then, at_text, at_attr, at_break}
 
 abbrev pub one : ℕ → Face → Trees Host → Trees Host
@@ -25,6 +27,7 @@ pub changes_none : (host : ℕ) (face : Face) (start : List Op) → Changes host
 changes_none host face start = record {
   pushed = [];
   list = sym (append-nil start);
+  only = tt;
   leads = λ kids n. at_same host (one host face kids) n (at_one host face kids);
 }
 
@@ -32,21 +35,31 @@ pub changes_then : (host : ℕ) (a b c : Face) (start mid end : List Op) → Cha
 changes_then host a b c start mid end first then = record {
   pushed = first.pushed ++ then.pushed;
   list = then.list ∙ ap (λ l. l ++ then.pushed) first.list ∙ append_assoc start first.pushed then.pushed;
+  only = each_append (IsWriteAt host) first.pushed then.pushed first.only then.only;
   leads = λ kids n. at_then host (one host a kids) n first.pushed (one host b kids) n then.pushed (one host c kids) n (first.leads kids n) (then.leads kids n) (at_one host b kids);
 }
 
-pub changes_text : (host key : ℕ) (tag : Tag) (attrs : List (Name × List ℕ)) (old : Option (List ℕ)) (text : List ℕ) (ending : Bool) (start end : List Op) → end ≡ start ++ Text host text ∷ []
+pub changes_text : (host key : ℕ) (tag : Tag) (attrs : List (Name × List ℕ)) (old : Option (List ℕ)) (text : List ℕ) (ending : Bool) (start end : List Op) → old ≢ Some text → end ≡ start ++ Text host text ∷ []
     → Changes host (record { key = key; tag = tag; attrs = attrs; text = old; ending = ending }) (record { key = key; tag = tag; attrs = attrs; text = Some text; ending = ending }) start end
-changes_text host key tag attrs old text ending start end is =
+changes_text host key tag attrs old text ending start end other is =
     let face : Face = record { key = key; tag = tag; attrs = attrs; text = old; ending = ending } in
-    record { pushed = Text host text ∷ []; list = is; leads = λ kids n. at_text host (record { id = host; face = face }) kids n text refl }
+    record { pushed = Text host text ∷ []; list = is; only = (is_text text, tt); leads = λ kids n. at_text host (record { id = host; face = face }) kids n text refl (λ e. other (sym (ap (λ (f : Face). f.text) e))) }
 
-pub changes_ending : (host : ℕ) (face : Face) (ending : Bool) (start end : List Op) → end ≡ start ++ Break host ending ∷ [] → Changes host face (with_ending ending face) start end
-changes_ending host face ending start end is =
-    record { pushed = Break host ending ∷ []; list = is; leads = λ kids n. at_break host (record { id = host; face = face }) kids n ending refl }
+pub changes_ending : (host : ℕ) (face : Face) (ending : Bool) (start end : List Op) → face.ending ≢ ending → end ≡ start ++ Break host ending ∷ [] → Changes host face (with_ending ending face) start end
+changes_ending host face ending start end other is =
+    record { pushed = Break host ending ∷ []; list = is; only = (is_break ending, tt); leads = λ kids n. at_break host (record { id = host; face = face }) kids n ending refl (λ e. other (sym (ap (λ (f : Face). f.ending) e))) }
 
 pub same_ending : (host : ℕ) (face : Face) (ending : Bool) (start : List Op) → face.ending ≡ ending → Changes host face (with_ending ending face) start start
 same_ending host face ending start e = subst (λ b. Changes host face (with_ending b face) start start) e (changes_none host face start)
+
+both_same_back : (a b : Bool) → a ≡ b → beq a b ≡ true
+both_same_back true true e = refl
+both_same_back true false e = absurd (cc)
+both_same_back false true e = absurd (cc)
+both_same_back false false e = refl
+
+pub unequal_ending : (face : Face) (old new : Bool) → face.ending ≡ old → beq old new ≡ false → face.ending ≢ new
+unequal_ending face old new is differ e = absurd (let same = both_same_back old new (sym is ∙ e) in cc)
 
 both_same : (a b : Bool) → beq a b ≡ true → a ≡ b
 both_same true true e = refl
@@ -61,23 +74,28 @@ equal_ending host face old new start e same = same_ending host face new start (e
 abbrev dressed : ℕ → Tag → Option (List ℕ) → Bool → List (Name × List ℕ) → Face
 dressed key tag text ending attrs = record { key = key; tag = tag; attrs = attrs; text = text; ending = ending }
 
-writes_lead : (host key : ℕ) (tag : Tag) (text : Option (List ℕ)) (ending : Bool) (writes : List (Name × Option (List ℕ))) (attrs : List (Name × List ℕ)) (kids : Trees Host) (n : ℕ)
+writes_lead : (host key : ℕ) (tag : Tag) (text : Option (List ℕ)) (ending : Bool) (writes : List (Name × Option (List ℕ))) (attrs : List (Name × List ℕ)) (kids : Trees Host) (n : ℕ) → AreAnew writes attrs
     → LeadsAt host (one host (dressed key tag text ending attrs) kids) n (map (write_op host) writes) (one host (dressed key tag text ending (all_written writes attrs)) kids) n
-writes_lead host key tag text ending [] attrs kids n = at_same host (one host (dressed key tag text ending attrs) kids) n (at_one host (dressed key tag text ending attrs) kids)
-writes_lead host key tag text ending (write ∷ writes) attrs kids n =
+writes_lead host key tag text ending [] attrs kids n anew = at_same host (one host (dressed key tag text ending attrs) kids) n (at_one host (dressed key tag text ending attrs) kids)
+writes_lead host key tag text ending (write ∷ writes) attrs kids n anew =
     let from = dressed key tag text ending attrs in
     let mid = dressed key tag text ending (with_attribute write.0 write.1 attrs) in
     at_then host (one host from kids) n (Attr host write.0 write.1 ∷ []) (one host mid kids) n (map (write_op host) writes) (one host (dressed key tag text ending (all_written (write ∷ writes) attrs)) kids) n
-    (at_attr host (record { id = host; face = from }) kids n write.0 write.1 refl)
-    (writes_lead host key tag text ending writes (with_attribute write.0 write.1 attrs) kids n)
+    (at_attr host (record { id = host; face = from }) kids n write.0 write.1 refl (λ e. anew.0 (ap (λ (f : Face). f.attrs) e)))
+    (writes_lead host key tag text ending writes (with_attribute write.0 write.1 attrs) kids n anew.1)
     (at_one host mid kids)
+
+writes_only : (host : ℕ) (writes : List (Name × Option (List ℕ))) → AllByRecursion (IsWriteAt host) (map (write_op host) writes)
+writes_only host [] = tt
+writes_only host (write ∷ writes) = (is_attr write.0 write.1, writes_only host writes)
 
 pub changes_attributes : (host key : ℕ) (tag : Tag) (text : Option (List ℕ)) (ending : Bool) (old new : List (Name × List ℕ)) (start end : List Op) → Writes host old new start end
     → Changes host (dressed key tag text ending old) (dressed key tag text ending new) start end
 changes_attributes host key tag text ending old new start end w = record {
   pushed = map (write_op host) w.writes;
   list = w.list;
-  leads = λ kids n. subst (λ attrs. LeadsAt host (one host (dressed key tag text ending old) kids) n (map (write_op host) w.writes) (one host (dressed key tag text ending attrs) kids) n) w.written (writes_lead host key tag text ending w.writes old kids n);
+  only = writes_only host w.writes;
+  leads = λ kids n. subst (λ attrs. LeadsAt host (one host (dressed key tag text ending old) kids) n (map (write_op host) w.writes) (one host (dressed key tag text ending attrs) kids) n) w.written (writes_lead host key tag text ending w.writes old kids n w.anew);
 }
 
 -- ---- by what the code knows
@@ -90,11 +108,11 @@ same_text host key tag attrs old new ending start e =
     subst (λ text. Changes host face (record { key = key; tag = tag; attrs = attrs; text = text; ending = ending }) start start) e (changes_none host face start)
 
 -- a text is written
-pub text_written : (host key : ℕ) (tag : Tag) (attrs : List (Name × List ℕ)) (old new : Option (List ℕ)) (text : List ℕ) (ending : Bool) (start end : List Op) → new ≡ Some text → end ≡ start ++ Text host text ∷ []
+pub text_written : (host key : ℕ) (tag : Tag) (attrs : List (Name × List ℕ)) (old new : Option (List ℕ)) (text : List ℕ) (ending : Bool) (start end : List Op) → old ≢ new → new ≡ Some text → end ≡ start ++ Text host text ∷ []
     → Changes host (record { key = key; tag = tag; attrs = attrs; text = old; ending = ending }) (record { key = key; tag = tag; attrs = attrs; text = new; ending = ending }) start end
-text_written host key tag attrs old new text ending start end e is =
+text_written host key tag attrs old new text ending start end other e is =
     let face : Face = record { key = key; tag = tag; attrs = attrs; text = old; ending = ending } in
-    subst (λ o. Changes host face (record { key = key; tag = tag; attrs = attrs; text = o; ending = ending }) start end) (sym e) (changes_text host key tag attrs old text ending start end is)
+    subst (λ o. Changes host face (record { key = key; tag = tag; attrs = attrs; text = o; ending = ending }) start end) (sym e) (changes_text host key tag attrs old text ending start end (λ x. other (x ∙ sym e)) is)
 
 -- neither the kind nor the fields differ
 pub same_face : (host key : ℕ) (tag : Tag) (k l : Kind) (f g : Fields) (ending : Bool) (start : List Op) → (k ≡ l) × (f ≡ g) → Changes host (shown_face key tag k f ending) (shown_face key tag l g ending) start start

@@ -1,11 +1,12 @@
 -- A node as a reader sees it, and the operations for its children, one after another.
 use Rattle.std.specs.Result.{IfOk}
-use Rattle.std.proofs.Common.{Result, Ok, Err, ◌≡◌, ◌∙◌, ◌+◌, ◌<◌, ◌≤◌, ℕ, true, false, List, [], ◌∷◌, ◌++◌, length, Option, None, Some, option_map, is_some, refl, sym, ap, subst, arith, append_assoc, append-nil}
+use Rattle.std.proofs.Common.{Result, Ok, Err, ◌≡◌, ◌∙◌, ◌+◌, ◌<◌, ◌≤◌, ◌⊎◌, ℕ, true, false, inl, inr, List, [], ◌∷◌, ◌++◌, length, Option, None, Some, option_map, is_some, refl, sym, ap, subst, arith, append_assoc, append-nil}
 use Rattle.std.proofs.lemmas.Bool.Decides.{eqb_tells}
 use Rattle.std.proofs.lemmas.Option.{same_Some}
+use Rattle.lx_node.specs.Limits.{last_u32}
 use Rattle.lx_node.specs.Trees.{nil, tree, joined}
 use Rattle.lx_node.specs.NamedTrees.{total}
-use Rattle.lx_node.specs.Siblings.{is_among, is_place, first_of, last_of, next_in, from_name}
+use Rattle.lx_node.specs.Siblings.{is_among, is_place, first_of, last_of, last_from, next_in, from_name}
 use Rattle.lx_node.specs.Spots.{Spot, children_at}
 use Rattle.lx_node.specs.declared.kind.Kind.{Kind}
 use Rattle.lx_node.specs.declared.fields.Fields.{Fields}
@@ -17,7 +18,7 @@ use Rattle.lx_host.specs.Hosts.{HostTree, Leads, IsNumbered}
 use Rattle.lx_host.specs.declared.op.Op.{Op}
 use Rattle.lx_host.specs.declared.op.Op.TheVariants.{Place}
 use Rattle.lx_forest.specs.Forest.{Label, Forest}
-use Rattle.lx_forest.specs.Lookups.{spot, has, alone, trees_of, kind_of, parent_of, children_of, children_below, first_child, last_child, siblings, next_of, IsForest}
+use Rattle.lx_forest.specs.Lookups.{spot, has, alone, trees_of, label_of, kind_of, parent_of, children_of, children_below, first_child, last_child, siblings, next_of, IsForest}
 use Rattle.lx_forest.specs.Records.{linked, record_at}
 use Rattle.lx_forest.specs.Views.{kind_at}
 use Rattle.lx_forest.proofs.Edits.{is_some-spot, key-spot}
@@ -65,6 +66,9 @@ is_read f key n s e = from_spot (spot f key) refl e where
         next = ap (λ (n : Node). n.next) same;
       }
 
+pub there_read : (f : Forest) (k : ℕ) (n : Node) → IsRead f k n → has k f ≡ true
+there_read f k n r = sym (is_some-spot f k) ∙ ap is_some r.at_is
+
 -- its tree
 pub tree_read : (f : Forest) (key : ℕ) (n : Node) → IsRead f key n → alone key f ≡ tree (label_from key n) (trees_of f (children_of f key)) nil
 tree_read f key n r =
@@ -80,6 +84,8 @@ pub record StandsThere (f : Forest) (k : ℕ) : Type 0 where
   pub tree_is : alone k f ≡ tree label below nil
   pub key : label.key ≡ k
   pub kind : kind_of f k ≡ Some label.kind
+  pub label_is : label_of f k ≡ Some label
+  pub below_is : below ≡ trees_of f (children_of f k)
 
 pub stands_there : (f : Forest) (key : ℕ) → IsForest f → has key f ≡ true → StandsThere f key
 stands_there f key h there = from_spot (spot f key) refl where
@@ -91,6 +97,8 @@ stands_there f key h there = from_spot (spot f key) refl where
     tree_is = alone-spot f key x h at;
     key = key-spot f key x at;
     kind = ap (λ o. option_map (λ (l : Label). l.kind) (option_map (λ (s : Spot Label). s.label) o)) at;
+    label_is = ap (option_map (λ (s : Spot Label). s.label)) at;
+    below_is = sym (ap (λ o. trees_of f (children_at o)) at);
   }
 
 -- the kind of the last of the trees of these keys
@@ -113,6 +121,28 @@ last_kind-trees_of f (k ∷ j ∷ ks) h there =
 
 child_there : (f : Forest) (p q : ℕ) → Sound f → is_among q (children_of f p) ≡ true → has q f ≡ true
 child_there f p q s e = has-child f q p (parent_of-child f q p s e)
+
+last_from_among : (before : Option ℕ) (xs : List ℕ) (q : ℕ) → last_from before xs ≡ Some q → (before ≡ Some q) ⊎ (is_among q xs ≡ true)
+last_from_among before [] q e = inl e
+last_from_among before (x ∷ xs) q e = elim (last_from_among (Some x) xs q e) [
+  | inl same ↦ inr (let own : x ≡ q = cc in grind (arith, own, eqb_tells x q))
+  | inr rest ↦ inr (grind (arith, rest))
+]
+
+pub last_among : (xs : List ℕ) (q : ℕ) → last_of xs ≡ Some q → is_among q xs ≡ true
+last_among xs q e = elim (last_from_among None xs q e) [
+  | inl none ↦ absurd (cc)
+  | inr among ↦ among
+]
+
+-- the last child of a node that was read stands
+pub last_there : (f : Forest) (key : ℕ) (n : Node) → Sound f → Some n ≡ option_map node_of (record_at f key) → (k : ℕ) → n.last ≡ Some k → has k f ≡ true
+last_there f key n s e k is =
+    let r = is_read f key n s e in
+    child_there f key k s (last_among (children_of f key) k (sym r.last ∙ is))
+
+pub last_still : (f g : Forest) (key : ℕ) (n : Node) → g ≡ f → Sound f → Some n ≡ option_map node_of (record_at f key) → (k : ℕ) → n.last ≡ Some k → has k g ≡ true
+last_still f g key n same s e k is = ap (has k) same ∙ last_there f key n s e k is
 
 pub last_kind_read : (f : Forest) (key : ℕ) (n : Node) → Sound f → IsRead f key n → last_kind (trees_of f (children_of f key)) ≡ kind_at f n.last
 last_kind_read f key n s r =
@@ -151,11 +181,11 @@ made_tree f g key id n old mid new same s read first then =
 pub record ChildrenFit (f g : Forest) (key id : ℕ) (n : Node) : Type 0 where
   pub sound : Sound g
   pub first : n.first ≡ first_child g key
-  pub room : id + 1 + total (trees_of g (children_of g key)) ≤ 4294967295
+  pub room : id + 1 + total (trees_of g (children_of g key)) ≤ last_u32
   pub all : id + 1 + total (trees_of g (children_of g key)) ≡ id + total (alone key f)
   pub still : total (alone key g) ≡ total (alone key f)
 
-pub children_fit : (f g : Forest) (key id : ℕ) (n : Node) → g ≡ f → Sound f → Some n ≡ option_map node_of (record_at f key) → id + total (alone key f) ≤ 4294967295 → ChildrenFit f g key id n
+pub children_fit : (f g : Forest) (key id : ℕ) (n : Node) → g ≡ f → Sound f → Some n ≡ option_map node_of (record_at f key) → id + total (alone key f) ≤ last_u32 → ChildrenFit f g key id n
 children_fit f g key id n same s read room =
     let r = is_read f key n s read in
     let all = total_read f key n r in
@@ -181,7 +211,7 @@ pub record IsMadeUpTo (f : Forest) (key host : ℕ) (start : List Op) (at : Opti
   pub made : ops ++ creations host id (trees_of f (from_name at (children_of f key))) ≡ start ++ creations host (host + 1) (trees_of f (children_of f key))
   pub next : id + total (trees_of f (from_name at (children_of f key))) ≡ host + 1 + total (trees_of f (children_of f key))
 
-first_place : (xs : List ℕ) → is_place (first_of xs) xs ≡ true
+pub first_place : (xs : List ℕ) → is_place (first_of xs) xs ≡ true
 first_place [] = refl
 first_place (x ∷ xs) = grind (arith, eqb_tells x x)
 
@@ -204,7 +234,7 @@ made_all f key host start at id ops none m =
       omega (arith, m.next, ap (λ o. total (trees_of f (from_name o kids))) none),
     )
 
-next_place : (xs : List ℕ) (k : ℕ) → is_place (next_in xs k) xs ≡ true
+pub next_place : (xs : List ℕ) (k : ℕ) → is_place (next_in xs k) xs ≡ true
 next_place xs k = by_next (next_in xs k) refl where
   by_next : (o : Option ℕ) → next_in xs k ≡ o → is_place o xs ≡ true
   by_next None e = refl
@@ -275,11 +305,11 @@ made_child f g key host start child id at next next_id ops new same s here m nex
 pub record ChildFits (f g : Forest) (key child id : ℕ) (at : Option ℕ) : Type 0 where
   pub sound : Sound g
   pub there : has child g ≡ true
-  pub room : id + total (alone child g) ≤ 4294967295
+  pub room : id + total (alone child g) ≤ last_u32
   pub smaller : total (alone child g) < total (alone key f)
   pub part : total (alone child g) ≤ total (trees_of f (from_name at (children_of f key)))
 
-pub child_fits : (f g : Forest) (key host : ℕ) (start : List Op) (child id : ℕ) (at : Option ℕ) (ops : List Op) → g ≡ f → Sound f → at ≡ Some child → host + 1 + total (trees_of f (children_of f key)) ≤ 4294967295
+pub child_fits : (f g : Forest) (key host : ℕ) (start : List Op) (child id : ℕ) (at : Option ℕ) (ops : List Op) → g ≡ f → Sound f → at ≡ Some child → host + 1 + total (trees_of f (children_of f key)) ≤ last_u32
     → IsMadeUpTo f key host start at id ops → ChildFits f g key child id at
 child_fits f g key host start child id at ops same s here room m =
     let kids = children_of f key in
@@ -315,9 +345,9 @@ left_with f g key child at next same s here place next_is =
 
 -- ---- where the operations for a key's tree lead
 
-pub created_at : (f : Forest) (key : ℕ) (w : HostTree) → IsForest f → has key f ≡ true → IsNumbered w → w.next + total (alone key f) ≤ 4294967295
+pub created_at : (f : Forest) (key : ℕ) (w : HostTree) → IsForest f → has key f ≡ true → IsNumbered w → w.next + total (alone key f) ≤ last_u32
     → Leads w (creation_of w.next (alone key f)) (host_tree (joined w.hosts (numbered w.next (render (alone key f)))) (w.next + total (alone key f)))
 created_at f key w h there w_is room =
     let s = stands_there f key h there in
-    let P : Forest → Type 0 = λ t. w.next + total t ≤ 4294967295 → Leads w (creation_of w.next t) (host_tree (joined w.hosts (numbered w.next (render t))) (w.next + total t)) in
+    let P : Forest → Type 0 = λ t. w.next + total t ≤ last_u32 → Leads w (creation_of w.next t) (host_tree (joined w.hosts (numbered w.next (render t))) (w.next + total t)) in
     subst P (sym s.tree_is) (creation_leads w w_is s.label s.below) room

@@ -2,6 +2,7 @@
 use Rattle.std.proofs.Common.{◌≡◌, ◌≢◌, ◌∙◌, ◌+◌, ◌<◌, ◌≤◌, ℕ, Bool, true, false, cond, eqb, ltb, List, [], ◌∷◌, ◌++◌, Option, None, inl, inr, refl, sym, ap, subst, arith, ne_eqb, eq-eqb, append-nil}
 use Rattle.std.proofs.lemmas.Bool.{cases_lt}
 use Rattle.std.proofs.lemmas.Bool.Decides.{eqb_tells}
+use Rattle.lx_node.specs.Limits.{last_u32}
 use Rattle.lx_node.specs.Trees.{Trees, nil, tree, joined}
 use Rattle.lx_node.specs.NamedTrees.{total}
 use Rattle.lx_node.proofs.NamedTrees as trees
@@ -83,7 +84,7 @@ put_below-twice p new more (tree h below rest) =
 pub record IsReadyFor (parent more : ℕ) (hosts : Trees Host) (next : ℕ) : Type 0 where
   pub free : (q : ℕ) → next < q + 1 → count q hosts ≡ 0
   pub once : count parent hosts ≡ 1
-  pub room : next + more ≤ 4294967295
+  pub room : next + more ≤ last_u32
 
 pub parent_before : (parent more : ℕ) (hosts : Trees Host) (next : ℕ) → IsReadyFor parent more hosts next → parent < next
 parent_before parent more hosts next ready =
@@ -97,9 +98,9 @@ host_over id face below = tree (record { id = id; face = face }) below nil
 above : (a b : ℕ) → a < b → ltb a b ≡ true
 above a b h = grind (arith, h)
 
-fits_create : (next : ℕ) (label : Label) (last : Option Kind) (hosts : Trees Host) → next < 4294967295 → fits (create_op next label last) (host_tree hosts next) ≡ true
+fits_create : (next : ℕ) (label : Label) (last : Option Kind) (hosts : Trees Host) → next < last_u32 → fits (create_op next label last) (host_tree hosts next) ≡ true
 unfolding fits
-fits_create next label last hosts h = rw (eq-eqb next next refl) (above next 4294967295 h)
+fits_create next label last hosts h = rw (eq-eqb next next refl) (above next last_u32 h)
 
 effect_create : (next : ℕ) (label : Label) (last : Option Kind) (hosts : Trees Host) → host_tree (joined hosts (one_host next (face_of label last))) (next + 1) ≡ effect (create_op next label last) (host_tree hosts next)
 unfolding effect
@@ -155,7 +156,7 @@ fits_place parent id before next face below hosts nonzero absent outside_too the
 -- ---- the hosts of trees
 
 -- a host with what is below it, last and not placed
-created_one : (next : ℕ) (hosts : Trees Host) (label : Label) (below : Forest) → next < 4294967295 → count next hosts ≡ 0
+created_one : (next : ℕ) (hosts : Trees Host) (label : Label) (below : Forest) → next < last_u32 → count next hosts ≡ 0
     → Leads (host_tree (joined hosts (one_host next (face_of label (last_kind below)))) (next + 1)) (creations next (next + 1) below) (host_tree (put_below next None (numbered (next + 1) (render below)) (joined hosts (one_host next (face_of label (last_kind below))))) (next + 1 + total below))
     → Leads (host_tree hosts next) (creation next label below) (host_tree (joined hosts (host_over next (face_of label (last_kind below)) (numbered (next + 1) (render below)))) (next + 1 + total below))
 created_one next hosts label below room free inner =
@@ -226,7 +227,7 @@ created parent next hosts (tree label below rest) ready =
 
 -- ---- one tree, not placed
 
-pub created_alone : (next : ℕ) (hosts : Trees Host) (label : Label) (below : Forest) → ((q : ℕ) → next < q + 1 → count q hosts ≡ 0) → next + 1 + total below ≤ 4294967295
+pub created_alone : (next : ℕ) (hosts : Trees Host) (label : Label) (below : Forest) → ((q : ℕ) → next < q + 1 → count q hosts ≡ 0) → next + 1 + total below ≤ last_u32
     → Leads (host_tree hosts next) (creation next label below) (host_tree (joined hosts (numbered next (render (tree label below nil)))) (next + 1 + total below))
 created_alone next hosts label below free room =
     let face = face_of label (last_kind below) in
@@ -238,7 +239,7 @@ created_alone next hosts label below free room =
 
 -- ---- by what is known of a host tree
 
-pub is_ready : (parent more : ℕ) (w : HostTree) → IsNumbered w → 0 < count parent w.hosts → w.next + more ≤ 4294967295 → IsReadyFor parent more w.hosts w.next
+pub is_ready : (parent more : ℕ) (w : HostTree) → IsNumbered w → 0 < count parent w.hosts → w.next + more ≤ last_u32 → IsReadyFor parent more w.hosts w.next
 is_ready parent more w numbered there room =
     record { free = numbered.below; once = omega (arith, numbered.once parent, there); room = room }
 
@@ -263,7 +264,7 @@ module _ (w : HostTree) (w_is : IsNumbered w) (parent : ℕ) (there : 0 < count 
   abbrev pub with_placed : HostTree
   with_placed = host_tree (put_below parent None (numbered w.next (render f)) w.hosts) (w.next + total f)
 
-  pub creations_lead : w.next + total f ≤ 4294967295 → Leads w (creations parent w.next f) with_placed
+  pub creations_lead : w.next + total f ≤ last_u32 → Leads w (creations parent w.next f) with_placed
   creations_lead room = created parent w.next w.hosts f (record { free = w_is.below; once = once; room = room })
 
   pub placed_numbered : IsNumbered with_placed
@@ -283,7 +284,7 @@ module _ (w : HostTree) (w_is : IsNumbered w) (label : Label) (below : Forest) w
   abbrev pub with_created : HostTree
   with_created = host_tree (joined w.hosts (numbered w.next (render (tree label below nil)))) (w.next + total (tree label below nil))
 
-  pub creation_leads : w.next + total (tree label below nil) ≤ 4294967295 → Leads w (creation w.next label below) with_created
+  pub creation_leads : w.next + total (tree label below nil) ≤ last_u32 → Leads w (creation w.next label below) with_created
   creation_leads room =
       let face = face_of label (last_kind below) in
       let next = w.next in

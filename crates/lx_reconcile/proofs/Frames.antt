@@ -2,6 +2,7 @@
 use Rattle.std.proofs.Common.{◌≡◌, ◌≢◌, ◌∙◌, ◌+◌, ◌<◌, ◌≤◌, ◌⊎◌, ℕ, Bool, true, false, refl, sym, ap, subst, arith, inl, inr, eqb, IsTrue, List, [], ◌∷◌, ◌++◌, append-nil, Option, None, Some}
 use Rattle.std.proofs.lemmas.Bool.{cases_lt, ne_eqb, eq-eqb, ltb-true}
 use Rattle.std.proofs.lemmas.Bool.Decides.{eqb_tells}
+use Rattle.lx_node.specs.Limits.{last_u32}
 use Rattle.lx_node.specs.Trees.{Trees, nil, tree, joined}
 use Rattle.lx_node.specs.NamedTrees.{total}
 use Rattle.lx_node.specs.Siblings.{is_among}
@@ -19,6 +20,8 @@ use Rattle.lx_forest.specs.Forest.{Label, Forest}
 use Rattle.lx_plain.specs.Render.{render, face_of, last_kind}
 use Rattle.lx_reconcile.specs.Created.{numbered, creation}
 use Rattle.lx_reconcile.specs.Reconciled.{replaced, LeadsAt, IsAt}
+use Rattle.lx_plain.specs.Allowed.{AllWriteAnew, WritesAnew}
+use Rattle.lx_reconcile.proofs.Due.{writes_append, creation_writes}
 use Rattle.lx_reconcile.proofs.Created.{host_tree, Leads-append, has_if, has_not, host_over, count_here, alone_last, without_last, count-numbered_before, count-numbered_behind, count-numbered, created_alone, total-render}
 
 -- ---- where a host stands that stands once
@@ -258,7 +261,7 @@ at_same h from n at w w_is next there is =
     let once : count h w.hosts ≡ 1 = omega (arith, w_is.once h, ltb-true 0 (count h w.hosts) there) in
     let same : host_tree (replaced h from w.hosts) n ≡ w =
     ap (host_tree (replaced h from w.hosts)) (sym next) ∙ ap (λ t. host_tree t w.next) (ap (λ b. replaced h b w.hosts) (sym is) ∙ replaced-same h w.hosts once) in
-    (same, subst IsNumbered (sym same) w_is)
+    (same, subst IsNumbered (sym same) w_is, tt)
 
 alone_at : (h : ℕ) (b t : Trees Host) → IsAt h b → count h t ≡ 1 → alone h (replaced h b t) ≡ b
 alone_at h b t at once =
@@ -282,7 +285,7 @@ at_then h a n ops b m more c l first then b_at w w_is next there is =
     let inner : replaced h c b ≡ c = ap (replaced h c) b_at.is ∙ rw (eq-eqb b_at.host.id h b_at.id) (joined-nil c) in
     let same : host_tree (replaced h c mid.hosts) l ≡ host_tree (replaced h c w.hosts) l =
     ap (λ t. host_tree t l) (replaced-twice h b c w.hosts inner) in
-    (Leads-append ops more w mid _ f.0 (subst (λ v. Leads mid more v) same t.0), subst IsNumbered same t.1)
+    (Leads-append ops more w mid _ f.0 (subst (λ v. Leads mid more v) same t.0), subst IsNumbered same t.1, writes_append ops more w mid f.0 f.2 t.2)
 
 -- where these operations lead may be shown from this: in the tree at the host no id stands twice, and each is below the next one
 pub at_numbered : (h : ℕ) (from : Trees Host) (n : ℕ) (ops : List Op) (to : Trees Host) (m : ℕ) → (IsNumbered (host_tree from n) → LeadsAt h from n ops to m) → LeadsAt h from n ops to m
@@ -302,12 +305,14 @@ pub record Does (op : Op) (h : ℕ) (to : Trees Host) (w : HostTree) : Type 0 wh
   pub fit : fits op w ≡ true
   pub is : host_tree (replaced h to w.hosts) w.next ≡ effect op w
   pub numbered : IsNumbered (host_tree (replaced h to w.hosts) w.next)
+  pub anew : WritesAnew w op
 
-at_op : (h n : ℕ) (op : Op) (to : Trees Host) (w : HostTree) → w.next ≡ n → Does op h to w → Leads w (op ∷ []) (host_tree (replaced h to w.hosts) n) × IsNumbered (host_tree (replaced h to w.hosts) n)
+at_op : (h n : ℕ) (op : Op) (to : Trees Host) (w : HostTree) → w.next ≡ n → Does op h to w → Leads w (op ∷ []) (host_tree (replaced h to w.hosts) n) × IsNumbered (host_tree (replaced h to w.hosts) n) × AllWriteAnew w (op ∷ [])
 at_op h n op to w next d =
     let hosts = replaced h to w.hosts in (
       subst (λ m. Leads w (op ∷ []) (host_tree hosts m)) next (one_op op w hosts d.fit d.is),
       subst (λ m. IsNumbered (host_tree hosts m)) next d.numbered,
+      (d.anew, tt),
     )
 
 -- ---- what a host shows, changed
@@ -345,30 +350,42 @@ changed_here h change a kids w p =
     let is : changed h change (tree a kids nil) ≡ tree (showing (change a.face) a) kids nil = rw (eq-eqb a.id h p.id, changed-absent h change kids p.apart) refl in
     done_here h h (changed h change) a kids _ w p (changed_done h change) (trees.count-without id_of h w.hosts) is
 
+-- what shows another face isn't the same
+changes_anew : (op : Op) (h : ℕ) (change : Face → Face) (a : Host) (kids : Trees Host) (w : HostTree) → IsHere h a kids w → host_tree (changed h change w.hosts) w.next ≡ effect op w → change a.face ≢ a.face → effect op w ≢ w
+changes_anew op h change a kids w p is other same =
+    let to = tree (showing (change a.face) a) kids nil in
+    let at : IsAt h to = record { host = showing (change a.face) a; below = kids; is = refl; id = p.id } in
+    let hosts : replaced h to w.hosts ≡ w.hosts = sym (changed_here h change a kids w p) ∙ ap (λ (x : HostTree). x.hosts) (is ∙ same) in
+    let trees_same : to ≡ tree a kids nil = sym (alone_at h to w.hosts at p.once) ∙ ap (alone h) hosts ∙ p.is in
+    let host_same : showing (change a.face) a ≡ a = cc in
+    other (ap (λ (x : Host). x.face) host_same)
+
 does_change : (op : Op) (h : ℕ) (change : Face → Face) (a : Host) (kids : Trees Host) (w : HostTree) → IsHere h a kids w → fits op w ≡ true → host_tree (changed h change w.hosts) w.next ≡ effect op w
+    → change a.face ≢ a.face → (effect op w ≢ w → WritesAnew w op)
     → Does op h (tree (showing (change a.face) a) kids nil) w
-does_change op h change a kids w p fit is =
+does_change op h change a kids w p fit is other anew =
     let same = changed_here h change a kids w p in
     record {
+      anew = anew (changes_anew op h change a kids w p is other);
       fit = fit;
       is = ap (λ t. host_tree t w.next) (sym same) ∙ is;
       numbered = numbered_less w _ p.numbered (λ q. omega (arith, ap (count q) same, count-changed q h change w.hosts));
     }
 
-pub at_text : (h : ℕ) (a : Host) (kids : Trees Host) (n : ℕ) (text : List ℕ) → a.id ≡ h
+pub at_text : (h : ℕ) (a : Host) (kids : Trees Host) (n : ℕ) (text : List ℕ) → a.id ≡ h → with_text text a.face ≢ a.face
     → LeadsAt h (tree a kids nil) n (Text h text ∷ []) (tree (record { id = a.id; face = with_text text a.face }) kids nil) n
-at_text h a kids n text id w w_is next there is =
-    at_op h n (Text h text) _ w next (does_change (Text h text) h (with_text text) a kids w (is_here h a kids w id w_is there is) (sym (fits_text h text w) ∙ there) (effect_text h text w))
+at_text h a kids n text id other w w_is next there is =
+    at_op h n (Text h text) _ w next (does_change (Text h text) h (with_text text) a kids w (is_here h a kids w id w_is there is) (sym (fits_text h text w) ∙ there) (effect_text h text w) other (λ x. x))
 
-pub at_attr : (h : ℕ) (a : Host) (kids : Trees Host) (n : ℕ) (name : Name) (value : Option (List ℕ)) → a.id ≡ h
+pub at_attr : (h : ℕ) (a : Host) (kids : Trees Host) (n : ℕ) (name : Name) (value : Option (List ℕ)) → a.id ≡ h → with_value name value a.face ≢ a.face
     → LeadsAt h (tree a kids nil) n (Attr h name value ∷ []) (tree (record { id = a.id; face = with_value name value a.face }) kids nil) n
-at_attr h a kids n name value id w w_is next there is =
-    at_op h n (Attr h name value) _ w next (does_change (Attr h name value) h (with_value name value) a kids w (is_here h a kids w id w_is there is) (sym (fits_attr h name value w) ∙ there) (effect_attr h name value w))
+at_attr h a kids n name value id other w w_is next there is =
+    at_op h n (Attr h name value) _ w next (does_change (Attr h name value) h (with_value name value) a kids w (is_here h a kids w id w_is there is) (sym (fits_attr h name value w) ∙ there) (effect_attr h name value w) other (λ x. x))
 
-pub at_break : (h : ℕ) (a : Host) (kids : Trees Host) (n : ℕ) (ending : Bool) → a.id ≡ h
+pub at_break : (h : ℕ) (a : Host) (kids : Trees Host) (n : ℕ) (ending : Bool) → a.id ≡ h → with_ending ending a.face ≢ a.face
     → LeadsAt h (tree a kids nil) n (Break h ending ∷ []) (tree (record { id = a.id; face = with_ending ending a.face }) kids nil) n
-at_break h a kids n ending id w w_is next there is =
-    at_op h n (Break h ending) _ w next (does_change (Break h ending) h (with_ending ending) a kids w (is_here h a kids w id w_is there is) (sym (fits_break h ending w) ∙ there) (effect_break h ending w))
+at_break h a kids n ending id other w w_is next there is =
+    at_op h n (Break h ending) _ w next (does_change (Break h ending) h (with_ending ending) a kids w (is_here h a kids w id w_is there is) (sym (fits_break h ending w) ∙ there) (effect_break h ending w) other (λ x. x))
 
 -- ---- one of the host's children, taken out or placed anew
 
@@ -425,6 +442,7 @@ at_leave h a kids n c id nonzero among w w_is next there is =
       fit = fits_drop c w nonzero (has_if c w.hosts (omega (arith, k.once)));
       is = ap (λ t. host_tree t w.next) (sym same) ∙ effect_drop c w;
       numbered = numbered_less w _ w_is (λ q. omega (arith, ap (count q) same, count-without-alone q c w.hosts));
+      anew = tt;
     })
 
 -- new trees put among the children
@@ -467,6 +485,7 @@ at_place h a kids n c before id nonzero among place w w_is next there is =
       fit = fits_place h c before w nonzero (has_if c w.hosts (omega (arith, k.once))) there (has_not h (alone c w.hosts) apart) (ap (fits_before c before) (children_here h a kids w p) ∙ place);
       is = ap (λ t. host_tree t w.next) (sym same) ∙ effect_place h c before w;
       numbered = numbered_less w _ w_is (λ q. omega (arith, ap (count q) same, count-without-alone q c w.hosts, trees.count-put_below id_of q h before (alone c w.hosts) (without c w.hosts) left));
+      anew = tt;
     })
 
 -- ---- a new tree, put among the children
@@ -533,7 +552,7 @@ numbered_made h a kids w f before p =
     }
 
 -- at the id that is next
-made_here : (h : ℕ) (a : Host) (kids : Trees Host) (w : HostTree) (label : Label) (below : Forest) (before : Option ℕ) → IsHere h a kids w → w.next + total (tree label below nil) ≤ 4294967295 → has_before before (ids_of kids) ≡ true
+made_here : (h : ℕ) (a : Host) (kids : Trees Host) (w : HostTree) (label : Label) (below : Forest) (before : Option ℕ) → IsHere h a kids w → w.next + total (tree label below nil) ≤ last_u32 → has_before before (ids_of kids) ≡ true
     → Leads w (creation w.next label below ++ Place h w.next before ∷ []) (host_tree (replaced h (tree a (inserted before (numbered w.next (render (tree label below nil))) kids) nil) w.hosts) (w.next + total (tree label below nil)))
 made_here h a kids w label below before p room place =
     let n = w.next in
@@ -552,14 +571,15 @@ made_here h a kids w label below before p room place =
       refl,
     )
 
-pub at_make : (h : ℕ) (a : Host) (kids : Trees Host) (n : ℕ) (label : Label) (below : Forest) (before : Option ℕ) → a.id ≡ h → n + total (tree label below nil) ≤ 4294967295 → has_before before (ids_of kids) ≡ true
+pub at_make : (h : ℕ) (a : Host) (kids : Trees Host) (n : ℕ) (label : Label) (below : Forest) (before : Option ℕ) → a.id ≡ h → n + total (tree label below nil) ≤ last_u32 → has_before before (ids_of kids) ≡ true
     → LeadsAt h (tree a kids nil) n (creation n label below ++ Place h n before ∷ []) (tree a (inserted before (numbered n (render (tree label below nil))) kids) nil) (n + total (tree label below nil))
 at_make h a kids n label below before id room place w w_is next there is =
     let p = is_here h a kids w id w_is there is in
     let one = tree label below nil in
-    let enough : w.next + total one ≤ 4294967295 = omega (arith, room, next) in (
+    let enough : w.next + total one ≤ last_u32 = omega (arith, room, next) in (
       subst (λ n. Leads w (creation n label below ++ Place h n before ∷ []) (host_tree (replaced h (tree a (inserted before (numbered n (render one)) kids) nil) w.hosts) (n + total one))) next (made_here h a kids w label below before p enough place),
       subst (λ n. IsNumbered (host_tree (replaced h (tree a (inserted before (numbered n (render one)) kids) nil) w.hosts) (n + total one))) next (numbered_made h a kids w one before p),
+      creation_writes n label below h before w,
     )
 
 -- ---- what is done at one of the children
@@ -572,15 +592,15 @@ at_inner h a kids n c from ops to m id among inner_is inner w w_is next there is
     let own : replaced c to (tree a kids nil) ≡ tree a (replaced c to kids) nil = rw (child_differs h c a kids w p k) refl in
     let same = done_here c h (replaced c to) a kids _ w p (replaced_done c to) k.outside own in
     let then = inner w w_is next (has_if c w.hosts (omega (arith, k.once))) (alone_child h c a kids w p k ∙ inner_is) in
-    (subst (λ t. Leads w ops (host_tree t m)) same then.0, subst (λ t. IsNumbered (host_tree t m)) same then.1)
+    (subst (λ t. Leads w ops (host_tree t m)) same then.0, subst (λ t. IsNumbered (host_tree t m)) same then.1, then.2)
 
 -- ---- a host tree where nothing is unplaced
 
-pub at_whole : (v : HostTree) (ops : List Op) (to : Trees Host) (m : ℕ) → IsAt 0 v.hosts → IsNumbered v → LeadsAt 0 v.hosts v.next ops to m → Leads v ops (host_tree to m) × IsNumbered (host_tree to m)
+pub at_whole : (v : HostTree) (ops : List Op) (to : Trees Host) (m : ℕ) → IsAt 0 v.hosts → IsNumbered v → LeadsAt 0 v.hosts v.next ops to m → Leads v ops (host_tree to m) × IsNumbered (host_tree to m) × AllWriteAnew v ops
 at_whole v ops to m at v_is leads =
     let root : eqb at.host.id 0 ≡ true = eq-eqb at.host.id 0 at.id in
     let there : has 0 v.hosts ≡ true = has_if 0 v.hosts (subst (λ t. 0 < count 0 t) (sym at.is) (rw root (omega arith))) in
     let own : alone 0 v.hosts ≡ v.hosts = ap (alone 0) at.is ∙ rw root refl ∙ sym at.is in
     let all : replaced 0 to v.hosts ≡ to = ap (replaced 0 to) at.is ∙ rw root (joined-nil to) in
     let then = leads v v_is refl there own in
-    (subst (λ t. Leads v ops (host_tree t m)) all then.0, subst (λ t. IsNumbered (host_tree t m)) all then.1)
+    (subst (λ t. Leads v ops (host_tree t m)) all then.0, subst (λ t. IsNumbered (host_tree t m)) all then.1, then.2)

@@ -6,6 +6,7 @@ use Rattle.std.specs.Cmp.{IsTotalOrder}
 use Rattle.std.specs.declared.cmp.Ordering.{Ordering}
 use Rattle.std.specs.declared.cmp.Ordering.TheVariants.{Less, Equal, Greater}
 use Rattle.std.specs.Ordering.{is_lt, ordering_reverse}
+use Rattle.lx_node.specs.Limits.{last_u32}
 use Rattle.lx_node.specs.Trees.{nil, tree}
 use Rattle.lx_node.specs.Kinds.{is_text_block}
 use Rattle.lx_node.specs.NamedTrees.{total}
@@ -112,7 +113,7 @@ text_leads attributes (Some text) = (alone_with attributes (Some text), fits_tex
 
 -- ---- the whole
 
-ready_alone : (attributes : List (Name × List ℕ)) (text : Option (List ℕ)) (more : ℕ) → 1 + more ≤ 4294967295 → IsReadyFor 0 more (one_host 0 (root_with attributes text)) 1
+ready_alone : (attributes : List (Name × List ℕ)) (text : Option (List ℕ)) (more : ℕ) → 1 + more ≤ last_u32 → IsReadyFor 0 more (one_host 0 (root_with attributes text)) 1
 ready_alone attributes text more room = record {
   free = λ q h. rw (ne_eqb 0 q (omega (arith, h))) refl;
   once = refl;
@@ -124,7 +125,7 @@ abbrev pub shown_by : Label → Forest → HostTree
 shown_by label below =
     host_tree (tree (record { id = 0; face = root_with (attributes_of label.kind label.fields) (text_of label.fields) }) (numbered 1 (render below)) nil) (1 + total below)
 
-pub fresh_leads : (label : Label) (below : Forest) → 1 + total below ≤ 4294967295 → Leads new_tree (fresh_ops (tree label below nil)) (shown_by label below)
+pub fresh_leads : (label : Label) (below : Forest) → 1 + total below ≤ last_u32 → Leads new_tree (fresh_ops (tree label below nil)) (shown_by label below)
 fresh_leads label below room =
     let attributes = attributes_of label.kind label.fields in
     let text = text_of label.fields in
@@ -150,7 +151,7 @@ pub record IsRooted (f : Forest) : Type 0 where
   pub tree_is : alone 0 f ≡ tree label below nil
   pub key : label.key ≡ 0
   pub kind : label.kind ≡ Root
-  pub room : 1 + total below ≤ 4294967295
+  pub room : 1 + total below ≤ last_u32
 
 pub is_rooted : (f : Forest) → Sound f → f ≢ nil → IsRooted f
 is_rooted f s living =
@@ -194,7 +195,7 @@ module _ (f : Forest) (ops : List Op) (view : HostTree) (s : Sound f) (living : 
 
 -- ---- what is pushed for the root's tree
 
-pub root_room : (f g : Forest) (key : ℕ) (n : Node) → g ≡ f → Sound f → Some n ≡ option_map node_of (record_at f key) → 1 + total (trees_of g (children_of g key)) ≤ 4294967295
+pub root_room : (f g : Forest) (key : ℕ) (n : Node) → g ≡ f → Sound f → Some n ≡ option_map node_of (record_at f key) → 1 + total (trees_of g (children_of g key)) ≤ last_u32
 root_room f g key n same s read =
     let r = is_read f key n s read in
     omega (arith, s.small, total_read f key n r, total-without-alone key_of key f, ap (λ f. total (trees_of f (children_of f key))) same)

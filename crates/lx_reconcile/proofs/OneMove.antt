@@ -2,6 +2,7 @@
 use Rattle.std.proofs.Common.{◌≡◌, ◌≢◌, ◌∙◌, ◌+◌, ◌<◌, ◌≤◌, ℕ, true, false, cond, List, [], ◌∷◌, ◌++◌, Option, None, Some, option_map, inl, inr, refl, sym, ap, subst, arith, ne_eqb, eq-eqb}
 use Rattle.std.proofs.lemmas.Bool.Decides.{eqb_tells}
 use Rattle.std.proofs.lemmas.Bool.{cases_lt, cases_Bool}
+use Rattle.lx_node.specs.Limits.{last_u32}
 use Rattle.lx_node.specs.Trees.{Trees, nil, tree}
 use Rattle.lx_node.specs.NamedTrees.{total}
 use Rattle.lx_node.specs.Siblings.{is_among, is_named, is_place, NoRepeats, names_without, names_with}
@@ -77,7 +78,7 @@ has_before_ids ids family cs None at place = refl
 has_before_ids ids family cs (Some b) at place = among_kids ids family cs b at place
 
 pub at_new : (h : ℕ) (a : Host) (ids : ℕ → ℕ) (family : ℕ → Trees Host) (cs : List ℕ) (n k : ℕ) (before : Option ℕ) (label : Label) (below : Forest) → a.id ≡ h → AreAt ids family cs
-    → is_among k cs ≡ false → is_place before cs ≡ true → n + total (tree label below nil) ≤ 4294967295
+    → is_among k cs ≡ false → is_place before cs ≡ true → n + total (tree label below nil) ≤ last_u32
     → LeadsAt h (tree a (flat family cs) nil) n (creation n label below ++ Place h n (option_map ids before) ∷ [])
     (tree a (flat (with_entry k (numbered n (render (tree label below nil))) family) (names_with before (k ∷ []) cs)) nil) (n + total (tree label below nil))
 at_new h a ids family cs n k before label below id at out place room =
@@ -155,7 +156,7 @@ among_inserted i before new t here =
 
 -- a child whose element is another one: it is made anew before its old host, which then goes
 pub at_again : (h : ℕ) (a : Host) (ids : ℕ → ℕ) (family : ℕ → Trees Host) (cs : List ℕ) (n c : ℕ) (label : Label) (below : Forest) → a.id ≡ h → AreAt ids family cs
-    → is_among c cs ≡ true → ids c ≢ 0 → n + total (tree label below nil) ≤ 4294967295
+    → is_among c cs ≡ true → ids c ≢ 0 → n + total (tree label below nil) ≤ last_u32
     → LeadsAt h (tree a (flat family cs) nil) n ((creation n label below ++ Place h n (Some (ids c)) ∷ []) ++ Drop (ids c) ∷ [])
     (tree a (flat (with_entry c (numbered n (render (tree label below nil))) family) cs) nil) (n + total (tree label below nil))
 at_again h a ids family cs n c label below id at here nonzero room =

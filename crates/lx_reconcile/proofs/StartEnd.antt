@@ -1,5 +1,6 @@
 -- How the children of a host stand before the first move, and after the last.
 use Rattle.std.proofs.Common.{◌≡◌, ◌≢◌, ◌∙◌, ◌+◌, ◌<◌, ℕ, ◌&&◌, Bool, true, false, cond, eqb, ltb, List, [], ◌∷◌, ◌++◌, Option, None, Some, option_map, inl, inr, refl, sym, ap, subst, arith, eq-eqb, eqb-true, ltb-true, append-nil}
+use Rattle.std.specs.List.{AllByRecursion}
 use Rattle.std.proofs.lemmas.Bool.Decides.{eqb_tells}
 use Rattle.std.proofs.lemmas.Bool.{cases_lt}
 use Rattle.std.proofs.lemmas.Option.{same_Some}
@@ -18,7 +19,7 @@ use Rattle.lx_forest.specs.Lookups.{key_of, spot, parent_of, children_of, trees_
 use Rattle.lx_forest.proofs.Edits.{is_some-spot, parent_of-root, has-root}
 use Rattle.lx_forest.proofs.Lookups.{is_among-children_of, has-child, trees_of-roots}
 use Rattle.lx_plain.specs.Render.{render, face_of, last_kind}
-use Rattle.lx_plain.specs.Allowed.{Shows, hosts_of, IsKept, AreAllowed}
+use Rattle.lx_plain.specs.Allowed.{Shows, hosts_of, IsKept, IsDue, AllWriteAnew, AreAllowed}
 use Rattle.lx_reconcile.specs.Reconciled.{flat, host_in, AreReconciled, IsAt, IsUnderWay}
 use Rattle.lx_reconcile.proofs.Children.{stands_there}
 use Rattle.lx_reconcile.proofs.Families.{alone-at}
@@ -251,9 +252,12 @@ root_id old v h shows rooted at =
     let same : at.host.id ≡ host_in v 0 = cc in
     sym same ∙ at.id
 
-pub is_allowed : (old new : Forest) (v : HostTree) (ops : List Op) (to : Trees Host) (m : ℕ) → IsForest old → IsForest new → forest.alone 0 new ≡ new
-    → AreReconciled old new v 0 to → Leads v ops (record { hosts = to; next = m }) → AreAllowed old new v ops (record { hosts = to; next = m })
-is_allowed old new v ops to m g h whole r leads = record {
+pub is_allowed : (old new : Forest) (touched : ℕ → Bool) (v : HostTree) (ops : List Op) (to : Trees Host) (m : ℕ) → IsForest old → IsForest new → forest.alone 0 new ≡ new
+    → AreReconciled old new v 0 to → Leads v ops (record { hosts = to; next = m }) → AllByRecursion (IsDue old new touched v) ops → AllWriteAnew v ops
+    → AreAllowed old new touched v ops (record { hosts = to; next = m })
+is_allowed old new touched v ops to m g h whole r leads due writes = record {
+  due = due;
+  writes = writes;
   leads = leads;
   shows = r.shape ∙ ap render whole;
   keeps = λ q kept. r.keeps q kept (ap (forest.has q) whole ∙ (kept_there old new q g h kept).1);

@@ -1,27 +1,28 @@
 -- The moves of a host's children, each in its turn, from the view's children to the new node's.
 use Rattle.std.proofs.Common.{◌≡◌, ◌≢◌, ◌∙◌, ◌+◌, ◌≤◌, ℕ, Bool, true, false, List, [], ◌∷◌, ◌++◌, Option, None, Some, option_map, inl, inr, refl, sym, ap, subst, arith, ne_eqb}
+use Rattle.std.specs.List.{AllByRecursion}
 use Rattle.std.proofs.lemmas.Bool.Decides.{eqb_tells}
+use Rattle.lx_node.specs.Limits.{last_u32}
 use Rattle.lx_node.specs.Trees.{Trees, nil, tree}
 use Rattle.lx_node.specs.NamedTrees.{total}
 use Rattle.lx_node.specs.Siblings.{is_among, is_named, is_place, names_without, names_with}
 use Rattle.lx_node.proofs.Siblings.{is_among-names_without, is_among-names_with}
 use Rattle.lx_host.specs.declared.op.Op.{Op}
-use Rattle.lx_host.specs.declared.op.Op.TheVariants.{Place, Drop, Text, Attr, Break}
-use Rattle.lx_host.specs.declared.tag.Name.{Name}
+use Rattle.lx_host.specs.declared.op.Op.TheVariants.{Place, Drop}
 use Rattle.lx_host.specs.Branches.{IsRooted}
-use Rattle.lx_host.specs.Hosts.{Host, HostTree, alone, with_text, with_value, with_ending, IsNumbered}
+use Rattle.lx_host.specs.Hosts.{Host, HostTree, alone, IsNumbered}
 use Rattle.lx_forest.specs.Forest.{Label, Forest}
 use Rattle.lx_forest.specs.Lookups as forest
 use Rattle.lx_forest.specs.Lookups.{IsForest, children_of, trees_of}
 use Rattle.lx_plain.specs.Render.{render, face_of, last_kind}
-use Rattle.lx_plain.specs.Allowed.{Shows, IsKept, AreAllowed}
+use Rattle.lx_plain.specs.Allowed.{Shows, IsKept, IsDue, AreAllowed, unkept}
 use Rattle.lx_reconcile.specs.Created.{numbered, creation, creation_of}
 use Rattle.lx_reconcile.specs.Reconciled.{LeadsAt, flat, host_in, AreReconciled, IsAt, IsUnderWay}
 use Rattle.lx_reconcile.specs.Handled.{IsReconciled, AreHandled, IsLater}
 use Rattle.lx_reconcile.proofs.Created.{host_tree, shape_of-numbered}
 use Rattle.lx_reconcile.proofs.StartEnd.{IsShownAt, shown_at_id, shown_same, is_started, are_reconciled, is_allowed, root_at, root_id}
 use Rattle.lx_reconcile.proofs.Families.{with_entry, alone-at}
-use Rattle.lx_reconcile.proofs.Frames.{at_same, at_then, at_text, at_attr, at_break, at_whole}
+use Rattle.lx_reconcile.proofs.Frames.{at_same, at_then, at_whole}
 use Rattle.lx_reconcile.proofs.Kept.{kept_up}
 use Rattle.lx_reconcile.proofs.OneMove.{at_stay, at_gone, at_new, at_moved, at_again}
 
@@ -163,7 +164,7 @@ module _ (old new : Forest) (v : HostTree) where
   making h c m before label below is = sym (ap (λ t. creation_of m t ++ Place h m before ∷ []) is)
 
   pub handled_make : (k n : ℕ) (ops : List Op) (a : Host) (handled cs : List ℕ) (m c : ℕ) (before : Option ℕ) (label : Label) (below : Forest) → AreHandled old new v k n ops a handled cs m
-      → IsForest new → forest.alone c new ≡ tree label below nil → (IsKept old new c → ⊥) → m + total (forest.alone c new) ≤ 4294967295
+      → IsForest new → forest.alone c new ≡ tree label below nil → (IsKept old new c → ⊥) → m + total (forest.alone c new) ≤ last_u32
       → is_among c cs ≡ false → is_place before cs ≡ true → IsLater handled before
       → AreHandled old new v k n (ops ++ (creation_of m (forest.alone c new) ++ Place (host_in v k) m (option_map (host_in v) before) ∷ [])) a (c ∷ handled) (names_with before (c ∷ []) cs) (m + total (forest.alone c new))
   handled_make k n ops a handled cs m c before label below s h is anew room out place later =
@@ -176,7 +177,7 @@ module _ (old new : Forest) (v : HostTree) where
       subst (λ l. LeadsAt (host_in v k) (tree a (flat s.family cs) nil) m more (tree a then nil) (m + l)) size
       (subst (λ ops. LeadsAt (host_in v k) (tree a (flat s.family cs) nil) m ops (tree a then nil) (m + total (tree label below nil)))
       (ap (λ o. creation m label below ++ Place (host_in v k) m o ∷ []) (before_id handled cs s.ids s.family before u place later) ∙ making (host_in v k) c m (option_map (host_in v) before) label below is)
-      (at_new (host_in v k) a s.ids s.family cs m c before label below s.id u.at out place (subst (λ x. m + x ≤ 4294967295) (sym size) room))) in
+      (at_new (host_in v k) a s.ids s.family cs m c before label below s.id u.at out place (subst (λ x. m + x ≤ last_u32) (sym size) room))) in
       record {
         ids = with_entry c m s.ids;
         family = with_entry c to s.family;
@@ -189,7 +190,7 @@ module _ (old new : Forest) (v : HostTree) where
       was_among d e other = grind (arith, e, is_among-names_with before (c ∷ []) cs d, eqb_tells c d, other)
 
   pub handled_again : (k n : ℕ) (ops : List Op) (a : Host) (handled cs : List ℕ) (m c : ℕ) (label : Label) (below : Forest) → AreHandled old new v k n ops a handled cs m
-      → IsForest new → forest.alone c new ≡ tree label below nil → (IsKept old new c → ⊥) → m + total (forest.alone c new) ≤ 4294967295
+      → IsForest new → forest.alone c new ≡ tree label below nil → (IsKept old new c → ⊥) → m + total (forest.alone c new) ≤ last_u32
       → is_among c cs ≡ true → is_among c handled ≡ false → host_in v c ≢ 0
       → AreHandled old new v k n (ops ++ ((creation_of m (forest.alone c new) ++ Place (host_in v k) m (Some (host_in v c)) ∷ []) ++ Drop (host_in v c) ∷ [])) a (c ∷ handled) cs (m + total (forest.alone c new))
   handled_again k n ops a handled cs m c label below s h is anew room here waits nonzero =
@@ -203,7 +204,7 @@ module _ (old new : Forest) (v : HostTree) where
       subst (λ l. LeadsAt (host_in v k) (tree a (flat s.family cs) nil) m more (tree a then nil) (m + l)) size
       (subst (λ ops. LeadsAt (host_in v k) (tree a (flat s.family cs) nil) m ops (tree a then nil) (m + total (tree label below nil)))
       (ap (λ i. (creation m label below ++ Place (host_in v k) m (Some i) ∷ []) ++ Drop i ∷ []) own ∙ ap (λ ops. ops ++ Drop (host_in v c) ∷ []) (making (host_in v k) c m (Some (host_in v c)) label below is))
-      (at_again (host_in v k) a s.ids s.family cs m c label below s.id u.at here (λ e. nonzero (sym own ∙ e)) (subst (λ x. m + x ≤ 4294967295) (sym size) room))) in
+      (at_again (host_in v k) a s.ids s.family cs m c label below s.id u.at here (λ e. nonzero (sym own ∙ e)) (subst (λ x. m + x ≤ last_u32) (sym size) room))) in
       record {
         ids = with_entry c m s.ids;
         family = with_entry c to s.family;
@@ -239,30 +240,15 @@ module _ (old new : Forest) (v : HostTree) where
     under_way = s.under_way;
   }
 
-  pub handled_text : (k n : ℕ) (ops : List Op) (a : Host) (handled cs : List ℕ) (m : ℕ) (text : List ℕ) → AreHandled old new v k n ops a handled cs m
-      → AreHandled old new v k n (ops ++ Text (host_in v k) text ∷ []) (record { id = a.id; face = with_text text a.face }) handled cs m
-  handled_text k n ops a handled cs m text s =
-      handled_face k n ops a handled cs m (Text (host_in v k) text ∷ []) (record { id = a.id; face = with_text text a.face }) s refl (λ kids. at_text (host_in v k) a kids m text s.id)
-
-  pub handled_attr : (k n : ℕ) (ops : List Op) (a : Host) (handled cs : List ℕ) (m : ℕ) (name : Name) (value : Option (List ℕ)) → AreHandled old new v k n ops a handled cs m
-      → AreHandled old new v k n (ops ++ Attr (host_in v k) name value ∷ []) (record { id = a.id; face = with_value name value a.face }) handled cs m
-  handled_attr k n ops a handled cs m name value s =
-      handled_face k n ops a handled cs m (Attr (host_in v k) name value ∷ []) (record { id = a.id; face = with_value name value a.face }) s refl (λ kids. at_attr (host_in v k) a kids m name value s.id)
-
-  pub handled_break : (k n : ℕ) (ops : List Op) (a : Host) (handled cs : List ℕ) (m : ℕ) (ending : Bool) → AreHandled old new v k n ops a handled cs m
-      → AreHandled old new v k n (ops ++ Break (host_in v k) ending ∷ []) (record { id = a.id; face = with_ending ending a.face }) handled cs m
-  handled_break k n ops a handled cs m ending s =
-      handled_face k n ops a handled cs m (Break (host_in v k) ending ∷ []) (record { id = a.id; face = with_ending ending a.face }) s refl (λ kids. at_break (host_in v k) a kids m ending s.id)
-
   -- ---- after the last move
 
   pub handled_all : (k n : ℕ) (ops : List Op) (a : Host) (handled cs : List ℕ) (m : ℕ) (l : Label) → AreHandled old new v k n ops a handled cs m → IsForest old → IsForest new → Shows v old
       → cs ≡ children_of new k → ((c : ℕ) → is_among c (children_of new k) ≡ true → is_among c handled ≡ true)
       → forest.alone k new ≡ tree l (trees_of new (children_of new k)) nil
       → a.face ≡ face_of l (last_kind (trees_of new (children_of new k)))
-      → m ≤ n + total (forest.alone k new)
+      → n ≤ m → m ≤ n + unkept old (Some k) (trees_of new (children_of new k))
       → IsReconciled old new v k n ops m
-  handled_all k n ops a handled cs m l s g h shows same all is face grows =
+  handled_all k n ops a handled cs m l s g h shows same all is face rises grows =
       let h_id = host_in v k in
       let start = alone h_id v.hosts in
       let u : IsUnderWay old new v handled (children_of new k) s.ids s.family = subst (λ xs. IsUnderWay old new v handled xs s.ids s.family) same s.under_way in
@@ -271,6 +257,7 @@ module _ (old new : Forest) (v : HostTree) where
         leads = subst (λ xs. LeadsAt h_id start n ops (tree a (flat s.family xs) nil) m) same s.leads;
         at = record { host = a; below = flat s.family (children_of new k); is = refl; id = s.id };
         shown = are_reconciled old new v k a l s.family g h shows is face s.id (λ c here. u.done c here (all c here));
+        rises = rises;
         grows = grows;
       }
 
@@ -284,20 +271,21 @@ module _ (old new : Forest) (v : HostTree) where
         leads = at_same (host_in v k) (alone (host_in v k) v.hosts) n at;
         at = at;
         shown = shown_same old new v k g shows numbered there same;
+        rises = omega arith;
         grows = omega arith;
       }
 
   -- ---- the whole
 
-  pub record AreAllDone (ops : List Op) (m : ℕ) : Type 0 where
+  pub record AreAllDone (touched : ℕ → Bool) (ops : List Op) (m : ℕ) : Type 0 where
     pub hosts : Trees Host
-    pub allowed : AreAllowed old new v ops (host_tree hosts m)
+    pub allowed : AreAllowed old new touched v ops (host_tree hosts m)
     pub numbered : IsNumbered (host_tree hosts m)
     pub rooted : IsRooted hosts
 
-  pub all_done : (ops : List Op) (m : ℕ) → IsForest old → IsForest new → forest.alone 0 old ≡ old → forest.alone 0 new ≡ new → Shows v old → IsNumbered v → IsRooted v.hosts
-      → IsReconciled old new v 0 v.next ops m → AreAllDone ops m
-  all_done ops m g h was_whole whole shows numbered rooted r =
+  pub all_done : (touched : ℕ → Bool) (ops : List Op) (m : ℕ) → IsForest old → IsForest new → forest.alone 0 old ≡ old → forest.alone 0 new ≡ new → Shows v old → IsNumbered v → IsRooted v.hosts
+      → IsReconciled old new v 0 v.next ops m → AllByRecursion (IsDue old new touched v) ops → AreAllDone touched ops m
+  all_done touched ops m g h was_whole whole shows numbered rooted r due =
       let at = root_at v.hosts old g was_whole shows rooted in
       let zero = root_id old v g shows rooted at in
       let from : alone (host_in v 0) v.hosts ≡ v.hosts = ap (λ i. alone i v.hosts) zero ∙ alone-at 0 v.hosts at in
@@ -306,7 +294,7 @@ module _ (old new : Forest) (v : HostTree) where
       let there = at_whole v ops r.to m at numbered leads in
       record {
         hosts = r.to;
-        allowed = is_allowed old new v ops r.to m g h whole r.shown there.0;
+        allowed = is_allowed old new touched v ops r.to m g h whole r.shown there.0 due there.2;
         numbered = there.1;
         rooted = rooted_at r.to (subst (λ i. IsAt i r.to) zero r.at);
       }

@@ -1,5 +1,5 @@
 -- Attributes written one after another, in byte order of their names, until they are those of another list.
-use Rattle.std.proofs.Common.{◌≡◌, ℕ, ◌+◌, ◌<◌, ◌≤◌, Bool, true, false, ◌&&◌, List, [], ◌∷◌, ◌++◌, length, map, take, drop, get_or, Option, None, Some, inl, inr, refl, sym, ap, ◌∙◌, subst, arith, append_assoc, append-nil, length-drop}
+use Rattle.std.proofs.Common.{◌≡◌, ◌≢◌, ℕ, ◌+◌, ◌<◌, ◌≤◌, Bool, true, false, ◌&&◌, List, [], ◌∷◌, ◌++◌, length, map, take, drop, get_or, Option, None, Some, inl, inr, refl, sym, ap, ◌∙◌, subst, arith, append_assoc, append-nil, length-append, length-drop}
 use Rattle.std.proofs.lemmas.Bool.{cases_lt}
 use Rattle.std.proofs.lemmas.Cmp.{nat_list_cmp_total, on_total}
 use Rattle.std.proofs.lemmas.List.{take_more, drop_more, drop_all, take-append-drop}
@@ -11,7 +11,7 @@ use Rattle.lx_host.specs.declared.tag.Name.{Name}
 use Rattle.lx_host.specs.declared.op.Op.{Op}
 use Rattle.lx_host.specs.declared.op.Op.TheVariants.{Attr}
 use Rattle.lx_host.specs.Words.{name_word, names_rise, name_order, with_attribute}
-use Rattle.lx_reconcile.specs.Changing.{write_op, all_written, next_order, Writes}
+use Rattle.lx_reconcile.specs.Changing.{write_op, all_written, AreAnew, next_order, Writes}
 
 order : IsTotalOrder name_order
 order = on_total name_word nat_list_cmp_total
@@ -104,6 +104,26 @@ all_written-append : (writes more : List (Name × Option (List ℕ))) (attribute
 all_written-append [] more attributes = refl
 all_written-append (write ∷ writes) more attributes = all_written-append writes more (with_attribute write.0 write.1 attributes)
 
+anew-append : (writes more : List (Name × Option (List ℕ))) (attributes : Attributes) → AreAnew writes attributes → AreAnew more (all_written writes attributes) → AreAnew (writes ++ more) attributes
+anew-append [] more attributes first then = then
+anew-append (write ∷ writes) more attributes first then = (first.0, anew-append writes more (with_attribute write.0 write.1 attributes) first.1 then)
+
+-- with one more or less they aren't the same, nor with another one in its place
+less_one : (done old : Attributes) (a : Name × List ℕ) → done ++ old ≢ done ++ a ∷ old
+less_one done old a e = absurd (omega (arith, ap length e, length-append done old, length-append done (a ∷ old)))
+
+more_one : (done old : Attributes) (b : Name × List ℕ) → (done ++ b ∷ []) ++ old ≢ done ++ old
+more_one done old b e = less_one done old b (sym e ∙ append_assoc done (b ∷ []) old)
+
+same_behind : (done xs ys : Attributes) → done ++ xs ≡ done ++ ys → xs ≡ ys
+same_behind [] xs ys e = e
+same_behind (a ∷ done) xs ys e = same_behind done xs ys (cc)
+
+other_one : (done old : Attributes) (a b : Name × List ℕ) → a ≢ b → (done ++ b ∷ []) ++ old ≢ done ++ a ∷ old
+other_one done old a b other e =
+    let rest : b ∷ old ≡ a ∷ old = same_behind done (b ∷ old) (a ∷ old) (sym (append_assoc done (b ∷ []) old) ∙ e) in
+    other (sym (first_is b a old old rest))
+
 map_more : (host : ℕ) (writes : List (Name × Option (List ℕ))) (write : Name × Option (List ℕ)) (start : List Op) → start ++ map (write_op host) (writes ++ write ∷ []) ≡ (start ++ map (write_op host) writes) ++ write_op host write ∷ []
 map_more host [] write start = sym (ap (λ l. l ++ write_op host write ∷ []) (append-nil start))
 map_more host (first ∷ writes) write start =
@@ -121,17 +141,18 @@ pub record IsWriting (host : ℕ) (olds done old new : Attributes) (start now : 
 
 pub writing_starts : (host : ℕ) (olds news : Attributes) (start : List Op) → names_rise olds ≡ true → names_rise news ≡ true → IsWriting host olds [] olds news start start
 writing_starts host olds news start rise risen = record {
-  so_far = record { writes = []; list = sym (append-nil start); written = refl };
+  so_far = record { writes = []; list = sym (append-nil start); written = refl; anew = tt };
   old_behind = nothing_before olds rise;
   new_behind = nothing_before news risen;
 }
 
 -- one more is written
-write_more : (host : ℕ) (olds now to : Attributes) (start ops more : List Op) (name : Name) (value : Option (List ℕ)) → Writes host olds now start ops → with_attribute name value now ≡ to → more ≡ ops ++ Attr host name value ∷ [] → Writes host olds to start more
-write_more host olds now to start ops more name value w e is = record {
+write_more : (host : ℕ) (olds now to : Attributes) (start ops more : List Op) (name : Name) (value : Option (List ℕ)) → Writes host olds now start ops → with_attribute name value now ≡ to → to ≢ now → more ≡ ops ++ Attr host name value ∷ [] → Writes host olds to start more
+write_more host olds now to start ops more name value w e other is = record {
   writes = w.writes ++ (name, value) ∷ [];
   list = is ∙ ap (λ l. l ++ Attr host name value ∷ []) w.list ∙ sym (map_more host w.writes (name, value) start);
   written = all_written-append w.writes ((name, value) ∷ []) olds ∙ ap (with_attribute name value) w.written ∙ e;
+  anew = anew-append w.writes ((name, value) ∷ []) olds w.anew (subst (λ l. with_attribute name value l ≢ l) (sym w.written) (λ x. other (sym e ∙ x)), tt);
 }
 
 -- what becomes of the rest
@@ -152,7 +173,7 @@ done_one b done rest = sym (append_assoc done (b ∷ []) rest)
 pub goes_away : (host : ℕ) (olds done old new : Attributes) (a : Name × List ℕ) (start now more : List Op) → IsWriting host olds done (a ∷ old) new start now → more ≡ now ++ Attr host a.0 None ∷ [] → IsWriting host olds done old new start more
 goes_away host olds done old new a start now more h is = record {
   so_far = write_more host olds (done ++ a ∷ old) (done ++ old) start now more a.0 None h.so_far
-      (with_behind a.0 None done (a ∷ old) (h.old_behind.first a old refl) ∙ ap (λ l. done ++ l) (with_away a old)) is;
+      (with_behind a.0 None done (a ∷ old) (h.old_behind.first a old refl) ∙ ap (λ l. done ++ l) (with_away a old)) (less_one done old a) is;
   old_behind = behind_rest done a old h.old_behind;
   new_behind = h.new_behind;
 }
@@ -168,16 +189,16 @@ less_first b (c ∷ old) new e a more is =
 pub comes_before : (host : ℕ) (olds done old new : Attributes) (b : Name × List ℕ) (start now more : List Op) → IsWriting host olds done old (b ∷ new) start now → next_order old (b ∷ new) ≡ Some Greater → more ≡ now ++ Attr host b.0 (Some b.1) ∷ [] → IsWriting host olds (done ++ b ∷ []) old new start more
 comes_before host olds done old new b start now more h e is = record {
   so_far = write_more host olds (done ++ old) ((done ++ b ∷ []) ++ old) start now more b.0 (Some b.1) h.so_far
-      (with_behind b.0 (Some b.1) done old (h.new_behind.first b new refl) ∙ ap (λ l. done ++ l) (with_given b old (less_first b old new e)) ∙ done_one b done old) is;
+      (with_behind b.0 (Some b.1) done old (h.new_behind.first b new refl) ∙ ap (λ l. done ++ l) (with_given b old (less_first b old new e)) ∙ done_one b done old) (more_one done old b) is;
   old_behind = behind_given done b old h.old_behind (less_first b old new e);
   new_behind = behind_done done b new h.new_behind;
 }
 
 -- both have an attribute of one name, which is written, or is equal
-pub is_written : (host : ℕ) (olds done old new : Attributes) (a b : Name × List ℕ) (start now more : List Op) → IsWriting host olds done (a ∷ old) (b ∷ new) start now → name_order a.0 b.0 ≡ Equal → more ≡ now ++ Attr host b.0 (Some b.1) ∷ [] → IsWriting host olds (done ++ b ∷ []) old new start more
-is_written host olds done old new a b start now more h e is = record {
+pub is_written : (host : ℕ) (olds done old new : Attributes) (a b : Name × List ℕ) (start now more : List Op) → IsWriting host olds done (a ∷ old) (b ∷ new) start now → name_order a.0 b.0 ≡ Equal → a ≢ b → more ≡ now ++ Attr host b.0 (Some b.1) ∷ [] → IsWriting host olds (done ++ b ∷ []) old new start more
+is_written host olds done old new a b start now more h e other is = record {
   so_far = write_more host olds (done ++ a ∷ old) ((done ++ b ∷ []) ++ old) start now more b.0 (Some b.1) h.so_far
-      (with_behind b.0 (Some b.1) done (a ∷ old) (h.new_behind.first b new refl) ∙ ap (λ l. done ++ l) (with_same a b old e) ∙ done_one b done old) is;
+      (with_behind b.0 (Some b.1) done (a ∷ old) (h.new_behind.first b new refl) ∙ ap (λ l. done ++ l) (with_same a b old e) ∙ done_one b done old) (other_one done old a b other) is;
   old_behind = behind_met done a b old h.old_behind (h.new_behind.first b new refl) e;
   new_behind = behind_done done b new h.new_behind;
 } where
@@ -266,6 +287,9 @@ none_left (a ∷ xs) (b ∷ ys) e = absurd (cc)
 met : (xs : Attributes) (i : ℕ) (x : Name × List ℕ) → i < length xs → x ≡ get_or xs i x → drop i xs ≡ x ∷ drop (i + 1) xs
 met xs i x within item = drop_more xs i x within ∙ ap (λ y. y ∷ drop (i + 1) xs) (sym item)
 
+pub same_place : (xs : Attributes) (i : ℕ) (x y : Name × List ℕ) → i < length xs → x ≡ get_or xs i x → y ≡ get_or xs i y → x ≡ y
+same_place xs i x y within item other = first_is x y (drop (i + 1) xs) (drop (i + 1) xs) (sym (met xs i x within item) ∙ met xs i y within other)
+
 passed : (xs : Attributes) (i : ℕ) (x : Name × List ℕ) → i < length xs → x ≡ get_or xs i x → take (i + 1) xs ≡ take i xs ++ x ∷ []
 passed xs i x within item = take_more xs i x within ∙ ap (λ y. take i xs ++ y ∷ []) (sym item)
 
@@ -307,9 +331,9 @@ module _ (host : ℕ) (olds news : Attributes) (i j : ℕ) (start now more : Lis
     new_within = omega (arith, fits);
   }
 
-  pub written_at : (a b : Name × List ℕ) → i < length olds → j < length news → a ≡ get_or olds i a → b ≡ get_or news j b → next_order (drop i olds) (drop j news) ≡ Some Equal → more ≡ now ++ Attr host b.0 (Some b.1) ∷ [] → IsWritingAt host olds news (i + 1) (j + 1) start more
-  written_at a b within fits item other e is =
-      both_passed b fits other within more (is_written host olds (take j news) (drop (i + 1) olds) (drop (j + 1) news) a b start now more (both_at a b within fits item other) (order_met a b within fits item other e) is)
+  pub written_at : (a b : Name × List ℕ) → i < length olds → j < length news → a ≡ get_or olds i a → b ≡ get_or news j b → next_order (drop i olds) (drop j news) ≡ Some Equal → a ≢ b → more ≡ now ++ Attr host b.0 (Some b.1) ∷ [] → IsWritingAt host olds news (i + 1) (j + 1) start more
+  written_at a b within fits item other e differ is =
+      both_passed b fits other within more (is_written host olds (take j news) (drop (i + 1) olds) (drop (j + 1) news) a b start now more (both_at a b within fits item other) (order_met a b within fits item other e) differ is)
 
   pub equal_at : (a b : Name × List ℕ) → i < length olds → j < length news → a ≡ get_or olds i a → b ≡ get_or news j b → a ≡ b → IsWritingAt host olds news (i + 1) (j + 1) start now
   equal_at a b within fits item other e =

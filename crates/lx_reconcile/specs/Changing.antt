@@ -1,5 +1,6 @@
 -- What operations do to one host: its attributes, its text and its ending.
-use Rattle.std.specs.Prelude.{ℕ, ◌≡◌, ◌++◌, Bool, List, [], ◌∷◌, map, Option, None, Some}
+use Rattle.std.specs.Prelude.{ℕ, ◌≡◌, ◌≢◌, ◌++◌, Bool, List, [], ◌∷◌, map, Option, None, Some}
+use Rattle.std.specs.List.{AllByRecursion}
 use Rattle.std.specs.declared.cmp.Ordering.{Ordering}
 use Rattle.std.specs.declared.cmp.Ordering.TheVariants.{Less, Greater}
 use Rattle.lx_node.specs.Trees.{Trees, nil, tree}
@@ -8,7 +9,7 @@ use Rattle.lx_node.specs.declared.fields.Fields.{Fields}
 use Rattle.lx_host.specs.declared.tag.Tag.{Tag}
 use Rattle.lx_host.specs.declared.tag.Name.{Name}
 use Rattle.lx_host.specs.declared.op.Op.{Op}
-use Rattle.lx_host.specs.declared.op.Op.TheVariants.{Attr}
+use Rattle.lx_host.specs.declared.op.Op.TheVariants.{Text, Attr, Break}
 use Rattle.lx_host.specs.Words.{name_order, with_attribute}
 use Rattle.lx_host.specs.Hosts.{Face, Host}
 use Rattle.lx_plain.specs.Render.{attributes_of, text_of}
@@ -25,6 +26,11 @@ abbrev pub all_written : List (Name × Option (List ℕ)) → List (Name × List
 all_written [] attributes = attributes
 all_written (write ∷ writes) attributes = all_written writes (with_attribute write.0 write.1 attributes)
 
+-- each of these writes changes the attributes in its turn
+abbrev pub AreAnew : List (Name × Option (List ℕ)) → List (Name × List ℕ) → Type 0
+AreAnew [] attributes = Unit {0}
+AreAnew (write ∷ writes) attributes = (with_attribute write.0 write.1 attributes ≢ attributes) × AreAnew writes (with_attribute write.0 write.1 attributes)
+
 -- which of the first of two lists of attributes comes first, where there is any
 abbrev pub next_order : List (Name × List ℕ) → List (Name × List ℕ) → Option Ordering
 next_order [] [] = None
@@ -37,6 +43,7 @@ pub record Writes (host : ℕ) (old new : List (Name × List ℕ)) (start end : 
   pub writes : List (Name × Option (List ℕ))
   pub list : end ≡ start ++ map (write_op host) writes
   pub written : all_written writes old ≡ new
+  pub anew : AreAnew writes old
 
 -- ---- a host
 
@@ -45,9 +52,16 @@ abbrev pub shown_face : ℕ → Tag → Kind → Fields → Bool → Face
 shown_face key tag kind fields ending =
     record { key = key; tag = tag; attrs = attributes_of kind fields; text = text_of fields; ending = ending }
 
+-- an operation that changes what this host shows itself
+pub data IsWriteAt (host : ℕ) : Op → Type 0 where
+  is_text : (text : List ℕ) → IsWriteAt host (Text host text)
+  is_attr : (name : Name) (value : Option (List ℕ)) → IsWriteAt host (Attr host name value)
+  is_break : (ending : Bool) → IsWriteAt host (Break host ending)
+
 -- Behind the operations at the start stand others, which make a host show the second face in place of the first, whatever
 -- is below it.
 pub record Changes (host : ℕ) (from to : Face) (start end : List Op) : Type 0 where
   pub pushed : List Op
   pub list : end ≡ start ++ pushed
+  pub only : AllByRecursion (IsWriteAt host) pushed
   pub leads : (kids : Trees Host) (n : ℕ) → LeadsAt host (tree (record { id = host; face = from }) kids nil) n pushed (tree (record { id = host; face = to }) kids nil) n

@@ -1,9 +1,12 @@
 pub mod Allowing
 pub mod Changing
+pub mod Counting
 pub mod Created
 pub mod Handled
 pub mod Making
+pub mod Reading
 pub mod Reconciled
 pub mod ToCome
+pub mod Told
 pub mod Underway
 pub mod Walk

@@ -1,8 +1,10 @@
 -- What is known where the operations between two trees are made, and what each part of them does. Only this crate's own
 -- contracts cite it.
-use Rattle.std.specs.Prelude.{ℕ, ◌≡◌, ◌+◌, ◌≤◌, ◌++◌, true, List, ◌∷◌}
+use Rattle.std.specs.Prelude.{ℕ, ◌≡◌, ◌+◌, ◌≤◌, ◌++◌, true, List, ◌∷◌, Some}
+use Rattle.std.specs.List.{AllByRecursion}
 use Rattle.lx_node.specs.Limits.{last_u32}
 use Rattle.lx_node.specs.NamedTrees.{total}
+use Rattle.lx_plain.specs.Allowed.{Marking, AreCovered, IsDue, unkept}
 use Rattle.lx_host.specs.declared.op.Op.{Op}
 use Rattle.lx_host.specs.Hosts.{Host, HostTree}
 use Rattle.lx_host.specs.Html.{first_tree}
@@ -15,22 +17,25 @@ use Rattle.lx_reconcile.specs.ToCome.{IsView, IsInWalk}
 use Rattle.lx_reconcile.specs.Walk.{standing}
 
 -- The host tree shows the old one of two trees, with nothing behind it.
-pub record IsBetween (old new : Forest) (v : HostTree) : Type 0 where
+pub record IsBetween (old new : Forest) (mk : Marking) (v : HostTree) : Type 0 where
   pub view : IsView old new v
   pub was_sound : Sound old
   pub sound : Sound new
   pub whole : first_tree v.hosts ≡ v.hosts
+  pub covered : AreCovered old new mk
 
 -- Behind the operations at the start stand others that reconcile the host of k. They use the ids from n on, up to m.
-pub record Reconciles (old new : Forest) (v : HostTree) (k n : ℕ) (start end : List Op) (m : ℕ) : Type 0 where
+pub record Reconciles (old new : Forest) (mk : Marking) (v : HostTree) (k n : ℕ) (start end : List Op) (m : ℕ) : Type 0 where
   pub pushed : List Op
   pub list : end ≡ start ++ pushed
+  pub due : AllByRecursion (IsDue old new mk.touched v) pushed
   pub done : IsReconciled old new v k n pushed m
 
 -- Behind them stand others that make these moves of the children of k, whatever has been done before.
-pub record MakesMoves (old new : Forest) (v : HostTree) (k : ℕ) (moves : List Move) (n : ℕ) (start end : List Op) (m : ℕ) : Type 0 where
+pub record MakesMoves (old new : Forest) (mk : Marking) (v : HostTree) (k : ℕ) (moves : List Move) (n : ℕ) (start end : List Op) (m : ℕ) : Type 0 where
   pub pushed : List Op
   pub list : end ≡ start ++ pushed
+  pub due : AllByRecursion (IsDue old new mk.touched v) pushed
   pub leads : (from : ℕ) (ops : List Op) (a : Host) (more : List Move) → IsInWalk old new v k from ops a (moves ++ more) n → IsInWalk old new v k from (ops ++ pushed) a more m
 
 -- Some operations have led to where these moves of the children of k are to come, and the next id is n. There are ids for
@@ -40,7 +45,8 @@ pub record AreNext (old new : Forest) (v : HostTree) (k : ℕ) (moves : List Mov
   pub ops : List Op
   pub a : Host
   pub walk : IsInWalk old new v k from ops a moves n
-  pub room : from + total (trees_of new (children_of new k)) ≤ last_u32
+  pub behind : v.next ≤ from
+  pub room : from + unkept old (Some k) (trees_of new (children_of new k)) ≤ last_u32
   pub there : has k new ≡ true
 
 -- the same for one move, with any behind it

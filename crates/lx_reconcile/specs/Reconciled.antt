@@ -7,7 +7,7 @@ use Rattle.lx_host.specs.Hosts.{Host, HostTree, has, alone, shape_of, Leads, IsN
 use Rattle.lx_forest.specs.Forest.{Forest}
 use Rattle.lx_forest.specs.Lookups as forest
 use Rattle.lx_plain.specs.Render.{render}
-use Rattle.lx_plain.specs.Allowed.{hosts_of, IsKept}
+use Rattle.lx_plain.specs.Allowed.{hosts_of, IsKept, AllWriteAnew}
 
 -- these trees in place of the one at a host
 abbrev pub replaced : ℕ → Trees Host → Trees Host → Trees Host
@@ -15,11 +15,11 @@ replaced h new nil = nil
 replaced h new (tree a below rest) = if a.id == h then joined new (replaced h new rest) else tree a (replaced h new below) (replaced h new rest)
 
 -- Wherever the host h stands with this tree below it, and the next id is n, the operations lead to the same host trees with
--- the other tree there, and to this next id.
+-- the other tree there, and to this next id. None writes what stands there.
 abbrev pub LeadsAt : ℕ → Trees Host → ℕ → List Op → Trees Host → ℕ → Type 0
 LeadsAt h from n ops to m =
     (w : HostTree) → IsNumbered w → w.next ≡ n → has h w.hosts ≡ true → alone h w.hosts ≡ from
-    → Leads w ops (record { hosts = replaced h to w.hosts; next = m }) × IsNumbered (record { hosts = replaced h to w.hosts; next = m })
+    → Leads w ops (record { hosts = replaced h to w.hosts; next = m }) × IsNumbered (record { hosts = replaced h to w.hosts; next = m }) × AllWriteAnew w ops
 
 -- the trees of these keys, one behind another, where `family` says which tree a key has
 abbrev pub flat : (ℕ → Trees Host) → List ℕ → Trees Host

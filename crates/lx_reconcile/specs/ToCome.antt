@@ -1,17 +1,16 @@
 -- The moves of a node's children that are still to come, and what is known of them.
-use Rattle.std.specs.Prelude.{ℕ, ◌+◌, ◌≤◌, ◌≡◌, ◌||◌, true, false, List, map}
-use Rattle.std.specs.List.{AllByRecursion}
-use Rattle.lx_node.specs.NamedTrees.{total}
+use Rattle.std.specs.Prelude.{ℕ, ◌+◌, ◌≤◌, ◌≡◌, ◌||◌, true, false, List, map, Some}
+use Rattle.std.specs.List.{AllByRecursion, list_any}
 use Rattle.lx_node.specs.Siblings.{is_among, NoRepeats}
 use Rattle.lx_host.specs.Branches.{IsRooted}
 use Rattle.lx_host.specs.Hosts.{Host, HostTree, IsNumbered}
 use Rattle.lx_host.specs.declared.op.Op.{Op}
 use Rattle.lx_forest.specs.Forest.{Forest}
 use Rattle.lx_forest.specs.Lookups.{children_of, trees_of, IsForest}
-use Rattle.lx_plain.specs.Allowed.{Shows}
+use Rattle.lx_plain.specs.Allowed.{Shows, unkept}
 use Rattle.lx_reconcile.specs.declared.moves.Move.{Move}
 use Rattle.lx_reconcile.specs.Handled.{AreHandled}
-use Rattle.lx_reconcile.specs.Walk.{child_of, is_suited, all_moved, standing, CanAllMove, BeforeUnhandled}
+use Rattle.lx_reconcile.specs.Walk.{child_of, is_suited, is_placing, all_moved, standing, leaving, common, CanAllMove, BeforeUnhandled}
 
 -- A host tree shows the old one of two forests.
 pub record IsView (old new : Forest) (v : HostTree) : Type 0 where
@@ -32,12 +31,16 @@ pub record AreToCome (olds news handled now : List ℕ) (moves : List Move) : Ty
   pub leads : all_moved moves now ≡ news
   pub each : (q : ℕ) → is_among q news ≡ true → (is_among q handled || is_among q (map child_of moves)) ≡ true
   pub stays : (q : ℕ) → is_among q (standing moves) ≡ true → is_among q news ≡ true
+  pub gone : (q : ℕ) → is_among q (leaving moves) ≡ true → is_among q news ≡ false
+  -- where the children that are in both lists stand in one order, none is placed anew
+  pub order : common olds news ≡ common news olds → list_any is_placing moves ≡ false
 
 -- From the next id n these operations lead to this host, and to the next id m, with these moves of its children to come:
--- for each child that these leave standing there are as many ids left as the child and those below it are.
+-- for the children that these leave standing there are as many ids left as nodes in their trees that aren't kept.
 pub record IsInWalk (old new : Forest) (v : HostTree) (k n : ℕ) (ops : List Op) (host : Host) (moves : List Move) (m : ℕ) : Type 0 where
   pub handled : List ℕ
   pub now : List ℕ
   pub state : AreHandled old new v k n ops host handled now m
   pub to_come : AreToCome (children_of old k) (children_of new k) handled now moves
-  pub grows : m + total (trees_of new (standing moves)) ≤ n + total (trees_of new (children_of new k))
+  pub rises : n ≤ m
+  pub grows : m + unkept old (Some k) (trees_of new (standing moves)) ≤ n + unkept old (Some k) (trees_of new (children_of new k))

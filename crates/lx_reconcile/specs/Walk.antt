@@ -2,6 +2,7 @@
 use Rattle.std.specs.Prelude.{ℕ, ◌≡◌, ◌&&◌, Bool, true, false, not, List, [], ◌∷◌, Option, None, Some, filter}
 use Rattle.std.specs.List.{All, list_any}
 use Rattle.lx_node.specs.Siblings.{is_among, is_named, is_place, names_without, names_with}
+pub use Rattle.lx_plain.specs.Allowed.{common}
 use Rattle.lx_reconcile.specs.declared.moves.Move.{Move}
 use Rattle.lx_reconcile.specs.declared.moves.Move.TheVariants.{Stay, Leave, Make, Place}
 
@@ -86,10 +87,7 @@ BeforeUnhandled old handled (m ∷ ms) =
 
 -- ---- two lists of children
 
--- those of the first list that are in the second too, and those that aren't
-abbrev pub common : List ℕ → List ℕ → List ℕ
-common xs ys = filter (λ k. is_among k ys) xs
-
+-- those of the first list that aren't in the second
 abbrev pub missing : List ℕ → List ℕ → List ℕ
 missing xs ys = filter (λ k. not (is_among k ys)) xs
 

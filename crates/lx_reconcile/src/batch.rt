@@ -1,9 +1,10 @@
 ghost use Rattle.lx_node.specs.Limits.{last_u32};
 
-use crate::looks::Reads;
+use crate::looks::{Tallied, Tally};
 use crate::reconciling::reconcile_root;
 use lx_host::{HostTree, Op, Ops};
 use lx_links::Records;
+use lx_marks::Marks;
 use lx_node::NoMemory;
 use std::alloc::Global;
 use std::marker::Model;
@@ -12,64 +13,99 @@ use std::marker::Model;
 #[derive(Debug, Drop)]
 pub struct Batch {
     ops: Ops,
+    reads: u64,
 }
 
 impl Model for Batch {
-    ghost use Rattle.std.specs.Prelude.{List};
-    ghost use Rattle.lx_host.specs.declared.op.Op.{Op};
+    ghost use Rattle.std.specs.Coded.{codes};
+    ghost use Rattle.lx_reconcile.specs.Told.{Told};
 
-    ghost Value = { List Op };
+    ghost Value = { Told };
 
-    ghost view = { λ b. b.ops };
+    ghost coded = { Prim.hlevel (codes) };
+
+    ghost view = { λ b. record { ops = b.ops; reads = b.reads } };
 }
 
 impl Batch {
-    ghost use Rattle.std.specs.Prelude.{◌≡◌};
+    ghost use Rattle.std.specs.Prelude.{◌≡◌, IfOk};
 
     /// The operations.
     pub fn ops(&self) -> &[Op]
-        ensures { result.now ≡ self.now }
+        ensures { result.now ≡ self.now.ops }
     {
         self.ops.items()
     }
 
+    /// A copy of the operations.
+    pub fn copy_ops(&self, alloc: Global) -> Result<Ops, NoMemory>
+        ensures { IfOk result (λ made. made ≡ self.now.ops) }
+    {
+        self.ops.copy(alloc)
+    }
+
     /// The operations themselves.
     pub fn into_ops(self) -> Ops
-        ensures { result ≡ self }
+        ensures { result ≡ self.ops }
     {
         self.ops
     }
+
+    /// How many reads of records they were found by.
+    pub fn reads(&self) -> u64
+        ensures { result ≡ self.now.reads }
+    {
+        self.reads
+    }
 }
 
-ghost use Rattle.std.specs.Prelude.{◌≡◌, ◌+◌, ◌≤◌, IfOk};
-ghost use Rattle.lx_node.specs.NamedTrees.{total};
-ghost use Rattle.lx_host.specs.Branches.{IsRooted};
-ghost use Rattle.lx_plain.specs.Allowed.{Shows};
-ghost use Rattle.lx_reconcile.specs.Allowing.{IsTree, IsAllowed};
+ghost use Rattle.std.specs.Prelude.{true, ◌≡◌, ◌+◌, ◌*◌, ◌≤◌, None, IfOk};
+ghost use Rattle.lx_plain.specs.Allowed.{AreCovered, Shows, marked_children, unkept};
+ghost use Rattle.lx_reconcile.specs.Allowing.{marking, IsAllowed};
+ghost use Rattle.lx_forest.specs.Lookups.{alone, has};
 
-/// The operations that bring a view of one tree to another tree: they lead from the view to one of that tree, and keep
-/// the host of each node that stays below the same parent with the same element. It walks both trees whole. A text is
-/// never taken away from a host that stays, since no operation does that: where the trees want it, which two states of
-/// an editor never do, there is no answer, as for want of memory.
+/// The operations that bring a view of one tree to another tree, both the trees of key 0 in what is read. They lead from
+/// the view to one of that tree, keep the host of each node that stays below the same parent with the same element, and
+/// are about the hosts of marked nodes and of their children alone, and new ones. Nodes without marks, and all below them,
+/// are skipped: the two readers count at most 8 reads for each child that a marked node has in either tree, for each
+/// node that isn't kept, and for one more. The new hosts' ids go on from the view's next one; `unkept` tells how many
+/// they can be.
 pub fn operations<'a, R: Records<'a>>(
     alloc: Global,
     before: &mut R,
     after: &mut R,
+    marks: &Marks,
     hosts: &HostTree,
 ) -> Result<Batch, NoMemory>
-    requires before { IsTree (R.forest before.old) }
-    requires after { IsTree (R.forest after.old) }
-    requires shown { Shows hosts.now (R.forest before.old) }
-    requires rooted { IsRooted hosts.now.hosts }
-    requires room { hosts.now.next + total (R.forest after.old) ≤ last_u32 }
-    ensures allowed { IfOk result (λ batch. IsAllowed (R.forest before.old) (R.forest after.old) hosts.now batch) }
+    requires rooted_before { has 0 (R.forest before.old) ≡ true }
+    requires rooted_after { has 0 (R.forest after.old) ≡ true }
+    requires covered { AreCovered (alone 0 (R.forest before.old)) (alone 0 (R.forest after.old)) (marking marks.now) }
+    requires shown { Shows hosts.now.tree (alone 0 (R.forest before.old)) }
+    requires room { hosts.now.tree.next + unkept (alone 0 (R.forest before.old)) None (alone 0 (R.forest after.old)) ≤ last_u32 }
+    ensures allowed { IfOk result (λ batch. IsAllowed (alone 0 (R.forest before.old)) (alone 0 (R.forest after.old)) (marking marks.now) hosts.now.tree batch.ops) }
     ensures before { R.forest before.new ≡ R.forest before.old }
     ensures after { R.forest after.new ≡ R.forest after.old }
+    ensures bounded { IfOk result (λ batch. batch.reads ≤ 8 * (marked_children (marking marks.now).noted (alone 0 (R.forest before.old)) + marked_children (marking marks.now).noted (alone 0 (R.forest after.old)) + unkept (alone 0 (R.forest before.old)) None (alone 0 (R.forest after.old)) + 1)) }
+    ensures told { IfOk result (λ batch. R.count before.new + R.count after.new ≤ R.count before.old + R.count after.old + batch.reads) }
+    ensures reads { R.count before.new + R.count after.new ≤ R.count before.old + R.count after.old + 8 * (marked_children (marking marks.now).noted (alone 0 (R.forest before.old)) + marked_children (marking marks.now).noted (alone 0 (R.forest after.old)) + unkept (alone 0 (R.forest before.old)) None (alone 0 (R.forest after.old)) + 1) }
 {
     let mut ops = Vec::new(alloc);
-    reconcile_root::<R, R, Reads<'a>, Reads<'a>>(alloc, before, after, hosts, &mut ops)?;
+    let mut first = Tally::new(before);
+    let mut second = Tally::new(after);
+    reconcile_root::<Tally<'_, R>, Tally<'_, R>, Tallied<'a>, Tallied<'a>>(
+        alloc,
+        &mut first,
+        &mut second,
+        marks,
+        hosts,
+        &mut ops,
+    )?;
     if ops.len() > u32::MAX as usize {
         return Err(NoMemory);
     }
-    Ok(Batch { ops: Ops::of(ops) })
+    let reads = first.reads().saturating_add(second.reads());
+    Ok(Batch {
+        ops: Ops::of(ops),
+        reads,
+    })
 }

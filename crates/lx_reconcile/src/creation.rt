@@ -1,7 +1,7 @@
 //! The operations that make hosts for a node and for all below it.
 
 ghost use Rattle.lx_node.specs.Limits.{last_u32};
-ghost use Rattle.std.specs.Prelude.{◌≡◌, ◌+◌, ◌*◌, ◌≤◌, ◌++◌, ◌∷◌, [], true, None, Some, option_map, IfOk, OnOk};
+ghost use Rattle.std.specs.Prelude.{◌≡◌, ◌+◌, ◌*◌, ◌≤◌, ◌++◌, ◌∷◌, [], ℕ, true, None, Some, option_map, IfOk, OnOk};
 ghost use Rattle.lx_node.specs.NamedTrees.{total};
 ghost use Rattle.lx_host.specs.declared.op.Op.TheVariants.{Place};
 ghost use Rattle.lx_forest.specs.Lookups.{alone, trees_of, children_of, first_child, next_of, has};
@@ -18,8 +18,12 @@ use std::alloc::Global;
 
 /// The kind of the node of the key, where one is given and there is one. It reads that node.
 pub(crate) fn read_kind<S, L: Look<S>>(source: &mut S, key: Option<Key>) -> Option<Kind>
+    requires there { (k : ℕ) → key ≡ Some k → has k (L.forest source.old) ≡ true }
     ensures kind { result ≡ kind_at (L.forest source.old) key }
     ensures same { L.forest source.new ≡ L.forest source.old }
+    ensures lag { L.lag source.new ≤ L.lag source.old }
+    ensures place { L.place source.new ≡ L.place source.old }
+    ensures whole { L.whole source.new ≡ L.whole source.old }
     ensures reads { L.count source.new ≤ L.count source.old + 1 }
 {
     let found = L::look(source, key?)?;
@@ -35,8 +39,12 @@ fn create_host<S, L: Look<S>>(
     id: u32,
     ops: &mut Vec<Op>,
 ) -> Result<(), NoMemory>
+    requires there { (k : ℕ) → node.now.last ≡ Some k → has k (L.forest source.old) ≡ true }
     ensures ops { OnOk result (ops.new.items ≡ ops.old.items ++ create_op id (record { key = key; kind = node.now.kind; fields = node.now.fields }) (kind_at (L.forest source.old) node.now.last) ∷ []) }
     ensures same { L.forest source.new ≡ L.forest source.old }
+    ensures lag { L.lag source.new ≤ L.lag source.old }
+    ensures place { L.place source.new ≡ L.place source.old }
+    ensures whole { L.whole source.new ≡ L.whole source.old }
     ensures reads { L.count source.new ≤ L.count source.old + 1 }
 {
     let last = read_kind::<S, L>(source, node.last);
@@ -70,6 +78,9 @@ pub fn create_tree<S, L: Look<S>>(
     ensures ops { OnOk result (ops.new.items ≡ ops.old.items ++ creation_of id (alone key (L.forest source.old))) }
     ensures next { IfOk result (λ next. next ≡ id + total (alone key (L.forest source.old))) }
     ensures same { L.forest source.new ≡ L.forest source.old }
+    ensures lag { L.lag source.new ≤ L.lag source.old }
+    ensures place { L.place source.new ≡ L.place source.old }
+    ensures whole { L.whole source.new ≡ L.whole source.old }
     ensures reads { L.count source.new + 1 ≤ L.count source.old + 2 * total (alone key (L.forest source.old)) }
 {
     create_host::<S, L>(alloc, source, key, node, id, ops)?;
@@ -94,6 +105,9 @@ pub fn create_children<S, L: Look<S>>(
     ensures ops { OnOk result (ops.new.items ≡ ops.old.items ++ creations host (host + 1) (trees_of (L.forest source.old) (children_of (L.forest source.old) key))) }
     ensures next { IfOk result (λ next. next ≡ host + 1 + total (trees_of (L.forest source.old) (children_of (L.forest source.old) key))) }
     ensures same { L.forest source.new ≡ L.forest source.old }
+    ensures lag { L.lag source.new ≤ L.lag source.old }
+    ensures place { L.place source.new ≡ L.place source.old }
+    ensures whole { L.whole source.new ≡ L.whole source.old }
     ensures reads { L.count source.new ≤ L.count source.old + 2 * total (trees_of (L.forest source.old) (children_of (L.forest source.old) key)) }
 {
     let mut at = first;
@@ -127,6 +141,9 @@ fn create_child<S, L: Look<S>>(
     ensures next_id { IfOk result (λ next. next.0 ≡ id + total (alone key (L.forest source.old))) }
     ensures next { IfOk result (λ next. next.1 ≡ next_of (L.forest source.old) key) }
     ensures same { L.forest source.new ≡ L.forest source.old }
+    ensures lag { L.lag source.new ≤ L.lag source.old }
+    ensures place { L.place source.new ≡ L.place source.old }
+    ensures whole { L.whole source.new ≡ L.whole source.old }
     ensures reads { L.count source.new ≤ L.count source.old + 2 * total (alone key (L.forest source.old)) }
 {
     let Some(found) = L::look(source, key) else {

@@ -1,10 +1,11 @@
 //! The operations that change what a host shows of a node itself: its attributes, its text and its ending.
 
-ghost use Rattle.std.specs.Prelude.{◌≡◌, ◌++◌, ◌∷◌, [], ℕ, Bool, List, true, drop, OnOk, None, Some};
+ghost use Rattle.std.specs.Prelude.{◌≡◌, ◌↔◌, ◌++◌, ◌∷◌, ◌+◌, ◌≤◌, [], ℕ, Bool, List, true, drop, OnOk, None, Some};
 ghost use Rattle.lx_host.specs.declared.op.Op.TheVariants.{Attr};
 ghost use Rattle.lx_host.specs.declared.tag.Tag.{Tag};
 ghost use Rattle.lx_host.specs.Words.{names_rise};
 ghost use Rattle.lx_host.specs.Hosts.{Face, with_ending};
+ghost use Rattle.lx_forest.specs.Lookups.{has};
 ghost use Rattle.lx_forest.specs.Views.{kind_at};
 ghost use Rattle.lx_plain.specs.Render as shown;
 ghost use Rattle.lx_reconcile.specs.Changing.{next_order, Writes, Changes, shown_face};
@@ -67,7 +68,7 @@ fn push_given(
 
 /// Whether two attributes are equal.
 fn are_equal(old: &(Name, Txt), new: &(Name, Txt)) -> bool
-    ensures { result ≡ true → old.now ≡ new.now }
+    ensures { result ≡ true ↔ (old.now ≡ new.now) }
 {
     old.0 == new.0 && old.1.is_equal(&new.1)
 }
@@ -109,19 +110,20 @@ fn push_attributes(
     Ok(())
 }
 
-/// Adds the operation that makes a host's text, which is the first, the second, where they differ. No operation takes
-/// a text away: where that is wanted, there is no answer.
+/// Adds the operation that makes a host's text, which is the first, the second, where they differ. A text that is there
+/// stays one, since no operation takes it away.
 fn push_text(
     host: u32,
     old: Option<Txt>,
     new: Option<Txt>,
     ops: &mut Vec<Op>,
 ) -> Result<(), NoMemory>
+    requires stays { new ≡ None → old ≡ None }
     ensures { OnOk result ((key : ℕ) (tag : Tag) (attrs : List (Name × List ℕ)) (ending : Bool) → Changes host (record { key = key; tag = tag; attrs = attrs; text = old; ending = ending }) (record { key = key; tag = tag; attrs = attrs; text = new; ending = ending }) ops.old.items ops.new.items) }
 {
     match (old, new) {
         (None, None) => Ok(()),
-        (Some(_), None) => Err(NoMemory),
+        (Some(_), None) => unreachable!(),
         (None, Some(new)) => {
             ops.push(Op::Text {
                 id: host,
@@ -144,13 +146,13 @@ fn push_text(
 
 /// Whether a node has the kind and the fields that it had.
 fn is_same(was: &Node, now: &Node) -> bool
-    ensures { result ≡ true → (was.now.kind ≡ now.now.kind) × (was.now.fields ≡ now.now.fields) }
+    ensures { result ≡ true ↔ (was.now.kind ≡ now.now.kind) × (was.now.fields ≡ now.now.fields) }
 {
     was.kind == now.kind && was.fields.is_equal(&now.fields)
 }
 
 /// Adds the operations that make the host of a node, which shows its attributes and text as they were, show them as
-/// they are. Where neither the kind nor the fields differ it makes no description.
+/// they are. A text stays one. Where neither the kind nor the fields differ it makes no description.
 pub(crate) fn push_face(
     alloc: Global,
     host: u32,
@@ -158,7 +160,9 @@ pub(crate) fn push_face(
     now: &Node,
     ops: &mut Vec<Op>,
 ) -> Result<(), NoMemory>
-    ensures { OnOk result ((key : ℕ) (tag : Tag) (ending : Bool) → Changes host (shown_face key tag was.now.kind was.now.fields ending) (shown_face key tag now.now.kind now.now.fields ending) ops.old.items ops.new.items) }
+    requires stays { shown.text_of now.now.fields ≡ None → shown.text_of was.now.fields ≡ None }
+    ensures none { OnOk result (was.now.kind ≡ now.now.kind → was.now.fields ≡ now.now.fields → ops.new.items ≡ ops.old.items) }
+    ensures face { OnOk result ((key : ℕ) (tag : Tag) (ending : Bool) → Changes host (shown_face key tag was.now.kind was.now.fields ending) (shown_face key tag now.now.kind now.now.fields ending) ops.old.items ops.new.items) }
 {
     if is_same(was, now) {
         return Ok(());
@@ -176,7 +180,8 @@ pub(crate) fn push_ending(
     new: bool,
     ops: &mut Vec<Op>,
 ) -> Result<(), NoMemory>
-    ensures { OnOk result ((face : Face) → face.ending ≡ old → Changes host face (with_ending new face) ops.old.items ops.new.items) }
+    ensures none { OnOk result (old ≡ new → ops.new.items ≡ ops.old.items) }
+    ensures ending { OnOk result ((face : Face) → face.ending ≡ old → Changes host face (with_ending new face) ops.old.items ops.new.items) }
 {
     if old == new {
         return Ok(());
@@ -190,8 +195,13 @@ pub(crate) fn push_ending(
 
 /// Whether a line break ends this node. It reads its last child.
 pub(crate) fn is_ended<S, L: Look<S>>(source: &mut S, node: &Node) -> bool
+    requires there { (k : ℕ) → node.now.last ≡ Some k → has k (L.forest source.old) ≡ true }
     ensures ended { result ≡ shown.needs_break node.now.kind (kind_at (L.forest source.old) node.now.last) }
     ensures same { L.forest source.new ≡ L.forest source.old }
+    ensures lag { L.lag source.new ≤ L.lag source.old }
+    ensures place { L.place source.new ≡ L.place source.old }
+    ensures whole { L.whole source.new ≡ L.whole source.old }
+    ensures reads { L.count source.new ≤ L.count source.old + 1 }
 {
     let last = read_kind::<S, L>(source, node.last);
     needs_break(node.kind, last)

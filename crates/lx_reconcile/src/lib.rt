@@ -1,7 +1,10 @@
-//! From one tree to the next: the operations that make a view show a tree.
+//! From one tree to the next: the operations that make a view show a tree. `operations` finds those between two trees from
+//! the marks that cover them, and skips what carries no mark. `unkept` tells how many nodes of the later tree keep no
+//! host, and so how many ids the operations may take. `fresh` makes a view from nothing.
 #![tactic(auto)]
 
 mod batch;
+mod counting;
 mod creation;
 mod faces;
 mod looks;
@@ -12,6 +15,7 @@ mod views;
 mod walking;
 
 pub use batch::{Batch, operations};
+pub use counting::unkept;
 pub use creation::{create_children, create_tree};
 pub use looks::{Look, Looked, Reads};
 pub use moves::Move;

@@ -1,12 +1,12 @@
 //! How a recursion reads a source of nodes. A bound that names a lifetime can't go through a cycle of calls, so the
 //! functions of a cycle take a source of any type, with a type that says how to look into it.
 
-ghost use Rattle.std.specs.Prelude.{◌≡◌, ℕ, option_map};
+ghost use Rattle.std.specs.Prelude.{true, ◌≡◌, ◌+◌, ◌-◌, ◌≤◌, ℕ, option_map};
 ghost use Rattle.lx_node.specs.declared.node.Node.{Node};
-ghost use Rattle.lx_store.specs.Counts.{next_count};
 ghost use Rattle.lx_forest.specs.Forest.{Forest};
 ghost use Rattle.lx_forest.specs.Records.{record_at};
-ghost use Rattle.lx_links.specs.Stands.{node_of};
+ghost use Rattle.lx_forest.specs.Lookups.{alone, has};
+ghost use Rattle.lx_links.specs.Stands.{node_of, Sound};
 
 use lx_links::Records;
 use lx_node::{Key, Node};
@@ -37,14 +37,29 @@ pub trait Look<S> {
     /// The forest that is read.
     ghost forest: { S → Forest };
 
-    /// How often it has been read.
+    /// How many reads it tells of.
     ghost count: { S → ℕ };
+
+    /// How many more the records themselves tell of.
+    ghost lag: { S → ℕ };
+
+    /// The forest of the records themselves.
+    ghost whole: { S → Forest };
+
+    /// What the source borrows, if anything, which stays.
+    ghost place: { S → ℕ };
 
     /// The node of the key, where the forest has one. It counts the call, up to 2^64 - 1.
     fn look(source: &mut S, key: Key) -> Option<Self::Item>
-        ensures found { option_map Self.Item.lent result ≡ option_map node_of (record_at (forest source.old) key) }
+        ensures found { has key (forest source.old) ≡ true → option_map Self.Item.lent result ≡ option_map node_of (record_at (forest source.old) key) }
+        ensures sound { Sound (forest source.old) }
+        ensures whole_found { option_map Self.Item.lent result ≡ option_map node_of (record_at (whole source.old) key) }
+        ensures whole_sound { Sound (whole source.old) }
         ensures same { forest source.new ≡ forest source.old }
-        ensures counted { count source.new ≡ next_count (count source.old) };
+        ensures reads { count source.new ≤ count source.old + 1 }
+        ensures lag { lag source.new ≤ lag source.old }
+        ensures whole { whole source.new ≡ whole source.old }
+        ensures place { place source.new ≡ place source.old };
 }
 
 /// The way to look nodes up in records that lend them for this lifetime.
@@ -57,7 +72,60 @@ impl<'a, R: Records<'a>> Look<R> for Reads<'a> {
 
     ghost count = { R.count };
 
+    ghost lag = { λ r. 0 };
+
+    ghost whole = { R.forest };
+
+    ghost place = { λ r. 0 };
+
     fn look(source: &mut R, key: Key) -> Option<&'a Node> {
         source.read(key)
+    }
+}
+
+/// Records with a number of the reads that went through here.
+#[derive(Drop)]
+pub struct Tally<'r, R> {
+    source: &'r mut R,
+    reads: u64,
+}
+
+impl<'r, R> Tally<'r, R> {
+    /// Nothing was read through it.
+    pub(crate) fn new(source: &'r mut R) -> Tally<'r, R>
+        ensures source { result.source.now ≡ source.entry.now }
+        ensures place { result.source.ghost_name ≡ source.entry.ghost_name }
+        ensures none { result.reads ≡ 0 }
+    {
+        Tally { source, reads: 0 }
+    }
+
+    /// How many reads went through here, up to 2^64 - 1.
+    pub(crate) fn reads(&self) -> u64
+        ensures { result ≡ self.now.reads }
+    {
+        self.reads
+    }
+}
+
+/// The way to look nodes of the root's tree up through a tally.
+pub struct Tallied<'a>(PhantomData<&'a Node>);
+
+impl<'a, 'r, R: Records<'a>> Look<Tally<'r, R>> for Tallied<'a> {
+    type Item = &'a Node;
+
+    ghost forest = { λ t. alone 0 (R.forest t.source.now) };
+
+    ghost count = { λ t. t.reads };
+
+    ghost lag = { λ t. R.count t.source.now - t.reads };
+
+    ghost whole = { λ t. R.forest t.source.now };
+
+    ghost place = { λ t. t.source.ghost_name };
+
+    fn look(tally: &mut Tally<'r, R>, key: Key) -> Option<&'a Node> {
+        tally.reads = tally.reads.saturating_add(1);
+        tally.source.read(key)
     }
 }

@@ -1,21 +1,21 @@
 //! The operations that bring the host of a node, with all below it, from one tree to another one. They go through both
 //! trees side by side.
 
-ghost use Rattle.lx_node.specs.Limits.{last_u32};
-ghost use Rattle.std.specs.Prelude.{◌≡◌, ◌≢◌, ◌+◌, ◌*◌, ◌≤◌, ◌↔◌, ◌++◌, ◌∷◌, [], ℕ, true, IsTrue, None, Some, option_map, IfOk, OnOk};
+ghost use Rattle.lx_node.specs.Limits.{last_u32, last_u64};
+ghost use Rattle.std.specs.Prelude.{◌≡◌, ◌≢◌, ◌+◌, ◌*◌, ◌<◌, ◌≤◌, ◌↔◌, ◌++◌, ◌∷◌, [], ℕ, true, length, IsTrue, None, Some, option_map, IfOk, OnOk};
 ghost use Rattle.lx_node.specs.NamedTrees.{total};
 ghost use Rattle.lx_host.specs.declared.op.Op.TheVariants as op;
 ghost use Rattle.lx_host.specs.Html.{first_tree};
-ghost use Rattle.lx_host.specs.Branches.{IsRooted};
-ghost use Rattle.lx_forest.specs.Lookups.{alone, trees_of, children_of, first_child, next_of, has, IsForest};
+ghost use Rattle.lx_forest.specs.Lookups.{alone, roots, trees_of, children_of, first_child, next_of, has, IsForest};
 ghost use Rattle.lx_forest.specs.Records.{record_at};
 ghost use Rattle.lx_links.specs.Stands.{node_of, Sound};
-ghost use Rattle.lx_plain.specs.Allowed.{hosts_of, Shows};
-ghost use Rattle.lx_reconcile.specs.Allowing.{IsTree, IsAllowed};
+ghost use Rattle.lx_plain.specs.Allowed.{AreCovered, hosts_of, marked_children, unkept, Shows};
+ghost use Rattle.lx_reconcile.specs.Allowing.{marking, IsAllowed};
 ghost use Rattle.lx_plain.specs.Render as shown;
 ghost use Rattle.lx_reconcile.specs.Created.{creation_of};
 ghost use Rattle.lx_reconcile.specs.Reconciled.{host_in};
-ghost use Rattle.lx_reconcile.specs.Walk.{IsWalk};
+ghost use Rattle.lx_reconcile.specs.Walk.{IsWalk, standing};
+ghost use Rattle.lx_reconcile.specs.Reading.{reads_in, reads_below};
 ghost use Rattle.lx_reconcile.specs.Making.{IsBetween, Reconciles, MakesMoves, AreNext, IsNext};
 ghost use Rattle.lx_reconcile.specs.declared.moves.Move.TheVariants.{Stay};
 
@@ -25,15 +25,16 @@ use crate::looks::{Look, Looked};
 use crate::moves::Move;
 use crate::walking::walk;
 use lx_host::{HostTree, Op};
+use lx_marks::Marks;
 use lx_node::{Key, NoMemory, Node};
 use lx_render::tag_of;
 use std::alloc::Global;
 
 /// The id of the host that shows a node.
 pub(crate) fn host_of(hosts: &HostTree, key: Key) -> u32
-    requires shown { hosts_of key hosts.now.hosts ≡ host_in hosts.now key ∷ [] }
-    requires whole { first_tree hosts.now.hosts ≡ hosts.now.hosts }
-    ensures { result ≡ host_in hosts.now key }
+    requires shown { hosts_of key hosts.now.tree.hosts ≡ host_in hosts.now.tree key ∷ [] }
+    requires whole { first_tree hosts.now.tree.hosts ≡ hosts.now.tree.hosts }
+    ensures { result ≡ host_in hosts.now.tree key }
 {
     match hosts.host_of(key) {
         Some(id) => id,
@@ -43,9 +44,9 @@ pub(crate) fn host_of(hosts: &HostTree, key: Key) -> u32
 
 /// The id of the host that shows a node, where one is named.
 fn host_before(hosts: &HostTree, before: Option<Key>) -> Option<u32>
-    requires shown { (k : ℕ) → before ≡ Some k → hosts_of k hosts.now.hosts ≡ host_in hosts.now k ∷ [] }
-    requires whole { first_tree hosts.now.hosts ≡ hosts.now.hosts }
-    ensures { result ≡ option_map (host_in hosts.now) before }
+    requires shown { (k : ℕ) → before ≡ Some k → hosts_of k hosts.now.tree.hosts ≡ host_in hosts.now.tree k ∷ [] }
+    requires whole { first_tree hosts.now.tree.hosts ≡ hosts.now.tree.hosts }
+    ensures { result ≡ option_map (host_in hosts.now.tree) before }
 {
     match before {
         None => None,
@@ -58,6 +59,11 @@ fn found<S, L: Look<S>>(source: &mut S, key: Key) -> L::Item
     requires there { has key (L.forest source.old) ≡ true }
     ensures found { Some (L.Item.lent result) ≡ option_map node_of (record_at (L.forest source.old) key) }
     ensures same { L.forest source.new ≡ L.forest source.old }
+    ensures lag { L.lag source.new ≤ L.lag source.old }
+    ensures place { L.place source.new ≡ L.place source.old }
+    ensures whole { L.whole source.new ≡ L.whole source.old }
+    ensures sound { Sound (L.forest source.old) }
+    ensures reads { L.count source.new ≤ L.count source.old + 1 }
 {
     match L::look(source, key) {
         Some(item) => item,
@@ -70,6 +76,10 @@ fn next_after<S, L: Look<S>>(source: &mut S, key: Key) -> Option<Key>
     requires there { has key (L.forest source.old) ≡ true }
     ensures next { result ≡ next_of (L.forest source.old) key }
     ensures same { L.forest source.new ≡ L.forest source.old }
+    ensures lag { L.lag source.new ≤ L.lag source.old }
+    ensures place { L.place source.new ≡ L.place source.old }
+    ensures whole { L.whole source.new ≡ L.whole source.old }
+    ensures reads { L.count source.new ≤ L.count source.old + 1 }
 {
     let item = found::<S, L>(source, key);
     item.node().next
@@ -86,6 +96,10 @@ fn child_keys<S, L: Look<S>>(
     requires first { first ≡ first_child (L.forest source.old) key }
     ensures keys { IfOk result (λ keys. keys.items ≡ children_of (L.forest source.old) key) }
     ensures same { L.forest source.new ≡ L.forest source.old }
+    ensures lag { L.lag source.new ≤ L.lag source.old }
+    ensures place { L.place source.new ≡ L.place source.old }
+    ensures whole { L.whole source.new ≡ L.whole source.old }
+    ensures reads { L.count source.new ≤ L.count source.old + length (children_of (L.forest source.old) key) }
 {
     let mut keys = Vec::new(alloc);
     let mut at = first;
@@ -97,10 +111,17 @@ fn child_keys<S, L: Look<S>>(
 }
 
 /// Whether a node is shown by the same element as before.
-fn has_same_tag(was: &Node, now: &Node) -> bool
+pub(crate) fn has_same_tag(was: &Node, now: &Node) -> bool
     ensures { IsTrue result ↔ (shown.tag_of was.now.kind was.now.fields ≡ shown.tag_of now.now.kind now.now.fields) }
 {
     tag_of(was.kind, &was.fields) == tag_of(now.kind, &now.fields)
+}
+
+/// Whether a node carries any mark.
+fn is_noted(marks: &Marks, key: Key) -> bool
+    ensures { result ≡ (marking marks.now).noted key }
+{
+    marks.has_leaf(key) || marks.element(key).is_some()
 }
 
 /// Adds the operations that make hosts for a node and all below it, and put them among the children of a host. Gives
@@ -120,6 +141,10 @@ fn make_child<S, L: Look<S>>(
     ensures ops { OnOk result (ops.new.items ≡ ops.old.items ++ creation_of next (alone key (L.forest after.old)) ++ op.Place host next before ∷ []) }
     ensures end { IfOk result (λ end. end ≡ next + total (alone key (L.forest after.old))) }
     ensures same { L.forest after.new ≡ L.forest after.old }
+    ensures lag { L.lag after.new ≤ L.lag after.old }
+    ensures place { L.place after.new ≡ L.place after.old }
+    ensures whole { L.whole after.new ≡ L.whole after.old }
+    ensures reads { L.count after.new ≤ L.count after.old + 2 * total (alone key (L.forest after.old)) }
 {
     let item = found::<S, L>(after, key);
     let end = create_tree::<S, L>(alloc, after, key, item.node(), next, ops)?;
@@ -148,6 +173,10 @@ fn replace_child<S, L: Look<S>>(
     ensures ops { OnOk result (ops.new.items ≡ ops.old.items ++ creation_of next (alone key (L.forest after.old)) ++ op.Place host next (Some old) ∷ [] ++ op.Drop old ∷ []) }
     ensures end { IfOk result (λ end. end ≡ next + total (alone key (L.forest after.old))) }
     ensures same { L.forest after.new ≡ L.forest after.old }
+    ensures lag { L.lag after.new ≤ L.lag after.old }
+    ensures place { L.place after.new ≡ L.place after.old }
+    ensures whole { L.whole after.new ≡ L.whole after.old }
+    ensures reads { L.count after.new ≤ L.count after.old + 2 * total (alone key (L.forest after.old)) }
 {
     let end = make_child::<S, L>(alloc, after, host, key, Some(old), next, ops)?;
     ops.push(Op::Drop { id: old })?;
@@ -172,42 +201,64 @@ fn moves_of<B, A, O: Look<B>, N: Look<A>>(
     ensures walk { IfOk result (λ moves. IsWalk (children_of (O.forest before.old) key) (children_of (N.forest after.old) key) moves.items) }
     ensures before { O.forest before.new ≡ O.forest before.old }
     ensures after { N.forest after.new ≡ N.forest after.old }
+    ensures lag_before { O.lag before.new ≤ O.lag before.old }
+    ensures place_before { O.place before.new ≡ O.place before.old }
+    ensures whole_before { O.whole before.new ≡ O.whole before.old }
+    ensures lag_after { N.lag after.new ≤ N.lag after.old }
+    ensures place_after { N.place after.new ≡ N.place after.old }
+    ensures whole_after { N.whole after.new ≡ N.whole after.old }
+    ensures reads_before { O.count before.new ≤ O.count before.old + length (children_of (O.forest before.old) key) }
+    ensures reads_after { N.count after.new ≤ N.count after.old + length (children_of (N.forest after.old) key) }
 {
     let old = child_keys::<B, O>(alloc, before, key, was)?;
     let new = child_keys::<A, N>(alloc, after, key, now)?;
     walk(alloc, old.as_slice(), new.as_slice())
 }
 
+/// What all of these functions are given.
+#[derive(Clone, Copy)]
+pub(crate) struct Given<'v> {
+    alloc: Global,
+    marks: &'v Marks,
+    hosts: &'v HostTree,
+}
+
 /// Adds the operations for a node that both trees have at the same place, with the same element. Gives the next id.
 #[cycle(reconciling)]
 pub(crate) fn reconcile_node<B, A, O: Look<B>, N: Look<A>>(
-    alloc: Global,
+    given: &Given<'_>,
     before: &mut B,
     after: &mut A,
-    hosts: &HostTree,
     key: Key,
     was: &Node,
     now: &Node,
     next: u32,
     ops: &mut Vec<Op>,
 ) -> Result<u32, NoMemory>
-    requires between { IsBetween (O.forest before.old) (N.forest after.old) hosts.now }
+    requires between { IsBetween (O.forest before.old) (N.forest after.old) (marking given.now.marks.now) given.now.hosts.now.tree }
     requires was { Some was.now ≡ option_map node_of (record_at (O.forest before.old) key) }
     requires now { Some now.now ≡ option_map node_of (record_at (N.forest after.old) key) }
     requires tag { shown.tag_of was.now.kind was.now.fields ≡ shown.tag_of now.now.kind now.now.fields }
-    requires room { next + total (alone key (N.forest after.old)) ≤ last_u32 }
-    ensures done { IfOk result (λ end. Reconciles (O.forest before.old) (N.forest after.old) hosts.now key next ops.old.items ops.new.items end) }
+    requires behind { given.now.hosts.now.tree.next ≤ next }
+    requires room { next + unkept (O.forest before.old) (Some key) (trees_of (N.forest after.old) (children_of (N.forest after.old) key)) ≤ last_u32 }
+    ensures done { IfOk result (λ end. Reconciles (O.forest before.old) (N.forest after.old) (marking given.now.marks.now) given.now.hosts.now.tree key next ops.old.items ops.new.items end) }
     ensures before { O.forest before.new ≡ O.forest before.old }
     ensures after { N.forest after.new ≡ N.forest after.old }
+    ensures lag_before { O.lag before.new ≤ O.lag before.old }
+    ensures place_before { O.place before.new ≡ O.place before.old }
+    ensures whole_before { O.whole before.new ≡ O.whole before.old }
+    ensures lag_after { N.lag after.new ≤ N.lag after.old }
+    ensures place_after { N.place after.new ≡ N.place after.old }
+    ensures whole_after { N.whole after.new ≡ N.whole after.old }
+    ensures reads { O.count before.new + N.count after.new ≤ O.count before.old + N.count after.old + reads_below (O.forest before.old) (N.forest after.old) (marking given.now.marks.now).noted key }
 {
-    let host = host_of(hosts, key);
-    push_face(alloc, host, was, now, ops)?;
-    let moves = moves_of::<B, A, O, N>(alloc, before, after, key, was.first, now.first)?;
+    let host = host_of(given.hosts, key);
+    push_face(given.alloc, host, was, now, ops)?;
+    let moves = moves_of::<B, A, O, N>(given.alloc, before, after, key, was.first, now.first)?;
     let end = make_moves::<B, A, O, N>(
-        alloc,
+        given,
         before,
         after,
-        hosts,
         key,
         host,
         moves.as_slice(),
@@ -223,26 +274,32 @@ pub(crate) fn reconcile_node<B, A, O: Look<B>, N: Look<A>>(
 /// Adds the operations for the children of a node, which are these moves. Gives the next id.
 #[cycle(reconciling)]
 fn make_moves<B, A, O: Look<B>, N: Look<A>>(
-    alloc: Global,
+    given: &Given<'_>,
     before: &mut B,
     after: &mut A,
-    hosts: &HostTree,
     parent: Key,
     host: u32,
     moves: &[Move],
     next: u32,
     ops: &mut Vec<Op>,
 ) -> Result<u32, NoMemory>
-    requires between { IsBetween (O.forest before.old) (N.forest after.old) hosts.now }
-    requires host { host ≡ host_in hosts.now parent }
-    requires coming { AreNext (O.forest before.old) (N.forest after.old) hosts.now parent moves.now next }
-    ensures done { IfOk result (λ end. MakesMoves (O.forest before.old) (N.forest after.old) hosts.now parent moves.now next ops.old.items ops.new.items end) }
+    requires between { IsBetween (O.forest before.old) (N.forest after.old) (marking given.now.marks.now) given.now.hosts.now.tree }
+    requires host { host ≡ host_in given.now.hosts.now.tree parent }
+    requires coming { AreNext (O.forest before.old) (N.forest after.old) given.now.hosts.now.tree parent moves.now next }
+    ensures done { IfOk result (λ end. MakesMoves (O.forest before.old) (N.forest after.old) (marking given.now.marks.now) given.now.hosts.now.tree parent moves.now next ops.old.items ops.new.items end) }
     ensures before { O.forest before.new ≡ O.forest before.old }
     ensures after { N.forest after.new ≡ N.forest after.old }
+    ensures lag_before { O.lag before.new ≤ O.lag before.old }
+    ensures place_before { O.place before.new ≡ O.place before.old }
+    ensures whole_before { O.whole before.new ≡ O.whole before.old }
+    ensures lag_after { N.lag after.new ≤ N.lag after.old }
+    ensures place_after { N.place after.new ≡ N.place after.old }
+    ensures whole_after { N.whole after.new ≡ N.whole after.old }
+    ensures reads { O.count before.new + N.count after.new ≤ O.count before.old + N.count after.old + reads_in (O.forest before.old) (marking given.now.marks.now).noted (Some parent) (trees_of (N.forest after.old) (standing moves.now)) }
 {
     let mut id = next;
     for step in moves {
-        match make_move::<B, A, O, N>(alloc, before, after, hosts, parent, host, *step, id, ops) {
+        match make_move::<B, A, O, N>(given, before, after, parent, host, *step, id, ops) {
             Ok(end) => id = end,
             Err(error) => return Err(error),
         }
@@ -253,30 +310,36 @@ fn make_moves<B, A, O: Look<B>, N: Look<A>>(
 /// Adds the operations for one move. Gives the next id.
 #[cycle(reconciling)]
 fn make_move<B, A, O: Look<B>, N: Look<A>>(
-    alloc: Global,
+    given: &Given<'_>,
     before: &mut B,
     after: &mut A,
-    hosts: &HostTree,
     parent: Key,
     host: u32,
     step: Move,
     next: u32,
     ops: &mut Vec<Op>,
 ) -> Result<u32, NoMemory>
-    requires between { IsBetween (O.forest before.old) (N.forest after.old) hosts.now }
-    requires host { host ≡ host_in hosts.now parent }
-    requires coming { IsNext (O.forest before.old) (N.forest after.old) hosts.now parent step next }
-    ensures done { IfOk result (λ end. MakesMoves (O.forest before.old) (N.forest after.old) hosts.now parent (step ∷ []) next ops.old.items ops.new.items end) }
+    requires between { IsBetween (O.forest before.old) (N.forest after.old) (marking given.now.marks.now) given.now.hosts.now.tree }
+    requires host { host ≡ host_in given.now.hosts.now.tree parent }
+    requires coming { IsNext (O.forest before.old) (N.forest after.old) given.now.hosts.now.tree parent step next }
+    ensures done { IfOk result (λ end. MakesMoves (O.forest before.old) (N.forest after.old) (marking given.now.marks.now) given.now.hosts.now.tree parent (step ∷ []) next ops.old.items ops.new.items end) }
     ensures before { O.forest before.new ≡ O.forest before.old }
     ensures after { N.forest after.new ≡ N.forest after.old }
+    ensures lag_before { O.lag before.new ≤ O.lag before.old }
+    ensures place_before { O.place before.new ≡ O.place before.old }
+    ensures whole_before { O.whole before.new ≡ O.whole before.old }
+    ensures lag_after { N.lag after.new ≤ N.lag after.old }
+    ensures place_after { N.place after.new ≡ N.place after.old }
+    ensures whole_after { N.whole after.new ≡ N.whole after.old }
+    ensures reads { O.count before.new + N.count after.new ≤ O.count before.old + N.count after.old + reads_in (O.forest before.old) (marking given.now.marks.now).noted (Some parent) (trees_of (N.forest after.old) (standing (step ∷ []))) }
 {
     match step {
         Move::Stay(key) => {
-            reconcile_child::<B, A, O, N>(alloc, before, after, hosts, parent, host, key, next, ops)
+            reconcile_child::<B, A, O, N>(given, before, after, parent, host, key, next, ops)
         }
         Move::Leave(key) => {
             ops.push(Op::Drop {
-                id: host_of(hosts, key),
+                id: host_of(given.hosts, key),
             })?;
             Ok(next)
         }
@@ -284,8 +347,8 @@ fn make_move<B, A, O: Look<B>, N: Look<A>>(
             key,
             before: behind,
         } => {
-            let behind = host_before(hosts, behind);
-            make_child::<A, N>(alloc, after, host, key, behind, next, ops)
+            let behind = host_before(given.hosts, behind);
+            make_child::<A, N>(given.alloc, after, host, key, behind, next, ops)
         }
         Move::Place {
             key,
@@ -293,50 +356,57 @@ fn make_move<B, A, O: Look<B>, N: Look<A>>(
         } => {
             ops.push(Op::Place {
                 parent: host,
-                child: host_of(hosts, key),
-                before: host_before(hosts, behind),
+                child: host_of(given.hosts, key),
+                before: host_before(given.hosts, behind),
             })?;
-            reconcile_child::<B, A, O, N>(alloc, before, after, hosts, parent, host, key, next, ops)
+            reconcile_child::<B, A, O, N>(given, before, after, parent, host, key, next, ops)
         }
     }
 }
 
-/// Adds the operations for a child that both trees have. Gives the next id.
+/// Adds the operations for a child that both trees have: none where it carries no mark. Gives the next id.
 #[cycle(reconciling)]
 fn reconcile_child<B, A, O: Look<B>, N: Look<A>>(
-    alloc: Global,
+    given: &Given<'_>,
     before: &mut B,
     after: &mut A,
-    hosts: &HostTree,
     parent: Key,
     host: u32,
     key: Key,
     next: u32,
     ops: &mut Vec<Op>,
 ) -> Result<u32, NoMemory>
-    requires between { IsBetween (O.forest before.old) (N.forest after.old) hosts.now }
-    requires host { host ≡ host_in hosts.now parent }
-    requires coming { IsNext (O.forest before.old) (N.forest after.old) hosts.now parent (Stay key) next }
-    ensures done { IfOk result (λ end. MakesMoves (O.forest before.old) (N.forest after.old) hosts.now parent (Stay key ∷ []) next ops.old.items ops.new.items end) }
+    requires between { IsBetween (O.forest before.old) (N.forest after.old) (marking given.now.marks.now) given.now.hosts.now.tree }
+    requires host { host ≡ host_in given.now.hosts.now.tree parent }
+    requires coming { IsNext (O.forest before.old) (N.forest after.old) given.now.hosts.now.tree parent (Stay key) next }
+    ensures done { IfOk result (λ end. MakesMoves (O.forest before.old) (N.forest after.old) (marking given.now.marks.now) given.now.hosts.now.tree parent (Stay key ∷ []) next ops.old.items ops.new.items end) }
     ensures before { O.forest before.new ≡ O.forest before.old }
     ensures after { N.forest after.new ≡ N.forest after.old }
+    ensures lag_before { O.lag before.new ≤ O.lag before.old }
+    ensures place_before { O.place before.new ≡ O.place before.old }
+    ensures whole_before { O.whole before.new ≡ O.whole before.old }
+    ensures lag_after { N.lag after.new ≤ N.lag after.old }
+    ensures place_after { N.place after.new ≡ N.place after.old }
+    ensures whole_after { N.whole after.new ≡ N.whole after.old }
+    ensures reads { O.count before.new + N.count after.new ≤ O.count before.old + N.count after.old + reads_in (O.forest before.old) (marking given.now.marks.now).noted (Some parent) (alone key (N.forest after.old)) }
 {
+    if !is_noted(given.marks, key) {
+        return Ok(next);
+    }
     let was = found::<B, O>(before, key);
     let now = found::<A, N>(after, key);
     if has_same_tag(was.node(), now.node()) {
-        reconcile_node::<B, A, O, N>(
-            alloc,
-            before,
+        reconcile_node::<B, A, O, N>(given, before, after, key, was.node(), now.node(), next, ops)
+    } else {
+        replace_child::<A, N>(
+            given.alloc,
             after,
-            hosts,
+            host,
             key,
-            was.node(),
-            now.node(),
+            host_of(given.hosts, key),
             next,
             ops,
         )
-    } else {
-        replace_child::<A, N>(alloc, after, host, key, host_of(hosts, key), next, ops)
     }
 }
 
@@ -345,27 +415,44 @@ pub(crate) fn reconcile_root<B, A, O: Look<B>, N: Look<A>>(
     alloc: Global,
     before: &mut B,
     after: &mut A,
+    marks: &Marks,
     hosts: &HostTree,
     ops: &mut Vec<Op>,
 ) -> Result<(), NoMemory>
-    requires before { IsTree (O.forest before.old) }
-    requires after { IsTree (N.forest after.old) }
-    requires shown { Shows hosts.now (O.forest before.old) }
-    requires rooted { IsRooted hosts.now.hosts }
-    requires room { hosts.now.next + total (N.forest after.old) ≤ last_u32 }
+    requires rooted_before { has 0 (O.forest before.old) ≡ true }
+    requires rooted_after { has 0 (N.forest after.old) ≡ true }
+    requires alone_before { Sound (O.forest before.old) → roots (O.forest before.old) ≡ 0 ∷ [] }
+    requires alone_after { Sound (N.forest after.old) → roots (N.forest after.old) ≡ 0 ∷ [] }
+    requires covered { AreCovered (O.forest before.old) (N.forest after.old) (marking marks.now) }
+    requires shown { Shows hosts.now.tree (O.forest before.old) }
+    requires room { hosts.now.tree.next + unkept (O.forest before.old) None (N.forest after.old) ≤ last_u32 }
     requires none { ops.old.items ≡ [] }
-    ensures allowed { OnOk result (IsAllowed (O.forest before.old) (N.forest after.old) hosts.now ops.new.items) }
+    ensures allowed { OnOk result (IsAllowed (O.forest before.old) (N.forest after.old) (marking marks.now) hosts.now.tree ops.new.items) }
+    ensures fits { 8 * (marked_children (marking marks.now).noted (O.forest before.old) + marked_children (marking marks.now).noted (N.forest after.old) + unkept (O.forest before.old) None (N.forest after.old) + 1) < last_u64 }
     ensures before { O.forest before.new ≡ O.forest before.old }
     ensures after { N.forest after.new ≡ N.forest after.old }
+    ensures lag_before { O.lag before.new ≤ O.lag before.old }
+    ensures place_before { O.place before.new ≡ O.place before.old }
+    ensures whole_before { O.whole before.new ≡ O.whole before.old }
+    ensures lag_after { N.lag after.new ≤ N.lag after.old }
+    ensures place_after { N.place after.new ≡ N.place after.old }
+    ensures whole_after { N.whole after.new ≡ N.whole after.old }
+    ensures reads { O.count before.new + N.count after.new ≤ O.count before.old + N.count after.old + 8 * (marked_children (marking marks.now).noted (O.forest before.old) + marked_children (marking marks.now).noted (N.forest after.old) + unkept (O.forest before.old) None (N.forest after.old) + 1) }
 {
     let key = Key::root();
     let next = hosts.next_id();
     let was = found::<B, O>(before, key);
     let now = found::<A, N>(after, key);
+    if !is_noted(marks, key) {
+        return Ok(());
+    }
     let was_node = was.node();
     let now_node = now.node();
-    reconcile_node::<B, A, O, N>(
-        alloc, before, after, hosts, key, was_node, now_node, next, ops,
-    )?;
+    let given = Given {
+        alloc,
+        marks,
+        hosts,
+    };
+    reconcile_node::<B, A, O, N>(&given, before, after, key, was_node, now_node, next, ops)?;
     Ok(())
 }

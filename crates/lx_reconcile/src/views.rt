@@ -22,14 +22,15 @@ use std::alloc::Global;
 /// The view made from nothing: a host tree that shows the root's tree of the state, and nothing else. It
 /// gives as many ids as that tree has nodes. Links that have failed have no root, and want memory.
 pub fn fresh(alloc: Global, state: &State) -> Result<HostTree, NoMemory>
-    ensures shows { IfOk result (λ view. Shows view (alone 0 state.now.links)) }
-    ensures rooted { IfOk result (λ view. IsRooted view.hosts) }
-    ensures next { IfOk result (λ view. view.next ≡ total (alone 0 state.now.links)) }
+    ensures shows { IfOk result (λ view. Shows view.tree (alone 0 state.now.links)) }
+    ensures rooted { IfOk result (λ view. IsRooted view.tree.hosts) }
+    ensures next { IfOk result (λ view. view.tree.next ≡ total (alone 0 state.now.links)) }
     ensures living { OnOk result (state.now.links ≢ nil) }
 {
     let ops = operations(alloc, &state.links)?;
     let mut view = HostTree::new(alloc)?;
-    view.apply(ops)?;
+    view.reserve(&ops)?;
+    view.apply(ops);
     Ok(view)
 }
 

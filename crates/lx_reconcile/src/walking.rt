@@ -1,6 +1,7 @@
-ghost use Rattle.std.specs.Prelude.{◌≡◌, ◌+◌, ◌<◌, ◌↔◌, IfOk, OnOk, IsTrue, length, take};
+ghost use Rattle.std.specs.Prelude.{◌≡◌, ◌+◌, ◌<◌, ◌↔◌, IfOk, OnOk, IsTrue, length, take, map};
 ghost use Rattle.lx_node.specs.Siblings.{NoRepeats};
 ghost use Rattle.lx_reconcile.specs.Walk.{IsWalk};
+ghost use Rattle.lx_reconcile.specs.declared.moves.Move.TheVariants.{Stay};
 ghost use Rattle.lx_reconcile.specs.Underway.{IsAlong, left_of};
 
 use crate::Move;
@@ -18,8 +19,39 @@ use std::alloc::Global;
 /// at the cursor, and the next one before waits for its turn. What is left of the one list then leaves, or
 /// what is left of the other is made at the end.
 ///
-/// The time that is expected is in proportion to both lists.
+/// The time that is expected is in proportion to both lists. Where they are equal, each child stays, and no set of them
+/// is made.
 pub fn walk(alloc: Global, old: &[Key], new: &[Key]) -> Result<Vec<Move>, NoMemory>
+    requires old { NoRepeats old.now }
+    requires new { NoRepeats new.now }
+    ensures walk { IfOk result (λ moves. IsWalk old.now new.now moves.items) }
+{
+    if are_same(old, new) {
+        return all_stay(alloc, old);
+    }
+    walk_over(alloc, old, new)
+}
+
+/// Whether two lists of children are equal.
+fn are_same(old: &[Key], new: &[Key]) -> bool
+    ensures { IsTrue result ↔ (old.now ≡ new.now) }
+{
+    old == new
+}
+
+/// Each of these children stays.
+fn all_stay(alloc: Global, keys: &[Key]) -> Result<Vec<Move>, NoMemory>
+    ensures { IfOk result (λ moves. moves.items ≡ map Stay keys.now) }
+{
+    let mut moves = Vec::new(alloc);
+    for key in keys {
+        moves.extend_from_slice(&[Move::Stay(*key)])?;
+    }
+    Ok(moves)
+}
+
+/// The walk over both lists, side by side.
+fn walk_over(alloc: Global, old: &[Key], new: &[Key]) -> Result<Vec<Move>, NoMemory>
     requires old { NoRepeats old.now }
     requires new { NoRepeats new.now }
     ensures walk { IfOk result (λ moves. IsWalk old.now new.now moves.items) }

@@ -1,12 +1,12 @@
 use Rattle.std.proofs.Common.{sym, ap, ◌∙◌, rules, arith}
 use Rattle.std.specs.Prelude.{option_map}
 use Rattle.std.proofs.lemmas.Result.{on_ok_weaker}
-use Rattle.lx_reconcile.proofs.Children.{is_found, made_tree, children_fit, next_same, child_fits, made_child, fewer_left, left_with}
+use Rattle.lx_reconcile.proofs.Children.{last_there, is_found, made_tree, children_fit, next_same, child_fits, made_child, fewer_left, left_with}
 use Rattle.lx_reconcile.proofs.creation.+creation.Goals as goal
 
 pub create_child-unreachable-requires : goal.create_child-unreachable-requires
 create_child-unreachable-requires g t c =
-    is_found (g.L.Look.forest c.args.source.now) c.args.key c.requires.there (sym (ap (option_map g.L.Item.Looked.lent) c.in_default.is) ∙ c.look.ensures.found)
+    is_found (g.L.Look.forest c.args.source.now) c.args.key c.requires.there (sym (ap (option_map g.L.Item.Looked.lent) c.in_default.is) ∙ c.look.ensures.found c.requires.there)
 
 pub create_children-create_child-requires : goal.create_children-create_child-requires
 create_children-create_child-requires g t c =
@@ -21,6 +21,9 @@ pub create_children-loop-at-preserved : goal.create_children-loop-at-preserved
 create_children-loop-at-preserved g t c = record {
   same = c.in-Ok.ensures.same ∙ c.loop-at.invariant.same;
   made = made_child _ _ _ _ _ _ _ _ _ _ _ _ c.loop-at.invariant.same c.requires.sound c.in-Some.is c.loop-at.invariant.made c.in-Ok.ensures.next c.in-Ok.ensures.next_id c.in-Ok.ensures.ops;
+  lag = omega (arith, c.in-Ok.ensures.lag, c.loop-at.invariant.lag);
+  place = c.in-Ok.ensures.place ∙ c.loop-at.invariant.place;
+  whole = c.in-Ok.ensures.whole ∙ c.loop-at.invariant.whole;
   reads = omega (arith, c.loop-at.invariant.reads, c.in-Ok.ensures.reads, left_with _ _ c.args.key c.in-Some.child _ _ c.loop-at.invariant.same c.requires.sound c.in-Some.is c.loop-at.invariant.made.place c.in-Ok.ensures.next);
 }
 
@@ -51,3 +54,6 @@ pub create_tree-returns-clause-reads : goal.create_tree-returns-clause-reads
 create_tree-returns-clause-reads g t c =
     let h = children_fit _ _ _ c.args.id _ c.create_host.ensures.same c.requires.sound c.requires.read c.requires.room in
     omega (arith, c.create_host.ensures.reads, c.create_children.ensures.reads, h.all)
+
+pub create_tree-create_host-requires : goal.create_tree-create_host-requires
+create_tree-create_host-requires g t c = record { there = last_there (g.L.Look.forest c.args.source.now) c.args.key c.args.node.now c.requires.sound c.requires.read }

@@ -18,6 +18,9 @@ abbrev pub invariant-create_children-loop-at : goal.invariant-create_children-lo
 invariant-create_children-loop-at g l = record {
   same : g.L.Look.forest l.source ≡ g.L.Look.forest l.initial.source;
   made : IsMadeUpTo (g.L.Look.forest l.initial.source) l.fn.key l.host l.initial.ops.items l.at l.id l.ops.items;
+  lag : g.L.Look.lag l.source ≤ g.L.Look.lag l.initial.source;
+  place : g.L.Look.place l.source ≡ g.L.Look.place l.initial.source;
+  whole : g.L.Look.whole l.source ≡ g.L.Look.whole l.initial.source;
   reads : g.L.Look.count l.source + 2 * total (trees_of (g.L.Look.forest l.initial.source) (from_name l.at (children_of (g.L.Look.forest l.initial.source) l.fn.key))) ≤ g.L.Look.count l.initial.source + 2 * total (trees_of (g.L.Look.forest l.initial.source) (children_of (g.L.Look.forest l.initial.source) l.fn.key));
 }
 

@@ -1,13 +1,9 @@
-use Rattle.std.proofs.lemmas.Bool.{false≢true}
-use Rattle.lx_reconcile.proofs.Along.{along-begun, along-ended}
+use Rattle.std.proofs.lemmas.Result.{IfOk-weaker}
+use Rattle.lx_reconcile.specs.Walk.{IsWalk}
+use Rattle.lx_reconcile.proofs.Staying.{all_staying}
 use Rattle.lx_reconcile.proofs.walking.walk.Goals as goal
 
-pub loop-walk-init : goal.loop-walk-init
-loop-walk-init c =
-    along-begun c.args.old.now c.args.new.now c.new-walk.result c.requires.old c.requires.new c.new-walk.ensures.passed c.new-walk.ensures.reached c.new-walk.ensures.at
-    c.new-walk.ensures.handled c.new-walk.ensures.moves
-
-pub returns : goal.returns
-returns c = record {
-  walk = along-ended c.args.old.now c.args.new.now c.loop-walk.walk c.loop-walk.invariant (λ e. false≢true (c.loop-walk-test.ensures.1 e));
+pub returns-then-are_same : goal.returns-then-are_same
+returns-then-are_same c = record {
+  walk = IfOk-weaker c.all_stay.result _ (λ moves. IsWalk c.args.old.now c.args.new.now moves.items) (λ moves is. all_staying c.args.old.now c.args.new.now moves.items (c.are_same.ensures.0 c.if-are_same.true) is) c.all_stay.ensures;
 }

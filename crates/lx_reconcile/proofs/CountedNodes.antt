@@ -1,0 +1,252 @@
+-- Which nodes are found kept, and how many aren't.
+use Rattle.std.proofs.Common.{◌≡◌, ◌∙◌, ◌+◌, ◌<◌, ◌≤◌, ℕ, ◌&&◌, ◌^◌, Bool, true, false, cond, eqb, ◌∷◌, Option, None, Some, option_map, is_some, inl, inr, refl, sym, ap, arith, eq-eqb}
+use Rattle.std.proofs.lemmas.Bool.{cases_Bool}
+use Rattle.std.proofs.lemmas.Bool.Decides.{eqb_tells}
+use Rattle.std.proofs.lemmas.Option.{same_Some}
+use Rattle.lx_node.specs.Trees.{nil, tree, joined}
+use Rattle.lx_node.specs.NamedTrees.{total}
+use Rattle.lx_node.specs.Siblings.{is_place, next_in, from_name}
+use Rattle.lx_node.specs.Spots.{Spot, parent_at, children_at}
+use Rattle.lx_node.specs.declared.node.Node.{Node}
+use Rattle.lx_node.proofs.NamedTrees.{total-joined, total-without-alone}
+use Rattle.lx_node.proofs.Subtrees.{count-alone-le}
+use Rattle.lx_node.proofs.Positions.{from_name-first}
+use Rattle.lx_host.specs.declared.tag.Tag.{Tag}
+use Rattle.lx_forest.specs.Forest.{Label, Forest}
+use Rattle.lx_forest.specs.Lookups.{key_of, has, alone, spot, siblings, children_of, trees_of, first_child, next_of, is_attached, IsForest}
+use Rattle.lx_forest.specs.Records.{linked, record_at}
+use Rattle.lx_forest.proofs.Edits.{is_some-spot}
+use Rattle.lx_forest.proofs.Lookups.{alone-spot}
+use Rattle.lx_forest.proofs.Walks.{spot_in_tree, is_attached-up, total-alone-lt}
+use Rattle.lx_links.specs.Stands.{node_of, Sound}
+use Rattle.lx_links.proofs.Up.{in_order_at}
+use Rattle.lx_plain.specs.Render.{tag_of}
+use Rattle.lx_plain.specs.Allowed.{places_of, tag_number, is_parent, is_only}
+use Rattle.lx_reconcile.specs.Counting.{IsInTree, unkept_in}
+use Rattle.lx_reconcile.proofs.Attached.{tree_order}
+use Rattle.lx_reconcile.proofs.Children.{label_from, is_read, tree_read, total_read, child_left, first_place, next_place}
+use Rattle.lx_reconcile.proofs.Kept.{places_at, places_of-spot}
+use Rattle.lx_reconcile.proofs.UnkeptNodes.{same_tag, unkept-joined, unkept-total}
+
+-- ---- a node as it was
+
+-- what a read tells of the place of a node
+record IsSeen (f : Forest) (key : ℕ) (n : Node) : Type 0 where
+  at : Spot Label
+  at_is : spot f key ≡ Some at
+  tag : tag_of n.kind n.fields ≡ tag_of at.label.kind at.label.fields
+  parent : n.parent ≡ at.parent
+
+is_seen : (f : Forest) (key : ℕ) (n : Node) → Some n ≡ option_map node_of (record_at f key) → IsSeen f key n
+is_seen f key n e = from_spot (spot f key) refl e where
+  from_spot : (o : Option (Spot Label)) → spot f key ≡ o → Some n ≡ option_map node_of (option_map (linked (siblings f key) key) o) → IsSeen f key n
+  from_spot None at e = absurd (cc)
+  from_spot (Some x) at e =
+      let same : n ≡ node_of (linked (siblings f key) key x) = same_Some n (node_of (linked (siblings f key) key x)) e in
+      record { at = x; at_is = at; tag = ap (λ (n : Node). tag_of n.kind n.fields) same; parent = ap (λ (n : Node). n.parent) same }
+
+unseen : (f : Forest) (key : ℕ) → None ≡ option_map node_of (record_at f key) → spot f key ≡ None
+unseen f key e = from_spot (spot f key) e where
+  from_spot : (o : Option (Spot Label)) → None ≡ option_map node_of (option_map (linked (siblings f key) key) o) → o ≡ None
+  from_spot None e = refl
+  from_spot (Some x) e = absurd (cc)
+
+same_parent : (o p : Option ℕ) → is_parent o p ≡ true → o ≡ p
+same_parent None None e = refl
+same_parent None (Some p) e = absurd (cc)
+same_parent (Some q) None e = absurd (cc)
+same_parent (Some q) (Some p) e = elim (eqb_tells q p) [
+  | inl same ↦ ap (λ x. Some x) same.1
+  | inr other ↦ absurd (let no = other.0 in cc)
+]
+
+-- where a node stands in the root's tree
+module _ (f : Forest) (parent : Option ℕ) (q : ℕ) (s : Sound f) (above : IsInTree f parent q) where
+  order : IsForest f
+  order = by_parent parent above where
+    by_parent : (o : Option ℕ) → IsInTree f o q → IsForest f
+    by_parent None there = tree_order f q s there
+    by_parent (Some p) there = tree_order f p s there
+
+  places : places_of q None (alone 0 f) ≡ places_at (cond (is_attached f q) (spot f q) None)
+  places =
+      places_of-spot q None (alone 0 f) (omega (arith, order.once q, count-alone-le key_of q 0 f))
+      ∙ ap places_at (spot_in_tree f q order)
+
+  -- below its parent it is in the tree if that one is
+  attached : (x : Spot Label) → spot f q ≡ Some x → is_parent x.parent parent ≡ true → is_attached f q ≡ true
+  attached x at e = by_parent parent above (same_parent x.parent parent e) where
+    by_parent : (o : Option ℕ) → IsInTree f o q → x.parent ≡ o → is_attached f q ≡ true
+    by_parent None there up = there
+    by_parent (Some p) there up = is_attached-up f q p order (ap parent_at at ∙ up) ∙ there
+
+  pub kept_none : (tag : Tag) → None ≡ option_map node_of (record_at f q) → false ≡ is_only parent tag (places_of q None (alone 0 f))
+  kept_none tag e = sym (ap (is_only parent tag) (places ∙ ap places_at (ap (λ o. cond (is_attached f q) o None) (unseen f q e) ∙ either (is_attached f q)))) where
+    no_spot : Option (Spot Label)
+    no_spot = None
+
+    either : (b : Bool) → cond b no_spot no_spot ≡ no_spot
+    either true = refl
+    either false = refl
+
+  pub kept_some : (tag : Tag) (n : Node) → Some n ≡ option_map node_of (record_at f q)
+      → (is_parent n.parent parent && eqb (tag_number (tag_of n.kind n.fields)) (tag_number tag)) ≡ is_only parent tag (places_of q None (alone 0 f))
+  kept_some tag n e =
+      let x = is_seen f q n e in
+      let same = λ (t : Tag). eqb (tag_number t) (tag_number tag) in
+      ap (λ p. is_parent p parent && same (tag_of n.kind n.fields)) x.parent
+      ∙ ap (λ t. is_parent x.at.parent parent && same t) x.tag
+      ∙ elim (cases_Bool (is_attached f q)) [
+        | inl inside ↦ sym (ap (is_only parent tag) (places ∙ ap places_at (ap (λ b. cond b (spot f q) None) inside ∙ x.at_is)))
+        | inr out ↦
+            not_here x.at (same (tag_of x.at.label.kind x.at.label.fields)) x.at_is out
+            ∙ sym (ap (is_only parent tag) (places ∙ ap places_at (ap (λ b. cond b (spot f q) None) out)))
+      ]
+    where
+      not_here : (x : Spot Label) (b : Bool) → spot f q ≡ Some x → is_attached f q ≡ false → (is_parent x.parent parent && b) ≡ false
+      not_here x b at out = elim (cases_Bool (is_parent x.parent parent)) [
+        | inl up ↦ absurd (let there = attached x at up in cc)
+        | inr other ↦ ap (λ c. c && b) other
+      ]
+
+  -- a kept node is in the tree
+  pub kept_inside : (tag : Tag) → is_only parent tag (places_of q None (alone 0 f)) ≡ true → is_attached f q ≡ true
+  kept_inside tag e = elim (cases_Bool (is_attached f q)) [
+    | inl there ↦ there
+    | inr out ↦ absurd (let none = ap (is_only parent tag) (places ∙ ap places_at (ap (λ b. cond b (spot f q) None) out)) in cc)
+  ]
+
+-- ---- by what the code knows
+
+-- where the parent is kept
+pub and_kept : (kept x only : Bool) → kept ≡ true → x ≡ only → x ≡ (kept && only)
+and_kept kept x only e is = is ∙ sym (ap (λ k. k && only) e)
+
+pub tags_tell : (b : Bool) (s t : Tag) → (b ≡ true → s ≡ t) → (s ≡ t → b ≡ true) → b ≡ eqb (tag_number s) (tag_number t)
+tags_tell b s t there back = elim (eqb_tells (tag_number s) (tag_number t)) [
+  | inl same ↦ back (same_tag s t same.1) ∙ sym same.0
+  | inr other ↦ elim (cases_Bool b) [
+    | inl so ↦ absurd (let e = eq-eqb (tag_number s) (tag_number t) (ap tag_number (there so)) in let out = other.0 in cc)
+    | inr out ↦ out ∙ sym other.0
+  ]
+]
+
+-- ---- how many aren't kept
+
+pub unkept_in-joined : (kept : Bool) (old : Forest) (p : Option ℕ) (f g : Forest) → unkept_in kept old p (joined f g) ≡ unkept_in kept old p f + unkept_in kept old p g
+unkept_in-joined true old p f g = unkept-joined old p f g
+unkept_in-joined false old p f g = total-joined f g
+
+pub unkept_in-total : (kept : Bool) (old : Forest) (p : Option ℕ) (f : Forest) → unkept_in kept old p f ≤ total f
+unkept_in-total true old p f = unkept-total old p f
+unkept_in-total false old p f = omega arith
+
+-- of one tree: those below it, and itself unless it is kept
+kept_tree : (kept only : Bool) (old : Forest) (p : Option ℕ) (l : Label) (b : Forest) → only ≡ is_only p (tag_of l.kind l.fields) (places_of l.key None old)
+    → unkept_in kept old p (tree l b nil) ≡ cond (kept && only) 0 1 + unkept_in (kept && only) old (Some l.key) b
+kept_tree true true old p l b is = rw (← is) (omega arith)
+kept_tree true false old p l b is = rw (← is) (omega arith)
+kept_tree false only old p l b is = omega arith
+
+pub counted_tree : (kept stays : Bool) (old f : Forest) (p : Option ℕ) (q : ℕ) (n : Node) → Sound f → Some n ≡ option_map node_of (record_at f q)
+    → stays ≡ (kept && is_only p (tag_of n.kind n.fields) (places_of q None old))
+    → unkept_in kept old p (alone q f) ≡ cond stays 0 1 + unkept_in stays old (Some q) (trees_of f (children_of f q))
+counted_tree kept stays old f p q n s read is =
+    let r = is_read f q n s read in
+    let b = trees_of f (children_of f q) in
+    ap (unkept_in kept old p) (tree_read f q n r)
+    ∙ kept_tree kept (is_only p (tag_of n.kind n.fields) (places_of q None old)) old p (label_from q n) b refl
+    ∙ sym (ap (λ k. cond k 0 1 + unkept_in k old (Some q) b) is)
+
+-- what a node adds to those below it
+pub record IsCountedNode (stays : Bool) (all below : ℕ) : Type 0 where
+  pub kept : stays ≡ true → below ≡ all
+  pub other : stays ≡ false → below + 1 ≡ all
+  pub fits : below + 1 < 2 ^ 32
+
+pub counted_node : (kept stays : Bool) (old old_now f f_now : Forest) (p : Option ℕ) (q : ℕ) (n : Node) (below : ℕ) → old_now ≡ old → f_now ≡ f → Sound f → Some n ≡ option_map node_of (record_at f q)
+    → stays ≡ (kept && is_only p (tag_of n.kind n.fields) (places_of q None (alone 0 old))) → below ≡ unkept_in stays (alone 0 old_now) (Some q) (trees_of f_now (children_of f_now q))
+    → IsCountedNode stays (unkept_in kept (alone 0 old) p (alone q f)) below
+counted_node kept stays old old_now f f_now p q n below before after s read is below_is =
+    let all = counted_tree kept stays (alone 0 old) f p q n s read is in
+    let own : below ≡ unkept_in stays (alone 0 old) (Some q) (trees_of f (children_of f q)) =
+    below_is ∙ ap (λ o. unkept_in stays (alone 0 o) (Some q) (trees_of f_now (children_of f_now q))) before ∙ ap (λ f. unkept_in stays (alone 0 old) (Some q) (trees_of f (children_of f q))) after in
+    record {
+      kept = λ so. omega (arith, all, own, ap {B = ℕ} (λ b. cond b 0 1) so);
+      other = λ out. omega (arith, all, own, ap {B = ℕ} (λ b. cond b 0 1) out);
+      fits =
+          omega (
+            arith,
+            own,
+            s.small,
+            unkept_in-total stays (alone 0 old) (Some q) (trees_of f (children_of f q)),
+            total_read f q n (is_read f q n s read),
+            total-without-alone key_of q f,
+          );
+    }
+
+-- below a node there are no more than in all
+pub below_small : (f : Forest) (key : ℕ) → Sound f → total (trees_of f (children_of f key)) ≤ total f
+below_small f key s = from_spot (spot f key) refl where
+  from_spot : (o : Option (Spot Label)) → spot f key ≡ o → total (trees_of f (children_of f key)) ≤ total f
+  from_spot None at = omega (arith, ap (λ o. total (trees_of f (children_at o))) at)
+  from_spot (Some x) at =
+      let h : IsForest f = in_order_at f key s (sym (is_some-spot f key) ∙ ap is_some at) in
+      omega (arith, ap (λ o. total (trees_of f (children_at o))) at, ap total (alone-spot f key x h at), total-without-alone key_of key f)
+
+-- ---- the children one after another
+
+-- those of some of the children are counted, and `at` is the first of the children that are left
+pub record IsCountedUpTo (kept : Bool) (old f : Forest) (key : ℕ) (at : Option ℕ) (counted : ℕ) : Type 0 where
+  pub place : is_place at (children_of f key) ≡ true
+  pub sum : counted + unkept_in kept old (Some key) (trees_of f (from_name at (children_of f key))) ≡ unkept_in kept old (Some key) (trees_of f (children_of f key))
+
+nothing_in : (kept : Bool) (old : Forest) (p : Option ℕ) → unkept_in kept old p nil ≡ 0
+nothing_in true old p = refl
+nothing_in false old p = refl
+
+pub counted_none : (kept : Bool) (old f : Forest) (key : ℕ) (at : Option ℕ) → at ≡ first_child f key → IsCountedUpTo kept old f key at 0
+counted_none kept old f key at first =
+    let kids = children_of f key in
+    record {
+      place = ap (λ o. is_place o kids) first ∙ first_place kids;
+      sum = omega (arith, ap (λ ks. unkept_in kept old (Some key) (trees_of f ks)) (ap (λ o. from_name o kids) first ∙ from_name-first kids));
+    }
+
+pub counted_all : (kept : Bool) (old f : Forest) (key : ℕ) (at : Option ℕ) (counted : ℕ) → at ≡ None → IsCountedUpTo kept old f key at counted → counted ≡ unkept_in kept old (Some key) (trees_of f (children_of f key))
+counted_all kept old f key at counted none m =
+    omega (arith, m.sum, ap (λ o. unkept_in kept old (Some key) (trees_of f (from_name o (children_of f key)))) none, nothing_in kept old (Some key))
+
+-- the next child stands, with a smaller tree
+pub record IsChildNext (f f_now : Forest) (key child : ℕ) : Type 0 where
+  pub there : has child f_now ≡ true
+  pub smaller : total (alone child f_now) < total (alone key f)
+
+pub child_next : (f f_now : Forest) (key child : ℕ) (at : Option ℕ) → f_now ≡ f → Sound f → at ≡ Some child → is_place at (children_of f key) ≡ true → IsChildNext f f_now key child
+child_next f f_now key child at same s here place =
+    let c = child_left f key child s (sym (ap (λ o. is_place o (children_of f key)) here) ∙ place) in
+    record {
+      there = ap (has child) same ∙ c.there;
+      smaller = omega (arith, ap (λ f. total (alone child f)) same, total-alone-lt f child key c.ordered c.up);
+    }
+
+-- and its nodes are counted too
+pub counted_more : (kept : Bool) (old old_now f f_now : Forest) (key child : ℕ) (at next : Option ℕ) (counted more : ℕ) → old_now ≡ old → f_now ≡ f → Sound f → at ≡ Some child → IsCountedUpTo kept old f key at counted
+    → more ≡ unkept_in kept old_now (Some key) (alone child f_now) → next ≡ next_of f_now child → (counted + more ≤ total f) × IsCountedUpTo kept old f key next (counted + more)
+counted_more kept old old_now f f_now key child at next counted more before same s here m more_is next_is =
+    let kids = children_of f key in
+    let c = child_left f key child s (sym (ap (λ o. is_place o kids) here) ∙ m.place) in
+    let rest = from_name (next_in kids child) kids in
+    let weigh = λ (t : Forest). unkept_in kept old (Some key) t in
+    let left : from_name at kids ≡ child ∷ rest = ap (λ o. from_name o kids) here ∙ c.left in
+    let is : next ≡ next_in kids child = next_is ∙ ap (λ f. next_of f child) same ∙ c.next in
+    let own : more ≡ weigh (alone child f) = more_is ∙ ap (λ o. unkept_in kept o (Some key) (alone child f_now)) before ∙ ap (λ f. weigh (alone child f)) same in
+    let parts : weigh (trees_of f (from_name at kids)) ≡ weigh (alone child f) + weigh (trees_of f rest) =
+    ap (λ ks. weigh (trees_of f ks)) left ∙ unkept_in-joined kept old (Some key) (alone child f) (trees_of f rest) in
+    let then : weigh (trees_of f (from_name next kids)) ≡ weigh (trees_of f rest) = ap (λ o. weigh (trees_of f (from_name o kids))) is in (
+      omega (arith, m.sum, own, parts, unkept_in-total kept old (Some key) (trees_of f kids), below_small f key s),
+      record {
+        place = ap (λ o. is_place o kids) is ∙ next_place kids child;
+        sum = omega (arith, m.sum, own, parts, then);
+      },
+    )

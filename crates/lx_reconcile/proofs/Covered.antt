@@ -1,0 +1,61 @@
+-- The marks of a draft cover the tree that it began with and the one that it leaves.
+use Rattle.std.proofs.Common.{◌≡◌, ◌∙◌, ℕ, Bool, true, false, cond, ◌||◌, Option, None, Some, is_some, option_map, inl, inr, refl, sym, ap}
+use Rattle.std.proofs.lemmas.Bool.{cases_Bool}
+use Rattle.lx_node.specs.Siblings.{is_among}
+use Rattle.lx_node.specs.Spots.{Spot, parent_at, children_at}
+use Rattle.lx_marks.specs.Marks.{Marked, unmarked, flag_in, is_touched, is_noted, is_true_flag}
+use Rattle.lx_forest.specs.Forest.{Label, Forest}
+use Rattle.lx_forest.specs.Lookups.{has, alone, spot, kind_of, parent_of, IsForest}
+use Rattle.lx_forest.proofs.Edits.{is_some-spot}
+use Rattle.lx_forest.proofs.Walks.{spot_in_tree}
+use Rattle.lx_draft.specs.Covering.{Covers}
+use Rattle.lx_plain.specs.Allowed.{AreCovered}
+use Rattle.lx_reconcile.specs.Allowing.{marking}
+
+touched_noted : (m : Marked) (q : ℕ) → is_touched m q ≡ true → is_noted m q ≡ true
+touched_noted m q e = by_flag (is_among q m.leaves) (flag_in m.elements q) e where
+  by_flag : (b : Bool) (o : Option Bool) → (b || is_true_flag o) ≡ true → (b || is_some o) ≡ true
+  by_flag true o e = refl
+  by_flag false None e = absurd (cc)
+  by_flag false (Some flag) e = refl
+
+module _ (f g : Forest) (n : Marked) (h : IsForest g) (c : Covers f unmarked g n) (kinds : (q : ℕ) → has q f ≡ true → has q g ≡ true → kind_of f q ≡ kind_of g q) where
+  tree : Forest
+  tree = alone 0 g
+
+  -- a node of the tree is the same as in the forest
+  same_spot : (q : ℕ) → has q (alone 0 g) ≡ true → spot (alone 0 g) q ≡ spot g q
+  same_spot q there = spot_in_tree g q h ∙ ap (λ b. cond b (spot g q) None) there
+
+  there_too : (q : ℕ) → has q (alone 0 g) ≡ true → has q g ≡ true
+  there_too q there = sym (is_some-spot g q) ∙ sym (ap is_some (same_spot q there)) ∙ is_some-spot (alone 0 g) q ∙ there
+
+  untouched_spot : (q : ℕ) → has q (alone 0 g) ≡ true → is_touched n q ≡ false → spot f q ≡ spot (alone 0 g) q
+  untouched_spot q there plain = elim (c.seen q) [
+    | inl same ↦ sym same.0 ∙ sym (same_spot q there)
+    | inr marked ↦ absurd (cc)
+  ]
+
+  pub covered : AreCovered f (alone 0 g) (marking n)
+  covered = record {
+    kinds = λ q was is.
+        kinds q was (there_too q is) ∙ sym (ap (λ (o : Option (Spot Label)). option_map (λ (l : Label). l.kind) (option_map (λ (s : Spot Label). s.label) o)) (same_spot q is));
+    alike = λ q was is plain.
+        let same = untouched_spot q is plain in
+        record {
+          fields = ap (λ (o : Option (Spot Label)). option_map (λ (l : Label). l.fields) (option_map (λ (s : Spot Label). s.label) o)) same;
+          parent = ap parent_at same;
+          children = ap children_at same;
+        };
+    made = λ q out is. elim (cases_Bool (is_touched n q)) [
+      | inl marked ↦ marked
+      | inr plain ↦ absurd (let e : has q f ≡ true = sym (is_some-spot f q) ∙ ap is_some (untouched_spot q is plain) ∙ is_some-spot (alone 0 g) q ∙ is in cc)
+    ];
+    noted = touched_noted n;
+    above = λ q p up marked. c.above (λ a b e. absurd (cc)) q p marked (in_forest q p up);
+  } where
+    in_forest : (q p : ℕ) → parent_of (alone 0 g) q ≡ Some p → parent_of g q ≡ Some p
+    in_forest q p up = elim (cases_Bool (has q (alone 0 g))) [
+      | inl there ↦ sym (ap parent_at (same_spot q there)) ∙ up
+      | inr out ↦ absurd (let none : spot (alone 0 g) q ≡ None = spot_in_tree g q h ∙ ap (λ b. cond b (spot g q) None) out in let e = ap parent_at none in cc)
+    ]

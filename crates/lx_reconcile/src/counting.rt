@@ -1,0 +1,126 @@
+//! How many nodes of one tree aren't kept from another one.
+
+ghost use Rattle.std.specs.Prelude.{◌≡◌, ◌==◌, ◌&&◌, ◌+◌, true, None, Some, Ok};
+ghost use Rattle.lx_forest.specs.Lookups.{alone, trees_of, children_of, first_child, next_of, has, is_attached};
+ghost use Rattle.lx_links.specs.Stands.{Sound};
+ghost use Rattle.lx_plain.specs.Allowed as allowed;
+ghost use Rattle.lx_plain.specs.Allowed.{is_parent, is_only, places_of, tag_number};
+ghost use Rattle.lx_plain.specs.Render as shown;
+ghost use Rattle.lx_reconcile.specs.Counting.{IsInTree, unkept_in};
+
+use crate::looks::{Look, Looked, Reads};
+use crate::reconciling::has_same_tag;
+use lx_links::Records;
+use lx_node::{Key, NoMemory, Node};
+
+/// Whether a node stands below this parent, or below none.
+fn is_below(node: &Node, parent: Option<Key>) -> bool
+    ensures { result ≡ is_parent node.now.parent parent }
+{
+    match (node.parent, parent) {
+        (None, None) => true,
+        (Some(own), Some(parent)) => own == parent,
+        (None, Some(_)) => false,
+        (Some(_), None) => false,
+    }
+}
+
+/// Whether a node was below this parent with the element that it has now.
+fn was_here(was: &Node, parent: Option<Key>, now: &Node) -> bool
+    ensures { result ≡ (is_parent was.now.parent parent && tag_number (shown.tag_of was.now.kind was.now.fields) == tag_number (shown.tag_of now.now.kind now.now.fields)) }
+{
+    is_below(was, parent) && has_same_tag(was, now)
+}
+
+/// Whether a node is kept, where it is told whether its parent is. It reads the node as it was.
+fn is_kept<S, L: Look<S>>(
+    before: &mut S,
+    parent: Option<Key>,
+    kept: bool,
+    key: Key,
+    now: &Node,
+) -> bool
+    requires in_tree { kept ≡ true → IsInTree (L.whole before.old) parent key }
+    ensures kept { result ≡ (kept && is_only parent (shown.tag_of now.now.kind now.now.fields) (places_of key None (alone 0 (L.whole before.old)))) }
+    ensures in_tree { result ≡ true → is_attached (L.whole before.old) key ≡ true }
+    ensures same { L.whole before.new ≡ L.whole before.old }
+{
+    if !kept {
+        return false;
+    }
+    match L::look(before, key) {
+        Some(was) => was_here(was.node(), parent, now),
+        None => false,
+    }
+}
+
+/// How many nodes of a node's tree aren't kept, where it is told whether its parent is, if it has one; and the key of the
+/// node behind it.
+#[cycle(counting)]
+fn count_child<B, A, O: Look<B>, N: Look<A>>(
+    before: &mut B,
+    after: &mut A,
+    parent: Option<Key>,
+    kept: bool,
+    key: Key,
+) -> (u32, Option<Key>)
+    requires there { has key (N.whole after.old) ≡ true }
+    requires in_tree { kept ≡ true → IsInTree (O.whole before.old) parent key }
+    ensures count { result.0 ≡ unkept_in kept (alone 0 (O.whole before.old)) parent (alone key (N.whole after.old)) }
+    ensures next { result.1 ≡ next_of (N.whole after.old) key }
+    ensures before { O.whole before.new ≡ O.whole before.old }
+    ensures after { N.whole after.new ≡ N.whole after.old }
+{
+    let Some(found) = N::look(after, key) else {
+        unreachable!();
+    };
+    let node = found.node();
+    let stays = is_kept::<B, O>(before, parent, kept, key, node);
+    let below = count_children::<B, A, O, N>(before, after, key, stays, node.first);
+    if stays {
+        (below, node.next)
+    } else {
+        (below + 1, node.next)
+    }
+}
+
+/// The same for all children of a node, of which this is the first.
+#[cycle(counting)]
+fn count_children<B, A, O: Look<B>, N: Look<A>>(
+    before: &mut B,
+    after: &mut A,
+    key: Key,
+    kept: bool,
+    first: Option<Key>,
+) -> u32
+    requires sound { Sound (N.whole after.old) }
+    requires first { first ≡ first_child (N.whole after.old) key }
+    requires in_tree { kept ≡ true → is_attached (O.whole before.old) key ≡ true }
+    ensures count { result ≡ unkept_in kept (alone 0 (O.whole before.old)) (Some key) (trees_of (N.whole after.old) (children_of (N.whole after.old) key)) }
+    ensures before { O.whole before.new ≡ O.whole before.old }
+    ensures after { N.whole after.new ≡ N.whole after.old }
+{
+    let mut at = first;
+    let mut count = 0;
+    while let Some(child) = at {
+        let counted = count_child::<B, A, O, N>(before, after, Some(key), kept, child);
+        count += counted.0;
+        at = counted.1;
+    }
+    count
+}
+
+/// How many nodes of the root's tree in `after` aren't kept from that in `before`. The root is kept, and so is each node
+/// that both trees have below the same kept parent with the same element. It reads each node of the later tree once, and
+/// where its parent is kept, also that of its key before. A forest that is read has fewer than 2^32 nodes, so the number
+/// is never capped. It takes no memory, and always has an answer.
+pub fn unkept<'a, R: Records<'a>>(before: &mut R, after: &mut R) -> Result<u32, NoMemory>
+    requires rooted_before { has 0 (R.forest before.old) ≡ true }
+    requires rooted_after { has 0 (R.forest after.old) ≡ true }
+    ensures count { result ≡ Ok (allowed.unkept (alone 0 (R.forest before.old)) None (alone 0 (R.forest after.old))) }
+    ensures before { R.forest before.new ≡ R.forest before.old }
+    ensures after { R.forest after.new ≡ R.forest after.old }
+{
+    let all = count_child::<R, R, Reads<'a>, Reads<'a>>(before, after, None, true, Key::root());
+    Ok(all.0)
+}
