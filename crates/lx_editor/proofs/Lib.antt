@@ -1,6 +1,2 @@
-pub mod Grown
-pub mod Placed
-pub mod Ran
-pub mod Shown
-pub mod Told
+pub mod Ids
 pub mod Updated

@@ -1,18 +1,20 @@
 -- What an editor is.
-use Rattle.std.specs.Prelude.{ℕ}
+use Rattle.std.specs.Prelude.{ℕ, Option, None}
 use Rattle.lx_host.specs.Hosts.{HostTree, new_tree}
 use Rattle.lx_select.specs.declared.selection.Selection.{Selection}
 use Rattle.lx_select.specs.declared.selection.Selection.TheVariants.{Nothing}
 use Rattle.lx_forest.specs.Forest.{Forest, root_alone}
+use Rattle.lx_reconcile.specs.Told.{Told}
 
 -- the tree and the selection that are committed, the key that the next new node gets, how often the editor has committed,
--- and the view
+-- the view, and what the last commit told
 pub record Editor : Type 0 where
   pub tree : Forest
   pub selection : Selection
   pub next_key : ℕ
   pub commits : ℕ
   pub view : HostTree
+  pub last : Option Told
 
 abbrev pub new_editor : Editor
-new_editor = record { tree = root_alone; selection = Nothing; next_key = 1; commits = 0; view = new_tree }
+new_editor = record { tree = root_alone; selection = Nothing; next_key = 1; commits = 0; view = new_tree; last = None }

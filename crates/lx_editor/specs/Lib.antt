@@ -2,4 +2,3 @@ pub mod Editor
 pub mod Updated
 pub mod Standing
 pub mod Follows
-pub mod Operations

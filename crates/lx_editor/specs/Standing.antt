@@ -1,11 +1,11 @@
 -- What the fields of an editor stand for, and what holds of them.
-use Rattle.std.specs.Prelude.{◌≡◌, ℕ, false}
-use Rattle.lx_node.specs.Trees.{Trees, nil, tree}
-use Rattle.lx_host.specs.Hosts.{Host, HostTree}
+use Rattle.std.specs.Prelude.{◌≡◌, ℕ, [], ◌∷◌, None}
+use Rattle.lx_select.specs.declared.selection.Selection.{Selection}
 use Rattle.lx_forest.specs.Forest.{Forest}
-use Rattle.lx_forest.specs.Lookups.{IsForest}
+use Rattle.lx_forest.specs.Lookups.{roots, IsForest}
 use Rattle.lx_plain.specs.Allowed.{Shows}
 use Rattle.lx_draft.specs.Working.{MayStart}
+use Rattle.lx_draft.specs.Selecting.{selection_lost}
 use Rattle.lx_editor.specs.declared.editor.Editor.TheInside.{Inside}
 use Rattle.lx_editor.specs.Editor.{Editor}
 
@@ -15,29 +15,22 @@ editor_of a = record {
   selection = a.state.selection;
   next_key = a.next_key;
   commits = a.commits;
-  view = a.view;
+  view = a.view.tree;
+  last = a.last;
 }
 
--- a list of trees with one tree in it
-abbrev pub IsOne : {A : Type 0} → Trees A → Type 0
-IsOne nil = ⊥
-IsOne (tree a below rest) = rest ≡ nil
-
--- the first tree is host 0's, and there is no other
-abbrev pub IsOneTree : Trees Host → Type 0
-IsOneTree nil = ⊥
-IsOneTree (tree host below rest) = (host.id ≡ 0) × (rest ≡ nil)
-
--- The tree is one from which an update may start, with no detached one beside it, no host is unplaced, the view shows the
--- tree, and the next id is the next key: each new node is shown by one new host.
-pub record AreSound (f : Forest) (next_key : ℕ) (view : HostTree) : Type 0 where
+-- A state that may be committed: one tree, with no detached one beside it, from which an update may start with this next
+-- key, and in which the selection lies.
+pub record IsState (f : Forest) (selection : Selection) (next_key : ℕ) : Type 0 where
   pub in_order : IsForest f
-  pub alone : IsOne f
+  pub alone : roots f ≡ 0 ∷ []
   pub start : MayStart f next_key
-  pub one_tree : IsOneTree view.hosts
-  pub shown : Shows view f
-  pub next : view.next ≡ next_key
+  pub selected : selection_lost selection f ≡ None
 
--- so they are, unless the editor met want of memory
-abbrev pub IsValid : Inside → Type 0
-IsValid a = a.failed ≡ false → AreSound a.state.links a.next_key a.view
+-- An editor's state is such, and the view shows its tree and nothing else. There is a last commit exactly where there were
+-- any.
+pub record IsValid (e : Editor) : Type 0 where
+  pub state : IsState e.tree e.selection e.next_key
+  pub shown : Shows e.view e.tree
+  pub none : e.commits ≡ 0 → e.last ≡ None
+  pub some : e.last ≡ None → e.commits ≡ 0

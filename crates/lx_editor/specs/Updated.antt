@@ -1,37 +1,56 @@
 -- What an update by steps makes of an editor.
-use Rattle.std.specs.Prelude.{◌≡◌, ℕ, ◌+◌, Bool, true, false, if◌then◌else◌, List, Option, None, Some, Result, Ok, Err}
+use Rattle.std.specs.Prelude.{◌≡◌, ◌≤◌, ℕ, ◌+◌, ◌*◌, Bool, true, false, if◌then◌else◌, List, Option, None, Some, Result, Ok, Err}
 use Rattle.std.specs.List.{list_all}
+use Rattle.lx_node.specs.Limits.{last_u32}
 use Rattle.lx_node.specs.declared.cause.Cause.{Cause}
 use Rattle.lx_node.specs.declared.cause.Cause.TheVariants.{BadCommand}
-use Rattle.lx_marks.specs.Marks.{Marked, unmarked}
+use Rattle.lx_node.specs.declared.cause.Fault.{Fault}
+use Rattle.lx_node.specs.declared.cause.Fault.TheVariants as fault
+use Rattle.lx_node.specs.declared.cause.Limit.TheVariants.{Hosts}
+use Rattle.lx_host.specs.declared.op.Op.{Op}
+use Rattle.lx_host.specs.Hosts.{HostTree}
+use Rattle.lx_marks.specs.Marks.{Marked, unmarked, is_touched, is_noted}
 use Rattle.lx_select.specs.declared.selection.Selection.{Selection}
 use Rattle.lx_step.specs.declared.reference.SelectionRef.TheVariants.{Cells}
 use Rattle.lx_step.specs.declared.step.Step.{Step}
-use Rattle.lx_step.specs.declared.step.Step.TheVariants.{Append, Select}
+use Rattle.lx_step.specs.declared.step.Step.TheVariants.{Select}
 use Rattle.lx_forest.specs.Forest.{Forest}
-use Rattle.lx_host.specs.declared.op.Op.{Op}
-use Rattle.lx_host.specs.Hosts.{HostTree, Leads}
-use Rattle.lx_plain.specs.Allowed.{Shows, IsKept, hosts_of}
+use Rattle.lx_plain.specs.Allowed.{AreAllowed, marked_children, unkept}
 use Rattle.lx_draft.specs.Working.{Working, started}
 use Rattle.lx_draft.specs.Freezing.{freeze_step}
+use Rattle.lx_draft.specs.Faults.{over}
+use Rattle.lx_draft.specs.declared.state.Frozen.{Frozen}
+use Rattle.lx_run.specs.Naming.{no_names}
+use Rattle.lx_run.specs.Scripts.{Scripted, scripted, run_from}
 use Rattle.lx_editor.specs.declared.leaving.Refusal.{Refusal}
 use Rattle.lx_editor.specs.declared.leaving.Refusal.TheVariants as refusal
 use Rattle.lx_editor.specs.declared.outcome.Outcome.{Outcome}
 use Rattle.lx_editor.specs.declared.outcome.Outcome.TheVariants.{Committed, Refused, Idle}
 use Rattle.lx_editor.specs.Editor.{Editor}
-use Rattle.lx_run.specs.Naming.{no_names}
-use Rattle.lx_run.specs.Scripts.{Scripted, scripted, run_from}
 
--- Steps that an update runs: appends, and selects other than of cells. All others are no commands yet.
+-- ---- what steps leave
+
+-- Steps that an update runs: all but selects of cells, which are no commands yet.
 abbrev pub is_run : Step → Bool
-is_run (Append text) = true
 is_run (Select (Cells _ _ _)) = false
-is_run (Select other) = true
-is_run other = false
+is_run other = true
+
+-- What is left for a commit: the tree, the selection, what was marked, and the key that the next new node gets.
+pub record Left : Type 0 where
+  pub tree : Forest
+  pub selection : Selection
+  pub marks : Marked
+  pub next_key : ℕ
+
+abbrev pub left_in : Working → Left
+left_in w = record { tree = w.forest; selection = w.selection; marks = w.marks; next_key = w.next_key }
+
+abbrev pub left_of : Frozen → Left
+left_of frozen = record { tree = frozen.state.links; selection = frozen.state.selection; marks = frozen.marks; next_key = frozen.next_key }
 
 -- what is committed, or a refusal of the commit, which no step is refused for
-abbrev pub at_commit : Result Working Cause → Result Working (Cause × Option ℕ)
-at_commit (Ok w) = Ok w
+abbrev pub at_commit : Result Working Cause → Result Left (Cause × Option ℕ)
+at_commit (Ok w) = Ok (left_in w)
 at_commit (Err cause) = Err (cause, None)
 
 -- the draft that steps left
@@ -40,60 +59,78 @@ drafted (Ok s) = Ok s.draft
 drafted (Err refused) = Err refused
 
 -- the same as it is committed, or a refusal with the index of its step
-abbrev pub frozen_from : Result Working (Cause × ℕ) → Result Working (Cause × Option ℕ)
+abbrev pub frozen_from : Result Working (Cause × ℕ) → Result Left (Cause × Option ℕ)
 frozen_from (Ok w) = at_commit (freeze_step w)
 frozen_from (Err refused) = Err (refused.0, Some refused.1)
 
 -- what steps leave of a draft for a commit, or why they are refused
-unfoldable pub left_by : List Step → Working → Result Working (Cause × Option ℕ)
+unfoldable pub left_by : List Step → Working → Result Left (Cause × Option ℕ)
 left_by steps w = if list_all is_run steps then frozen_from (drafted (run_from 0 steps (scripted w no_names))) else Err (BadCommand, None)
 
 -- the draft that an update begins with
 abbrev pub begun : Editor → Working
 begun old = started old.tree old.selection old.next_key
 
--- These are the forest, the selection, the marks and the next key that the steps leave of a draft.
-pub record AreLeft (steps : List Step) (w : Working) (f : Forest) (selection : Selection) (marks : Marked) (next_key : ℕ) : Type 0 where
-  pub left : Working
-  pub is_left : left_by steps w ≡ Ok left
-  pub tree : left.forest ≡ f
-  pub selected : left.selection ≡ selection
-  pub marked : left.marks ≡ marks
-  pub next : left.next_key ≡ next_key
-
 -- The steps are refused for this cause and at this step, or memory was wanting.
-abbrev pub TellsRefusal : Refusal → Result Working (Cause × Option ℕ) → Type 0
+abbrev pub TellsRefusal : Refusal → Result Left (Cause × Option ℕ) → Type 0
 TellsRefusal (refusal.Cause cause step) left = left ≡ Err (cause, step)
 TellsRefusal refusal.Memory left = Unit {0}
 
+-- ---- what is made of it
+
 -- nothing is marked, and the selection is the committed one
-pub record IsNothingNew (old : Editor) (selection : Selection) (marks : Marked) : Type 0 where
-  pub none_marked : marks ≡ unmarked
-  pub selected : selection ≡ old.selection
+pub record IsNothingNew (old : Editor) (left : Left) : Type 0 where
+  pub none_marked : left.marks ≡ unmarked
+  pub selected : left.selection ≡ old.selection
 
--- The operations bring a view of one tree to another tree: each fits in turn, what they lead to shows the new tree, and each
--- kept node is shown by the host that showed it before.
-pub record AreShowing (old new : Forest) (before : HostTree) (ops : List Op) (after : HostTree) : Type 0 where
-  pub leads : Leads before ops after
-  pub shows : Shows after new
-  pub keeps : (key : ℕ) → IsKept old new key → hosts_of key after.hosts ≡ hosts_of key before.hosts
+-- why a view of the old tree can't come to show the new one: there are no ids for all the hosts of nodes that aren't kept
+abbrev pub hosts_fault : Forest → Forest → HostTree → Option Cause
+hosts_fault old new view = over Hosts last_u32 (view.next + unkept old None new)
 
--- The steps were refused with this outcome, and nothing changed. Or they left nothing new, and nothing changed. Or what
--- they left was committed: the outcome is the next commit number, and operations that bring the view to the new tree. Of the
--- new editor only the host tree's ids are left to the operations.
+-- An error of a call that looks for that fault: it is this, or memory was wanting.
+abbrev pub TellsHosts : Fault → Option Cause → Type 0
+TellsHosts (fault.Cause cause) found = found ≡ Some cause
+TellsHosts fault.Memory found = Unit {0}
+
+-- the most reads of nodes by which the operations between two trees are found, where these nodes are marked
+abbrev pub most_reads : Forest → Forest → (ℕ → Bool) → ℕ
+most_reads old new noted = 8 * (marked_children noted old + marked_children noted new + unkept old None new + 1)
+
+-- It is something new, the view has ids for it, and it is committed: the operations are allowed between the two trees, and
+-- they were found by no more reads than that. Of the new editor only the view's ids and the number of reads are left open.
+pub record IsCommitted (old : Editor) (left : Left) (commit : ℕ) (ops : List Op) (new : Editor) : Type 0 where
+  pub anew : IsNothingNew old left → ⊥
+  pub ids : hosts_fault old.tree left.tree old.view ≡ None
+  pub allowed : AreAllowed old.tree left.tree (is_touched left.marks) old.view ops new.view
+  pub reads : ℕ
+  pub few : reads ≤ most_reads old.tree left.tree (is_noted left.marks)
+  pub number : commit ≡ old.commits + 1
+  pub made : new ≡ record {
+    tree = left.tree;
+    selection = left.selection;
+    next_key = left.next_key;
+    commits = old.commits + 1;
+    view = new.view;
+    last = Some (record { ops = ops; reads = reads });
+  }
+
+-- It is something new that the view has no ids for, and nothing changes.
+pub record IsUnshowable (old : Editor) (left : Left) (cause : Cause) (step : Option ℕ) (new : Editor) : Type 0 where
+  pub anew : IsNothingNew old left → ⊥
+  pub fault : hosts_fault old.tree left.tree old.view ≡ Some cause
+  pub no_step : step ≡ None
+  pub same : new ≡ old
+
+-- What is left is committed, unless it is nothing new, or can't be shown.
+abbrev pub IsTaken : Editor → Left → Outcome → Editor → Type 0
+IsTaken old left (Committed commit ops) new = IsCommitted old left commit ops new
+IsTaken old left (Refused cause step) new = IsUnshowable old left cause step new
+IsTaken old left Idle new = IsNothingNew old left × (new ≡ old)
+
+-- The steps are refused, and nothing changes; or what they left is taken.
+abbrev pub IsMadeOf : Result Left (Cause × Option ℕ) → Editor → Outcome → Editor → Type 0
+IsMadeOf (Err refused) old outcome new = (outcome ≡ Refused refused.0 refused.1) × (new ≡ old)
+IsMadeOf (Ok left) old outcome new = IsTaken old left outcome new
+
 unfoldable pub IsUpdated : Editor → List Step → Outcome → Editor → Type 0
-IsUpdated old steps (Refused cause step) new = (left_by steps (begun old) ≡ Err (cause, step)) × (new ≡ old)
-IsUpdated old steps Idle new =
-    (left : Working) × (left_by steps (begun old) ≡ Ok left) × IsNothingNew old left.selection left.marks × (new ≡ old)
-IsUpdated old steps (Committed commit ops) new =
-    (left : Working) × (left_by steps (begun old) ≡ Ok left)
-    × (IsNothingNew old left.selection left.marks → ⊥)
-    × AreShowing old.tree new.tree old.view ops new.view
-    × (commit ≡ old.commits + 1)
-    × (new ≡ record {
-      tree = left.forest;
-      selection = left.selection;
-      next_key = left.next_key;
-      commits = old.commits + 1;
-      view = new.view;
-    })
+IsUpdated old steps outcome new = IsMadeOf (left_by steps (begun old)) old outcome new

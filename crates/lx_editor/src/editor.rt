@@ -2,25 +2,25 @@ ghost use Rattle.lx_node.specs.Limits.{last_u32};
 
 use crate::leaving::{Refusal, leave};
 use crate::outcome::Outcome;
-use crate::showing::show_texts;
+use crate::reconciling::{follow, reconcile};
 use lx_draft::{Frozen, State};
 use lx_host::HostTree;
-use lx_node::NoMemory;
+use lx_node::{Fault, NoMemory};
+use lx_reconcile::Batch;
 use lx_script::{Reply, write_reply};
 use lx_step::{Shown, Step};
 use std::alloc::Global;
 use std::marker::Model;
 
-/// An editor: the state that is committed, the next key, the number of commits, and the view, which always
-/// shows the state's tree.
+/// An editor: the state that is committed, the next key, the number of commits, the view, which always shows
+/// the state's tree, and the operations of the last commit.
 #[derive(Drop)]
 pub struct Editor {
     state: State,
     next_key: u32,
     commits: u32,
     view: HostTree,
-    /// Memory was wanting while the view changed. From then on each call that takes memory wants it.
-    failed: bool,
+    last: Option<Batch>,
 }
 
 impl Model for Editor {
@@ -36,16 +36,18 @@ impl Model for Editor {
 
     ghost view = { editor_of };
 
-    ghost invariant = { IsValid };
+    ghost invariant = { λ a. IsValid (editor_of a) };
 }
 
 impl Editor {
-    ghost use Rattle.std.specs.Prelude.{◌≡◌, ◌+◌, ◌<◌, ◌≤◌, All, IfOk, OnOk};
+    ghost use Rattle.std.specs.Prelude.{◌≡◌, ◌↔◌, ◌+◌, ◌<◌, ◌≤◌, None, All, IfOk, OnOk, OnErr};
+    ghost use Rattle.std.specs.Option.{option_copied};
     ghost use Rattle.lx_step.specs.Sound.{IsSound};
-    ghost use Rattle.lx_draft.specs.Working.{MayStart};
+    ghost use Rattle.lx_plain.specs.Allowed.{AreCovered, AreAllowed, Shows};
+    ghost use Rattle.lx_reconcile.specs.Allowing.{marking, IsAllowed};
     ghost use Rattle.lx_editor.specs.Editor.{new_editor};
-    ghost use Rattle.lx_editor.specs.Standing.{AreSound};
-    ghost use Rattle.lx_editor.specs.Updated.{IsUpdated, AreLeft, IsNothingNew, begun};
+    ghost use Rattle.lx_editor.specs.Standing.{IsState};
+    ghost use Rattle.lx_editor.specs.Updated.{IsUpdated, IsTaken, IsNothingNew, left_of, hosts_fault, most_reads};
 
     /// A new editor: the root alone, nothing selected, no commit, and a view that shows it.
     pub fn new(alloc: Global) -> Result<Editor, NoMemory>
@@ -56,62 +58,93 @@ impl Editor {
             next_key: 1,
             commits: 0,
             view: HostTree::new(alloc)?,
-            failed: false,
+            last: None,
         })
     }
 
-    /// Runs steps one after another, and commits what they leave. Appends and selects are run, other than
-    /// selects of cells; all others are refused as `BadCommand`. A refused update changes nothing: its outcome
-    /// tells the step that was refused, or none where what all of them left is beyond a limit or has lost its
-    /// selection. Steps that mark nothing and leave the selection equal commit nothing. After want of memory
-    /// the editor is only fit to be dropped.
+    /// The state that is committed: one tree, in which the selection lies.
+    pub fn state(&self) -> &State
+        ensures tree { result.now.links ≡ self.now.tree }
+        ensures selection { result.now.selection ≡ self.now.selection }
+        ensures state { IsState self.now.tree self.now.selection self.now.next_key }
+    {
+        &self.state
+    }
+
+    /// The host tree that shows the committed tree. It has no unplaced host.
+    pub fn view(&self) -> &HostTree
+        ensures view { result.now.tree ≡ self.now.view }
+        ensures shows { Shows self.now.view self.now.tree }
+    {
+        &self.view
+    }
+
+    /// The operations of the last commit, and by how many reads they were found. There are none exactly where
+    /// nothing was committed yet.
+    pub fn last_batch(&self) -> Option<&Batch>
+        ensures last { option_copied result ≡ self.now.last }
+        ensures none { (self.now.last ≡ None) ↔ (self.now.commits ≡ 0) }
+    {
+        self.last.as_ref()
+    }
+
+    /// Runs steps one after another, and commits what they leave. All steps are run but selects of cells, which
+    /// are refused as `BadCommand`. A refused update changes nothing: its outcome tells the step that was
+    /// refused, or none where what all of them left is beyond a limit or has lost its selection. Steps that mark
+    /// nothing and leave the selection equal commit nothing. After want of memory the editor is as it was.
+    #[tactic(auto, unfolding(crate::specs::Updated::IsUpdated))]
     pub fn update(&mut self, alloc: Global, steps: &[Step]) -> Result<Outcome, NoMemory>
         requires sound { All IsSound steps.now }
         requires room { self.old.commits < last_u32 }
         ensures updated { IfOk result (λ outcome. IsUpdated self.old steps.now outcome self.new) }
         ensures commits { OnOk result (self.new.commits ≤ self.old.commits + 1) }
+        ensures unchanged { OnErr result (self.new ≡ self.old) }
     {
-        if self.failed {
-            return Err(NoMemory);
-        }
         match leave(alloc, &self.state, self.next_key, steps) {
-            Ok(frozen) => self.take(alloc, frozen, steps),
+            Ok(frozen) => self.take(alloc, frozen),
             Err(Refusal::Cause { cause, step }) => Ok(Outcome::Refused { cause, step }),
             Err(Refusal::Memory) => Err(NoMemory),
         }
     }
 
-    /// Commits what the steps left, unless it is nothing new.
-    fn take(&mut self, alloc: Global, frozen: Frozen, steps: &[Step]) -> Result<Outcome, NoMemory>
-        requires valid { AreSound self.old.tree self.old.next_key self.old.view }
+    /// Commits what steps left, unless it is nothing new, or the view has no ids to show it.
+    fn take(&mut self, alloc: Global, frozen: Frozen) -> Result<Outcome, NoMemory>
         requires room { self.old.commits < last_u32 }
-        requires left { AreLeft steps.now (begun self.old) frozen.state.links frozen.state.selection frozen.marks frozen.next_key }
-        requires start { MayStart frozen.state.links frozen.next_key }
-        ensures updated { IfOk result (λ outcome. IsUpdated self.old steps.now outcome self.new) }
+        requires state { IsState frozen.state.links frozen.state.selection frozen.next_key }
+        requires covered { AreCovered self.old.tree frozen.state.links (marking frozen.marks) }
+        ensures taken { IfOk result (λ outcome. IsTaken self.old (left_of frozen) outcome self.new) }
         ensures commits { OnOk result (self.new.commits ≤ self.old.commits + 1) }
+        ensures unchanged { OnErr result (self.new ≡ self.old) }
     {
         if frozen.marks.is_empty() && frozen.state.selection.is_equal(&self.state.selection) {
             return Ok(Outcome::Idle);
         }
-        self.commit(alloc, frozen, steps)
+        let links = &frozen.state.links;
+        match reconcile(alloc, &self.state.links, links, &frozen.marks, &self.view) {
+            Ok(batch) => self.commit(alloc, frozen, batch),
+            Err(Fault::Cause(cause)) => Ok(Outcome::Refused { cause, step: None }),
+            Err(Fault::Memory) => Err(NoMemory),
+        }
     }
 
-    /// Commits what the steps left.
-    fn commit(&mut self, alloc: Global, frozen: Frozen, steps: &[Step]) -> Result<Outcome, NoMemory>
-        requires valid { AreSound self.old.tree self.old.next_key self.old.view }
+    /// Commits what steps left, with operations for the view.
+    fn commit(&mut self, alloc: Global, frozen: Frozen, batch: Batch) -> Result<Outcome, NoMemory>
         requires room { self.old.commits < last_u32 }
-        requires left { AreLeft steps.now (begun self.old) frozen.state.links frozen.state.selection frozen.marks frozen.next_key }
-        requires start { MayStart frozen.state.links frozen.next_key }
-        requires changed { IsNothingNew self.old frozen.state.selection frozen.marks → ⊥ }
-        ensures updated { IfOk result (λ outcome. IsUpdated self.old steps.now outcome self.new) }
+        requires state { IsState frozen.state.links frozen.state.selection frozen.next_key }
+        requires anew { IsNothingNew self.old (left_of frozen) → ⊥ }
+        requires ids { hosts_fault self.old.tree frozen.state.links self.old.view ≡ None }
+        requires allowed { IsAllowed self.old.tree frozen.state.links (marking frozen.marks) self.old.view batch.ops }
+        requires few { batch.reads ≤ most_reads self.old.tree frozen.state.links (marking frozen.marks).noted }
+        ensures taken { IfOk result (λ outcome. IsTaken self.old (left_of frozen) outcome self.new) }
         ensures commits { OnOk result (self.new.commits ≤ self.old.commits + 1) }
+        ensures unchanged { OnErr result (self.new ≡ self.old) }
     {
-        self.failed = true;
-        let ops = show_texts(alloc, &mut self.view, steps)?;
+        let ops = batch.copy_ops(alloc)?;
+        follow(&mut self.view, batch.copy_ops(alloc)?)?;
         self.state = frozen.state;
         self.next_key = frozen.next_key;
-        self.failed = false;
         self.commits += 1;
+        self.last = Some(batch);
         Ok(Outcome::Committed {
             number: self.commits,
             ops,
@@ -139,9 +172,6 @@ impl Editor {
     fn show_view(&self, alloc: Global) -> Result<Vec<u8>, NoMemory>
         ensures { IfOk result (λ reply. reply.items ≡ reply_text (shown_of shown.View self.now)) }
     {
-        if self.failed {
-            return Err(NoMemory);
-        }
         let html = self.view.print_html()?;
         write_reply(alloc, &Reply::View(html))
     }

@@ -1,10 +1,15 @@
 ghost use Rattle.std.specs.Prelude.{◌≡◌, Ok, All, OnOk, IfOk, IfErr};
 ghost use Rattle.std.specs.List.{list_all};
 ghost use Rattle.lx_step.specs.Sound.{IsSound};
-ghost use Rattle.lx_draft.specs.Working.{MayStart, started};
+ghost use Rattle.lx_plain.specs.Allowed.{AreCovered};
+ghost use Rattle.lx_draft.specs.Working.{started};
+ghost use Rattle.lx_draft.specs.Covering as drafts;
+ghost use Rattle.lx_draft.specs.Covering.{IsReady};
+ghost use Rattle.lx_reconcile.specs.Allowing.{marking};
 ghost use Rattle.lx_run.specs.Naming.{no_names};
 ghost use Rattle.lx_run.specs.Scripts.{scripted, run_from, TellsAt};
-ghost use Rattle.lx_editor.specs.Updated.{is_run as is_run_step, left_by, AreLeft, TellsRefusal, drafted};
+ghost use Rattle.lx_editor.specs.Standing.{IsState};
+ghost use Rattle.lx_editor.specs.Updated.{is_run as is_run_step, left_by, left_of, TellsRefusal, drafted};
 
 use lx_draft::{Draft, Frozen, State};
 use lx_node::{Cause, Fault};
@@ -21,7 +26,7 @@ pub(crate) enum Refusal {
     Memory,
 }
 
-/// What steps leave of a state for a commit.
+/// What steps leave of a state for a commit: a state again, whose marks cover the two trees.
 #[tactic(auto, unfolding(crate::specs::Updated::left_by))]
 pub(crate) fn leave(
     alloc: Global,
@@ -29,10 +34,11 @@ pub(crate) fn leave(
     next_key: u32,
     steps: &[Step],
 ) -> Result<Frozen, Refusal>
-    requires start { MayStart state.now.links next_key }
+    requires state { IsState state.now.links state.now.selection next_key }
     requires sound { All IsSound steps.now }
-    ensures left { IfOk result (λ frozen. AreLeft steps.now (started state.now.links state.now.selection next_key) frozen.state.links frozen.state.selection frozen.marks frozen.next_key) }
-    ensures start { IfOk result (λ frozen. MayStart frozen.state.links frozen.next_key) }
+    ensures left { IfOk result (λ frozen. left_by steps.now (started state.now.links state.now.selection next_key) ≡ Ok (left_of frozen)) }
+    ensures state { IfOk result (λ frozen. IsState frozen.state.links frozen.state.selection frozen.next_key) }
+    ensures covered { IfOk result (λ frozen. AreCovered state.now.links frozen.state.links (marking frozen.marks)) }
     ensures refused { IfErr result (λ e. TellsRefusal e (left_by steps.now (started state.now.links state.now.selection next_key))) }
 {
     if !all_run(steps) {
@@ -69,6 +75,7 @@ fn run_script(alloc: Global, draft: &mut Draft, steps: &[Step], at: &mut u32) ->
     requires sound { All IsSound steps.now }
     requires first { at.old ≡ 0 }
     ensures ok { OnOk result (drafted (run_from 0 steps.now (scripted draft.old no_names)) ≡ Ok draft.new) }
+    ensures covered { OnOk result (IsReady draft.old → drafts.AreCovered draft.old draft.new) }
     ensures err { IfErr result (λ e. TellsAt e at.new (run_from 0 steps.now (scripted draft.old no_names))) }
 {
     let mut names = Names::new(alloc);
@@ -86,10 +93,5 @@ fn all_run(steps: &[Step]) -> bool
 fn is_run(step: &Step) -> bool
     ensures { result ≡ is_run_step step.now }
 {
-    match step {
-        Step::Append(_) => true,
-        Step::Select(SelectionRef::Cells { .. }) => false,
-        Step::Select(_) => true,
-        _ => false,
-    }
+    !matches!(step, Step::Select(SelectionRef::Cells { .. }))
 }

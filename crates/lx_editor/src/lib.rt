@@ -1,13 +1,12 @@
-//! The editor: a committed tree and its view, and what a line makes of them.
+//! The editor: a committed state and its view, and what a line makes of them.
 #![tactic(auto)]
 
 mod answer;
 mod editor;
 mod leaving;
 mod line;
-mod operations;
 mod outcome;
-mod showing;
+mod reconciling;
 
 pub use answer::answer_line;
 pub use editor::Editor;

@@ -20,7 +20,7 @@ pub count_child-overflow_add-result : goal.count_child-overflow_add-result
 count_child-overflow_add-result g t c =
     let read = ap (λ n. Some n) c.node-node.ensures ∙ sym (ap (option_map g.N.Item.Looked.lent) c.in-Some.is) ∙ c.look.ensures.whole_found in
     let h = counted_node c.args.kept c.is_kept-stays.result (g.O.Look.whole c.args.before.now) _ (g.N.Look.whole c.args.after.now) _ c.args.parent c.args.key c.node-node.result.now c.count_children-below.result
-        c.is_kept-stays.ensures.same c.look.ensures.whole c.look.ensures.whole_sound read c.is_kept-stays.ensures.kept c.count_children-below.ensures.count in
+    c.is_kept-stays.ensures.same c.look.ensures.whole c.look.ensures.whole_sound read c.is_kept-stays.ensures.kept c.count_children-below.ensures.count in
     omega (arith, h.fits)
 
 pub count_child-returns-clause-count : goal.count_child-returns-clause-count
@@ -40,7 +40,7 @@ count_children-count_child-counted-requires g t c =
 pub count_children-overflow_add-count : goal.count_children-overflow_add-count
 count_children-overflow_add-count g t c =
     let h = counted_more c.args.kept (alone 0 (g.O.Look.whole c.args.before.now)) (alone 0 (g.O.Look.whole c.loop-at.before)) (g.N.Look.whole c.args.after.now) (g.N.Look.whole c.loop-at.after) c.args.key c.in-Some.child c.loop-at.at c.count_child-counted.result.1 c.loop-at.count c.count_child-counted.result.0
-        (ap (alone 0) c.loop-at.invariant.before) c.loop-at.invariant.after c.requires.sound c.in-Some.is c.loop-at.invariant.counted c.count_child-counted.ensures.count c.count_child-counted.ensures.next in
+    (ap (alone 0) c.loop-at.invariant.before) c.loop-at.invariant.after c.requires.sound c.in-Some.is c.loop-at.invariant.counted c.count_child-counted.ensures.count c.count_child-counted.ensures.next in
     omega (arith, h.0, c.requires.sound.small)
 
 pub count_children-loop-at-smaller : goal.count_children-loop-at-smaller

@@ -1,45 +1,44 @@
-use Rattle.std.proofs.Common.{◌+◌, sym, subst}
-use Rattle.lx_editor.specs.declared.outcome.Outcome.TheVariants.{Committed}
+use Rattle.std.proofs.Common.{◌≡◌, ◌+◌, ◌≤◌, None, sym, subst}
+use Rattle.lx_host.specs.Hosts.{FitInTurn, Leads}
+use Rattle.lx_marks.specs.Marks.{is_noted}
+use Rattle.lx_reconcile.specs.Allowing.{marking, IsAllowed}
 use Rattle.lx_editor.specs.Editor.{Editor}
-use Rattle.lx_editor.specs.Standing.{AreSound, editor_of}
-use Rattle.lx_editor.specs.Updated.{AreLeft, IsNothingNew, IsUpdated, begun}
-use Rattle.lx_editor.proofs.Updated.{room, still_sound, committed}
+use Rattle.lx_editor.specs.Standing.{editor_of}
+use Rattle.lx_editor.specs.Updated.{Left, left_of, IsNothingNew, hosts_fault, most_reads, IsCommitted}
+use Rattle.lx_editor.proofs.Updated.{allowed_fit, still_valid, committed, made}
 use Rattle.lx_editor.proofs.editor.Editor.commit.Goals as goal
 
-pub show_texts-requires-clause-room : goal.show_texts-requires-clause-room
-show_texts-requires-clause-room c =
-    let e : Editor = editor_of c.self.inside in
-    let steps = c.args.steps.now in
-    let frozen = c.args.frozen in
-    let valid : AreSound e.tree e.next_key e.view = subst (λ (d : Editor). AreSound d.tree d.next_key d.view) (sym c.self.view_is) c.requires.valid in
-    let left : AreLeft steps (begun e) frozen.state.links frozen.state.selection frozen.marks frozen.next_key =
-    subst (λ d. AreLeft steps (begun d) frozen.state.links frozen.state.selection frozen.marks frozen.next_key) (sym c.self.view_is) c.requires.left
-    in
-    room e steps frozen.state.links frozen.state.selection frozen.marks frozen.next_key valid left c.requires.start
+pub follow-requires : goal.follow-requires
+follow-requires c =
+    let now : Editor = c.args.self.now in
+    let ops = c.in_ok-copy_ops.field-0 in
+    subst (λ (e : Editor). FitInTurn e.view ops) (sym c.self.view_is)
+    (subst (λ ops. FitInTurn now.view ops) (sym c.in_ok-copy_ops.ensures)
+    (allowed_fit now.tree c.args.frozen.state.links c.args.frozen.marks now.view c.args.batch.ops c.requires.allowed))
 
 pub invariant_of-self-2 : goal.invariant_of-self-2
-invariant_of-self-2 c _ =
+invariant_of-self-2 c =
     let e : Editor = editor_of c.self.inside in
-    let steps = c.args.steps.now in
-    let frozen = c.args.frozen in
-    let valid : AreSound e.tree e.next_key e.view = subst (λ (d : Editor). AreSound d.tree d.next_key d.view) (sym c.self.view_is) c.requires.valid in
-    let left : AreLeft steps (begun e) frozen.state.links frozen.state.selection frozen.marks frozen.next_key =
-    subst (λ d. AreLeft steps (begun d) frozen.state.links frozen.state.selection frozen.marks frozen.next_key) (sym c.self.view_is) c.requires.left
-    in
-    still_sound e steps frozen.state.links frozen.state.selection frozen.marks frozen.next_key valid left c.show_texts.new.view c.in_ok-ops.ensures.shown c.requires.start
+    let left : Left = left_of c.args.frozen in
+    let view = c.follow.new.view.tree in
+    let ops = c.args.batch.ops in
+    let allowed : IsAllowed e.tree left.tree (marking left.marks) e.view ops = subst (λ (d : Editor). IsAllowed d.tree left.tree (marking left.marks) d.view ops) (sym c.self.view_is) c.requires.allowed in
+    let leads : Leads e.view ops view = subst (λ ops. Leads e.view ops view) c.in_ok-copy_ops.ensures c.in_ok-follow.ensures.leads in
+    still_valid e left view ops allowed leads c.args.batch.reads c.requires.state
 
-pub returns-clause-updated : goal.returns-clause-updated
-returns-clause-updated c =
+pub returns-clause-taken : goal.returns-clause-taken
+returns-clause-taken c =
     let e : Editor = editor_of c.self.inside in
-    let steps = c.args.steps.now in
-    let frozen = c.args.frozen in
-    let valid : AreSound e.tree e.next_key e.view = subst (λ (d : Editor). AreSound d.tree d.next_key d.view) (sym c.self.view_is) c.requires.valid in
-    let left : AreLeft steps (begun e) frozen.state.links frozen.state.selection frozen.marks frozen.next_key =
-    subst (λ d. AreLeft steps (begun d) frozen.state.links frozen.state.selection frozen.marks frozen.next_key) (sym c.self.view_is) c.requires.left
-    in
-    let changed = subst (λ d. IsNothingNew d frozen.state.selection frozen.marks → ⊥) (sym c.self.view_is) c.requires.changed in
-    let done = committed e steps frozen.state.links frozen.state.selection frozen.marks frozen.next_key valid left c.show_texts.new.view c.in_ok-ops.ensures.shown c.in_ok-ops.ops c.in_ok-ops.ensures.leads changed in
-    subst
-    (λ d. IsUpdated d steps (Committed (e.commits + 1) c.in_ok-ops.ops)
-    (record { tree = frozen.state.links; selection = frozen.state.selection; next_key = frozen.next_key; commits = e.commits + 1; view = c.show_texts.new.view }))
-    c.self.view_is done
+    let left : Left = left_of c.args.frozen in
+    let view = c.follow.new.view.tree in
+    let ops = c.args.batch.ops in
+    let reads = c.args.batch.reads in
+    let allowed : IsAllowed e.tree left.tree (marking left.marks) e.view ops = subst (λ (d : Editor). IsAllowed d.tree left.tree (marking left.marks) d.view ops) (sym c.self.view_is) c.requires.allowed in
+    let leads : Leads e.view ops view = subst (λ ops. Leads e.view ops view) c.in_ok-copy_ops.ensures c.in_ok-follow.ensures.leads in
+    let anew = subst (λ (d : Editor). IsNothingNew d left → ⊥) (sym c.self.view_is) c.requires.anew in
+    let ids = subst (λ (d : Editor). hosts_fault d.tree left.tree d.view ≡ None) (sym c.self.view_is) c.requires.ids in
+    let few = subst (λ (d : Editor). reads ≤ most_reads d.tree left.tree (is_noted left.marks)) (sym c.self.view_is) c.requires.few in
+    let new : Editor = made e left view ops allowed leads reads in
+    let done = committed e left view ops allowed leads reads anew ids few in
+    subst (λ (d : Editor). IsCommitted d left (e.commits + 1) c.in_ok-ops.ops new) c.self.view_is
+    (subst (λ told. IsCommitted e left (e.commits + 1) told new) (sym c.in_ok-ops.ensures) done)

@@ -1,5 +1,6 @@
-use Rattle.lx_editor.proofs.Updated.{new_sound}
+use Rattle.lx_editor.proofs.Updated.{new_valid}
 use Rattle.lx_editor.proofs.editor.Editor.new.Goals as goal
 
 pub invariant_of-result : goal.invariant_of-result
-invariant_of-result c = λ living. new_sound c.in_ok-new.field-0.links c.in_ok-new-2.field-0 c.in_ok-new.ensures.links c.in_ok-new.ensures.start c.in_ok-new-2.ensures
+invariant_of-result c =
+    new_valid c.in_ok-new.field-0.links c.in_ok-new.field-0.selection c.in_ok-new-2.field-0.tree c.in_ok-new.ensures.links c.in_ok-new.ensures.selection c.in_ok-new-2.ensures c.in_ok-new.ensures.start
