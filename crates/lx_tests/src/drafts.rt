@@ -151,7 +151,10 @@ fn the_last_key_is_the_limit(rt: HostRuntime) -> Result<(), Fail> {
     let within = fault_at(alloc, 1_048_576)?;
     assert_eq!(rt; within.is_none(), true);
     let beyond = fault_at(alloc, 1_048_577)?;
-    assert_eq!(rt; matches!(beyond, Some(Cause::TooLarge(Limit::Key, 1_048_577))), true);
+    assert_eq!(rt;
+        matches!(beyond, Some(Cause::TooLarge(Limit::KeyCount, 1_048_577))),
+        true
+    );
     Ok(())
 }
 

@@ -44,7 +44,9 @@ fn ending(id: u32, ending: bool) -> Op {
 /// Makes a change if it fits.
 fn step(alloc: Global, tree: &mut HostTree, op: Op) -> Result<(), NoMemory> {
     if tree.fits(&op) {
-        tree.apply(vec![in alloc; op]?)?;
+        let ops = vec![in alloc; op]?;
+        tree.reserve(&ops)?;
+        tree.apply(ops);
     }
     Ok(())
 }
