@@ -1,5 +1,6 @@
 -- Whole runs.
 use Rattle.std.proofs.Common.{◌≡◌, ◌≢◌, ℕ, ◌+◌, ◌<◌, ◌≤◌, ◌⊎◌, inl, inr, List, [], ◌++◌, length, take, sym, ap, ◌∙◌, refl, subst, length-append, arith}
+use Rattle.lx_node.specs.Limits.{last_u32}
 use Rattle.lx_io.specs.Devices.{Consumes, IsAtEnd, HasRisen, IsCounted, last_count}
 use Rattle.lx_editor.specs.Editor.{Editor, new_editor}
 use Rattle.lx_cli.specs.declared.session.Session.{Session}
@@ -222,7 +223,7 @@ pub IsUnended-new : (session : Session) → IsNew session → IsUnended session.
 IsUnended-new session new = subst IsUnended (sym new.pending) IsUnended-none
 
 -- the editor has numbers for a last line
-pub commits-end : (a b : Moment) (read : List ℕ) → IsNew a.session → IsEnd input_limit read a b → b.session.editor.commits < 4294967295
+pub commits-end : (a b : Moment) (read : List ℕ) → IsNew a.session → IsEnd input_limit read a b → b.session.editor.commits < last_u32
 commits-end a b read new p =
     let waits = a.session.pending.items in
     omega (arith, length-ended-le (waits ++ read), length-append waits read, ap length new.pending, ap (λ (e : Editor). e.commits) new.editor, p.taken.answered.commits, p.within)

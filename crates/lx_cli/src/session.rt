@@ -42,6 +42,7 @@ pub(crate) struct Session {
 
 impl Session {
     ghost use Rattle.std.specs.Prelude.{◌≡◌, ◌+◌, ◌*◌, ◌<◌, [], ◌∷◌, length, IfOk, OnOk};
+    ghost use Rattle.lx_node.specs.Limits.{last_u32};
     ghost use Rattle.lx_cli.specs.Lines.{last_line};
     ghost use Rattle.lx_cli.specs.Run.{sink_seen};
     ghost use Rattle.lx_cli.specs.Steps.{IsNew, LinesEnd, BytesEnd, IsUnended, ended_by, waiting_after};
@@ -62,7 +63,7 @@ impl Session {
 
     /// Answers the line that waits.
     fn end_line<K: Sink>(&mut self, sink: &mut K) -> Result<(), Unanswered>
-        requires { self.old.editor.commits < 4294967295 }
+        requires { self.old.editor.commits < last_u32 }
         ensures lines { LinesEnd result (self.old.pending.items ∷ []) self.old.editor self.new.editor
             (sink_seen K.taken K.faults K.writes sink.old)
             (sink_seen K.taken K.faults K.writes sink.new) }
@@ -87,7 +88,7 @@ impl Session {
 
     /// Takes a byte behind those that wait.
     fn take_byte<K: Sink>(&mut self, byte: u8, sink: &mut K) -> Result<(), Unanswered>
-        requires { self.old.editor.commits < 4294967295 }
+        requires { self.old.editor.commits < last_u32 }
         ensures lines { LinesEnd result (ended_by byte self.old.pending.items) self.old.editor self.new.editor
             (sink_seen K.taken K.faults K.writes sink.old)
             (sink_seen K.taken K.faults K.writes sink.new) }
@@ -109,7 +110,7 @@ impl Session {
         sink: &mut K,
     ) -> Result<(), Unanswered>
         requires unended { IsUnended self.old.pending.items }
-        requires room { self.old.editor.commits + length self.old.pending.items + length piece.now < 4294967295 }
+        requires room { self.old.editor.commits + length self.old.pending.items + length piece.now < last_u32 }
         ensures { BytesEnd result piece.now self.old self.new
             (sink_seen K.taken K.faults K.writes sink.old)
             (sink_seen K.taken K.faults K.writes sink.new) }
@@ -125,7 +126,7 @@ impl Session {
 
     /// Answers what waits at the end of the input, if that is anything.
     pub(crate) fn finish<K: Sink>(&mut self, sink: &mut K) -> Result<(), Unanswered>
-        requires { self.old.editor.commits < 4294967295 }
+        requires { self.old.editor.commits < last_u32 }
         ensures { LinesEnd result (last_line self.old.pending.items) self.old.editor self.new.editor
             (sink_seen K.taken K.faults K.writes sink.old)
             (sink_seen K.taken K.faults K.writes sink.new) }

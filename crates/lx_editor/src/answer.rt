@@ -8,7 +8,7 @@ use lx_script::{Reply, read_line, write_reply};
 use std::alloc::Global;
 
 /// Answers a line of bytes, without its end, with the bytes of a reply. A line that is refused changes
-/// nothing. After want of memory the editor is only fit to be dropped.
+/// nothing. After want of memory the editor is as it was, unless only the reply wanted it.
 #[tactic(auto, unfolding(crate::specs::Follows::Answers))]
 pub fn answer_line(alloc: Global, editor: &mut Editor, line: &[u8]) -> Result<Vec<u8>, NoMemory>
     requires { editor.old.commits < last_u32 }

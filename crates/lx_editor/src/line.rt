@@ -15,7 +15,8 @@ impl Editor {
     ghost use Rattle.lx_editor.specs.Follows.{RepliesTo, IsReplyOfUpdate, shown_of};
 
     /// Does what a line asks for, and answers with the bytes of a reply: the outcome of an update, or what is
-    /// committed. After want of memory the editor is only fit to be dropped.
+    /// committed. After want of memory the editor is as it was, unless
+    /// only the reply wanted it.
     #[tactic(auto, unfolding(crate::specs::Follows::RepliesTo))]
     pub fn line(&mut self, alloc: Global, line: Line) -> Result<Vec<u8>, NoMemory>
         requires sound { IsSoundForm line.form }

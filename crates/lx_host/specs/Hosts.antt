@@ -1,6 +1,7 @@
 -- Host trees, and what an operation does to one.
 use Rattle.std.specs.Prelude.{ℕ, ◌+◌, ◌<◌, ◌==◌, ◌≡◌, ◌&&◌, if◌then◌else◌, Bool, true, false, not, nat_lt, IsTrue, List, [], ◌∷◌, Option, None, Some}
 use Rattle.std.specs.List.{list_any}
+use Rattle.lx_node.specs.Limits.{last_u32}
 use Rattle.lx_node.specs.Trees.{Trees, nil, tree, joined}
 use Rattle.lx_node.specs.NamedTrees as named
 use Rattle.lx_host.specs.Words.{with_attribute}
@@ -108,7 +109,7 @@ fits_before child (Some before) ids = list_any (λ id. id == before) ids && not 
 -- placed below each host that isn't below it, before one of that host's children, other than itself, or at the end. A host
 -- other than 0 can be dropped, and what each host shows can be changed.
 unfoldable pub fits : Op → HostTree → Bool
-fits (Create id key tag attrs text ending) w = (id == w.next) && nat_lt w.next 4294967295
+fits (Create id key tag attrs text ending) w = (id == w.next) && nat_lt w.next last_u32
 fits (Place parent child before) w =
     not (child == 0) && has child w.hosts && has parent w.hosts && not (has parent (alone child w.hosts))
     && fits_before child before (children_of parent w.hosts)

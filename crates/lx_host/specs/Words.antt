@@ -3,6 +3,7 @@ use Rattle.std.specs.Prelude.{ℕ, ◌≤◌, ◌&&◌, Bool, true, List, [], �
 use Rattle.std.specs.declared.cmp.Ordering.{Ordering}
 use Rattle.std.specs.Ordering.{nat_cmp, is_lt, match_ordering}
 use Rattle.std.specs.Cmp.Lexicographic.{slice_cmp}
+use Rattle.lx_node.specs.Limits.{last_u32}
 use Rattle.lx_host.specs.declared.tag.Inner.{Inner}
 use Rattle.lx_host.specs.declared.tag.Inner.TheVariants.{Strong, Em, Span}
 use Rattle.lx_host.specs.declared.tag.Outer.{Outer}
@@ -81,7 +82,7 @@ names_rise (a ∷ b ∷ rest) = is_lt (slice_cmp nat_cmp (name_word a.0) (name_w
 
 pub record AreAttributes (attributes : List (Name × List ℕ)) : Type 0 where
   pub rise : IsTrue (names_rise attributes)
-  pub few : length attributes ≤ 4294967295
+  pub few : length attributes ≤ last_u32
 
 -- the order of two names, which is that of their words
 abbrev pub name_order : Name → Name → Ordering

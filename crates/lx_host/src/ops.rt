@@ -11,21 +11,23 @@ pub struct Ops {
 
 impl Model for Ops {
     ghost use Rattle.std.specs.Prelude.{List, ◌≤◌, length};
+    ghost use Rattle.lx_node.specs.Limits.{last_u32};
     ghost use Rattle.lx_host.specs.declared.op.Op.{Op};
 
     ghost Value = { List Op };
 
     ghost view = { λ o. o.items.items };
 
-    ghost invariant = { λ o. length o.items.items ≤ 4294967295 };
+    ghost invariant = { λ o. length o.items.items ≤ last_u32 };
 }
 
 impl Ops {
     ghost use Rattle.std.specs.Prelude.{◌≡◌, ◌≤◌, length, IfOk};
+    ghost use Rattle.lx_node.specs.Limits.{last_u32};
 
     /// These operations. It takes no memory.
     pub fn of(items: Vec<Op>) -> Ops
-        requires { length items.items ≤ 4294967295 }
+        requires { length items.items ≤ last_u32 }
         ensures { result ≡ items.items }
     {
         Ops { items }

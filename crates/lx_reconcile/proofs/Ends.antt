@@ -5,7 +5,7 @@ use Rattle.std.proofs.lemmas.Bool.Decides.{eqb_tells}
 use Rattle.lx_node.specs.Siblings.{is_among, NoRepeats}
 use Rattle.lx_node.proofs.Siblings.{is_among-append}
 use Rattle.lx_reconcile.specs.declared.moves.Move.{Move}
-use Rattle.lx_reconcile.specs.Walk.{leaving, is_suited, common, missing, IsWalk}
+use Rattle.lx_reconcile.specs.Walk.{leaving, suits_children, common, missing, IsWalk}
 use Rattle.lx_reconcile.specs.Underway.{IsWalking}
 use Rattle.lx_reconcile.proofs.Lists.{common-append, common-none, common-all, common-even, is_among-uncommon}
 use Rattle.lx_reconcile.proofs.Steps.{back-undone}
@@ -32,7 +32,7 @@ begun olds news once other = record {
   can = tt;
   stands = refl;
   leaves = refl;
-  suited = All-nil (λ m. is_suited olds m ≡ true);
+  suited = All-nil (λ m. suits_children olds m ≡ true);
   unhandled = tt;
   kept_order = λ same. (same, refl);
 }

@@ -6,7 +6,7 @@ use Rattle.std.proofs.lemmas.Bool.Decides.{eqb_tells}
 use Rattle.lx_node.specs.Siblings.{is_among}
 use Rattle.lx_reconcile.specs.declared.moves.Move.{Move}
 use Rattle.lx_reconcile.specs.declared.moves.Move.TheVariants.{Stay}
-use Rattle.lx_reconcile.specs.Walk.{is_suited, is_placing, all_moved, standing, leaving, missing, CanAllMove, BeforeUnhandled, IsWalk}
+use Rattle.lx_reconcile.specs.Walk.{suits_children, is_placing, all_moved, standing, leaving, missing, CanAllMove, BeforeUnhandled, IsWalk}
 
 -- these children are among those
 abbrev AreAmong : List ℕ → List ℕ → Type 0
@@ -38,7 +38,7 @@ none_missing : (ks all : List ℕ) → AreAmong ks all → missing ks all ≡ []
 none_missing [] all among = refl
 none_missing (k ∷ ks) all among = rw (first_in k ks all among) (none_missing ks all (rest_in k ks all among))
 
-suited : (ks all : List ℕ) → AreAmong ks all → AllByRecursion (λ m. is_suited all m ≡ true) (map Stay ks)
+suited : (ks all : List ℕ) → AreAmong ks all → AllByRecursion (λ m. suits_children all m ≡ true) (map Stay ks)
 suited [] all among = tt
 suited (k ∷ ks) all among = (first_in k ks all among, suited ks all (rest_in k ks all among))
 
@@ -56,7 +56,7 @@ staying ks = record {
   can = can ks ks (λ q e. e);
   stands = stands ks;
   leaves = leaves ks ∙ sym (none_missing ks ks (λ q e. e));
-  suited = All-from_recursion (λ m. is_suited ks m ≡ true) (map Stay ks) (suited ks ks (λ q e. e));
+  suited = All-from_recursion (λ m. suits_children ks m ≡ true) (map Stay ks) (suited ks ks (λ q e. e));
   unhandled = unhandled ks ks [];
   kept_order = λ same. none_placed ks;
 }

@@ -7,7 +7,7 @@ use Rattle.lx_node.proofs.Siblings.{first_of-among, is_among-append, is_among-na
 use Rattle.lx_node.proofs.Positions.{NoRepeats-names_without}
 use Rattle.lx_reconcile.specs.declared.moves.Move.{Move}
 use Rattle.lx_reconcile.specs.declared.moves.Move.TheVariants.{Stay, Leave, Make, Place}
-use Rattle.lx_reconcile.specs.Walk.{child_of, before_of, moved, can_move, is_suited, is_placing, all_moved, CanAllMove, standing, leaving, BeforeUnhandled, common, missing}
+use Rattle.lx_reconcile.specs.Walk.{child_of, before_of, moved, can_move, suits_children, is_placing, all_moved, CanAllMove, standing, leaving, BeforeUnhandled, common, missing}
 use Rattle.lx_reconcile.specs.Underway.{IsWalking}
 use Rattle.lx_reconcile.proofs.Lists.{is_among-missing, missing-push, common-push_absent, names_without-append, common-append, missing-append, common-names_without, common-none, NoRepeats-right, apart, names_with-first}
 use Rattle.lx_reconcile.proofs.InTurn.{NoRepeats-moved, all_moved-push, CanAllMove-push, standing-append, leaving-append, list_any-push, children-push, standing-children, BeforeUnhandled-push}
@@ -127,7 +127,7 @@ step-same k olds news old new back done moves news_once w =
       stands = standing-append moves (Stay k ∷ []) ∙ ap (λ xs. xs ++ k ∷ []) w.stands;
       leaves = ap (λ xs. xs ++ missing old news) (leaving-append moves (Stay k ∷ []) ∙ append-nil (leaving moves))
           ∙ ap (λ xs. leaving moves ++ xs) (sym (missing-in k old news in_news)) ∙ w.leaves;
-      suited = All-push (λ m. is_suited olds m ≡ true) moves (Stay k) w.suited in_olds;
+      suited = All-push (λ m. suits_children olds m ≡ true) moves (Stay k) w.suited in_olds;
       unhandled = unhandled-push w (Stay k) (λ b e. absurd (cc));
       kept_order = λ same. (kept_order-same k old new news olds in_news in_olds (w.kept_order same).0, list_any-push is_placing moves (Stay k) ∙ ap (λ b. b || false) (w.kept_order same).1);
     }
@@ -183,7 +183,7 @@ step-gone o olds news old new back done moves gone w =
       stands = standing-append moves (Leave o ∷ []) ∙ append-nil (standing moves) ∙ w.stands;
       leaves = ap (λ xs. xs ++ missing old news) (leaving-append moves (Leave o ∷ [])) ∙ append_assoc (leaving moves) (o ∷ []) (missing old news)
           ∙ ap (λ xs. leaving moves ++ xs) (sym (missing-out o old news gone)) ∙ w.leaves;
-      suited = All-push (λ m. is_suited olds m ≡ true) moves (Leave o) w.suited in_olds;
+      suited = All-push (λ m. suits_children olds m ≡ true) moves (Leave o) w.suited in_olds;
       unhandled = unhandled-push w (Leave o) (λ b e. absurd (cc));
       kept_order = λ same. (sym (common-out o old news gone) ∙ (w.kept_order same).0, list_any-push is_placing moves (Leave o) ∙ ap (λ b. b || false) (w.kept_order same).1);
     }
@@ -227,7 +227,7 @@ step-made n olds news old new back done moves news_once none w =
       can = can-push w (Make n (first_of back)) can;
       stands = standing-append moves (Make n (first_of back) ∷ []) ∙ ap (λ xs. xs ++ n ∷ []) w.stands;
       leaves = ap (λ xs. xs ++ missing old news) (leaving-append moves (Make n (first_of back) ∷ []) ∙ append-nil (leaving moves)) ∙ w.leaves;
-      suited = All-push (λ m. is_suited olds m ≡ true) moves (Make n (first_of back)) w.suited (ap not none);
+      suited = All-push (λ m. suits_children olds m ≡ true) moves (Make n (first_of back)) w.suited (ap not none);
       unhandled = unhandled-push w (Make n (first_of back)) (first_of-among back);
       kept_order = λ same. ((w.kept_order same).0 ∙ common-out n new olds none, list_any-push is_placing moves (Make n (first_of back)) ∙ ap (λ b. b || false) (w.kept_order same).1);
     } in
@@ -264,7 +264,7 @@ back-without n o old done passed back e =
 -- that this child comes to stand in front of the cursor, by a move of it that can be made
 settled : (o n : ℕ) (olds news old new back done front : List ℕ) (moves : List Move) (m : Move) → NoRepeats news →
     is_among o news ≡ true → is_among n olds ≡ true → eqb o n ≡ false → (w : IsWalking olds news (o ∷ old) (n ∷ new) back done moves) →
-    child_of m ≡ n → standing (m ∷ []) ≡ n ∷ [] → leaving (m ∷ []) ≡ [] → is_suited olds m ≡ true → can_move m (w.front ++ back) ≡ true →
+    child_of m ≡ n → standing (m ∷ []) ≡ n ∷ [] → leaving (m ∷ []) ≡ [] → suits_children olds m ≡ true → can_move m (w.front ++ back) ≡ true →
     ((k : ℕ) → before_of m ≡ Some k → is_among k back ≡ true) →
     moved m (w.front ++ back) ≡ (front ++ n ∷ []) ++ names_without n back → common front done ≡ done → is_among n front ≡ false →
     ((q : ℕ) → is_among q ((front ++ n ∷ []) ++ names_without n back) ≡ is_among q (w.front ++ back)) →
@@ -289,7 +289,7 @@ settled o n olds news old new back done front moves m news_once o_news n_olds ot
       stands = standing-append moves (m ∷ []) ∙ ap (λ xs. standing moves ++ xs) stands ∙ ap (λ xs. xs ++ n ∷ []) w.stands;
       leaves = ap (λ xs. xs ++ missing old news) (leaving-append moves (m ∷ []) ∙ ap (λ xs. leaving moves ++ xs) leaves ∙ append-nil (leaving moves))
           ∙ ap (λ xs. leaving moves ++ xs) (sym (missing-in o old news o_news)) ∙ w.leaves;
-      suited = All-push (λ v. is_suited olds v ≡ true) moves m w.suited suited;
+      suited = All-push (λ v. suits_children olds v ≡ true) moves m w.suited suited;
       unhandled = unhandled-push w m before;
       kept_order = λ same. absurd (differ o n old new news olds o_news n_olds other (w.kept_order same).0);
     }

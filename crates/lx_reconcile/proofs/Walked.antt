@@ -23,7 +23,7 @@ use Rattle.lx_reconcile.specs.declared.moves.Move.TheVariants.{Stay, Leave, Make
 use Rattle.lx_reconcile.specs.Created.{creation_of}
 use Rattle.lx_reconcile.specs.Reconciled.{LeadsAt, host_in}
 use Rattle.lx_reconcile.specs.Handled.{IsReconciled, IsLater}
-use Rattle.lx_reconcile.specs.Walk.{child_of, moved, is_suited, is_placing, is_waiting, standing, leaving, missing, IsWalk}
+use Rattle.lx_reconcile.specs.Walk.{child_of, moved, suits_children, is_placing, is_waiting, standing, leaving, missing, IsWalk}
 use Rattle.lx_reconcile.specs.ToCome.{IsView, AreToCome, IsInWalk}
 use Rattle.lx_reconcile.proofs.Children.{stands_there}
 use Rattle.lx_reconcile.proofs.Kept.{not_kept_new, not_kept_tag}
@@ -64,7 +64,7 @@ pub all_to_come : (olds news : List ℕ) (ms : List Move) → NoRepeats olds →
 all_to_come olds news ms o n w = record {
   can = w.can;
   unhandled = w.unhandled;
-  suited = recursion_from_All (λ m. is_suited olds m ≡ true) ms w.suited;
+  suited = recursion_from_All (λ m. suits_children olds m ≡ true) ms w.suited;
   once = children_once ms (subst NoRepeats (sym w.stands) n) (subst NoRepeats (sym w.leaves) (missing_once olds news o))
       (λ q e. ap (is_among q) w.leaves ∙ grind (arith, among_missing q olds news, sym (ap (is_among q) w.stands) ∙ e));
   fresh = λ q e. refl;

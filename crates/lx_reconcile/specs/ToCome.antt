@@ -10,7 +10,7 @@ use Rattle.lx_forest.specs.Lookups.{children_of, trees_of, IsForest}
 use Rattle.lx_plain.specs.Allowed.{Shows, unkept}
 use Rattle.lx_reconcile.specs.declared.moves.Move.{Move}
 use Rattle.lx_reconcile.specs.Handled.{AreHandled}
-use Rattle.lx_reconcile.specs.Walk.{child_of, is_suited, is_placing, all_moved, standing, leaving, common, CanAllMove, BeforeUnhandled}
+use Rattle.lx_reconcile.specs.Walk.{child_of, suits_children, is_placing, all_moved, standing, leaving, common, CanAllMove, BeforeUnhandled}
 
 -- A host tree shows the old one of two forests.
 pub record IsView (old new : Forest) (v : HostTree) : Type 0 where
@@ -24,7 +24,7 @@ pub record IsView (old new : Forest) (v : HostTree) : Type 0 where
 pub record AreToCome (olds news handled now : List ℕ) (moves : List Move) : Type 0 where
   pub can : CanAllMove moves now
   pub unhandled : BeforeUnhandled olds handled moves
-  pub suited : AllByRecursion (λ m. is_suited olds m ≡ true) moves
+  pub suited : AllByRecursion (λ m. suits_children olds m ≡ true) moves
   -- each child has one move, now or before
   pub once : NoRepeats (map child_of moves)
   pub fresh : (q : ℕ) → is_among q (map child_of moves) ≡ true → is_among q handled ≡ false

@@ -7,7 +7,7 @@ use Rattle.lx_reconcile.specs.declared.moves.Move.TheVariants.{Stay, Place}
 use Rattle.lx_reconcile.specs.declared.progress.Progress.{Progress}
 use Rattle.lx_reconcile.specs.declared.progress.Case.{Case}
 use Rattle.lx_reconcile.specs.declared.progress.Case.TheVariants as case
-use Rattle.lx_reconcile.specs.Walk.{child_of, is_suited, is_placing, all_moved, CanAllMove, standing, leaving, BeforeUnhandled, common, missing}
+use Rattle.lx_reconcile.specs.Walk.{child_of, suits_children, is_placing, all_moved, CanAllMove, standing, leaving, BeforeUnhandled, common, missing}
 
 -- Of the children before, `old` are still to be walked over, and of those after `new`; these moves were made so far, and `done`
 -- of those after stand. The children now are a front, which ends at the cursor, and a back: those that were passed there, and
@@ -32,7 +32,7 @@ pub record IsWalking (olds news old new back done : List ℕ) (moves : List Move
   pub can : CanAllMove moves olds
   pub stands : standing moves ≡ done
   pub leaves : leaving moves ++ missing old news ≡ missing olds news
-  pub suited : All (λ m. is_suited olds m ≡ true) moves
+  pub suited : All (λ m. suits_children olds m ≡ true) moves
   pub unhandled : BeforeUnhandled olds [] moves
   pub kept_order : common olds news ≡ common news olds → (common old news ≡ common new olds) × (list_any is_placing moves ≡ false)
 

@@ -36,11 +36,11 @@ can_move (Make k before) ks = not (is_among k ks) && is_place before ks
 can_move (Place k before) ks = is_among k ks && (is_place before ks && not (is_named before k))
 
 -- whether it suits the children before: what is made is none of them, and all else is one
-abbrev pub is_suited : List ℕ → Move → Bool
-is_suited old (Stay k) = is_among k old
-is_suited old (Leave k) = is_among k old
-is_suited old (Make k before) = not (is_among k old)
-is_suited old (Place k before) = is_among k old
+abbrev pub suits_children : List ℕ → Move → Bool
+suits_children old (Stay k) = is_among k old
+suits_children old (Leave k) = is_among k old
+suits_children old (Make k before) = not (is_among k old)
+suits_children old (Place k before) = is_among k old
 
 -- whether a child that stays one is placed anew
 abbrev pub is_placing : Move → Bool
@@ -97,7 +97,7 @@ pub record IsWalk (old new : List ℕ) (moves : List Move) : Type 0 where
   pub can : CanAllMove moves old
   pub stands : standing moves ≡ new
   pub leaves : leaving moves ≡ missing old new
-  pub suited : All (λ m. is_suited old m ≡ true) moves
+  pub suited : All (λ m. suits_children old m ≡ true) moves
   pub unhandled : BeforeUnhandled old [] moves
   -- where the children that are in both stand in one order, none is placed anew
   pub kept_order : common old new ≡ common new old → list_any is_placing moves ≡ false

@@ -5,6 +5,7 @@ use Rattle.std.specs.Str.{bytes_eq}
 use Rattle.serde_json.specs.Data.{Data, null, array}
 use Rattle.serde_json.specs.Events.{items_len}
 use Rattle.serde_json.specs.Find.{at, as_str}
+use Rattle.lx_node.specs.Limits.{last_u32}
 use Rattle.lx_node.specs.declared.cause.PointKind.{PointKind}
 use Rattle.lx_step.specs.declared.reference.Reference.{Reference}
 use Rattle.lx_step.specs.declared.reference.Reference.TheVariants as reference
@@ -24,7 +25,7 @@ named_node text =
 
 -- a key, or a string
 abbrev pub reference_of : Data → Option Reference
-reference_of d = option_or (option_map (λ key. reference.Key key) (number_within 0 4294967295 d)) (option_map named_node (as_str d))
+reference_of d = option_or (option_map (λ key. reference.Key key) (number_within 0 last_u32 d)) (option_map named_node (as_str d))
 
 abbrev pub has_three : Data → Bool
 has_three (array items) = items_len items == 3

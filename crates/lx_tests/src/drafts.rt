@@ -1,20 +1,19 @@
 //! Calls of drafts that no line reaches.
 
-use lx_draft::{Draft, PointRule, Round, State, limits_fault};
-use lx_node::{Cause, Fault, Fields, Key, Kind, Limit, Point, PointKind};
+ghost use Rattle.lx_draft.specs.Working.{MayStart};
+
+use lx_draft::{Draft, PointRule, Round, State};
+use lx_node::{Fault, Fields, Key, Kind, Point, PointKind};
 use lx_select::Selection;
 use std::alloc::Global;
 use std::test::Fail;
 
-/// A draft in which the root holds a paragraph, 1, with the text 2.
-fn begun(alloc: Global) -> Result<Draft, Fault> {
-    let state = State::new(alloc)?;
-    let mut draft = Draft::start(alloc, &state, 1)?;
+/// Puts a paragraph, 1, below the root, with the text 2.
+fn fill(alloc: Global, draft: &mut Draft) -> Result<(), Fault> {
     let paragraph = draft.new_node(Kind::Paragraph, Fields::plain_element(alloc))?;
     let text = draft.new_node(Kind::Text, Fields::plain_text(alloc, "words")?)?;
     draft.put(text, paragraph, 0)?;
-    draft.put(paragraph, Key::root(), 0)?;
-    Ok(draft)
+    draft.put(paragraph, Key::root(), 0)
 }
 
 /// The keys of a list.
@@ -46,48 +45,77 @@ fn told_round(alloc: Global, round: &Round) -> Result<String, Fail> {
     }
 }
 
-/// Takes a round of a draft, and tells it.
-fn round(alloc: Global, draft: &mut Draft) -> Result<String, Fail> {
+/// Takes a round of a draft, and tells it behind what was told.
+fn push_round(alloc: Global, draft: &mut Draft, told: &mut String) -> Result<(), Fail> {
     let round = draft.take_round()?;
-    told_round(alloc, &round)
+    let text = told_round(alloc, &round)?;
+    told.push_str(text.as_str())?;
+    told.push_str(", ")?;
+    Ok(())
+}
+
+/// Three rounds of a draft whose nodes are new.
+fn told_rounds(alloc: Global, draft: &mut Draft) -> Result<String, Fail> {
+    let mut told = String::new(alloc);
+    fill(alloc, draft)?;
+    push_round(alloc, draft, &mut told)?;
+    push_round(alloc, draft, &mut told)?;
+    push_round(alloc, draft, &mut told)?;
+    Ok(told)
+}
+
+fn rounds(alloc: Global, state: &State) -> Result<String, Fail>
+    requires { MayStart state.now.links 1 }
+{
+    let mut draft = Draft::start(alloc, state, 1)?;
+    told_rounds(alloc, &mut draft)
 }
 
 #[test]
 fn rounds_give_leaves_first(rt: HostRuntime) -> Result<(), Fail> {
     let alloc = rt.alloc();
-    let mut draft = begun(alloc)?;
-    let text = round(alloc, &mut draft)?;
-    assert_eq!(rt; text.as_str(), "leaves 2");
-    let text = round(alloc, &mut draft)?;
-    assert_eq!(rt; text.as_str(), "elements 1! 0!");
-    let text = round(alloc, &mut draft)?;
-    assert_eq!(rt; text.as_str(), "rest");
+    let state = State::new(alloc)?;
+    let text = rounds(alloc, &state)?;
+    assert_eq!(rt; text.as_str(), "leaves 2, elements 1! 0!, rest, ");
     Ok(())
 }
 
-/// Marks the text of a draft that has been handled, by one of the two calls, and tells the next round and what it
-/// counted.
-fn marked(alloc: Global, counts: bool) -> Result<String, Fail> {
-    let mut draft = begun(alloc)?;
+/// Marks a text whose marks have been handled, by one of the two calls.
+fn mark(draft: &mut Draft, counts: bool) -> Result<(), Fault> {
+    if counts {
+        draft.mark(Key(2))
+    } else {
+        draft.mark_uncounted(Key(2))
+    }
+}
+
+/// The round behind such a mark, and whether it was counted.
+fn told_mark(alloc: Global, draft: &mut Draft, counts: bool) -> Result<String, Fail> {
+    let mut told = String::new(alloc);
+    fill(alloc, draft)?;
     draft.take_round()?;
     draft.take_round()?;
     let before = draft.counted();
-    if counts {
-        draft.mark(Key(2))?;
-    } else {
-        draft.mark_uncounted(Key(2))?;
-    }
+    mark(draft, counts)?;
+    push_round(alloc, draft, &mut told)?;
     let counted = draft.counted() > before;
-    let text = round(alloc, &mut draft)?;
-    Ok(format!(in alloc; "{}, {counted}", text.as_str())?)
+    Ok(format!(in alloc; "{}{counted}", told.as_str())?)
+}
+
+fn marked(alloc: Global, state: &State, counts: bool) -> Result<String, Fail>
+    requires { MayStart state.now.links 1 }
+{
+    let mut draft = Draft::start(alloc, state, 1)?;
+    told_mark(alloc, &mut draft, counts)
 }
 
 #[test]
 fn a_mark_is_counted_or_not(rt: HostRuntime) -> Result<(), Fail> {
     let alloc = rt.alloc();
-    let text = marked(alloc, true)?;
+    let state = State::new(alloc)?;
+    let text = marked(alloc, &state, true)?;
     assert_eq!(rt; text.as_str(), "leaves 2, true");
-    let text = marked(alloc, false)?;
+    let text = marked(alloc, &state, false)?;
     assert_eq!(rt; text.as_str(), "leaves 2, false");
     Ok(())
 }
@@ -123,10 +151,9 @@ fn chosen(from: u32, to: u32) -> Selection {
     }
 }
 
-#[test]
-fn points_move_by_a_rule(rt: HostRuntime) -> Result<(), Fail> {
-    let alloc = rt.alloc();
-    let mut draft = begun(alloc)?;
+/// Where the points of a range are behind a rule.
+fn told_points(alloc: Global, draft: &mut Draft) -> Result<String, Fail> {
+    fill(alloc, draft)?;
     draft.select(chosen(1, 4))?;
     draft.point_rule(PointRule::Splice {
         key: Key(2),
@@ -134,27 +161,22 @@ fn points_move_by_a_rule(rt: HostRuntime) -> Result<(), Fail> {
         to: 3,
         len: 2,
     });
-    let text = told_selection(alloc, draft.selection())?;
-    assert_eq!(rt; text.as_str(), "2 at 1, 2 at 5");
-    Ok(())
+    told_selection(alloc, draft.selection())
 }
 
-/// Why the state of a new editor may not have that next key.
-fn fault_at(alloc: Global, next_key: u32) -> Result<Option<Cause>, Fault> {
-    let state = State::new(alloc)?;
-    Ok(limits_fault(&state.links, next_key))
+fn points(alloc: Global, state: &State) -> Result<String, Fail>
+    requires { MayStart state.now.links 1 }
+{
+    let mut draft = Draft::start(alloc, state, 1)?;
+    told_points(alloc, &mut draft)
 }
 
 #[test]
-fn the_last_key_is_the_limit(rt: HostRuntime) -> Result<(), Fail> {
+fn points_move_by_a_rule(rt: HostRuntime) -> Result<(), Fail> {
     let alloc = rt.alloc();
-    let within = fault_at(alloc, 1_048_576)?;
-    assert_eq!(rt; within.is_none(), true);
-    let beyond = fault_at(alloc, 1_048_577)?;
-    assert_eq!(rt;
-        matches!(beyond, Some(Cause::TooLarge(Limit::KeyCount, 1_048_577))),
-        true
-    );
+    let state = State::new(alloc)?;
+    let text = points(alloc, &state)?;
+    assert_eq!(rt; text.as_str(), "2 at 1, 2 at 5");
     Ok(())
 }
 
