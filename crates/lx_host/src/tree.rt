@@ -220,6 +220,17 @@ impl HostTree {
         self.grove.next(id)
     }
 
+    ghost use Rattle.lx_host.specs.Hosts.{id_of};
+    ghost use Rattle.lx_rooted.specs.Lookups.{parent_of};
+
+    /// The id of the host below which the one of that id stands. Host 0 and hosts that aren't placed stand
+    /// below none.
+    pub fn parent(&self, id: u32) -> Option<u32>
+        ensures { result ≡ parent_of id_of self.now.tree.hosts id }
+    {
+        self.grove.parent(id)
+    }
+
     /// The least id of the hosts that show the key, among host 0 and all below it. Where more than one host shows
     /// it, each host is looked at.
     pub fn host_of(&self, key: Key) -> Option<u32>
