@@ -16,7 +16,7 @@ use Rattle.lx_host.specs.declared.op.Op.TheVariants.{Create, Place, Drop, Text, 
 use Rattle.lx_host.specs.Hosts as hosts
 use Rattle.lx_host.specs.Hosts.{Host, HostTree, shape_of, effect, Leads}
 use Rattle.lx_forest.specs.Forest.{Forest}
-use Rattle.lx_forest.specs.Lookups.{has, kind_of, fields_of, parent_of, children_of, roots}
+use Rattle.lx_forest.specs.Lookups.{has, kind_of, fields_of, parent_of, previous_of, next_of, children_of, roots}
 use Rattle.lx_plain.specs.Render.{tag_of, render}
 
 -- The host tree shows this tree and nothing else: it has the shape of its rendering, so no host is left unplaced.
@@ -47,18 +47,22 @@ pub record Marking : Type 0 where
   pub touched : ℕ → Bool
   pub noted : ℕ → Bool
 
--- The node is the same in both trees, beside what is below its children.
+-- The node is the same in both trees, beside what is below its children: it has its neighbours too.
 pub record IsAlike (old new : Forest) (key : ℕ) : Type 0 where
   pub fields : fields_of old key ≡ fields_of new key
   pub parent : parent_of old key ≡ parent_of new key
+  pub previous : previous_of old key ≡ previous_of new key
+  pub next : next_of old key ≡ next_of new key
   pub children : children_of old key ≡ children_of new key
 
--- The marks cover two trees. A node of both keeps its kind, and is the same in both unless it is marked itself; each node of
--- the new tree alone is marked itself, and each node above a marked one is marked.
+-- The marks cover two trees. A node of both keeps its kind, and is the same in both unless it is marked itself. Each node of
+-- the new tree alone is marked itself, and so is each child of a node of both that the new tree hasn't any more. Each node
+-- above a marked one is marked.
 pub record AreCovered (old new : Forest) (marks : Marking) : Type 0 where
   pub kinds : (key : ℕ) → has key old ≡ true → has key new ≡ true → kind_of old key ≡ kind_of new key
   pub alike : (key : ℕ) → has key old ≡ true → has key new ≡ true → marks.touched key ≡ false → IsAlike old new key
   pub made : (key : ℕ) → has key old ≡ false → has key new ≡ true → marks.touched key ≡ true
+  pub gone : (key parent : ℕ) → parent_of old key ≡ Some parent → has parent new ≡ true → has key new ≡ false → marks.touched key ≡ true
   pub noted : (key : ℕ) → marks.touched key ≡ true → marks.noted key ≡ true
   pub above : (key parent : ℕ) → parent_of new key ≡ Some parent → marks.noted key ≡ true → marks.noted parent ≡ true
 

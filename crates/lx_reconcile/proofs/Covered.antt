@@ -1,13 +1,16 @@
 -- The marks of a draft cover the tree that it began with and the one that it leaves.
 use Rattle.std.proofs.Common.{◌≡◌, ◌∙◌, ℕ, Bool, true, false, cond, ◌||◌, Option, None, Some, is_some, option_map, inl, inr, refl, sym, ap}
 use Rattle.std.proofs.lemmas.Bool.{cases_Bool}
-use Rattle.lx_node.specs.Siblings.{is_among}
+use Rattle.lx_node.specs.Siblings.{is_among, next_in, previous_in}
 use Rattle.lx_node.specs.Spots.{Spot, parent_at, children_at}
 use Rattle.lx_marks.specs.Marks.{Marked, unmarked, flag_in, is_touched, is_noted, is_true_flag}
 use Rattle.lx_forest.specs.Forest.{Label, Forest}
-use Rattle.lx_forest.specs.Lookups.{has, alone, spot, kind_of, parent_of, IsForest}
+use Rattle.lx_forest.specs.Lookups.{has, alone, spot, kind_of, parent_of, previous_of, next_of, children_below, IsForest}
+use Rattle.lx_forest.specs.Records.{Record, linked, record_at}
+use Rattle.lx_forest.specs.Edits.{drop_detached}
+use Rattle.lx_forest.proofs.Records.{record_at-drop_detached}
 use Rattle.lx_forest.proofs.Edits.{is_some-spot}
-use Rattle.lx_forest.proofs.Walks.{spot_in_tree}
+use Rattle.lx_forest.proofs.Walks.{is_attached-up, spot_in_tree}
 use Rattle.lx_draft.specs.Covering.{Covers}
 use Rattle.lx_plain.specs.Allowed.{AreCovered}
 use Rattle.lx_reconcile.specs.Allowing.{marking}
@@ -18,6 +21,29 @@ touched_noted m q e = by_flag (is_among q m.leaves) (flag_in m.elements q) e whe
   by_flag true o e = refl
   by_flag false None e = absurd (cc)
   by_flag false (Some flag) e = refl
+
+-- the neighbours that a record tells
+previous_told : Option Record → Option ℕ
+previous_told None = None
+previous_told (Some r) = r.prev
+
+next_told : Option Record → Option ℕ
+next_told None = None
+next_told (Some r) = r.next
+
+previous_is : (f : Forest) (q : ℕ) → previous_of f q ≡ previous_told (record_at f q)
+unfolding previous_told
+previous_is f q = from_spot (spot f q) where
+  from_spot : (o : Option (Spot Label)) → previous_in (children_below f (parent_at o)) q ≡ previous_told (option_map (linked (children_below f (parent_at o)) q) o)
+  from_spot None = refl
+  from_spot (Some x) = refl
+
+next_is : (f : Forest) (q : ℕ) → next_of f q ≡ next_told (record_at f q)
+unfolding next_told
+next_is f q = from_spot (spot f q) where
+  from_spot : (o : Option (Spot Label)) → next_in (children_below f (parent_at o)) q ≡ next_told (option_map (linked (children_below f (parent_at o)) q) o)
+  from_spot None = refl
+  from_spot (Some x) = refl
 
 module _ (f g : Forest) (n : Marked) (h : IsForest g) (c : Covers f unmarked g n) (kinds : (q : ℕ) → has q f ≡ true → has q g ≡ true → kind_of f q ≡ kind_of g q) where
   tree : Forest
@@ -36,17 +62,39 @@ module _ (f g : Forest) (n : Marked) (h : IsForest g) (c : Covers f unmarked g n
     | inr marked ↦ absurd (cc)
   ]
 
+  -- and its record too
+  untouched_record : (q : ℕ) → has q (alone 0 g) ≡ true → is_touched n q ≡ false → record_at f q ≡ record_at (alone 0 g) q
+  unfolding drop_detached
+  untouched_record q there plain = elim (c.seen q) [
+    | inl same ↦ sym same.1 ∙ sym (record_at-drop_detached g q h ∙ ap (λ b. cond b (record_at g q) None) there)
+    | inr marked ↦ absurd (cc)
+  ]
+
+  -- an untouched child of a node of the tree is in the tree
+  still : (q p : ℕ) → parent_of f q ≡ Some p → has p (alone 0 g) ≡ true → is_touched n q ≡ false → has q (alone 0 g) ≡ true
+  still q p up there plain = elim (c.seen q) [
+    | inl same ↦ is_attached-up g q p h (ap parent_at same.0 ∙ up) ∙ there
+    | inr marked ↦ absurd (cc)
+  ]
+
   pub covered : AreCovered f (alone 0 g) (marking n)
   covered = record {
     kinds = λ q was is.
         kinds q was (there_too q is) ∙ sym (ap (λ (o : Option (Spot Label)). option_map (λ (l : Label). l.kind) (option_map (λ (s : Spot Label). s.label) o)) (same_spot q is));
     alike = λ q was is plain.
         let same = untouched_spot q is plain in
+        let told : record_at f q ≡ record_at (alone 0 g) q = untouched_record q is plain in
         record {
           fields = ap (λ (o : Option (Spot Label)). option_map (λ (l : Label). l.fields) (option_map (λ (s : Spot Label). s.label) o)) same;
           parent = ap parent_at same;
+          previous = previous_is f q ∙ ap previous_told told ∙ sym (previous_is (alone 0 g) q);
+          next = next_is f q ∙ ap next_told told ∙ sym (next_is (alone 0 g) q);
           children = ap children_at same;
         };
+    gone = λ q p up is out. elim (cases_Bool (is_touched n q)) [
+      | inl marked ↦ marked
+      | inr plain ↦ absurd (let e = still q p up is plain in cc)
+    ];
     made = λ q out is. elim (cases_Bool (is_touched n q)) [
       | inl marked ↦ marked
       | inr plain ↦ absurd (let e : has q f ≡ true = sym (is_some-spot f q) ∙ ap is_some (untouched_spot q is plain) ∙ is_some-spot (alone 0 g) q ∙ is in cc)

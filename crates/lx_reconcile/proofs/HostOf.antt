@@ -18,7 +18,7 @@ use Rattle.lx_reconcile.specs.Reconciled.{host_in, IsAt}
 use Rattle.lx_reconcile.proofs.Shown.{key_in, hosts_of-none, count-shown}
 use Rattle.lx_reconcile.proofs.StartEnd.{count_one, only_host, root_at, one_tree}
 
-host_of-none : (k : ℕ) (t : Trees Host) → named.count key_in k t ≡ 0 → host_of k t ≡ None
+pub host_of-none : (k : ℕ) (t : Trees Host) → named.count key_in k t ≡ 0 → host_of k t ≡ None
 host_of-none k nil e = refl
 host_of-none k (tree h b r) e = grind (arith, e, host_of-none k b, host_of-none k r)
 
@@ -26,7 +26,7 @@ lesser-None : (o : Option ℕ) → lesser o None ≡ o
 lesser-None None = refl
 lesser-None (Some n) = refl
 
-host_of-one : (k i : ℕ) (t : Trees Host) → named.count key_in k t ≡ 1 → hosts_of k t ≡ i ∷ [] → host_of k t ≡ Some i
+pub host_of-one : (k i : ℕ) (t : Trees Host) → named.count key_in k t ≡ 1 → hosts_of k t ≡ i ∷ [] → host_of k t ≡ Some i
 host_of-one k i nil one is = absurd (cc)
 host_of-one k i (tree h b r) one is =
     elim (eqb_tells h.face.key k) [

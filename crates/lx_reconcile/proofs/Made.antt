@@ -7,33 +7,32 @@ use Rattle.std.proofs.lemmas.Option.{same_Some}
 use Rattle.lx_node.specs.Limits.{last_u32}
 use Rattle.lx_node.specs.Trees.{Trees, nil, tree}
 use Rattle.lx_node.specs.NamedTrees.{total}
-use Rattle.lx_node.specs.Siblings.{is_among, is_place, from_name, next_in}
+use Rattle.lx_node.specs.Siblings.{is_among}
 use Rattle.lx_node.specs.Spots.{Spot}
 use Rattle.lx_node.specs.declared.node.Node.{Node}
 use Rattle.lx_node.proofs.NamedTrees.{total-joined}
-use Rattle.lx_node.proofs.Positions.{from_name-first}
 use Rattle.lx_host.specs.declared.op.Op.{Op}
 use Rattle.lx_host.specs.declared.op.Op.TheVariants as op
 use Rattle.lx_host.specs.Hosts.{Host, HostTree}
 use Rattle.lx_host.specs.Html.{first_tree}
 use Rattle.lx_host.specs.Lookups as hosts
 use Rattle.lx_forest.specs.Forest.{Label, Forest}
-use Rattle.lx_forest.specs.Lookups.{alone, has, roots, label_of, children_of, first_child, next_of, trees_of, IsForest}
+use Rattle.lx_forest.specs.Lookups.{alone, has, roots, label_of, children_of, trees_of, IsForest}
 use Rattle.lx_forest.specs.Records.{record_at}
 use Rattle.lx_forest.proofs.Lookups.{has-child, has-parent_of}
 use Rattle.lx_forest.proofs.Walks.{total-alone-lt}
-use Rattle.lx_links.specs.Stands.{node_of, Sound}
+use Rattle.lx_links.specs.Stands.{node_of}
 use Rattle.lx_links.proofs.Placed.{parent_of-child}
 use Rattle.lx_plain.specs.Allowed.{Marking, KeepsOrder, common, hosts_of, unkept}
 use Rattle.lx_plain.specs.Render.{tag_of}
 use Rattle.lx_reconcile.specs.declared.moves.Move.{Move}
 use Rattle.lx_reconcile.specs.declared.moves.Move.TheVariants.{Stay, Leave, Make, Place}
 use Rattle.lx_reconcile.specs.Created.{creation_of}
-use Rattle.lx_reconcile.specs.Making.{IsBetween, Reconciles, MakesMoves, AreNext, IsNext, standing_total}
+use Rattle.lx_reconcile.specs.Making.{IsBetween, Reconciles, MakesMoves, AreComing, IsNext, standing_total}
 use Rattle.lx_reconcile.specs.Reconciled.{host_in}
 use Rattle.lx_reconcile.specs.ToCome.{IsInWalk}
 use Rattle.lx_reconcile.specs.Walk.{is_waiting, standing}
-use Rattle.lx_reconcile.proofs.Children.{label_from, IsRead, is_read, there_read, child_left, stands_there, first_place, next_place}
+use Rattle.lx_reconcile.proofs.Children.{label_from, IsRead, is_read, there_read, stands_there}
 use Rattle.lx_reconcile.specs.Reading.{reads_in, reads_below}
 use Rattle.lx_reconcile.proofs.InTurn.{standing-append}
 use Rattle.lx_reconcile.proofs.Reading.{reads_append, reads_one, reads_unkept, reads_kept, roots_of}
@@ -91,44 +90,6 @@ found_id k v id e whole shown = same_Some id (host_in v k) (found_is k v (Some i
 pub found_none : (k : ℕ) (v : HostTree) → None ≡ hosts.host_of k (first_tree v.hosts) → first_tree v.hosts ≡ v.hosts → hosts_of k v.hosts ≡ host_in v k ∷ [] → 0 ≡ host_in v k
 found_none k v e whole shown = absurd (let h = found_is k v None e whole shown in cc)
 
--- ---- the keys of a node's children
-
--- these are gathered, and `at` is the next one
-pub record IsGathered (f : Forest) (key : ℕ) (at : Option ℕ) (keys : List ℕ) : Type 0 where
-  pub place : is_place at (children_of f key) ≡ true
-  pub list : keys ++ from_name at (children_of f key) ≡ children_of f key
-
-pub gathered_none : (f : Forest) (key : ℕ) (at : Option ℕ) (keys : List ℕ) → at ≡ first_child f key → keys ≡ [] → IsGathered f key at keys
-gathered_none f key at keys first none =
-    let kids = children_of f key in
-    record {
-      place = ap (λ o. is_place o kids) first ∙ first_place kids;
-      list = ap (λ l. l ++ from_name at kids) none ∙ ap (λ o. from_name o kids) first ∙ from_name-first kids;
-    }
-
-pub gathered_more : (f g : Forest) (key child : ℕ) (at next : Option ℕ) (keys more : List ℕ) → g ≡ f → Sound f → at ≡ Some child → IsGathered f key at keys → next ≡ next_of g child → more ≡ keys ++ child ∷ [] → IsGathered f key next more
-gathered_more f g key child at next keys more same s here m next_is more_is =
-    let kids = children_of f key in
-    let c = child_left f key child s (sym (ap (λ o. is_place o kids) here) ∙ m.place) in
-    let rest = from_name (next_in kids child) kids in
-    let is : next ≡ next_in kids child = next_is ∙ ap (λ f. next_of f child) same ∙ c.next in
-    record {
-      place = ap (λ o. is_place o kids) is ∙ next_place kids child;
-      list =
-          ap (λ l. l ++ from_name next kids) more_is
-          ∙ ap (λ o. (keys ++ child ∷ []) ++ from_name o kids) is
-          ∙ append_assoc keys (child ∷ []) rest
-          ∙ sym (ap (λ l. keys ++ l) (ap (λ o. from_name o kids) here ∙ c.left))
-          ∙ m.list;
-    }
-
-pub gathered_all : (f : Forest) (key : ℕ) (at : Option ℕ) (keys : List ℕ) → at ≡ None → IsGathered f key at keys → keys ≡ children_of f key
-gathered_all f key at keys none m = sym (append-nil keys) ∙ sym (ap (λ o. keys ++ from_name o (children_of f key)) none) ∙ m.list
-
-pub next_there : (f g : Forest) (key child : ℕ) (at : Option ℕ) (keys : List ℕ) → g ≡ f → Sound f → at ≡ Some child → IsGathered f key at keys → has child g ≡ true
-next_there f g key child at keys same s here m =
-    ap (has child) same ∙ (child_left f key child s (sym (ap (λ o. is_place o (children_of f key)) here) ∙ m.place)).there
-
 -- ---- where a source has been read, its forest is the same
 
 pub between_still : (f f_now g g_now : Forest) (mk : Marking) (v : HostTree) → f_now ≡ f → g_now ≡ g → IsBetween f g mk v → IsBetween f_now g_now mk v
@@ -142,11 +103,8 @@ pub reconciles_still : (f f_now g g_now : Forest) (mk : Marking) (v : HostTree) 
 reconciles_still f f_now g g_now mk v k n start end m e d b =
     subst (λ x. Reconciles x g mk v k n start end m) e (subst (λ y. Reconciles f_now y mk v k n start end m) d b)
 
-pub are_still : (f f_now g g_now : Forest) (v : HostTree) (k : ℕ) (ms : List Move) (n : ℕ) → f_now ≡ f → g_now ≡ g → AreNext f g v k ms n → AreNext f_now g_now v k ms n
-are_still f f_now g g_now v k ms n e d b = subst (λ x. AreNext x g_now v k ms n) (sym e) (subst (λ y. AreNext f y v k ms n) (sym d) b)
-
-pub next_still : (f f_now g g_now : Forest) (v : HostTree) (k : ℕ) (m : Move) (n : ℕ) → f_now ≡ f → g_now ≡ g → IsNext f g v k m n → IsNext f_now g_now v k m n
-next_still f f_now g g_now v k m n e d b = subst (λ x. IsNext x g_now v k m n) (sym e) (subst (λ y. IsNext f y v k m n) (sym d) b)
+pub coming_still : (f f_now g g_now : Forest) (v : HostTree) (k : ℕ) (ms : List Move) (n : ℕ) → f_now ≡ f → g_now ≡ g → AreComing f g v k ms n → AreComing f_now g_now v k ms n
+coming_still f f_now g g_now v k ms n e d b = subst (λ x. AreComing x g_now v k ms n) (sym e) (subst (λ y. AreComing f y v k ms n) (sym d) b)
 
 -- ---- the next move
 
@@ -403,32 +361,34 @@ module _ (old new : Forest) (mk : Marking) (v : HostTree) where
     leads = λ from ops a more w. subst (λ l. IsInWalk old new v k from l a more n) (sym (append-nil ops)) w;
   }
 
-  makes_more : (k : ℕ) (ms : List Move) (s : Move) (n m l : ℕ) (start mid end : List Op) → MakesMoves old new mk v k ms n start mid m → MakesMoves old new mk v k (s ∷ []) m mid end l → MakesMoves old new mk v k (ms ++ s ∷ []) n start end l
-  makes_more k ms s n m l start mid end first then = record {
+  -- these moves, then those
+  pub makes_both : (k : ℕ) (xs ys : List Move) (n m l : ℕ) (start mid end : List Op) → MakesMoves old new mk v k xs n start mid m → MakesMoves old new mk v k ys m mid end l → MakesMoves old new mk v k (xs ++ ys) n start end l
+  makes_both k xs ys n m l start mid end first then = record {
     pushed = first.pushed ++ then.pushed;
     list = then.list ∙ ap (λ x. x ++ then.pushed) first.list ∙ append_assoc start first.pushed then.pushed;
     due = each_append (Due old new mk v) first.pushed then.pushed first.due then.due;
     leads = λ from ops a more w.
         subst (λ x. IsInWalk old new v k from x a more l) (append_assoc ops first.pushed then.pushed)
         (then.leads from (ops ++ first.pushed) a more
-        (first.leads from ops a (s ∷ more) (subst (λ x. IsInWalk old new v k from ops a x n) (append_assoc ms (s ∷ []) more) w)));
+        (first.leads from ops a (ys ++ more) (subst (λ x. IsInWalk old new v k from ops a x n) (append_assoc xs ys more) w)));
   }
 
   -- of these moves those up to place i are made, and the next one is s
   pub makes_next : (k : ℕ) (moves : List Move) (i : ℕ) (s : Move) (n m l : ℕ) (start mid end : List Op) → i < length moves → s ≡ get_or moves i s → MakesMoves old new mk v k (take i moves) n start mid m → MakesMoves old new mk v k (s ∷ []) m mid end l
       → MakesMoves old new mk v k (take (i + 1) moves) n start end l
   makes_next k moves i s n m l start mid end within item first then =
-      subst (λ x. MakesMoves old new mk v k x n start end l) (sym (take_more moves i s within ∙ ap (λ y. take i moves ++ y ∷ []) (sym item))) (makes_more k (take i moves) s n m l start mid end first then)
+      subst (λ x. MakesMoves old new mk v k x n start end l) (sym (take_more moves i s within ∙ ap (λ y. take i moves ++ y ∷ []) (sym item))) (makes_both k (take i moves) (s ∷ []) n m l start mid end first then)
 
-  pub is_next : (k : ℕ) (moves : List Move) (i : ℕ) (s : Move) (n m : ℕ) (start mid : List Op) → i < length moves → s ≡ get_or moves i s → AreNext old new v k moves n → MakesMoves old new mk v k (take i moves) n start mid m → IsNext old new v k s m
+  pub is_next : (k : ℕ) (moves : List Move) (i : ℕ) (s : Move) (n m : ℕ) (start mid : List Op) → i < length moves → s ≡ get_or moves i s → AreComing old new v k moves n → MakesMoves old new mk v k (take i moves) n start mid m → IsNext old new v k s m
   is_next k moves i s n m start mid within item x made =
-      let split : take i moves ++ drop i moves ≡ moves = take-append-drop i moves in
+      let behind = drop (i + 1) moves ++ x.more in
       let here : drop i moves ≡ s ∷ drop (i + 1) moves = drop_more moves i s within ∙ ap (λ y. y ∷ drop (i + 1) moves) (sym item) in
-      let walk : IsInWalk old new v k x.from x.ops x.a (take i moves ++ s ∷ drop (i + 1) moves) n =
-      subst (λ z. IsInWalk old new v k x.from x.ops x.a z n) (sym split ∙ ap (λ z. take i moves ++ z) here) x.walk in
+      let split : moves ++ x.more ≡ take i moves ++ s ∷ behind =
+      ap (λ z. z ++ x.more) (sym (take-append-drop i moves)) ∙ append_assoc (take i moves) (drop i moves) x.more ∙ ap (λ z. take i moves ++ (z ++ x.more)) here in
+      let walk : IsInWalk old new v k x.are.from x.are.ops x.are.a (take i moves ++ s ∷ behind) n = subst (λ z. IsInWalk old new v k x.are.from x.are.ops x.are.a z n) split x.are.walk in
       record {
-        more = drop (i + 1) moves;
-        are = record { from = x.from; ops = x.ops ++ made.pushed; a = x.a; walk = made.leads x.from x.ops x.a (s ∷ drop (i + 1) moves) walk; behind = x.behind; room = x.room; there = x.there };
+        more = behind;
+        are = record { from = x.are.from; ops = x.are.ops ++ made.pushed; a = x.are.a; walk = made.leads x.are.from x.are.ops x.are.a (s ∷ behind) walk; behind = x.are.behind; room = x.are.room; there = x.are.there };
       }
 
   -- ---- how many reads go to a move's child

@@ -9,7 +9,7 @@ use Rattle.lx_reconcile.specs.declared.moves.Move.TheVariants.{Stay}
 use Rattle.lx_reconcile.specs.Walk.{suits_children, is_placing, all_moved, standing, leaving, missing, CanAllMove, BeforeUnhandled, IsWalk}
 
 -- these children are among those
-abbrev AreAmong : List ℕ → List ℕ → Type 0
+abbrev pub AreAmong : List ℕ → List ℕ → Type 0
 AreAmong ks all = (q : ℕ) → is_among q ks ≡ true → is_among q all ≡ true
 
 first_in : (k : ℕ) (ks all : List ℕ) → AreAmong (k ∷ ks) all → is_among k all ≡ true
@@ -18,35 +18,35 @@ first_in k ks all among = among k (grind (arith, eqb_tells k k))
 rest_in : (k : ℕ) (ks all : List ℕ) → AreAmong (k ∷ ks) all → AreAmong ks all
 rest_in k ks all among = λ q e. among q (grind (arith, e))
 
-leads : (ks all : List ℕ) → all_moved (map Stay ks) all ≡ all
+pub leads : (ks all : List ℕ) → all_moved (map Stay ks) all ≡ all
 leads [] all = refl
 leads (k ∷ ks) all = leads ks all
 
-can : (ks all : List ℕ) → AreAmong ks all → CanAllMove (map Stay ks) all
+pub can : (ks all : List ℕ) → AreAmong ks all → CanAllMove (map Stay ks) all
 can [] all among = tt
 can (k ∷ ks) all among = (first_in k ks all among, can ks all (rest_in k ks all among))
 
-stands : (ks : List ℕ) → standing (map Stay ks) ≡ ks
+pub stands : (ks : List ℕ) → standing (map Stay ks) ≡ ks
 stands [] = refl
 stands (k ∷ ks) = ap (λ xs. k ∷ xs) (stands ks)
 
-leaves : (ks : List ℕ) → leaving (map Stay ks) ≡ []
+pub leaves : (ks : List ℕ) → leaving (map Stay ks) ≡ []
 leaves [] = refl
 leaves (k ∷ ks) = leaves ks
 
-none_missing : (ks all : List ℕ) → AreAmong ks all → missing ks all ≡ []
+pub none_missing : (ks all : List ℕ) → AreAmong ks all → missing ks all ≡ []
 none_missing [] all among = refl
 none_missing (k ∷ ks) all among = rw (first_in k ks all among) (none_missing ks all (rest_in k ks all among))
 
-suited : (ks all : List ℕ) → AreAmong ks all → AllByRecursion (λ m. suits_children all m ≡ true) (map Stay ks)
+pub suited : (ks all : List ℕ) → AreAmong ks all → AllByRecursion (λ m. suits_children all m ≡ true) (map Stay ks)
 suited [] all among = tt
 suited (k ∷ ks) all among = (first_in k ks all among, suited ks all (rest_in k ks all among))
 
-unhandled : (ks all handled : List ℕ) → BeforeUnhandled all handled (map Stay ks)
+pub unhandled : (ks all handled : List ℕ) → BeforeUnhandled all handled (map Stay ks)
 unhandled [] all handled = tt
 unhandled (k ∷ ks) all handled = (refl, unhandled ks all (k ∷ handled))
 
-none_placed : (ks : List ℕ) → list_any is_placing (map Stay ks) ≡ false
+pub none_placed : (ks : List ℕ) → list_any is_placing (map Stay ks) ≡ false
 none_placed [] = refl
 none_placed (k ∷ ks) = none_placed ks
 

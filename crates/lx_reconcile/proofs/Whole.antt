@@ -60,7 +60,7 @@ host_same a i f e g = rw (← e, ← g) refl
 abbrev old_end : Forest → ℕ → Node → Bool
 old_end f k n = needs_break n.kind (last_kind (trees_of f (children_of f k)))
 
-abbrev FaceChanges : ℕ → Node → Node → List Op → List Op → Type 0
+abbrev pub FaceChanges : ℕ → Node → Node → List Op → List Op → Type 0
 FaceChanges h was now start end =
     (key : ℕ) (tag : Tag) (ending : Bool) → Changes h (shown_face key tag was.kind was.fields ending) (shown_face key tag now.kind now.fields ending) start end
 

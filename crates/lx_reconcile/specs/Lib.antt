@@ -2,6 +2,7 @@ pub mod Allowing
 pub mod Changing
 pub mod Counting
 pub mod Created
+pub mod Families
 pub mod Handled
 pub mod Making
 pub mod Reading
@@ -10,3 +11,4 @@ pub mod ToCome
 pub mod Told
 pub mod Underway
 pub mod Walk
+pub mod Windows

@@ -1,6 +1,6 @@
 -- What is known where the operations between two trees are made, and what each part of them does. Only this crate's own
 -- contracts cite it.
-use Rattle.std.specs.Prelude.{ℕ, ◌≡◌, ◌+◌, ◌≤◌, ◌++◌, true, List, ◌∷◌, Some}
+use Rattle.std.specs.Prelude.{ℕ, ◌≡◌, ◌+◌, ◌≤◌, ◌++◌, true, List, [], ◌∷◌, Some}
 use Rattle.std.specs.List.{AllByRecursion}
 use Rattle.lx_node.specs.Limits.{last_u32}
 use Rattle.lx_node.specs.NamedTrees.{total}
@@ -49,10 +49,14 @@ pub record AreNext (old new : Forest) (v : HostTree) (k : ℕ) (moves : List Mov
   pub room : from + unkept old (Some k) (trees_of new (children_of new k)) ≤ last_u32
   pub there : has k new ≡ true
 
--- the same for one move, with any behind it
-pub record IsNext (old new : Forest) (v : HostTree) (k : ℕ) (m : Move) (n : ℕ) : Type 0 where
+-- the same for these moves with any others behind them
+pub record AreComing (old new : Forest) (v : HostTree) (k : ℕ) (moves : List Move) (n : ℕ) : Type 0 where
   pub more : List Move
-  pub are : AreNext old new v k (m ∷ more) n
+  pub are : AreNext old new v k (moves ++ more) n
+
+-- and for one move
+abbrev pub IsNext : Forest → Forest → HostTree → ℕ → Move → ℕ → Type 0
+IsNext old new v k m n = AreComing old new v k (m ∷ []) n
 
 -- how many nodes stand in the end in the trees of the children that these moves are of
 abbrev pub standing_total : Forest → List Move → ℕ

@@ -1,5 +1,5 @@
 -- The moves that make of an element's children before those after: what each does, and what they owe together.
-use Rattle.std.specs.Prelude.{ℕ, ◌≡◌, ◌&&◌, Bool, true, false, not, List, [], ◌∷◌, Option, None, Some, filter}
+use Rattle.std.specs.Prelude.{ℕ, ◌≡◌, ◌&&◌, ◌++◌, Bool, true, false, not, List, [], ◌∷◌, map, Option, None, Some, filter}
 use Rattle.std.specs.List.{All, list_any}
 use Rattle.lx_node.specs.Siblings.{is_among, is_named, is_place, names_without, names_with}
 pub use Rattle.lx_plain.specs.Allowed.{common}
@@ -101,3 +101,19 @@ pub record IsWalk (old new : List ℕ) (moves : List Move) : Type 0 where
   pub unhandled : BeforeUnhandled old [] moves
   -- where the children that are in both stand in one order, none is placed anew
   pub kept_order : common old new ≡ common new old → list_any is_placing moves ≡ false
+
+-- ---- a part of two lists
+
+-- a move that brings a child to the end, where it brings one before this child instead, if one is named
+abbrev pub toward : Option ℕ → Move → Move
+toward end (Make k None) = Make k end
+toward end (Place k None) = Place k end
+toward end other = other
+
+-- These moves, with a front and a back of children that stay and carry no mark, make the second list of the first.
+pub record IsPart (noted : ℕ → Bool) (old new : List ℕ) (moves : List Move) : Type 0 where
+  pub front : List ℕ
+  pub back : List ℕ
+  pub walk : IsWalk old new (map Stay front ++ (moves ++ map Stay back))
+  pub front_plain : (k : ℕ) → is_among k front ≡ true → noted k ≡ false
+  pub back_plain : (k : ℕ) → is_among k back ≡ true → noted k ≡ false

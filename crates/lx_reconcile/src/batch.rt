@@ -44,13 +44,6 @@ impl Batch {
         self.ops.copy(alloc)
     }
 
-    /// The operations themselves.
-    pub fn into_ops(self) -> Ops
-        ensures { result ≡ self.ops }
-    {
-        self.ops
-    }
-
     /// How many reads of records they were found by.
     pub fn reads(&self) -> u64
         ensures { result ≡ self.now.reads }

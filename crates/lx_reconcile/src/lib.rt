@@ -7,12 +7,14 @@ mod batch;
 mod counting;
 mod creation;
 mod faces;
+mod family;
 mod looks;
 mod moves;
 mod progress;
 mod reconciling;
 mod views;
 mod walking;
+mod windows;
 
 pub use batch::{Batch, operations};
 pub use counting::unkept;

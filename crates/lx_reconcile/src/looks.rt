@@ -5,7 +5,7 @@ ghost use Rattle.std.specs.Prelude.{true, ◌≡◌, ◌+◌, ◌-◌, ◌≤◌
 ghost use Rattle.lx_node.specs.declared.node.Node.{Node};
 ghost use Rattle.lx_forest.specs.Forest.{Forest};
 ghost use Rattle.lx_forest.specs.Records.{record_at};
-ghost use Rattle.lx_forest.specs.Lookups.{alone, has};
+ghost use Rattle.lx_forest.specs.Lookups.{alone, has, next_of};
 ghost use Rattle.lx_links.specs.Stands.{node_of, Sound};
 
 use lx_links::Records;
@@ -128,4 +128,35 @@ impl<'a, 'r, R: Records<'a>> Look<Tally<'r, R>> for Tallied<'a> {
         tally.reads = tally.reads.saturating_add(1);
         tally.source.read(key)
     }
+}
+
+/// The node of the key, which is there.
+pub(crate) fn found<S, L: Look<S>>(source: &mut S, key: Key) -> L::Item
+    requires there { has key (L.forest source.old) ≡ true }
+    ensures found { Some (L.Item.lent result) ≡ option_map node_of (record_at (L.forest source.old) key) }
+    ensures same { L.forest source.new ≡ L.forest source.old }
+    ensures lag { L.lag source.new ≤ L.lag source.old }
+    ensures place { L.place source.new ≡ L.place source.old }
+    ensures whole { L.whole source.new ≡ L.whole source.old }
+    ensures sound { Sound (L.forest source.old) }
+    ensures reads { L.count source.new ≤ L.count source.old + 1 }
+{
+    match L::look(source, key) {
+        Some(item) => item,
+        None => unreachable!(),
+    }
+}
+
+/// The key of the node behind the one of this key, which is there.
+pub(crate) fn next_after<S, L: Look<S>>(source: &mut S, key: Key) -> Option<Key>
+    requires there { has key (L.forest source.old) ≡ true }
+    ensures next { result ≡ next_of (L.forest source.old) key }
+    ensures same { L.forest source.new ≡ L.forest source.old }
+    ensures lag { L.lag source.new ≤ L.lag source.old }
+    ensures place { L.place source.new ≡ L.place source.old }
+    ensures whole { L.whole source.new ≡ L.whole source.old }
+    ensures reads { L.count source.new ≤ L.count source.old + 1 }
+{
+    let item = found::<S, L>(source, key);
+    item.node().next
 }

@@ -14,16 +14,19 @@ ghost use Rattle.lx_reconcile.specs.Allowing.{marking, IsAllowed};
 ghost use Rattle.lx_plain.specs.Render as shown;
 ghost use Rattle.lx_reconcile.specs.Created.{creation_of};
 ghost use Rattle.lx_reconcile.specs.Reconciled.{host_in};
-ghost use Rattle.lx_reconcile.specs.Walk.{IsWalk, standing};
+ghost use Rattle.lx_reconcile.specs.Families.{marked_keys, AreFamilies};
+ghost use Rattle.lx_reconcile.specs.Walk.{standing, IsPart};
 ghost use Rattle.lx_reconcile.specs.Reading.{reads_in, reads_below};
-ghost use Rattle.lx_reconcile.specs.Making.{IsBetween, Reconciles, MakesMoves, AreNext, IsNext};
+ghost use Rattle.lx_reconcile.specs.Making.{IsBetween, Reconciles, MakesMoves, AreComing, IsNext};
 ghost use Rattle.lx_reconcile.specs.declared.moves.Move.TheVariants.{Stay};
 
 use crate::creation::create_tree;
 use crate::faces::{is_ended, push_ending, push_face};
-use crate::looks::{Look, Looked};
+use crate::family::{Family, families_of, is_noted};
+use crate::looks::{Look, Looked, found};
 use crate::moves::Move;
-use crate::walking::walk;
+use crate::windows::{Window, marked_window, moves_in};
+use indexmap::IndexMap;
 use lx_host::{HostTree, Op};
 use lx_marks::Marks;
 use lx_node::{Key, NoMemory, Node};
@@ -54,74 +57,11 @@ fn host_before(hosts: &HostTree, before: Option<Key>) -> Option<u32>
     }
 }
 
-/// The node of the key, which is there.
-fn found<S, L: Look<S>>(source: &mut S, key: Key) -> L::Item
-    requires there { has key (L.forest source.old) ≡ true }
-    ensures found { Some (L.Item.lent result) ≡ option_map node_of (record_at (L.forest source.old) key) }
-    ensures same { L.forest source.new ≡ L.forest source.old }
-    ensures lag { L.lag source.new ≤ L.lag source.old }
-    ensures place { L.place source.new ≡ L.place source.old }
-    ensures whole { L.whole source.new ≡ L.whole source.old }
-    ensures sound { Sound (L.forest source.old) }
-    ensures reads { L.count source.new ≤ L.count source.old + 1 }
-{
-    match L::look(source, key) {
-        Some(item) => item,
-        None => unreachable!(),
-    }
-}
-
-/// The key of the node behind the one of this key, which is there.
-fn next_after<S, L: Look<S>>(source: &mut S, key: Key) -> Option<Key>
-    requires there { has key (L.forest source.old) ≡ true }
-    ensures next { result ≡ next_of (L.forest source.old) key }
-    ensures same { L.forest source.new ≡ L.forest source.old }
-    ensures lag { L.lag source.new ≤ L.lag source.old }
-    ensures place { L.place source.new ≡ L.place source.old }
-    ensures whole { L.whole source.new ≡ L.whole source.old }
-    ensures reads { L.count source.new ≤ L.count source.old + 1 }
-{
-    let item = found::<S, L>(source, key);
-    item.node().next
-}
-
-/// The keys of a node's children, of which this is the first. It reads each of them.
-fn child_keys<S, L: Look<S>>(
-    alloc: Global,
-    source: &mut S,
-    key: Key,
-    first: Option<Key>,
-) -> Result<Vec<Key>, NoMemory>
-    requires sound { Sound (L.forest source.old) }
-    requires first { first ≡ first_child (L.forest source.old) key }
-    ensures keys { IfOk result (λ keys. keys.items ≡ children_of (L.forest source.old) key) }
-    ensures same { L.forest source.new ≡ L.forest source.old }
-    ensures lag { L.lag source.new ≤ L.lag source.old }
-    ensures place { L.place source.new ≡ L.place source.old }
-    ensures whole { L.whole source.new ≡ L.whole source.old }
-    ensures reads { L.count source.new ≤ L.count source.old + length (children_of (L.forest source.old) key) }
-{
-    let mut keys = Vec::new(alloc);
-    let mut at = first;
-    while let Some(child) = at {
-        keys.push(child)?;
-        at = next_after::<S, L>(source, child);
-    }
-    Ok(keys)
-}
-
 /// Whether a node is shown by the same element as before.
 pub(crate) fn has_same_tag(was: &Node, now: &Node) -> bool
     ensures { IsTrue result ↔ (shown.tag_of was.now.kind was.now.fields ≡ shown.tag_of now.now.kind now.now.fields) }
 {
     tag_of(was.kind, &was.fields) == tag_of(now.kind, &now.fields)
-}
-
-/// Whether a node carries any mark.
-fn is_noted(marks: &Marks, key: Key) -> bool
-    ensures { result ≡ (marking marks.now).noted key }
-{
-    marks.has_leaf(key) || marks.element(key).is_some()
 }
 
 /// Adds the operations that make hosts for a node and all below it, and put them among the children of a host. Gives
@@ -183,22 +123,34 @@ fn replace_child<S, L: Look<S>>(
     Ok(end)
 }
 
-/// What is to be done with the children of a node, by its records before and after.
-fn moves_of<B, A, O: Look<B>, N: Look<A>>(
+/// What all of these functions are given: the marks with their families, and the view.
+#[derive(Clone, Copy)]
+pub(crate) struct Given<'v> {
     alloc: Global,
+    marks: &'v Marks,
+    families: &'v IndexMap<u32, Family>,
+    hosts: &'v HostTree,
+}
+
+/// What is to be done with the children of a node, of which these are the first ones before and after: with all that
+/// stand in the run of those with marks. The others stay, and nothing is to be done for them.
+fn moves_of<B, A, O: Look<B>, N: Look<A>>(
+    given: &Given<'_>,
     before: &mut B,
     after: &mut A,
     key: Key,
+    host: u32,
     was: Option<Key>,
     now: Option<Key>,
 ) -> Result<Vec<Move>, NoMemory>
-    requires was_sound { Sound (O.forest before.old) }
-    requires was_ordered { IsForest (O.forest before.old) }
-    requires sound { Sound (N.forest after.old) }
-    requires ordered { IsForest (N.forest after.old) }
+    requires between { IsBetween (O.forest before.old) (N.forest after.old) (marking given.now.marks.now) given.now.hosts.now.tree }
+    requires families { AreFamilies given.now.hosts.now.tree (marked_keys given.now.marks.now) given.now.families.now }
+    requires host { host ≡ host_in given.now.hosts.now.tree key }
+    requires there_before { has key (O.forest before.old) ≡ true }
+    requires there_after { has key (N.forest after.old) ≡ true }
     requires was { was ≡ first_child (O.forest before.old) key }
     requires now { now ≡ first_child (N.forest after.old) key }
-    ensures walk { IfOk result (λ moves. IsWalk (children_of (O.forest before.old) key) (children_of (N.forest after.old) key) moves.items) }
+    ensures part { IfOk result (λ moves. IsPart (marking given.now.marks.now).noted (children_of (O.forest before.old) key) (children_of (N.forest after.old) key) moves.items) }
     ensures before { O.forest before.new ≡ O.forest before.old }
     ensures after { N.forest after.new ≡ N.forest after.old }
     ensures lag_before { O.lag before.new ≤ O.lag before.old }
@@ -210,17 +162,12 @@ fn moves_of<B, A, O: Look<B>, N: Look<A>>(
     ensures reads_before { O.count before.new ≤ O.count before.old + length (children_of (O.forest before.old) key) }
     ensures reads_after { N.count after.new ≤ N.count after.old + length (children_of (N.forest after.old) key) }
 {
-    let old = child_keys::<B, O>(alloc, before, key, was)?;
-    let new = child_keys::<A, N>(alloc, after, key, now)?;
-    walk(alloc, old.as_slice(), new.as_slice())
-}
-
-/// What all of these functions are given.
-#[derive(Clone, Copy)]
-pub(crate) struct Given<'v> {
-    alloc: Global,
-    marks: &'v Marks,
-    hosts: &'v HostTree,
+    let mut window = match given.families.get(&host) {
+        Some(family) => { marked_window::<B, O>(given.alloc, before, given.marks, key, *family)? }
+        None if was.is_none() => Window::empty(given.alloc),
+        None => return Ok(Vec::new(given.alloc)),
+    };
+    moves_in::<A, N>(given.alloc, after, key, &mut window, now)
 }
 
 /// Adds the operations for a node that both trees have at the same place, with the same element. Gives the next id.
@@ -236,6 +183,7 @@ pub(crate) fn reconcile_node<B, A, O: Look<B>, N: Look<A>>(
     ops: &mut Vec<Op>,
 ) -> Result<u32, NoMemory>
     requires between { IsBetween (O.forest before.old) (N.forest after.old) (marking given.now.marks.now) given.now.hosts.now.tree }
+    requires families { AreFamilies given.now.hosts.now.tree (marked_keys given.now.marks.now) given.now.families.now }
     requires was { Some was.now ≡ option_map node_of (record_at (O.forest before.old) key) }
     requires now { Some now.now ≡ option_map node_of (record_at (N.forest after.old) key) }
     requires tag { shown.tag_of was.now.kind was.now.fields ≡ shown.tag_of now.now.kind now.now.fields }
@@ -254,7 +202,7 @@ pub(crate) fn reconcile_node<B, A, O: Look<B>, N: Look<A>>(
 {
     let host = host_of(given.hosts, key);
     push_face(given.alloc, host, was, now, ops)?;
-    let moves = moves_of::<B, A, O, N>(given.alloc, before, after, key, was.first, now.first)?;
+    let moves = moves_of::<B, A, O, N>(given, before, after, key, host, was.first, now.first)?;
     let end = make_moves::<B, A, O, N>(
         given,
         before,
@@ -284,8 +232,9 @@ fn make_moves<B, A, O: Look<B>, N: Look<A>>(
     ops: &mut Vec<Op>,
 ) -> Result<u32, NoMemory>
     requires between { IsBetween (O.forest before.old) (N.forest after.old) (marking given.now.marks.now) given.now.hosts.now.tree }
+    requires families { AreFamilies given.now.hosts.now.tree (marked_keys given.now.marks.now) given.now.families.now }
     requires host { host ≡ host_in given.now.hosts.now.tree parent }
-    requires coming { AreNext (O.forest before.old) (N.forest after.old) given.now.hosts.now.tree parent moves.now next }
+    requires coming { AreComing (O.forest before.old) (N.forest after.old) given.now.hosts.now.tree parent moves.now next }
     ensures done { IfOk result (λ end. MakesMoves (O.forest before.old) (N.forest after.old) (marking given.now.marks.now) given.now.hosts.now.tree parent moves.now next ops.old.items ops.new.items end) }
     ensures before { O.forest before.new ≡ O.forest before.old }
     ensures after { N.forest after.new ≡ N.forest after.old }
@@ -320,6 +269,7 @@ fn make_move<B, A, O: Look<B>, N: Look<A>>(
     ops: &mut Vec<Op>,
 ) -> Result<u32, NoMemory>
     requires between { IsBetween (O.forest before.old) (N.forest after.old) (marking given.now.marks.now) given.now.hosts.now.tree }
+    requires families { AreFamilies given.now.hosts.now.tree (marked_keys given.now.marks.now) given.now.families.now }
     requires host { host ≡ host_in given.now.hosts.now.tree parent }
     requires coming { IsNext (O.forest before.old) (N.forest after.old) given.now.hosts.now.tree parent step next }
     ensures done { IfOk result (λ end. MakesMoves (O.forest before.old) (N.forest after.old) (marking given.now.marks.now) given.now.hosts.now.tree parent (step ∷ []) next ops.old.items ops.new.items end) }
@@ -377,6 +327,7 @@ fn reconcile_child<B, A, O: Look<B>, N: Look<A>>(
     ops: &mut Vec<Op>,
 ) -> Result<u32, NoMemory>
     requires between { IsBetween (O.forest before.old) (N.forest after.old) (marking given.now.marks.now) given.now.hosts.now.tree }
+    requires families { AreFamilies given.now.hosts.now.tree (marked_keys given.now.marks.now) given.now.families.now }
     requires host { host ≡ host_in given.now.hosts.now.tree parent }
     requires coming { IsNext (O.forest before.old) (N.forest after.old) given.now.hosts.now.tree parent (Stay key) next }
     ensures done { IfOk result (λ end. MakesMoves (O.forest before.old) (N.forest after.old) (marking given.now.marks.now) given.now.hosts.now.tree parent (Stay key ∷ []) next ops.old.items ops.new.items end) }
@@ -448,9 +399,11 @@ pub(crate) fn reconcile_root<B, A, O: Look<B>, N: Look<A>>(
     }
     let was_node = was.node();
     let now_node = now.node();
+    let families = families_of(alloc, marks, hosts)?;
     let given = Given {
         alloc,
         marks,
+        families: &families,
         hosts,
     };
     reconcile_node::<B, A, O, N>(&given, before, after, key, was_node, now_node, next, ops)?;

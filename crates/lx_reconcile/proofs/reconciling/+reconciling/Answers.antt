@@ -4,10 +4,11 @@ use Rattle.lx_forest.specs.Lookups.{alone, has, children_of}
 use Rattle.lx_forest.specs.Views.{kind_at}
 use Rattle.lx_plain.specs.Render.{needs_break}
 use Rattle.lx_reconcile.specs.declared.moves.Move.TheVariants as move
-use Rattle.lx_reconcile.specs.Walk.{IsWalk, standing}
+use Rattle.lx_reconcile.specs.Walk.{IsPart, standing}
 use Rattle.lx_reconcile.specs.Allowing.{marking}
 use Rattle.lx_reconcile.proofs.Children
 use Rattle.lx_reconcile.proofs.Made
+use Rattle.lx_reconcile.proofs.Partly
 use Rattle.lx_reconcile.proofs.Whole
 use Rattle.lx_reconcile.proofs.reconciling.+reconciling.Goals as goal
 
@@ -116,7 +117,7 @@ make_moves-make_move-requires g t c =
     let new = g.N.Look.forest c.args.after.now in
     let coming = Made.is_next old new (marking c.args.given.now.marks.now) c.args.given.now.hosts.now.tree c.args.parent c.args.moves.now c.loop-step.step-index c.step-item.result c.args.next c.loop-step.id _ _ c.loop-step-test.true c.step-item.is c.requires.coming c.loop-step.invariant.made in
     let less = Made.move_less_still old new _ (marking c.args.given.now.marks.now) c.args.given.now.hosts.now.tree c.args.parent c.step-item.result c.loop-step.id c.loop-step.invariant.after c.requires.between coming in
-    let still = Made.next_still old _ new _ c.args.given.now.hosts.now.tree c.args.parent c.step-item.result c.loop-step.id c.loop-step.invariant.before c.loop-step.invariant.after coming in
+    let still = Made.coming_still old _ new _ c.args.given.now.hosts.now.tree c.args.parent (c.step-item.result ∷ []) c.loop-step.id c.loop-step.invariant.before c.loop-step.invariant.after coming in
     let between = Made.between_still old _ new _ (marking c.args.given.now.marks.now) c.args.given.now.hosts.now.tree c.loop-step.invariant.before c.loop-step.invariant.after c.requires.between in
     search rules
 
@@ -284,15 +285,25 @@ reconcile_node-push_face-requires g t c = record {
   stays = Whole.text_stays (g.O.Look.forest c.args.before.now) (g.N.Look.forest c.args.after.now) (marking c.args.given.now.marks.now) c.args.given.now.hosts.now.tree c.args.key 0 c.args.was.now c.args.now.now [] c.requires.between c.requires.was c.requires.now;
 }
 
+pub reconcile_node-moves_of-requires-clause-there_before : goal.reconcile_node-moves_of-requires-clause-there_before
+reconcile_node-moves_of-requires-clause-there_before g t c =
+    let old = g.O.Look.forest c.args.before.now in
+    Children.there_read old c.args.key c.args.was.now (Children.is_read old c.args.key c.args.was.now c.requires.between.was_sound c.requires.was)
+
+pub reconcile_node-moves_of-requires-clause-there_after : goal.reconcile_node-moves_of-requires-clause-there_after
+reconcile_node-moves_of-requires-clause-there_after g t c =
+    let new = g.N.Look.forest c.args.after.now in
+    Children.there_read new c.args.key c.args.now.now (Children.is_read new c.args.key c.args.now.now c.requires.between.sound c.requires.now)
+
 pub reconcile_node-make_moves-requires : goal.reconcile_node-make_moves-requires
 reconcile_node-make_moves-requires g t c =
     let old = g.O.Look.forest c.args.before.now in
     let new = g.N.Look.forest c.args.after.now in
     let old_now = g.O.Look.forest c.moves_of.new.before in
     let new_now = g.N.Look.forest c.moves_of.new.after in
-    let walk = subst (IsWalk (children_of old c.args.key) (children_of new c.args.key)) (sym c.as_slice.ensures.value) c.in_ok-moves.ensures.walk in
-    let next = Whole.children_next old new (marking c.args.given.now.marks.now) c.args.given.now.hosts.now.tree c.args.key c.args.next c.args.was.now c.args.now.now c.as_slice.result.now c.requires.between c.requires.was c.requires.now c.host_of-host.result _ _ c.host_of-host.ensures c.requires.behind c.requires.room walk c.in_ok-push_face.ensures.face in
-    let coming = Made.are_still old old_now new new_now c.args.given.now.hosts.now.tree c.args.key c.as_slice.result.now c.args.next c.moves_of.ensures.before c.moves_of.ensures.after next in
+    let part = subst (IsPart (marking c.args.given.now.marks.now).noted (children_of old c.args.key) (children_of new c.args.key)) (sym c.as_slice.ensures.value) c.in_ok-moves.ensures.part in
+    let next = Partly.children_coming old new (marking c.args.given.now.marks.now) c.args.given.now.hosts.now.tree c.args.key c.args.next c.args.was.now c.args.now.now c.as_slice.result.now c.requires.between c.requires.was c.requires.now c.host_of-host.result _ _ c.host_of-host.ensures c.requires.behind c.requires.room part c.in_ok-push_face.ensures.face in
+    let coming = Made.coming_still old old_now new new_now c.args.given.now.hosts.now.tree c.args.key c.as_slice.result.now c.args.next c.moves_of.ensures.before c.moves_of.ensures.after next in
     let between = Made.between_still old old_now new new_now (marking c.args.given.now.marks.now) c.args.given.now.hosts.now.tree c.moves_of.ensures.before c.moves_of.ensures.after c.requires.between in
     let less = Whole.node_less new new_now c.args.key c.moves_of.ensures.after in
     search rules
@@ -301,10 +312,10 @@ pub reconcile_node-returns-clause-done : goal.reconcile_node-returns-clause-done
 reconcile_node-returns-clause-done g t c =
     let old = g.O.Look.forest c.args.before.now in
     let new = g.N.Look.forest c.args.after.now in
-    let walk = subst (IsWalk (children_of old c.args.key) (children_of new c.args.key)) (sym c.as_slice.ensures.value) c.in_ok-moves.ensures.walk in
+    let part = subst (IsPart (marking c.args.given.now.marks.now).noted (children_of old c.args.key) (children_of new c.args.key)) (sym c.as_slice.ensures.value) c.in_ok-moves.ensures.part in
     let made = Made.moves_still old _ new _ (marking c.args.given.now.marks.now) c.args.given.now.hosts.now.tree c.args.key _ _ _ _ _ c.moves_of.ensures.before c.moves_of.ensures.after c.in_ok-end.ensures.done in
-    Whole.node_done old new (marking c.args.given.now.marks.now) c.args.given.now.hosts.now.tree c.args.key c.args.next c.args.was.now c.args.now.now c.as_slice.result.now c.requires.between c.requires.was c.requires.now
-    c.host_of-host.result _ _ _ _ c.in_ok-end.end c.is_ended-old.result c.is_ended-new.result c.host_of-host.ensures c.requires.tag walk c.in_ok-push_face.ensures.none c.in_ok-push_face.ensures.face made
+    Partly.part_done old new (marking c.args.given.now.marks.now) c.args.given.now.hosts.now.tree c.args.key c.args.next c.args.was.now c.args.now.now c.as_slice.result.now c.requires.between c.requires.was c.requires.now
+    c.host_of-host.result _ _ _ _ c.in_ok-end.end c.is_ended-old.result c.is_ended-new.result c.host_of-host.ensures c.requires.tag part c.in_ok-push_face.ensures.none c.in_ok-push_face.ensures.face made
     (c.is_ended-old.ensures.ended ∙ ap (λ f. needs_break c.args.was.now.kind (kind_at f c.args.was.now.last)) (c.make_moves.ensures.before ∙ c.moves_of.ensures.before))
     (c.is_ended-new.ensures.ended ∙ ap (λ f. needs_break c.args.now.now.kind (kind_at f c.args.now.now.last)) (c.make_moves.ensures.after ∙ c.moves_of.ensures.after))
     c.in_ok-push_ending.ensures.none c.in_ok-push_ending.ensures.ending
@@ -318,3 +329,51 @@ pub reconcile_node-is_ended-new-requires : goal.reconcile_node-is_ended-new-requ
 reconcile_node-is_ended-new-requires g t c = record {
   there = Children.last_still (g.N.Look.forest c.args.after.now) _ c.args.key c.args.now.now (c.make_moves.ensures.after ∙ c.moves_of.ensures.after) c.requires.between.sound c.requires.now;
 }
+
+-- ---- how many reads go to its children
+
+pub reconcile_node-returns-in_err-end-clause-reads : goal.reconcile_node-returns-in_err-end-clause-reads
+reconcile_node-returns-in_err-end-clause-reads g t c =
+    let old = g.O.Look.forest c.args.before.now in
+    let new = g.N.Look.forest c.args.after.now in
+    let part = subst (IsPart (marking c.args.given.now.marks.now).noted (children_of old c.args.key) (children_of new c.args.key)) (sym c.as_slice.ensures.value) c.in_ok-moves.ensures.part in
+    omega (
+      arith,
+      c.moves_of.ensures.reads_before,
+      c.moves_of.ensures.reads_after,
+      c.make_moves.ensures.reads,
+      Made.move_reads_still old (g.O.Look.forest c.moves_of.new.before) new (g.N.Look.forest c.moves_of.new.after) (marking c.args.given.now.marks.now).noted (Some c.args.key) (standing c.as_slice.result.now) c.moves_of.ensures.before c.moves_of.ensures.after,
+      Partly.part_reads old new (marking c.args.given.now.marks.now).noted c.args.key (children_of old c.args.key) c.as_slice.result.now part,
+    )
+
+pub reconcile_node-returns-in_err-push_ending-clause-reads : goal.reconcile_node-returns-in_err-push_ending-clause-reads
+reconcile_node-returns-in_err-push_ending-clause-reads g t c =
+    let old = g.O.Look.forest c.args.before.now in
+    let new = g.N.Look.forest c.args.after.now in
+    let part = subst (IsPart (marking c.args.given.now.marks.now).noted (children_of old c.args.key) (children_of new c.args.key)) (sym c.as_slice.ensures.value) c.in_ok-moves.ensures.part in
+    omega (
+      arith,
+      c.moves_of.ensures.reads_before,
+      c.moves_of.ensures.reads_after,
+      c.make_moves.ensures.reads,
+      c.is_ended-old.ensures.reads,
+      c.is_ended-new.ensures.reads,
+      Made.move_reads_still old (g.O.Look.forest c.moves_of.new.before) new (g.N.Look.forest c.moves_of.new.after) (marking c.args.given.now.marks.now).noted (Some c.args.key) (standing c.as_slice.result.now) c.moves_of.ensures.before c.moves_of.ensures.after,
+      Partly.part_reads old new (marking c.args.given.now.marks.now).noted c.args.key (children_of old c.args.key) c.as_slice.result.now part,
+    )
+
+pub reconcile_node-returns-clause-reads : goal.reconcile_node-returns-clause-reads
+reconcile_node-returns-clause-reads g t c =
+    let old = g.O.Look.forest c.args.before.now in
+    let new = g.N.Look.forest c.args.after.now in
+    let part = subst (IsPart (marking c.args.given.now.marks.now).noted (children_of old c.args.key) (children_of new c.args.key)) (sym c.as_slice.ensures.value) c.in_ok-moves.ensures.part in
+    omega (
+      arith,
+      c.moves_of.ensures.reads_before,
+      c.moves_of.ensures.reads_after,
+      c.make_moves.ensures.reads,
+      c.is_ended-old.ensures.reads,
+      c.is_ended-new.ensures.reads,
+      Made.move_reads_still old (g.O.Look.forest c.moves_of.new.before) new (g.N.Look.forest c.moves_of.new.after) (marking c.args.given.now.marks.now).noted (Some c.args.key) (standing c.as_slice.result.now) c.moves_of.ensures.before c.moves_of.ensures.after,
+      Partly.part_reads old new (marking c.args.given.now.marks.now).noted c.args.key (children_of old c.args.key) c.as_slice.result.now part,
+    )

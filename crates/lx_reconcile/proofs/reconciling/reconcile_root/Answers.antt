@@ -87,3 +87,8 @@ pub returns-in_err-reconcile_node-clause-fits : goal.returns-in_err-reconcile_no
 returns-in_err-reconcile_node-clause-fits g c =
     Whole.bound_fits (g.O.Look.forest c.args.before.now) (g.N.Look.forest c.args.after.now) (marking c.args.marks.now).noted
     (Whole.is_tree (g.O.Look.forest c.args.before.now) c.found-was.ensures.sound c.requires.alone_before) (Whole.is_tree (g.N.Look.forest c.args.after.now) c.found-now.ensures.sound c.requires.alone_after)
+
+pub returns-in_err-families-clause-fits : goal.returns-in_err-families-clause-fits
+returns-in_err-families-clause-fits g c =
+    Whole.bound_fits (g.O.Look.forest c.args.before.now) (g.N.Look.forest c.args.after.now) (marking c.args.marks.now).noted
+    (Whole.is_tree (g.O.Look.forest c.args.before.now) c.found-was.ensures.sound c.requires.alone_before) (Whole.is_tree (g.N.Look.forest c.args.after.now) c.found-now.ensures.sound c.requires.alone_after)

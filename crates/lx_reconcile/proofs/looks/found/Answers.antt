@@ -1,6 +1,6 @@
 use Rattle.std.proofs.Common.{◌∙◌, sym, ap, option_map}
 use Rattle.lx_reconcile.proofs.Children.{is_found}
-use Rattle.lx_reconcile.proofs.reconciling.found.Goals as goal
+use Rattle.lx_reconcile.proofs.looks.found.Goals as goal
 
 pub unreachable-requires : goal.unreachable-requires
 unreachable-requires g c =

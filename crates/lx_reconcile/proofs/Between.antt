@@ -1,0 +1,143 @@
+-- The keys of a run of a node's children, as they are read one after another.
+use Rattle.std.proofs.Common.{◌≡◌, ◌∙◌, ◌+◌, ◌-◌, ◌<◌, ◌≤◌, Bor, get_or, ℕ, Bool, true, false, cond, List, [], ◌∷◌, ◌++◌, length, length-append, Option, None, Some, refl, sym, ap, subst, arith, append-nil, append_assoc, inl, inr}
+use Rattle.std.specs.Option.{option_copied}
+use Rattle.std.specs.Slice.{IsGetResult}
+use Rattle.std.proofs.lemmas.Bool.Decides.{eqb_tells}
+use Rattle.std.proofs.lemmas.Bool.{cases_Bool}
+use Rattle.lx_node.specs.Siblings.{is_among, is_named, is_place, NoRepeats, last_of, next_in, from_name, up_to_name}
+use Rattle.lx_node.proofs.Positions.{from_name-step}
+use Rattle.lx_reconcile.specs.Windows.{up_to_end, between_names}
+use Rattle.lx_reconcile.proofs.Children.{next_place}
+use Rattle.lx_reconcile.proofs.Shared.{split}
+use Rattle.lx_reconcile.proofs.Lists.{NoRepeats-right}
+
+-- nothing is left where no next one is named
+between-none : (last : Option ℕ) (kids : List ℕ) → between_names None last kids ≡ []
+between-none None kids = refl
+between-none (Some l) kids = refl
+
+-- these keys of the run are found, and `at` is the next one
+pub record AreFound (kids : List ℕ) (first last at : Option ℕ) (keys : List ℕ) : Type 0 where
+  pub place : is_place at kids ≡ true
+  pub list : keys ++ between_names at last kids ≡ between_names first last kids
+
+pub found_none : (kids : List ℕ) (first last at : Option ℕ) (keys : List ℕ) → is_place first kids ≡ true → at ≡ first → keys ≡ [] → AreFound kids first last at keys
+found_none kids first last at keys place here none = record {
+  place = ap (λ o. is_place o kids) here ∙ place;
+  list = ap (λ ks. ks ++ between_names at last kids) none ∙ ap (λ o. between_names o last kids) here;
+}
+
+-- the next one and those behind it
+between-step : (kids : List ℕ) (child : ℕ) (last next : Option ℕ) → NoRepeats kids → is_among child kids ≡ true → next ≡ cond (is_named last child) None (next_in kids child)
+    → between_names (Some child) last kids ≡ child ∷ between_names next last kids
+between-step kids child None next once among is = from_name-step kids child once among ∙ ap (λ o. child ∷ from_name o kids) (sym is)
+between-step kids child (Some l) next once among is =
+    ap (up_to_name (Some l)) (from_name-step kids child once among)
+    ∙ elim (eqb_tells child l) [
+      | inl own ↦ rw own.0 (ap (λ ks. child ∷ ks) (sym (ap (λ o. between_names o (Some l) kids) (is ∙ ap (λ b. cond b None (next_in kids child)) own.0))))
+      | inr other ↦ rw other.0 (ap (λ o. child ∷ up_to_name (Some l) (from_name o kids)) (sym (is ∙ ap (λ b. cond b None (next_in kids child)) other.0)))
+    ]
+
+next_is_place : (kids : List ℕ) (child : ℕ) (b : Bool) → is_place (cond b None (next_in kids child)) kids ≡ true
+next_is_place kids child true = refl
+next_is_place kids child false = next_place kids child
+
+pub found_more : (kids : List ℕ) (first last at next : Option ℕ) (child : ℕ) (keys more : List ℕ) → NoRepeats kids → at ≡ Some child → AreFound kids first last at keys
+    → next ≡ cond (is_named last child) None (next_in kids child) → more ≡ keys ++ child ∷ [] → AreFound kids first last next more
+found_more kids first last at next child keys more once here f is more_is =
+    let among : is_among child kids ≡ true = sym (ap (λ o. is_place o kids) here) ∙ f.place in
+    record {
+      place = ap (λ o. is_place o kids) is ∙ next_is_place kids child (is_named last child);
+      list =
+          ap (λ ks. ks ++ between_names next last kids) more_is
+          ∙ append_assoc keys (child ∷ []) (between_names next last kids)
+          ∙ sym (ap (λ ks. keys ++ ks) (ap (λ o. between_names o last kids) here ∙ between-step kids child last next once among is))
+          ∙ f.list;
+    }
+
+pub found_all : (kids : List ℕ) (first last at : Option ℕ) (keys : List ℕ) → at ≡ None → AreFound kids first last at keys → keys ≡ between_names first last kids
+found_all kids first last at keys none f =
+    sym (append-nil keys) ∙ sym (ap (λ ks. keys ++ ks) (ap (λ o. between_names o last kids) none ∙ between-none last kids)) ∙ f.list
+
+-- fewer are left behind the next one
+pub found_fewer : (kids : List ℕ) (last at next : Option ℕ) (child : ℕ) → NoRepeats kids → at ≡ Some child → is_place at kids ≡ true → next ≡ cond (is_named last child) None (next_in kids child)
+    → length (from_name next kids) < length (from_name at kids)
+found_fewer kids last at next child once here place is =
+    let among : is_among child kids ≡ true = sym (ap (λ o. is_place o kids) here) ∙ place in
+    by_last (is_named last child) (omega (arith, ap length (ap (λ o. from_name o kids) here ∙ from_name-step kids child once among))) is
+  where
+    by_last : (b : Bool) → length (from_name at kids) ≡ length (from_name (next_in kids child) kids) + 1 → next ≡ cond b None (next_in kids child) → length (from_name next kids) < length (from_name at kids)
+    by_last true size is = omega (arith, size, ap length (ap (λ o. from_name o kids) is))
+    by_last false size is = omega (arith, size, ap length (ap (λ o. from_name o kids) is))
+
+-- ---- a run of names is no longer than all of them, and has none twice
+
+up_to-short : (last : Option ℕ) (xs : List ℕ) → length (up_to_end last xs) ≤ length xs
+up_to-short None xs = omega arith
+up_to-short (Some l) [] = omega arith
+up_to-short (Some l) (x ∷ xs) = elim (eqb_tells x l) [
+  | inl own ↦ rw own.0 (omega arith)
+  | inr other ↦ rw other.0 (omega (arith, up_to-short (Some l) xs))
+]
+
+from-short : (first : Option ℕ) (xs : List ℕ) → length (from_name first xs) ≤ length xs
+from-short first xs = omega (arith, ap length (split first xs).list, length-append (split first xs).before (from_name first xs))
+
+between-short : (first last : Option ℕ) (kids : List ℕ) → length (between_names first last kids) ≤ length kids
+between-short first last kids = omega (arith, up_to-short last (from_name first kids), from-short first kids)
+
+pub found_within : (kids : List ℕ) (first last at : Option ℕ) (keys : List ℕ) → AreFound kids first last at keys → length keys ≤ length kids
+found_within kids first last at keys f =
+    omega (arith, ap length f.list, length-append keys (between_names at last kids), between-short first last kids)
+
+-- while one is left, one more read is within them
+pub found_one_within : (kids : List ℕ) (first last at : Option ℕ) (child : ℕ) (keys : List ℕ) → NoRepeats kids → at ≡ Some child → AreFound kids first last at keys → length keys + 1 ≤ length kids
+found_one_within kids first last at child keys once here f =
+    let among : is_among child kids ≡ true = sym (ap (λ o. is_place o kids) here) ∙ f.place in
+    omega (
+      arith,
+      ap length f.list,
+      length-append keys (between_names at last kids),
+      ap length (ap (λ o. between_names o last kids) here ∙ between-step kids child last (cond (is_named last child) None (next_in kids child)) once among refl),
+      between-short first last kids,
+    )
+
+up_to-among : (last : Option ℕ) (xs : List ℕ) (q : ℕ) → is_among q (up_to_end last xs) ≡ true → is_among q xs ≡ true
+up_to-among None xs q e = e
+up_to-among (Some l) [] q e = e
+up_to-among (Some l) (x ∷ xs) q e = elim (eqb_tells x l) [
+  | inl own ↦ let f : is_among q (x ∷ []) ≡ true = rw own.0 at e in grind (arith, f)
+  | inr other ↦ let f : is_among q (x ∷ up_to_name (Some l) xs) ≡ true = rw other.0 at e in grind (arith, f, up_to-among (Some l) xs q)
+]
+
+not_among : (x : ℕ) (xs : List ℕ) (l : ℕ) → is_among x xs ≡ false → is_among x (up_to_name (Some l) xs) ≡ false
+not_among x xs l out = elim (cases_Bool (is_among x (up_to_name (Some l) xs))) [
+  | inl e ↦ absurd (let f = up_to-among (Some l) xs x e in cc)
+  | inr e ↦ e
+]
+
+up_to-once : (last : Option ℕ) (xs : List ℕ) → NoRepeats xs → NoRepeats (up_to_end last xs)
+up_to-once None xs once = once
+up_to-once (Some l) [] once = tt
+up_to-once (Some l) (x ∷ xs) once = elim (eqb_tells x l) [
+  | inl own ↦ rw own.0 (refl, tt)
+  | inr other ↦ rw other.0 (not_among x xs l once.0, up_to-once (Some l) xs once.1)
+]
+
+pub between-once : (first last : Option ℕ) (kids : List ℕ) → NoRepeats kids → NoRepeats (between_names first last kids)
+between-once first last kids once =
+    up_to-once last (from_name first kids) (NoRepeats-right (split first kids).before (from_name first kids) (subst NoRepeats (split first kids).list once))
+
+-- ---- the last of a queue
+
+last_item : (x : ℕ) (xs : List ℕ) (d : ℕ) → last_of (x ∷ xs) ≡ Some (get_or (x ∷ xs) (length xs) d)
+last_item x [] d = refl
+last_item x (y ∷ ys) d = last_item y ys d
+
+pub last_read : (xs : List ℕ) (n : ℕ) (r : Option (Bor ℕ)) → n ≡ length xs → IsGetResult xs 0 (n - 1) r → option_copied r ≡ last_of xs
+last_read [] n None len item = refl
+last_read [] n (Some x) len item = absurd (let e = item.0 in cc)
+last_read (y ∷ ys) n None len item = absurd (let e = item.0 in grind (arith, e))
+last_read (y ∷ ys) n (Some x) len item =
+    let at : n - 1 ≡ length ys = omega (arith, len) in
+    ap (λ z. Some z) (item.1 ∙ ap (λ i. get_or (y ∷ ys) i x.now) at) ∙ sym (last_item y ys x.now)

@@ -1,0 +1,220 @@
+-- A run of children that grows by one child at a time, until it holds all that carry a mark.
+use Rattle.std.proofs.Common.{◌≡◌, ◌∙◌, ◌+◌, ◌≤◌, ◌<◌, ◌||◌, ℕ, Bool, true, false, cond, List, [], ◌∷◌, ◌++◌, length, length-append, Option, None, Some, is_some, refl, sym, ap, subst, arith, append_assoc, inl, inr}
+use Rattle.std.proofs.lemmas.Bool.Decides.{eqb_tells}
+use Rattle.std.proofs.lemmas.Bool.{cases_Bool}
+use Rattle.lx_node.specs.Siblings.{is_among, NoRepeats, first_of, last_of, next_in, previous_in}
+use Rattle.lx_node.proofs.Siblings.{is_among-append, first_of-among}
+use Rattle.lx_reconcile.specs.declared.windows.Window.{Window}
+use Rattle.lx_reconcile.specs.Windows.{IsWindow, marked_among, Takes, IsWindowOfMarks}
+use Rattle.lx_reconcile.proofs.Lists.{NoRepeats-right, apart}
+use Rattle.lx_reconcile.proofs.Shared.{next_in-behind, previous_from-first, last_of-among, last_is}
+
+-- ---- where a list ends and begins
+
+-- a list with this name at its end
+record EndsWith (xs : List ℕ) (x : ℕ) : Type 0 where
+  before : List ℕ
+  list : xs ≡ before ++ x ∷ []
+
+ends_with : (xs : List ℕ) (x : ℕ) → last_of xs ≡ Some x → EndsWith xs x
+ends_with [] x e = absurd (cc)
+ends_with (y ∷ []) x e = record { before = []; list = cc }
+ends_with (y ∷ z ∷ xs) x e =
+    let rest = ends_with (z ∷ xs) x e in
+    record { before = y ∷ rest.before; list = ap (λ ys. y ∷ ys) rest.list }
+
+-- and with this one at its start
+record StartsWith (xs : List ℕ) (x : ℕ) : Type 0 where
+  behind : List ℕ
+  list : xs ≡ x ∷ behind
+
+starts_with : (xs : List ℕ) (x : ℕ) → first_of xs ≡ Some x → StartsWith xs x
+starts_with [] x e = absurd (cc)
+starts_with (y ∷ xs) x e = record { behind = xs; list = cc }
+
+-- ---- marks
+
+marked-append : (noted : ℕ → Bool) (xs ys : List ℕ) → marked_among noted (xs ++ ys) ≡ marked_among noted xs + marked_among noted ys
+marked-append noted [] ys = omega arith
+marked-append noted (x ∷ xs) ys = grind (arith, marked-append noted xs ys)
+
+marked-one : (noted : ℕ → Bool) (x : ℕ) → marked_among noted (x ∷ []) ≡ cond (noted x) 1 0
+marked-one noted x = grind arith
+
+-- none of them carries one
+marked-none : (noted : ℕ → Bool) (xs : List ℕ) → marked_among noted xs ≡ 0 → (k : ℕ) → is_among k xs ≡ true → noted k ≡ false
+marked-none noted [] none k e = absurd (grind (arith, e))
+marked-none noted (x ∷ xs) none k e = grind (arith, none, e, eqb_tells x k, marked-none noted xs, k)
+
+-- ---- one more child
+
+pub before_among : (children : List ℕ) (w : Window) (child : ℕ) → IsWindow children w → w.before ≡ Some child → is_among child children ≡ true
+before_among children w child is here =
+    ap (is_among child) is.list
+    ∙ is_among-append child is.front (w.keys.items ++ is.back)
+    ∙ ap (λ b. b || is_among child (w.keys.items ++ is.back)) (last_of-among is.front child (sym is.before ∙ here))
+
+pub behind_among : (children : List ℕ) (w : Window) (child : ℕ) → IsWindow children w → w.behind ≡ Some child → is_among child children ≡ true
+behind_among children w child is here =
+    let last : is_among child is.back ≡ true = first_of-among is.back child (sym is.behind ∙ here) in
+    grind (arith, ap (is_among child) is.list, is_among-append child is.front (w.keys.items ++ is.back), is_among-append child w.keys.items is.back, last)
+
+pub taken_before : (noted : ℕ → Bool) (children : List ℕ) (old new : Window) (child : ℕ) (marked : Bool) → NoRepeats children → IsWindow children old → old.before ≡ Some child
+    → new.before ≡ previous_in children child → new.keys.items ≡ child ∷ old.keys.items → new.behind ≡ old.behind → marked ≡ noted child
+    → Takes noted children old new marked
+taken_before noted children old new child marked once w here before keys behind told =
+    let split = ends_with w.front child (sym w.before ∙ here) in
+    let list : children ≡ split.before ++ (child ∷ old.keys.items ++ w.back) =
+    w.list ∙ ap (λ xs. xs ++ (old.keys.items ++ w.back)) split.list ∙ append_assoc split.before (child ∷ []) (old.keys.items ++ w.back) in
+    let out : is_among child split.before ≡ false =
+    elim (cases_Bool (is_among child split.before)) [
+      | inl e ↦ absurd (let far = apart split.before (child ∷ old.keys.items ++ w.back) child (subst NoRepeats list once) e in grind (arith, far, eqb_tells child child))
+      | inr e ↦ e
+    ] in
+    record {
+      is = record {
+        front = split.before;
+        back = w.back;
+        list = list ∙ sym (ap (λ ks. split.before ++ (ks ++ w.back)) keys);
+        before = before ∙ ap (λ xs. previous_in xs child) list ∙ previous_from-first None split.before child (old.keys.items ++ w.back) out;
+        behind = behind ∙ w.behind;
+      };
+      marks = ap (marked_among noted) keys ∙ grind (arith, told);
+      one = ap length keys ∙ omega arith;
+    }
+
+pub taken_behind : (noted : ℕ → Bool) (children : List ℕ) (old new : Window) (child : ℕ) (marked : Bool) → NoRepeats children → IsWindow children old → old.behind ≡ Some child
+    → new.before ≡ old.before → new.keys.items ≡ old.keys.items ++ child ∷ [] → new.behind ≡ next_in children child → marked ≡ noted child
+    → Takes noted children old new marked
+taken_behind noted children old new child marked once w here before keys behind told =
+    let split = starts_with w.back child (sym w.behind ∙ here) in
+    let list : children ≡ w.front ++ (old.keys.items ++ child ∷ split.behind) = w.list ∙ ap (λ xs. w.front ++ (old.keys.items ++ xs)) split.list in
+    let list_once : NoRepeats (w.front ++ (old.keys.items ++ child ∷ split.behind)) = subst NoRepeats list once in
+    let keys_once : NoRepeats (old.keys.items ++ child ∷ split.behind) = NoRepeats-right w.front (old.keys.items ++ child ∷ split.behind) list_once in
+    let out_keys : is_among child old.keys.items ≡ false =
+    elim (cases_Bool (is_among child old.keys.items)) [
+      | inl e ↦ absurd (let far = apart old.keys.items (child ∷ split.behind) child keys_once e in grind (arith, far, eqb_tells child child))
+      | inr e ↦ e
+    ] in
+    let out_front : is_among child w.front ≡ false =
+    elim (cases_Bool (is_among child w.front)) [
+      | inl e ↦ absurd (let far = apart w.front (old.keys.items ++ child ∷ split.behind) child list_once e in grind (arith, far, eqb_tells child child, is_among-append child old.keys.items (child ∷ split.behind)))
+      | inr e ↦ e
+    ] in
+    record {
+      is = record {
+        front = w.front;
+        back = split.behind;
+        list = list ∙ sym (ap (λ ks. w.front ++ ks) (append_assoc old.keys.items (child ∷ []) split.behind)) ∙ sym (ap (λ ks. w.front ++ (ks ++ split.behind)) keys);
+        before = before ∙ w.before;
+        behind =
+            behind
+            ∙ ap (λ xs. next_in xs child) list
+            ∙ next_in-behind child w.front (old.keys.items ++ child ∷ split.behind) out_front
+            ∙ next_in-behind child old.keys.items (child ∷ split.behind) out_keys
+            ∙ grind (arith, eqb_tells child child);
+      };
+      marks = ap (marked_among noted) keys ∙ marked-append noted old.keys.items (child ∷ []) ∙ grind (arith, told);
+      one = ap length keys ∙ length-append old.keys.items (child ∷ []);
+    }
+
+-- ---- the first child
+
+-- what stands before a name of a list, and behind it
+record StandsIn (xs : List ℕ) (x : ℕ) : Type 0 where
+  front : List ℕ
+  back : List ℕ
+  list : xs ≡ front ++ x ∷ back
+  out : is_among x front ≡ false
+
+stands_in : (xs : List ℕ) (x : ℕ) → is_among x xs ≡ true → StandsIn xs x
+stands_in [] x e = absurd (grind (arith, e))
+stands_in (y ∷ xs) x e = elim (eqb_tells y x) [
+  | inl own ↦ record { front = []; back = xs; list = ap (λ z. z ∷ xs) own.1; out = refl }
+  | inr other ↦
+      let rest = stands_in xs x (grind (arith, e, other.0)) in
+      record { front = y ∷ rest.front; back = rest.back; list = ap (λ ys. y ∷ ys) rest.list; out = grind (arith, other.0, rest.out) }
+]
+
+pub window_of_one : (children : List ℕ) (w : Window) (child : ℕ) → is_among child children ≡ true → w.before ≡ previous_in children child → w.keys.items ≡ child ∷ [] → w.behind ≡ next_in children child → IsWindow children w
+window_of_one children w child among before keys behind =
+    let at = stands_in children child among in
+    record {
+      front = at.front;
+      back = at.back;
+      list = at.list ∙ sym (ap (λ ks. at.front ++ (ks ++ at.back)) keys);
+      before = before ∙ ap (λ xs. previous_in xs child) at.list ∙ previous_from-first None at.front child at.back at.out;
+      behind = behind ∙ ap (λ xs. next_in xs child) at.list ∙ next_in-behind child at.front (child ∷ at.back) at.out ∙ grind (arith, eqb_tells child child);
+    }
+
+-- ---- how long it is
+
+pub window_within : (children : List ℕ) (w : Window) → IsWindow children w → length w.keys.items ≤ length children
+window_within children w is =
+    omega (arith, ap length is.list, length-append is.front (w.keys.items ++ is.back), length-append w.keys.items is.back)
+
+pub none_of : (xs : List ℕ) → length xs ≡ 0 → xs ≡ []
+none_of [] e = refl
+none_of (x ∷ xs) e = absurd (omega (arith, e))
+
+-- where a child stands beside it, it isn't all of them
+pub window_open : (children : List ℕ) (w : Window) → IsWindow children w → (is_some w.before || is_some w.behind) ≡ true → length w.keys.items + 1 ≤ length children
+window_open children w is opened = by_ends is.front is.back refl refl where
+  by_ends : (front back : List ℕ) → is.front ≡ front → is.back ≡ back → length w.keys.items + 1 ≤ length children
+  by_ends [] [] f b = absurd (let e = is.before ∙ ap last_of f in let g = is.behind ∙ ap first_of b in grind (arith, opened, e, g))
+  by_ends (x ∷ front) back f b =
+      omega (arith, ap length is.list, length-append is.front (w.keys.items ++ is.back), length-append w.keys.items is.back, ap length f)
+  by_ends front (x ∷ back) f b =
+      omega (arith, ap length is.list, length-append is.front (w.keys.items ++ is.back), length-append w.keys.items is.back, ap length b)
+
+-- ---- when it holds all that carry a mark
+
+-- as many as there are at all
+pub all_in : (noted : ℕ → Bool) (children : List ℕ) (w : Window) → IsWindow children w → marked_among noted children ≤ marked_among noted w.keys.items → 0 < length w.keys.items → IsWindowOfMarks noted children w
+all_in noted children w is all some =
+    let sum : marked_among noted children ≡ marked_among noted is.front + (marked_among noted w.keys.items + marked_among noted is.back) =
+    ap (marked_among noted) is.list ∙ marked-append noted is.front (w.keys.items ++ is.back) ∙ ap (λ n. marked_among noted is.front + n) (marked-append noted w.keys.items is.back) in
+    record {
+      is = is;
+      front_plain = marked-none noted is.front (omega (arith, sum, all));
+      back_plain = marked-none noted is.back (omega (arith, sum, all));
+      none = λ e. absurd (omega (arith, ap length e, some));
+    }
+
+-- or nothing stands beside it
+pub all_of : (noted : ℕ → Bool) (children : List ℕ) (w : Window) → IsWindow children w → (is_some w.before || is_some w.behind) ≡ false → 0 < length w.keys.items → IsWindowOfMarks noted children w
+all_of noted children w is closed some =
+    let front : is.front ≡ [] = no_last is.front (grind (arith, closed, ap is_some is.before)) in
+    let back : is.back ≡ [] = no_first is.back (grind (arith, closed, ap is_some is.behind)) in
+    record {
+      is = is;
+      front_plain = λ k e. absurd (grind (arith, e, ap (is_among k) front));
+      back_plain = λ k e. absurd (grind (arith, e, ap (is_among k) back));
+      none = λ e. absurd (omega (arith, ap length e, some));
+    }
+  where
+    no_last : (xs : List ℕ) → is_some (last_of xs) ≡ false → xs ≡ []
+    no_last [] e = refl
+    no_last (x ∷ xs) e = absurd (let l = last_is x xs in let there = ap is_some l.1 in cc)
+
+    no_first : (xs : List ℕ) → is_some (first_of xs) ≡ false → xs ≡ []
+    no_first [] e = refl
+    no_first (x ∷ xs) e = absurd (cc)
+
+pub none_window : (noted : ℕ → Bool) (children : List ℕ) (w : Window) → children ≡ [] → w.before ≡ None → w.keys.items ≡ [] → w.behind ≡ None → IsWindowOfMarks noted children w
+none_window noted children w none before keys behind = record {
+  is = record { front = []; back = []; list = none ∙ sym (ap (λ ks. ks ++ []) keys); before = before; behind = behind };
+  front_plain = λ k e. absurd (cc);
+  back_plain = λ k e. absurd (cc);
+  none = λ e. none;
+}
+
+-- ---- the first child
+
+pub no_children : (children : List ℕ) (first : Option ℕ) → first ≡ first_of children → is_some first ≡ false → children ≡ []
+no_children [] first is none = refl
+no_children (x ∷ children) first is none = absurd (let e = ap is_some is in cc)
+
+pub some_child : (children : List ℕ) (first : Option ℕ) → first ≡ first_of children → is_some first ≡ true → (f : ℕ) × (first_of children ≡ Some f)
+some_child [] first is some = absurd (let e = ap is_some is in cc)
+some_child (x ∷ children) first is some = (x, refl)
