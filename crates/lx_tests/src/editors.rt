@@ -67,3 +67,32 @@ fn a_set_of_one_text_reads_little(rt: HostRuntime) -> Result<(), Fail> {
     assert_eq!(rt; reads(&editor) <= 2584, true);
     Ok(())
 }
+
+/// A line that appends 1,000 paragraphs to the root. The last text's key is 2,000.
+fn appends_line(alloc: Global) -> Result<String, Fail> {
+    let mut line = String::from_str(alloc, r#"{"update":[{"append":"a"}"#)?;
+    for _ in 1..1000 {
+        line.push_str(r#",{"append":"a"}"#)?;
+    }
+    line.push_str("]}")?;
+    Ok(line)
+}
+
+#[test]
+fn a_change_in_a_long_list_reads_little(rt: HostRuntime) -> Result<(), Fail> {
+    let alloc = rt.alloc();
+    let mut editor = Editor::new(alloc)?;
+    let line = appends_line(alloc)?;
+    answer_line(alloc, &mut editor, line.as_bytes())?;
+    let text = sizes(alloc, &editor)?;
+    assert_eq!(rt; text.as_str(), "2001 nodes, 4000 operations");
+    answer_line(alloc, &mut editor, br#"{"update":[{"append":"b"}]}"#)?;
+    let text = sizes(alloc, &editor)?;
+    assert_eq!(rt; text.as_str(), "2003 nodes, 4 operations");
+    assert_eq!(rt; reads(&editor) <= 24, true);
+    answer_line(alloc, &mut editor, br#"{"update":[{"remove":999}]}"#)?;
+    let text = sizes(alloc, &editor)?;
+    assert_eq!(rt; text.as_str(), "2001 nodes, 1 operations");
+    assert_eq!(rt; reads(&editor) <= 24, true);
+    Ok(())
+}
