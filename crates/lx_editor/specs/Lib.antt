@@ -1,4 +1,5 @@
 pub mod Editor
 pub mod Updated
 pub mod Standing
+pub mod Judged
 pub mod Follows

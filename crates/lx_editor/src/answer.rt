@@ -1,5 +1,5 @@
 ghost use Rattle.lx_node.specs.Limits.{last_u32};
-ghost use Rattle.std.specs.Prelude.{◌+◌, ◌<◌, ◌≤◌, IfOk, OnOk};
+ghost use Rattle.std.specs.Prelude.{◌≡◌, ◌+◌, ◌<◌, ◌≤◌, IfOk, OnErr};
 ghost use Rattle.lx_editor.specs.Follows.{Answers};
 
 use crate::editor::Editor;
@@ -8,12 +8,13 @@ use lx_script::{Reply, read_line, write_reply};
 use std::alloc::Global;
 
 /// Answers a line of bytes, without its end, with the bytes of a reply. A line that is refused changes
-/// nothing. After want of memory the editor is as it was, unless only the reply wanted it.
+/// nothing. After want of memory the editor is as it was.
 #[tactic(auto, unfolding(crate::specs::Follows::Answers))]
 pub fn answer_line(alloc: Global, editor: &mut Editor, line: &[u8]) -> Result<Vec<u8>, NoMemory>
     requires { editor.old.commits < last_u32 }
     ensures answer { IfOk result (λ reply. Answers editor.old line.now reply.items editor.new) }
-    ensures commits { OnOk result (editor.new.commits ≤ editor.old.commits + 1) }
+    ensures commits { editor.new.commits ≤ editor.old.commits + 1 }
+    ensures unchanged { OnErr result (editor.new ≡ editor.old) }
 {
     match read_line(alloc, line) {
         Ok(line) => editor.line(alloc, line),

@@ -1,7 +1,7 @@
 ghost use Rattle.lx_node.specs.Limits.{last_u32};
 
 use crate::leaving::{Refusal, leave};
-use crate::outcome::Outcome;
+use crate::outcome::{Outcome, Verdict};
 use crate::reconciling::{follow, reconcile};
 use lx_draft::{Frozen, State};
 use lx_host::HostTree;
@@ -43,11 +43,12 @@ impl Editor {
     ghost use Rattle.std.specs.Prelude.{◌≡◌, ◌↔◌, ◌+◌, ◌<◌, ◌≤◌, None, All, IfOk, OnOk, OnErr};
     ghost use Rattle.std.specs.Option.{option_copied};
     ghost use Rattle.lx_step.specs.Sound.{IsSound};
-    ghost use Rattle.lx_plain.specs.Allowed.{AreCovered, AreAllowed, Shows};
-    ghost use Rattle.lx_reconcile.specs.Allowing.{marking, IsAllowed};
+    ghost use Rattle.lx_plain.specs.Allowed.{AreCovered, Shows};
+    ghost use Rattle.lx_reconcile.specs.Allowing.{marking};
     ghost use Rattle.lx_editor.specs.Editor.{new_editor};
     ghost use Rattle.lx_editor.specs.Standing.{IsState};
-    ghost use Rattle.lx_editor.specs.Updated.{IsUpdated, IsTaken, IsNothingNew, left_of, hosts_fault, most_reads};
+    ghost use Rattle.lx_editor.specs.Updated.{IsUpdated, IsCommitted, left_of};
+    ghost use Rattle.lx_editor.specs.Judged.{IsJudged, IsWeighed, MayCommit};
 
     /// A new editor: the root alone, nothing selected, no commit, and a view that shows it.
     pub fn new(alloc: Global) -> Result<Editor, NoMemory>
@@ -92,63 +93,83 @@ impl Editor {
     /// are refused as `BadCommand`. A refused update changes nothing: its outcome tells the step that was
     /// refused, or none where what all of them left is beyond a limit or has lost its selection. Steps that mark
     /// nothing and leave the selection equal commit nothing. After want of memory the editor is as it was.
-    #[tactic(auto, unfolding(crate::specs::Updated::IsUpdated))]
     pub fn update(&mut self, alloc: Global, steps: &[Step]) -> Result<Outcome, NoMemory>
         requires sound { All IsSound steps.now }
         requires room { self.old.commits < last_u32 }
         ensures updated { IfOk result (λ outcome. IsUpdated self.old steps.now outcome self.new) }
-        ensures commits { OnOk result (self.new.commits ≤ self.old.commits + 1) }
+        ensures commits { self.new.commits ≤ self.old.commits + 1 }
         ensures unchanged { OnErr result (self.new ≡ self.old) }
     {
+        match self.judge(alloc, steps)? {
+            Verdict::Commit { frozen, batch } => {
+                let number = self.next_commit();
+                let ops = batch.copy_ops(alloc)?;
+                self.commit(alloc, frozen, batch)?;
+                Ok(Outcome::Committed { number, ops })
+            }
+            Verdict::Refused { cause, step } => Ok(Outcome::Refused { cause, step }),
+            Verdict::Idle => Ok(Outcome::Idle),
+        }
+    }
+
+    /// What steps come to. It changes nothing.
+    #[tactic(auto, unfolding(crate::specs::Judged::IsJudged))]
+    pub(crate) fn judge(&self, alloc: Global, steps: &[Step]) -> Result<Verdict, NoMemory>
+        requires sound { All IsSound steps.now }
+        ensures judged { IfOk result (IsJudged self.now steps.now) }
+    {
         match leave(alloc, &self.state, self.next_key, steps) {
-            Ok(frozen) => self.take(alloc, frozen),
-            Err(Refusal::Cause { cause, step }) => Ok(Outcome::Refused { cause, step }),
+            Ok(frozen) => self.weigh(alloc, frozen),
+            Err(Refusal::Cause { cause, step }) => Ok(Verdict::Refused { cause, step }),
             Err(Refusal::Memory) => Err(NoMemory),
         }
     }
 
-    /// Commits what steps left, unless it is nothing new, or the view has no ids to show it.
-    fn take(&mut self, alloc: Global, frozen: Frozen) -> Result<Outcome, NoMemory>
-        requires room { self.old.commits < last_u32 }
+    /// What is to be done with what steps left: it is committed, unless it is nothing new, or the view has no
+    /// ids to show it.
+    fn weigh(&self, alloc: Global, frozen: Frozen) -> Result<Verdict, NoMemory>
         requires state { IsState frozen.state.links frozen.state.selection frozen.next_key }
-        requires covered { AreCovered self.old.tree frozen.state.links (marking frozen.marks) }
-        ensures taken { IfOk result (λ outcome. IsTaken self.old (left_of frozen) outcome self.new) }
-        ensures commits { OnOk result (self.new.commits ≤ self.old.commits + 1) }
-        ensures unchanged { OnErr result (self.new ≡ self.old) }
+        requires covered { AreCovered self.now.tree frozen.state.links (marking frozen.marks) }
+        ensures weighed { IfOk result (IsWeighed self.now (left_of frozen)) }
     {
         if frozen.marks.is_empty() && frozen.state.selection.is_equal(&self.state.selection) {
-            return Ok(Outcome::Idle);
+            return Ok(Verdict::Idle);
         }
         let links = &frozen.state.links;
         match reconcile(alloc, &self.state.links, links, &frozen.marks, &self.view) {
-            Ok(batch) => self.commit(alloc, frozen, batch),
-            Err(Fault::Cause(cause)) => Ok(Outcome::Refused { cause, step: None }),
+            Ok(batch) => Ok(Verdict::Commit { frozen, batch }),
+            Err(Fault::Cause(cause)) => Ok(Verdict::Refused { cause, step: None }),
             Err(Fault::Memory) => Err(NoMemory),
         }
     }
 
-    /// Commits what steps left, with operations for the view.
-    fn commit(&mut self, alloc: Global, frozen: Frozen, batch: Batch) -> Result<Outcome, NoMemory>
+    /// The number of the next commit.
+    pub(crate) fn next_commit(&self) -> u32
+        requires { self.now.commits < last_u32 }
+        ensures { result ≡ self.now.commits + 1 }
+    {
+        self.commits + 1
+    }
+
+    /// Commits what steps left, with operations for the view. Without memory the editor is as it was.
+    pub(crate) fn commit(
+        &mut self,
+        alloc: Global,
+        frozen: Frozen,
+        batch: Batch,
+    ) -> Result<(), NoMemory>
         requires room { self.old.commits < last_u32 }
-        requires state { IsState frozen.state.links frozen.state.selection frozen.next_key }
-        requires anew { IsNothingNew self.old (left_of frozen) → ⊥ }
-        requires ids { hosts_fault self.old.tree frozen.state.links self.old.view ≡ None }
-        requires allowed { IsAllowed self.old.tree frozen.state.links (marking frozen.marks) self.old.view batch.ops }
-        requires few { batch.reads ≤ most_reads self.old.tree frozen.state.links (marking frozen.marks).noted }
-        ensures taken { IfOk result (λ outcome. IsTaken self.old (left_of frozen) outcome self.new) }
-        ensures commits { OnOk result (self.new.commits ≤ self.old.commits + 1) }
+        requires may { MayCommit self.old (left_of frozen) batch }
+        ensures committed { OnOk result (IsCommitted self.old (left_of frozen) (self.old.commits + 1) batch.ops self.new) }
+        ensures commits { OnOk result (self.new.commits ≡ self.old.commits + 1) }
         ensures unchanged { OnErr result (self.new ≡ self.old) }
     {
-        let ops = batch.copy_ops(alloc)?;
         follow(&mut self.view, batch.copy_ops(alloc)?)?;
         self.state = frozen.state;
         self.next_key = frozen.next_key;
         self.commits += 1;
         self.last = Some(batch);
-        Ok(Outcome::Committed {
-            number: self.commits,
-            ops,
-        })
+        Ok(())
     }
 
     ghost use Rattle.lx_step.specs.declared.line.Shown.TheVariants as shown;

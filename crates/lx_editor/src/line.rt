@@ -1,28 +1,33 @@
 ghost use Rattle.lx_node.specs.Limits.{last_u32};
 
 use crate::editor::Editor;
-use crate::outcome::Outcome;
+use crate::outcome::Verdict;
+use lx_draft::Frozen;
 use lx_node::NoMemory;
+use lx_reconcile::Batch;
 use lx_script::{Reply, write_reply};
 use lx_step::{Form, Line, Shown, Step};
 use std::alloc::Global;
 
 impl Editor {
-    ghost use Rattle.std.specs.Prelude.{◌≡◌, ◌+◌, ◌<◌, ◌≤◌, All, IfOk, OnOk};
+    ghost use Rattle.std.specs.Prelude.{◌≡◌, ◌+◌, ◌<◌, ◌≤◌, All, IfOk, OnOk, OnErr};
     ghost use Rattle.lx_step.specs.Sound.{IsSound, IsSoundForm};
     ghost use Rattle.lx_step.specs.declared.line.Form.TheVariants.{Update, Show};
     ghost use Rattle.lx_script.specs.Replies.{reply_text};
+    ghost use Rattle.lx_script.specs.declared.reply.Reply.TheVariants.{Committed};
+    ghost use Rattle.lx_editor.specs.Updated.{IsCommitted, left_of};
+    ghost use Rattle.lx_editor.specs.Judged.{MayCommit};
     ghost use Rattle.lx_editor.specs.Follows.{RepliesTo, IsReplyOfUpdate, shown_of};
 
     /// Does what a line asks for, and answers with the bytes of a reply: the outcome of an update, or what is
-    /// committed. After want of memory the editor is as it was, unless
-    /// only the reply wanted it.
+    /// committed. The reply is made before anything is changed, so after want of memory the editor is as it was.
     #[tactic(auto, unfolding(crate::specs::Follows::RepliesTo))]
     pub fn line(&mut self, alloc: Global, line: Line) -> Result<Vec<u8>, NoMemory>
         requires sound { IsSoundForm line.form }
         requires room { self.old.commits < last_u32 }
         ensures replies { IfOk result (λ reply. RepliesTo self.old line.form reply.items self.new) }
-        ensures commits { OnOk result (self.new.commits ≤ self.old.commits + 1) }
+        ensures commits { self.new.commits ≤ self.old.commits + 1 }
+        ensures unchanged { OnErr result (self.new ≡ self.old) }
     {
         match &line.form {
             Form::Update(steps) => self.reply(alloc, steps.items()),
@@ -30,22 +35,41 @@ impl Editor {
         }
     }
 
-    /// Runs steps, and answers with the reply that tells the outcome.
+    /// Runs steps and commits what they leave, with the reply that tells the outcome.
     fn reply(&mut self, alloc: Global, steps: &[Step]) -> Result<Vec<u8>, NoMemory>
         requires sound { All IsSound steps.now }
         requires room { self.old.commits < last_u32 }
         ensures replies { IfOk result (λ reply. IsReplyOfUpdate self.old steps.now reply.items self.new) }
-        ensures commits { OnOk result (self.new.commits ≤ self.old.commits + 1) }
+        ensures commits { self.new.commits ≤ self.old.commits + 1 }
+        ensures unchanged { OnErr result (self.new ≡ self.old) }
     {
-        match self.update(alloc, steps) {
-            Ok(Outcome::Committed { number, ops }) => {
-                write_reply(alloc, &Reply::Committed { number, ops })
-            }
-            Ok(Outcome::Refused { cause, step }) => {
+        match self.judge(alloc, steps)? {
+            Verdict::Commit { frozen, batch } => self.reply_and_commit(alloc, frozen, batch),
+            Verdict::Refused { cause, step } => {
                 write_reply(alloc, &Reply::Refused { cause, step })
             }
-            Ok(Outcome::Idle) => write_reply(alloc, &Reply::Idle),
-            Err(error) => Err(error),
+            Verdict::Idle => write_reply(alloc, &Reply::Idle),
         }
+    }
+
+    /// Commits what steps left, with the reply that tells the commit.
+    fn reply_and_commit(
+        &mut self,
+        alloc: Global,
+        frozen: Frozen,
+        batch: Batch,
+    ) -> Result<Vec<u8>, NoMemory>
+        requires room { self.old.commits < last_u32 }
+        requires may { MayCommit self.old (left_of frozen) batch }
+        ensures reply { IfOk result (λ reply. reply.items ≡ reply_text (Committed (self.old.commits + 1) batch.ops)) }
+        ensures committed { OnOk result (IsCommitted self.old (left_of frozen) (self.old.commits + 1) batch.ops self.new) }
+        ensures commits { OnOk result (self.new.commits ≡ self.old.commits + 1) }
+        ensures unchanged { OnErr result (self.new ≡ self.old) }
+    {
+        let number = self.next_commit();
+        let ops = batch.copy_ops(alloc)?;
+        let reply = write_reply(alloc, &Reply::Committed { number, ops })?;
+        self.commit(alloc, frozen, batch)?;
+        Ok(reply)
     }
 }

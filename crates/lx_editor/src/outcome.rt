@@ -1,5 +1,7 @@
+use lx_draft::Frozen;
 use lx_host::Ops;
 use lx_node::Cause;
+use lx_reconcile::Batch;
 
 /// What a call made of an editor.
 #[derive(Debug, Drop)]
@@ -10,5 +12,16 @@ pub enum Outcome {
     /// it was one.
     Refused { cause: Cause, step: Option<u32> },
     /// It asked for nothing that isn't so already.
+    Idle,
+}
+
+/// What steps come to, before anything is changed.
+#[derive(Drop)]
+pub(crate) enum Verdict {
+    /// What they left is committed, with these operations.
+    Commit { frozen: Frozen, batch: Batch },
+    /// They are refused for a cause. The step, from 0, is the one that was refused, where it was one.
+    Refused { cause: Cause, step: Option<u32> },
+    /// They ask for nothing that isn't so already.
     Idle,
 }
