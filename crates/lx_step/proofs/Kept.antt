@@ -1,5 +1,5 @@
 -- Members within their ranges keep fields those of their kind.
-use Rattle.std.proofs.Common.{◌≡◌, refl, ℕ, List, [], ◌∷◌, Bool, true, false, ◌&&◌, leb, IsTrue, All, arith}
+use Rattle.std.proofs.Common.{refl, List, [], ◌∷◌, Bool, true, false, ◌&&◌, leb, IsTrue, All, arith}
 use Rattle.std.proofs.lemmas.List.Elements.{All-tail}
 use Rattle.std.specs.List.{list_all}
 use Rattle.lx_node.specs.declared.kind.Kind.{Kind}
@@ -13,8 +13,8 @@ use Rattle.lx_node.specs.declared.fields.Fields.TheVariants as fields
 use Rattle.lx_node.specs.Kinds.{is_possible, is_text}
 use Rattle.lx_node.specs.OfKind.{IsOfKind, is_of_kind, fits_kind, is_element_of, is_text_of, are_text_fields, are_tab_fields, are_embed_fields, are_bare, is_extra_of, is_plain, is_list_extra, is_item_extra, is_link_extra, is_cell_extra, is_span}
 use Rattle.lx_step.specs.declared.member.Member.{Member}
-use Rattle.lx_step.specs.declared.member.Member.TheVariants.{Direction, Align, Indent, TextFormat, TextStyle, Start, Checked, Rel, Target, Title, Url, HeaderState, ColSpan, RowSpan, Background, Text, Format, Style, Detail, Mode, Src, Other}
-use Rattle.lx_step.specs.Patches.{has, with_extra, element_with_member, text_with_member, with_source, with_member, with_members, is_in_range, IsInRange}
+use Rattle.lx_step.specs.declared.member.Member.TheVariants.{Direction, Align, Indent, TextFormat, TextStyle, Start, Checked, Rel, HeaderState, ColSpan, RowSpan, Text, Detail, Mode}
+use Rattle.lx_step.specs.Patches.{has, with_extra, element_with_member, text_with_member, with_member, with_members, is_in_range, IsInRange}
 
 -- ---- an element
 

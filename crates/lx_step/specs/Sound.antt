@@ -1,5 +1,5 @@
 -- What steps hold that any node can have, whatever the forest is on which they run.
-use Rattle.std.specs.Prelude.{◌≢◌, List, All}
+use Rattle.std.specs.Prelude.{◌≢◌, All}
 use Rattle.lx_node.specs.declared.kind.Kind.{Kind}
 use Rattle.lx_node.specs.declared.kind.Kind.TheVariants.{Root}
 use Rattle.lx_node.specs.declared.fields.Fields.{Fields}

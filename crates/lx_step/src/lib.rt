@@ -4,6 +4,7 @@
 //! knows a forest. `Patch::onto` writes the members of a patch into fields.
 #![tactic(auto)]
 
+mod conditions;
 mod line;
 mod member;
 mod members;
@@ -11,9 +12,12 @@ mod offsets;
 mod patch;
 mod reference;
 mod references;
+mod rule;
+mod self_edits;
 mod step;
 mod steps;
 
+pub use conditions::Conditions;
 pub use line::{Form, Line, Shown, Tags};
 pub use member::Member;
 pub use members::Members;
@@ -21,6 +25,8 @@ pub use offsets::Offsets;
 pub use patch::Patch;
 pub use reference::{PointRef, Reference, SelectionRef};
 pub use references::References;
+pub use rule::{Condition, NewNode, Rule, SelfEdit, TypeRow};
+pub use self_edits::SelfEdits;
 pub use step::Step;
 pub use steps::Steps;
 

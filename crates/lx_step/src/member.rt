@@ -1,7 +1,8 @@
-ghost use Rattle.std.specs.Prelude.{◌≡◌};
+ghost use Rattle.std.specs.Prelude.{◌≡◌, IfOk};
 ghost use Rattle.lx_step.specs.Patches as patches;
 
-use lx_node::{Align, Direction, Kind, Mode, Txt};
+use lx_node::{Align, Direction, Kind, Mode, NoMemory, Txt};
+use std::alloc::Global;
 
 /// A member of a node's fields, with the value that it is to get. Which kinds have which members:
 ///
@@ -39,7 +40,47 @@ pub enum Member {
     Other(Txt),
 }
 
+/// The same text, where there is one.
+pub(crate) fn copy_optional(alloc: Global, text: &Option<Txt>) -> Result<Option<Txt>, NoMemory>
+    ensures { IfOk result (λ made. made ≡ text.now) }
+{
+    match text {
+        None => Ok(None),
+        Some(text) => Ok(Some(text.copy(alloc)?)),
+    }
+}
+
 impl Member {
+    /// An equal member. It takes memory for its text, where it has one.
+    pub fn copy(&self, alloc: Global) -> Result<Member, NoMemory>
+        ensures { IfOk result (λ made. made ≡ self.now) }
+    {
+        match self {
+            Member::Direction(new) => Ok(Member::Direction(*new)),
+            Member::Align(new) => Ok(Member::Align(*new)),
+            Member::Indent(new) => Ok(Member::Indent(*new)),
+            Member::TextFormat(new) => Ok(Member::TextFormat(*new)),
+            Member::TextStyle(new) => Ok(Member::TextStyle(new.copy(alloc)?)),
+            Member::Start(new) => Ok(Member::Start(*new)),
+            Member::Checked(new) => Ok(Member::Checked(*new)),
+            Member::Rel(new) => Ok(Member::Rel(copy_optional(alloc, new)?)),
+            Member::Target(new) => Ok(Member::Target(copy_optional(alloc, new)?)),
+            Member::Title(new) => Ok(Member::Title(copy_optional(alloc, new)?)),
+            Member::Url(new) => Ok(Member::Url(new.copy(alloc)?)),
+            Member::HeaderState(new) => Ok(Member::HeaderState(*new)),
+            Member::ColSpan(new) => Ok(Member::ColSpan(*new)),
+            Member::RowSpan(new) => Ok(Member::RowSpan(*new)),
+            Member::Background(new) => Ok(Member::Background(copy_optional(alloc, new)?)),
+            Member::Text(new) => Ok(Member::Text(new.copy(alloc)?)),
+            Member::Format(new) => Ok(Member::Format(*new)),
+            Member::Style(new) => Ok(Member::Style(new.copy(alloc)?)),
+            Member::Detail(new) => Ok(Member::Detail(*new)),
+            Member::Mode(new) => Ok(Member::Mode(*new)),
+            Member::Src(new) => Ok(Member::Src(new.copy(alloc)?)),
+            Member::Other(name) => Ok(Member::Other(name.copy(alloc)?)),
+        }
+    }
+
     /// Whether the member can be set on nodes of the kind.
     #[tactic(auto, unfolding(crate::specs::Patches::has, lx_node::specs::Kinds::is_text, lx_node::specs::Kinds::is_embed, lx_node::specs::Kinds::is_list, lx_node::specs::Kinds::is_item, lx_node::specs::Kinds::is_link, lx_node::specs::Kinds::is_cell))]
     pub fn is_of(&self, kind: Kind) -> bool

@@ -1,4 +1,6 @@
 use crate::member::Member;
+use lx_node::NoMemory;
+use std::alloc::Global;
 use std::marker::Model;
 
 /// A list of members.
@@ -17,7 +19,18 @@ impl Model for Members {
 }
 
 impl Members {
-    ghost use Rattle.std.specs.Prelude.{◌≡◌};
+    ghost use Rattle.std.specs.Prelude.{◌≡◌, IfOk};
+
+    /// An equal list. It takes memory for itself and for the texts of its members.
+    pub fn copy(&self, alloc: Global) -> Result<Members, NoMemory>
+        ensures { IfOk result (λ made. made ≡ self.now) }
+    {
+        let mut made = Vec::with_capacity(alloc, self.items().len())?;
+        for member in self.items() {
+            made.push(member.copy(alloc)?)?;
+        }
+        Ok(Members::of(made))
+    }
 
     /// The list of these members. It takes no memory.
     pub fn of(items: Vec<Member>) -> Members

@@ -4,7 +4,7 @@ ghost use Rattle.lx_node.specs.OfKind.{IsOfKind};
 ghost use Rattle.lx_step.specs.Patches as patches;
 ghost use Rattle.lx_step.specs.Patches.{patched, RefusesKind, IsInRange};
 
-use crate::member::Member;
+use crate::member::{Member, copy_optional};
 use crate::members::Members;
 use lx_node::{Cause, ElementFields, Extra, Fault, Fields, Kind, NoMemory, TextFields, Txt};
 use std::alloc::Global;
@@ -34,10 +34,7 @@ fn rewrite_optional(
     ensures ok { OnOk result (text.new ≡ new.now) }
     ensures err { OnErr result (text.new ≡ text.old) }
 {
-    *text = match new {
-        None => None,
-        Some(new) => Some(new.copy(alloc)?),
-    };
+    *text = copy_optional(alloc, new)?;
     Ok(())
 }
 
@@ -135,8 +132,17 @@ impl Member {
 }
 
 impl Patch {
+    /// An equal patch. It takes memory for the list of members and for the texts in them.
+    pub fn copy(&self, alloc: Global) -> Result<Patch, NoMemory>
+        ensures { IfOk result (λ made. made ≡ self.now) }
+    {
+        Ok(Patch {
+            members: self.members.copy(alloc)?,
+        })
+    }
+
     /// Whether each member can be set on nodes of the kind.
-    fn is_of(&self, kind: Kind) -> bool
+    pub fn is_of(&self, kind: Kind) -> bool
         ensures { result ≡ list_all (patches.has kind) self.now.members }
     {
         self.members.items().iter().all(|member| member.is_of(kind))

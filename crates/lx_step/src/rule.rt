@@ -1,0 +1,105 @@
+ghost use Rattle.std.specs.Prelude.{◌≡◌, IfOk};
+
+use crate::conditions::Conditions;
+use crate::patch::Patch;
+use crate::self_edits::SelfEdits;
+use lx_node::{Fields, Kind, NoMemory, Txt};
+use std::alloc::Global;
+
+/// A type of nodes, by its row in the table of kinds, from 0 to 14: root, paragraph, heading, quote, list, item, link,
+/// table, row, cell, text, tab, break, rule, embed. Headings of all levels are one type, and so are all lists.
+#[derive(Clone, Copy, Debug, PartialEq, Eq, Hash)]
+pub struct TypeRow(pub u8);
+
+/// A rule of a script: at a node of its type where all conditions hold it answers its edits, and else none.
+#[derive(Debug, Drop)]
+pub struct Rule {
+    pub on: TypeRow,
+    pub conditions: Conditions,
+    pub edits: SelfEdits,
+}
+
+/// What a rule asks of a node. The first four hold of texts alone.
+#[derive(Debug, Drop)]
+pub enum Condition {
+    /// The text is this one.
+    Text(Txt),
+    /// This is a piece of the text.
+    Contains(Txt),
+    /// The text has a length below this, in scalar values.
+    Shorter(u64),
+    /// The format of the text is this one.
+    Format(u64),
+    /// The parent is of this type.
+    Parent(TypeRow),
+    /// The sibling right before is of this type, or there is none.
+    Previous(Option<TypeRow>),
+    /// The sibling right behind is of this type, or there is none.
+    Next(Option<TypeRow>),
+    /// There are no children.
+    Childless,
+}
+
+/// A node that an edit of a rule makes.
+#[derive(Debug, Drop)]
+pub struct NewNode {
+    pub kind: Kind,
+    pub fields: Fields,
+}
+
+/// An edit of a rule, of the node at which the rule is asked.
+#[derive(Debug, Drop)]
+pub enum SelfEdit {
+    /// Writes members of its fields.
+    Set(Patch),
+    /// A text grows at its end.
+    Add(Txt),
+    /// It is removed.
+    Remove,
+    /// A new node takes its place, and its children too where both are elements.
+    Replace(NewNode),
+    /// A new element comes around it.
+    Wrap(NewNode),
+    /// Its children take its place.
+    Unwrap,
+    /// A new sibling right before it.
+    Before(NewNode),
+    /// A new sibling right behind it.
+    After(NewNode),
+    /// A new last child.
+    Child(NewNode),
+    /// The children of the next sibling come here, and that one is removed.
+    MergeNext,
+}
+
+impl NewNode {
+    /// An equal one. It takes memory for the texts in its fields.
+    pub fn copy(&self, alloc: Global) -> Result<NewNode, NoMemory>
+        ensures { IfOk result (λ made. made ≡ self.now) }
+    {
+        Ok(NewNode {
+            kind: self.kind,
+            fields: self.fields.copy(alloc)?,
+        })
+    }
+}
+
+impl SelfEdit {
+    /// An equal edit. It takes memory for the texts in it, and for the list of members of a patch.
+    pub fn copy(&self, alloc: Global) -> Result<SelfEdit, NoMemory>
+        ensures { IfOk result (λ made. made ≡ self.now) }
+    {
+        match self {
+            SelfEdit::Set(patch) => Ok(SelfEdit::Set(patch.copy(alloc)?)),
+            SelfEdit::Add(text) => Ok(SelfEdit::Add(text.copy(alloc)?)),
+            SelfEdit::Remove => Ok(SelfEdit::Remove),
+            SelfEdit::Replace(new) => Ok(SelfEdit::Replace(new.copy(alloc)?)),
+            SelfEdit::Wrap(new) => Ok(SelfEdit::Wrap(new.copy(alloc)?)),
+            SelfEdit::Unwrap => Ok(SelfEdit::Unwrap),
+            SelfEdit::Before(new) => Ok(SelfEdit::Before(new.copy(alloc)?)),
+            SelfEdit::After(new) => Ok(SelfEdit::After(new.copy(alloc)?)),
+            SelfEdit::Child(new) => Ok(SelfEdit::Child(new.copy(alloc)?)),
+            SelfEdit::MergeNext => Ok(SelfEdit::MergeNext),
+        }
+    }
+}
