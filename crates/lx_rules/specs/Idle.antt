@@ -1,0 +1,59 @@
+-- Which edits of a rule have nothing to do at a view.
+use Rattle.std.specs.Prelude.{ℕ, ◌&&◌, not, Bool, true, false, List, [], ◌∷◌, Option, None, Some}
+use Rattle.std.specs.List.{list_all, list_any}
+use Rattle.lx_node.specs.Kinds.{may_hold, is_element, is_text}
+use Rattle.lx_node.specs.OfKind.{is_of_kind}
+use Rattle.lx_node.specs.Same.{same_fields}
+use Rattle.lx_node.specs.declared.kind.Kind.{Kind}
+use Rattle.lx_node.specs.declared.kind.Kind.TheVariants as kind
+use Rattle.lx_node.specs.declared.fields.Fields.{Fields}
+use Rattle.lx_node.specs.declared.node.View.{View}
+use Rattle.lx_step.specs.Patches.{patched}
+use Rattle.lx_step.specs.declared.rule.NewNode.{NewNode}
+use Rattle.lx_step.specs.declared.rule.SelfEdit.{SelfEdit}
+use Rattle.lx_step.specs.declared.rule.SelfEdit.TheVariants.{Set, Add, Remove, Replace, Wrap, Unwrap, Before, After, Child, MergeNext}
+use Rattle.lx_rules.specs.Types.{same_kind, is_kind}
+
+unfoldable pub is_root : Kind → Bool
+is_root kind.Root = true
+is_root _ = false
+
+-- whether there is a parent that may hold such a child
+abbrev pub is_held : Option Kind → Kind → Bool
+is_held None inner = false
+is_held (Some outer) inner = may_hold outer inner
+
+abbrev pub is_suited : NewNode → Bool
+is_suited new = is_of_kind new.kind new.fields
+
+-- ---- what would happen
+
+-- the fields are of the kind, and others than these
+abbrev pub differs : Option Fields → Fields → Bool
+differs None old = false
+differs (Some made) old = not (same_fields made old)
+
+abbrev pub has_text : List ℕ → Bool
+has_text [] = false
+has_text (c ∷ text) = true
+
+-- a new node may stand where this one stands, and this one isn't the root
+abbrev pub may_stand : View → NewNode → Bool
+may_stand v new = is_suited new && (not (is_root v.kind) && is_held v.parent new.kind)
+
+-- Whether an edit has something to do at a view: it is one that the kinds allow, and its end isn't reached.
+abbrev pub has_work : View → SelfEdit → Bool
+has_work v (Set patch) = differs (patched v.kind patch.members v.fields) v.fields
+has_work v (Add text) = is_text v.kind && has_text text
+has_work v Remove = not (is_root v.kind)
+has_work v (Replace new) = may_stand v new && (not (same_kind v.kind new.kind) && list_all (may_hold new.kind) v.children)
+has_work v (Wrap new) = may_stand v new && (not (is_kind v.parent new.kind) && may_hold new.kind v.kind)
+has_work v Unwrap = is_element v.kind && (not (is_root v.kind) && list_all (is_held v.parent) v.children)
+has_work v (Before new) = may_stand v new && not (is_kind v.prev new.kind)
+has_work v (After new) = may_stand v new && not (is_kind v.next new.kind)
+has_work v (Child new) = is_suited new && (may_hold v.kind new.kind && not (list_any (same_kind new.kind) v.children))
+has_work v MergeNext = is_element v.kind && is_kind v.next v.kind
+
+-- an edit is idle where it has nothing to do
+unfoldable pub idle_at : View → SelfEdit → Bool
+idle_at v edit = not (has_work v edit)

@@ -1,0 +1,68 @@
+ghost use Rattle.std.specs.Prelude.{◌≡◌, ◌↔◌, IsTrue, chars};
+ghost use Rattle.std.specs.List.{list_all};
+ghost use Rattle.std.specs.Str.Iter.{HasSubslice};
+ghost use Rattle.lx_rules.specs.Answers as answers;
+ghost use Rattle.lx_rules.specs.Pieces.{has_piece};
+
+use crate::types::is_of_row;
+use lx_node::{Fields, Kind, TextFields, View};
+use lx_step::{Condition, TypeRow};
+use lx_text::length;
+
+/// Whether a piece stands in a text, with all its characters one behind another.
+fn contains(text: &str, piece: &str) -> bool
+    ensures same { result ≡ has_piece (chars piece.now) (chars text.now) }
+    ensures told { IsTrue result ↔ HasSubslice (chars text.now) (chars piece.now) }
+{
+    text.contains(piece)
+}
+
+/// Whether a text is what a condition on texts asks for. One on what is around the node asks nothing of it.
+fn is_met_by_text(condition: &Condition, own: &TextFields) -> bool
+    ensures { result ≡ answers.text_meets condition.now own.now }
+{
+    match condition {
+        Condition::Text(text) => own.text.is_equal(text),
+        Condition::Contains(piece) => contains(own.text.as_str(), piece.as_str()),
+        Condition::Shorter(limit) => u64::from(length(own.text.as_str())) < *limit,
+        Condition::Format(format) => u64::from(own.format) == *format,
+        _ => true,
+    }
+}
+
+/// Whether a neighbour is of the type, or there is none where none is asked for.
+fn is_beside(row: Option<TypeRow>, kind: Option<Kind>) -> bool
+    ensures { result ≡ answers.is_beside row kind }
+{
+    match row {
+        None => kind.is_none(),
+        Some(row) => is_of_row(row.0, kind),
+    }
+}
+
+/// Whether a condition holds at a view. Those on a text hold of no other node, nor of a tab.
+#[tactic(auto, unfolding(lx_node::specs::Kinds::is_text, lx_node::specs::OfKind::is_text_of))]
+fn is_met(condition: &Condition, view: &View) -> bool
+    ensures { result ≡ answers.meets view.now condition.now }
+{
+    match condition {
+        Condition::Parent(row) => is_of_row(row.0, view.parent),
+        Condition::Previous(row) => is_beside(*row, view.prev),
+        Condition::Next(row) => is_beside(*row, view.next),
+        Condition::Childless => view.children.items().is_empty(),
+        Condition::Text(_)
+        | Condition::Contains(_)
+        | Condition::Shorter(_)
+        | Condition::Format(_) => match (view.kind, &view.fields) {
+            (Kind::Text, Fields::Text(own)) => is_met_by_text(condition, own),
+            _ => false,
+        },
+    }
+}
+
+/// Whether all conditions hold at a view.
+pub(crate) fn are_met(conditions: &[Condition], view: &View) -> bool
+    ensures { result ≡ list_all (answers.meets view.now) conditions.now }
+{
+    conditions.iter().all(|condition| is_met(condition, view))
+}

@@ -1,0 +1,117 @@
+ghost use Rattle.std.specs.Prelude.{◌≡◌, not};
+ghost use Rattle.std.specs.List.{list_all, list_any};
+ghost use Rattle.lx_node.specs.Kinds as kinds;
+ghost use Rattle.lx_node.specs.Same.{same_fields};
+ghost use Rattle.lx_step.specs.Patches.{patched, with_members};
+ghost use Rattle.lx_rules.specs.Idle as idles;
+ghost use Rattle.lx_rules.specs.Types as types;
+
+use crate::seen_fields::FieldsSeen;
+use crate::types::{is_kind, same_kind};
+use lx_node::{Fields, Kind, Txt, View};
+use lx_step::{Member, NewNode, Patch, SelfEdit};
+
+#[tactic(auto, unfolding(crate::specs::Idle::is_root))]
+fn is_root(kind: Kind) -> bool
+    ensures { result ≡ idles.is_root kind }
+{
+    matches!(kind, Kind::Root)
+}
+
+/// Whether there is a parent that may hold such a child.
+fn is_held(outer: Option<Kind>, inner: Kind) -> bool
+    ensures { result ≡ idles.is_held outer inner }
+{
+    match outer {
+        Some(outer) => outer.may_hold(inner),
+        None => false,
+    }
+}
+
+/// Whether all of these may be children of the kind.
+fn may_hold_all(outer: Kind, children: &[Kind]) -> bool
+    ensures { result ≡ list_all (kinds.may_hold outer) children.now }
+{
+    children.iter().all(|child| outer.may_hold(*child))
+}
+
+/// Whether there is a parent that may hold all of these.
+fn are_held(outer: Option<Kind>, children: &[Kind]) -> bool
+    ensures { result ≡ list_all (idles.is_held outer) children.now }
+{
+    children.iter().all(|child| is_held(outer, *child))
+}
+
+/// Whether one of these is of the kind.
+fn has_kind(kind: Kind, children: &[Kind]) -> bool
+    ensures { result ≡ list_any (types.same_kind kind) children.now }
+{
+    children.iter().any(|child| same_kind(kind, *child))
+}
+
+/// Whether a new node may stand where this one stands, and this one isn't the root.
+fn may_stand(view: &View, new: &NewNode) -> bool
+    ensures { result ≡ idles.may_stand view.now new.now }
+{
+    new.fields.is_of_kind(new.kind) && !is_root(view.kind) && is_held(view.parent, new.kind)
+}
+
+/// Whether there is a character in a text that is added.
+fn has_text(text: &Txt) -> bool
+    ensures { result ≡ idles.has_text text.now }
+{
+    !text.is_empty()
+}
+
+/// Whether writing members into fields, in their order, changes these. It writes only in thought, and takes no memory.
+fn differs<'a>(fields: &'a Fields, members: &'a [Member]) -> bool
+    ensures { result ≡ not (same_fields (with_members members.now fields.now) fields.now) }
+{
+    let mut seen = FieldsSeen::of(fields);
+    seen.write_all(members);
+    !seen.is(fields)
+}
+
+/// Whether a patch is one of the view's kind and changes the fields. It takes no memory.
+#[tactic(auto, unfolding(lx_step::specs::Patches::patched))]
+fn changes(view: &View, patch: &Patch) -> bool
+    ensures { result ≡ idles.differs (patched view.now.kind patch.now.members view.now.fields) view.now.fields }
+{
+    patch.is_of(view.kind) && differs(&view.fields, patch.members.items())
+}
+
+/// Whether an edit has nothing to do at a view: the kinds don't allow it, what it holds isn't of the kind that it is
+/// for, or its end is reached. It takes no memory.
+#[tactic(auto, unfolding(crate::specs::Idle::idle_at, lx_node::specs::Kinds::is_text))]
+pub fn idle(view: &View, edit: &SelfEdit) -> bool
+    ensures { result ≡ idles.idle_at view.now edit.now }
+{
+    match edit {
+        SelfEdit::Set(patch) => !changes(view, patch),
+        SelfEdit::Add(text) => !(matches!(view.kind, Kind::Text) && has_text(text)),
+        SelfEdit::Remove => is_root(view.kind),
+        SelfEdit::Replace(new) => {
+            !(may_stand(view, new)
+                && !same_kind(view.kind, new.kind)
+                && may_hold_all(new.kind, view.children.items()))
+        }
+        SelfEdit::Wrap(new) => {
+            !(may_stand(view, new)
+                && !is_kind(view.parent, new.kind)
+                && new.kind.may_hold(view.kind))
+        }
+        SelfEdit::Unwrap => {
+            !(view.kind.is_element()
+                && !is_root(view.kind)
+                && are_held(view.parent, view.children.items()))
+        }
+        SelfEdit::Before(new) => !(may_stand(view, new) && !is_kind(view.prev, new.kind)),
+        SelfEdit::After(new) => !(may_stand(view, new) && !is_kind(view.next, new.kind)),
+        SelfEdit::Child(new) => {
+            !(new.fields.is_of_kind(new.kind)
+                && view.kind.may_hold(new.kind)
+                && !has_kind(new.kind, view.children.items()))
+        }
+        SelfEdit::MergeNext => !(view.kind.is_element() && is_kind(view.next, view.kind)),
+    }
+}

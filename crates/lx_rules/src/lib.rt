@@ -1,0 +1,16 @@
+//! Rules that change nodes until nothing is left to change: what a rule answers at a node's view, and which edits have
+//! nothing to do there.
+#![tactic(auto)]
+
+mod any_rule;
+mod conditions;
+mod idling;
+mod same_parts;
+mod seen_fields;
+mod seen_parts;
+mod transform;
+mod types;
+
+pub use any_rule::AnyRule;
+pub use idling::idle;
+pub use transform::{KindSet, Transform};

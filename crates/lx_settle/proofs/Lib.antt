@@ -1,0 +1,16 @@
+pub mod Seen
+pub mod Carried
+pub mod Turned
+pub mod Settled
+pub mod Acted
+pub mod Owned
+pub mod Written
+pub mod Rest
+pub mod JoinStep
+pub mod Joining
+pub mod Begun
+pub mod Swept
+pub mod Rounds
+pub mod Made
+pub mod Elements
+pub mod Ends

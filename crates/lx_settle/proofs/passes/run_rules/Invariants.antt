@@ -1,0 +1,10 @@
+use Rattle.std.proofs.Common.{◌≡◌, drop}
+use Rattle.lx_edit.specs.InTurn.{in_turn}
+use Rattle.lx_settle.specs.Acting.{rule_step, all_asked}
+use Rattle.lx_settle.proofs.passes.run_rules.Given as goal
+
+-- those that are left, after those that were asked, come to what all come to
+abbrev pub invariant-loop-rule : goal.invariant-loop-rule
+invariant-loop-rule g l =
+    let rules = all_asked g.T.Transform.rows g.T.Transform.answers l.fn.rules in
+    in_turn (rule_step l.key) (drop l.rule-index rules) l.draft ≡ in_turn (rule_step l.key) rules l.fn.draft

@@ -1,0 +1,254 @@
+ghost use Rattle.std.specs.Prelude.{◌≡◌, Ok, ◌&&◌, OnOk, IfOk, IfErr, is_some};
+ghost use Rattle.lx_marks.specs.Marks.{flag_in};
+ghost use Rattle.lx_forest.specs.Lookups.{is_attached};
+ghost use Rattle.lx_forest.specs.Views.{view_of};
+ghost use Rattle.lx_edit.specs.InTurn.{in_turn};
+ghost use Rattle.lx_rules.specs.Idle as idles;
+ghost use Rattle.lx_draft.specs.Faults.{TellsStep};
+ghost use Rattle.lx_edit.specs.Standing.{StillStands};
+ghost use Rattle.lx_rules.specs.Answers.{asked};
+ghost use Rattle.lx_settle.specs.Acting as acting;
+ghost use Rattle.lx_settle.specs.Acting.{all_asked};
+ghost use Rattle.lx_settle.specs.Passes as passes;
+
+use crate::acting::act;
+use lx_draft::Draft;
+use lx_edit::join_around;
+use lx_node::{Fault, Key, NoMemory, View};
+use lx_rules::{Transform, idle};
+use lx_step::SelfEdit;
+use std::alloc::Global;
+
+/// Whether an edit has something to do at the node of a key.
+fn has_work(alloc: Global, draft: &Draft, edit: &SelfEdit, key: Key) -> Result<bool, NoMemory>
+    ensures { IfOk result (λ work. work ≡ (is_attached draft.now.forest key && acting.has_work_at (view_of draft.now.forest key) edit.now)) }
+{
+    if !draft.links().is_attached(key) {
+        return Ok(false);
+    }
+    match draft.links().view(key)? {
+        Some(view) => Ok(has_work_seen(&view, edit)),
+        None => Ok(false),
+    }
+}
+
+/// The contrary of idle.
+#[tactic(auto, unfolding(lx_rules::specs::Idle::idle_at))]
+fn has_work_seen(view: &View, edit: &SelfEdit) -> bool
+    ensures { result ≡ idles.has_work view.now edit.now }
+{
+    !idle(view, edit)
+}
+
+/// An edit, passed over where it is idle at the view of the moment, and where the node isn't in the root's
+/// tree any more.
+#[tactic(auto, unfolding(crate::specs::Acting::edit_step))]
+fn run_edit(alloc: Global, draft: &mut Draft, edit: &SelfEdit, key: Key) -> Result<(), Fault>
+    ensures ok { OnOk result (acting.edit_step key edit.now draft.old ≡ Ok draft.new) }
+    ensures err { IfErr result (λ e. TellsStep e (acting.edit_step key edit.now draft.old)) }
+    ensures standing { IfErr result (λ e. StillStands e draft.new) }
+{
+    if has_work(alloc, draft, edit, key)? {
+        act(alloc, draft, edit, key)
+    } else {
+        Ok(())
+    }
+}
+
+/// Edits of a node, in turn.
+#[tactic(auto, using(lx_edit::proofs::Turns::turns_done))]
+fn run_edits(alloc: Global, draft: &mut Draft, edits: &[SelfEdit], key: Key) -> Result<(), Fault>
+    ensures ok { OnOk result (in_turn (acting.edit_step key) edits.now draft.old ≡ Ok draft.new) }
+    ensures err { IfErr result (λ e. TellsStep e (in_turn (acting.edit_step key) edits.now draft.old)) }
+    ensures standing { IfErr result (λ e. StillStands e draft.new) }
+{
+    for edit in edits {
+        match run_edit(alloc, draft, edit, key) {
+            Ok(()) => {}
+            Err(fault) => return Err(fault),
+        }
+    }
+    Ok(())
+}
+
+/// What a rule answers at the node of a key.
+fn answered<T: Transform>(
+    alloc: Global,
+    draft: &Draft,
+    rule: &T,
+    key: Key,
+) -> Result<Vec<SelfEdit>, NoMemory>
+    ensures { IfOk result (λ edits. edits.items ≡ acting.answered_at (view_of draft.now.forest key) (asked (T.rows rule.now) (T.answers rule.now))) }
+{
+    match draft.links().view(key)? {
+        Some(view) => {
+            if rule.on().has(view.kind) {
+                rule.acts(alloc, &view)
+            } else {
+                Ok(Vec::new(alloc))
+            }
+        }
+        None => Ok(Vec::new(alloc)),
+    }
+}
+
+/// A rule at a node.
+#[tactic(auto, unfolding(crate::specs::Acting::rule_step))]
+fn run_rule<T: Transform>(alloc: Global, draft: &mut Draft, rule: &T, key: Key) -> Result<(), Fault>
+    ensures ok { OnOk result (acting.rule_step key (asked (T.rows rule.now) (T.answers rule.now)) draft.old ≡ Ok draft.new) }
+    ensures err { IfErr result (λ e. TellsStep e (acting.rule_step key (asked (T.rows rule.now) (T.answers rule.now)) draft.old)) }
+    ensures standing { IfErr result (λ e. StillStands e draft.new) }
+{
+    let edits = answered(alloc, draft, rule, key)?;
+    run_edits(alloc, draft, edits.as_slice(), key)
+}
+
+/// The rules at a node, in their order.
+#[tactic(auto, unfolding(crate::specs::Acting::rules_step), using(lx_edit::proofs::Turns::turns_done))]
+pub(crate) fn run_rules<T: Transform>(
+    alloc: Global,
+    draft: &mut Draft,
+    rules: &[T],
+    key: Key,
+) -> Result<(), Fault>
+    ensures ok { OnOk result (acting.rules_step (all_asked T.rows T.answers rules.now) key draft.old ≡ Ok draft.new) }
+    ensures err { IfErr result (λ e. TellsStep e (acting.rules_step (all_asked T.rows T.answers rules.now) key draft.old)) }
+    ensures standing { IfErr result (λ e. StillStands e draft.new) }
+{
+    for rule in rules {
+        match run_rule(alloc, draft, rule, key) {
+            Ok(()) => {}
+            Err(fault) => return Err(fault),
+        }
+    }
+    Ok(())
+}
+
+/// A leaf in its turn, if it is in the root's tree: it is joined with what stands around it, and then the rules.
+#[tactic(auto, unfolding(crate::specs::Passes::leaf_step))]
+fn take_leaf<T: Transform>(
+    alloc: Global,
+    draft: &mut Draft,
+    rules: &[T],
+    key: Key,
+) -> Result<(), Fault>
+    ensures ok { OnOk result (passes.leaf_step (all_asked T.rows T.answers rules.now) key draft.old ≡ Ok draft.new) }
+    ensures err { IfErr result (λ e. TellsStep e (passes.leaf_step (all_asked T.rows T.answers rules.now) key draft.old)) }
+    ensures standing { IfErr result (λ e. StillStands e draft.new) }
+{
+    if draft.links().is_attached(key) {
+        join_around(alloc, draft, key)?;
+        run_rules(alloc, draft, rules, key)
+    } else {
+        Ok(())
+    }
+}
+
+/// Leaves in their order.
+#[tactic(auto, unfolding(crate::specs::Passes::leaf_pass), using(lx_edit::proofs::Turns::turns_done))]
+pub(crate) fn leaf_pass<T: Transform>(
+    alloc: Global,
+    draft: &mut Draft,
+    rules: &[T],
+    keys: &[Key],
+) -> Result<(), Fault>
+    ensures ok { OnOk result (passes.leaf_pass (all_asked T.rows T.answers rules.now) keys.now draft.old ≡ Ok draft.new) }
+    ensures err { IfErr result (λ e. TellsStep e (passes.leaf_pass (all_asked T.rows T.answers rules.now) keys.now draft.old)) }
+    ensures standing { IfErr result (λ e. StillStands e draft.new) }
+{
+    for key in keys {
+        match take_leaf(alloc, draft, rules, *key) {
+            Ok(()) => {}
+            Err(fault) => return Err(fault),
+        }
+    }
+    Ok(())
+}
+
+/// An element in its turn: the rules, where its flag is true and it isn't the root, whose turn comes last.
+#[tactic(auto, unfolding(crate::specs::Passes::element_step))]
+fn take_element<T: Transform>(
+    alloc: Global,
+    draft: &mut Draft,
+    rules: &[T],
+    element: &(Key, bool),
+) -> Result<(), Fault>
+    ensures ok { OnOk result (passes.element_step (all_asked T.rows T.answers rules.now) element.now draft.old ≡ Ok draft.new) }
+    ensures err { IfErr result (λ e. TellsStep e (passes.element_step (all_asked T.rows T.answers rules.now) element.now draft.old)) }
+    ensures standing { IfErr result (λ e. StillStands e draft.new) }
+{
+    let (node, flag) = *element;
+    if flag && node != Key::root() {
+        run_rules(alloc, draft, rules, node)
+    } else {
+        Ok(())
+    }
+}
+
+/// Elements in their order, without the root.
+#[tactic(auto, using(lx_edit::proofs::Turns::turns_done))]
+fn take_elements<T: Transform>(
+    alloc: Global,
+    draft: &mut Draft,
+    rules: &[T],
+    elements: &[(Key, bool)],
+) -> Result<(), Fault>
+    ensures ok { OnOk result (in_turn (passes.element_step (all_asked T.rows T.answers rules.now)) elements.now draft.old ≡ Ok draft.new) }
+    ensures err { IfErr result (λ e. TellsStep e (in_turn (passes.element_step (all_asked T.rows T.answers rules.now)) elements.now draft.old)) }
+    ensures standing { IfErr result (λ e. StillStands e draft.new) }
+{
+    for element in elements {
+        match take_element(alloc, draft, rules, element) {
+            Ok(()) => {}
+            Err(fault) => return Err(fault),
+        }
+    }
+    Ok(())
+}
+
+/// Whether the root is among elements.
+fn has_root(elements: &[(Key, bool)]) -> bool
+    ensures { result ≡ is_some (flag_in elements.now 0) }
+{
+    for element in elements {
+        if element.0 == Key::root() {
+            return true;
+        }
+    }
+    false
+}
+
+/// The root in its turn, if it is among the elements at all.
+#[tactic(auto, unfolding(crate::specs::Passes::root_step))]
+fn take_root<T: Transform>(
+    alloc: Global,
+    draft: &mut Draft,
+    rules: &[T],
+    elements: &[(Key, bool)],
+) -> Result<(), Fault>
+    ensures ok { OnOk result (passes.root_step (all_asked T.rows T.answers rules.now) elements.now draft.old ≡ Ok draft.new) }
+    ensures err { IfErr result (λ e. TellsStep e (passes.root_step (all_asked T.rows T.answers rules.now) elements.now draft.old)) }
+    ensures standing { IfErr result (λ e. StillStands e draft.new) }
+{
+    if has_root(elements) {
+        run_rules(alloc, draft, rules, Key::root())
+    } else {
+        Ok(())
+    }
+}
+
+/// The rules on elements whose flag is true, in their order, and on the root last if it is there at all.
+#[tactic(auto, using(crate::proofs::Elements::elements_done, crate::proofs::Elements::elements_refused))]
+pub(crate) fn element_pass<T: Transform>(
+    alloc: Global,
+    draft: &mut Draft,
+    rules: &[T],
+    elements: &[(Key, bool)],
+) -> Result<(), Fault>
+    ensures ok { OnOk result (passes.element_pass (all_asked T.rows T.answers rules.now) elements.now draft.old ≡ Ok draft.new) }
+    ensures err { IfErr result (λ e. TellsStep e (passes.element_pass (all_asked T.rows T.answers rules.now) elements.now draft.old)) }
+    ensures standing { IfErr result (λ e. StillStands e draft.new) }
+{
+    take_elements(alloc, draft, rules, elements)?;
+    take_root(alloc, draft, rules, elements)
+}

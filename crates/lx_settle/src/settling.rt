@@ -1,0 +1,70 @@
+ghost use Rattle.std.specs.Prelude.{◌≡◌, ◌+◌, ◌-◌, ◌≤◌, Ok, OnOk, IfOk, IfErr};
+ghost use Rattle.lx_draft.specs.Faults.{TellsStep};
+ghost use Rattle.lx_draft.specs.Rounds.{round_of};
+ghost use Rattle.lx_edit.specs.Standing.{StillStands};
+ghost use Rattle.lx_settle.specs.Acting.{all_asked};
+ghost use Rattle.lx_settle.specs.Settling as settling;
+
+use crate::passes::{element_pass, leaf_pass};
+use lx_draft::{Draft, Round};
+use lx_node::{Cause, Fault};
+use lx_rules::Transform;
+use std::alloc::Global;
+
+/// A round, or the end of settling: true where nothing was left to handle.
+#[tactic(auto, unfolding(crate::specs::Settling::round_step))]
+fn round<T: Transform>(alloc: Global, draft: &mut Draft, rules: &[T]) -> Result<bool, Fault>
+    ensures ok { IfOk result (λ rests. settling.round_step (all_asked T.rows T.answers rules.now) draft.old ≡ Ok (rests, draft.new)) }
+    ensures err { IfErr result (λ e. TellsStep e (settling.round_step (all_asked T.rows T.answers rules.now) draft.old)) }
+    ensures standing { IfErr result (λ e. StillStands e draft.new) }
+{
+    match draft.take_round() {
+        Ok(Round::Leaves(leaves)) => {
+            leaf_pass(alloc, draft, rules, leaves.items())?;
+            Ok(false)
+        }
+        Ok(Round::Elements(elements)) => {
+            element_pass(alloc, draft, rules, elements.items())?;
+            Ok(false)
+        }
+        Ok(Round::Rest) => Ok(true),
+        Err(_) => Err(Fault::Memory),
+    }
+}
+
+/// Rules and joins, round after round, until nothing is left to handle. A round takes the marked leaves, and
+/// joins each with what stands around it before the rules are asked there; or, where there are none, the
+/// marked elements, and the root last. Rules are asked in their order, and an edit that is idle is passed
+/// over. It is refused as `NoRest` exactly where a 101st round would begin; where 100,000 counts were taken;
+/// and where the edits would bring what was written above 16,777,216 scalar values. A draft on which it was
+/// refused is only fit to be dropped.
+#[tactic(auto, unfolding(crate::specs::Settling::settle_step))]
+pub fn settle<T: Transform>(alloc: Global, draft: &mut Draft, rules: &[T]) -> Result<(), Fault>
+    ensures ok { OnOk result (settling.settle_step (all_asked T.rows T.answers rules.now) draft.old ≡ Ok draft.new) }
+    ensures err { IfErr result (λ e. TellsStep e (settling.settle_step (all_asked T.rows T.answers rules.now) draft.old)) }
+    ensures standing { IfErr result (λ e. StillStands e draft.new) }
+{
+    for passed in 0..100u32 {
+        match round(alloc, draft, rules) {
+            Ok(true) => return Ok(()),
+            Ok(false) => {}
+            Err(fault) => return Err(fault),
+        }
+    }
+    end(draft)
+}
+
+/// Settling ends where nothing is left to handle; otherwise a round more would begin than there may be.
+#[tactic(auto, using(crate::proofs::Rounds::rest_taken, crate::proofs::Rounds::ended_rest))]
+fn end(draft: &mut Draft) -> Result<(), Fault>
+    ensures ok { OnOk result (settling.ended (round_of draft.old.fresh) draft.old ≡ Ok draft.new) }
+    ensures err { IfErr result (λ e. TellsStep e (settling.ended (round_of draft.old.fresh) draft.old)) }
+    ensures standing { IfErr result (λ e. StillStands e draft.new) }
+{
+    match draft.take_round() {
+        Ok(Round::Rest) => Ok(()),
+        Ok(Round::Leaves(_)) => Err(Fault::Cause(Cause::NoRest)),
+        Ok(Round::Elements(_)) => Err(Fault::Cause(Cause::NoRest)),
+        Err(_) => Err(Fault::Memory),
+    }
+}
