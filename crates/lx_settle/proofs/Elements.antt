@@ -1,5 +1,5 @@
 -- A pass over elements, seen from one element after another.
-use Rattle.std.proofs.Common.{◌≡◌, ◌∙◌, ℕ, Bool, true, false, cond, eqb, ◌&&◌, not, List, [], ◌∷◌, ◌++◌, Result, Ok, Err, refl, sym, ap}
+use Rattle.std.proofs.Common.{◌≡◌, ◌∙◌, ℕ, Bool, true, false, cond, eqb, ◌&&◌, not, List, [], ◌∷◌, ◌++◌, Result, Ok, Err, IfErr, subst, refl, sym, ap}
 use Rattle.std.specs.Prelude.{is_some}
 use Rattle.lx_node.specs.declared.cause.Cause.{Cause}
 use Rattle.lx_node.specs.declared.cause.Fault.{Fault}
@@ -69,3 +69,7 @@ elements_done rules es w u r first last = element_turns rules es w ∙ ap (λ s.
 pub elements_refused : (rules : List Answers) (es : List (ℕ × Bool)) (w : Working) (e : Fault) → TellsStep e (in_turn (element_step rules) es w) → TellsStep e (element_pass rules es w)
 elements_refused rules es w (fault.Cause cause) told = element_turns rules es w ∙ ap (λ s. after s (root_step rules es)) told
 elements_refused rules es w fault.Memory told = tt
+
+pub root_refused : {T : Type 0} (rules : List Answers) (es : List (ℕ × Bool)) (w u : Working) (r : Result T Fault) → in_turn (element_step rules) es w ≡ Ok u → IfErr r (λ e. TellsStep e (root_step rules es u)) → IfErr r (λ e. TellsStep e (element_pass rules es w))
+root_refused rules es w u r first told =
+    subst (λ s. IfErr r (λ e. TellsStep e s)) (sym (elements_done rules es w u (root_step rules es u) first refl)) told

@@ -50,7 +50,7 @@ found_in_key other x own (Some t) e = by_tests (has_no_text t.text) ((eqb own.fo
   by_tests false true e = elim e [ inl f ↦ absurd (cc) | inr f ↦ (let g : other ≡ x = cc in g) ]
   by_tests false false e = elim e [ inl f ↦ absurd (cc) | inr f ↦ absurd (cc) ]
 
-found_key : (f : Forest) (o : Option ℕ) (s : Option TextFields) (x : ℕ) → (found_by f o s ≡ Empty x) ⊎ (found_by f o s ≡ Alike x) → o ≡ Some x
+pub found_key : (f : Forest) (o : Option ℕ) (s : Option TextFields) (x : ℕ) → (found_by f o s ≡ Empty x) ⊎ (found_by f o s ≡ Alike x) → o ≡ Some x
 found_key f None s x e = elim e [ inl a ↦ absurd (cc) | inr a ↦ absurd (cc) ]
 found_key f (Some other) None x e = elim e [ inl a ↦ absurd (cc) | inr a ↦ absurd (cc) ]
 found_key f (Some other) (Some own) x e = ap (λ k. Some k) (found_in_key other x own (simple_at f other) e)
@@ -153,7 +153,7 @@ simple_kind (Some l) t e = by_text (text_fields l.kind l.fields) refl e where
   by_text None is f = absurd (cc)
   by_text (Some u) is f = ap (λ x. Some x) (text_kind l.kind l.fields u is)
 
-not_root : (f : Forest) (k : ℕ) (t : TextFields) → IsForest f → simple_at f k ≡ Some t → k ≢ 0
+pub not_root : (f : Forest) (k : ℕ) (t : TextFields) → IsForest f → simple_at f k ≡ Some t → k ≢ 0
 not_root f k t h e root =
     let both : ◌≡◌ {A = Option Kind} (Some kind.Text) (Some kind.Root) = sym (simple_kind (label_of f k) t e) ∙ ap (kind_of f) root ∙ h.root in
     cc

@@ -13,4 +13,12 @@ pub mod Swept
 pub mod Rounds
 pub mod Made
 pub mod Elements
+pub mod Exhausted
+pub mod Moving
+pub mod Neighbours
+pub mod Joinable
+pub mod Placed
+pub mod Alike
+pub mod Refused
+pub mod Told
 pub mod Ends

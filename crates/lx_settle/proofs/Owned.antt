@@ -149,7 +149,7 @@ viewed_kind f q (Some s) v e = cc
 pub view_kind : (f : Forest) (q : ℕ) (v : View) → view_of f q ≡ Some v → kind_of f q ≡ Some v.kind
 view_kind f q v e = viewed_kind f q (spot f q) v e
 
-root_at : (f : Forest) (k : ℕ) (v : View) → IsForest f → k ≡ 0 → view_of f k ≡ Some v → is_root v.kind ≡ true
+pub root_at : (f : Forest) (k : ℕ) (v : View) → IsForest f → k ≡ 0 → view_of f k ≡ Some v → is_root v.kind ≡ true
 unfolding is_root
 root_at f k v h root e =
     let same : v.kind ≡ kind.Root = let both : Some v.kind ≡ Some kind.Root = sym (view_kind f k v e) ∙ ap (kind_of f) root ∙ h.root in cc in

@@ -24,6 +24,7 @@ use Rattle.lx_edit.specs.Conditions.{length_at}
 use Rattle.lx_edit.specs.Edits.{remove_step, children_step, replace_step, wrap_step, unwrap_step}
 use Rattle.lx_rules.specs.Answers.{Answers, asked}
 use Rattle.lx_rules.specs.Idle.{has_work}
+use Rattle.lx_rules.specs.Types.{is_on}
 
 -- ---- one edit
 
@@ -78,6 +79,11 @@ has_work_at (Some v) edit = has_work v edit
 unfoldable pub edit_step : ℕ → SelfEdit → Working → Result Working Cause
 edit_step k edit w =
     if is_attached w.forest k && has_work_at (view_of w.forest k) edit then act_step edit k w else Ok w
+
+-- whether a rule of these types is asked at a node of that kind, if there is one
+abbrev pub is_asked_at : ℕ → Option Kind → Bool
+is_asked_at rows None = false
+is_asked_at rows (Some kind) = is_on rows kind
 
 abbrev pub answered_at : Option View → Answers → List SelfEdit
 answered_at None rule = []

@@ -17,7 +17,7 @@ use lx_step::{NewNode, Patch, SelfEdit};
 use std::alloc::Global;
 
 /// What an edit that has work at the node of the key does there. It is refused as the draft's edits are that
-/// it is made of.
+/// it is made of. What has no work isn't asked for: its new node need not be one that can be made.
 pub(crate) fn act(alloc: Global, draft: &mut Draft, edit: &SelfEdit, key: Key) -> Result<(), Fault>
     requires { acting.has_work_at (view_of draft.old.forest key) edit.now ≡ true }
     ensures ok { OnOk result (act_step edit.now key draft.old ≡ Ok draft.new) }

@@ -1,14 +1,17 @@
-ghost use Rattle.std.specs.Prelude.{◌≡◌, Ok, ◌&&◌, OnOk, IfOk, IfErr, is_some};
+ghost use Rattle.std.specs.Prelude.{◌≡◌, Ok, ◌&&◌, OnOk, IfOk, IfErr, All, is_some};
 ghost use Rattle.lx_marks.specs.Marks.{flag_in};
-ghost use Rattle.lx_forest.specs.Lookups.{is_attached};
+ghost use Rattle.lx_forest.specs.Lookups.{is_attached, kind_of};
 ghost use Rattle.lx_forest.specs.Views.{view_of};
 ghost use Rattle.lx_edit.specs.InTurn.{in_turn};
 ghost use Rattle.lx_rules.specs.Idle as idles;
+ghost use Rattle.lx_links.specs.Stands.{Sound};
+ghost use Rattle.lx_draft.specs.Working.{IsWorking};
 ghost use Rattle.lx_draft.specs.Faults.{TellsStep};
 ghost use Rattle.lx_edit.specs.Standing.{StillStands};
 ghost use Rattle.lx_rules.specs.Answers.{asked};
 ghost use Rattle.lx_settle.specs.Acting as acting;
 ghost use Rattle.lx_settle.specs.Acting.{all_asked};
+ghost use Rattle.lx_settle.specs.Exhausted.{IsExhausted, IsEditInRange, AnswersInRange, AreInRange};
 ghost use Rattle.lx_settle.specs.Passes as passes;
 
 use crate::acting::act;
@@ -21,7 +24,9 @@ use std::alloc::Global;
 
 /// Whether an edit has something to do at the node of a key.
 fn has_work(alloc: Global, draft: &Draft, edit: &SelfEdit, key: Key) -> Result<bool, NoMemory>
-    ensures { IfOk result (λ work. work ≡ (is_attached draft.now.forest key && acting.has_work_at (view_of draft.now.forest key) edit.now)) }
+    ensures work { IfOk result (λ work. work ≡ (is_attached draft.now.forest key && acting.has_work_at (view_of draft.now.forest key) edit.now)) }
+    ensures sound { Sound draft.now.forest }
+    ensures holds { IsWorking draft.now }
 {
     if !draft.links().is_attached(key) {
         return Ok(false);
@@ -47,6 +52,7 @@ fn run_edit(alloc: Global, draft: &mut Draft, edit: &SelfEdit, key: Key) -> Resu
     ensures ok { OnOk result (acting.edit_step key edit.now draft.old ≡ Ok draft.new) }
     ensures err { IfErr result (λ e. TellsStep e (acting.edit_step key edit.now draft.old)) }
     ensures standing { IfErr result (λ e. StillStands e draft.new) }
+    ensures refused { IsEditInRange edit.now → IfErr result IsExhausted }
 {
     if has_work(alloc, draft, edit, key)? {
         act(alloc, draft, edit, key)
@@ -61,6 +67,7 @@ fn run_edits(alloc: Global, draft: &mut Draft, edits: &[SelfEdit], key: Key) -> 
     ensures ok { OnOk result (in_turn (acting.edit_step key) edits.now draft.old ≡ Ok draft.new) }
     ensures err { IfErr result (λ e. TellsStep e (in_turn (acting.edit_step key) edits.now draft.old)) }
     ensures standing { IfErr result (λ e. StillStands e draft.new) }
+    ensures refused { All IsEditInRange edits.now → IfErr result IsExhausted }
 {
     for edit in edits {
         match run_edit(alloc, draft, edit, key) {
@@ -71,7 +78,7 @@ fn run_edits(alloc: Global, draft: &mut Draft, edits: &[SelfEdit], key: Key) -> 
     Ok(())
 }
 
-/// What a rule answers at the node of a key.
+/// What a rule answers at the node of a key. A view is made only where the node is of the rule's types.
 fn answered<T: Transform>(
     alloc: Global,
     draft: &Draft,
@@ -80,15 +87,22 @@ fn answered<T: Transform>(
 ) -> Result<Vec<SelfEdit>, NoMemory>
     ensures { IfOk result (λ edits. edits.items ≡ acting.answered_at (view_of draft.now.forest key) (asked (T.rows rule.now) (T.answers rule.now))) }
 {
+    if !is_asked(draft, rule, key) {
+        return Ok(Vec::new(alloc));
+    }
     match draft.links().view(key)? {
-        Some(view) => {
-            if rule.on().has(view.kind) {
-                rule.acts(alloc, &view)
-            } else {
-                Ok(Vec::new(alloc))
-            }
-        }
+        Some(view) => rule.acts(alloc, &view),
         None => Ok(Vec::new(alloc)),
+    }
+}
+
+/// Whether a rule is asked at the node of a key: there is one, and it is of its types.
+fn is_asked<T: Transform>(draft: &Draft, rule: &T, key: Key) -> bool
+    ensures { result ≡ acting.is_asked_at (T.rows rule.now) (kind_of draft.now.forest key) }
+{
+    match draft.links().kind(key) {
+        Some(kind) => rule.on().has(kind),
+        None => false,
     }
 }
 
@@ -98,6 +112,7 @@ fn run_rule<T: Transform>(alloc: Global, draft: &mut Draft, rule: &T, key: Key) 
     ensures ok { OnOk result (acting.rule_step key (asked (T.rows rule.now) (T.answers rule.now)) draft.old ≡ Ok draft.new) }
     ensures err { IfErr result (λ e. TellsStep e (acting.rule_step key (asked (T.rows rule.now) (T.answers rule.now)) draft.old)) }
     ensures standing { IfErr result (λ e. StillStands e draft.new) }
+    ensures refused { AnswersInRange (asked (T.rows rule.now) (T.answers rule.now)) → IfErr result IsExhausted }
 {
     let edits = answered(alloc, draft, rule, key)?;
     run_edits(alloc, draft, edits.as_slice(), key)
@@ -114,6 +129,7 @@ pub(crate) fn run_rules<T: Transform>(
     ensures ok { OnOk result (acting.rules_step (all_asked T.rows T.answers rules.now) key draft.old ≡ Ok draft.new) }
     ensures err { IfErr result (λ e. TellsStep e (acting.rules_step (all_asked T.rows T.answers rules.now) key draft.old)) }
     ensures standing { IfErr result (λ e. StillStands e draft.new) }
+    ensures refused { AreInRange T.rows T.answers rules.now → IfErr result IsExhausted }
 {
     for rule in rules {
         match run_rule(alloc, draft, rule, key) {
@@ -135,10 +151,13 @@ fn take_leaf<T: Transform>(
     ensures ok { OnOk result (passes.leaf_step (all_asked T.rows T.answers rules.now) key draft.old ≡ Ok draft.new) }
     ensures err { IfErr result (λ e. TellsStep e (passes.leaf_step (all_asked T.rows T.answers rules.now) key draft.old)) }
     ensures standing { IfErr result (λ e. StillStands e draft.new) }
+    ensures refused { AreInRange T.rows T.answers rules.now → IfErr result IsExhausted }
 {
     if draft.links().is_attached(key) {
-        join_around(alloc, draft, key)?;
-        run_rules(alloc, draft, rules, key)
+        match join_around(alloc, draft, key) {
+            Ok(()) => run_rules(alloc, draft, rules, key),
+            Err(fault) => Err(fault),
+        }
     } else {
         Ok(())
     }
@@ -155,6 +174,7 @@ pub(crate) fn leaf_pass<T: Transform>(
     ensures ok { OnOk result (passes.leaf_pass (all_asked T.rows T.answers rules.now) keys.now draft.old ≡ Ok draft.new) }
     ensures err { IfErr result (λ e. TellsStep e (passes.leaf_pass (all_asked T.rows T.answers rules.now) keys.now draft.old)) }
     ensures standing { IfErr result (λ e. StillStands e draft.new) }
+    ensures refused { AreInRange T.rows T.answers rules.now → IfErr result IsExhausted }
 {
     for key in keys {
         match take_leaf(alloc, draft, rules, *key) {
@@ -176,6 +196,7 @@ fn take_element<T: Transform>(
     ensures ok { OnOk result (passes.element_step (all_asked T.rows T.answers rules.now) element.now draft.old ≡ Ok draft.new) }
     ensures err { IfErr result (λ e. TellsStep e (passes.element_step (all_asked T.rows T.answers rules.now) element.now draft.old)) }
     ensures standing { IfErr result (λ e. StillStands e draft.new) }
+    ensures refused { AreInRange T.rows T.answers rules.now → IfErr result IsExhausted }
 {
     let (node, flag) = *element;
     if flag && node != Key::root() {
@@ -196,6 +217,7 @@ fn take_elements<T: Transform>(
     ensures ok { OnOk result (in_turn (passes.element_step (all_asked T.rows T.answers rules.now)) elements.now draft.old ≡ Ok draft.new) }
     ensures err { IfErr result (λ e. TellsStep e (in_turn (passes.element_step (all_asked T.rows T.answers rules.now)) elements.now draft.old)) }
     ensures standing { IfErr result (λ e. StillStands e draft.new) }
+    ensures refused { AreInRange T.rows T.answers rules.now → IfErr result IsExhausted }
 {
     for element in elements {
         match take_element(alloc, draft, rules, element) {
@@ -229,6 +251,7 @@ fn take_root<T: Transform>(
     ensures ok { OnOk result (passes.root_step (all_asked T.rows T.answers rules.now) elements.now draft.old ≡ Ok draft.new) }
     ensures err { IfErr result (λ e. TellsStep e (passes.root_step (all_asked T.rows T.answers rules.now) elements.now draft.old)) }
     ensures standing { IfErr result (λ e. StillStands e draft.new) }
+    ensures refused { AreInRange T.rows T.answers rules.now → IfErr result IsExhausted }
 {
     if has_root(elements) {
         run_rules(alloc, draft, rules, Key::root())
@@ -248,6 +271,7 @@ pub(crate) fn element_pass<T: Transform>(
     ensures ok { OnOk result (passes.element_pass (all_asked T.rows T.answers rules.now) elements.now draft.old ≡ Ok draft.new) }
     ensures err { IfErr result (λ e. TellsStep e (passes.element_pass (all_asked T.rows T.answers rules.now) elements.now draft.old)) }
     ensures standing { IfErr result (λ e. StillStands e draft.new) }
+    ensures refused { AreInRange T.rows T.answers rules.now → IfErr result IsExhausted }
 {
     take_elements(alloc, draft, rules, elements)?;
     take_root(alloc, draft, rules, elements)
