@@ -8,9 +8,10 @@ use Rattle.lx_node.specs.declared.cause.Cause.TheVariants.{BadLine, BadCommand}
 use Rattle.lx_node.specs.declared.cause.Fault.{Fault}
 use Rattle.lx_node.specs.declared.cause.Fault.TheVariants.{Cause as Refused, Memory}
 use Rattle.lx_step.specs.declared.line.Form.{Form}
-use Rattle.lx_step.specs.declared.line.Form.TheVariants.{Update, Show}
+use Rattle.lx_step.specs.declared.line.Form.TheVariants.{Update, Rule, Show}
 use Rattle.lx_step.specs.declared.line.Line.{Line}
 use Rattle.lx_step.specs.Lines.{line_with}
+use Rattle.lx_script.specs.Rules.{rule_of}
 use Rattle.lx_script.specs.Steps.{step_of}
 use Rattle.lx_script.specs.Values.{named, has_only, required, list_of}
 use Rattle.lx_script.specs.Words.{questions}
@@ -23,13 +24,17 @@ IsJson bytes d = IsUtf8 bytes × (read bytes ≡ Some d)
 abbrev pub update_of : Data → Option Form
 update_of d = if has_only (codes "update" ∷ []) d then option_map (λ steps. Update steps) (required (list_of step_of) (codes "update") d) else None
 
+-- {"rule":RULE}
+abbrev pub rule_form_of : Data → Option Form
+rule_form_of d = if has_only (codes "rule" ∷ []) d then option_map (λ rule. Rule rule) (required rule_of (codes "rule") d) else None
+
 -- {"show":"view"} or {"show":"selection"}
 abbrev pub show_of : Data → Option Form
 show_of d = if has_only (codes "show" ∷ []) d then option_map (λ shown. Show shown) (required (named questions) (codes "show") d) else None
 
--- a line: an update, or a question, neither with a moment nor with tags
+-- a line: an update, a rule or a question, without a moment and without tags
 unfoldable pub line_of : Data → Option Line
-line_of d = option_map line_with (option_or (update_of d) (show_of d))
+line_of d = option_map line_with (option_or (update_of d) (option_or (rule_form_of d) (show_of d)))
 
 -- Made of a value that asks for this, or for nothing: the line, a refusal as no command, or want of memory.
 abbrev pub Makes : Option Line → Result Line Fault → Type 0

@@ -4,6 +4,7 @@ pub mod Members
 pub mod NewNodes
 pub mod References
 pub mod Replies
+pub mod Rules
 pub mod Steps
 pub mod Values
 pub mod Words

@@ -2,7 +2,7 @@
 use Rattle.std.specs.Prelude.{◌==◌, ℕ, ◌+◌, List, [], ◌∷◌, Bool, false, ◌&&◌, leb, chars, is_some, if◌then◌else◌, Option, None, Some, option_map, option_and_then}
 use Rattle.std.specs.Option.{option_zip}
 use Rattle.std.specs.Str.{bytes_eq}
-use Rattle.serde_json.specs.Data.{Data, null, object, Items, no_items, item}
+use Rattle.serde_json.specs.Data.{Data, null, object, no_members, member, Items, no_items, item}
 use Rattle.serde_json.specs.Events.{members_len}
 use Rattle.serde_json.specs.Find.{get, as_str, as_array, as_number, as_u64}
 
@@ -62,6 +62,11 @@ optional_in reads (Some d) = option_map (λ a. Some a) (reads d)
 -- a member that may be missing
 abbrev pub optional : {A : Type 0} → (Data → Option A) → List ℕ → Data → Option (Option A)
 optional reads name d = optional_in reads (get name d)
+
+-- what the name of an object's only member stands for in a table of words, and the member's value
+abbrev pub only_member : {A : Type 0} → List (List ℕ × A) → Data → Option (A × Data)
+only_member rows (object (member name d no_members)) = option_map (λ word. (word, d)) (word_in rows name)
+only_member rows d = None
 
 -- ---- lists
 

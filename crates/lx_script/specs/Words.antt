@@ -5,7 +5,7 @@ use Rattle.serde_json.specs.Data.{Data}
 use Rattle.serde_json.specs.Find.{as_str}
 use Rattle.lx_node.specs.Kinds.{type_name}
 use Rattle.lx_node.specs.declared.kind.Kind.{Kind}
-use Rattle.lx_node.specs.declared.kind.Kind.TheVariants.{Paragraph, Heading, Quote, List as ListKind, Item, Link, Table, Row, Cell, Text, Tab, Break, Rule, Embed}
+use Rattle.lx_node.specs.declared.kind.Kind.TheVariants.{Root, Paragraph, Heading, Quote, List as ListKind, Item, Link, Table, Row, Cell, Text, Tab, Break, Rule, Embed}
 use Rattle.lx_node.specs.declared.kind.ListType.{ListType}
 use Rattle.lx_node.specs.declared.kind.ListType.TheVariants.{Bullet, Number, Check}
 use Rattle.lx_node.specs.declared.fields.Mode.{Mode}
@@ -18,6 +18,10 @@ use Rattle.lx_node.specs.declared.cause.PointKind.{PointKind}
 use Rattle.lx_node.specs.declared.cause.PointKind.TheVariants as point
 use Rattle.lx_step.specs.declared.line.Shown.{Shown}
 use Rattle.lx_step.specs.declared.line.Shown.TheVariants as shown
+use Rattle.lx_script.specs.declared.words.ConditionWord.{ConditionWord}
+use Rattle.lx_script.specs.declared.words.ConditionWord.TheVariants as condition
+use Rattle.lx_script.specs.declared.words.EditWord.{EditWord}
+use Rattle.lx_script.specs.declared.words.EditWord.TheVariants as edit
 use Rattle.lx_script.specs.declared.words.Name.{Name}
 use Rattle.lx_script.specs.declared.words.Name.TheVariants as name
 use Rattle.lx_script.specs.declared.words.Verb.{Verb}
@@ -36,6 +40,10 @@ kind_in (kind ∷ kinds) text = if bytes_eq (type_name kind) text then Some kind
 -- the kind whose type a string is
 abbrev pub kind_named : Data → Option Kind
 kind_named d = option_and_then (kind_in made_kinds) (as_str d)
+
+-- the kind whose type a string is, where the root's type is one too
+abbrev pub type_named : Data → Option Kind
+type_named d = option_and_then (kind_in (Root ∷ made_kinds)) (as_str d)
 
 -- what a heading's tag says of its level
 abbrev pub levels : List (List ℕ × ℕ)
@@ -79,3 +87,16 @@ verbs =
     ∷ (codes "replace", verb.Replace) ∷ (codes "set", verb.Set) ∷ (codes "mark", verb.Mark) ∷ (codes "split", verb.Split)
     ∷ (codes "join", verb.Join) ∷ (codes "wrap", verb.Wrap) ∷ (codes "unwrap", verb.Unwrap) ∷ (codes "children", verb.Children)
     ∷ (codes "select", verb.Select) ∷ []
+
+-- the words by which the conditions of rules are told apart, and their edits
+abbrev pub condition_words : List (List ℕ × ConditionWord)
+condition_words =
+    (codes "text", condition.Text) ∷ (codes "contains", condition.Contains) ∷ (codes "shorter", condition.Shorter)
+    ∷ (codes "format", condition.Format) ∷ (codes "parent", condition.Parent) ∷ (codes "previous", condition.Previous)
+    ∷ (codes "next", condition.Next) ∷ (codes "childless", condition.Childless) ∷ []
+
+abbrev pub edit_words : List (List ℕ × EditWord)
+edit_words =
+    (codes "set", edit.Set) ∷ (codes "add", edit.Add) ∷ (codes "remove", edit.Remove) ∷ (codes "replace", edit.Replace)
+    ∷ (codes "wrap", edit.Wrap) ∷ (codes "unwrap", edit.Unwrap) ∷ (codes "before", edit.Before) ∷ (codes "after", edit.After)
+    ∷ (codes "child", edit.Child) ∷ (codes "mergenext", edit.MergeNext) ∷ []

@@ -1,3 +1,4 @@
 pub mod Lines
 pub mod Patches
 pub mod Sound
+pub mod Types

@@ -1,3 +1,4 @@
+use crate::rule::Rule;
 use crate::steps::Steps;
 
 /// What a line of input asks for.
@@ -25,6 +26,8 @@ pub struct Tags {
 pub enum Form {
     /// An update by these steps, in their order.
     Update(Steps),
+    /// A rule that is registered.
+    Rule(Rule),
     /// A question, which changes nothing.
     Show(Shown),
 }

@@ -11,6 +11,34 @@ use std::alloc::Global;
 #[derive(Clone, Copy, Debug, PartialEq, Eq, Hash)]
 pub struct TypeRow(pub u8);
 
+impl TypeRow {
+    ghost use Rattle.lx_step.specs.Types.{type_of};
+
+    /// The type of a kind.
+    #[tactic(auto, unfolding(crate::specs::Types::row_of))]
+    pub fn of(kind: Kind) -> TypeRow
+        ensures { result ≡ type_of kind }
+    {
+        TypeRow(match kind {
+            Kind::Root => 0,
+            Kind::Paragraph => 1,
+            Kind::Heading(_) => 2,
+            Kind::Quote => 3,
+            Kind::List(_) => 4,
+            Kind::Item => 5,
+            Kind::Link => 6,
+            Kind::Table => 7,
+            Kind::Row => 8,
+            Kind::Cell => 9,
+            Kind::Text => 10,
+            Kind::Tab => 11,
+            Kind::Break => 12,
+            Kind::Rule => 13,
+            Kind::Embed => 14,
+        })
+    }
+}
+
 /// A rule of a script: at a node of its type where all conditions hold it answers its edits, and else none.
 #[derive(Debug, Drop)]
 pub struct Rule {
