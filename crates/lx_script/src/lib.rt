@@ -1,12 +1,14 @@
 //! Lines of the program's input, and the replies to them: what JSON asks for, and how an answer is
 //! written.
 //!
-//! A line is an update by steps, or a question. Each step is an object that names its members and has no
+//! A line is an update by steps, a rule, or a question. Each step is an object that names its members and has no
 //! others; `specs/Grammar.antt` begins the grammar, which is stated over JSON values. The fields of nodes
 //! are read from the same table for new nodes, for patches and for documents.
 #![tactic(auto)]
 
 mod causes;
+mod conditions;
+mod edits;
 mod fields;
 mod members;
 mod new_nodes;
@@ -14,6 +16,7 @@ mod ops;
 mod read;
 mod references;
 mod reply;
+mod rules;
 mod selection;
 mod steps;
 mod values;

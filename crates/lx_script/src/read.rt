@@ -3,8 +3,9 @@
 ghost use Rattle.std.specs.Prelude.{◌≡◌, IfOk};
 ghost use Rattle.serde_json.specs.View.{view};
 ghost use Rattle.lx_step.specs.Sound.{IsSoundForm};
-ghost use Rattle.lx_script.specs.Grammar.{TellsLine, Makes, line_of as line_of_data, update_of as update_of_data, show_of as show_of_data};
+ghost use Rattle.lx_script.specs.Grammar.{TellsLine, Makes, line_of as line_of_data, update_of as update_of_data, rule_form_of as rule_form_of_data, show_of as show_of_data};
 
+use crate::rules::rule_of;
 use crate::steps::steps_of;
 use crate::values::has_only;
 use crate::words::shown_of;
@@ -45,6 +46,22 @@ fn update_of(alloc: Global, value: &Value) -> Result<Option<Form>, NoMemory>
     }
 }
 
+/// A rule that is registered.
+fn rule_form_of(alloc: Global, value: &Value) -> Result<Option<Form>, NoMemory>
+    ensures { IfOk result (λ made. made ≡ rule_form_of_data (view value.now)) }
+{
+    if !has_only(&["rule"], value) {
+        return Ok(None);
+    }
+    let Some(rule) = value.get("rule") else {
+        return Ok(None);
+    };
+    match rule_of(alloc, rule)? {
+        Some(rule) => Ok(Some(Form::Rule(rule))),
+        None => Ok(None),
+    }
+}
+
 /// A question.
 fn show_of(value: &Value) -> Option<Form>
     ensures { result ≡ show_of_data (view value.now) }
@@ -65,6 +82,11 @@ fn line_of(alloc: Global, value: &Value) -> Result<Line, Fault>
     ensures sound { IfOk result (λ line. IsSoundForm line.form) }
 {
     match update_of(alloc, value) {
+        Ok(Some(form)) => return Ok(Line::of(form)),
+        Ok(None) => {}
+        Err(_) => return Err(Fault::Memory),
+    }
+    match rule_form_of(alloc, value) {
         Ok(Some(form)) => return Ok(Line::of(form)),
         Ok(None) => {}
         Err(_) => return Err(Fault::Memory),

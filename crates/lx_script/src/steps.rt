@@ -212,7 +212,7 @@ fn two_of(
 }
 
 /// The object of a new node's fields, or what stands for none.
-fn fields_or<'v>(value: &'v Value, nothing: &'v Value) -> Option<&'v Value>
+pub(crate) fn fields_or<'v>(value: &'v Value, nothing: &'v Value) -> Option<&'v Value>
     requires { view nothing.now ≡ null }
     ensures { option_map (λ found. view found.now) result ≡ steps.fields_in (get (codes "fields") (view value.now)) }
 {

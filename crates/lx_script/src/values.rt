@@ -1,6 +1,6 @@
 //! What the grammar asks of a JSON value.
 
-ghost use Rattle.std.specs.Prelude.{◌≡◌, map, IfOk};
+ghost use Rattle.std.specs.Prelude.{◌≡◌, map, option_map, IfOk};
 ghost use Rattle.serde_json.specs.View.{view};
 ghost use Rattle.lx_script.specs.Values as values;
 
@@ -56,6 +56,24 @@ pub(crate) fn has_only(names: &[&str], value: &Value) -> bool
         }
     }
     members.len() == present
+}
+
+/// What the name of an object's only member stands for in a table of words, and the member's value.
+pub(crate) fn only_member<'v, T: Copy>(
+    rows: &[(&str, T)],
+    value: &'v Value,
+) -> Option<(T, &'v Value)>
+    ensures { option_map (λ found. (found.0, view found.1.now)) result ≡ values.only_member (map (λ row. (row.0.now, row.1)) rows.now) (view value.now) }
+{
+    let members = value.as_object()?;
+    if members.len() != 1 {
+        return None;
+    }
+    let (name, member) = members.first_key_value()?;
+    match word_in(rows, name.as_str()) {
+        Some(word) => Some((word, member)),
+        None => None,
+    }
 }
 
 /// The characters of a string.

@@ -1,11 +1,11 @@
 //! The words of the grammar, and what they stand for.
 
-ghost use Rattle.std.specs.Prelude.{◌≡◌};
+ghost use Rattle.std.specs.Prelude.{◌≡◌, option_map};
 ghost use Rattle.serde_json.specs.View.{view};
 ghost use Rattle.lx_script.specs.Words as words;
 ghost use Rattle.lx_script.specs.Values as values;
 
-use crate::values::{first_member, named, word_in};
+use crate::values::{first_member, named, only_member, word_in};
 use lx_node::{Align, Direction, Kind, ListType, Mode, PointKind};
 use lx_step::Shown;
 use serde_json::Value;
@@ -56,6 +56,34 @@ pub(crate) enum Verb {
     Select,
 }
 
+/// What a condition of a rule asks, by the word that tells it from others.
+#[derive(Clone, Copy, Debug, PartialEq, Eq, Hash)]
+pub(crate) enum ConditionWord {
+    Text,
+    Contains,
+    Shorter,
+    Format,
+    Parent,
+    Previous,
+    Next,
+    Childless,
+}
+
+/// What an edit of a rule does, by the word that tells it from others.
+#[derive(Clone, Copy, Debug, PartialEq, Eq, Hash)]
+pub(crate) enum EditWord {
+    Set,
+    Add,
+    Remove,
+    Replace,
+    Wrap,
+    Unwrap,
+    Before,
+    After,
+    Child,
+    MergeNext,
+}
+
 /// The kind of a type among these.
 fn kind_in(kinds: &[Kind], text: &str) -> Option<Kind>
     ensures { result ≡ words.kind_in kinds.now text.now }
@@ -91,6 +119,21 @@ pub(crate) fn kind_of(value: &Value) -> Option<Kind>
     ];
     match value.as_str() {
         Some(text) => kind_in(&kinds, text),
+        None => None,
+    }
+}
+
+/// The kind whose type a string is, for all kinds.
+pub(crate) fn type_of(value: &Value) -> Option<Kind>
+    ensures { result ≡ words.type_named (view value.now) }
+{
+    match value.as_str() {
+        Some(text) => {
+            if Kind::Root.type_name() == text {
+                return Some(Kind::Root);
+            }
+            kind_of(value)
+        }
         None => None,
     }
 }
@@ -232,6 +275,46 @@ pub(crate) fn verb_of(value: &Value) -> Option<Verb>
             ("unwrap", Verb::Unwrap),
             ("children", Verb::Children),
             ("select", Verb::Select),
+        ],
+        value,
+    )
+}
+
+/// What a condition asks, by the name of its only member, and the member's value.
+pub(crate) fn condition_in(value: &Value) -> Option<(ConditionWord, &Value)>
+    ensures { option_map (λ found. (found.0, view found.1.now)) result ≡ values.only_member words.condition_words (view value.now) }
+{
+    only_member(
+        &[
+            ("text", ConditionWord::Text),
+            ("contains", ConditionWord::Contains),
+            ("shorter", ConditionWord::Shorter),
+            ("format", ConditionWord::Format),
+            ("parent", ConditionWord::Parent),
+            ("previous", ConditionWord::Previous),
+            ("next", ConditionWord::Next),
+            ("childless", ConditionWord::Childless),
+        ],
+        value,
+    )
+}
+
+/// What an edit does, by the name of its only member, and the member's value.
+pub(crate) fn edit_in(value: &Value) -> Option<(EditWord, &Value)>
+    ensures { option_map (λ found. (found.0, view found.1.now)) result ≡ values.only_member words.edit_words (view value.now) }
+{
+    only_member(
+        &[
+            ("set", EditWord::Set),
+            ("add", EditWord::Add),
+            ("remove", EditWord::Remove),
+            ("replace", EditWord::Replace),
+            ("wrap", EditWord::Wrap),
+            ("unwrap", EditWord::Unwrap),
+            ("before", EditWord::Before),
+            ("after", EditWord::After),
+            ("child", EditWord::Child),
+            ("mergenext", EditWord::MergeNext),
         ],
         value,
     )

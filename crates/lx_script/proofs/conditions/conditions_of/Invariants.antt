@@ -1,0 +1,8 @@
+use Rattle.std.proofs.Common.{drop}
+use Rattle.serde_json.specs.View.{items_view}
+use Rattle.lx_script.specs.Rules.{condition_of}
+use Rattle.lx_script.proofs.Gathered.{IsGathered}
+use Rattle.lx_script.proofs.conditions.conditions_of.Given as goal
+
+abbrev pub invariant-items : goal.invariant-items
+invariant-items l = IsGathered condition_of l.made.items (items_view (drop l.item-index l.items)) (items_view l.items)
