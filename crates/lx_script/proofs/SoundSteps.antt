@@ -1,4 +1,4 @@
--- Each step that the grammar makes is sound.
+-- Each step that the grammar makes is sound, and each rule.
 use Rattle.std.proofs.Common.{◌≡◌, ◌≢◌, refl, ap, subst, ℕ, chars, List, [], ◌∷◌, Bool, true, false, ◌&&◌, leb, IsTrue, All, codes, if◌then◌else◌, Option, None, Some, option_map, option_and_then, is_some, Result, Ok, Err}
 use Rattle.std.specs.Option.{option_zip}
 use Rattle.std.specs.Result.{result_ok}
@@ -12,7 +12,7 @@ use Rattle.lx_node.specs.declared.fields.Fields.{Fields}
 use Rattle.lx_node.specs.Kinds.{is_possible, type_name}
 use Rattle.lx_node.specs.OfKind.{IsOfKind}
 use Rattle.lx_step.specs.declared.line.Form.{Form}
-use Rattle.lx_step.specs.declared.line.Form.TheVariants.{Update}
+use Rattle.lx_step.specs.declared.line.Form.TheVariants.{Update, Rule}
 use Rattle.lx_step.specs.declared.member.Member.{Member}
 use Rattle.lx_step.specs.declared.member.Member.TheVariants.{Other}
 use Rattle.lx_step.specs.declared.reference.Reference.{Reference}
@@ -25,10 +25,11 @@ use Rattle.lx_script.specs.declared.words.Name.TheVariants as name
 use Rattle.lx_script.specs.declared.words.Verb.{Verb}
 use Rattle.lx_script.specs.declared.words.Verb.TheVariants as verb
 use Rattle.lx_script.specs.Documents.{document_fields, members_in}
-use Rattle.lx_script.specs.Grammar.{update_of}
+use Rattle.lx_script.specs.Grammar.{update_of, rule_form_of}
 use Rattle.lx_script.specs.Members.{patch_member, patch_members, patch_of}
 use Rattle.lx_script.specs.NewNodes.{or_default, kind_with, may_all_be_given, new_fields}
 use Rattle.lx_script.specs.References.{reference_of, selection_of}
+use Rattle.lx_script.specs.Rules.{rule_of}
 use Rattle.lx_script.specs.Steps.{fields_in, new_in, new_with, new_of, set_of, patch_from, one_node, two_nodes, step_for, step_of, truth_in}
 use Rattle.lx_script.specs.Values.{word_in, named, string_of, whole_of, number_within, has_only, required, optional, first_member, all_of, list_of}
 use Rattle.lx_script.specs.Words.{kind_in, kind_named, levels, list_types, made_kinds, names, verbs}
@@ -260,3 +261,8 @@ update_of_sound d form is =
     (λ made at. chained (All IsSound) (list_of step_of) (get (codes "update") d)
     (λ e there. chained (All IsSound) (all_of step_of) (as_array e) (λ items in_it. all_hold IsSound step_of step_of_sound items)) made at))
     form is
+
+pub rule_form_of_sound : (d : Data) (form : Form) → rule_form_of d ≡ Some form → IsSoundForm form
+rule_form_of_sound d form is =
+    let rule = required rule_of (codes "rule") d in
+    tested IsSoundForm (has_only (codes "rule" ∷ []) d) (option_map (λ rule. Rule rule) rule) (mapped IsSoundForm (λ rule. Rule rule) rule (λ made at. tt)) form is

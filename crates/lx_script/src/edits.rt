@@ -139,7 +139,11 @@ fn edits_of(alloc: Global, kind: Kind, items: &[Value]) -> Result<Option<SelfEdi
 }
 
 /// What a rule does with its node, which is of the kind's type.
-pub(crate) fn done_by(alloc: Global, kind: Kind, rule: &Value) -> Result<Option<SelfEdits>, NoMemory>
+pub(crate) fn done_by(
+    alloc: Global,
+    kind: Kind,
+    rule: &Value,
+) -> Result<Option<SelfEdits>, NoMemory>
     ensures { IfOk result (λ made. made ≡ values.required (values.list_of (rules.edit_of kind)) (codes "do") (view rule.now)) }
 {
     match rule.get("do").and_then(Value::as_array) {
