@@ -40,8 +40,8 @@ pub(crate) fn where_true<T: Drop>(meant: T, value: &Value) -> Option<T>
     ensures { result ≡ rules.where_true meant (view value.now) }
 {
     match value.as_bool() {
-        Some(truth) => { if truth { Some(meant) } else { None } }
-        None => None,
+        Some(true) => Some(meant),
+        _ => None,
     }
 }
 

@@ -66,7 +66,8 @@ pub(crate) fn only_member<'v, T: Copy>(
     ensures { option_map (λ found. (found.0, view found.1.now)) result ≡ values.only_member (map (λ row. (row.0.now, row.1)) rows.now) (view value.now) }
 {
     let members = value.as_object()?;
-    if members.len() != 1 {
+    let is_only = members.len() == 1;
+    if !is_only {
         return None;
     }
     let (name, member) = members.first_key_value()?;
