@@ -53,6 +53,7 @@ fn added_on(alloc: Global, kind: Kind, value: &Value) -> Result<Option<Txt>, NoM
     Ok(Some(Txt::new(alloc, text)?))
 }
 
+/// A new node of the kind, whose fields the object gives.
 fn new_node_in(alloc: Global, kind: Kind, object: &Value) -> Result<Option<NewNode>, NoMemory>
     ensures { IfOk result (λ made. made ≡ rules.new_node_in kind (view object.now)) }
 {
@@ -62,7 +63,7 @@ fn new_node_in(alloc: Global, kind: Kind, object: &Value) -> Result<Option<NewNo
     }
 }
 
-/// A new node of the type, whose fields the object gives.
+/// A new node of the type. A heading's level and a list's type are those that the object gives.
 fn new_node_with(alloc: Global, kind: Kind, object: &Value) -> Result<Option<NewNode>, NoMemory>
     ensures { IfOk result (λ made. made ≡ rules.new_node_with kind (view object.now)) }
 {
@@ -72,7 +73,7 @@ fn new_node_with(alloc: Global, kind: Kind, object: &Value) -> Result<Option<New
     }
 }
 
-/// A new node.
+/// A new node, by its type and an object of fields, which may be missing.
 fn new_node_of(alloc: Global, value: &Value) -> Result<Option<NewNode>, NoMemory>
     ensures { IfOk result (λ made. made ≡ rules.new_node_of (view value.now)) }
 {
