@@ -5,7 +5,8 @@ use Rattle.std.proofs.lemmas.Bool.Decides.{Decides-eqb, nat_tests}
 use Rattle.std.proofs.lemmas.Nat.Bits.{bit_at-zero, bit_at-pow_same, bit_at-pow_other}
 use Rattle.lx_node.specs.declared.kind.Kind.{Kind}
 use Rattle.lx_node.specs.declared.kind.Kind.TheVariants.{Root, Paragraph, Heading, Quote, List as ListKind, Item, Link, Table, Row, Cell, Text, Tab, Break, Rule, Embed}
-use Rattle.lx_rules.specs.Types.{row_of, is_on, set_of_row}
+use Rattle.lx_step.specs.Types.{row_of}
+use Rattle.lx_rules.specs.Types.{is_on, set_of_row}
 
 one_bit : (row k : ℕ) (b : Bool) → (row == k) ≡ b → ((2 ^ row / 2 ^ k) % 2 == 1) ≡ b
 one_bit row k true e = ap (λ n. (2 ^ n / 2 ^ k) % 2 == 1) ((Decides-eqb row k).0 e) ∙ ap (λ n. n == 1) (bit_at-pow_same k)
@@ -14,7 +15,7 @@ one_bit row k false e = ap (λ n. n == 1) (bit_at-pow_other row k (λ same. absu
 no_bit : (row k : ℕ) → (row < 15 → ⊥) → k < 15 → ((0 / 2 ^ k) % 2 == 1) ≡ (row == k)
 no_bit row k beyond within = ap (λ n. n == 1) (bit_at-zero k) ∙ grind (arith, nat_tests, beyond)
 
-row_within : (kind : Kind) → row_of kind < 15
+pub row_within : (kind : Kind) → row_of kind < 15
 unfolding row_of
 row_within Root = omega arith
 row_within Paragraph = omega arith

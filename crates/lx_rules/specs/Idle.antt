@@ -8,7 +8,8 @@ use Rattle.lx_node.specs.declared.kind.Kind.{Kind}
 use Rattle.lx_node.specs.declared.kind.Kind.TheVariants as kind
 use Rattle.lx_node.specs.declared.fields.Fields.{Fields}
 use Rattle.lx_node.specs.declared.node.View.{View}
-use Rattle.lx_step.specs.Patches.{patched}
+use Rattle.lx_step.specs.Patches.{patched, is_in_range}
+use Rattle.lx_step.specs.declared.member.Member.{Member}
 use Rattle.lx_step.specs.declared.rule.NewNode.{NewNode}
 use Rattle.lx_step.specs.declared.rule.SelfEdit.{SelfEdit}
 use Rattle.lx_step.specs.declared.rule.SelfEdit.TheVariants.{Set, Add, Remove, Replace, Wrap, Unwrap, Before, After, Child, MergeNext}
@@ -33,6 +34,11 @@ abbrev pub differs : Option Fields → Fields → Bool
 differs None old = false
 differs (Some made) old = not (same_fields made old)
 
+-- Members change the fields of a node: their numbers are within their ranges, all of them can be set on the kind, and what
+-- they make of the fields is something else.
+abbrev pub changes : Kind → List Member → Fields → Bool
+changes kind members old = list_all is_in_range members && differs (patched kind members old) old
+
 abbrev pub has_text : List ℕ → Bool
 has_text [] = false
 has_text (c ∷ text) = true
@@ -43,7 +49,7 @@ may_stand v new = is_suited new && (not (is_root v.kind) && is_held v.parent new
 
 -- Whether an edit has something to do at a view: it is one that the kinds allow, and its end isn't reached.
 abbrev pub has_work : View → SelfEdit → Bool
-has_work v (Set patch) = differs (patched v.kind patch.members v.fields) v.fields
+has_work v (Set patch) = changes v.kind patch.members v.fields
 has_work v (Add text) = is_text v.kind && has_text text
 has_work v Remove = not (is_root v.kind)
 has_work v (Replace new) = may_stand v new && (not (same_kind v.kind new.kind) && list_all (may_hold new.kind) v.children)

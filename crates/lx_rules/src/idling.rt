@@ -1,8 +1,10 @@
 ghost use Rattle.std.specs.Prelude.{◌≡◌, not};
 ghost use Rattle.std.specs.List.{list_all, list_any};
 ghost use Rattle.lx_node.specs.Kinds as kinds;
+ghost use Rattle.lx_node.specs.OfKind as of_kind;
 ghost use Rattle.lx_node.specs.Same.{same_fields};
-ghost use Rattle.lx_step.specs.Patches.{patched, with_members};
+ghost use Rattle.lx_step.specs.Patches as patches;
+ghost use Rattle.lx_step.specs.Patches.{with_members};
 ghost use Rattle.lx_rules.specs.Idle as idles;
 ghost use Rattle.lx_rules.specs.Types as types;
 
@@ -63,6 +65,35 @@ fn has_text(text: &Txt) -> bool
     !text.is_empty()
 }
 
+/// Whether a cell may span so many rows or columns.
+#[tactic(auto, unfolding(lx_node::specs::OfKind::is_span))]
+fn is_span(span: u16) -> bool
+    ensures { result ≡ of_kind.is_span span }
+{
+    1 <= span && span <= 1000
+}
+
+/// Whether the number of a member is within its range. Where it isn't, no node may have it.
+#[tactic(auto, unfolding(lx_step::specs::Patches::is_in_range))]
+fn is_in_range(member: &Member) -> bool
+    ensures { result ≡ patches.is_in_range member.now }
+{
+    match member {
+        Member::Start(start) => *start <= 1_000_000,
+        Member::HeaderState(header) => *header <= 3,
+        Member::ColSpan(span) | Member::RowSpan(span) => is_span(*span),
+        Member::Detail(detail) => *detail <= 3,
+        _ => true,
+    }
+}
+
+/// Whether the numbers of all members are within their ranges.
+fn are_in_range(members: &[Member]) -> bool
+    ensures { result ≡ list_all patches.is_in_range members.now }
+{
+    members.iter().all(|member| is_in_range(member))
+}
+
 /// Whether writing members into fields, in their order, changes these. It writes only in thought, and takes no memory.
 fn differs<'a>(fields: &'a Fields, members: &'a [Member]) -> bool
     ensures { result ≡ not (same_fields (with_members members.now fields.now) fields.now) }
@@ -72,16 +103,19 @@ fn differs<'a>(fields: &'a Fields, members: &'a [Member]) -> bool
     !seen.is(fields)
 }
 
-/// Whether a patch is one of the view's kind and changes the fields. It takes no memory.
+/// Whether the numbers of a patch are within their ranges, it is one of the view's kind and it changes the fields. It
+/// takes no memory.
 #[tactic(auto, unfolding(lx_step::specs::Patches::patched))]
 fn changes(view: &View, patch: &Patch) -> bool
-    ensures { result ≡ idles.differs (patched view.now.kind patch.now.members view.now.fields) view.now.fields }
+    ensures { result ≡ idles.changes view.now.kind patch.now.members view.now.fields }
 {
-    patch.is_of(view.kind) && differs(&view.fields, patch.members.items())
+    are_in_range(patch.members.items())
+        && patch.is_of(view.kind)
+        && differs(&view.fields, patch.members.items())
 }
 
 /// Whether an edit has nothing to do at a view: the kinds don't allow it, what it holds isn't of the kind that it is
-/// for, or its end is reached. It takes no memory.
+/// for, a number that it sets is out of its range, or its end is reached. It takes no memory.
 #[tactic(auto, unfolding(crate::specs::Idle::idle_at, lx_node::specs::Kinds::is_text))]
 pub fn idle(view: &View, edit: &SelfEdit) -> bool
     ensures { result ≡ idles.idle_at view.now edit.now }

@@ -2,7 +2,6 @@ ghost use Rattle.std.specs.Prelude.{◌≡◌, ℕ, List, IfOk};
 ghost use Rattle.lx_rules.specs.Answers.{Answers, script_rows, script_acts};
 
 use crate::conditions::are_met;
-use crate::types::row_of;
 use lx_node::{Kind, NoMemory, View};
 use lx_step::{Rule, SelfEdit, TypeRow};
 use std::alloc::Global;
@@ -14,14 +13,14 @@ pub struct KindSet(pub u32);
 impl KindSet {
     ghost use Rattle.std.specs.Prelude.{◌==◌};
     ghost use Rattle.lx_node.specs.declared.kind.Kind.{Kind};
-    ghost use Rattle.lx_rules.specs.Types as types;
+    ghost use Rattle.lx_step.specs.Types.{row_of};
     ghost use Rattle.lx_rules.specs.Types.{is_on, set_of_row};
 
     /// The set of one type: it has the kinds of that type and no others. It is empty where the row is beyond 14, the
     /// last one of the table.
     pub fn of_row(row: TypeRow) -> KindSet
         ensures bits { result.0 ≡ set_of_row row.0 }
-        ensures has { (kind : Kind) → is_on result.0 kind ≡ (row.0 == types.row_of kind) }
+        ensures has { (kind : Kind) → is_on result.0 kind ≡ (row.0 == row_of kind) }
     {
         if row.0 < 15 {
             KindSet(1 << row.0)
@@ -31,10 +30,11 @@ impl KindSet {
     }
 
     /// Whether a kind's type is in the set.
+    #[tactic(auto, using(crate::proofs::Rows::row_within))]
     pub fn has(self, kind: Kind) -> bool
         ensures { result ≡ is_on self.0 kind }
     {
-        (self.0 >> row_of(kind)) % 2 == 1
+        (self.0 >> TypeRow::of(kind).0) % 2 == 1
     }
 }
 
