@@ -5,7 +5,8 @@ use Rattle.lx_node.specs.Kinds.{is_element, may_hold}
 use Rattle.lx_node.specs.declared.kind.Kind.{Kind}
 use Rattle.lx_node.specs.declared.kind.Kind.TheVariants.{Root, Paragraph, Heading, Quote, List as ListKind, Item, Link, Table, Row, Cell, Text, Tab, Break, Rule, Embed}
 use Rattle.lx_node.specs.declared.kind.ListType.TheVariants.{Bullet}
-use Rattle.lx_rules.specs.Types.{row_of, same_kind}
+use Rattle.lx_step.specs.Types.{row_of}
+use Rattle.lx_rules.specs.Types.{same_kind}
 
 row_told : (a b : ℕ) → eqb a b ≡ true → a ≡ b
 row_told a b e = elim (eqb_tells a b) [ inl same ↦ same.1 | inr other ↦ absurd (grind (arith, e, other.0)) ]

@@ -3,6 +3,7 @@ use Rattle.std.proofs.Common.{◌≡◌, ◌∙◌, ℕ, Bool, true, false, cond
 use Rattle.std.specs.List.{list_all, list_any}
 use Rattle.std.specs.Prelude.{All}
 use Rattle.std.proofs.lemmas.Bool.Decides.{eqb_tells}
+use Rattle.std.proofs.lemmas.List.Sums.{AllPass-from_list_all}
 use Rattle.lx_node.specs.Kinds.{is_element, is_text, may_hold}
 use Rattle.lx_node.specs.OfKind.{IsOfKind, is_of_kind, fits_kind, is_text_of}
 use Rattle.lx_node.specs.Siblings.{is_among, NoRepeats}
@@ -13,7 +14,7 @@ use Rattle.lx_node.specs.declared.fields.Fields.TheVariants as fields
 use Rattle.lx_node.specs.declared.fields.TextFields.{TextFields}
 use Rattle.lx_node.specs.declared.cause.Point.{Point}
 use Rattle.lx_node.specs.declared.node.View.{View}
-use Rattle.lx_step.specs.Patches.{has as has_member, with_members, patched, IsInRange}
+use Rattle.lx_step.specs.Patches.{has as has_member, with_members, patched, is_in_range, IsInRange}
 use Rattle.lx_step.specs.declared.member.Member.{Member}
 use Rattle.lx_step.specs.declared.rule.NewNode.{NewNode}
 use Rattle.lx_step.specs.declared.rule.SelfEdit.{SelfEdit}
@@ -40,8 +41,7 @@ use Rattle.lx_edit.specs.Edits.{moved_before, brought_up, unwrapped, children_st
 use Rattle.lx_edit.proofs.Climbed.{first_part, taken-forest}
 use Rattle.lx_edit.proofs.Paths.{moved_before_path}
 use Rattle.lx_rules.specs.Types.{is_kind, same_kind}
-use Rattle.lx_rules.specs.Idle.{has_work, is_root, is_held, is_suited, may_stand, has_text}
-use Rattle.lx_settle.specs.Exhausted.{IsEditInRange}
+use Rattle.lx_rules.specs.Idle.{differs, has_work, is_root, is_held, is_suited, may_stand, has_text}
 use Rattle.lx_settle.specs.Acting.{written, patched_in, with_made, is_element_at, merged, has_work_at, act_step}
 use Rattle.lx_settle.proofs.Owned.{ready_path, work_at, root_at}
 use Rattle.lx_settle.proofs.Written.{sees}
@@ -254,21 +254,23 @@ held_inner : (o : Option Kind) (inner : Kind) → is_held o inner ≡ true → h
 held_inner None inner e = absurd (cc)
 held_inner (Some outer) inner e = e
 
-pub seen_exhausts : (edit : SelfEdit) (k : ℕ) (x : View) (w : Working) → IsReady w → IsHeld may_hold w.forest → IsSuited w.forest → is_attached w.forest k ≡ true → view_of w.forest k ≡ Some x → has_work x edit ≡ true → IsEditInRange edit → Exhausts (act_step edit k w)
+pub seen_exhausts : (edit : SelfEdit) (k : ℕ) (x : View) (w : Working) → IsReady w → IsHeld may_hold w.forest → IsSuited w.forest → is_attached w.forest k ≡ true → view_of w.forest k ≡ Some x → has_work x edit ≡ true → Exhausts (act_step edit k w)
 unfolding act_step
-seen_exhausts (Set patch) k x w r held suited here seen work ranged = patch_exhausts patch.members k x w suited (there w.forest k here) seen ranged
-seen_exhausts (Add text) k x w r held suited here seen work ranged = add_exhausts text k x w suited seen (first_of (is_text x.kind) (has_text text) work)
-seen_exhausts Remove k x w r held suited here seen work ranged =
+seen_exhausts (Set patch) k x w r held suited here seen work =
+    patch_exhausts patch.members k x w suited (there w.forest k here) seen
+    (AllPass-from_list_all is_in_range patch.members (first_of (list_all is_in_range patch.members) (differs (patched x.kind patch.members x.fields) x.fields) work))
+seen_exhausts (Add text) k x w r held suited here seen work = add_exhausts text k x w suited seen (first_of (is_text x.kind) (has_text text) work)
+seen_exhausts Remove k x w r held suited here seen work =
     let p = node_parent w.forest k x r.in_order seen here (not_true (is_root x.kind) work) in remove_exhausts k p.0 w p.1
-seen_exhausts (Replace new) k x w r held suited here seen work ranged =
+seen_exhausts (Replace new) k x w r held suited here seen work =
     let rest : Bool = not (same_kind x.kind new.kind) && list_all (may_hold new.kind) x.children in
     replace_new new k x w r (there w.forest k here) (view_tells w.forest k x seen) (stands_held x new rest work)
     (second_of (not (same_kind x.kind new.kind)) (list_all (may_hold new.kind) x.children) (second_of (may_stand x new) rest work))
-seen_exhausts (Wrap new) k x w r held suited here seen work ranged =
+seen_exhausts (Wrap new) k x w r held suited here seen work =
     let rest : Bool = not (is_kind x.parent new.kind) && may_hold new.kind x.kind in
     wrap_new new k x w r (there w.forest k here) (view_tells w.forest k x seen) (stands_held x new rest work)
     (second_of (not (is_kind x.parent new.kind)) (may_hold new.kind x.kind) (second_of (may_stand x new) rest work))
-seen_exhausts Unwrap k x w r held suited here seen work ranged =
+seen_exhausts Unwrap k x w r held suited here seen work =
     let rest : Bool = not (is_root x.kind) && list_all (is_held x.parent) x.children in
     let t = view_tells w.forest k x seen in
     let more = second_of (is_element x.kind) rest work in
@@ -277,18 +279,18 @@ seen_exhausts Unwrap k x w r held suited here seen work ranged =
     unwrap_exhausts k p.0 w r p.1 (like_by is_element (kind_of w.forest k) x.kind t.kind (first_of (is_element x.kind) rest work))
     (children_fit w.forest k x (kind_of w.forest p.0) (is_held x.parent) t (second_of (not (is_root x.kind)) (list_all (is_held x.parent) x.children) more)
     (λ inner h. held_inner (kind_of w.forest p.0) inner (ap (λ o. is_held o inner) (sym above) ∙ h)))
-seen_exhausts (Before new) k x w r held suited here seen work ranged =
+seen_exhausts (Before new) k x w r held suited here seen work =
     new_before_exhausts new k w r (has_place w.forest k x new.kind (view_tells w.forest k x seen) (stands_held x new (not (is_kind x.prev new.kind)) work))
-seen_exhausts (After new) k x w r held suited here seen work ranged =
+seen_exhausts (After new) k x w r held suited here seen work =
     new_behind_exhausts new k w r (has_place w.forest k x new.kind (view_tells w.forest k x seen) (stands_held x new (not (is_kind x.next new.kind)) work))
-seen_exhausts (Child new) k x w r held suited here seen work ranged =
+seen_exhausts (Child new) k x w r held suited here seen work =
     let rest : Bool = may_hold x.kind new.kind && not (list_any (same_kind new.kind) x.children) in
     new_child_exhausts new k w r (there w.forest k here) (ap (λ o. holds may_hold o (Some new.kind)) (view_tells w.forest k x seen).kind ∙ first_of (may_hold x.kind new.kind) (not (list_any (same_kind new.kind) x.children)) (second_of (is_suited new) rest work))
-seen_exhausts MergeNext k x w r held suited here seen work ranged =
+seen_exhausts MergeNext k x w r held suited here seen work =
     let t = view_tells w.forest k x seen in
     merged_exhausts k (next_of w.forest k) x w r held t refl (first_of (is_element x.kind) (is_kind x.next x.kind) work)
     (ap (λ o. is_kind o x.kind) (sym t.next) ∙ second_of (is_element x.kind) (is_kind x.next x.kind) work)
 
-pub act_exhausts : (edit : SelfEdit) (k : ℕ) (w : Working) → IsReady w → IsHeld may_hold w.forest → IsSuited w.forest → is_attached w.forest k ≡ true → has_work_at (view_of w.forest k) edit ≡ true → IsEditInRange edit → Exhausts (act_step edit k w)
-act_exhausts edit k w r held suited here work ranged =
-    let x = work_at (view_of w.forest k) edit work in seen_exhausts edit k x.0 w r held suited here x.1 x.2 ranged
+pub act_exhausts : (edit : SelfEdit) (k : ℕ) (w : Working) → IsReady w → IsHeld may_hold w.forest → IsSuited w.forest → is_attached w.forest k ≡ true → has_work_at (view_of w.forest k) edit ≡ true → Exhausts (act_step edit k w)
+act_exhausts edit k w r held suited here work =
+    let x = work_at (view_of w.forest k) edit work in seen_exhausts edit k x.0 w r held suited here x.1 x.2

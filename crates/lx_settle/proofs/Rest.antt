@@ -4,6 +4,7 @@ use Rattle.std.specs.List.{list_all}
 use Rattle.lx_node.specs.Kinds.{is_element, is_text, may_hold}
 use Rattle.lx_node.specs.declared.cause.Cause.{Cause}
 use Rattle.lx_node.specs.declared.node.View.{View}
+use Rattle.lx_step.specs.Patches.{patched, is_in_range}
 use Rattle.lx_step.specs.declared.rule.NewNode.{NewNode}
 use Rattle.lx_step.specs.declared.rule.SelfEdit.{SelfEdit}
 use Rattle.lx_step.specs.declared.rule.SelfEdit.TheVariants.{Set, Add, Remove, Replace, Wrap, Unwrap, Before, After, Child, MergeNext}
@@ -23,7 +24,7 @@ use Rattle.lx_draft.specs.Beside.{put_before_step, put_behind_step}
 use Rattle.lx_edit.specs.Edits.{replace_step, wrap_step}
 use Rattle.lx_rules.specs.Answers.{Answers}
 use Rattle.lx_rules.specs.Types.{is_kind, same_kind}
-use Rattle.lx_rules.specs.Idle.{has_work, is_root, may_stand, is_suited, is_held, has_text}
+use Rattle.lx_rules.specs.Idle.{differs, has_work, is_root, may_stand, is_suited, is_held, has_text}
 use Rattle.lx_settle.specs.Acting.{with_made, is_element_at, merged, has_work_at, act_step}
 use Rattle.lx_settle.specs.Settling.{settle_step}
 use Rattle.lx_settle.specs.Rested.{is_due, IsRested}
@@ -78,7 +79,9 @@ merged_changes k None w v x r s is seen alike e same =
 pub act_changes : (edit : SelfEdit) (k : ℕ) (w v : Working) (x : View) → IsReady w → IsReady v → view_of w.forest k ≡ Some x → is_attached w.forest k ≡ true → has_work x edit ≡ true → act_step edit k w ≡ Ok v
     → spot v.forest k ≡ spot w.forest k → record_at v.forest k ≡ record_at w.forest k → is_attached v.forest k ≡ true → ⊥
 unfolding act_step
-act_changes (Set patch) k w v x r s seen here work e same links now = grind (arith, work, set_changes patch.members k w v x seen e same)
+act_changes (Set patch) k w v x r s seen here work e same links now =
+    let otherwise = second_of (list_all is_in_range patch.members) (differs (patched x.kind patch.members x.fields) x.fields) work in
+    grind (arith, otherwise, set_changes patch.members k w v x seen e same)
 act_changes (Add text) k w v x r s seen here work e same links now =
     add_changes (length_at w.forest k) text k w v x seen (second_of (is_text x.kind) (has_text text) work) e same
 act_changes Remove k w v x r s seen here work e same links now = gone k w v x r s seen (not_true (is_root x.kind) work) (remove_top k w v r e) now

@@ -1,13 +1,10 @@
 -- What an error of settling tells: that no count was left, that too much would be written, that rest wasn't reached, or that
 -- memory was wanting.
-use Rattle.std.proofs.Common.{◌≡◌, ◌≢◌, ◌∙◌, ℕ, ◌<◌, Bool, true, ◌&&◌, List, length, Option, None, Some, Result, Ok, Err, IfErr, All, sym, ap, subst, arith}
-use Rattle.std.specs.List.{slice_index_or}
-use Rattle.std.proofs.lemmas.List.Elements.{All-nil}
+use Rattle.std.proofs.Common.{◌≡◌, ◌≢◌, ◌∙◌, ℕ, Bool, true, ◌&&◌, Result, Ok, Err, IfErr, sym, ap, arith}
 use Rattle.lx_node.specs.Trees.{nil}
 use Rattle.lx_node.specs.declared.cause.Cause.{Cause}
 use Rattle.lx_node.specs.declared.cause.Fault.{Fault}
 use Rattle.lx_node.specs.declared.cause.Fault.TheVariants as fault
-use Rattle.lx_node.specs.declared.node.View.{View}
 use Rattle.lx_step.specs.declared.rule.SelfEdit.{SelfEdit}
 use Rattle.lx_forest.specs.Forest.{Forest}
 use Rattle.lx_forest.specs.Lookups.{is_attached}
@@ -17,9 +14,8 @@ use Rattle.lx_draft.specs.Working.{Working, IsWorking}
 use Rattle.lx_draft.specs.Covering.{IsReady}
 use Rattle.lx_draft.specs.Faults.{TellsStep}
 use Rattle.lx_edit.specs.Texts.{join_around_step}
-use Rattle.lx_rules.specs.Answers.{Answers}
-use Rattle.lx_settle.specs.Acting.{has_work_at, act_step, answered_at}
-use Rattle.lx_settle.specs.Exhausted.{IsExhausted, IsEditInRange, AnswersInRange}
+use Rattle.lx_settle.specs.Acting.{has_work_at, act_step}
+use Rattle.lx_settle.specs.Exhausted.{IsExhausted}
 use Rattle.lx_settle.proofs.Rest.{there}
 use Rattle.lx_settle.proofs.Exhausted.{Exhausts}
 use Rattle.lx_settle.proofs.Joinable.{join_around_exhausts}
@@ -39,10 +35,10 @@ told_by fault.Memory r h told = tt
 
 -- ---- errors of one edit, and of the join step
 
-pub act_told : (e : Fault) (edit : SelfEdit) (k : ℕ) (w : Working) → Sound w.forest → IsWorking w → (is_attached w.forest k && has_work_at (view_of w.forest k) edit) ≡ true → IsEditInRange edit → TellsStep e (act_step edit k w) → IsExhausted e
-act_told e edit k w sound working busy ranged told =
+pub act_told : (e : Fault) (edit : SelfEdit) (k : ℕ) (w : Working) → Sound w.forest → IsWorking w → (is_attached w.forest k && has_work_at (view_of w.forest k) edit) ≡ true → TellsStep e (act_step edit k w) → IsExhausted e
+act_told e edit k w sound working busy told =
     let here : is_attached w.forest k ≡ true = first_of (is_attached w.forest k) (has_work_at (view_of w.forest k) edit) busy in
-    told_by e (act_step edit k w) (act_exhausts edit k w (ready_by k w sound working here) sound.held sound.suited here (second_of (is_attached w.forest k) (has_work_at (view_of w.forest k) edit) busy) ranged) told where
+    told_by e (act_step edit k w) (act_exhausts edit k w (ready_by k w sound working here) sound.held sound.suited here (second_of (is_attached w.forest k) (has_work_at (view_of w.forest k) edit) busy)) told where
       first_of : (a b : Bool) → (a && b) ≡ true → a ≡ true
       first_of a b e = grind (arith, e)
 
@@ -57,12 +53,3 @@ join_told e k w sound working here told =
 pub if_told : {T : Type 0} (r : Result T Fault) (P : Fault → Type 0) → ((e : Fault) → P e → IsExhausted e) → IfErr r P → IfErr r IsExhausted
 if_told (Ok t) P h e = e
 if_told (Err fault) P h e = h fault e
-
--- ---- ranges
-
-pub item_in : {A : Type 0} (P : A → Type 0) (all : List A) (i : ℕ) (a : A) → i < length all → a ≡ slice_index_or all i a → All P all → P a
-item_in P all i a within is h = subst P (sym is) (h i a within)
-
-pub answered_in : (o : Option View) (rule : Answers) (edits : List SelfEdit) → edits ≡ answered_at o rule → AnswersInRange rule → All IsEditInRange edits
-answered_in None rule edits is h = subst (All IsEditInRange) (sym is) (All-nil IsEditInRange)
-answered_in (Some v) rule edits is h = subst (All IsEditInRange) (sym is) (h v)

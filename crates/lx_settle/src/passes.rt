@@ -1,4 +1,4 @@
-ghost use Rattle.std.specs.Prelude.{◌≡◌, Ok, ◌&&◌, OnOk, IfOk, IfErr, All, is_some};
+ghost use Rattle.std.specs.Prelude.{◌≡◌, Ok, ◌&&◌, OnOk, IfOk, IfErr, is_some};
 ghost use Rattle.lx_marks.specs.Marks.{flag_in};
 ghost use Rattle.lx_forest.specs.Lookups.{is_attached, kind_of};
 ghost use Rattle.lx_forest.specs.Views.{view_of};
@@ -11,7 +11,7 @@ ghost use Rattle.lx_edit.specs.Standing.{StillStands};
 ghost use Rattle.lx_rules.specs.Answers.{asked};
 ghost use Rattle.lx_settle.specs.Acting as acting;
 ghost use Rattle.lx_settle.specs.Acting.{all_asked};
-ghost use Rattle.lx_settle.specs.Exhausted.{IsExhausted, IsEditInRange, AnswersInRange, AreInRange};
+ghost use Rattle.lx_settle.specs.Exhausted.{IsExhausted};
 ghost use Rattle.lx_settle.specs.Passes as passes;
 
 use crate::acting::act;
@@ -52,7 +52,7 @@ fn run_edit(alloc: Global, draft: &mut Draft, edit: &SelfEdit, key: Key) -> Resu
     ensures ok { OnOk result (acting.edit_step key edit.now draft.old ≡ Ok draft.new) }
     ensures err { IfErr result (λ e. TellsStep e (acting.edit_step key edit.now draft.old)) }
     ensures standing { IfErr result (λ e. StillStands e draft.new) }
-    ensures refused { IsEditInRange edit.now → IfErr result IsExhausted }
+    ensures refused { IfErr result IsExhausted }
 {
     if has_work(alloc, draft, edit, key)? {
         act(alloc, draft, edit, key)
@@ -67,7 +67,7 @@ fn run_edits(alloc: Global, draft: &mut Draft, edits: &[SelfEdit], key: Key) -> 
     ensures ok { OnOk result (in_turn (acting.edit_step key) edits.now draft.old ≡ Ok draft.new) }
     ensures err { IfErr result (λ e. TellsStep e (in_turn (acting.edit_step key) edits.now draft.old)) }
     ensures standing { IfErr result (λ e. StillStands e draft.new) }
-    ensures refused { All IsEditInRange edits.now → IfErr result IsExhausted }
+    ensures refused { IfErr result IsExhausted }
 {
     for edit in edits {
         match run_edit(alloc, draft, edit, key) {
@@ -112,7 +112,7 @@ fn run_rule<T: Transform>(alloc: Global, draft: &mut Draft, rule: &T, key: Key) 
     ensures ok { OnOk result (acting.rule_step key (asked (T.rows rule.now) (T.answers rule.now)) draft.old ≡ Ok draft.new) }
     ensures err { IfErr result (λ e. TellsStep e (acting.rule_step key (asked (T.rows rule.now) (T.answers rule.now)) draft.old)) }
     ensures standing { IfErr result (λ e. StillStands e draft.new) }
-    ensures refused { AnswersInRange (asked (T.rows rule.now) (T.answers rule.now)) → IfErr result IsExhausted }
+    ensures refused { IfErr result IsExhausted }
 {
     let edits = answered(alloc, draft, rule, key)?;
     run_edits(alloc, draft, edits.as_slice(), key)
@@ -129,7 +129,7 @@ pub(crate) fn run_rules<T: Transform>(
     ensures ok { OnOk result (acting.rules_step (all_asked T.rows T.answers rules.now) key draft.old ≡ Ok draft.new) }
     ensures err { IfErr result (λ e. TellsStep e (acting.rules_step (all_asked T.rows T.answers rules.now) key draft.old)) }
     ensures standing { IfErr result (λ e. StillStands e draft.new) }
-    ensures refused { AreInRange T.rows T.answers rules.now → IfErr result IsExhausted }
+    ensures refused { IfErr result IsExhausted }
 {
     for rule in rules {
         match run_rule(alloc, draft, rule, key) {
@@ -151,7 +151,7 @@ fn take_leaf<T: Transform>(
     ensures ok { OnOk result (passes.leaf_step (all_asked T.rows T.answers rules.now) key draft.old ≡ Ok draft.new) }
     ensures err { IfErr result (λ e. TellsStep e (passes.leaf_step (all_asked T.rows T.answers rules.now) key draft.old)) }
     ensures standing { IfErr result (λ e. StillStands e draft.new) }
-    ensures refused { AreInRange T.rows T.answers rules.now → IfErr result IsExhausted }
+    ensures refused { IfErr result IsExhausted }
 {
     if draft.links().is_attached(key) {
         match join_around(alloc, draft, key) {
@@ -174,7 +174,7 @@ pub(crate) fn leaf_pass<T: Transform>(
     ensures ok { OnOk result (passes.leaf_pass (all_asked T.rows T.answers rules.now) keys.now draft.old ≡ Ok draft.new) }
     ensures err { IfErr result (λ e. TellsStep e (passes.leaf_pass (all_asked T.rows T.answers rules.now) keys.now draft.old)) }
     ensures standing { IfErr result (λ e. StillStands e draft.new) }
-    ensures refused { AreInRange T.rows T.answers rules.now → IfErr result IsExhausted }
+    ensures refused { IfErr result IsExhausted }
 {
     for key in keys {
         match take_leaf(alloc, draft, rules, *key) {
@@ -196,7 +196,7 @@ fn take_element<T: Transform>(
     ensures ok { OnOk result (passes.element_step (all_asked T.rows T.answers rules.now) element.now draft.old ≡ Ok draft.new) }
     ensures err { IfErr result (λ e. TellsStep e (passes.element_step (all_asked T.rows T.answers rules.now) element.now draft.old)) }
     ensures standing { IfErr result (λ e. StillStands e draft.new) }
-    ensures refused { AreInRange T.rows T.answers rules.now → IfErr result IsExhausted }
+    ensures refused { IfErr result IsExhausted }
 {
     let (node, flag) = *element;
     if flag && node != Key::root() {
@@ -217,7 +217,7 @@ fn take_elements<T: Transform>(
     ensures ok { OnOk result (in_turn (passes.element_step (all_asked T.rows T.answers rules.now)) elements.now draft.old ≡ Ok draft.new) }
     ensures err { IfErr result (λ e. TellsStep e (in_turn (passes.element_step (all_asked T.rows T.answers rules.now)) elements.now draft.old)) }
     ensures standing { IfErr result (λ e. StillStands e draft.new) }
-    ensures refused { AreInRange T.rows T.answers rules.now → IfErr result IsExhausted }
+    ensures refused { IfErr result IsExhausted }
 {
     for element in elements {
         match take_element(alloc, draft, rules, element) {
@@ -251,7 +251,7 @@ fn take_root<T: Transform>(
     ensures ok { OnOk result (passes.root_step (all_asked T.rows T.answers rules.now) elements.now draft.old ≡ Ok draft.new) }
     ensures err { IfErr result (λ e. TellsStep e (passes.root_step (all_asked T.rows T.answers rules.now) elements.now draft.old)) }
     ensures standing { IfErr result (λ e. StillStands e draft.new) }
-    ensures refused { AreInRange T.rows T.answers rules.now → IfErr result IsExhausted }
+    ensures refused { IfErr result IsExhausted }
 {
     if has_root(elements) {
         run_rules(alloc, draft, rules, Key::root())
@@ -271,7 +271,7 @@ pub(crate) fn element_pass<T: Transform>(
     ensures ok { OnOk result (passes.element_pass (all_asked T.rows T.answers rules.now) elements.now draft.old ≡ Ok draft.new) }
     ensures err { IfErr result (λ e. TellsStep e (passes.element_pass (all_asked T.rows T.answers rules.now) elements.now draft.old)) }
     ensures standing { IfErr result (λ e. StillStands e draft.new) }
-    ensures refused { AreInRange T.rows T.answers rules.now → IfErr result IsExhausted }
+    ensures refused { IfErr result IsExhausted }
 {
     take_elements(alloc, draft, rules, elements)?;
     take_root(alloc, draft, rules, elements)

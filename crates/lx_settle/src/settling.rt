@@ -3,7 +3,7 @@ ghost use Rattle.lx_draft.specs.Faults.{TellsStep};
 ghost use Rattle.lx_draft.specs.Rounds.{round_of};
 ghost use Rattle.lx_edit.specs.Standing.{StillStands};
 ghost use Rattle.lx_settle.specs.Acting.{all_asked};
-ghost use Rattle.lx_settle.specs.Exhausted.{IsExhausted, AreInRange};
+ghost use Rattle.lx_settle.specs.Exhausted.{IsExhausted};
 ghost use Rattle.lx_settle.specs.Settling as settling;
 
 use crate::passes::{element_pass, leaf_pass};
@@ -18,7 +18,7 @@ fn round<T: Transform>(alloc: Global, draft: &mut Draft, rules: &[T]) -> Result<
     ensures ok { IfOk result (λ rests. settling.round_step (all_asked T.rows T.answers rules.now) draft.old ≡ Ok (rests, draft.new)) }
     ensures err { IfErr result (λ e. TellsStep e (settling.round_step (all_asked T.rows T.answers rules.now) draft.old)) }
     ensures standing { IfErr result (λ e. StillStands e draft.new) }
-    ensures refused { AreInRange T.rows T.answers rules.now → IfErr result IsExhausted }
+    ensures refused { IfErr result IsExhausted }
 {
     match draft.take_round() {
         Ok(Round::Leaves(leaves)) => {
@@ -38,15 +38,14 @@ fn round<T: Transform>(alloc: Global, draft: &mut Draft, rules: &[T]) -> Result<
 /// joins each with what stands around it before the rules are asked there; or, where there are none, the
 /// marked elements, and the root last. Rules are asked in their order, and an edit that is idle is passed
 /// over. It is refused as `NoRest` exactly where a 101st round would begin; where 100,000 counts were taken;
-/// where the edits would bring what was written above 16,777,216 scalar values; and for nothing else, if no
-/// rule answers a patch with a number that is out of its range. A draft on which it was refused is only fit to
-/// be dropped.
+/// where the edits would bring what was written above 16,777,216 scalar values; and for nothing else. A draft
+/// on which it was refused is only fit to be dropped.
 #[tactic(auto, unfolding(crate::specs::Settling::settle_step))]
 pub fn settle<T: Transform>(alloc: Global, draft: &mut Draft, rules: &[T]) -> Result<(), Fault>
     ensures ok { OnOk result (settling.settle_step (all_asked T.rows T.answers rules.now) draft.old ≡ Ok draft.new) }
     ensures err { IfErr result (λ e. TellsStep e (settling.settle_step (all_asked T.rows T.answers rules.now) draft.old)) }
     ensures standing { IfErr result (λ e. StillStands e draft.new) }
-    ensures refused { AreInRange T.rows T.answers rules.now → IfErr result IsExhausted }
+    ensures refused { IfErr result IsExhausted }
 {
     for passed in 0..100u32 {
         match round(alloc, draft, rules) {
