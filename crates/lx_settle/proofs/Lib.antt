@@ -6,6 +6,7 @@ pub mod Acted
 pub mod Owned
 pub mod Written
 pub mod Rest
+pub mod Covers
 pub mod JoinStep
 pub mod Joining
 pub mod Begun
