@@ -1,41 +1,110 @@
--- What steps come to is what an update makes of the editor.
-use Rattle.std.proofs.Common.{ℕ, List, Option, Result, Ok, Err, refl, sym, subst}
+-- What steps or a rule come to is what they make of the editor.
+use Rattle.std.proofs.Common.{◌≡◌, ◌∙◌, ℕ, ◌+◌, ◌≤◌, Bool, true, false, if◌then◌else◌, List, Option, Result, Ok, Err, sym, ap, subst, arith}
 use Rattle.lx_node.specs.declared.cause.Cause.{Cause}
 use Rattle.lx_host.specs.declared.op.Op.{Op}
-use Rattle.lx_step.specs.declared.step.Step.{Step}
-use Rattle.lx_draft.specs.declared.state.Frozen.{Frozen}
-use Rattle.lx_reconcile.specs.Told.{Told}
-use Rattle.lx_editor.specs.declared.outcome.Outcome.TheVariants as outcome
+use Rattle.lx_step.specs.declared.rule.Rule.{Rule}
+use Rattle.lx_rules.specs.declared.any_rule.AnyRule.{AnyRule}
+use Rattle.lx_editor.specs.declared.outcome.Outcome.{Outcome}
+use Rattle.lx_editor.specs.declared.outcome.Outcome.TheVariants as made
+use Rattle.lx_editor.specs.declared.outcome.Verdict.{Verdict}
 use Rattle.lx_editor.specs.declared.outcome.Verdict.TheVariants.{Commit, Refused, Idle}
 use Rattle.lx_editor.specs.Editor.{Editor}
-use Rattle.lx_editor.specs.Updated.{Left, left_of, left_by, begun, IsCommitted, IsMadeOf, IsUpdated}
-use Rattle.lx_editor.specs.Judged.{MayCommit, IsJudgedBy, IsJudged}
+use Rattle.lx_editor.specs.Updated.{Left, IsNothingNew, IsCommitted, IsTaken, IsMadeOf}
+use Rattle.lx_editor.specs.Registered.{with_one_more}
+use Rattle.lx_editor.specs.Judged.{MayCommit, IsWeighed, IsJudged, MayConclude, IsConcluded, is_refused}
 
-pub may_commit : (old : Editor) (steps : List Step) (frozen : Frozen) (batch : Told) → IsJudged old steps (Commit frozen batch) → MayCommit old (left_of frozen) batch
-unfolding IsJudged
-may_commit old steps frozen batch judged = by_left (left_by steps (begun old)) judged where
-  by_left : (r : Result Left (Cause × Option ℕ)) → IsJudgedBy r old (Commit frozen batch) → MayCommit old (left_of frozen) batch
-  by_left (Err refused) judged = absurd (cc)
-  by_left (Ok left) judged = subst (λ l. MayCommit old l batch) (sym judged.0) judged.1
+-- what is judged may be concluded
+pub may_conclude : (r : Result Left (Cause × Option ℕ)) (e : Editor) (verdict : Verdict) → IsJudged r e verdict → MayConclude e verdict
+may_conclude r e (Refused cause step) judged = tt
+may_conclude r e Idle judged = tt
+may_conclude (Err refused) e (Commit frozen batch) judged = absurd (cc)
+may_conclude (Ok left) e (Commit frozen batch) judged = subst (λ l. MayCommit e l batch) (sym judged.0) judged.1
 
-pub commit_updated : (old : Editor) (steps : List Step) (frozen : Frozen) (batch : Told) (number : ℕ) (ops : List Op) (new : Editor) → IsJudged old steps (Commit frozen batch) → IsCommitted old (left_of frozen) number ops new
-    → IsUpdated old steps (outcome.Committed number ops) new
-unfolding IsJudged IsUpdated
-commit_updated old steps frozen batch number ops new judged done = by_left (left_by steps (begun old)) judged where
-  by_left : (r : Result Left (Cause × Option ℕ)) → IsJudgedBy r old (Commit frozen batch) → IsMadeOf r old (outcome.Committed number ops) new
-  by_left (Err refused) judged = absurd (cc)
-  by_left (Ok left) judged = subst (λ l. IsCommitted old l number ops new) judged.0 done
+-- ---- an update
 
-pub refused_updated : (old : Editor) (steps : List Step) (cause : Cause) (step : Option ℕ) → IsJudged old steps (Refused cause step) → IsUpdated old steps (outcome.Refused cause step) old
-unfolding IsJudged IsUpdated
-refused_updated old steps cause step judged = by_left (left_by steps (begun old)) judged where
-  by_left : (r : Result Left (Cause × Option ℕ)) → IsJudgedBy r old (Refused cause step) → IsMadeOf r old (outcome.Refused cause step) old
-  by_left (Err refused) judged = (cc, refl)
-  by_left (Ok left) judged = judged
+-- the same rules are no other editor
+same_rules : (e : Editor) (rules : List AnyRule) → rules ≡ e.rules → e ≡ record e { rules = rules }
+same_rules e rules is = ap (λ rs. record e { rules = rs }) (sym is)
 
-pub idle_updated : (old : Editor) (steps : List Step) → IsJudged old steps Idle → IsUpdated old steps outcome.Idle old
-unfolding IsJudged IsUpdated
-idle_updated old steps judged = by_left (left_by steps (begun old)) judged where
-  by_left : (r : Result Left (Cause × Option ℕ)) → IsJudgedBy r old Idle → IsMadeOf r old outcome.Idle old
-  by_left (Err refused) judged = absurd (cc)
-  by_left (Ok left) judged = (judged, refl)
+taken : (left : Left) (e : Editor) (verdict : Verdict) (outcome : Outcome) (new : Editor) → IsWeighed e left verdict → IsConcluded e verdict outcome new → IsTaken e left outcome new
+taken left e (Commit frozen batch) (made.Committed number ops) new weighed done = subst (λ l. IsCommitted e l number ops new) weighed.0 done
+taken left e (Commit frozen batch) (made.Refused cause step) new weighed done = absurd done
+taken left e (Commit frozen batch) made.Idle new weighed done = absurd done
+taken left e (Refused cause step) outcome new weighed (is, same) =
+    subst (λ o. IsTaken e left o new) (sym is) (record { anew = weighed.anew; fault = weighed.fault; no_step = weighed.no_step; same = same })
+taken left e Idle outcome new weighed (is, same) = subst (λ o. IsTaken e left o new) (sym is) (weighed.1, same ∙ same_rules e left.rules weighed.0)
+
+-- what is concluded is what was judged
+pub concluded : (r : Result Left (Cause × Option ℕ)) (e : Editor) (verdict : Verdict) (outcome : Outcome) (new : Editor) → IsJudged r e verdict → IsConcluded e verdict outcome new → IsMadeOf r e outcome new
+concluded (Ok left) e verdict outcome new judged done = taken left e verdict outcome new judged done
+concluded (Err refused) e verdict outcome new judged done =
+    let refusal : IsConcluded e (Refused refused.0 refused.1) outcome new = subst (λ v. IsConcluded e v outcome new) judged done in refusal
+
+-- ---- a rule
+
+-- the editor with which a rule's verdict is concluded
+abbrev pub with_unless_refused : Rule → Editor → Verdict → Editor
+with_unless_refused rule old verdict = if is_refused verdict then old else with_one_more rule old
+
+module _ (old : Editor) (rule : Rule) where
+  abbrev pub mid : Editor
+  mid = with_one_more rule old
+
+  pub may_conclude_rule : (r : Result Left (Cause × Option ℕ)) (verdict : Verdict) (e : Editor) → IsJudged r mid verdict → e ≡ with_unless_refused rule old verdict → MayConclude e verdict
+  may_conclude_rule r (Refused cause step) e judged is = tt
+  may_conclude_rule r Idle e judged is = tt
+  may_conclude_rule r (Commit frozen batch) e judged is = subst (λ x. MayConclude x (Commit frozen batch)) (sym is) (may_conclude r mid (Commit frozen batch) judged)
+
+  nothing_new : (left : Left) → IsNothingNew mid left → IsNothingNew old left
+  nothing_new left n = record { none_marked = n.none_marked; selected = n.selected }
+
+  as_mid : (left : Left) → IsNothingNew old left → IsNothingNew mid left
+  as_mid left n = record { none_marked = n.none_marked; selected = n.selected }
+
+  -- a commit doesn't look at the rules that there were
+  committed_before : (left : Left) (number : ℕ) (ops : List Op) (new : Editor) → IsCommitted mid left number ops new → IsCommitted old left number ops new
+  committed_before left number ops new c = record {
+    anew = λ n. c.anew (as_mid left n);
+    ids = c.ids;
+    rested = c.rested;
+    allowed = c.allowed;
+    reads = c.reads;
+    few = c.few;
+    number = c.number;
+    made = c.made;
+  }
+
+  rule_taken : (left : Left) (verdict : Verdict) (outcome : Outcome) (new : Editor) → IsWeighed mid left verdict → IsConcluded (with_unless_refused rule old verdict) verdict outcome new → IsTaken old left outcome new
+  rule_taken left (Commit frozen batch) (made.Committed number ops) new weighed done = committed_before left number ops new (subst (λ l. IsCommitted mid l number ops new) weighed.0 done)
+  rule_taken left (Commit frozen batch) (made.Refused cause step) new weighed done = absurd done
+  rule_taken left (Commit frozen batch) made.Idle new weighed done = absurd done
+  rule_taken left (Refused cause step) outcome new weighed (is, same) =
+      subst (λ o. IsTaken old left o new) (sym is) (record { anew = λ n. weighed.anew (as_mid left n); fault = weighed.fault; no_step = weighed.no_step; same = same })
+  rule_taken left Idle outcome new weighed (is, same) =
+      subst (λ o. IsTaken old left o new) (sym is) (nothing_new left weighed.1, same ∙ ap (λ rs. record old { rules = rs }) (sym weighed.0))
+
+  rule_judged : (r : Result Left (Cause × Option ℕ)) (verdict : Verdict) (outcome : Outcome) (new : Editor) → IsJudged r mid verdict → IsConcluded (with_unless_refused rule old verdict) verdict outcome new → IsMadeOf r old outcome new
+  rule_judged (Ok left) verdict outcome new judged done = rule_taken left verdict outcome new judged done
+  rule_judged (Err refused) verdict outcome new judged done =
+      let refusal : IsConcluded old (Refused refused.0 refused.1) outcome new = subst (λ v. IsConcluded (with_unless_refused rule old v) v outcome new) judged done in refusal
+
+  -- what is concluded of a rule is what was judged
+  pub rule_concluded : (r : Result Left (Cause × Option ℕ)) (verdict : Verdict) (e : Editor) (outcome : Outcome) (new : Editor) → IsJudged r mid verdict → e ≡ with_unless_refused rule old verdict
+      → IsConcluded e verdict outcome new → IsMadeOf r old outcome new
+  rule_concluded r verdict e outcome new judged is done = rule_judged r verdict outcome new judged (subst (λ x. IsConcluded x verdict outcome new) is done)
+
+  commits_same : (refused : Bool) (e : Editor) → e ≡ (if refused then old else mid) → e.commits ≡ old.commits
+  commits_same true e is = ap (λ (x : Editor). x.commits) is
+  commits_same false e is = ap (λ (x : Editor). x.commits) is
+
+  pub rule_commits : (verdict : Verdict) (e new : Editor) → e ≡ with_unless_refused rule old verdict → new.commits ≤ e.commits + 1 → new.commits ≤ old.commits + 1
+  rule_commits verdict e new is few = omega (arith, few, commits_same (is_refused verdict) e is)
+
+  -- where it is refused the editor is as it was, and else the rule is the last one
+  pub refused_same : (refused : Bool) (e : Editor) → refused ≡ true → e ≡ (if refused then old else mid) → e ≡ old
+  refused_same true e was is = is
+  refused_same false e was is = absurd (cc)
+
+  pub kept_mid : (refused : Bool) (e : Editor) → refused ≡ false → e ≡ (if refused then old else mid) → e ≡ mid
+  kept_mid true e was is = absurd (cc)
+  kept_mid false e was is = is

@@ -1,3 +1,5 @@
+pub mod Told
 pub mod Judged
 pub mod Ids
+pub mod Gathered
 pub mod Updated

@@ -2,6 +2,7 @@
 use Rattle.std.proofs.Common.{◌≡◌, ◌∙◌, ◌+◌, ◌<◌, ◌≤◌, ℕ, true, if◌then◌else◌, List, [], ◌∷◌, Option, None, Some, Ok, Err, refl, sym, ap, subst, arith}
 use Rattle.std.specs.List.{list_all}
 use Rattle.std.specs.Option.{option_or}
+use Rattle.std.proofs.lemmas.Bool.Decides.{eqb_tells}
 use Rattle.lx_node.specs.Trees.{nil, tree}
 use Rattle.lx_node.specs.Kinds.{is_text_block}
 use Rattle.lx_node.specs.declared.cause.Cause.{Cause}
@@ -12,13 +13,16 @@ use Rattle.lx_host.specs.Html.{html_of, first_tree}
 use Rattle.lx_marks.specs.Marks.{Marked, unmarked, is_touched, is_noted}
 use Rattle.lx_select.specs.declared.selection.Selection.{Selection}
 use Rattle.lx_select.specs.declared.selection.Selection.TheVariants.{Nothing}
+use Rattle.lx_step.specs.declared.rule.TypeRow.{TypeRow}
 use Rattle.lx_step.specs.declared.step.Step.{Step}
 use Rattle.lx_forest.specs.Forest.{Forest, root_alone}
-use Rattle.lx_forest.specs.Lookups.{count, roots, IsForest}
+use Rattle.lx_forest.specs.Edits.{drop_detached}
+use Rattle.lx_forest.specs.Lookups.{has, count, roots, IsForest}
 use Rattle.lx_forest.proofs.Order.{IsForest-drop_detached}
 use Rattle.lx_draft.specs.Working.{Working, MayStart, started}
 use Rattle.lx_draft.specs.Covering as drafts
 use Rattle.lx_draft.specs.Covering.{Covers, IsReady}
+use Rattle.lx_draft.specs.Faults.{after}
 use Rattle.lx_draft.specs.Selecting.{selection_lost}
 use Rattle.lx_draft.specs.Freezing.{swept, freeze_step, freeze_fault, limits_fault, Freezes}
 use Rattle.lx_draft.proofs.Covered.{answered}
@@ -26,30 +30,46 @@ use Rattle.lx_plain.specs.Render.{render}
 use Rattle.lx_plain.specs.Allowed.{Shows, AreCovered, AreAllowed}
 use Rattle.lx_reconcile.specs.Allowing.{marking, IsAllowed}
 use Rattle.lx_reconcile.proofs.Covered.{covered}
+use Rattle.lx_edit.specs.Texts.{simple_at}
+use Rattle.lx_reconcile.proofs.StartEnd.{one_tree}
 use Rattle.lx_reconcile.proofs.Frozen.{frozen_parts, one_left, swept_alone, kind_stays}
 use Rattle.lx_run.specs.Naming.{no_names}
 use Rattle.lx_run.specs.Scripts.{scripted, run_from}
+use Rattle.lx_rules.specs.declared.any_rule.AnyRule.{AnyRule}
+use Rattle.lx_settle.specs.Joined.{IsJoined, is_empty_text, are_alike}
+use Rattle.lx_settle.specs.Laws.{IsAlone, AreMarked}
+use Rattle.lx_settle.specs.Rested.{IsRested}
+use Rattle.lx_settle.specs.Settling.{settle_step}
+use Rattle.lx_settle.proofs.Ends.{settling_ends}
 use Rattle.lx_editor.specs.Editor.{Editor}
 use Rattle.lx_editor.specs.Standing.{IsState, IsValid}
-use Rattle.lx_editor.specs.Updated.{is_run, at_commit, drafted, frozen_from, left_by, Left, IsNothingNew, hosts_fault, most_reads, IsCommitted}
+use Rattle.lx_editor.specs.Updated.{is_run, at_commit, answers_of, rested_by, drafted, left_from, left_by, Left, IsNothingNew, hosts_fault, most_reads, IsCommitted}
+use Rattle.lx_editor.specs.Registered.{marked_for, left_with, left_for}
+use Rattle.lx_editor.specs.Judged.{IsLeft, IsFresh}
 
 -- ---- what the steps left
 
--- steps that were run, and whose end was frozen, left what the frozen draft has
-pub are_left : (steps : List Step) (w draft : Working) (f : Forest) (selection : Selection) (marks : Marked) (next_key : ℕ) → list_all is_run steps ≡ true → drafted (run_from 0 steps (scripted w no_names)) ≡ Ok draft
-    → Freezes draft f selection marks next_key → left_by steps w ≡ Ok (record { tree = f; selection = selection; marks = marks; next_key = next_key })
+-- steps that were run leave what the draft does that they left
+pub are_left : (rules : List AnyRule) (steps : List Step) (w draft : Working) → list_all is_run steps ≡ true → drafted (run_from 0 steps (scripted w no_names)) ≡ Ok draft → left_by rules steps w ≡ rested_by rules draft
 unfolding left_by
-are_left steps w draft f selection marks next_key all ran frozen =
-    ap (λ b. if b then frozen_from (drafted (run_from 0 steps (scripted w no_names))) else Err (BadCommand, None)) all
-    ∙ ap frozen_from ran ∙ ap at_commit frozen
+are_left rules steps w draft all ran =
+    ap (λ b. if b then left_from rules (drafted (run_from 0 steps (scripted w no_names))) else Err (BadCommand, None)) all ∙ ap (left_from rules) ran
+
+-- so do the marks for a rule
+pub marked_left : (rules : List AnyRule) (row : TypeRow) (w draft : Working) → marked_for row w ≡ Ok draft → left_for rules row w ≡ rested_by rules draft
+unfolding left_for
+marked_left rules row w draft marked = ap (left_with rules) marked
 
 -- a draft is ready where it begins
-pub ready_start : (f : Forest) (selection : Selection) (next_key : ℕ) → IsForest f → MayStart f next_key → IsReady (started f selection next_key)
-ready_start f selection next_key order start = record { in_order = order; free = start.free }
+pub ready_start : (u : Working) → IsFresh u → IsReady u
+ready_start u fresh = record { in_order = fresh.state.in_order; free = fresh.state.start.free }
 
--- so whatever a script made of it is covered
-pub ran_covered : (begin start end : Working) → start ≡ begin → IsReady begin → (IsReady start → drafts.AreCovered start end) → drafts.AreCovered begin end
-ran_covered begin start end is ready covers = subst (λ w. drafts.AreCovered w end) is (covers (subst IsReady (sym is) ready))
+pub fresh_start : (f : Forest) (selection : Selection) (next_key : ℕ) → IsState f selection next_key → IsFresh (started f selection next_key)
+fresh_start f selection next_key state = record { state = state; marks = refl; fresh = refl }
+
+-- so whatever was made of it is covered
+pub start_covered : (begin start end : Working) → start ≡ begin → IsFresh begin → (IsReady start → drafts.AreCovered start end) → drafts.AreCovered begin end
+start_covered begin start end is fresh covers = subst (λ w. drafts.AreCovered w end) is (covers (subst IsReady (sym is) (ready_start begin fresh)))
 
 first_none : (a b : Option Cause) → option_or a b ≡ None → a ≡ None
 first_none None b e = refl
@@ -66,26 +86,47 @@ still_selected w f selection marks next_key frozen =
     in
     subst (λ (v : Working). selection_lost v.selection v.forest ≡ None) told.1 none
 
--- what is frozen is a state that may be committed
-pub left_state : (w : Working) (f : Forest) (selection : Selection) (marks : Marked) (next_key : ℕ) → Freezes w f selection marks next_key → IsForest w.forest → MayStart f next_key → IsState f selection next_key
-left_state w f selection marks next_key frozen order start =
-    let same = (frozen_parts w f selection marks next_key frozen).0 in
-    record {
-      in_order = subst IsForest same (IsForest-drop_detached w.forest order);
-      alone = subst (λ g. roots g ≡ 0 ∷ []) same (one_left w.forest order);
-      start = start;
-      selected = still_selected w f selection marks next_key frozen;
-    }
+-- what the draft leaves that came to rest
+pub rest_left : (rules : List AnyRule) (w v : Working) (f : Forest) (selection : Selection) (marks : Marked) (next_key : ℕ) → settle_step (answers_of rules) w ≡ Ok v → Freezes v f selection marks next_key
+    → rested_by rules w ≡ Ok (record { tree = f; selection = selection; marks = marks; next_key = next_key; rules = rules })
+rest_left rules w v f selection marks next_key settled frozen = ap (λ r. at_commit rules (after r freeze_step)) settled ∙ ap (at_commit rules) frozen
 
 -- its marks cover the trees before and after
-pub left_covered : (w v : Working) (f : Forest) (selection : Selection) (marks : Marked) (next_key : ℕ) → w.marks ≡ unmarked → drafts.AreCovered w v → Freezes v f selection marks next_key → AreCovered w.forest f (marking marks)
-left_covered w v f selection marks next_key none c frozen =
+left_covered : (u v : Working) (f : Forest) (selection : Selection) (marks : Marked) (next_key : ℕ) → u.marks ≡ unmarked → AreMarked u v → Freezes v f selection marks next_key → AreCovered u.forest f (marking marks)
+left_covered u v f selection marks next_key none m frozen =
     let parts = frozen_parts v f selection marks next_key frozen in
-    let covers : Covers w.forest unmarked v.forest marks =
-    subst (λ m. Covers w.forest m v.forest marks) none (subst (λ n. Covers w.forest w.marks v.forest n) parts.1 c.marks)
+    let covers : Covers u.forest unmarked v.forest marks =
+    subst (λ n. Covers u.forest n v.forest marks) none (subst (λ n. Covers u.forest u.marks v.forest n) parts.1 m.marks)
     in
-    subst (λ g. AreCovered w.forest g (marking marks)) (swept_alone v.forest ∙ parts.0)
-    (covered w.forest v.forest marks c.ready.in_order covers (λ q there too. kind_stays w.forest v.forest q c.kinds there))
+    subst (λ g. AreCovered u.forest g (marking marks)) (swept_alone v.forest ∙ parts.0)
+    (covered u.forest v.forest marks m.ready.in_order covers (λ q there too. kind_stays u.forest v.forest q m.kinds there))
+
+-- a tree that stands alone has all nodes below its root
+all_attached : (f : Forest) → IsForest f → roots f ≡ 0 ∷ [] → IsAlone f
+all_attached f order only q there = ap (has q) (one_tree f order only) ∙ there
+
+-- What came to rest and is frozen may be left: it is a state, its marks cover it, and it is at rest.
+pub left_stands : (rules : List AnyRule) (u w v : Working) (f : Forest) (selection : Selection) (marks : Marked) (next_key : ℕ) → IsFresh u → drafts.AreCovered u w → settle_step (answers_of rules) w ≡ Ok v
+    → Freezes v f selection marks next_key → MayStart f next_key → IsLeft u.forest (record { tree = f; selection = selection; marks = marks; next_key = next_key; rules = rules })
+left_stands rules u w v f selection marks next_key fresh c settled frozen start =
+    let answers = answers_of rules in
+    let m : AreMarked u v = settling_ends.covers answers u w v c settled in
+    let order : IsForest v.forest = m.ready.in_order in
+    let parts = frozen_parts v f selection marks next_key frozen in
+    let all : IsAlone u.forest = all_attached u.forest fresh.state.in_order fresh.state.alone in
+    let joined : IsJoined v.forest = settling_ends.joins answers u w v (ready_start u fresh) all fresh.state.joined fresh.fresh c settled in
+    let rested : IsRested answers v.forest v.marks = settling_ends.rests answers u w v (fresh.marks ∙ sym fresh.fresh) c settled in
+    record {
+      state = record {
+        in_order = subst IsForest parts.0 (IsForest-drop_detached v.forest order);
+        alone = subst (λ g. roots g ≡ 0 ∷ []) parts.0 (one_left v.forest order);
+        start = start;
+        selected = still_selected v f selection marks next_key frozen;
+        joined = subst IsJoined parts.0 (settling_ends.joined_swept v.forest order joined);
+      };
+      covered = left_covered u v f selection marks next_key fresh.marks m frozen;
+      rested = subst (λ g. IsRested answers g marks) parts.0 (subst (IsRested answers (drop_detached v.forest)) parts.1 (settling_ends.rested_swept answers v.forest v.marks order rested));
+    }
 
 -- ---- a commit
 
@@ -116,6 +157,7 @@ module _ (e : Editor) (left : Left) (view : HostTree) (ops : List Op) (allowed :
     commits = e.commits + 1;
     view = view;
     last = Some (record { ops = ops; reads = reads });
+    rules = left.rules;
   }
 
   pub still_valid : (reads : ℕ) → IsState left.tree left.selection left.next_key → IsValid (made reads)
@@ -126,10 +168,11 @@ module _ (e : Editor) (left : Left) (view : HostTree) (ops : List Op) (allowed :
     some = λ none. absurd (cc);
   }
 
-  pub committed : (reads : ℕ) → (IsNothingNew e left → ⊥) → hosts_fault e.tree left.tree e.view ≡ None → reads ≤ most_reads e.tree left.tree (is_noted left.marks) → IsCommitted e left (e.commits + 1) ops (made reads)
-  committed reads anew ids few = record {
+  pub committed : (reads : ℕ) → IsRested (answers_of left.rules) left.tree left.marks → (IsNothingNew e left → ⊥) → hosts_fault e.tree left.tree e.view ≡ None → reads ≤ most_reads e.tree left.tree (is_noted left.marks) → IsCommitted e left (e.commits + 1) ops (made reads)
+  committed reads rested anew ids few = record {
     anew = anew;
     ids = ids;
+    rested = rested;
     allowed = reached;
     reads = reads;
     few = few;
@@ -153,18 +196,29 @@ printed e valid = ap (λ s. html_of (first_tree s)) valid.shown ∙ ap html_of (
 once_at : (q : ℕ) → count q root_alone < 2
 once_at q = grind arith
 
+-- the root is no text
+no_text : (q : ℕ) → simple_at root_alone q ≡ None
+no_text q = grind (arith, eqb_tells 0 q, eqb_tells q 0)
+
+root_joined : IsJoined root_alone
+root_joined = record {
+  full = λ q here. ap is_empty_text (no_text q);
+  apart = λ q n here next. ap (λ o. are_alike o (simple_at root_alone n)) (no_text q);
+}
+
 root_in_order : IsForest root_alone
 root_in_order = record { once = λ q. once_at q; rising = refl; root = refl }
 
-pub new_valid : (f : Forest) (selection : Selection) (view : HostTree) → f ≡ root_alone → selection ≡ Nothing → view ≡ new_tree → MayStart f 1
-    → IsValid (record { tree = f; selection = selection; next_key = 1; commits = 0; view = view; last = None })
+pub new_valid : (f : Forest) (selection : Selection) (view : HostTree) (rules : List AnyRule) → f ≡ root_alone → selection ≡ Nothing → view ≡ new_tree → MayStart f 1
+    → IsValid (record { tree = f; selection = selection; next_key = 1; commits = 0; view = view; last = None; rules = rules })
 unfolding is_text_block
-new_valid f selection view alone none shown start = record {
+new_valid f selection view rules alone none shown start = record {
   state = record {
     in_order = subst IsForest (sym alone) root_in_order;
     alone = subst (λ g. roots g ≡ 0 ∷ []) (sym alone) refl;
     start = start;
     selected = subst (λ s. selection_lost s f ≡ None) (sym none) refl;
+    joined = subst IsJoined (sym alone) root_joined;
   };
   shown = subst (Shows view) (sym alone) (subst (λ v. Shows v root_alone) (sym shown) refl);
   none = λ zero. refl;

@@ -1,13 +1,14 @@
 -- What an editor is.
-use Rattle.std.specs.Prelude.{ℕ, Option, None}
+use Rattle.std.specs.Prelude.{ℕ, List, [], Option, None}
 use Rattle.lx_host.specs.Hosts.{HostTree, new_tree}
 use Rattle.lx_select.specs.declared.selection.Selection.{Selection}
 use Rattle.lx_select.specs.declared.selection.Selection.TheVariants.{Nothing}
 use Rattle.lx_forest.specs.Forest.{Forest, root_alone}
+use Rattle.lx_rules.specs.declared.any_rule.AnyRule.{AnyRule}
 use Rattle.lx_reconcile.specs.Told.{Told}
 
 -- the tree and the selection that are committed, the key that the next new node gets, how often the editor has committed,
--- the view, and what the last commit told
+-- the view, what the last commit told, and the rules that are registered, in that order
 pub record Editor : Type 0 where
   pub tree : Forest
   pub selection : Selection
@@ -15,6 +16,7 @@ pub record Editor : Type 0 where
   pub commits : ℕ
   pub view : HostTree
   pub last : Option Told
+  pub rules : List AnyRule
 
 abbrev pub new_editor : Editor
-new_editor = record { tree = root_alone; selection = Nothing; next_key = 1; commits = 0; view = new_tree; last = None }
+new_editor = record { tree = root_alone; selection = Nothing; next_key = 1; commits = 0; view = new_tree; last = None; rules = [] }

@@ -5,9 +5,10 @@ use Rattle.lx_host.specs.Html.{html_of}
 use Rattle.lx_plain.specs.Render.{render}
 use Rattle.lx_step.specs.declared.line.Line.{Line}
 use Rattle.lx_step.specs.declared.line.Form.{Form}
-use Rattle.lx_step.specs.declared.line.Form.TheVariants.{Update, Show}
+use Rattle.lx_step.specs.declared.line.Form.TheVariants.{Update, Rule, Show}
 use Rattle.lx_step.specs.declared.line.Shown.{Shown}
 use Rattle.lx_step.specs.declared.line.Shown.TheVariants.{View, Selection}
+use Rattle.lx_step.specs.declared.rule.Rule.{Rule as RuleOf}
 use Rattle.lx_step.specs.declared.step.Step.{Step}
 use Rattle.lx_script.specs.declared.reply.Reply.{Reply}
 use Rattle.lx_script.specs.declared.reply.Reply.TheVariants as reply
@@ -16,6 +17,7 @@ use Rattle.lx_script.specs.Replies.{reply_text}
 use Rattle.lx_editor.specs.declared.outcome.Outcome.{Outcome}
 use Rattle.lx_editor.specs.declared.outcome.Outcome.TheVariants.{Committed, Refused, Idle}
 use Rattle.lx_editor.specs.Editor.{Editor}
+use Rattle.lx_editor.specs.Registered.{IsRegistered}
 use Rattle.lx_editor.specs.Updated.{IsUpdated}
 
 -- the reply that tells an outcome
@@ -34,9 +36,15 @@ abbrev pub IsReplyOfUpdate : Editor → List Step → List ℕ → Editor → Ty
 IsReplyOfUpdate old steps bytes new =
     (outcome : Outcome) × IsUpdated old steps outcome new × (bytes ≡ reply_text (reply_of outcome))
 
+-- The editor may answer a rule with these bytes, and be the new one after.
+abbrev pub IsReplyOfRule : Editor → RuleOf → List ℕ → Editor → Type 0
+IsReplyOfRule old rule bytes new =
+    (outcome : Outcome) × IsRegistered old rule outcome new × (bytes ≡ reply_text (reply_of outcome))
+
 -- The editor may answer a line of this form with these bytes, and be the new one after. A question changes nothing.
 unfoldable pub RepliesTo : Editor → Form → List ℕ → Editor → Type 0
 RepliesTo old (Update steps) bytes new = IsReplyOfUpdate old steps bytes new
+RepliesTo old (Rule rule) bytes new = IsReplyOfRule old rule bytes new
 RepliesTo old (Show shown) bytes new = (bytes ≡ reply_text (shown_of shown old)) × (new ≡ old)
 
 -- The editor may answer what was read with these bytes, and be the new one after. A line that is refused changes nothing.

@@ -6,6 +6,7 @@ use Rattle.lx_forest.specs.Lookups.{roots, IsForest}
 use Rattle.lx_plain.specs.Allowed.{Shows}
 use Rattle.lx_draft.specs.Working.{MayStart}
 use Rattle.lx_draft.specs.Selecting.{selection_lost}
+use Rattle.lx_settle.specs.Joined.{IsJoined}
 use Rattle.lx_editor.specs.declared.editor.Editor.TheInside.{Inside}
 use Rattle.lx_editor.specs.Editor.{Editor}
 
@@ -17,15 +18,17 @@ editor_of a = record {
   commits = a.commits;
   view = a.view.tree;
   last = a.last;
+  rules = a.rules.items;
 }
 
 -- A state that may be committed: one tree, with no detached one beside it, from which an update may start with this next
--- key, and in which the selection lies.
+-- key, in which the selection lies, and whose texts are joined.
 pub record IsState (f : Forest) (selection : Selection) (next_key : ℕ) : Type 0 where
   pub in_order : IsForest f
   pub alone : roots f ≡ 0 ∷ []
   pub start : MayStart f next_key
   pub selected : selection_lost selection f ≡ None
+  pub joined : IsJoined f
 
 -- An editor's state is such, and the view shows its tree and nothing else. There is a last commit exactly where there were
 -- any.

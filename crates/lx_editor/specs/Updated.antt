@@ -1,4 +1,4 @@
--- What an update by steps makes of an editor.
+-- What an update by steps makes of an editor, and what a commit is.
 use Rattle.std.specs.Prelude.{◌≡◌, ◌≤◌, ℕ, ◌+◌, ◌*◌, Bool, true, false, if◌then◌else◌, List, Option, None, Some, Result, Ok, Err}
 use Rattle.std.specs.List.{list_all}
 use Rattle.lx_node.specs.Limits.{last_u32}
@@ -18,10 +18,16 @@ use Rattle.lx_forest.specs.Forest.{Forest}
 use Rattle.lx_plain.specs.Allowed.{AreAllowed, marked_children, unkept}
 use Rattle.lx_draft.specs.Working.{Working, started}
 use Rattle.lx_draft.specs.Freezing.{freeze_step}
-use Rattle.lx_draft.specs.Faults.{over}
+use Rattle.lx_draft.specs.Faults.{over, after}
 use Rattle.lx_draft.specs.declared.state.Frozen.{Frozen}
 use Rattle.lx_run.specs.Naming.{no_names}
 use Rattle.lx_run.specs.Scripts.{Scripted, scripted, run_from}
+use Rattle.lx_rules.specs.Answers.{Answers}
+use Rattle.lx_rules.specs.AnyRules.{any_rows, any_acts}
+use Rattle.lx_rules.specs.declared.any_rule.AnyRule.{AnyRule}
+use Rattle.lx_settle.specs.Acting.{all_asked}
+use Rattle.lx_settle.specs.Rested.{IsRested}
+use Rattle.lx_settle.specs.Settling.{settle_step}
 use Rattle.lx_editor.specs.declared.leaving.Refusal.{Refusal}
 use Rattle.lx_editor.specs.declared.leaving.Refusal.TheVariants as refusal
 use Rattle.lx_editor.specs.declared.outcome.Outcome.{Outcome}
@@ -35,37 +41,49 @@ abbrev pub is_run : Step → Bool
 is_run (Select (Cells _ _ _)) = false
 is_run other = true
 
--- What is left for a commit: the tree, the selection, what was marked, and the key that the next new node gets.
+-- What is left for a commit: the tree, the selection, what was marked, the key that the next new node gets, and the rules
+-- under which it came to rest.
 pub record Left : Type 0 where
   pub tree : Forest
   pub selection : Selection
   pub marks : Marked
   pub next_key : ℕ
+  pub rules : List AnyRule
 
-abbrev pub left_in : Working → Left
-left_in w = record { tree = w.forest; selection = w.selection; marks = w.marks; next_key = w.next_key }
+abbrev pub left_in : List AnyRule → Working → Left
+left_in rules w = record { tree = w.forest; selection = w.selection; marks = w.marks; next_key = w.next_key; rules = rules }
 
-abbrev pub left_of : Frozen → Left
-left_of frozen = record { tree = frozen.state.links; selection = frozen.state.selection; marks = frozen.marks; next_key = frozen.next_key }
+abbrev pub left_of : List AnyRule → Frozen → Left
+left_of rules frozen =
+    record { tree = frozen.state.links; selection = frozen.state.selection; marks = frozen.marks; next_key = frozen.next_key; rules = rules }
 
 -- what is committed, or a refusal of the commit, which no step is refused for
-abbrev pub at_commit : Result Working Cause → Result Left (Cause × Option ℕ)
-at_commit (Ok w) = Ok (left_in w)
-at_commit (Err cause) = Err (cause, None)
+abbrev pub at_commit : List AnyRule → Result Working Cause → Result Left (Cause × Option ℕ)
+at_commit rules (Ok w) = Ok (left_in rules w)
+at_commit rules (Err cause) = Err (cause, None)
+
+-- what rules answer
+abbrev pub answers_of : List AnyRule → List Answers
+answers_of rules = all_asked any_rows any_acts rules
+
+-- what a draft leaves for a commit: it comes to rest under the rules, and is frozen
+abbrev pub rested_by : List AnyRule → Working → Result Left (Cause × Option ℕ)
+rested_by rules w = at_commit rules (after (settle_step (answers_of rules) w) freeze_step)
 
 -- the draft that steps left
 abbrev pub drafted : Result Scripted (Cause × ℕ) → Result Working (Cause × ℕ)
 drafted (Ok s) = Ok s.draft
 drafted (Err refused) = Err refused
 
--- the same as it is committed, or a refusal with the index of its step
-abbrev pub frozen_from : Result Working (Cause × ℕ) → Result Left (Cause × Option ℕ)
-frozen_from (Ok w) = at_commit (freeze_step w)
-frozen_from (Err refused) = Err (refused.0, Some refused.1)
+-- what it leaves for a commit, or a refusal with the index of its step
+abbrev pub left_from : List AnyRule → Result Working (Cause × ℕ) → Result Left (Cause × Option ℕ)
+left_from rules (Ok w) = rested_by rules w
+left_from rules (Err refused) = Err (refused.0, Some refused.1)
 
 -- what steps leave of a draft for a commit, or why they are refused
-unfoldable pub left_by : List Step → Working → Result Left (Cause × Option ℕ)
-left_by steps w = if list_all is_run steps then frozen_from (drafted (run_from 0 steps (scripted w no_names))) else Err (BadCommand, None)
+unfoldable pub left_by : List AnyRule → List Step → Working → Result Left (Cause × Option ℕ)
+left_by rules steps w =
+    if list_all is_run steps then left_from rules (drafted (run_from 0 steps (scripted w no_names))) else Err (BadCommand, None)
 
 -- the draft that an update begins with
 abbrev pub begun : Editor → Working
@@ -96,11 +114,13 @@ TellsHosts fault.Memory found = Unit {0}
 abbrev pub most_reads : Forest → Forest → (ℕ → Bool) → ℕ
 most_reads old new noted = 8 * (marked_children noted old + marked_children noted new + unkept old None new + 1)
 
--- It is something new, the view has ids for it, and it is committed: the operations are allowed between the two trees, and
--- they were found by no more reads than that. Of the new editor only the view's ids and the number of reads are left open.
+-- It is something new, the view has ids for it, and it is committed: it is at rest under its rules, the operations are
+-- allowed between the two trees, and they were found by no more reads than that. Of the new editor only the view's ids and
+-- the number of reads are left open.
 pub record IsCommitted (old : Editor) (left : Left) (commit : ℕ) (ops : List Op) (new : Editor) : Type 0 where
   pub anew : IsNothingNew old left → ⊥
   pub ids : hosts_fault old.tree left.tree old.view ≡ None
+  pub rested : IsRested (answers_of left.rules) left.tree left.marks
   pub allowed : AreAllowed old.tree left.tree (is_touched left.marks) old.view ops new.view
   pub reads : ℕ
   pub few : reads ≤ most_reads old.tree left.tree (is_noted left.marks)
@@ -112,6 +132,7 @@ pub record IsCommitted (old : Editor) (left : Left) (commit : ℕ) (ops : List O
     commits = old.commits + 1;
     view = new.view;
     last = Some (record { ops = ops; reads = reads });
+    rules = left.rules;
   }
 
 -- It is something new that the view has no ids for, and nothing changes.
@@ -121,16 +142,16 @@ pub record IsUnshowable (old : Editor) (left : Left) (cause : Cause) (step : Opt
   pub no_step : step ≡ None
   pub same : new ≡ old
 
--- What is left is committed, unless it is nothing new, or can't be shown.
+-- What is left is committed, unless it is nothing new, or can't be shown. Where it is nothing new the rules stay registered.
 abbrev pub IsTaken : Editor → Left → Outcome → Editor → Type 0
 IsTaken old left (Committed commit ops) new = IsCommitted old left commit ops new
 IsTaken old left (Refused cause step) new = IsUnshowable old left cause step new
-IsTaken old left Idle new = IsNothingNew old left × (new ≡ old)
+IsTaken old left Idle new = IsNothingNew old left × (new ≡ record old { rules = left.rules })
 
--- The steps are refused, and nothing changes; or what they left is taken.
+-- It is refused, and nothing changes; or what is left is taken.
 abbrev pub IsMadeOf : Result Left (Cause × Option ℕ) → Editor → Outcome → Editor → Type 0
 IsMadeOf (Err refused) old outcome new = (outcome ≡ Refused refused.0 refused.1) × (new ≡ old)
 IsMadeOf (Ok left) old outcome new = IsTaken old left outcome new
 
 unfoldable pub IsUpdated : Editor → List Step → Outcome → Editor → Type 0
-IsUpdated old steps outcome new = IsMadeOf (left_by steps (begun old)) old outcome new
+IsUpdated old steps outcome new = IsMadeOf (left_by old.rules steps (begun old)) old outcome new

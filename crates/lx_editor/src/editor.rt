@@ -7,20 +7,22 @@ use lx_draft::{Frozen, State};
 use lx_host::HostTree;
 use lx_node::{Fault, NoMemory};
 use lx_reconcile::Batch;
+use lx_rules::AnyRule;
 use lx_script::{Reply, write_reply};
 use lx_step::{Shown, Step};
 use std::alloc::Global;
 use std::marker::Model;
 
 /// An editor: the state that is committed, the next key, the number of commits, the view, which always shows
-/// the state's tree, and the operations of the last commit.
+/// the state's tree, the operations of the last commit, and the rules that are registered.
 #[derive(Drop)]
 pub struct Editor {
-    state: State,
-    next_key: u32,
+    pub(crate) state: State,
+    pub(crate) next_key: u32,
     commits: u32,
     view: HostTree,
     last: Option<Batch>,
+    pub(crate) rules: Vec<AnyRule>,
 }
 
 impl Model for Editor {
@@ -43,14 +45,13 @@ impl Editor {
     ghost use Rattle.std.specs.Prelude.{◌≡◌, ◌↔◌, ◌+◌, ◌<◌, ◌≤◌, None, All, IfOk, OnOk, OnErr};
     ghost use Rattle.std.specs.Option.{option_copied};
     ghost use Rattle.lx_step.specs.Sound.{IsSound};
-    ghost use Rattle.lx_plain.specs.Allowed.{AreCovered, Shows};
-    ghost use Rattle.lx_reconcile.specs.Allowing.{marking};
+    ghost use Rattle.lx_plain.specs.Allowed.{Shows};
     ghost use Rattle.lx_editor.specs.Editor.{new_editor};
     ghost use Rattle.lx_editor.specs.Standing.{IsState};
-    ghost use Rattle.lx_editor.specs.Updated.{IsUpdated, IsCommitted, left_of};
-    ghost use Rattle.lx_editor.specs.Judged.{IsJudged, IsWeighed, MayCommit};
+    ghost use Rattle.lx_editor.specs.Updated.{IsUpdated, IsCommitted, left_of, left_by, begun};
+    ghost use Rattle.lx_editor.specs.Judged.{IsLeft, IsJudged, IsWeighed, MayCommit, MayConclude, IsConcluded};
 
-    /// A new editor: the root alone, nothing selected, no commit, and a view that shows it.
+    /// A new editor: the root alone, nothing selected, no commit, no rule, and a view that shows it.
     pub fn new(alloc: Global) -> Result<Editor, NoMemory>
         ensures { IfOk result (λ made. made ≡ new_editor) }
     {
@@ -60,10 +61,12 @@ impl Editor {
             commits: 0,
             view: HostTree::new(alloc)?,
             last: None,
+            rules: Vec::new(alloc),
         })
     }
 
-    /// The state that is committed: one tree, in which the selection lies.
+    /// The state that is committed: one tree, in which the selection lies. Its texts are joined: no simple text is
+    /// empty, and no two that stand beside each other have one format and style.
     pub fn state(&self) -> &State
         ensures tree { result.now.links ≡ self.now.tree }
         ensures selection { result.now.selection ≡ self.now.selection }
@@ -89,10 +92,12 @@ impl Editor {
         self.last.as_ref()
     }
 
-    /// Runs steps one after another, and commits what they leave. All steps are run but selects of cells, which
-    /// are refused as `BadCommand`. A refused update changes nothing: its outcome tells the step that was
-    /// refused, or none where what all of them left is beyond a limit or has lost its selection. Steps that mark
-    /// nothing and leave the selection equal commit nothing. After want of memory the editor is as it was.
+    /// Runs steps one after another, lets what they leave come to rest under the rules, and commits it. All steps
+    /// are run but selects of cells, which are refused as `BadCommand`. A refused update changes nothing: its
+    /// outcome tells the step that was refused, or none where the rules didn't come to rest, or where what is left
+    /// is beyond a limit or has lost its selection. Steps that mark nothing and leave the selection equal commit
+    /// nothing. After want of memory the editor is as it was.
+    #[tactic(auto, unfolding(crate::specs::Updated::IsUpdated))]
     pub fn update(&mut self, alloc: Global, steps: &[Step]) -> Result<Outcome, NoMemory>
         requires sound { All IsSound steps.now }
         requires room { self.old.commits < last_u32 }
@@ -100,37 +105,33 @@ impl Editor {
         ensures commits { self.new.commits ≤ self.old.commits + 1 }
         ensures unchanged { OnErr result (self.new ≡ self.old) }
     {
-        match self.judge(alloc, steps)? {
-            Verdict::Commit { frozen, batch } => {
-                let number = self.next_commit();
-                let ops = batch.copy_ops(alloc)?;
-                self.commit(alloc, frozen, batch)?;
-                Ok(Outcome::Committed { number, ops })
-            }
-            Verdict::Refused { cause, step } => Ok(Outcome::Refused { cause, step }),
-            Verdict::Idle => Ok(Outcome::Idle),
-        }
+        let verdict = self.judge(alloc, steps)?;
+        self.conclude(alloc, verdict)
     }
 
     /// What steps come to. It changes nothing.
-    #[tactic(auto, unfolding(crate::specs::Judged::IsJudged))]
     pub(crate) fn judge(&self, alloc: Global, steps: &[Step]) -> Result<Verdict, NoMemory>
         requires sound { All IsSound steps.now }
-        ensures judged { IfOk result (IsJudged self.now steps.now) }
+        ensures judged { IfOk result (IsJudged (left_by self.now.rules steps.now (begun self.now)) self.now) }
     {
-        match leave(alloc, &self.state, self.next_key, steps) {
+        match leave(
+            alloc,
+            &self.state,
+            self.next_key,
+            self.rules.as_slice(),
+            steps,
+        ) {
             Ok(frozen) => self.weigh(alloc, frozen),
             Err(Refusal::Cause { cause, step }) => Ok(Verdict::Refused { cause, step }),
             Err(Refusal::Memory) => Err(NoMemory),
         }
     }
 
-    /// What is to be done with what steps left: it is committed, unless it is nothing new, or the view has no
-    /// ids to show it.
-    fn weigh(&self, alloc: Global, frozen: Frozen) -> Result<Verdict, NoMemory>
-        requires state { IsState frozen.state.links frozen.state.selection frozen.next_key }
-        requires covered { AreCovered self.now.tree frozen.state.links (marking frozen.marks) }
-        ensures weighed { IfOk result (IsWeighed self.now (left_of frozen)) }
+    /// What is to be done with what is left: it is committed, unless it is nothing new, or the view has no ids to
+    /// show it.
+    pub(crate) fn weigh(&self, alloc: Global, frozen: Frozen) -> Result<Verdict, NoMemory>
+        requires left { IsLeft self.now.tree (left_of self.now.rules frozen) }
+        ensures weighed { IfOk result (IsWeighed self.now (left_of self.now.rules frozen)) }
     {
         if frozen.marks.is_empty() && frozen.state.selection.is_equal(&self.state.selection) {
             return Ok(Verdict::Idle);
@@ -143,6 +144,26 @@ impl Editor {
         }
     }
 
+    /// Commits what is to be committed, and answers the outcome.
+    pub(crate) fn conclude(&mut self, alloc: Global, verdict: Verdict) -> Result<Outcome, NoMemory>
+        requires room { self.old.commits < last_u32 }
+        requires may { MayConclude self.old verdict }
+        ensures concluded { IfOk result (λ outcome. IsConcluded self.old verdict outcome self.new) }
+        ensures commits { self.new.commits ≤ self.old.commits + 1 }
+        ensures unchanged { OnErr result (self.new ≡ self.old) }
+    {
+        match verdict {
+            Verdict::Commit { frozen, batch } => {
+                let number = self.next_commit();
+                let ops = batch.copy_ops(alloc)?;
+                self.commit(alloc, frozen, batch)?;
+                Ok(Outcome::Committed { number, ops })
+            }
+            Verdict::Refused { cause, step } => Ok(Outcome::Refused { cause, step }),
+            Verdict::Idle => Ok(Outcome::Idle),
+        }
+    }
+
     /// The number of the next commit.
     pub(crate) fn next_commit(&self) -> u32
         requires { self.now.commits < last_u32 }
@@ -151,7 +172,7 @@ impl Editor {
         self.commits + 1
     }
 
-    /// Commits what steps left, with operations for the view. Without memory the editor is as it was.
+    /// Commits what is left, with operations for the view. Without memory the editor is as it was.
     pub(crate) fn commit(
         &mut self,
         alloc: Global,
@@ -159,8 +180,8 @@ impl Editor {
         batch: Batch,
     ) -> Result<(), NoMemory>
         requires room { self.old.commits < last_u32 }
-        requires may { MayCommit self.old (left_of frozen) batch }
-        ensures committed { OnOk result (IsCommitted self.old (left_of frozen) (self.old.commits + 1) batch.ops self.new) }
+        requires may { MayCommit self.old (left_of self.old.rules frozen) batch }
+        ensures committed { OnOk result (IsCommitted self.old (left_of self.old.rules frozen) (self.old.commits + 1) batch.ops self.new) }
         ensures commits { OnOk result (self.new.commits ≡ self.old.commits + 1) }
         ensures unchanged { OnErr result (self.new ≡ self.old) }
     {

@@ -6,21 +6,22 @@ use lx_draft::Frozen;
 use lx_node::NoMemory;
 use lx_reconcile::Batch;
 use lx_script::{Reply, write_reply};
-use lx_step::{Form, Line, Shown, Step};
+use lx_step::{Form, Line, Step};
 use std::alloc::Global;
 
 impl Editor {
     ghost use Rattle.std.specs.Prelude.{◌≡◌, ◌+◌, ◌<◌, ◌≤◌, All, IfOk, OnOk, OnErr};
     ghost use Rattle.lx_step.specs.Sound.{IsSound, IsSoundForm};
-    ghost use Rattle.lx_step.specs.declared.line.Form.TheVariants.{Update, Show};
     ghost use Rattle.lx_script.specs.Replies.{reply_text};
     ghost use Rattle.lx_script.specs.declared.reply.Reply.TheVariants.{Committed};
     ghost use Rattle.lx_editor.specs.Updated.{IsCommitted, left_of};
-    ghost use Rattle.lx_editor.specs.Judged.{MayCommit};
-    ghost use Rattle.lx_editor.specs.Follows.{RepliesTo, IsReplyOfUpdate, shown_of};
+    ghost use Rattle.lx_editor.specs.declared.outcome.Outcome.{Outcome as OutcomeOf};
+    ghost use Rattle.lx_editor.specs.Judged.{MayCommit, MayConclude, IsConcluded};
+    ghost use Rattle.lx_editor.specs.Follows.{RepliesTo, IsReplyOfUpdate, reply_of};
 
-    /// Does what a line asks for, and answers with the bytes of a reply: the outcome of an update, or what is
-    /// committed. The reply is made before anything is changed, so after want of memory the editor is as it was.
+    /// Does what a line asks for, and answers with the bytes of a reply: the outcome of an update or of
+    /// registering a rule, or what is committed. The reply is made before anything is committed, so after want of
+    /// memory the editor is as it was.
     #[tactic(auto, unfolding(crate::specs::Follows::RepliesTo))]
     pub fn line(&mut self, alloc: Global, line: Line) -> Result<Vec<u8>, NoMemory>
         requires sound { IsSoundForm line.form }
@@ -29,21 +30,34 @@ impl Editor {
         ensures commits { self.new.commits ≤ self.old.commits + 1 }
         ensures unchanged { OnErr result (self.new ≡ self.old) }
     {
-        match &line.form {
-            Form::Update(steps) => self.reply(alloc, steps.items()),
-            Form::Show(shown) => self.show(alloc, *shown),
+        match line.form {
+            Form::Update(steps) => self.reply_to_steps(alloc, steps.items()),
+            Form::Rule(rule) => self.reply_to_rule(alloc, rule),
+            Form::Show(shown) => self.show(alloc, shown),
         }
     }
 
     /// Runs steps and commits what they leave, with the reply that tells the outcome.
-    fn reply(&mut self, alloc: Global, steps: &[Step]) -> Result<Vec<u8>, NoMemory>
+    fn reply_to_steps(&mut self, alloc: Global, steps: &[Step]) -> Result<Vec<u8>, NoMemory>
         requires sound { All IsSound steps.now }
         requires room { self.old.commits < last_u32 }
         ensures replies { IfOk result (λ reply. IsReplyOfUpdate self.old steps.now reply.items self.new) }
         ensures commits { self.new.commits ≤ self.old.commits + 1 }
         ensures unchanged { OnErr result (self.new ≡ self.old) }
     {
-        match self.judge(alloc, steps)? {
+        let verdict = self.judge(alloc, steps)?;
+        self.reply(alloc, verdict)
+    }
+
+    /// Commits what is to be committed, with the reply that tells the outcome.
+    pub(crate) fn reply(&mut self, alloc: Global, verdict: Verdict) -> Result<Vec<u8>, NoMemory>
+        requires room { self.old.commits < last_u32 }
+        requires may { MayConclude self.old verdict }
+        ensures replies { IfOk result (λ reply. (outcome : OutcomeOf) × IsConcluded self.old verdict outcome self.new × (reply.items ≡ reply_text (reply_of outcome))) }
+        ensures commits { self.new.commits ≤ self.old.commits + 1 }
+        ensures unchanged { OnErr result (self.new ≡ self.old) }
+    {
+        match verdict {
             Verdict::Commit { frozen, batch } => self.reply_and_commit(alloc, frozen, batch),
             Verdict::Refused { cause, step } => {
                 write_reply(alloc, &Reply::Refused { cause, step })
@@ -52,7 +66,7 @@ impl Editor {
         }
     }
 
-    /// Commits what steps left, with the reply that tells the commit.
+    /// Commits what is left, with the reply that tells the commit.
     fn reply_and_commit(
         &mut self,
         alloc: Global,
@@ -60,9 +74,9 @@ impl Editor {
         batch: Batch,
     ) -> Result<Vec<u8>, NoMemory>
         requires room { self.old.commits < last_u32 }
-        requires may { MayCommit self.old (left_of frozen) batch }
+        requires may { MayCommit self.old (left_of self.old.rules frozen) batch }
         ensures reply { IfOk result (λ reply. reply.items ≡ reply_text (Committed (self.old.commits + 1) batch.ops)) }
-        ensures committed { OnOk result (IsCommitted self.old (left_of frozen) (self.old.commits + 1) batch.ops self.new) }
+        ensures committed { OnOk result (IsCommitted self.old (left_of self.old.rules frozen) (self.old.commits + 1) batch.ops self.new) }
         ensures commits { OnOk result (self.new.commits ≡ self.old.commits + 1) }
         ensures unchanged { OnErr result (self.new ≡ self.old) }
     {

@@ -15,7 +15,7 @@ pub enum Outcome {
     Idle,
 }
 
-/// What steps come to, before anything is changed.
+/// What steps or a rule come to, before anything is changed.
 #[derive(Drop)]
 pub(crate) enum Verdict {
     /// What they left is committed, with these operations.
@@ -24,4 +24,15 @@ pub(crate) enum Verdict {
     Refused { cause: Cause, step: Option<u32> },
     /// They ask for nothing that isn't so already.
     Idle,
+}
+
+impl Verdict {
+    ghost use Rattle.std.specs.Prelude.{◌≡◌};
+    ghost use Rattle.lx_editor.specs.Judged as judged;
+
+    pub(crate) fn is_refused(&self) -> bool
+        ensures { result ≡ judged.is_refused self.now }
+    {
+        matches!(self, Verdict::Refused { .. })
+    }
 }

@@ -1,0 +1,20 @@
+-- What follows from what is told of an answer.
+use Rattle.std.proofs.Common.{Result, Ok, Err}
+use Rattle.std.specs.Result.{IfOk, OnOk, IfErr}
+
+pub told : {X E : Type 0} (r : Result X E) (P Q : X → Type 0) → IfOk r P → ((x : X) → P x → Q x) → IfOk r Q
+told (Ok x) P Q p then = then x p
+told (Err e) P Q p then = tt
+
+pub told_ok : {X E : Type 0} (r : Result X E) (P Q : Type 0) → OnOk r P → (P → Q) → OnOk r Q
+told_ok (Ok x) P Q p then = then p
+told_ok (Err e) P Q p then = tt
+
+pub told_err : {X E : Type 0} (r : Result X E) (P Q : E → Type 0) → IfErr r P → ((e : E) → P e → Q e) → IfErr r Q
+told_err (Ok x) P Q p then = tt
+told_err (Err e) P Q p then = then e p
+
+-- where one call tells two things of an answer, both are told of it
+pub both_told : {X E : Type 0} (r : Result X E) (P Q : X → Type 0) (C : Type 0) → IfOk r P → OnOk r C → ((x : X) → P x → C → Q x) → IfOk r Q
+both_told (Ok x) P Q C p c then = then x p c
+both_told (Err e) P Q C p c then = tt

@@ -1,0 +1,53 @@
+-- What registering a rule makes of an editor.
+use Rattle.std.specs.Prelude.{ℕ, nat_lt, ◌++◌, if◌then◌else◌, List, [], ◌∷◌, length, filter, Option, None, Result, Ok, Err}
+use Rattle.lx_node.specs.declared.cause.Cause.{Cause}
+use Rattle.lx_node.specs.declared.cause.Cause.TheVariants.{TooManyRules}
+use Rattle.lx_step.specs.declared.rule.Rule.{Rule}
+use Rattle.lx_step.specs.declared.rule.TypeRow.{TypeRow}
+use Rattle.lx_forest.specs.Forest.{Forest}
+use Rattle.lx_forest.specs.Lookups.{preorder, kind_of}
+use Rattle.lx_draft.specs.Working.{Working}
+use Rattle.lx_draft.specs.Steps.{mark_uncounted_step}
+use Rattle.lx_edit.specs.InTurn.{in_turn}
+use Rattle.lx_rules.specs.Types.{is_of_row}
+use Rattle.lx_rules.specs.declared.any_rule.AnyRule.{AnyRule}
+use Rattle.lx_rules.specs.declared.any_rule.AnyRule.TheVariants.{Script}
+use Rattle.lx_editor.specs.declared.outcome.Outcome.{Outcome}
+use Rattle.lx_editor.specs.Editor.{Editor}
+use Rattle.lx_editor.specs.Updated.{Left, rested_by, begun, IsMadeOf}
+
+-- the most rules that an editor has
+abbrev pub most_rules : ℕ
+most_rules = 256
+
+-- the keys of the nodes of a type in the root's tree, in preorder
+abbrev pub of_type : TypeRow → Forest → List ℕ
+of_type row f = filter (λ q. is_of_row row.0 (kind_of f q)) (preorder f)
+
+-- all of them marked, which takes no count
+abbrev pub marked_for : TypeRow → Working → Result Working Cause
+marked_for row w = in_turn mark_uncounted_step (of_type row w.forest) w
+
+-- what is left for a commit where they were marked
+abbrev pub left_with : List AnyRule → Result Working Cause → Result Left (Cause × Option ℕ)
+left_with rules (Ok w) = rested_by rules w
+left_with rules (Err cause) = Err (cause, None)
+
+unfoldable pub left_for : List AnyRule → TypeRow → Working → Result Left (Cause × Option ℕ)
+left_for rules row w = left_with rules (marked_for row w)
+
+-- the rules with one more behind them
+abbrev pub with_rule : List AnyRule → Rule → List AnyRule
+with_rule rules rule = rules ++ Script rule ∷ []
+
+abbrev pub with_one_more : Rule → Editor → Editor
+with_one_more rule e = record e { rules = with_rule e.rules rule }
+
+-- What is left for a commit where a rule is registered: the nodes of its type are marked. The 257th is refused.
+abbrev pub left_by_rule : Editor → Rule → Result Left (Cause × Option ℕ)
+left_by_rule old rule =
+    if nat_lt (length old.rules) most_rules then left_for (with_rule old.rules rule) rule.on (begun old) else Err (TooManyRules, None)
+
+-- the outcome that a registering may have, and the editor that it may leave
+unfoldable pub IsRegistered : Editor → Rule → Outcome → Editor → Type 0
+IsRegistered old rule outcome new = IsMadeOf (left_by_rule old rule) old outcome new

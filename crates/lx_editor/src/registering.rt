@@ -1,0 +1,115 @@
+//! Rules: how one comes to stand behind the others.
+
+ghost use Rattle.lx_node.specs.Limits.{last_u32};
+
+use crate::editor::Editor;
+use crate::leaving::{Refusal, leave_marked};
+use crate::outcome::{Outcome, Verdict};
+use lx_node::{Cause, NoMemory};
+use lx_rules::AnyRule;
+use lx_step::{Rule, TypeRow};
+use std::alloc::Global;
+
+/// The most rules that an editor has.
+const MOST_RULES: usize = 256;
+
+impl Editor {
+    ghost use Rattle.std.specs.Prelude.{◌≡◌, ◌+◌, ◌<◌, ◌≤◌, if◌then◌else◌, IfOk, OnOk, OnErr};
+    ghost use Rattle.lx_step.specs.declared.rule.Rule.{Rule as RuleOf};
+    ghost use Rattle.lx_editor.specs.Editor.{Editor as EditorOf};
+    ghost use Rattle.lx_editor.specs.Registered.{IsRegistered, left_for, left_by_rule, with_one_more};
+    ghost use Rattle.lx_editor.specs.Updated.{begun};
+    ghost use Rattle.lx_editor.specs.Judged.{IsJudged, is_refused};
+    ghost use Rattle.lx_editor.specs.Follows.{IsReplyOfRule};
+
+    /// Registers a rule behind those that are registered. All nodes of its type in the tree are marked, which
+    /// takes no count, and come to rest under all rules; what that makes of the state is committed. Where there
+    /// is no such node the answer is Idle, and the rule is registered. A refusal tells no step and leaves the
+    /// rule unregistered: as `TooManyRules` where 256 are registered, as `NoRest`, `StepLimit` or `TooLarge`
+    /// where the rules don't come to rest, and else as an update is. After want of memory the editor is as it was.
+    #[tactic(auto, unfolding(crate::specs::Registered::IsRegistered))]
+    pub fn register_rule(&mut self, alloc: Global, rule: Rule) -> Result<Outcome, NoMemory>
+        requires room { self.old.commits < last_u32 }
+        ensures registered { IfOk result (λ outcome. IsRegistered self.old rule outcome self.new) }
+        ensures commits { self.new.commits ≤ self.old.commits + 1 }
+        ensures unchanged { OnErr result (self.new ≡ self.old) }
+    {
+        let verdict = self.judge_rule(alloc, rule)?;
+        let is_new = !verdict.is_refused();
+        match self.conclude(alloc, verdict) {
+            Ok(outcome) => Ok(outcome),
+            Err(error) => {
+                if is_new {
+                    self.forget_rule();
+                }
+                Err(error)
+            }
+        }
+    }
+
+    /// The same, answered with the bytes of a reply, which is made before anything is changed but the rules.
+    pub(crate) fn reply_to_rule(&mut self, alloc: Global, rule: Rule) -> Result<Vec<u8>, NoMemory>
+        requires room { self.old.commits < last_u32 }
+        ensures replies { IfOk result (λ reply. IsReplyOfRule self.old rule reply.items self.new) }
+        ensures commits { self.new.commits ≤ self.old.commits + 1 }
+        ensures unchanged { OnErr result (self.new ≡ self.old) }
+    {
+        let verdict = self.judge_rule(alloc, rule)?;
+        let is_new = !verdict.is_refused();
+        match self.reply(alloc, verdict) {
+            Ok(reply) => Ok(reply),
+            Err(error) => {
+                if is_new {
+                    self.forget_rule();
+                }
+                Err(error)
+            }
+        }
+    }
+
+    /// What a rule comes to. It stands behind the others then, unless it is refused; nothing else is changed.
+    fn judge_rule(&mut self, alloc: Global, rule: Rule) -> Result<Verdict, NoMemory>
+        ensures judged { IfOk result (IsJudged (left_by_rule self.old rule) (with_one_more rule self.old)) }
+        ensures rules { IfOk result (λ verdict. self.new ≡ (if is_refused verdict then self.old else with_one_more rule self.old)) }
+        ensures unchanged { OnErr result (self.new ≡ self.old) }
+    {
+        if self.rules.len() >= MOST_RULES {
+            return Ok(Verdict::Refused {
+                cause: Cause::TooManyRules,
+                step: None,
+            });
+        }
+        let on = rule.on;
+        self.rules.push(AnyRule::Script(rule))?;
+        match self.judge_marked(alloc, on) {
+            Ok(verdict) => {
+                if verdict.is_refused() {
+                    self.forget_rule();
+                }
+                Ok(verdict)
+            }
+            Err(error) => {
+                self.forget_rule();
+                Err(error)
+            }
+        }
+    }
+
+    /// What the rules come to where the nodes of a type are marked. It changes nothing.
+    fn judge_marked(&self, alloc: Global, on: TypeRow) -> Result<Verdict, NoMemory>
+        ensures judged { IfOk result (IsJudged (left_for self.now.rules on (begun self.now)) self.now) }
+    {
+        match leave_marked(alloc, &self.state, self.next_key, self.rules.as_slice(), on) {
+            Ok(frozen) => self.weigh(alloc, frozen),
+            Err(Refusal::Cause { cause, step }) => Ok(Verdict::Refused { cause, step }),
+            Err(Refusal::Memory) => Err(NoMemory),
+        }
+    }
+
+    /// Takes the last rule away.
+    fn forget_rule(&mut self)
+        ensures { (e : EditorOf) (rule : RuleOf) → self.old ≡ with_one_more rule e → self.new ≡ e }
+    {
+        let _rule = self.rules.pop();
+    }
+}
