@@ -49,6 +49,8 @@ impl Session {
     {
         match &line.form {
             Form::Update(steps) => self.update(alloc, steps.items()),
+            // Nothing comes to rest here: what steps leave is shown as it is.
+            Form::Rule(_) => refused(alloc, Fault::Cause(Cause::BadCommand), None),
             Form::Show(shown) => self.show(alloc, *shown),
         }
     }
