@@ -23,10 +23,23 @@ fn add_made(session: &mut Vec<u8>, words: &str) -> Result<()> {
             let (count, step) = rest.split_once(' ').context("no step")?;
             add_steps(session, count.parse()?, step)
         }
+        Some(("times", rest)) => {
+            let (count, line) = rest.split_once(' ').context("no line")?;
+            add_times(session, count.parse()?, line)
+        }
         Some(("letters", count)) => add_letters(session, count.parse()?),
         Some(("unended", line)) => add(session, line.as_bytes()),
         _ => bail!("a line that stands for no other: {words}"),
     }
+}
+
+/// Adds the line so many times.
+fn add_times(session: &mut Vec<u8>, count: u32, line: &str) -> Result<()> {
+    for _ in 0..count {
+        add(session, line.as_bytes())?;
+        add(session, b"\n")?;
+    }
+    Ok(())
 }
 
 /// Adds an update with the step so many times.

@@ -4,6 +4,7 @@
 //! replies. A line that is too long to be stored, or has no end, is made of one that stands for it:
 //!
 //! - `*** steps COUNT STEP`: an update with the step so many times,
+//! - `*** times COUNT LINE`: the line so many times,
 //! - `*** letters COUNT`: an update that appends a text of so many letters,
 //! - `*** unended LINE`: the line without its end, at the end of a session.
 //!
