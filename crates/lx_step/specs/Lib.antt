@@ -1,4 +1,8 @@
+pub mod BuiltIns
+pub mod Falls
 pub mod Lines
 pub mod Patches
+pub mod Script
 pub mod Sound
+pub mod Spelled
 pub mod Types

@@ -1,13 +1,17 @@
 -- What steps hold that any node can have, whatever the forest is on which they run.
-use Rattle.std.specs.Prelude.{◌≢◌, All}
+use Rattle.std.specs.Prelude.{◌≢◌, ◌≤◌, All}
 use Rattle.lx_node.specs.declared.kind.Kind.{Kind}
 use Rattle.lx_node.specs.declared.kind.Kind.TheVariants.{Root}
 use Rattle.lx_node.specs.declared.fields.Fields.{Fields}
 use Rattle.lx_node.specs.OfKind.{IsOfKind}
 use Rattle.lx_step.specs.declared.line.Form.{Form}
-use Rattle.lx_step.specs.declared.line.Form.TheVariants.{Update, Rule, Show}
+use Rattle.lx_step.specs.declared.line.Form.TheVariants.{Update, Dispatch, Rule, Listener as Listens, Show}
 use Rattle.lx_step.specs.declared.step.Step.{Step}
-use Rattle.lx_step.specs.declared.step.Step.TheVariants.{New, Set}
+use Rattle.lx_step.specs.declared.step.Step.TheVariants.{New, Set, Later}
+use Rattle.lx_node.specs.Trees.{nil, tree}
+use Rattle.lx_step.specs.Script.{Head, Script}
+use Rattle.lx_step.specs.Script as script
+use Rattle.lx_step.specs.declared.listener.Listener.{Listener}
 use Rattle.lx_step.specs.Patches.{IsInRange}
 
 -- what a new node may be: of another kind than the root's, with fields of that kind
@@ -16,13 +20,31 @@ pub record MayBeNew (kind : Kind) (fields : Fields) : Type 0 where
   pub of_kind : IsOfKind kind fields
 
 -- a new node may be new, and members that are set have values within their ranges
+abbrev pub IsSoundHead : Head → Type 0
+IsSoundHead (script.new kind fields name) = MayBeNew kind fields
+IsSoundHead (script.set node patch) = All IsInRange patch.members
+IsSoundHead _ = Unit {0}
+
+abbrev pub IsSoundScript : Script → Type 0
+IsSoundScript nil = Unit {0}
+IsSoundScript (tree head below rest) = IsSoundHead head × IsSoundScript below × IsSoundScript rest
+
 abbrev pub IsSound : Step → Type 0
 IsSound (New kind fields name) = MayBeNew kind fields
 IsSound (Set node patch) = All IsInRange patch.members
+IsSound (Later steps) = IsSoundScript steps
 IsSound _ = Unit {0}
 
--- the steps of an update are sound; of a rule nothing is asked, since an edit that doesn't suit its node has no work there
+-- a listener's priority is from 0 to 4
+pub record IsSoundListener (l : Listener) : Type 0 where
+  pub priority : l.priority ≤ 4
+  pub steps : IsSoundScript l.steps
+
+-- The steps of an update are sound, and so is a listener. Of a rule nothing is asked, since an edit that doesn't suit its node
+-- has no work there.
 abbrev pub IsSoundForm : Form → Type 0
-IsSoundForm (Update steps) = All IsSound steps
+IsSoundForm (Update steps) = IsSoundScript steps
+IsSoundForm (Dispatch command) = Unit {0}
 IsSoundForm (Rule rule) = Unit {0}
+IsSoundForm (Listens listener) = IsSoundListener listener
 IsSoundForm (Show shown) = Unit {0}

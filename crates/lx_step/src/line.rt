@@ -1,5 +1,7 @@
+use crate::command::Command;
+use crate::listener::Listener;
 use crate::rule::Rule;
-use crate::steps::Steps;
+use crate::step::Steps;
 
 /// What a line of input asks for.
 #[derive(Debug, Drop)]
@@ -26,8 +28,12 @@ pub struct Tags {
 pub enum Form {
     /// An update by these steps, in their order.
     Update(Steps),
+    /// A command that is dispatched.
+    Dispatch(Command),
     /// A rule that is registered.
     Rule(Rule),
+    /// A listener that is registered.
+    Listener(Listener),
     /// A question, which changes nothing.
     Show(Shown),
 }

@@ -1,3 +1,5 @@
+use lx_node::NoMemory;
+use std::alloc::Global;
 use std::marker::Model;
 
 /// A list of offsets in a text.
@@ -15,7 +17,15 @@ impl Model for Offsets {
 }
 
 impl Offsets {
-    ghost use Rattle.std.specs.Prelude.{◌≡◌};
+    ghost use Rattle.std.specs.Prelude.{◌≡◌, IfOk};
+
+    /// An equal list. It takes memory for itself.
+    pub fn copy(&self, alloc: Global) -> Result<Offsets, NoMemory>
+        ensures { IfOk result (λ made. made ≡ self.now) }
+    {
+        let offsets = Vec::from_slice(alloc, self.offsets.as_slice())?;
+        Ok(Offsets { offsets })
+    }
 
     /// The list of these offsets. It takes no memory.
     pub fn of(items: Vec<u64>) -> Offsets

@@ -1,5 +1,8 @@
+ghost use Rattle.std.specs.Prelude.{◌≡◌, IfOk};
+
 use crate::references::References;
-use lx_node::{Key, PointKind, Txt};
+use lx_node::{Key, NoMemory, PointKind, Txt};
+use std::alloc::Global;
 
 /// How a step names a node.
 #[derive(Debug, Drop)]
@@ -40,4 +43,62 @@ pub enum SelectionRef {
         anchor: Reference,
         focus: Reference,
     },
+}
+
+impl Reference {
+    /// An equal reference. It takes memory for its name, where it is one.
+    pub fn copy(&self, alloc: Global) -> Result<Reference, NoMemory>
+        ensures { IfOk result (λ made. made ≡ self.now) }
+    {
+        match self {
+            Reference::Key(key) => Ok(Reference::Key(*key)),
+            Reference::Anchor => Ok(Reference::Anchor),
+            Reference::Focus => Ok(Reference::Focus),
+            Reference::Block => Ok(Reference::Block),
+            Reference::Name(name) => Ok(Reference::Name(name.copy(alloc)?)),
+        }
+    }
+}
+
+impl PointRef {
+    /// An equal one. It takes memory for the name of its node, where it has one.
+    pub fn copy(&self, alloc: Global) -> Result<PointRef, NoMemory>
+        ensures { IfOk result (λ made. made ≡ self.now) }
+    {
+        Ok(PointRef {
+            node: self.node.copy(alloc)?,
+            offset: self.offset,
+            kind: self.kind,
+        })
+    }
+}
+
+impl SelectionRef {
+    /// An equal one. It takes memory for the names in it, and for the list of nodes.
+    pub fn copy(&self, alloc: Global) -> Result<SelectionRef, NoMemory>
+        ensures { IfOk result (λ made. made ≡ self.now) }
+    {
+        match self {
+            SelectionRef::Nothing => Ok(SelectionRef::Nothing),
+            SelectionRef::Range {
+                anchor,
+                focus,
+                format,
+            } => Ok(SelectionRef::Range {
+                anchor: anchor.copy(alloc)?,
+                focus: focus.copy(alloc)?,
+                format: *format,
+            }),
+            SelectionRef::Nodes(nodes) => Ok(SelectionRef::Nodes(nodes.copy(alloc)?)),
+            SelectionRef::Cells {
+                table,
+                anchor,
+                focus,
+            } => Ok(SelectionRef::Cells {
+                table: table.copy(alloc)?,
+                anchor: anchor.copy(alloc)?,
+                focus: focus.copy(alloc)?,
+            }),
+        }
+    }
 }

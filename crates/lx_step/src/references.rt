@@ -1,4 +1,6 @@
 use crate::reference::Reference;
+use lx_node::NoMemory;
+use std::alloc::Global;
 use std::marker::Model;
 
 /// A list of references.
@@ -17,7 +19,18 @@ impl Model for References {
 }
 
 impl References {
-    ghost use Rattle.std.specs.Prelude.{◌≡◌};
+    ghost use Rattle.std.specs.Prelude.{◌≡◌, IfOk};
+
+    /// An equal list. It takes memory for itself and for the names in it.
+    pub fn copy(&self, alloc: Global) -> Result<References, NoMemory>
+        ensures { IfOk result (λ made. made ≡ self.now) }
+    {
+        let mut made = Vec::with_capacity(alloc, self.items().len())?;
+        for reference in self.items() {
+            made.push(reference.copy(alloc)?)?;
+        }
+        Ok(References::of(made))
+    }
 
     /// The list of these references. It takes no memory.
     pub fn of(items: Vec<Reference>) -> References

@@ -1,9 +1,16 @@
+ghost use Rattle.std.specs.Prelude.{◌≡◌, IfOk};
+
+use crate::command::Command;
+use crate::member::copy_optional;
 use crate::offsets::Offsets;
 use crate::patch::Patch;
 use crate::reference::{Reference, SelectionRef};
-use lx_node::{Fields, Kind, Txt};
+use lx_node::{Fields, Kind, NoMemory, Txt};
+use std::alloc::Global;
+use std::marker::Model;
 
-/// One step of an update.
+/// One step of a script.
+#[cycle(step)]
 #[derive(Debug, Drop)]
 pub enum Step {
     /// A new paragraph at the root's end, with a text in it where this one isn't empty.
@@ -58,4 +65,154 @@ pub enum Step {
         into: Reference,
     },
     Select(SelectionRef),
+    /// Does what the built-in command of a name does. No listener is offered it.
+    Do(Command),
+    /// Offers a command to the listeners of its name.
+    Dispatch(Command),
+    /// Queues steps, which run when all others of the line have run.
+    Later(Steps),
+}
+
+/// A list of steps.
+#[cycle(step)]
+#[derive(Debug, Drop)]
+pub struct Steps {
+    steps: Vec<Step>,
+}
+
+impl Model for Steps {
+    ghost use Rattle.std.specs.Coded.{codes};
+    ghost use Rattle.lx_node.specs.Trees.{trees_code};
+    ghost use Rattle.lx_step.specs.Script.{Script, script_size};
+
+    ghost Value = { Script };
+
+    ghost coded = { Prim.hlevel (codes, trees_code) };
+
+    ghost use Rattle.lx_step.specs.Spelled.{script_of};
+
+    ghost view = { λ a. script_of a.steps.items };
+
+    ghost size = { script_size };
+
+    ghost use Rattle.lx_step.specs.Falls.{most_le-script_size};
+
+    ghost size_decreases = { λ a h. most_le-script_size a.steps.items };
+}
+
+impl Steps {
+    ghost use Rattle.std.specs.Prelude.{◌≡◌, IfOk, All};
+    ghost use Rattle.lx_step.specs.Sound.{IsSound, IsSoundScript};
+    ghost use Rattle.lx_step.specs.Spelled.{script_of, steps_of};
+
+    /// An equal list. It takes memory for itself and for what its steps hold.
+    #[cycle(copy)]
+    pub fn copy(&self, alloc: Global) -> Result<Steps, NoMemory>
+        ensures { IfOk result (λ made. made ≡ self.now) }
+    {
+        match copy_steps(alloc, self.steps.as_slice()) {
+            Ok(steps) => Ok(Steps { steps }),
+            Err(error) => Err(error),
+        }
+    }
+
+    /// The list of these steps. It takes no memory.
+    pub fn of(items: Vec<Step>) -> Steps
+        ensures steps { result ≡ script_of items.items }
+        ensures sound { All IsSound items.items → IsSoundScript result }
+    {
+        Steps { steps: items }
+    }
+
+    /// The steps, in their order.
+    pub fn items(&self) -> &[Step]
+        ensures steps { result.now ≡ steps_of self.now }
+        ensures sound { IsSoundScript self.now → All IsSound result.now }
+    {
+        self.steps.as_slice()
+    }
+
+    /// The steps themselves. It takes no memory.
+    pub fn into_vec(self) -> Vec<Step>
+        ensures { result.items ≡ steps_of self }
+    {
+        self.steps
+    }
+}
+
+impl Step {
+    /// An equal step. It takes memory for what the step holds.
+    #[cycle(copy)]
+    pub fn copy(&self, alloc: Global) -> Result<Step, NoMemory>
+        ensures { IfOk result (λ made. made ≡ self.now) }
+    {
+        match self {
+            Step::Append(text) => Ok(Step::Append(text.copy(alloc)?)),
+            Step::New { kind, fields, name } => Ok(Step::New {
+                kind: *kind,
+                fields: fields.copy(alloc)?,
+                name: copy_optional(alloc, name)?,
+            }),
+            Step::Put { node, into, index } => Ok(Step::Put {
+                node: node.copy(alloc)?,
+                into: into.copy(alloc)?,
+                index: *index,
+            }),
+            Step::Remove(node) => Ok(Step::Remove(node.copy(alloc)?)),
+            Step::Replace { node, with, keep } => Ok(Step::Replace {
+                node: node.copy(alloc)?,
+                with: with.copy(alloc)?,
+                keep: *keep,
+            }),
+            Step::Set { node, patch } => Ok(Step::Set {
+                node: node.copy(alloc)?,
+                patch: patch.copy(alloc)?,
+            }),
+            Step::Mark(node) => Ok(Step::Mark(node.copy(alloc)?)),
+            Step::Split {
+                node,
+                offsets,
+                name,
+            } => Ok(Step::Split {
+                node: node.copy(alloc)?,
+                offsets: offsets.copy(alloc)?,
+                name: copy_optional(alloc, name)?,
+            }),
+            Step::Join { node, with } => Ok(Step::Join {
+                node: node.copy(alloc)?,
+                with: with.copy(alloc)?,
+            }),
+            Step::Wrap { node, outer } => Ok(Step::Wrap {
+                node: node.copy(alloc)?,
+                outer: outer.copy(alloc)?,
+            }),
+            Step::Unwrap(node) => Ok(Step::Unwrap(node.copy(alloc)?)),
+            Step::Children { from, into } => Ok(Step::Children {
+                from: from.copy(alloc)?,
+                into: into.copy(alloc)?,
+            }),
+            Step::Select(selection) => Ok(Step::Select(selection.copy(alloc)?)),
+            Step::Do(command) => Ok(Step::Do(command.copy(alloc)?)),
+            Step::Dispatch(command) => Ok(Step::Dispatch(command.copy(alloc)?)),
+            Step::Later(steps) => match steps.copy(alloc) {
+                Ok(steps) => Ok(Step::Later(steps)),
+                Err(error) => Err(error),
+            },
+        }
+    }
+}
+
+/// Equal steps.
+#[cycle(copy)]
+fn copy_steps(alloc: Global, steps: &[Step]) -> Result<Vec<Step>, NoMemory>
+    ensures { IfOk result (λ made. made.items ≡ steps.now) }
+{
+    let mut made = Vec::new(alloc);
+    for step in steps {
+        match step.copy(alloc) {
+            Ok(step) => made.push(step)?,
+            Err(error) => return Err(error),
+        }
+    }
+    Ok(made)
 }
