@@ -1,0 +1,3 @@
+pub mod Looked
+pub mod Sounds
+pub mod Spelled
