@@ -56,7 +56,7 @@ and : (a b : Bool) → IsTrue a → IsTrue b → IsTrue (a && b)
 and true b of_a of_b = of_b
 and false b of_a of_b = absurd (cc)
 
-up_to : (most : ℕ) (d : Data) (n : ℕ) → number_within 0 most d ≡ Some n → IsTrue (leb n most)
+pub up_to : (most : ℕ) (d : Data) (n : ℕ) → number_within 0 most d ≡ Some n → IsTrue (leb n most)
 up_to most d n is = right (leb 0 n) (leb n most) (within 0 most (whole_of d) n is)
 
 -- ---- members that are read

@@ -1,39 +1,47 @@
--- Each step that the grammar makes is sound, and each rule.
-use Rattle.std.proofs.Common.{◌≡◌, ◌≢◌, refl, ap, subst, ℕ, chars, List, [], ◌∷◌, Bool, true, false, ◌&&◌, leb, IsTrue, All, codes, if◌then◌else◌, Option, None, Some, option_map, option_and_then, is_some, Result, Ok, Err}
+-- Each line that the grammar makes is sound: its steps, those that they queue, and those of a listener.
+use Rattle.std.proofs.Common.{◌≡◌, ◌≢◌, ◌≤◌, refl, ap, subst, ℕ, chars, List, [], ◌∷◌, Bool, true, false, ◌&&◌, leb, IsTrue, All, codes, if◌then◌else◌, Option, None, Some, option_map, option_and_then, is_some, Result, Ok, Err}
 use Rattle.std.specs.Option.{option_zip}
 use Rattle.std.specs.Result.{result_ok}
 use Rattle.std.specs.Str.{bytes_eq}
+use Rattle.std.proofs.lemmas.Bool.{leb-true}
 use Rattle.std.proofs.lemmas.List.Elements.{All-nil, All-cons}
-use Rattle.serde_json.specs.Data.{Data, Items, no_items, item, Members, no_members, member}
-use Rattle.serde_json.specs.Find.{as_array, as_null, as_object, as_str, get}
+use Rattle.serde_json.specs.Data.{Data, null, boolean, number, string, array, object, Items, no_items, item, Members, no_members, member}
+use Rattle.serde_json.specs.Find.{as_bool, as_null, as_object, as_str, get}
 use Rattle.lx_node.specs.declared.kind.Kind.{Kind}
 use Rattle.lx_node.specs.declared.kind.Kind.TheVariants as kind
 use Rattle.lx_node.specs.declared.fields.Fields.{Fields}
 use Rattle.lx_node.specs.Kinds.{is_possible, type_name}
 use Rattle.lx_node.specs.OfKind.{IsOfKind}
 use Rattle.lx_step.specs.declared.line.Form.{Form}
-use Rattle.lx_step.specs.declared.line.Form.TheVariants.{Update, Rule}
+use Rattle.lx_step.specs.declared.line.Form.TheVariants.{Update, Dispatch, Rule, Listener as Listens, Show}
 use Rattle.lx_step.specs.declared.member.Member.{Member}
 use Rattle.lx_step.specs.declared.member.Member.TheVariants.{Other}
 use Rattle.lx_step.specs.declared.reference.Reference.{Reference}
 use Rattle.lx_step.specs.declared.step.Step.{Step}
 use Rattle.lx_step.specs.declared.step.Step.TheVariants as step
 use Rattle.lx_step.specs.Patches.{is_in_range, IsInRange}
-use Rattle.lx_step.specs.Sound.{IsSound, IsSoundForm}
+use Rattle.lx_step.specs.Sound.{IsSound, IsSoundScript, IsSoundListener, IsSoundForm}
+use Rattle.lx_step.specs.Script.{Script}
+use Rattle.lx_step.specs.Spelled.{with_first}
+use Rattle.lx_step.specs.declared.listener.Listener.{Listener}
+use Rattle.lx_step.proofs.Sounds.{script_with}
+use Rattle.lx_node.specs.Trees.{nil}
 use Rattle.lx_script.specs.declared.words.Name.{Name}
 use Rattle.lx_script.specs.declared.words.Name.TheVariants as name
 use Rattle.lx_script.specs.declared.words.Verb.{Verb}
 use Rattle.lx_script.specs.declared.words.Verb.TheVariants as verb
 use Rattle.lx_script.specs.Documents.{document_fields, members_in}
-use Rattle.lx_script.specs.Grammar.{update_of, rule_form_of}
+use Rattle.lx_script.specs.Commands.{built_in_name, command_with, command_of, payload_in}
+use Rattle.lx_script.specs.Grammar.{update_of, dispatch_form_of, rule_form_of, listener_form_of, show_of, form_of}
+use Rattle.lx_script.specs.Listeners.{listener_of, listener_with, when_in}
 use Rattle.lx_script.specs.Members.{patch_member, patch_members, patch_of}
 use Rattle.lx_script.specs.NewNodes.{or_default, kind_with, may_all_be_given, new_fields}
 use Rattle.lx_script.specs.References.{reference_of, selection_of}
 use Rattle.lx_script.specs.Rules.{rule_of}
-use Rattle.lx_script.specs.Steps.{fields_in, new_in, new_with, new_of, set_of, patch_from, one_node, two_nodes, step_for, step_of, truth_in}
-use Rattle.lx_script.specs.Values.{word_in, named, string_of, whole_of, number_within, has_only, required, optional, first_member, all_of, list_of}
-use Rattle.lx_script.specs.Words.{kind_in, kind_named, levels, list_types, made_kinds, names, verbs}
-use Rattle.lx_script.proofs.Sound.{mapped, tested, settable-ranged, document_fields_of_kind}
+use Rattle.lx_script.specs.Steps.{fields_in, new_in, new_with, new_of, set_of, patch_from, one_node, two_nodes, step_for, step_of, queued_in, script_in, script_from, truth_in}
+use Rattle.lx_script.specs.Values.{word_in, named, string_of, whole_of, number_within, has_only, required, optional, first_member, list_of}
+use Rattle.lx_script.specs.Words.{kind_in, kind_named, levels, list_types, made_kinds, names, questions, verbs}
+use Rattle.lx_script.proofs.Sound.{mapped, either, tested, up_to, settable-ranged, document_fields_of_kind}
 
 -- ---- what holds of all that an option can be
 
@@ -60,13 +68,6 @@ zip_second {A = A} {B = B} (Some a) (Some b) both is =
 of_ok : {A E : Type 0} (result : Result A E) (a : A) → result_ok result ≡ Some a → result ≡ Ok a
 of_ok (Ok b) a is = let same : b ≡ a = cc in ap (λ x. Ok x) same
 of_ok (Err e) a is = absurd (cc)
-
-all_hold : {A : Type 0} (P : A → Type 0) (reads : Data → Option A) → ((d : Data) (a : A) → reads d ≡ Some a → P a) → (items : Items) (made : List A) → all_of reads items ≡ Some made → All P made
-all_hold P reads holds no_items made is = let same : [] ≡ made = cc in subst (All P) same (All-nil P)
-all_hold P reads holds (item d ds) made is =
-    mapped (All P) (λ p. p.0 ∷ p.1) (option_zip (reads d) (all_of reads ds))
-    (λ p at. All-cons P p.0 p.1 (holds d p.0 (zip_first (reads d) (all_of reads ds) p at)) (all_hold P reads holds ds p.1 (zip_second (reads d) (all_of reads ds) p at)))
-    made is
 
 -- ---- patches
 
@@ -230,39 +231,126 @@ any_node f sound name d s is = mapped IsSound f (one_node name d) (λ a at. soun
 any_nodes : (f : Reference × Reference → Step) → ((p : Reference × Reference) → IsSound (f p)) → (first second : List ℕ) (d : Data) (s : Step) → option_map f (two_nodes first second d) ≡ Some s → IsSound s
 any_nodes f sound first second d s is = mapped IsSound f (two_nodes first second d) (λ a at. sound a) s is
 
-step_for_sound : (word : Verb) (d : Data) (s : Step) → step_for word d ≡ Some s → IsSound s
+one_of_two : {A : Type 0} {P : Type 0} (test : Bool) (first second : Option A) (a : A) → (first ≡ Some a → P) → (second ≡ Some a → P) → (if test then first else second) ≡ Some a → P
+one_of_two true first second a here there is = here is
+one_of_two false first second a here there is = there is
+
+step_for_sound : (inside : Bool) (word : Verb) (d : Data) (queued : Option Script) (s : Step) → ((script : Script) → queued ≡ Some script → IsSoundScript script) → step_for inside word d queued ≡ Some s → IsSound s
 unfolding step_for
-step_for_sound verb.Append d s is = any _ (λ text. step.Append text) (λ text. tt) (required string_of (codes "append") d) s is
-step_for_sound verb.New d s is = new_of_sound d s is
-step_for_sound verb.Put d s is =
+step_for_sound inside verb.Append d queued s below is = any _ (λ text. step.Append text) (λ text. tt) (required string_of (codes "append") d) s is
+step_for_sound inside verb.New d queued s below is = new_of_sound d s is
+step_for_sound inside verb.Put d queued s below is =
     any _ (λ p. step.Put p.0.0 p.0.1 p.1) (λ p. tt) (option_zip (option_zip (required reference_of (codes "put") d) (required reference_of (codes "into") d)) (optional whole_of (codes "at") d)) s is
-step_for_sound verb.Remove d s is = any_node (λ node. step.Remove node) (λ node. tt) (codes "remove") d s is
-step_for_sound verb.Replace d s is =
+step_for_sound inside verb.Remove d queued s below is = any_node (λ node. step.Remove node) (λ node. tt) (codes "remove") d s is
+step_for_sound inside verb.Replace d queued s below is =
     any _ (λ p. step.Replace p.0.0 p.0.1 p.1) (λ p. tt) (option_zip (option_zip (required reference_of (codes "replace") d) (required reference_of (codes "with") d)) (truth_in (get (codes "keep") d))) s is
-step_for_sound verb.Set d s is = set_of_sound d s is
-step_for_sound verb.Mark d s is = any_node (λ node. step.Mark node) (λ node. tt) (codes "mark") d s is
-step_for_sound verb.Split d s is =
+step_for_sound inside verb.Set d queued s below is = set_of_sound d s is
+step_for_sound inside verb.Mark d queued s below is = any_node (λ node. step.Mark node) (λ node. tt) (codes "mark") d s is
+step_for_sound inside verb.Split d queued s below is =
     any _ (λ p. step.Split p.0.0 p.0.1 p.1) (λ p. tt) (option_zip (option_zip (required reference_of (codes "split") d) (required (list_of whole_of) (codes "at") d)) (optional string_of (codes "as") d)) s is
-step_for_sound verb.Join d s is = any_nodes (λ p. step.Join p.0 p.1) (λ p. tt) (codes "join") (codes "with") d s is
-step_for_sound verb.Wrap d s is = any_nodes (λ p. step.Wrap p.0 p.1) (λ p. tt) (codes "wrap") (codes "in") d s is
-step_for_sound verb.Unwrap d s is = any_node (λ node. step.Unwrap node) (λ node. tt) (codes "unwrap") d s is
-step_for_sound verb.Children d s is = any_nodes (λ p. step.Children p.0 p.1) (λ p. tt) (codes "children") (codes "into") d s is
-step_for_sound verb.Select d s is = any _ (λ selection. step.Select selection) (λ selection. tt) (required selection_of (codes "select") d) s is
+step_for_sound inside verb.Join d queued s below is = any_nodes (λ p. step.Join p.0 p.1) (λ p. tt) (codes "join") (codes "with") d s is
+step_for_sound inside verb.Wrap d queued s below is = any_nodes (λ p. step.Wrap p.0 p.1) (λ p. tt) (codes "wrap") (codes "in") d s is
+step_for_sound inside verb.Unwrap d queued s below is = any_node (λ node. step.Unwrap node) (λ node. tt) (codes "unwrap") d s is
+step_for_sound inside verb.Children d queued s below is = any_nodes (λ p. step.Children p.0 p.1) (λ p. tt) (codes "children") (codes "into") d s is
+step_for_sound inside verb.Select d queued s below is = any _ (λ selection. step.Select selection) (λ selection. tt) (required selection_of (codes "select") d) s is
+step_for_sound inside verb.Do d queued s below is =
+    any _ (λ p. step.Do (command_with p.0 p.1)) (λ p. tt) (option_zip (option_and_then built_in_name (required string_of (codes "do") d)) (payload_in inside (get (codes "payload") d))) s is
+step_for_sound inside verb.Dispatch d queued s below is = mapped IsSound (λ command. step.Dispatch command) (command_of inside d) (λ command at. tt) s is
+step_for_sound inside verb.Later d queued s below is =
+    tested IsSound (has_only (codes "later" ∷ []) d) (option_map (λ script. step.Later script) queued) (mapped IsSound (λ script. step.Later script) queued below) s is
 
-step_of_sound : (d : Data) (s : Step) → step_of d ≡ Some s → IsSound s
-unfolding step_of
-step_of_sound d s is = chained IsSound (λ word. step_for word d) (first_member verbs d) (λ word at. step_for_sound word d) s is
+mutual
+  unfolding step_of queued_in script_in script_from
 
-pub update_of_sound : (d : Data) (form : Form) → update_of d ≡ Some form → IsSoundForm form
+  step_of_sound : (inside : Bool) (d : Data) (s : Step) → step_of inside d ≡ Some s → IsSound s
+  step_of_sound inside (object ms) s is =
+      chained IsSound (λ word. step_for inside word (object ms) (queued_in inside ms)) (first_member verbs (object ms))
+      (λ word at s made. step_for_sound inside word (object ms) (queued_in inside ms) s (queued_in_sound inside ms) made) s is
+  step_of_sound inside null s is = absurd (cc)
+  step_of_sound inside (boolean b) s is = absurd (cc)
+  step_of_sound inside (number n) s is = absurd (cc)
+  step_of_sound inside (string text) s is = absurd (cc)
+  step_of_sound inside (array ds) s is = absurd (cc)
+
+  queued_in_sound : (inside : Bool) (ms : Members) (made : Script) → queued_in inside ms ≡ Some made → IsSoundScript made
+  queued_in_sound inside no_members made is = absurd (cc)
+  queued_in_sound inside (member name d rest) made is = one_of_two (bytes_eq (codes "later") name) (script_in inside d) (queued_in inside rest) made (script_in_sound inside d made) (queued_in_sound inside rest made) is
+
+  script_in_sound : (inside : Bool) (d : Data) (made : Script) → script_in inside d ≡ Some made → IsSoundScript made
+  script_in_sound inside (array ds) made is = script_from_sound inside ds made is
+  script_in_sound inside null made is = absurd (cc)
+  script_in_sound inside (boolean b) made is = absurd (cc)
+  script_in_sound inside (number n) made is = absurd (cc)
+  script_in_sound inside (string text) made is = absurd (cc)
+  script_in_sound inside (object ms) made is = absurd (cc)
+
+  script_from_sound : (inside : Bool) (ds : Items) (made : Script) → script_from inside ds ≡ Some made → IsSoundScript made
+  script_from_sound inside no_items made is = let same : nil ≡ made = cc in subst IsSoundScript same tt
+  script_from_sound inside (item d ds) made is =
+      mapped IsSoundScript (λ p. with_first p.0 p.1) (option_zip (step_of inside d) (script_from inside ds))
+      (λ p at. script_with p.0 p.1 (step_of_sound inside d p.0 (zip_first (step_of inside d) (script_from inside ds) p at)) (script_from_sound inside ds p.1 (zip_second (step_of inside d) (script_from inside ds) p at)))
+      made is
+
+member_script_sound : (inside : Bool) (name : List ℕ) (d : Data) (made : Script) → required (script_in inside) name d ≡ Some made → IsSoundScript made
+member_script_sound inside name d made is = chained IsSoundScript (script_in inside) (get name d) (λ e there. script_in_sound inside e) made is
+
+-- ---- lines
+
+update_of_sound : (d : Data) (form : Form) → update_of d ≡ Some form → IsSoundForm form
 update_of_sound d form is =
-    let steps = required (list_of step_of) (codes "update") d in
+    let steps = required (script_in false) (codes "update") d in
     tested IsSoundForm (has_only (codes "update" ∷ []) d) (option_map (λ steps. Update steps) steps)
-    (mapped IsSoundForm (λ steps. Update steps) steps
-    (λ made at. chained (All IsSound) (list_of step_of) (get (codes "update") d)
-    (λ e there. chained (All IsSound) (all_of step_of) (as_array e) (λ items in_it. all_hold IsSound step_of step_of_sound items)) made at))
+    (mapped IsSoundForm (λ steps. Update steps) steps (member_script_sound false (codes "update") d))
     form is
 
-pub rule_form_of_sound : (d : Data) (form : Form) → rule_form_of d ≡ Some form → IsSoundForm form
+dispatch_form_of_sound : (d : Data) (form : Form) → dispatch_form_of d ≡ Some form → IsSoundForm form
+dispatch_form_of_sound d form is = mapped IsSoundForm (λ command. Dispatch command) (command_of false d) (λ command at. tt) form is
+
+rule_form_of_sound : (d : Data) (form : Form) → rule_form_of d ≡ Some form → IsSoundForm form
 rule_form_of_sound d form is =
     let rule = required rule_of (codes "rule") d in
     tested IsSoundForm (has_only (codes "rule" ∷ []) d) (option_map (λ rule. Rule rule) rule) (mapped IsSoundForm (λ rule. Rule rule) rule (λ made at. tt)) form is
+
+priority_within : (d : Data) (priority : ℕ) → required (number_within 0 4) (codes "priority") d ≡ Some priority → priority ≤ 4
+priority_within d priority is =
+    chained (λ n. n ≤ 4) (number_within 0 4) (get (codes "priority") d) (λ e there n at. leb-true n 4 (up_to 4 e n at)) priority is
+
+listener_of_sound : (d : Data) (l : Listener) → listener_of d ≡ Some l → IsSoundListener l
+listener_of_sound d l is =
+    let on = required string_of (codes "on") d in
+    let priority = required (number_within 0 4) (codes "priority") d in
+    let when = when_in (get (codes "when") d) in
+    let steps = required (script_in true) (codes "steps") d in
+    let handled = required as_bool (codes "handled") d in
+    let first = option_zip on priority in
+    let second = option_zip when steps in
+    tested IsSoundListener (has_only (codes "on" ∷ codes "priority" ∷ codes "when" ∷ codes "steps" ∷ codes "handled" ∷ []) d) _
+    (mapped IsSoundListener (λ p. listener_with p.0.0.0 p.0.0.1 p.0.1.0 p.0.1.1 p.1) (option_zip (option_zip first second) handled)
+    (λ p at.
+    let both = zip_first (option_zip first second) handled p at in
+    record {
+      priority = priority_within d p.0.0.1 (zip_second on priority p.0.0 (zip_first first second p.0 both));
+      steps = member_script_sound true (codes "steps") d p.0.1.1 (zip_second when steps p.0.1 (zip_second first second p.0 both));
+    }))
+    l is
+
+listener_form_of_sound : (d : Data) (form : Form) → listener_form_of d ≡ Some form → IsSoundForm form
+listener_form_of_sound d form is =
+    let listener = required listener_of (codes "listener") d in
+    tested IsSoundForm (has_only (codes "listener" ∷ []) d) (option_map (λ listener. Listens listener) listener)
+    (mapped IsSoundForm (λ listener. Listens listener) listener
+    (chained IsSoundListener listener_of (get (codes "listener") d) (λ e there. listener_of_sound e)))
+    form is
+
+show_of_sound : (d : Data) (form : Form) → show_of d ≡ Some form → IsSoundForm form
+show_of_sound d form is =
+    let shown = required (named questions) (codes "show") d in
+    tested IsSoundForm (has_only (codes "show" ∷ []) d) (option_map (λ shown. Show shown) shown) (mapped IsSoundForm (λ shown. Show shown) shown (λ made at. tt)) form is
+
+-- what the grammar makes of a line is sound
+pub form_of_sound : (d : Data) (form : Form) → form_of d ≡ Some form → IsSoundForm form
+form_of_sound d form is =
+    either IsSoundForm (update_of d) _ (update_of_sound d)
+    (either IsSoundForm (dispatch_form_of d) _ (dispatch_form_of_sound d)
+    (either IsSoundForm (rule_form_of d) _ (rule_form_of_sound d)
+    (either IsSoundForm (listener_form_of d) (show_of d) (listener_form_of_sound d) (show_of_sound d)))) form is

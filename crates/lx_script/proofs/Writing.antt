@@ -21,7 +21,7 @@ use Rattle.lx_select.specs.declared.selection.Selection.{Selection}
 use Rattle.lx_select.specs.declared.selection.Selection.TheVariants as selection
 use Rattle.lx_script.specs.Replies.{selection_data, attributes_onto, detail_of, lost_data, named_data, natural, op_data, or_null, reply_data, reply_text, text_data}
 use Rattle.lx_script.specs.declared.reply.Reply.{Reply}
-use Rattle.lx_script.specs.declared.reply.Reply.TheVariants.{Committed, Refused, Idle, View, Selection as Selected}
+use Rattle.lx_script.specs.declared.reply.Reply.TheVariants.{Committed, Refused, Idle, Registered, View, Selection as Selected}
 
 neither : (a b : Bool) → (a || b) ≡ false → (a ≡ false) × (b ≡ false)
 neither true b is = cc
@@ -87,9 +87,12 @@ has_float-selection_data (selection.Cells table anchor focus) = refl
 
 has_float-reply_data : (reply : Reply) → has_float (reply_data reply) ≡ false
 unfolding reply_data
-has_float-reply_data (Committed commit ops) = rw (items_have_float-ops ops) refl
+has_float-reply_data (Committed commit ops None) = rw (items_have_float-ops ops) refl
+has_float-reply_data (Committed commit ops (Some handled)) = rw (items_have_float-ops ops) refl
 has_float-reply_data (Refused cause step) = rw (has_float-detail_of cause, has_float-or_null natural (λ _. refl) step) refl
-has_float-reply_data Idle = refl
+has_float-reply_data (Idle None) = refl
+has_float-reply_data (Idle (Some handled)) = refl
+has_float-reply_data (Registered n) = refl
 has_float-reply_data (View html) = refl
 has_float-reply_data (Selected shown) = rw (has_float-selection_data shown) refl
 

@@ -1,5 +1,5 @@
 -- What a line of bytes asks for: the grammar of lines, over the JSON value that the bytes are.
-use Rattle.std.specs.Prelude.{◌≡◌, ℕ, List, [], ◌∷◌, codes, IsUtf8, if◌then◌else◌, Option, None, Some, option_map, Result, Ok, Err}
+use Rattle.std.specs.Prelude.{◌≡◌, ℕ, List, [], ◌∷◌, false, codes, IsUtf8, if◌then◌else◌, Option, None, Some, option_map, Result, Ok, Err}
 use Rattle.std.specs.Option.{option_or}
 use Rattle.serde_json.specs.Data.{Data}
 use Rattle.serde_json.specs.Read.{read}
@@ -8,12 +8,14 @@ use Rattle.lx_node.specs.declared.cause.Cause.TheVariants.{BadLine, BadCommand}
 use Rattle.lx_node.specs.declared.cause.Fault.{Fault}
 use Rattle.lx_node.specs.declared.cause.Fault.TheVariants.{Cause as Refused, Memory}
 use Rattle.lx_step.specs.declared.line.Form.{Form}
-use Rattle.lx_step.specs.declared.line.Form.TheVariants.{Update, Rule, Show}
+use Rattle.lx_step.specs.declared.line.Form.TheVariants.{Update, Dispatch, Rule, Listener as Listens, Show}
 use Rattle.lx_step.specs.declared.line.Line.{Line}
 use Rattle.lx_step.specs.Lines.{line_with}
+use Rattle.lx_script.specs.Commands.{command_of}
+use Rattle.lx_script.specs.Listeners.{listener_of}
 use Rattle.lx_script.specs.Rules.{rule_of}
-use Rattle.lx_script.specs.Steps.{step_of}
-use Rattle.lx_script.specs.Values.{named, has_only, required, list_of}
+use Rattle.lx_script.specs.Steps.{script_in}
+use Rattle.lx_script.specs.Values.{named, has_only, required}
 use Rattle.lx_script.specs.Words.{questions}
 
 -- the bytes are this JSON value: UTF-8 that serde_json reads, which nests at most 127 deep
@@ -22,19 +24,32 @@ IsJson bytes d = IsUtf8 bytes × (read bytes ≡ Some d)
 
 -- {"update":[STEP..]}
 abbrev pub update_of : Data → Option Form
-update_of d = if has_only (codes "update" ∷ []) d then option_map (λ steps. Update steps) (required (list_of step_of) (codes "update") d) else None
+update_of d = if has_only (codes "update" ∷ []) d then option_map (λ steps. Update steps) (required (script_in false) (codes "update") d) else None
+
+-- {"dispatch":NAME,"payload"?:PAYLOAD}
+abbrev pub dispatch_form_of : Data → Option Form
+dispatch_form_of d = option_map (λ command. Dispatch command) (command_of false d)
 
 -- {"rule":RULE}
 abbrev pub rule_form_of : Data → Option Form
 rule_form_of d = if has_only (codes "rule" ∷ []) d then option_map (λ rule. Rule rule) (required rule_of (codes "rule") d) else None
 
+-- {"listener":LISTENER}
+abbrev pub listener_form_of : Data → Option Form
+listener_form_of d =
+    if has_only (codes "listener" ∷ []) d then option_map (λ listener. Listens listener) (required listener_of (codes "listener") d) else None
+
 -- {"show":"view"} or {"show":"selection"}
 abbrev pub show_of : Data → Option Form
 show_of d = if has_only (codes "show" ∷ []) d then option_map (λ shown. Show shown) (required (named questions) (codes "show") d) else None
 
--- a line: an update, a rule or a question, without a moment and without tags
+-- an update, a dispatch, a rule, a listener or a question
+abbrev pub form_of : Data → Option Form
+form_of d = option_or (update_of d) (option_or (dispatch_form_of d) (option_or (rule_form_of d) (option_or (listener_form_of d) (show_of d))))
+
+-- a line of one of these forms, without a moment and without tags
 unfoldable pub line_of : Data → Option Line
-line_of d = option_map line_with (option_or (update_of d) (option_or (rule_form_of d) (show_of d)))
+line_of d = option_map line_with (form_of d)
 
 -- Made of a value that asks for this, or for nothing: the line, a refusal as no command, or want of memory.
 abbrev pub Makes : Option Line → Result Line Fault → Type 0

@@ -1,5 +1,7 @@
+pub mod Commands
 pub mod Documents
 pub mod Grammar
+pub mod Listeners
 pub mod Members
 pub mod NewNodes
 pub mod References

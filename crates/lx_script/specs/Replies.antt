@@ -1,5 +1,5 @@
 -- The bytes of a reply: compact JSON, whose members stand in byte order, as serde_json writes a value.
-use Rattle.std.specs.Prelude.{ℕ, true, List, [], ◌∷◌, codes, map, encode_utf8_all, Option, None, Some}
+use Rattle.std.specs.Prelude.{ℕ, Bool, true, List, [], ◌∷◌, codes, map, encode_utf8_all, Option, None, Some}
 use Rattle.serde_json.specs.Data.{Data, null, boolean, number, unsigned, string, array, object, Members, no_members, member, put}
 use Rattle.serde_json.specs.View.{items_of}
 use Rattle.serde_json.specs.Written.{compact_text}
@@ -25,7 +25,7 @@ use Rattle.lx_host.specs.declared.op.Op.TheVariants.{Create, Place, Drop, Text, 
 use Rattle.lx_select.specs.declared.selection.Selection.{Selection}
 use Rattle.lx_select.specs.declared.selection.Selection.TheVariants as selection
 use Rattle.lx_script.specs.declared.reply.Reply.{Reply}
-use Rattle.lx_script.specs.declared.reply.Reply.TheVariants.{Committed, Refused, Idle, View, Selection as Selected}
+use Rattle.lx_script.specs.declared.reply.Reply.TheVariants.{Committed, Refused, Idle, Registered, View, Selection as Selected}
 
 -- ---- parts of replies
 
@@ -174,10 +174,15 @@ selection_data (selection.Cells table anchor focus) = cells_data table anchor fo
 
 -- ---- replies
 
--- {"commit":N,"ops":[..]}
-abbrev pub commit_data : ℕ → List Op → Data
-commit_data commit ops =
-    object (member (codes "commit") (natural commit) (member (codes "ops") (list_data (map op_data ops)) no_members))
+-- whether a command was handled, where one was dispatched, before other members
+abbrev pub with_handled : Option Bool → Members → Members
+with_handled None members = members
+with_handled (Some handled) members = member (codes "handled") (boolean handled) members
+
+-- {"commit":N,"ops":[..]}, with "handled" between them
+abbrev pub commit_data : ℕ → List Op → Option Bool → Data
+commit_data commit ops handled =
+    object (member (codes "commit") (natural commit) (with_handled handled (member (codes "ops") (list_data (map op_data ops)) no_members)))
 
 -- {"refused":{"cause":NAME,"code":C,"detail":D,"step":I}}, where the step is an index or null
 abbrev pub refusal_data : Cause → Option ℕ → Data
@@ -188,9 +193,13 @@ refusal_data cause step =
     (member (codes "detail") (detail_of cause)
     (member (codes "step") (or_null natural step) no_members))))) no_members)
 
--- {"idle":true}
-abbrev pub idle_data : Data
-idle_data = object (member (codes "idle") (boolean true) no_members)
+-- {"idle":true}, with "handled" before
+abbrev pub idle_data : Option Bool → Data
+idle_data handled = object (with_handled handled (member (codes "idle") (boolean true) no_members))
+
+-- {"registered":N}
+abbrev pub registered_data : ℕ → Data
+registered_data n = object (member (codes "registered") (natural n) no_members)
 
 -- {"view":HTML}
 abbrev pub view_data : List ℕ → Data
@@ -201,9 +210,10 @@ abbrev pub shown_selection_data : Selection → Data
 shown_selection_data selection = object (member (codes "selection") (selection_data selection) no_members)
 
 unfoldable pub reply_data : Reply → Data
-reply_data (Committed commit ops) = commit_data commit ops
+reply_data (Committed commit ops handled) = commit_data commit ops handled
 reply_data (Refused cause step) = refusal_data cause step
-reply_data Idle = idle_data
+reply_data (Idle handled) = idle_data handled
+reply_data (Registered n) = registered_data n
 reply_data (View html) = view_data html
 reply_data (Selected selection) = shown_selection_data selection
 

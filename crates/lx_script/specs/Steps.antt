@@ -1,7 +1,8 @@
--- The steps of an update. Each is an object with the members that its sentence names; those with ? may be missing.
+-- The steps of an update, of a listener, and those that a step queues. Each is an object with the members that its sentence names; those with ? may be missing.
 use Rattle.std.specs.Prelude.{ℕ, List, [], ◌∷◌, Bool, false, codes, if◌then◌else◌, Option, None, Some, option_map, option_and_then}
 use Rattle.std.specs.Option.{option_zip}
-use Rattle.serde_json.specs.Data.{Data, null, object}
+use Rattle.std.specs.Str.{bytes_eq}
+use Rattle.serde_json.specs.Data.{Data, null, boolean, number, string, array, object, Items, no_items, item, Members, no_members, member}
 use Rattle.serde_json.specs.Find.{get, as_bool}
 use Rattle.lx_node.specs.declared.kind.Kind.{Kind}
 use Rattle.lx_step.specs.declared.member.Member.{Member}
@@ -9,6 +10,10 @@ use Rattle.lx_step.specs.declared.patch.Patch.{Patch}
 use Rattle.lx_step.specs.declared.reference.Reference.{Reference}
 use Rattle.lx_step.specs.declared.step.Step.{Step}
 use Rattle.lx_step.specs.declared.step.Step.TheVariants as step
+use Rattle.lx_node.specs.Trees.{nil}
+use Rattle.lx_step.specs.Script.{Script}
+use Rattle.lx_step.specs.Spelled.{with_first}
+use Rattle.lx_script.specs.Commands.{command_of, do_of}
 use Rattle.lx_script.specs.declared.words.Verb.{Verb}
 use Rattle.lx_script.specs.declared.words.Verb.TheVariants as verb
 use Rattle.lx_script.specs.Members.{patch_of}
@@ -90,21 +95,53 @@ two_nodes first second d =
 abbrev pub select_of : Data → Option Step
 select_of d = if has_only (codes "select" ∷ []) d then option_map (λ selection. step.Select selection) (required selection_of (codes "select") d) else None
 
-unfoldable pub step_for : Verb → Data → Option Step
-step_for verb.Append d = append_of d
-step_for verb.New d = new_of d
-step_for verb.Put d = put_of d
-step_for verb.Remove d = option_map (λ node. step.Remove node) (one_node (codes "remove") d)
-step_for verb.Replace d = replace_of d
-step_for verb.Set d = set_of d
-step_for verb.Mark d = option_map (λ node. step.Mark node) (one_node (codes "mark") d)
-step_for verb.Split d = split_of d
-step_for verb.Join d = option_map (λ p. step.Join p.0 p.1) (two_nodes (codes "join") (codes "with") d)
-step_for verb.Wrap d = option_map (λ p. step.Wrap p.0 p.1) (two_nodes (codes "wrap") (codes "in") d)
-step_for verb.Unwrap d = option_map (λ node. step.Unwrap node) (one_node (codes "unwrap") d)
-step_for verb.Children d = option_map (λ p. step.Children p.0 p.1) (two_nodes (codes "children") (codes "into") d)
-step_for verb.Select d = select_of d
+-- {"later":[STEP..]}, where these are its steps
+abbrev pub later_of : Data → Option Script → Option Step
+later_of d queued = if has_only (codes "later" ∷ []) d then option_map (λ script. step.Later script) queued else None
 
--- a step, which one of its members tells from the others
-unfoldable pub step_of : Data → Option Step
-step_of d = option_and_then (λ verb. step_for verb d) (first_member verbs d)
+-- a step, by the word that tells it from others, among a listener's steps or elsewhere; the script is that of a member `later`
+unfoldable pub step_for : Bool → Verb → Data → Option Script → Option Step
+step_for inside verb.Append d queued = append_of d
+step_for inside verb.New d queued = new_of d
+step_for inside verb.Put d queued = put_of d
+step_for inside verb.Remove d queued = option_map (λ node. step.Remove node) (one_node (codes "remove") d)
+step_for inside verb.Replace d queued = replace_of d
+step_for inside verb.Set d queued = set_of d
+step_for inside verb.Mark d queued = option_map (λ node. step.Mark node) (one_node (codes "mark") d)
+step_for inside verb.Split d queued = split_of d
+step_for inside verb.Join d queued = option_map (λ p. step.Join p.0 p.1) (two_nodes (codes "join") (codes "with") d)
+step_for inside verb.Wrap d queued = option_map (λ p. step.Wrap p.0 p.1) (two_nodes (codes "wrap") (codes "in") d)
+step_for inside verb.Unwrap d queued = option_map (λ node. step.Unwrap node) (one_node (codes "unwrap") d)
+step_for inside verb.Children d queued = option_map (λ p. step.Children p.0 p.1) (two_nodes (codes "children") (codes "into") d)
+step_for inside verb.Select d queued = select_of d
+step_for inside verb.Do d queued = do_of inside d
+step_for inside verb.Dispatch d queued = option_map (λ command. step.Dispatch command) (command_of inside d)
+step_for inside verb.Later d queued = later_of d queued
+
+unfoldable mutual
+  -- a step, which one of its members tells from the others
+  pub step_of : Bool → Data → Option Step
+  step_of inside (object entries) = option_and_then (λ verb. step_for inside verb (object entries) (queued_in inside entries)) (first_member verbs (object entries))
+  step_of inside null = None
+  step_of inside (boolean truth) = None
+  step_of inside (number n) = None
+  step_of inside (string text) = None
+  step_of inside (array items) = None
+
+  -- the steps that the member `later` lists
+  pub queued_in : Bool → Members → Option Script
+  queued_in inside no_members = None
+  queued_in inside (member name d rest) = if bytes_eq (codes "later") name then script_in inside d else queued_in inside rest
+
+  -- [STEP..]
+  pub script_in : Bool → Data → Option Script
+  script_in inside (array items) = script_from inside items
+  script_in inside null = None
+  script_in inside (boolean truth) = None
+  script_in inside (number n) = None
+  script_in inside (string text) = None
+  script_in inside (object entries) = None
+
+  pub script_from : Bool → Items → Option Script
+  script_from inside no_items = Some nil
+  script_from inside (item d ds) = option_map (λ p. with_first p.0 p.1) (option_zip (step_of inside d) (script_from inside ds))

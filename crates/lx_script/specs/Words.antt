@@ -86,7 +86,7 @@ verbs =
     (codes "append", verb.Append) ∷ (codes "new", verb.New) ∷ (codes "put", verb.Put) ∷ (codes "remove", verb.Remove)
     ∷ (codes "replace", verb.Replace) ∷ (codes "set", verb.Set) ∷ (codes "mark", verb.Mark) ∷ (codes "split", verb.Split)
     ∷ (codes "join", verb.Join) ∷ (codes "wrap", verb.Wrap) ∷ (codes "unwrap", verb.Unwrap) ∷ (codes "children", verb.Children)
-    ∷ (codes "select", verb.Select) ∷ []
+    ∷ (codes "select", verb.Select) ∷ (codes "do", verb.Do) ∷ (codes "dispatch", verb.Dispatch) ∷ (codes "later", verb.Later) ∷ []
 
 -- the words by which the conditions of rules are told apart, and their edits
 abbrev pub condition_words : List (List ℕ × ConditionWord)

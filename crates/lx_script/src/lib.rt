@@ -1,15 +1,18 @@
 //! Lines of the program's input, and the replies to them: what JSON asks for, and how an answer is
 //! written.
 //!
-//! A line is an update by steps, a rule, or a question. Each step is an object that names its members and has no
+//! A line is an update by steps, a command that is dispatched, a rule, a listener, or a question. Steps hold steps
+//! where they queue them, and so does a listener. Each step is an object that names its members and has no
 //! others; `specs/Grammar.antt` begins the grammar, which is stated over JSON values. The fields of nodes
 //! are read from the same table for new nodes, for patches and for documents.
 #![tactic(auto)]
 
 mod causes;
+mod commands;
 mod conditions;
 mod edits;
 mod fields;
+mod listeners;
 mod members;
 mod new_nodes;
 mod ops;
@@ -17,6 +20,7 @@ mod read;
 mod references;
 mod reply;
 mod rules;
+mod scripts;
 mod selection;
 mod steps;
 mod values;

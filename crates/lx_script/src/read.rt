@@ -3,10 +3,13 @@
 ghost use Rattle.std.specs.Prelude.{◌≡◌, IfOk};
 ghost use Rattle.serde_json.specs.View.{view};
 ghost use Rattle.lx_step.specs.Sound.{IsSoundForm};
-ghost use Rattle.lx_script.specs.Grammar.{TellsLine, Makes, line_of as line_of_data, update_of as update_of_data, rule_form_of as rule_form_of_data, show_of as show_of_data};
+ghost use Rattle.lx_script.specs.Grammar.{TellsLine};
+ghost use Rattle.lx_script.specs.Grammar as grammar;
 
+use crate::commands::command_of;
+use crate::listeners::listener_of;
 use crate::rules::rule_of;
-use crate::steps::steps_of;
+use crate::scripts::member_script;
 use crate::values::has_only;
 use crate::words::shown_of;
 use lx_node::{Cause, Fault, NoMemory};
@@ -16,7 +19,8 @@ use std::alloc::Global;
 
 /// Reads a line of bytes, without its end. It is refused as `BadLine` where it isn't JSON, and as
 /// `BadCommand` where the JSON is no command. A new node that a step of the line makes has fields of its kind,
-/// which isn't the root's, and the members that a step sets have values within their ranges.
+/// which isn't the root's, and the members that a step sets have values within their ranges: a step of the line itself,
+/// of a listener, or that another step queues. A listener's priority is from 0 to 4.
 pub fn read_line(alloc: Global, bytes: &[u8]) -> Result<Line, Fault>
     ensures tells { TellsLine bytes.now result }
     ensures sound { IfOk result (λ line. IsSoundForm line.form) }
@@ -32,23 +36,30 @@ pub fn read_line(alloc: Global, bytes: &[u8]) -> Result<Line, Fault>
 
 /// An update.
 fn update_of(alloc: Global, value: &Value) -> Result<Option<Form>, NoMemory>
-    ensures { IfOk result (λ made. made ≡ update_of_data (view value.now)) }
+    ensures { IfOk result (λ made. made ≡ grammar.update_of (view value.now)) }
 {
     if !has_only(&["update"], value) {
         return Ok(None);
     }
-    let Some(items) = value.get("update").and_then(Value::as_array) else {
-        return Ok(None);
-    };
-    match steps_of(alloc, items.as_slice())? {
+    match member_script(alloc, false, "update", value)? {
         Some(steps) => Ok(Some(Form::Update(steps))),
+        None => Ok(None),
+    }
+}
+
+/// A command that is dispatched.
+fn dispatch_form_of(alloc: Global, value: &Value) -> Result<Option<Form>, NoMemory>
+    ensures { IfOk result (λ made. made ≡ grammar.dispatch_form_of (view value.now)) }
+{
+    match command_of(alloc, false, value)? {
+        Some(command) => Ok(Some(Form::Dispatch(command))),
         None => Ok(None),
     }
 }
 
 /// A rule that is registered.
 fn rule_form_of(alloc: Global, value: &Value) -> Result<Option<Form>, NoMemory>
-    ensures { IfOk result (λ made. made ≡ rule_form_of_data (view value.now)) }
+    ensures { IfOk result (λ made. made ≡ grammar.rule_form_of (view value.now)) }
 {
     if !has_only(&["rule"], value) {
         return Ok(None);
@@ -62,9 +73,25 @@ fn rule_form_of(alloc: Global, value: &Value) -> Result<Option<Form>, NoMemory>
     }
 }
 
+/// A listener that is registered.
+fn listener_form_of(alloc: Global, value: &Value) -> Result<Option<Form>, NoMemory>
+    ensures { IfOk result (λ made. made ≡ grammar.listener_form_of (view value.now)) }
+{
+    if !has_only(&["listener"], value) {
+        return Ok(None);
+    }
+    let Some(listener) = value.get("listener") else {
+        return Ok(None);
+    };
+    match listener_of(alloc, listener)? {
+        Some(listener) => Ok(Some(Form::Listener(listener))),
+        None => Ok(None),
+    }
+}
+
 /// A question.
 fn show_of(value: &Value) -> Option<Form>
-    ensures { result ≡ show_of_data (view value.now) }
+    ensures { result ≡ grammar.show_of (view value.now) }
 {
     if !has_only(&["show"], value) {
         return None;
@@ -75,24 +102,34 @@ fn show_of(value: &Value) -> Option<Form>
     }
 }
 
+/// The form of a line.
+fn form_of(alloc: Global, value: &Value) -> Result<Option<Form>, NoMemory>
+    ensures { IfOk result (λ made. made ≡ grammar.form_of (view value.now)) }
+{
+    if let Some(form) = update_of(alloc, value)? {
+        return Ok(Some(form));
+    }
+    if let Some(form) = dispatch_form_of(alloc, value)? {
+        return Ok(Some(form));
+    }
+    if let Some(form) = rule_form_of(alloc, value)? {
+        return Ok(Some(form));
+    }
+    if let Some(form) = listener_form_of(alloc, value)? {
+        return Ok(Some(form));
+    }
+    Ok(show_of(value))
+}
+
 /// A line. A value that is none is refused as no command.
 #[tactic(auto, unfolding(crate::specs::Grammar::line_of))]
 fn line_of(alloc: Global, value: &Value) -> Result<Line, Fault>
-    ensures makes { Makes (line_of_data (view value.now)) result }
+    ensures makes { grammar.Makes (grammar.line_of (view value.now)) result }
     ensures sound { IfOk result (λ line. IsSoundForm line.form) }
 {
-    match update_of(alloc, value) {
-        Ok(Some(form)) => return Ok(Line::of(form)),
-        Ok(None) => {}
-        Err(_) => return Err(Fault::Memory),
-    }
-    match rule_form_of(alloc, value) {
-        Ok(Some(form)) => return Ok(Line::of(form)),
-        Ok(None) => {}
-        Err(_) => return Err(Fault::Memory),
-    }
-    match show_of(value) {
-        Some(form) => Ok(Line::of(form)),
-        None => Err(Fault::Cause(Cause::BadCommand)),
+    match form_of(alloc, value) {
+        Ok(Some(form)) => Ok(Line::of(form)),
+        Ok(None) => Err(Fault::Cause(Cause::BadCommand)),
+        Err(_) => Err(Fault::Memory),
     }
 }

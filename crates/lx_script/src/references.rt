@@ -62,7 +62,8 @@ pub(crate) fn member_reference(
     reference_in(alloc, value.get(name))
 }
 
-fn has_three(value: &Value) -> bool
+/// Whether it is a list of three items.
+pub(crate) fn has_three(value: &Value) -> bool
     ensures { result ≡ references.has_three (view value.now) }
 {
     match value.as_array() {
@@ -140,26 +141,6 @@ fn nodes_of(alloc: Global, value: &Value) -> Result<Option<SelectionRef>, NoMemo
     }
 }
 
-/// A selection of cells.
-fn cells_of(alloc: Global, value: &Value) -> Result<Option<SelectionRef>, NoMemory>
-    ensures { IfOk result (λ made. made ≡ references.cells_of (view value.now)) }
-{
-    if !has_only(&["anchor", "focus", "table"], value) {
-        return Ok(None);
-    }
-    let anchor = member_reference(alloc, "anchor", value)?;
-    let focus = member_reference(alloc, "focus", value)?;
-    let table = member_reference(alloc, "table", value)?;
-    match anchor.zip(focus).zip(table) {
-        Some(((anchor, focus), table)) => Ok(Some(SelectionRef::Cells {
-            table,
-            anchor,
-            focus,
-        })),
-        None => Ok(None),
-    }
-}
-
 /// A range.
 fn range_of(alloc: Global, value: &Value) -> Result<Option<SelectionRef>, NoMemory>
     ensures { IfOk result (λ made. made ≡ references.range_of (view value.now)) }
@@ -180,7 +161,7 @@ fn range_of(alloc: Global, value: &Value) -> Result<Option<SelectionRef>, NoMemo
     }
 }
 
-/// What is to be selected.
+/// What is to be selected: no cells, which no step can select yet.
 #[tactic(auto, unfolding(crate::specs::References::selection_of))]
 pub(crate) fn selection_of(alloc: Global, value: &Value) -> Result<Option<SelectionRef>, NoMemory>
     ensures { IfOk result (λ made. made ≡ references.selection_of (view value.now)) }
@@ -190,9 +171,6 @@ pub(crate) fn selection_of(alloc: Global, value: &Value) -> Result<Option<Select
     }
     if let Some(nodes) = nodes_of(alloc, value)? {
         return Ok(Some(nodes));
-    }
-    if let Some(cells) = cells_of(alloc, value)? {
-        return Ok(Some(cells));
     }
     range_of(alloc, value)
 }

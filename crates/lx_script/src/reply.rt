@@ -5,12 +5,24 @@ use lx_select::Selection;
 /// The answer to a line.
 #[derive(Debug, Drop)]
 pub enum Reply {
-    /// The line made commit `number`, and these operations bring a view up to date.
-    Committed { number: u32, ops: Ops },
+    /// The line made commit `number`, and these operations bring a view up to date. For a dispatch it is told
+    /// whether the command was handled.
+    Committed {
+        number: u32,
+        ops: Ops,
+        handled: Option<bool>,
+    },
     /// The line changed nothing, for this cause. The step is its index in the line's script, from 0.
-    Refused { cause: Cause, step: Option<u32> },
-    /// The line asked for nothing that isn't so already.
-    Idle,
+    Refused {
+        cause: Cause,
+        step: Option<u32>,
+    },
+    /// The line asked for nothing that isn't so already. For a dispatch it is told whether the command was handled.
+    Idle {
+        handled: Option<bool>,
+    },
+    /// The line registered a listener, and this is its number, from 1.
+    Registered(u32),
     /// The HTML of the view, for a line that asked for it.
     View(Txt),
     /// The committed selection, for a line that asked for it.

@@ -1,4 +1,4 @@
-//! The steps of an update.
+//! Steps but for those that hold commands or other steps.
 
 ghost use Rattle.std.specs.Prelude.{◌≡◌, IfOk, codes, option_map};
 ghost use Rattle.serde_json.specs.Data.{null};
@@ -11,37 +11,14 @@ ghost use Rattle.lx_script.specs.Values as values;
 use crate::members::patch_of;
 use crate::new_nodes::{kind_with, new_fields};
 use crate::references::{member_reference, selection_of};
-use crate::values::{has_only, number_of, text_of};
-use crate::words::{Verb, kind_of, verb_of};
+use crate::values::{has_only, member_text, number_of, optional_text};
+use crate::words::kind_of;
 use lx_node::{Kind, NoMemory, Txt};
-use lx_step::{Offsets, Patch, Reference, Step, Steps};
+use lx_step::{Offsets, Patch, Reference, Step};
 use serde_json::Value;
 use std::alloc::Global;
 
-/// The characters of a member.
-fn member_text(alloc: Global, name: &str, value: &Value) -> Result<Option<Txt>, NoMemory>
-    ensures { IfOk result (λ made. made ≡ values.required values.string_of name.now (view value.now)) }
-{
-    match value.get(name) {
-        Some(value) => text_of(alloc, value),
-        None => Ok(None),
-    }
-}
-
-/// The name that a step gives to a node, which may be missing.
-fn name_given(alloc: Global, value: &Value) -> Result<Option<Option<Txt>>, NoMemory>
-    ensures { IfOk result (λ made. made ≡ values.optional values.string_of (codes "as") (view value.now)) }
-{
-    match value.get("as") {
-        Some(value) => match text_of(alloc, value)? {
-            Some(name) => Ok(Some(Some(name))),
-            None => Ok(None),
-        },
-        None => Ok(Some(None)),
-    }
-}
-
-fn append_of(alloc: Global, value: &Value) -> Result<Option<Step>, NoMemory>
+pub(crate) fn append_of(alloc: Global, value: &Value) -> Result<Option<Step>, NoMemory>
     ensures { IfOk result (λ made. made ≡ steps.append_of (view value.now)) }
 {
     if !has_only(&["append"], value) {
@@ -65,7 +42,7 @@ fn index_in(value: &Value) -> Option<Option<u64>>
     }
 }
 
-fn put_of(alloc: Global, value: &Value) -> Result<Option<Step>, NoMemory>
+pub(crate) fn put_of(alloc: Global, value: &Value) -> Result<Option<Step>, NoMemory>
     ensures { IfOk result (λ made. made ≡ steps.put_of (view value.now)) }
 {
     if !has_only(&["put", "into", "at"], value) {
@@ -89,7 +66,7 @@ fn keep_in(value: &Value) -> Option<bool>
     }
 }
 
-fn replace_of(alloc: Global, value: &Value) -> Result<Option<Step>, NoMemory>
+pub(crate) fn replace_of(alloc: Global, value: &Value) -> Result<Option<Step>, NoMemory>
     ensures { IfOk result (λ made. made ≡ steps.replace_of (view value.now)) }
 {
     if !has_only(&["replace", "with", "keep"], value) {
@@ -113,7 +90,7 @@ fn member_patch(alloc: Global, value: &Value) -> Result<Option<Patch>, NoMemory>
     }
 }
 
-fn set_of(alloc: Global, value: &Value) -> Result<Option<Step>, NoMemory>
+pub(crate) fn set_of(alloc: Global, value: &Value) -> Result<Option<Step>, NoMemory>
     ensures { IfOk result (λ made. made ≡ steps.set_of (view value.now)) }
 {
     if !has_only(&["set", "fields"], value) {
@@ -150,7 +127,7 @@ fn member_offsets(alloc: Global, value: &Value) -> Result<Option<Offsets>, NoMem
     }
 }
 
-fn split_of(alloc: Global, value: &Value) -> Result<Option<Step>, NoMemory>
+pub(crate) fn split_of(alloc: Global, value: &Value) -> Result<Option<Step>, NoMemory>
     ensures { IfOk result (λ made. made ≡ steps.split_of (view value.now)) }
 {
     if !has_only(&["split", "at", "as"], value) {
@@ -158,7 +135,7 @@ fn split_of(alloc: Global, value: &Value) -> Result<Option<Step>, NoMemory>
     }
     let node = member_reference(alloc, "split", value)?;
     let offsets = member_offsets(alloc, value)?;
-    let name = name_given(alloc, value)?;
+    let name = optional_text(alloc, "as", value)?;
     match node.zip(offsets).zip(name) {
         Some(((node, offsets), name)) => Ok(Some(Step::Split {
             node,
@@ -169,7 +146,7 @@ fn split_of(alloc: Global, value: &Value) -> Result<Option<Step>, NoMemory>
     }
 }
 
-fn select_of(alloc: Global, value: &Value) -> Result<Option<Step>, NoMemory>
+pub(crate) fn select_of(alloc: Global, value: &Value) -> Result<Option<Step>, NoMemory>
     ensures { IfOk result (λ made. made ≡ steps.select_of (view value.now)) }
 {
     if !has_only(&["select"], value) {
@@ -185,7 +162,11 @@ fn select_of(alloc: Global, value: &Value) -> Result<Option<Step>, NoMemory>
 }
 
 /// The node of a step that names one node.
-fn one_of(alloc: Global, name: &str, value: &Value) -> Result<Option<Reference>, NoMemory>
+pub(crate) fn one_of(
+    alloc: Global,
+    name: &str,
+    value: &Value,
+) -> Result<Option<Reference>, NoMemory>
     ensures { IfOk result (λ made. made ≡ steps.one_node name.now (view value.now)) }
 {
     if !has_only(&[name], value) {
@@ -195,7 +176,7 @@ fn one_of(alloc: Global, name: &str, value: &Value) -> Result<Option<Reference>,
 }
 
 /// The nodes of a step that names two nodes.
-fn two_of(
+pub(crate) fn two_of(
     alloc: Global,
     first: &str,
     second: &str,
@@ -252,13 +233,13 @@ fn new_with(
     let Some(kind) = kind_with(kind, object) else {
         return Ok(None);
     };
-    match name_given(alloc, value)? {
+    match optional_text(alloc, "as", value)? {
         Some(name) => new_step(alloc, kind, object, name),
         None => Ok(None),
     }
 }
 
-fn new_of(alloc: Global, value: &Value) -> Result<Option<Step>, NoMemory>
+pub(crate) fn new_of(alloc: Global, value: &Value) -> Result<Option<Step>, NoMemory>
     ensures { IfOk result (λ made. made ≡ steps.new_of (view value.now)) }
 {
     if !has_only(&["new", "fields", "as"], value) {
@@ -272,60 +253,4 @@ fn new_of(alloc: Global, value: &Value) -> Result<Option<Step>, NoMemory>
         Some(object) => new_with(alloc, kind, object, value),
         None => Ok(None),
     }
-}
-
-/// A step, by the word that tells it from others.
-#[tactic(auto, unfolding(crate::specs::Steps::step_for))]
-fn step_for(alloc: Global, verb: Verb, value: &Value) -> Result<Option<Step>, NoMemory>
-    ensures { IfOk result (λ made. made ≡ steps.step_for verb (view value.now)) }
-{
-    match verb {
-        Verb::Append => append_of(alloc, value),
-        Verb::New => new_of(alloc, value),
-        Verb::Put => put_of(alloc, value),
-        Verb::Remove => Ok(one_of(alloc, "remove", value)?.map(|node| Step::Remove(node))),
-        Verb::Replace => replace_of(alloc, value),
-        Verb::Set => set_of(alloc, value),
-        Verb::Mark => Ok(one_of(alloc, "mark", value)?.map(|node| Step::Mark(node))),
-        Verb::Split => split_of(alloc, value),
-        Verb::Join => match two_of(alloc, "join", "with", value)? {
-            Some((node, with)) => Ok(Some(Step::Join { node, with })),
-            None => Ok(None),
-        },
-        Verb::Wrap => match two_of(alloc, "wrap", "in", value)? {
-            Some((node, outer)) => Ok(Some(Step::Wrap { node, outer })),
-            None => Ok(None),
-        },
-        Verb::Unwrap => Ok(one_of(alloc, "unwrap", value)?.map(|node| Step::Unwrap(node))),
-        Verb::Children => match two_of(alloc, "children", "into", value)? {
-            Some((from, into)) => Ok(Some(Step::Children { from, into })),
-            None => Ok(None),
-        },
-        Verb::Select => select_of(alloc, value),
-    }
-}
-
-/// A step.
-#[tactic(auto, unfolding(crate::specs::Steps::step_of))]
-fn step_of(alloc: Global, value: &Value) -> Result<Option<Step>, NoMemory>
-    ensures { IfOk result (λ made. made ≡ steps.step_of (view value.now)) }
-{
-    match verb_of(value) {
-        Some(verb) => step_for(alloc, verb, value),
-        None => Ok(None),
-    }
-}
-
-/// The steps of an update.
-pub(crate) fn steps_of(alloc: Global, items: &[Value]) -> Result<Option<Steps>, NoMemory>
-    ensures { IfOk result (λ made. made ≡ values.all_of steps.step_of (items_view items.now)) }
-{
-    let mut made = Vec::with_capacity(alloc, items.len())?;
-    'items: for item in items {
-        match step_of(alloc, item)? {
-            Some(step) => made.push(step)?,
-            None => return Ok(None),
-        }
-    }
-    Ok(Some(Steps::of(made)))
 }

@@ -1,7 +1,8 @@
 //! What the grammar asks of a JSON value.
 
-ghost use Rattle.std.specs.Prelude.{◌≡◌, map, option_map, IfOk};
-ghost use Rattle.serde_json.specs.View.{view};
+ghost use Rattle.std.specs.Prelude.{◌≡◌, map, option_map, option_and_then, IfOk};
+ghost use Rattle.serde_json.specs.Find.{get, as_array};
+ghost use Rattle.serde_json.specs.View.{view, items_view};
 ghost use Rattle.lx_script.specs.Values as values;
 
 use lx_node::{NoMemory, Txt};
@@ -84,6 +85,43 @@ pub(crate) fn text_of(alloc: Global, value: &Value) -> Result<Option<Txt>, NoMem
     match value.as_str() {
         Some(text) => Ok(Some(Txt::new(alloc, text)?)),
         None => Ok(None),
+    }
+}
+
+/// The characters of a member.
+pub(crate) fn member_text(alloc: Global, name: &str, value: &Value) -> Result<Option<Txt>, NoMemory>
+    ensures { IfOk result (λ made. made ≡ values.required values.string_of name.now (view value.now)) }
+{
+    match value.get(name) {
+        Some(value) => text_of(alloc, value),
+        None => Ok(None),
+    }
+}
+
+/// The characters of a member that may be missing.
+pub(crate) fn optional_text(
+    alloc: Global,
+    name: &str,
+    value: &Value,
+) -> Result<Option<Option<Txt>>, NoMemory>
+    ensures { IfOk result (λ made. made ≡ values.optional values.string_of name.now (view value.now)) }
+{
+    match value.get(name) {
+        Some(value) => match text_of(alloc, value)? {
+            Some(text) => Ok(Some(Some(text))),
+            None => Ok(None),
+        },
+        None => Ok(Some(None)),
+    }
+}
+
+/// The items that a member lists.
+pub(crate) fn items_in<'v>(name: &str, value: &'v Value) -> Option<&'v [Value]>
+    ensures { option_map (λ items. items_view items.now) result ≡ option_and_then as_array (get name.now (view value.now)) }
+{
+    match value.get(name).and_then(Value::as_array) {
+        Some(items) => Some(items.as_slice()),
+        None => None,
     }
 }
 

@@ -54,6 +54,9 @@ pub(crate) enum Verb {
     Unwrap,
     Children,
     Select,
+    Do,
+    Dispatch,
+    Later,
 }
 
 /// What a condition of a rule asks, by the word that tells it from others.
@@ -275,6 +278,9 @@ pub(crate) fn verb_of(value: &Value) -> Option<Verb>
             ("unwrap", Verb::Unwrap),
             ("children", Verb::Children),
             ("select", Verb::Select),
+            ("do", Verb::Do),
+            ("dispatch", Verb::Dispatch),
+            ("later", Verb::Later),
         ],
         value,
     )

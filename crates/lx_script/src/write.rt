@@ -2,7 +2,7 @@
 
 ghost use Rattle.std.specs.Prelude.{◌≡◌, IfOk};
 ghost use Rattle.serde_json.specs.View.{view};
-ghost use Rattle.lx_script.specs.Replies.{reply_data, reply_text, commit_data, refusal_data, view_data, shown_selection_data};
+ghost use Rattle.lx_script.specs.Replies.{reply_data, reply_text, commit_data, refusal_data, idle_data, registered_data, view_data, shown_selection_data};
 
 use crate::causes::{cause_name, detail_value};
 use crate::ops::ops_value;
@@ -27,19 +27,47 @@ fn reply_value(alloc: Global, reply: &Reply) -> Result<Value, AllocError>
     ensures { IfOk result (λ v. view v ≡ reply_data reply.now) }
 {
     match reply {
-        Reply::Committed { number, ops } => commit_value(alloc, *number, ops.items()),
+        Reply::Committed {
+            number,
+            ops,
+            handled,
+        } => commit_value(alloc, *number, ops.items(), *handled),
         Reply::Refused { cause, step } => refusal_value(alloc, cause, *step),
-        Reply::Idle => json!(in alloc; {"idle": true}),
+        Reply::Idle { handled } => idle_value(alloc, *handled),
+        Reply::Registered(number) => registered_value(alloc, *number),
         Reply::View(html) => shown_view(alloc, html),
         Reply::Selection(selection) => shown_selection(alloc, selection),
     }
 }
 
-fn commit_value(alloc: Global, number: u32, ops: &[Op]) -> Result<Value, AllocError>
-    ensures { IfOk result (λ v. view v ≡ commit_data number ops.now) }
+fn commit_value(
+    alloc: Global,
+    number: u32,
+    ops: &[Op],
+    handled: Option<bool>,
+) -> Result<Value, AllocError>
+    ensures { IfOk result (λ v. view v ≡ commit_data number ops.now handled) }
 {
     let ops = ops_value(alloc, ops)?;
-    json!(in alloc; {"commit": number, "ops": ops})
+    match handled {
+        Some(handled) => json!(in alloc; {"commit": number, "handled": handled, "ops": ops}),
+        None => json!(in alloc; {"commit": number, "ops": ops}),
+    }
+}
+
+fn idle_value(alloc: Global, handled: Option<bool>) -> Result<Value, AllocError>
+    ensures { IfOk result (λ v. view v ≡ idle_data handled) }
+{
+    match handled {
+        Some(handled) => json!(in alloc; {"handled": handled, "idle": true}),
+        None => json!(in alloc; {"idle": true}),
+    }
+}
+
+fn registered_value(alloc: Global, number: u32) -> Result<Value, AllocError>
+    ensures { IfOk result (λ v. view v ≡ registered_data number) }
+{
+    json!(in alloc; {"registered": number})
 }
 
 fn refusal_value(alloc: Global, cause: &Cause, step: Option<u32>) -> Result<Value, AllocError>

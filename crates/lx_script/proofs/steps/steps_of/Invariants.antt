@@ -1,8 +1,0 @@
-use Rattle.std.proofs.Common.{drop}
-use Rattle.serde_json.specs.View.{items_view}
-use Rattle.lx_script.specs.Steps.{step_of}
-use Rattle.lx_script.proofs.Gathered.{IsGathered}
-use Rattle.lx_script.proofs.steps.steps_of.Given as goal
-
-abbrev pub invariant-items : goal.invariant-items
-invariant-items l = IsGathered step_of l.made.items (items_view (drop l.item-index l.items)) (items_view l.items)
