@@ -1,11 +1,15 @@
--- Marks tell whatever a script changes.
-use Rattle.std.proofs.Common.{◌≡◌, ℕ, List, Ok}
+-- Marks tell whatever a line changes.
+use Rattle.std.proofs.Common.{◌≡◌, Ok, subst}
 use Rattle.lx_step.specs.declared.step.Step.{Step}
 use Rattle.lx_draft.specs.Covering.{IsReady, AreCovered}
 use Rattle.lx_draft.proofs.CoveredSteps.{covered-count, covered-mark, covered-select}
 use Rattle.lx_edit.proofs.Covered.{covered_path}
-use Rattle.lx_run.specs.Scripts.{Scripted, run_from}
-use Rattle.lx_run.proofs.Paths.{IsScriptPath, script_path}
+use Rattle.lx_edit.proofs.Paths.{self}
+use Rattle.lx_run.specs.Running.{Running, on_script, take_count}
+use Rattle.lx_run.specs.Scripts.{effect_of}
+use Rattle.lx_run.proofs.Paced.{count_taken, left_as}
+use Rattle.lx_run.proofs.Paths.{IsScriptPath, effect_path}
+use Rattle.lx_run.proofs.Stays.{IsKept, IsOfScripts}
 
 covered_scripts : IsScriptPath IsReady AreCovered
 covered_scripts = record {
@@ -15,5 +19,28 @@ covered_scripts = record {
   select = λ selection w v r e. covered-select selection w v r e;
 }
 
-pub script_covered : (at : ℕ) (steps : List Step) (s t : Scripted) → IsReady s.draft → run_from at steps s ≡ Ok t → AreCovered s.draft t.draft
-script_covered at steps s t r e = script_path covered_scripts at steps s t r e
+abbrev pub IsReadyRunning : Running → Type 0
+IsReadyRunning m = IsReady m.script.draft
+
+abbrev pub AreCoveredRunning : Running → Running → Type 0
+AreCoveredRunning m n = AreCovered m.script.draft n.script.draft
+
+covered_count : (m n : Running) → IsReadyRunning m → take_count m ≡ Ok n → AreCoveredRunning m n
+covered_count m n ready e = covered-count m.script.draft n.script.draft ready (count_taken m n e).draft
+
+covered_plain : (s : Step) (m n : Running) → IsReadyRunning m → on_script (effect_of s) m ≡ Ok n → AreCoveredRunning m n
+covered_plain s m n ready e =
+    left_as (AreCoveredRunning m n) (effect_of s) m n (λ t f is. subst (λ (x : Running). AreCoveredRunning m x) is (effect_path covered_scripts s m.script t ready f)) e
+
+pub covered : IsKept IsReadyRunning AreCoveredRunning
+covered = record {
+  ready = λ m n c. c.ready;
+  same = λ m ready. self covered_path m.script.draft ready;
+  on = λ m n o a b. covered_path.composed m.script.draft n.script.draft o.script.draft a b;
+  counted = λ m n ready e. covered_count m n ready e;
+  plain = λ s m n ready e. covered_plain s m n ready e;
+  later = λ m n steps sent ready e. covered_count m n ready e;
+}
+
+pub covered_queue : IsOfScripts IsReadyRunning AreCoveredRunning
+covered_queue m queue ready = self covered_path m.script.draft ready

@@ -1,10 +1,15 @@
 pub mod Beside
 pub mod Blocks
+pub mod Bounded
 pub mod Composed
 pub mod Counted
 pub mod Covered
+pub mod Emptied
 pub mod Gathered
 pub mod Held
+pub mod Made
+pub mod Paced
 pub mod Paths
 pub mod Runs
+pub mod Stays
 pub mod Words

@@ -1,5 +1,5 @@
--- What holds of each step of a draft, and of one after another, holds of the steps of a script, and of scripts.
-use Rattle.std.proofs.Common.{◌≡◌, ◌+◌, ℕ, List, [], ◌∷◌, Option, None, Some, Result, Ok, Err, refl, subst}
+-- What holds of each step of a draft, and of one after another, holds of each step of a script.
+use Rattle.std.proofs.Common.{◌≡◌, ℕ, List, [], ◌∷◌, Option, None, Some, Result, Ok, Err, refl, subst}
 use Rattle.lx_node.specs.declared.kind.Kind.TheVariants.{Text, Paragraph}
 use Rattle.lx_node.specs.declared.fields.Fields.{Fields}
 use Rattle.lx_node.specs.declared.cause.Cause.{Cause}
@@ -18,7 +18,7 @@ use Rattle.lx_edit.specs.Texts.{split_step, join_step}
 use Rattle.lx_edit.proofs.Paths.{IsPath, Leads, self, then, ok, allowed, remove_path, replace_path, wrap_path, unwrap_path, children_path, split_path, join_path}
 use Rattle.lx_run.specs.Appending.{appended, filled, text_step}
 use Rattle.lx_run.specs.Naming.{Naming, names_bound}
-use Rattle.lx_run.specs.Scripts.{Scripted, scripted, resolved, on_draft, naming, at_node, at_nodes, move_fault, loosened, index_or, script_put_step, repatched, script_set_step, name_of_first, selection_for, effect_of, run_step, run_on, run_from}
+use Rattle.lx_run.specs.Scripts.{Scripted, scripted, resolved, on_draft, naming, at_node, at_nodes, move_fault, loosened, index_or, script_put_step, repatched, script_set_step, name_of_first, selection_for, effect_of}
 
 -- A relation of a draft to what it became, that holds of each step of drafts and composes. A step may rely on D, which holds
 -- again behind each.
@@ -120,28 +120,6 @@ effect_path {D = D} {R = R} p (step.Unwrap node) s t d e = at_node_path D R node
 effect_path {D = D} {R = R} p (step.Children from into) s t d e = at_nodes_path D R from into children_step (λ k o w v d e. children_path p.path k o w v d (λ c among. tt) e) s t d e
 effect_path {D = D} {R = R} p (step.Select named) s t d e =
     looked (R s.draft t.draft) (selection_for named s) (λ sel. on_draft (select_step sel) s) t (λ sel e. on_draft_path D R (select_step sel) (p.select sel) s t d e) e
-
-step_then : {D : Working → Type 0} {R : Working → Working → Type 0} → IsPath D R (λ k. Unit {0}) → (s t : Scripted) (r : Result Scripted Cause) (next : Scripted → Result Scripted Cause)
-    → ((u : Scripted) → r ≡ Ok u → R s.draft u.draft) → ((u : Scripted) → D u.draft → next u ≡ Ok t → R u.draft t.draft) → after r next ≡ Ok t → R s.draft t.draft
-step_then path s t (Ok u) next first second e =
-    let a = first u refl in path.composed s.draft u.draft t.draft a (second u (path.ready s.draft u.draft a) e)
-step_then path s t (Err cause) next first second e = absurd (cc)
-
-pub step_path : {D : Working → Type 0} {R : Working → Working → Type 0} → IsScriptPath D R → (begun : Step) → Reaches D R (run_step begun)
-unfolding run_step
-step_path {D = D} {R = R} p begun s t d e =
-    step_then p.path s t (on_draft count_step s) (effect_of begun) (λ u e. on_draft_path D R count_step p.count s u d e) (λ u d e. effect_path p begun u t d e) e
-
--- ---- scripts
-
-script_then : {D : Working → Type 0} {R : Working → Working → Type 0} → IsPath D R (λ k. Unit {0}) → (at : ℕ) (s t : Scripted) (r : Result Scripted Cause) (next : Scripted → Result Scripted (Cause × ℕ))
-    → ((u : Scripted) → r ≡ Ok u → R s.draft u.draft) → ((u : Scripted) → D u.draft → next u ≡ Ok t → R u.draft t.draft) → run_on at r next ≡ Ok t → R s.draft t.draft
-script_then path at s t (Ok u) next first second e =
-    let a = first u refl in path.composed s.draft u.draft t.draft a (second u (path.ready s.draft u.draft a) e)
-script_then path at s t (Err cause) next first second e = absurd (cc)
-
-pub script_path : {D : Working → Type 0} {R : Working → Working → Type 0} → IsScriptPath D R → (at : ℕ) (steps : List Step) (s t : Scripted) → D s.draft → run_from at steps s ≡ Ok t → R s.draft t.draft
-unfolding run_from
-script_path {R = R} p at [] s t d e = let is : s ≡ t = cc in subst (λ (x : Scripted). R s.draft x.draft) is (self p.path s.draft d)
-script_path p at (first ∷ rest) s t d e =
-    script_then p.path at s t (run_step first s) (run_from (at + 1) rest) (λ u e. step_path p first s u d e) (λ u d e. script_path p (at + 1) rest u t d e) e
+effect_path p (step.Do command) s t d e = absurd (cc)
+effect_path p (step.Dispatch command) s t d e = absurd (cc)
+effect_path p (step.Later script) s t d e = absurd (cc)

@@ -1,42 +1,117 @@
--- Steps one after another, seen from a place among them.
-use Rattle.std.proofs.Common.{◌≡◌, ◌∙◌, ◌+◌, ◌≤◌, ℕ, zero, suc, List, [], ◌∷◌, length, drop, Some, Result, Ok, Err, refl, ap, sym, arith}
+-- Steps and offers that are left, after those that were made.
+use Rattle.std.proofs.Common.{◌≡◌, ◌∙◌, ◌+◌, ◌-◌, ◌≤◌, ℕ, zero, suc, Bool, true, false, List, [], ◌∷◌, length, drop, Some, Result, Ok, Err, refl, ap, sym, arith}
 use Rattle.std.specs.List.{slice_get}
+use Rattle.lx_node.specs.declared.cause.Cause.{Cause}
+use Rattle.lx_node.specs.declared.cause.Cause.TheVariants.{DispatchDepth}
 use Rattle.lx_node.specs.declared.cause.Fault.{Fault}
 use Rattle.lx_node.specs.declared.cause.Fault.TheVariants as fault
-use Rattle.lx_node.specs.declared.cause.Cause.{Cause}
+use Rattle.lx_step.specs.BuiltIns.{built_in}
+use Rattle.lx_step.specs.declared.command.Payload.{Payload}
+use Rattle.lx_step.specs.declared.listener.Listener.{Listener}
 use Rattle.lx_step.specs.declared.step.Step.{Step}
-use Rattle.lx_draft.specs.Faults.{TellsStep}
+use Rattle.lx_bus.specs.Offers.{above, behind}
+use Rattle.lx_draft.specs.Faults.{after, TellsStep}
 use Rattle.lx_edit.proofs.Turns.{left_at}
-use Rattle.lx_run.specs.Scripts.{Scripted, run_step, run_on, run_from, TellsAt}
+use Rattle.lx_run.specs.Running.{Running, Dispatching, unless_handled, built_in_or, step_in, steps_in, offer, offered, dispatched}
 
-one_more : (i : ℕ) → i + 1 ≡ suc i
-one_more i = omega arith
+-- ---- a list from a place in it
 
--- a step was taken: it goes on
-pub run_goes_on : (all : List Step) (i at : ℕ) (begun : Step) (s t : Scripted) → slice_get all i ≡ Some begun → run_step begun s ≡ Ok t
-    → run_from (at + 1) (drop (i + 1) all) t ≡ run_from at (drop i all) s
-unfolding run_from
-run_goes_on all i at begun s t here taken =
-    ap (λ n. run_from (at + 1) (drop n all) t) (one_more i)
-    ∙ sym (ap (λ rest. run_from at rest s) (left_at all i begun here) ∙ ap (λ r. run_on at r (run_from (at + 1) (drop (suc i) all))) taken)
+next_place : (i : ℕ) → suc i ≡ i + 1
+next_place i = omega arith
 
--- it was refused
-run_refused : (all : List Step) (i at : ℕ) (begun : Step) (s : Scripted) (cause : Cause) → slice_get all i ≡ Some begun → run_step begun s ≡ Err cause
-    → run_from at (drop i all) s ≡ Err (cause, at)
-unfolding run_from
-run_refused all i at begun s cause here refused =
-    ap (λ rest. run_from at rest s) (left_at all i begun here) ∙ ap (λ r. run_on at r (run_from (at + 1) (drop (suc i) all))) refused
+pub left_of : {A : Type 0} (all : List A) (i : ℕ) (a : A) → slice_get all i ≡ Some a → drop i all ≡ a ∷ drop (i + 1) all
+left_of all i a is = left_at all i a is ∙ ap (λ n. a ∷ drop n all) (next_place i)
 
--- ... and so are all
-pub run_told : (all : List Step) (i at : ℕ) (begun : Step) (s : Scripted) (e : Fault) (whole : Result Scripted (Cause × ℕ)) → slice_get all i ≡ Some begun
-    → run_from at (drop i all) s ≡ whole → TellsStep e (run_step begun s) → TellsAt e at whole
-run_told all i at begun s (fault.Cause cause) whole here same told = sym same ∙ run_refused all i at begun s cause here told
-run_told all i at begun s fault.Memory whole here same told = tt
+pub none_left : {A : Type 0} (all : List A) (i : ℕ) → length all ≤ i → drop i all ≡ []
+none_left [] zero h = refl
+none_left [] (suc i) h = refl
+none_left (x ∷ xs) zero h = absurd (omega (arith, h))
+none_left (x ∷ xs) (suc i) h = none_left xs i (omega (arith, h))
 
--- none is left
-pub run_done : (all : List Step) (i at : ℕ) (s : Scripted) → length all ≤ i → run_from at (drop i all) s ≡ Ok s
-unfolding run_from
-run_done [] zero at s h = refl
-run_done [] (suc i) at s h = refl
-run_done (x ∷ xs) zero at s h = absurd (omega (arith, h))
-run_done (x ∷ xs) (suc i) at s h = run_done xs i at s (omega (arith, h))
+-- what a part tells of an error, the whole tells, where it is refused for each cause for which the part is
+pub told_of : {A B : Type 0} (fault : Fault) (part : Result A Cause) (whole : Result B Cause) → ((cause : Cause) → part ≡ Err cause → whole ≡ Err cause) → TellsStep fault part → TellsStep fault whole
+told_of (fault.Cause cause) part whole goes told = goes cause told
+told_of fault.Memory part whole goes told = tt
+
+-- ---- steps
+
+pub steps_go_on : (d : Dispatching) (sent : Payload) (left rest : List Step) (step : Step) (m n : Running) → left ≡ step ∷ rest → step_in d sent step m ≡ Ok n
+    → steps_in d sent rest n ≡ steps_in d sent left m
+unfolding steps_in
+steps_go_on d sent left rest step m n is ran =
+    sym (ap (λ steps. steps_in d sent steps m) is ∙ ap (λ r. after r (steps_in d sent rest)) ran)
+
+pub steps_refused : (d : Dispatching) (sent : Payload) (left rest : List Step) (step : Step) (m : Running) (cause : Cause) → left ≡ step ∷ rest → step_in d sent step m ≡ Err cause
+    → steps_in d sent left m ≡ Err cause
+unfolding steps_in
+steps_refused d sent left rest step m cause is refused =
+    ap (λ steps. steps_in d sent steps m) is ∙ ap (λ r. after r (steps_in d sent rest)) refused
+
+pub steps_done : (d : Dispatching) (sent : Payload) (left : List Step) (m : Running) → left ≡ [] → steps_in d sent left m ≡ Ok m
+unfolding steps_in
+steps_done d sent left m is = ap (λ steps. steps_in d sent steps m) is
+
+-- ---- offers
+
+pub offers_go_on : (d : Dispatching) (sent : Payload) (left rest : List Listener) (l : Listener) (m n : Running) → left ≡ l ∷ rest → offer d sent l m ≡ Ok (n, false)
+    → offered d sent rest n ≡ offered d sent left m
+unfolding offered
+offers_go_on d sent left rest l m n is passed =
+    sym (ap (λ ls. offered d sent ls m) is ∙ ap (λ r. after r (unless_handled (offered d sent rest))) passed)
+
+pub offers_handled : (d : Dispatching) (sent : Payload) (left rest : List Listener) (l : Listener) (m n : Running) → left ≡ l ∷ rest → offer d sent l m ≡ Ok (n, true)
+    → offered d sent left m ≡ Ok (n, true)
+unfolding offered
+offers_handled d sent left rest l m n is passed =
+    ap (λ ls. offered d sent ls m) is ∙ ap (λ r. after r (unless_handled (offered d sent rest))) passed
+
+pub offers_refused : (d : Dispatching) (sent : Payload) (left rest : List Listener) (l : Listener) (m : Running) (cause : Cause) → left ≡ l ∷ rest → offer d sent l m ≡ Err cause
+    → offered d sent left m ≡ Err cause
+unfolding offered
+offers_refused d sent left rest l m cause is refused =
+    ap (λ ls. offered d sent ls m) is ∙ ap (λ r. after r (unless_handled (offered d sent rest))) refused
+
+pub none_offered : (d : Dispatching) (sent : Payload) (left : List Listener) (m : Running) → left ≡ [] → offered d sent left m ≡ Ok (m, false)
+unfolding offered
+none_offered d sent left m is = ap (λ ls. offered d sent ls m) is
+
+-- ---- dispatches
+
+one_less : (n : ℕ) → suc n - 1 ≡ n
+one_less n = omega arith
+
+-- a dispatch, where these offers come first and answer this
+abbrev Dispatched : ℕ → List Listener → List ℕ → Payload → Running → Result (Running × Bool) Cause → Type 0
+Dispatched left ls name sent m first =
+    dispatched left ls name sent m ≡ after first (unless_handled (built_in_or (built_in name) (dispatched (left - 1) ls) sent (behind name ls)))
+
+dispatched_by : (left : ℕ) (ls : List Listener) (name : List ℕ) (sent : Payload) (m : Running) → (left ≡ 0 → ⊥) → Dispatched left ls name sent m (offered (dispatched (left - 1) ls) sent (above name ls) m)
+unfolding dispatched
+dispatched_by zero ls name sent m more = absurd (more refl)
+dispatched_by (suc left) ls name sent m more =
+    ap (λ n. after (offered (dispatched n ls) sent (above name ls) m) (unless_handled (built_in_or (built_in name) (dispatched n ls) sent (behind name ls)))) (sym (one_less left))
+
+dispatched_first : (left : ℕ) (ls first : List Listener) (name : List ℕ) (sent : Payload) (m : Running) (r : Result (Running × Bool) Cause)
+    → (left ≡ 0 → ⊥) → first ≡ above name ls → offered (dispatched (left - 1) ls) sent first m ≡ r → Dispatched left ls name sent m r
+dispatched_first left ls first name sent m r more is answers =
+    let from : offered (dispatched (left - 1) ls) sent (above name ls) m ≡ r = ap (λ os. offered (dispatched (left - 1) ls) sent os m) (sym is) ∙ answers in
+    dispatched_by left ls name sent m more
+    ∙ ap (λ r. after r (unless_handled (built_in_or (built_in name) (dispatched (left - 1) ls) sent (behind name ls)))) from
+
+pub dispatched_handled : (left : ℕ) (ls first : List Listener) (name : List ℕ) (sent : Payload) (m n : Running) → (left ≡ 0 → ⊥) → first ≡ above name ls
+    → offered (dispatched (left - 1) ls) sent first m ≡ Ok (n, true) → dispatched left ls name sent m ≡ Ok (n, true)
+dispatched_handled left ls first name sent m n more is answers = dispatched_first left ls first name sent m (Ok (n, true)) more is answers
+
+pub dispatched_refused : (left : ℕ) (ls first : List Listener) (name : List ℕ) (sent : Payload) (m : Running) (cause : Cause) → (left ≡ 0 → ⊥) → first ≡ above name ls
+    → offered (dispatched (left - 1) ls) sent first m ≡ Err cause → dispatched left ls name sent m ≡ Err cause
+dispatched_refused left ls first name sent m cause more is answers = dispatched_first left ls first name sent m (Err cause) more is answers
+
+-- none of the first has handled it, and there is no built-in command of the name
+pub dispatched_behind : (left : ℕ) (ls first last : List Listener) (name : List ℕ) (sent : Payload) (m n : Running) → (left ≡ 0 → ⊥) → first ≡ above name ls → last ≡ behind name ls
+    → offered (dispatched (left - 1) ls) sent first m ≡ Ok (n, false) → offered (dispatched (left - 1) ls) sent last n ≡ dispatched left ls name sent m
+dispatched_behind left ls first last name sent m n more is same answers =
+    ap (λ os. offered (dispatched (left - 1) ls) sent os n) same ∙ sym (dispatched_first left ls first name sent m (Ok (n, false)) more is answers)
+
+pub dispatched_deepest : (left : ℕ) (ls : List Listener) (name : List ℕ) (sent : Payload) (m : Running) → left ≡ 0 → dispatched left ls name sent m ≡ Err DispatchDepth
+unfolding dispatched
+dispatched_deepest left ls name sent m deepest = ap (λ n. dispatched n ls name sent m) deepest

@@ -1,3 +1,7 @@
 pub mod Appending
 pub mod Naming
 pub mod Scripts
+pub mod Holding
+pub mod Running
+pub mod Refusals
+pub mod Lines

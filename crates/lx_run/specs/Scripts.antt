@@ -1,5 +1,5 @@
 -- Scripts: steps that run one after another on a draft.
-use Rattle.std.specs.Prelude.{ℕ, ◌≡◌, ◌+◌, ◌==◌, ◌||◌, Bool, false, nat_lt, if◌then◌else◌, List, [], ◌∷◌, codes, length, Option, None, Some, Result, Ok, Err}
+use Rattle.std.specs.Prelude.{ℕ, ◌==◌, ◌||◌, Bool, false, nat_lt, if◌then◌else◌, List, [], ◌∷◌, codes, length, Option, None, Some, Result, Ok, Err}
 use Rattle.std.specs.Option.{option_or}
 use Rattle.std.specs.FinMap.{get}
 use Rattle.lx_node.specs.Siblings.{names_without}
@@ -8,12 +8,10 @@ use Rattle.lx_node.specs.declared.kind.Kind.{Kind}
 use Rattle.lx_node.specs.declared.fields.Fields.{Fields}
 use Rattle.lx_node.specs.declared.fields.Fields.TheVariants as fields
 use Rattle.lx_node.specs.declared.cause.Cause.{Cause}
-use Rattle.lx_node.specs.declared.cause.Cause.TheVariants.{UnknownNode, WrongKind, BadPlace}
+use Rattle.lx_node.specs.declared.cause.Cause.TheVariants.{BadCommand, UnknownNode, WrongKind, BadPlace}
 use Rattle.lx_node.specs.declared.cause.Named.{Named}
 use Rattle.lx_node.specs.declared.cause.Named.TheVariants as named
 use Rattle.lx_node.specs.declared.cause.Point.{Point}
-use Rattle.lx_node.specs.declared.cause.Fault.{Fault}
-use Rattle.lx_node.specs.declared.cause.Fault.TheVariants as fault
 use Rattle.lx_select.specs.declared.selection.Selection.{Selection}
 use Rattle.lx_select.specs.declared.selection.Selection.TheVariants as selection
 use Rattle.lx_forest.specs.Forest.{Forest, Label}
@@ -30,7 +28,7 @@ use Rattle.lx_step.specs.declared.step.Step.TheVariants as step
 use Rattle.lx_step.specs.Patches.{patched}
 use Rattle.lx_draft.specs.Working.{Working}
 use Rattle.lx_draft.specs.Faults.{answer, after}
-use Rattle.lx_draft.specs.Steps.{count_step, new_step, set_step, take_step, put_step, mark_step, select_step}
+use Rattle.lx_draft.specs.Steps.{new_step, set_step, take_step, put_step, mark_step, select_step}
 use Rattle.lx_edit.specs.Edits.{remove_step, replace_step, wrap_step, unwrap_step, children_step}
 use Rattle.lx_edit.specs.Texts.{split_step, join_step}
 use Rattle.lx_run.specs.Appending.{appended}
@@ -202,7 +200,7 @@ then_selected named s = after named (λ sel. on_draft (select_step sel) s)
 abbrev pub script_select_step : SelectionRef → Scripted → Result Scripted Cause
 script_select_step named s = then_selected (selection_for named s) s
 
--- ---- the steps
+-- ---- the steps, but for those that do a command, dispatch one or queue others, which stand with the running of a line
 
 abbrev pub effect_of : Step → Scripted → Result Scripted Cause
 effect_of (step.Append text) s = on_draft (appended text) s
@@ -218,23 +216,4 @@ effect_of (step.Wrap node outer) s = at_nodes node outer wrap_step s
 effect_of (step.Unwrap node) s = at_node node unwrap_step s
 effect_of (step.Children from into) s = at_nodes from into children_step s
 effect_of (step.Select named) s = script_select_step named s
-
--- each step that begins takes a count
-unfoldable pub run_step : Step → Scripted → Result Scripted Cause
-run_step begun s = after (on_draft count_step s) (effect_of begun)
-
--- what a step leaves goes on, and a refusal ends with the index of its step
-abbrev pub run_on : ℕ → Result Scripted Cause → (Scripted → Result Scripted (Cause × ℕ)) → Result Scripted (Cause × ℕ)
-run_on at (Err cause) next = Err (cause, at)
-run_on at (Ok s) next = next s
-
--- the steps one after another, of which the first has this index
-unfoldable pub run_from : ℕ → List Step → Scripted → Result Scripted (Cause × ℕ)
-run_from at [] s = Ok s
-run_from at (first ∷ rest) s = run_on at (run_step first s) (run_from (at + 1) rest)
-
--- An error of a call that runs steps, of which this one was the last that began: it was refused for the cause, or memory was
--- wanting.
-abbrev pub TellsAt : Fault → ℕ → Result Scripted (Cause × ℕ) → Type 0
-TellsAt (fault.Cause cause) at run = run ≡ Err (cause, at)
-TellsAt fault.Memory at run = Unit {0}
+effect_of other s = Err BadCommand

@@ -1,15 +1,21 @@
-//! What the steps of a script make of a draft, with the names that they give to its nodes.
+//! What a line makes of a draft: its steps, the commands that they dispatch, and the steps that they queue.
 #![tactic(auto)]
 
 mod append;
+mod dispatching;
+mod holding;
+mod lines;
 mod names;
 mod putting;
+mod queue;
+mod refusal;
 mod resolving;
+mod running;
 mod script;
 mod selecting;
 mod setting;
 mod splitting;
 mod stepping;
 
-pub use names::Names;
-pub use script::run_steps;
+pub use lines::{run_dispatch, run_steps};
+pub use refusal::Refusal;

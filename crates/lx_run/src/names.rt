@@ -6,7 +6,7 @@ use std::marker::Model;
 /// The names that the steps of a script have given to nodes. Contracts see the map from each name to the node
 /// that got it last.
 #[derive(Drop)]
-pub struct Names {
+pub(crate) struct Names {
     alloc: Global,
     held: BTreeMap<String, Key>,
 }
@@ -29,7 +29,7 @@ impl Names {
     ghost use Rattle.lx_run.specs.Naming.{no_names};
 
     /// No name.
-    pub fn new(alloc: Global) -> Names
+    pub(crate) fn new(alloc: Global) -> Names
         ensures { result ≡ no_names }
     {
         Names {
@@ -39,14 +39,14 @@ impl Names {
     }
 
     /// The node that got the name last.
-    pub fn find(&self, name: &Txt) -> Option<Key>
+    pub(crate) fn find(&self, name: &Txt) -> Option<Key>
         ensures { result ≡ map.get self.now name.now }
     {
         self.held.get(name.as_str()).copied()
     }
 
     /// Gives a node a name, which from then on is that of no other node. It takes memory for the name.
-    pub fn bind(&mut self, name: &Txt, key: Key) -> Result<(), NoMemory>
+    pub(crate) fn bind(&mut self, name: &Txt, key: Key) -> Result<(), NoMemory>
         ensures { OnOk result (self.new ≡ map.insert self.old name.now key) }
     {
         let name = String::from_str(self.alloc, name.as_str())?;

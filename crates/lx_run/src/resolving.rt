@@ -55,7 +55,8 @@ fn key_for(draft: &Draft, names: &Names, reference: &Reference) -> Option<Key>
     }
 }
 
-fn anchor_of(selection: &Selection) -> Option<Key>
+/// The anchor of a range.
+pub(crate) fn anchor_of(selection: &Selection) -> Option<Key>
     ensures { result ≡ scripts.anchor_of selection.now }
 {
     match selection {
@@ -83,7 +84,7 @@ fn is_text_block_in(kind: Option<Kind>) -> bool
 }
 
 /// The text block of a node: itself, or the nearest above it.
-fn block_of(links: &Links, key: Key) -> Option<Key>
+pub(crate) fn block_of(links: &Links, key: Key) -> Option<Key>
     ensures { result ≡ scripts.first_block links.now (key ∷ lookups.ancestors links.now key) }
 {
     let mut at = key;

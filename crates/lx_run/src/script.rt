@@ -1,11 +1,9 @@
-//! The steps of a script on a draft, one after another.
+//! What a step of a script does to a draft, by itself.
 
-ghost use Rattle.std.specs.Prelude.{◌≡◌, ◌<◌, ◌≤◌, Ok, OnOk, IfOk, IfErr, All};
+ghost use Rattle.std.specs.Prelude.{◌≡◌, Ok, OnOk, IfErr};
 ghost use Rattle.lx_step.specs.Sound.{IsSound};
-ghost use Rattle.lx_draft.specs.Covering.{IsReady, AreCovered};
 ghost use Rattle.lx_draft.specs.Faults.{TellsStep};
-ghost use Rattle.lx_run.specs.Scripts as scripts;
-ghost use Rattle.lx_run.specs.Scripts.{scripted, effect_of, run_from, TellsAt};
+ghost use Rattle.lx_run.specs.Scripts.{scripted, effect_of};
 
 use crate::append::append_paragraph;
 use crate::names::Names;
@@ -15,56 +13,13 @@ use crate::stepping::{
     unwrap_at, wrap_at,
 };
 use lx_draft::Draft;
-use lx_node::Fault;
+use lx_node::{Cause, Fault};
 use lx_step::Step;
 use std::alloc::Global;
 
-/// Runs the steps one after another on a draft, and gives nodes the names that steps tell. Each step that
-/// begins takes a count. `at` is the index of the step that runs, from that of the first of these; after a
-/// refusal it is that of the step that was refused. The draft and the names are then only fit to be dropped.
-pub fn run_steps(
-    alloc: Global,
-    draft: &mut Draft,
-    names: &mut Names,
-    steps: &[Step],
-    at: &mut u32,
-) -> Result<(), Fault>
-    requires sound { All IsSound steps.now }
-    requires begun { at.old ≤ draft.old.counted }
-    ensures ok { OnOk result (run_from at.old steps.now (scripted draft.old names.old) ≡ Ok (scripted draft.new names.new)) }
-    ensures covered { OnOk result (IsReady draft.old → AreCovered draft.old draft.new) }
-    ensures err { IfErr result (λ e. TellsAt e at.new (run_from at.old steps.now (scripted draft.old names.old))) }
-{
-    for step in steps {
-        match run_step(alloc, draft, names, step) {
-            Ok(_) => *at += 1,
-            Err(fault) => return Err(fault),
-        }
-    }
-    Ok(())
-}
-
-/// Runs a step, which takes a count, and answers how many counts were taken then.
-#[tactic(auto, unfolding(crate::specs::Scripts::run_step))]
-fn run_step(alloc: Global, draft: &mut Draft, names: &mut Names, step: &Step) -> Result<u32, Fault>
-    requires sound { IsSound step.now }
-    ensures ok { OnOk result (scripts.run_step step.now (scripted draft.old names.old) ≡ Ok (scripted draft.new names.new)) }
-    ensures counted { IfOk result (λ n. n ≡ draft.new.counted) }
-    ensures more { IfOk result (λ n. draft.old.counted < n) }
-    ensures err { IfErr result (λ e. TellsStep e (scripts.run_step step.now (scripted draft.old names.old))) }
-{
-    match draft.count() {
-        Ok(()) => {}
-        Err(cause) => return Err(Fault::Cause(cause)),
-    }
-    match take_effect(alloc, draft, names, step) {
-        Ok(()) => Ok(draft.counted()),
-        Err(fault) => Err(fault),
-    }
-}
-
-/// What a step does that has begun.
-fn take_effect(
+/// What a step does that has begun. One that does a command, dispatches one or queues steps is refused here, since it
+/// does nothing to a draft by itself.
+pub(crate) fn take_effect(
     alloc: Global,
     draft: &mut Draft,
     names: &mut Names,
@@ -92,5 +47,6 @@ fn take_effect(
         Step::Unwrap(node) => unwrap_at(alloc, draft, names, node),
         Step::Children { from, into } => move_children_at(alloc, draft, names, from, into),
         Step::Select(chosen) => select_at(alloc, draft, names, chosen),
+        Step::Do(_) | Step::Dispatch(_) | Step::Later(_) => Err(Fault::Cause(Cause::BadCommand)),
     }
 }

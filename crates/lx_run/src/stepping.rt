@@ -1,14 +1,14 @@
 //! The steps of a script, each by itself.
 
-ghost use Rattle.std.specs.Prelude.{◌≡◌, ◌<◌, ◌≤◌, ◌∷◌, Ok, Some, OnOk, IfErr, All, length};
-ghost use Rattle.lx_step.specs.Sound.{IsSound, MayBeNew};
+ghost use Rattle.std.specs.Prelude.{◌≡◌, ◌∷◌, Ok, Some, OnOk, IfErr, length};
+ghost use Rattle.lx_step.specs.Sound.{MayBeNew};
 ghost use Rattle.lx_draft.specs.Faults.{TellsStep};
 ghost use Rattle.lx_draft.specs.Steps.{new_step, mark_step};
 ghost use Rattle.lx_edit.specs.Edits.{remove_step, replace_step, wrap_step, unwrap_step, children_step};
 ghost use Rattle.lx_edit.specs.Texts.{join_step, split_step};
 ghost use Rattle.lx_run.specs.Naming.{names_bound};
 ghost use Rattle.lx_run.specs.Scripts as scripts;
-ghost use Rattle.lx_run.specs.Scripts.{scripted, at_node, at_nodes, naming, effect_of, run_from, TellsAt};
+ghost use Rattle.lx_run.specs.Scripts.{scripted, at_node, at_nodes, naming};
 
 use crate::names::Names;
 use crate::putting::put_node;

@@ -1,0 +1,162 @@
+//! Steps and dispatches: each may run the other, as deep as dispatches may nest.
+
+ghost use Rattle.std.specs.Prelude.{◌≡◌, Ok, OnOk, IfOk, IfErr, All};
+ghost use Rattle.lx_step.specs.Sound.{IsSound, IsSoundListener};
+ghost use Rattle.lx_draft.specs.Faults.{TellsStep};
+ghost use Rattle.lx_run.specs.Running as spec;
+ghost use Rattle.lx_run.specs.Running.{dispatched, steps_in, step_in, offered};
+
+use crate::running::Running;
+use lx_bus::{Bus, Offers};
+use lx_node::{Cause, Fault, Txt};
+use lx_step::{BuiltIn, Listener, Payload, Step};
+
+/// How many dispatches may run, one in another.
+pub(crate) const MOST_NESTED: u32 = 64;
+
+/// A payload, where `"@payload"` stands for the one that was sent.
+fn payload_for<'a>(sent: &'a Payload, payload: &'a Payload) -> &'a Payload
+    ensures { result.now ≡ spec.payload_for sent.now payload.now }
+{
+    match payload {
+        Payload::Given => sent,
+        other => other,
+    }
+}
+
+/// Runs steps one after another. Dispatches in them may nest `left` deep.
+#[cycle(dispatch)]
+pub(crate) fn run_all<'a>(
+    bus: &'a Bus,
+    running: &mut Running<'a>,
+    steps: &'a [Step],
+    sent: &'a Payload,
+    left: u32,
+) -> Result<(), Fault>
+    requires sound { All IsSound steps.now }
+    ensures ok { OnOk result (steps_in (dispatched left bus.now) sent.now steps.now running.old ≡ Ok running.new) }
+    ensures err { IfErr result (λ e. TellsStep e (steps_in (dispatched left bus.now) sent.now steps.now running.old)) }
+{
+    for step in steps {
+        match run_step(bus, running, step, sent, left) {
+            Ok(()) => {}
+            Err(fault) => return Err(fault),
+        }
+    }
+    Ok(())
+}
+
+/// Runs a step, which takes a count.
+#[cycle(dispatch)]
+#[tactic(auto, unfolding(crate::specs::Running::step_in))]
+pub(crate) fn run_step<'a>(
+    bus: &'a Bus,
+    running: &mut Running<'a>,
+    step: &'a Step,
+    sent: &'a Payload,
+    left: u32,
+) -> Result<(), Fault>
+    requires sound { IsSound step.now }
+    ensures ok { OnOk result (step_in (dispatched left bus.now) sent.now step.now running.old ≡ Ok running.new) }
+    ensures err { IfErr result (λ e. TellsStep e (step_in (dispatched left bus.now) sent.now step.now running.old)) }
+{
+    match running.count() {
+        Ok(()) => {}
+        Err(cause) => return Err(Fault::Cause(cause)),
+    }
+    match step {
+        Step::Do(command) => match BuiltIn::named(command.name.as_str()) {
+            Some(built_in) => match built_in {},
+            None => Err(Fault::Cause(Cause::BadCommand)),
+        },
+        Step::Dispatch(command) => {
+            let payload = payload_for(sent, &command.payload);
+            match dispatch(bus, running, &command.name, payload, left) {
+                Ok(_) => Ok(()),
+                Err(fault) => Err(fault),
+            }
+        }
+        Step::Later(steps) => match running.queue(steps, sent) {
+            Ok(()) => Ok(()),
+            Err(_) => Err(Fault::Memory),
+        },
+        other => running.take_effect(other),
+    }
+}
+
+/// Offers a command to the listeners of its name above editor, from the highest priority on. Where none of them has
+/// handled it, the built-in command of the name does, or those of priority editor are offered it. Dispatches may
+/// nest `left` deep with this one.
+#[cycle(dispatch)]
+pub(crate) fn dispatch<'a>(
+    bus: &'a Bus,
+    running: &mut Running<'a>,
+    name: &'a Txt,
+    payload: &'a Payload,
+    left: u32,
+) -> Result<bool, Fault>
+    ensures ok { IfOk result (λ handled. dispatched left bus.now name.now payload.now running.old ≡ Ok (running.new, handled)) }
+    ensures err { IfErr result (λ e. TellsStep e (dispatched left bus.now name.now payload.now running.old)) }
+{
+    if left == 0 {
+        return Err(Fault::Cause(Cause::DispatchDepth));
+    }
+    match offer_all(bus, running, bus.above(name.as_str()), payload, left - 1) {
+        Ok(true) => return Ok(true),
+        Ok(false) => {}
+        Err(fault) => return Err(fault),
+    }
+    match BuiltIn::named(name.as_str()) {
+        Some(command) => match command {},
+        None => offer_all(bus, running, bus.behind(name.as_str()), payload, left - 1),
+    }
+}
+
+/// Offers a command to listeners one after another, until one has handled it, and answers whether one has.
+#[cycle(dispatch)]
+fn offer_all<'a>(
+    bus: &'a Bus,
+    running: &mut Running<'a>,
+    offers: Offers<'a>,
+    payload: &'a Payload,
+    left: u32,
+) -> Result<bool, Fault>
+    requires sound { All IsSoundListener offers }
+    ensures ok { IfOk result (λ handled. offered (dispatched left bus.now) payload.now offers.entry running.old ≡ Ok (running.new, handled)) }
+    ensures err { IfErr result (λ e. TellsStep e (offered (dispatched left bus.now) payload.now offers.entry running.old)) }
+{
+    for listener in offers {
+        match offer(bus, running, listener, payload, left) {
+            Ok(true) => return Ok(true),
+            Ok(false) => {}
+            Err(fault) => return Err(fault),
+        }
+    }
+    Ok(false)
+}
+
+/// Offers a command to a listener, which takes a count, and answers whether the listener has handled it.
+#[cycle(dispatch)]
+#[tactic(auto, unfolding(crate::specs::Running::offer))]
+fn offer<'a>(
+    bus: &'a Bus,
+    running: &mut Running<'a>,
+    listener: &'a Listener,
+    payload: &'a Payload,
+    left: u32,
+) -> Result<bool, Fault>
+    requires sound { IsSoundListener listener.now }
+    ensures ok { IfOk result (λ handled. spec.offer (dispatched left bus.now) payload.now listener.now running.old ≡ Ok (running.new, handled)) }
+    ensures err { IfErr result (λ e. TellsStep e (spec.offer (dispatched left bus.now) payload.now listener.now running.old)) }
+{
+    if let Err(cause) = running.count() {
+        return Err(Fault::Cause(cause));
+    }
+    if !running.holds(&listener.when, payload) {
+        return Ok(false);
+    }
+    match run_all(bus, running, listener.steps.items(), payload, left) {
+        Ok(()) => Ok(listener.handled),
+        Err(fault) => Err(fault),
+    }
+}

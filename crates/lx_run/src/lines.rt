@@ -1,0 +1,140 @@
+//! Lines, each with what it queues.
+
+ghost use Rattle.std.specs.Prelude.{◌≡◌, ◌≤◌, Ok, OnOk, IfOk, IfErr, All};
+ghost use Rattle.lx_step.specs.declared.command.Payload.TheVariants.{Nothing};
+ghost use Rattle.lx_step.specs.Sound.{IsSound};
+ghost use Rattle.lx_draft.specs.Covering.{IsReady, AreCovered};
+ghost use Rattle.lx_draft.specs.Faults.{TellsStep};
+ghost use Rattle.lx_node.specs.Limits.{most_counts};
+ghost use Rattle.lx_run.specs.Lines.{script_from, queue_run, steps_run, dispatch_begun, dispatch_run, drafted, answer_drafted, IsEmptied, IsAnswerEmptied};
+ghost use Rattle.lx_run.specs.Refusals.{at_step, IsRefusal, TellsRefusal};
+
+use crate::dispatching::{MOST_NESTED, dispatch, run_step};
+use crate::queue::run_queue;
+use crate::refusal::Refusal;
+use crate::running::Running;
+use lx_bus::Bus;
+use lx_draft::Draft;
+use lx_node::Fault;
+use lx_step::{Command, Payload, Step};
+use std::alloc::Global;
+
+/// Runs steps one after another on a draft, each of which takes a count. What they queue runs last, first in, first
+/// out. A refusal tells the step of these that was running, or none where what they had queued was. The draft is
+/// dropped with it.
+#[tactic(auto, unfolding(crate::specs::Lines::steps_run))]
+pub fn run_steps(alloc: Global, bus: &Bus, draft: Draft, steps: &[Step]) -> Result<Draft, Refusal>
+    requires sound { All IsSound steps.now }
+    ensures ok { IfOk result (λ left. drafted (steps_run bus.now steps.now draft) ≡ Ok left) }
+    ensures covered { IfOk result (λ left. IsReady draft → AreCovered draft left) }
+    ensures emptied { OnOk result (IsEmptied (steps_run bus.now steps.now draft)) }
+    ensures err { IfErr result (λ e. TellsRefusal e (steps_run bus.now steps.now draft)) }
+{
+    let nothing = Payload::Nothing;
+    let mut running = Running::new(alloc, draft);
+    match run_script(bus, &mut running, steps, &nothing) {
+        Ok(()) => {}
+        Err(refusal) => return Err(refusal),
+    }
+    match run_rest(bus, &mut running) {
+        Ok(()) => Ok(running.into_draft()),
+        Err(refusal) => Err(refusal),
+    }
+}
+
+/// Runs the steps of a line's own script.
+fn run_script<'a>(
+    bus: &'a Bus,
+    running: &mut Running<'a>,
+    steps: &'a [Step],
+    nothing: &'a Payload,
+) -> Result<(), Refusal>
+    requires sound { All IsSound steps.now }
+    requires nothing { nothing.now ≡ Nothing }
+    requires few { running.old.script.draft.counted ≤ most_counts }
+    ensures ok { OnOk result (script_from 0 bus.now steps.now running.old ≡ Ok running.new) }
+    ensures err { IfErr result (λ e. TellsRefusal e (script_from 0 bus.now steps.now running.old)) }
+{
+    let mut at = 0;
+    for step in steps {
+        match run_step(bus, running, step, nothing, MOST_NESTED) {
+            Ok(()) => at += 1,
+            Err(fault) => return Err(refused(fault, Some(at))),
+        }
+    }
+    Ok(())
+}
+
+/// Dispatches a command, which takes a count, and answers whether it was handled. What is queued meanwhile runs
+/// last, first in, first out. A refusal tells step 0 where the dispatch was running, or none where what was queued
+/// was. The draft is dropped with it.
+#[tactic(auto, unfolding(crate::specs::Lines::dispatch_run))]
+pub fn run_dispatch(
+    alloc: Global,
+    bus: &Bus,
+    draft: Draft,
+    command: &Command,
+) -> Result<(Draft, bool), Refusal>
+    ensures ok { IfOk result (λ left. answer_drafted (dispatch_run bus.now command.now draft) ≡ Ok (left.0, left.1)) }
+    ensures covered { IfOk result (λ left. IsReady draft → AreCovered draft left.0) }
+    ensures emptied { OnOk result (IsAnswerEmptied (dispatch_run bus.now command.now draft)) }
+    ensures err { IfErr result (λ e. TellsRefusal e (dispatch_run bus.now command.now draft)) }
+{
+    let mut running = Running::new(alloc, draft);
+    let handled = match run_command(bus, &mut running, command) {
+        Ok(handled) => handled,
+        Err(refusal) => return Err(refusal),
+    };
+    match run_rest(bus, &mut running) {
+        Ok(()) => Ok((running.into_draft(), handled)),
+        Err(refusal) => Err(refusal),
+    }
+}
+
+/// Dispatches the command that a line is.
+fn run_command<'a>(
+    bus: &'a Bus,
+    running: &mut Running<'a>,
+    command: &'a Command,
+) -> Result<bool, Refusal>
+    ensures ok { IfOk result (λ handled. at_step 0 (dispatch_begun bus.now command.now running.old) ≡ Ok (running.new, handled)) }
+    ensures err { IfErr result (λ e. TellsRefusal e (at_step 0 (dispatch_begun bus.now command.now running.old))) }
+{
+    match begin(bus, running, command) {
+        Ok(handled) => Ok(handled),
+        Err(fault) => Err(refused(fault, Some(0))),
+    }
+}
+
+/// Takes a count, and dispatches the command.
+fn begin<'a>(bus: &'a Bus, running: &mut Running<'a>, command: &'a Command) -> Result<bool, Fault>
+    ensures ok { IfOk result (λ handled. dispatch_begun bus.now command.now running.old ≡ Ok (running.new, handled)) }
+    ensures err { IfErr result (λ e. TellsStep e (dispatch_begun bus.now command.now running.old)) }
+{
+    match running.count() {
+        Ok(()) => {}
+        Err(cause) => return Err(Fault::Cause(cause)),
+    }
+    dispatch(bus, running, &command.name, &command.payload, MOST_NESTED)
+}
+
+/// Runs what is queued, for which no step is refused.
+fn run_rest<'a>(bus: &'a Bus, running: &mut Running<'a>) -> Result<(), Refusal>
+    ensures ok { OnOk result (queue_run bus.now running.old ≡ Ok running.new) }
+    ensures err { IfErr result (λ e. TellsRefusal e (queue_run bus.now running.old)) }
+{
+    match run_queue(bus, running) {
+        Ok(()) => Ok(()),
+        Err(fault) => Err(refused(fault, None)),
+    }
+}
+
+/// Refused for the fault's cause, at a step or at none, or want of memory.
+fn refused(fault: Fault, step: Option<u32>) -> Refusal
+    ensures { IsRefusal fault step result }
+{
+    match fault {
+        Fault::Cause(cause) => Refusal::Cause { cause, step },
+        Fault::Memory => Refusal::Memory,
+    }
+}
