@@ -1,14 +1,19 @@
 -- What steps or a rule come to is what they make of the editor.
-use Rattle.std.proofs.Common.{◌≡◌, ◌∙◌, ℕ, ◌+◌, ◌≤◌, Bool, true, false, if◌then◌else◌, List, Option, Result, Ok, Err, sym, ap, subst, arith}
+use Rattle.std.proofs.Common.{◌≡◌, ◌∙◌, ℕ, ◌+◌, ◌≤◌, Bool, true, false, if◌then◌else◌, List, Option, Some, Result, Ok, Err, refl, sym, ap, subst, arith}
 use Rattle.lx_node.specs.declared.cause.Cause.{Cause}
 use Rattle.lx_host.specs.declared.op.Op.{Op}
 use Rattle.lx_step.specs.declared.rule.Rule.{Rule}
 use Rattle.lx_rules.specs.declared.any_rule.AnyRule.{AnyRule}
+use Rattle.lx_run.specs.Refusals.{TellsRefusal}
+use Rattle.lx_run.specs.declared.refusal.Refusal.{Refusal}
+use Rattle.lx_run.specs.declared.refusal.Refusal.TheVariants as refusal
 use Rattle.lx_editor.specs.declared.outcome.Outcome.{Outcome}
 use Rattle.lx_editor.specs.declared.outcome.Outcome.TheVariants as made
 use Rattle.lx_editor.specs.declared.outcome.Verdict.{Verdict}
 use Rattle.lx_editor.specs.declared.outcome.Verdict.TheVariants.{Commit, Refused, Idle}
+use Rattle.lx_editor.specs.Dispatched.{unless_refused}
 use Rattle.lx_editor.specs.Editor.{Editor}
+use Rattle.lx_editor.specs.Follows.{reply_of}
 use Rattle.lx_editor.specs.Updated.{Left, IsNothingNew, IsCommitted, IsTaken, IsMadeOf}
 use Rattle.lx_editor.specs.Registered.{with_one_more}
 use Rattle.lx_editor.specs.Judged.{MayCommit, IsWeighed, IsJudged, MayConclude, IsConcluded, is_refused}
@@ -19,6 +24,12 @@ may_conclude r e (Refused cause step) judged = tt
 may_conclude r e Idle judged = tt
 may_conclude (Err refused) e (Commit frozen batch) judged = absurd (cc)
 may_conclude (Ok left) e (Commit frozen batch) judged = subst (λ l. MayCommit e l batch) (sym judged.0) judged.1
+
+-- a refusal is judged as what it tells
+pub refusal_judged : (e : Refusal) (left : Result Left (Cause × Option ℕ)) (editor : Editor) (cause : Cause) (step : Option ℕ) → e ≡ refusal.Cause cause step → TellsRefusal e left → IsJudged left editor (Refused cause step)
+refusal_judged e left editor cause step is told =
+    let refused : left ≡ Err (cause, step) = subst (λ x. TellsRefusal x left) is told in
+    subst (λ r. IsJudged r editor (Refused cause step)) (sym refused) refl
 
 -- ---- an update
 
@@ -67,6 +78,7 @@ module _ (old : Editor) (rule : Rule) where
     anew = λ n. c.anew (as_mid left n);
     ids = c.ids;
     rested = c.rested;
+    joined = c.joined;
     allowed = c.allowed;
     reads = c.reads;
     few = c.few;
@@ -108,3 +120,11 @@ module _ (old : Editor) (rule : Rule) where
   pub kept_mid : (refused : Bool) (e : Editor) → refused ≡ false → e ≡ (if refused then old else mid) → e ≡ mid
   kept_mid true e was is = absurd (cc)
   kept_mid false e was is = is
+
+-- ---- a dispatch
+
+-- a reply tells of a refusal nothing of whether the command was handled
+pub handled_told : (outcome : Outcome) (handled : Bool) → reply_of (Some handled) outcome ≡ reply_of (Some (unless_refused outcome handled)) outcome
+handled_told (made.Committed number ops) handled = refl
+handled_told (made.Refused cause step) handled = refl
+handled_told made.Idle handled = refl

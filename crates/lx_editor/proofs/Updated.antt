@@ -1,12 +1,10 @@
 -- What an update has made of an editor, from what its steps left of the draft.
-use Rattle.std.proofs.Common.{◌≡◌, ◌∙◌, ◌+◌, ◌<◌, ◌≤◌, ℕ, true, if◌then◌else◌, List, [], ◌∷◌, Option, None, Some, Ok, Err, refl, sym, ap, subst, arith}
-use Rattle.std.specs.List.{list_all}
+use Rattle.std.proofs.Common.{◌≡◌, ◌∙◌, ◌+◌, ◌<◌, ◌≤◌, ℕ, Bool, false, List, [], ◌∷◌, Option, None, Some, Result, Ok, refl, sym, ap, subst, arith}
 use Rattle.std.specs.Option.{option_or}
 use Rattle.std.proofs.lemmas.Bool.Decides.{eqb_tells}
 use Rattle.lx_node.specs.Trees.{nil, tree}
 use Rattle.lx_node.specs.Kinds.{is_text_block}
 use Rattle.lx_node.specs.declared.cause.Cause.{Cause}
-use Rattle.lx_node.specs.declared.cause.Cause.TheVariants.{BadCommand}
 use Rattle.lx_host.specs.declared.op.Op.{Op}
 use Rattle.lx_host.specs.Hosts.{HostTree, shape_of, new_tree, Leads, FitInTurn}
 use Rattle.lx_host.specs.Html.{html_of, first_tree}
@@ -14,6 +12,7 @@ use Rattle.lx_marks.specs.Marks.{Marked, unmarked, is_touched, is_noted}
 use Rattle.lx_select.specs.declared.selection.Selection.{Selection}
 use Rattle.lx_select.specs.declared.selection.Selection.TheVariants.{Nothing}
 use Rattle.lx_step.specs.declared.rule.TypeRow.{TypeRow}
+use Rattle.lx_step.specs.declared.listener.Listener.{Listener}
 use Rattle.lx_step.specs.declared.step.Step.{Step}
 use Rattle.lx_forest.specs.Forest.{Forest, root_alone}
 use Rattle.lx_forest.specs.Edits.{drop_detached}
@@ -33,8 +32,11 @@ use Rattle.lx_reconcile.proofs.Covered.{covered}
 use Rattle.lx_edit.specs.Texts.{simple_at}
 use Rattle.lx_reconcile.proofs.StartEnd.{one_tree}
 use Rattle.lx_reconcile.proofs.Frozen.{frozen_parts, one_left, swept_alone, kind_stays}
-use Rattle.lx_run.specs.Naming.{no_names}
-use Rattle.lx_run.specs.Scripts.{scripted, run_from}
+use Rattle.lx_run.specs.Lines.{drafted, answer_drafted, steps_run}
+use Rattle.lx_run.specs.Refusals.{and_then, TellsRefusal}
+use Rattle.lx_run.specs.Running.{Running}
+use Rattle.lx_run.specs.declared.refusal.Refusal.{Refusal}
+use Rattle.lx_run.specs.declared.refusal.Refusal.TheVariants as refusal
 use Rattle.lx_rules.specs.declared.any_rule.AnyRule.{AnyRule}
 use Rattle.lx_settle.specs.Joined.{IsJoined, is_empty_text, are_alike}
 use Rattle.lx_settle.specs.Laws.{IsAlone, AreMarked}
@@ -43,17 +45,36 @@ use Rattle.lx_settle.specs.Settling.{settle_step}
 use Rattle.lx_settle.proofs.Ends.{settling_ends}
 use Rattle.lx_editor.specs.Editor.{Editor}
 use Rattle.lx_editor.specs.Standing.{IsState, IsValid}
-use Rattle.lx_editor.specs.Updated.{is_run, at_commit, answers_of, rested_by, drafted, left_from, left_by, Left, IsNothingNew, hosts_fault, most_reads, IsCommitted}
+use Rattle.lx_editor.specs.Dispatched.{left_in_answer, was_handled}
+use Rattle.lx_editor.specs.Updated.{at_commit, answers_of, rested_by, begun, left_by, Left, IsNothingNew, hosts_fault, most_reads, IsCommitted}
 use Rattle.lx_editor.specs.Registered.{marked_for, left_with, left_for}
-use Rattle.lx_editor.specs.Judged.{IsLeft, IsFresh}
+use Rattle.lx_editor.specs.Judged.{IsLeft, IsFresh, IsForCause}
 
 -- ---- what the steps left
 
--- steps that were run leave what the draft does that they left
-pub are_left : (rules : List AnyRule) (steps : List Step) (w draft : Working) → list_all is_run steps ≡ true → drafted (run_from 0 steps (scripted w no_names)) ≡ Ok draft → left_by rules steps w ≡ rested_by rules draft
+-- steps that ran leave what the draft does that they left
+pub are_left : (rules : List AnyRule) (listeners : List Listener) (steps : List Step) (w draft : Working) → drafted (steps_run listeners steps w) ≡ Ok draft → left_by rules listeners steps w ≡ rested_by rules draft
 unfolding left_by
-are_left rules steps w draft all ran =
-    ap (λ b. if b then left_from rules (drafted (run_from 0 steps (scripted w no_names))) else Err (BadCommand, None)) all ∙ ap (left_from rules) ran
+are_left rules listeners steps w draft ran = ap (λ r. and_then r (rested_by rules)) ran
+
+-- so does a dispatch
+pub answer_left : (rules : List AnyRule) (answer : Result (Working × Bool) (Cause × Option ℕ)) (draft : Working) (handled : Bool) → answer ≡ Ok (draft, handled) → left_in_answer rules answer ≡ rested_by rules draft
+answer_left rules answer draft handled is = ap (left_in_answer rules) is
+
+-- where they are refused nothing is left
+pub steps_refused : (rules : List AnyRule) (listeners : List Listener) (steps : List Step) (w : Working) (e : Refusal) → TellsRefusal e (steps_run listeners steps w) → TellsRefusal e (left_by rules listeners steps w)
+unfolding left_by
+steps_refused rules listeners steps w (refusal.Cause cause step) told = ap (λ r. and_then (drafted r) (rested_by rules)) told
+steps_refused rules listeners steps w refusal.Memory told = tt
+
+pub answer_refused : (rules : List AnyRule) (run : Result (Running × Bool) (Cause × Option ℕ)) (e : Refusal) → TellsRefusal e run → TellsRefusal e (left_in_answer rules (answer_drafted run))
+answer_refused rules run (refusal.Cause cause step) told = ap (λ r. left_in_answer rules (answer_drafted r)) told
+answer_refused rules run refusal.Memory told = tt
+
+-- a dispatch that is refused for a cause wasn't handled
+pub refused_unhandled : (run : Result (Running × Bool) (Cause × Option ℕ)) (e : Refusal) → TellsRefusal e run → IsForCause e → false ≡ was_handled (answer_drafted run)
+refused_unhandled run (refusal.Cause cause step) told for_cause = sym (ap (λ r. was_handled (answer_drafted r)) told)
+refused_unhandled run refusal.Memory told for_cause = absurd for_cause
 
 -- so do the marks for a rule
 pub marked_left : (rules : List AnyRule) (row : TypeRow) (w draft : Working) → marked_for row w ≡ Ok draft → left_for rules row w ≡ rested_by rules draft
@@ -66,6 +87,10 @@ ready_start u fresh = record { in_order = fresh.state.in_order; free = fresh.sta
 
 pub fresh_start : (f : Forest) (selection : Selection) (next_key : ℕ) → IsState f selection next_key → IsFresh (started f selection next_key)
 fresh_start f selection next_key state = record { state = state; marks = refl; fresh = refl }
+
+-- a draft of what is committed is such
+pub fresh_begun : (e : Editor) → IsValid e → IsFresh (begun e)
+fresh_begun e valid = fresh_start e.tree e.selection e.next_key valid.state
 
 -- so whatever was made of it is covered
 pub start_covered : (begin start end : Working) → start ≡ begin → IsFresh begin → (IsReady start → drafts.AreCovered start end) → drafts.AreCovered begin end
@@ -158,6 +183,7 @@ module _ (e : Editor) (left : Left) (view : HostTree) (ops : List Op) (allowed :
     view = view;
     last = Some (record { ops = ops; reads = reads });
     rules = left.rules;
+    listeners = e.listeners;
   }
 
   pub still_valid : (reads : ℕ) → IsState left.tree left.selection left.next_key → IsValid (made reads)
@@ -168,11 +194,12 @@ module _ (e : Editor) (left : Left) (view : HostTree) (ops : List Op) (allowed :
     some = λ none. absurd (cc);
   }
 
-  pub committed : (reads : ℕ) → IsRested (answers_of left.rules) left.tree left.marks → (IsNothingNew e left → ⊥) → hosts_fault e.tree left.tree e.view ≡ None → reads ≤ most_reads e.tree left.tree (is_noted left.marks) → IsCommitted e left (e.commits + 1) ops (made reads)
-  committed reads rested anew ids few = record {
+  pub committed : (reads : ℕ) → IsRested (answers_of left.rules) left.tree left.marks → IsJoined left.tree → (IsNothingNew e left → ⊥) → hosts_fault e.tree left.tree e.view ≡ None → reads ≤ most_reads e.tree left.tree (is_noted left.marks) → IsCommitted e left (e.commits + 1) ops (made reads)
+  committed reads rested joined anew ids few = record {
     anew = anew;
     ids = ids;
     rested = rested;
+    joined = joined;
     allowed = reached;
     reads = reads;
     few = few;
@@ -209,10 +236,10 @@ root_joined = record {
 root_in_order : IsForest root_alone
 root_in_order = record { once = λ q. once_at q; rising = refl; root = refl }
 
-pub new_valid : (f : Forest) (selection : Selection) (view : HostTree) (rules : List AnyRule) → f ≡ root_alone → selection ≡ Nothing → view ≡ new_tree → MayStart f 1
-    → IsValid (record { tree = f; selection = selection; next_key = 1; commits = 0; view = view; last = None; rules = rules })
+pub new_valid : (f : Forest) (selection : Selection) (view : HostTree) (rules : List AnyRule) (listeners : List Listener) → f ≡ root_alone → selection ≡ Nothing → view ≡ new_tree → MayStart f 1
+    → IsValid (record { tree = f; selection = selection; next_key = 1; commits = 0; view = view; last = None; rules = rules; listeners = listeners })
 unfolding is_text_block
-new_valid f selection view rules alone none shown start = record {
+new_valid f selection view rules listeners alone none shown start = record {
   state = record {
     in_order = subst IsForest (sym alone) root_in_order;
     alone = subst (λ g. roots g ≡ 0 ∷ []) (sym alone) refl;

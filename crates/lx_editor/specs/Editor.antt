@@ -6,9 +6,10 @@ use Rattle.lx_select.specs.declared.selection.Selection.TheVariants.{Nothing}
 use Rattle.lx_forest.specs.Forest.{Forest, root_alone}
 use Rattle.lx_rules.specs.declared.any_rule.AnyRule.{AnyRule}
 use Rattle.lx_reconcile.specs.Told.{Told}
+use Rattle.lx_step.specs.declared.listener.Listener.{Listener}
 
 -- the tree and the selection that are committed, the key that the next new node gets, how often the editor has committed,
--- the view, what the last commit told, and the rules that are registered, in that order
+-- the view, what the last commit told, and the rules and listeners that are registered, each in the order of registration
 pub record Editor : Type 0 where
   pub tree : Forest
   pub selection : Selection
@@ -17,6 +18,7 @@ pub record Editor : Type 0 where
   pub view : HostTree
   pub last : Option Told
   pub rules : List AnyRule
+  pub listeners : List Listener
 
 abbrev pub new_editor : Editor
-new_editor = record { tree = root_alone; selection = Nothing; next_key = 1; commits = 0; view = new_tree; last = None; rules = [] }
+new_editor = record { tree = root_alone; selection = Nothing; next_key = 1; commits = 0; view = new_tree; last = None; rules = []; listeners = [] }

@@ -1,14 +1,17 @@
 -- How an editor may answer lines, and how the bytes of replies follow from them.
-use Rattle.std.specs.Prelude.{◌≡◌, ℕ, List, [], ◌∷◌, ◌++◌, None, Result, Ok, Err}
+use Rattle.std.specs.Prelude.{◌≡◌, ℕ, List, [], ◌∷◌, ◌++◌, Bool, Option, None, Some, Result, Ok, Err}
 use Rattle.lx_node.specs.declared.cause.Cause.{Cause}
 use Rattle.lx_host.specs.Html.{html_of}
 use Rattle.lx_plain.specs.Render.{render}
+use Rattle.lx_step.specs.declared.command.Command.{Command}
 use Rattle.lx_step.specs.declared.line.Line.{Line}
 use Rattle.lx_step.specs.declared.line.Form.{Form}
-use Rattle.lx_step.specs.declared.line.Form.TheVariants.{Update, Rule, Show}
+use Rattle.lx_step.specs.declared.line.Form.TheVariants.{Update, Dispatch, Rule, Listener, Show}
 use Rattle.lx_step.specs.declared.line.Shown.{Shown}
 use Rattle.lx_step.specs.declared.line.Shown.TheVariants.{View, Selection}
+use Rattle.lx_step.specs.declared.listener.Listener.{Listener as ListenerOf}
 use Rattle.lx_step.specs.declared.rule.Rule.{Rule as RuleOf}
+use Rattle.lx_step.specs.Spelled.{steps_of}
 use Rattle.lx_step.specs.declared.step.Step.{Step}
 use Rattle.lx_script.specs.declared.reply.Reply.{Reply}
 use Rattle.lx_script.specs.declared.reply.Reply.TheVariants as reply
@@ -16,15 +19,21 @@ use Rattle.lx_script.specs.Grammar.{Reads}
 use Rattle.lx_script.specs.Replies.{reply_text}
 use Rattle.lx_editor.specs.declared.outcome.Outcome.{Outcome}
 use Rattle.lx_editor.specs.declared.outcome.Outcome.TheVariants.{Committed, Refused, Idle}
+use Rattle.lx_editor.specs.Dispatched.{IsDispatched, IsListening}
 use Rattle.lx_editor.specs.Editor.{Editor}
 use Rattle.lx_editor.specs.Registered.{IsRegistered}
 use Rattle.lx_editor.specs.Updated.{IsUpdated}
 
--- the reply that tells an outcome
-abbrev pub reply_of : Outcome → Reply
-reply_of (Committed commit ops) = reply.Committed commit ops
-reply_of (Refused cause step) = reply.Refused cause step
-reply_of Idle = reply.Idle
+-- the reply that tells an outcome, and of a dispatch whether it was handled
+abbrev pub reply_of : Option Bool → Outcome → Reply
+reply_of handled (Committed commit ops) = reply.Committed commit ops handled
+reply_of handled (Refused cause step) = reply.Refused cause step
+reply_of handled Idle = reply.Idle handled
+
+-- the reply that tells a listener's number, or why there is none
+abbrev pub number_reply : Result ℕ Cause → Reply
+number_reply (Ok number) = reply.Registered number
+number_reply (Err cause) = reply.Refused cause None
 
 -- The reply that shows what is committed. The view is told as the HTML of the tree's rendering, which it shows.
 abbrev pub shown_of : Shown → Editor → Reply
@@ -34,17 +43,30 @@ shown_of Selection editor = reply.Selection editor.selection
 -- The editor may answer an update by these steps with these bytes, and be the new one after.
 abbrev pub IsReplyOfUpdate : Editor → List Step → List ℕ → Editor → Type 0
 IsReplyOfUpdate old steps bytes new =
-    (outcome : Outcome) × IsUpdated old steps outcome new × (bytes ≡ reply_text (reply_of outcome))
+    (outcome : Outcome) × IsUpdated old steps outcome new × (bytes ≡ reply_text (reply_of None outcome))
 
 -- The editor may answer a rule with these bytes, and be the new one after.
 abbrev pub IsReplyOfRule : Editor → RuleOf → List ℕ → Editor → Type 0
 IsReplyOfRule old rule bytes new =
-    (outcome : Outcome) × IsRegistered old rule outcome new × (bytes ≡ reply_text (reply_of outcome))
+    (outcome : Outcome) × IsRegistered old rule outcome new × (bytes ≡ reply_text (reply_of None outcome))
+
+-- The editor may answer a dispatch with these bytes, and be the new one after.
+abbrev pub IsReplyOfDispatch : Editor → Command → List ℕ → Editor → Type 0
+IsReplyOfDispatch old command bytes new =
+    (outcome : Outcome) × (handled : Bool) × IsDispatched old command outcome handled new
+    × (bytes ≡ reply_text (reply_of (Some handled) outcome))
+
+-- The editor may answer a listener with these bytes, and be the new one after.
+abbrev pub IsReplyOfListener : Editor → ListenerOf → List ℕ → Editor → Type 0
+IsReplyOfListener old listener bytes new =
+    (answer : Result ℕ Cause) × IsListening old listener answer new × (bytes ≡ reply_text (number_reply answer))
 
 -- The editor may answer a line of this form with these bytes, and be the new one after. A question changes nothing.
 unfoldable pub RepliesTo : Editor → Form → List ℕ → Editor → Type 0
-RepliesTo old (Update steps) bytes new = IsReplyOfUpdate old steps bytes new
+RepliesTo old (Update script) bytes new = IsReplyOfUpdate old (steps_of script) bytes new
+RepliesTo old (Dispatch command) bytes new = IsReplyOfDispatch old command bytes new
 RepliesTo old (Rule rule) bytes new = IsReplyOfRule old rule bytes new
+RepliesTo old (Listener listener) bytes new = IsReplyOfListener old listener bytes new
 RepliesTo old (Show shown) bytes new = (bytes ≡ reply_text (shown_of shown old)) × (new ≡ old)
 
 -- The editor may answer what was read with these bytes, and be the new one after. A line that is refused changes nothing.

@@ -8,6 +8,8 @@ use Rattle.lx_draft.specs.Covering as drafts
 use Rattle.lx_plain.specs.Allowed.{AreCovered}
 use Rattle.lx_reconcile.specs.Told.{Told}
 use Rattle.lx_reconcile.specs.Allowing.{marking, IsAllowed}
+use Rattle.lx_run.specs.declared.refusal.Refusal.{Refusal}
+use Rattle.lx_run.specs.declared.refusal.Refusal.TheVariants as refusal
 use Rattle.lx_settle.specs.Rested.{IsRested}
 use Rattle.lx_editor.specs.declared.outcome.Outcome.{Outcome}
 use Rattle.lx_editor.specs.declared.outcome.Outcome.TheVariants as made
@@ -56,6 +58,11 @@ IsWeighed old left Idle = (left.rules ≡ old.rules) × IsNothingNew old left
 abbrev pub IsJudged : Result Left (Cause × Option ℕ) → Editor → Verdict → Type 0
 IsJudged (Err refused) old verdict = verdict ≡ Refused refused.0 refused.1
 IsJudged (Ok left) old verdict = IsWeighed old left verdict
+
+-- it is refused for a cause, and no memory was wanting
+abbrev pub IsForCause : Refusal → Type 0
+IsForCause (refusal.Cause cause step) = Unit {0}
+IsForCause refusal.Memory = ⊥
 
 -- ---- what is done
 

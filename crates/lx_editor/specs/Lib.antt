@@ -1,5 +1,6 @@
 pub mod Editor
 pub mod Updated
+pub mod Dispatched
 pub mod Registered
 pub mod Standing
 pub mod Judged

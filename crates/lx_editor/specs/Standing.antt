@@ -19,6 +19,7 @@ editor_of a = record {
   view = a.view.tree;
   last = a.last;
   rules = a.rules.items;
+  listeners = a.bus;
 }
 
 -- A state that may be committed: one tree, with no detached one beside it, from which an update may start with this next

@@ -1,9 +1,7 @@
 -- What an update by steps makes of an editor, and what a commit is.
-use Rattle.std.specs.Prelude.{◌≡◌, ◌≤◌, ℕ, ◌+◌, ◌*◌, Bool, true, false, if◌then◌else◌, List, Option, None, Some, Result, Ok, Err}
-use Rattle.std.specs.List.{list_all}
+use Rattle.std.specs.Prelude.{◌≡◌, ◌≤◌, ℕ, ◌+◌, ◌*◌, Bool, List, Option, None, Some, Result, Ok, Err}
 use Rattle.lx_node.specs.Limits.{last_u32}
 use Rattle.lx_node.specs.declared.cause.Cause.{Cause}
-use Rattle.lx_node.specs.declared.cause.Cause.TheVariants.{BadCommand}
 use Rattle.lx_node.specs.declared.cause.Fault.{Fault}
 use Rattle.lx_node.specs.declared.cause.Fault.TheVariants as fault
 use Rattle.lx_node.specs.declared.cause.Limit.TheVariants.{Hosts}
@@ -11,35 +9,28 @@ use Rattle.lx_host.specs.declared.op.Op.{Op}
 use Rattle.lx_host.specs.Hosts.{HostTree}
 use Rattle.lx_marks.specs.Marks.{Marked, unmarked, is_touched, is_noted}
 use Rattle.lx_select.specs.declared.selection.Selection.{Selection}
-use Rattle.lx_step.specs.declared.reference.SelectionRef.TheVariants.{Cells}
 use Rattle.lx_step.specs.declared.step.Step.{Step}
-use Rattle.lx_step.specs.declared.step.Step.TheVariants.{Select}
+use Rattle.lx_step.specs.declared.listener.Listener.{Listener}
 use Rattle.lx_forest.specs.Forest.{Forest}
 use Rattle.lx_plain.specs.Allowed.{AreAllowed, marked_children, unkept}
 use Rattle.lx_draft.specs.Working.{Working, started}
 use Rattle.lx_draft.specs.Freezing.{freeze_step}
 use Rattle.lx_draft.specs.Faults.{over, after}
 use Rattle.lx_draft.specs.declared.state.Frozen.{Frozen}
-use Rattle.lx_run.specs.Naming.{no_names}
-use Rattle.lx_run.specs.Scripts.{Scripted, scripted, run_from}
+use Rattle.lx_run.specs.Lines.{steps_run, drafted}
+use Rattle.lx_run.specs.Refusals.{and_then}
 use Rattle.lx_rules.specs.Answers.{Answers}
 use Rattle.lx_rules.specs.AnyRules.{any_rows, any_acts}
 use Rattle.lx_rules.specs.declared.any_rule.AnyRule.{AnyRule}
 use Rattle.lx_settle.specs.Acting.{all_asked}
+use Rattle.lx_settle.specs.Joined.{IsJoined}
 use Rattle.lx_settle.specs.Rested.{IsRested}
 use Rattle.lx_settle.specs.Settling.{settle_step}
-use Rattle.lx_editor.specs.declared.leaving.Refusal.{Refusal}
-use Rattle.lx_editor.specs.declared.leaving.Refusal.TheVariants as refusal
 use Rattle.lx_editor.specs.declared.outcome.Outcome.{Outcome}
 use Rattle.lx_editor.specs.declared.outcome.Outcome.TheVariants.{Committed, Refused, Idle}
 use Rattle.lx_editor.specs.Editor.{Editor}
 
 -- ---- what steps leave
-
--- Steps that an update runs: all but selects of cells, which are no commands yet.
-abbrev pub is_run : Step → Bool
-is_run (Select (Cells _ _ _)) = false
-is_run other = true
 
 -- What is left for a commit: the tree, the selection, what was marked, the key that the next new node gets, and the rules
 -- under which it came to rest.
@@ -70,29 +61,14 @@ answers_of rules = all_asked any_rows any_acts rules
 abbrev pub rested_by : List AnyRule → Working → Result Left (Cause × Option ℕ)
 rested_by rules w = at_commit rules (after (settle_step (answers_of rules) w) freeze_step)
 
--- the draft that steps left
-abbrev pub drafted : Result Scripted (Cause × ℕ) → Result Working (Cause × ℕ)
-drafted (Ok s) = Ok s.draft
-drafted (Err refused) = Err refused
-
--- what it leaves for a commit, or a refusal with the index of its step
-abbrev pub left_from : List AnyRule → Result Working (Cause × ℕ) → Result Left (Cause × Option ℕ)
-left_from rules (Ok w) = rested_by rules w
-left_from rules (Err refused) = Err (refused.0, Some refused.1)
-
--- what steps leave of a draft for a commit, or why they are refused
-unfoldable pub left_by : List AnyRule → List Step → Working → Result Left (Cause × Option ℕ)
-left_by rules steps w =
-    if list_all is_run steps then left_from rules (drafted (run_from 0 steps (scripted w no_names))) else Err (BadCommand, None)
+-- What steps leave of a draft for a commit, where these listeners are offered what they dispatch; or why they are refused, and
+-- at which step.
+unfoldable pub left_by : List AnyRule → List Listener → List Step → Working → Result Left (Cause × Option ℕ)
+left_by rules listeners steps w = and_then (drafted (steps_run listeners steps w)) (rested_by rules)
 
 -- the draft that an update begins with
 abbrev pub begun : Editor → Working
 begun old = started old.tree old.selection old.next_key
-
--- The steps are refused for this cause and at this step, or memory was wanting.
-abbrev pub TellsRefusal : Refusal → Result Left (Cause × Option ℕ) → Type 0
-TellsRefusal (refusal.Cause cause step) left = left ≡ Err (cause, step)
-TellsRefusal refusal.Memory left = Unit {0}
 
 -- ---- what is made of it
 
@@ -114,13 +90,14 @@ TellsHosts fault.Memory found = Unit {0}
 abbrev pub most_reads : Forest → Forest → (ℕ → Bool) → ℕ
 most_reads old new noted = 8 * (marked_children noted old + marked_children noted new + unkept old None new + 1)
 
--- It is something new, the view has ids for it, and it is committed: it is at rest under its rules, the operations are
--- allowed between the two trees, and they were found by no more reads than that. Of the new editor only the view's ids and
--- the number of reads are left open.
+-- It is something new, the view has ids for it, and it is committed: it is at rest under its rules, its texts are joined, the
+-- operations are allowed between the two trees, and they were found by no more reads than that. Of the new editor only the
+-- view's ids and the number of reads are left open.
 pub record IsCommitted (old : Editor) (left : Left) (commit : ℕ) (ops : List Op) (new : Editor) : Type 0 where
   pub anew : IsNothingNew old left → ⊥
   pub ids : hosts_fault old.tree left.tree old.view ≡ None
   pub rested : IsRested (answers_of left.rules) left.tree left.marks
+  pub joined : IsJoined left.tree
   pub allowed : AreAllowed old.tree left.tree (is_touched left.marks) old.view ops new.view
   pub reads : ℕ
   pub few : reads ≤ most_reads old.tree left.tree (is_noted left.marks)
@@ -133,6 +110,7 @@ pub record IsCommitted (old : Editor) (left : Left) (commit : ℕ) (ops : List O
     view = new.view;
     last = Some (record { ops = ops; reads = reads });
     rules = left.rules;
+    listeners = old.listeners;
   }
 
 -- It is something new that the view has no ids for, and nothing changes.
@@ -154,4 +132,4 @@ IsMadeOf (Err refused) old outcome new = (outcome ≡ Refused refused.0 refused.
 IsMadeOf (Ok left) old outcome new = IsTaken old left outcome new
 
 unfoldable pub IsUpdated : Editor → List Step → Outcome → Editor → Type 0
-IsUpdated old steps outcome new = IsMadeOf (left_by old.rules steps (begun old)) old outcome new
+IsUpdated old steps outcome new = IsMadeOf (left_by old.rules old.listeners steps (begun old)) old outcome new

@@ -1,11 +1,11 @@
 ghost use Rattle.lx_node.specs.Limits.{last_u32};
 
-use crate::leaving::{Refusal, leave};
 use crate::outcome::{Outcome, Verdict};
-use crate::reconciling::{follow, reconcile};
+use crate::reconciling::follow;
+use lx_bus::Bus;
 use lx_draft::{Frozen, State};
 use lx_host::HostTree;
-use lx_node::{Fault, NoMemory};
+use lx_node::NoMemory;
 use lx_reconcile::Batch;
 use lx_rules::AnyRule;
 use lx_script::{Reply, write_reply};
@@ -14,25 +14,27 @@ use std::alloc::Global;
 use std::marker::Model;
 
 /// An editor: the state that is committed, the next key, the number of commits, the view, which always shows
-/// the state's tree, the operations of the last commit, and the rules that are registered.
+/// the state's tree, the operations of the last commit, and the rules and listeners that are registered.
 #[derive(Drop)]
 pub struct Editor {
     pub(crate) state: State,
     pub(crate) next_key: u32,
     commits: u32,
-    view: HostTree,
+    pub(crate) view: HostTree,
     last: Option<Batch>,
     pub(crate) rules: Vec<AnyRule>,
+    pub(crate) bus: Bus,
 }
 
 impl Model for Editor {
     ghost use Rattle.std.specs.Coded.{codes};
     ghost use Rattle.lx_node.specs.Trees.{trees_code};
+    ghost use Rattle.lx_step.specs.contracts.step.Steps as steps;
     ghost use Rattle.lx_editor.specs.Editor.{Editor};
 
     ghost Value = { Editor };
 
-    ghost coded = { Prim.hlevel (codes, trees_code) };
+    ghost coded = { Prim.hlevel (codes, trees_code, steps.the_row.coded) };
 
     ghost use Rattle.lx_editor.specs.Standing.{editor_of, IsValid};
 
@@ -48,10 +50,10 @@ impl Editor {
     ghost use Rattle.lx_plain.specs.Allowed.{Shows};
     ghost use Rattle.lx_editor.specs.Editor.{new_editor};
     ghost use Rattle.lx_editor.specs.Standing.{IsState};
-    ghost use Rattle.lx_editor.specs.Updated.{IsUpdated, IsCommitted, left_of, left_by, begun};
-    ghost use Rattle.lx_editor.specs.Judged.{IsLeft, IsJudged, IsWeighed, MayCommit, MayConclude, IsConcluded};
+    ghost use Rattle.lx_editor.specs.Updated.{IsUpdated, IsCommitted, left_of};
+    ghost use Rattle.lx_editor.specs.Judged.{MayCommit, MayConclude, IsConcluded};
 
-    /// A new editor: the root alone, nothing selected, no commit, no rule, and a view that shows it.
+    /// A new editor: the root alone, nothing selected, no commit, no rule, no listener, and a view that shows it.
     pub fn new(alloc: Global) -> Result<Editor, NoMemory>
         ensures { IfOk result (λ made. made ≡ new_editor) }
     {
@@ -62,6 +64,7 @@ impl Editor {
             view: HostTree::new(alloc)?,
             last: None,
             rules: Vec::new(alloc),
+            bus: Bus::new(alloc)?,
         })
     }
 
@@ -92,11 +95,11 @@ impl Editor {
         self.last.as_ref()
     }
 
-    /// Runs steps one after another, lets what they leave come to rest under the rules, and commits it. All steps
-    /// are run but selects of cells, which are refused as `BadCommand`. A refused update changes nothing: its
-    /// outcome tells the step that was refused, or none where the rules didn't come to rest, or where what is left
-    /// is beyond a limit or has lost its selection. Steps that mark nothing and leave the selection equal commit
-    /// nothing. After want of memory the editor is as it was.
+    /// Runs steps one after another, lets what they leave come to rest under the rules, and commits it. What they dispatch
+    /// is offered to the listeners, and what is queued runs behind all of them. A refused update changes nothing: its
+    /// outcome tells the step that was refused, or none where what was queued was refused, where the rules didn't come
+    /// to rest, or where what is left is beyond a limit or has lost its selection. Steps that mark nothing and leave the
+    /// selection equal commit nothing. After want of memory the editor is as it was.
     #[tactic(auto, unfolding(crate::specs::Updated::IsUpdated))]
     pub fn update(&mut self, alloc: Global, steps: &[Step]) -> Result<Outcome, NoMemory>
         requires sound { All IsSound steps.now }
@@ -107,41 +110,6 @@ impl Editor {
     {
         let verdict = self.judge(alloc, steps)?;
         self.conclude(alloc, verdict)
-    }
-
-    /// What steps come to. It changes nothing.
-    pub(crate) fn judge(&self, alloc: Global, steps: &[Step]) -> Result<Verdict, NoMemory>
-        requires sound { All IsSound steps.now }
-        ensures judged { IfOk result (IsJudged (left_by self.now.rules steps.now (begun self.now)) self.now) }
-    {
-        match leave(
-            alloc,
-            &self.state,
-            self.next_key,
-            self.rules.as_slice(),
-            steps,
-        ) {
-            Ok(frozen) => self.weigh(alloc, frozen),
-            Err(Refusal::Cause { cause, step }) => Ok(Verdict::Refused { cause, step }),
-            Err(Refusal::Memory) => Err(NoMemory),
-        }
-    }
-
-    /// What is to be done with what is left: it is committed, unless it is nothing new, or the view has no ids to
-    /// show it.
-    pub(crate) fn weigh(&self, alloc: Global, frozen: Frozen) -> Result<Verdict, NoMemory>
-        requires left { IsLeft self.now.tree (left_of self.now.rules frozen) }
-        ensures weighed { IfOk result (IsWeighed self.now (left_of self.now.rules frozen)) }
-    {
-        if frozen.marks.is_empty() && frozen.state.selection.is_equal(&self.state.selection) {
-            return Ok(Verdict::Idle);
-        }
-        let links = &frozen.state.links;
-        match reconcile(alloc, &self.state.links, links, &frozen.marks, &self.view) {
-            Ok(batch) => Ok(Verdict::Commit { frozen, batch }),
-            Err(Fault::Cause(cause)) => Ok(Verdict::Refused { cause, step: None }),
-            Err(Fault::Memory) => Err(NoMemory),
-        }
     }
 
     /// Commits what is to be committed, and answers the outcome.

@@ -1,8 +1,11 @@
-//! The editor: a committed state and its view, the rules that are registered, and what a line makes of them.
+//! The editor: a committed state and its view, the rules and listeners that are registered, and what a line makes of
+//! them.
 #![tactic(auto)]
 
 mod answer;
+mod commanding;
 mod editor;
+mod judging;
 mod leaving;
 mod line;
 mod marking;

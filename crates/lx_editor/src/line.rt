@@ -19,9 +19,9 @@ impl Editor {
     ghost use Rattle.lx_editor.specs.Judged.{MayCommit, MayConclude, IsConcluded};
     ghost use Rattle.lx_editor.specs.Follows.{RepliesTo, IsReplyOfUpdate, reply_of};
 
-    /// Does what a line asks for, and answers with the bytes of a reply: the outcome of an update or of
-    /// registering a rule, or what is committed. The reply is made before anything is committed, so after want of
-    /// memory the editor is as it was.
+    /// Does what a line asks for, and answers with the bytes of a reply: the outcome of an update, of a dispatch or of
+    /// registering a rule, the number of a listener, or what is committed. The reply is made before anything is
+    /// committed or registered, so after want of memory the editor is as it was.
     #[tactic(auto, unfolding(crate::specs::Follows::RepliesTo))]
     pub fn line(&mut self, alloc: Global, line: Line) -> Result<Vec<u8>, NoMemory>
         requires sound { IsSoundForm line.form }
@@ -32,7 +32,9 @@ impl Editor {
     {
         match line.form {
             Form::Update(steps) => self.reply_to_steps(alloc, steps.items()),
+            Form::Dispatch(command) => self.reply_to_dispatch(alloc, &command),
             Form::Rule(rule) => self.reply_to_rule(alloc, rule),
+            Form::Listener(listener) => self.reply_to_listener(alloc, listener),
             Form::Show(shown) => self.show(alloc, shown),
         }
     }
@@ -46,23 +48,30 @@ impl Editor {
         ensures unchanged { OnErr result (self.new ≡ self.old) }
     {
         let verdict = self.judge(alloc, steps)?;
-        self.reply(alloc, verdict)
+        self.reply(alloc, verdict, None)
     }
 
-    /// Commits what is to be committed, with the reply that tells the outcome.
-    pub(crate) fn reply(&mut self, alloc: Global, verdict: Verdict) -> Result<Vec<u8>, NoMemory>
+    /// Commits what is to be committed, with the reply that tells the outcome, and of a dispatch whether it was handled.
+    pub(crate) fn reply(
+        &mut self,
+        alloc: Global,
+        verdict: Verdict,
+        handled: Option<bool>,
+    ) -> Result<Vec<u8>, NoMemory>
         requires room { self.old.commits < last_u32 }
         requires may { MayConclude self.old verdict }
-        ensures replies { IfOk result (λ reply. (outcome : OutcomeOf) × IsConcluded self.old verdict outcome self.new × (reply.items ≡ reply_text (reply_of outcome))) }
+        ensures replies { IfOk result (λ reply. (outcome : OutcomeOf) × IsConcluded self.old verdict outcome self.new × (reply.items ≡ reply_text (reply_of handled outcome))) }
         ensures commits { self.new.commits ≤ self.old.commits + 1 }
         ensures unchanged { OnErr result (self.new ≡ self.old) }
     {
         match verdict {
-            Verdict::Commit { frozen, batch } => self.reply_and_commit(alloc, frozen, batch),
+            Verdict::Commit { frozen, batch } => {
+                self.reply_and_commit(alloc, frozen, batch, handled)
+            }
             Verdict::Refused { cause, step } => {
                 write_reply(alloc, &Reply::Refused { cause, step })
             }
-            Verdict::Idle => write_reply(alloc, &Reply::Idle),
+            Verdict::Idle => write_reply(alloc, &Reply::Idle { handled }),
         }
     }
 
@@ -72,17 +81,23 @@ impl Editor {
         alloc: Global,
         frozen: Frozen,
         batch: Batch,
+        handled: Option<bool>,
     ) -> Result<Vec<u8>, NoMemory>
         requires room { self.old.commits < last_u32 }
         requires may { MayCommit self.old (left_of self.old.rules frozen) batch }
-        ensures reply { IfOk result (λ reply. reply.items ≡ reply_text (Committed (self.old.commits + 1) batch.ops)) }
+        ensures reply { IfOk result (λ reply. reply.items ≡ reply_text (Committed (self.old.commits + 1) batch.ops handled)) }
         ensures committed { OnOk result (IsCommitted self.old (left_of self.old.rules frozen) (self.old.commits + 1) batch.ops self.new) }
         ensures commits { OnOk result (self.new.commits ≡ self.old.commits + 1) }
         ensures unchanged { OnErr result (self.new ≡ self.old) }
     {
         let number = self.next_commit();
         let ops = batch.copy_ops(alloc)?;
-        let reply = write_reply(alloc, &Reply::Committed { number, ops })?;
+        let told = Reply::Committed {
+            number,
+            ops,
+            handled,
+        };
+        let reply = write_reply(alloc, &told)?;
         self.commit(alloc, frozen, batch)?;
         Ok(reply)
     }

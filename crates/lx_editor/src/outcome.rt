@@ -15,7 +15,22 @@ pub enum Outcome {
     Idle,
 }
 
-/// What steps or a rule come to, before anything is changed.
+impl Outcome {
+    ghost use Rattle.std.specs.Prelude.{◌≡◌};
+    ghost use Rattle.lx_editor.specs.Dispatched as dispatched;
+
+    /// Whether a command is told as handled that has this outcome: not where it is refused.
+    pub(crate) fn unless_refused(&self, handled: bool) -> bool
+        ensures { result ≡ dispatched.unless_refused self.now handled }
+    {
+        match self {
+            Outcome::Refused { .. } => false,
+            _ => handled,
+        }
+    }
+}
+
+/// What steps, a dispatch or a rule come to, before anything is changed.
 #[derive(Drop)]
 pub(crate) enum Verdict {
     /// What they left is committed, with these operations.

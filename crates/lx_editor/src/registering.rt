@@ -3,11 +3,10 @@
 ghost use Rattle.lx_node.specs.Limits.{last_u32};
 
 use crate::editor::Editor;
-use crate::leaving::{Refusal, leave_marked};
 use crate::outcome::{Outcome, Verdict};
 use lx_node::{Cause, NoMemory};
 use lx_rules::AnyRule;
-use lx_step::{Rule, TypeRow};
+use lx_step::Rule;
 use std::alloc::Global;
 
 /// The most rules that an editor has.
@@ -17,8 +16,7 @@ impl Editor {
     ghost use Rattle.std.specs.Prelude.{◌≡◌, ◌+◌, ◌<◌, ◌≤◌, if◌then◌else◌, IfOk, OnOk, OnErr};
     ghost use Rattle.lx_step.specs.declared.rule.Rule.{Rule as RuleOf};
     ghost use Rattle.lx_editor.specs.Editor.{Editor as EditorOf};
-    ghost use Rattle.lx_editor.specs.Registered.{IsRegistered, left_for, left_by_rule, with_one_more};
-    ghost use Rattle.lx_editor.specs.Updated.{begun};
+    ghost use Rattle.lx_editor.specs.Registered.{IsRegistered, left_by_rule, with_one_more};
     ghost use Rattle.lx_editor.specs.Judged.{IsJudged, is_refused};
     ghost use Rattle.lx_editor.specs.Follows.{IsReplyOfRule};
 
@@ -56,7 +54,7 @@ impl Editor {
     {
         let verdict = self.judge_rule(alloc, rule)?;
         let is_new = !verdict.is_refused();
-        match self.reply(alloc, verdict) {
+        match self.reply(alloc, verdict, None) {
             Ok(reply) => Ok(reply),
             Err(error) => {
                 if is_new {
@@ -92,17 +90,6 @@ impl Editor {
                 self.forget_rule();
                 Err(error)
             }
-        }
-    }
-
-    /// What the rules come to where the nodes of a type are marked. It changes nothing.
-    fn judge_marked(&self, alloc: Global, on: TypeRow) -> Result<Verdict, NoMemory>
-        ensures judged { IfOk result (IsJudged (left_for self.now.rules on (begun self.now)) self.now) }
-    {
-        match leave_marked(alloc, &self.state, self.next_key, self.rules.as_slice(), on) {
-            Ok(frozen) => self.weigh(alloc, frozen),
-            Err(Refusal::Cause { cause, step }) => Ok(Verdict::Refused { cause, step }),
-            Err(Refusal::Memory) => Err(NoMemory),
         }
     }
 

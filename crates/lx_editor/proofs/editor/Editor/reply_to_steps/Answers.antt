@@ -7,6 +7,6 @@ pub returns-clause-replies : goal.returns-clause-replies
 unfolding IsUpdated
 returns-clause-replies c =
     let old = c.args.self.now in
-    let r = left_by old.rules c.args.steps.now (begun old) in
+    let r = left_by old.rules old.listeners c.args.steps.now (begun old) in
     told c.reply.result _ _ c.reply.ensures.replies
     (λ bytes (outcome, done, text). (outcome, concluded r old c.in_ok-verdict.verdict outcome c.reply.new.self c.in_ok-verdict.ensures.judged done, text))

@@ -1,0 +1,88 @@
+//! Commands: they are dispatched, and listeners are registered for them.
+
+ghost use Rattle.lx_node.specs.Limits.{last_u32};
+
+use crate::editor::Editor;
+use crate::outcome::Outcome;
+use lx_node::{Cause, Fault, NoMemory};
+use lx_script::{Reply, write_reply};
+use lx_step::{Command, Listener};
+use std::alloc::Global;
+
+impl Editor {
+    ghost use Rattle.std.specs.Prelude.{◌≡◌, ◌+◌, ◌<◌, ◌≤◌, IfOk, OnErr};
+    ghost use Rattle.lx_step.specs.Sound.{IsSoundListener};
+    ghost use Rattle.lx_editor.specs.Dispatched.{IsDispatched, IsListening};
+    ghost use Rattle.lx_editor.specs.Follows.{IsReplyOfDispatch, IsReplyOfListener};
+
+    /// Dispatches a command: it is offered to the listeners of its name, from priority 4 down to 0 and within one
+    /// priority in the order of registration, until one has handled it. What their steps leave comes to rest under the
+    /// rules and is committed, as an update is. The answer tells whether a listener has handled the command, too; of a
+    /// dispatch that is refused it tells that none has, and as the step that was refused it tells step 0, or none. After
+    /// want of memory the editor is as it was.
+    #[tactic(auto, unfolding(crate::specs::Dispatched::IsDispatched))]
+    pub fn dispatch(
+        &mut self,
+        alloc: Global,
+        command: &Command,
+    ) -> Result<(bool, Outcome), NoMemory>
+        requires room { self.old.commits < last_u32 }
+        ensures dispatched { IfOk result (λ told. IsDispatched self.old command.now told.1 told.0 self.new) }
+        ensures commits { self.new.commits ≤ self.old.commits + 1 }
+        ensures unchanged { OnErr result (self.new ≡ self.old) }
+    {
+        let (verdict, handled) = self.judge_dispatch(alloc, command)?;
+        let outcome = self.conclude(alloc, verdict)?;
+        let handled = outcome.unless_refused(handled);
+        Ok((handled, outcome))
+    }
+
+    /// The same, answered with the bytes of a reply, which is made before anything is committed.
+    pub(crate) fn reply_to_dispatch(
+        &mut self,
+        alloc: Global,
+        command: &Command,
+    ) -> Result<Vec<u8>, NoMemory>
+        requires room { self.old.commits < last_u32 }
+        ensures replies { IfOk result (λ reply. IsReplyOfDispatch self.old command.now reply.items self.new) }
+        ensures commits { self.new.commits ≤ self.old.commits + 1 }
+        ensures unchanged { OnErr result (self.new ≡ self.old) }
+    {
+        let (verdict, handled) = self.judge_dispatch(alloc, command)?;
+        self.reply(alloc, verdict, Some(handled))
+    }
+
+    /// Registers a listener behind those that are registered, and answers its number, from 1. Nothing is committed. It
+    /// is refused as `TooManyRules` where 256 are registered. After a refusal or want of memory the editor is as it was.
+    pub fn register_listener(&mut self, listener: Listener) -> Result<Result<u32, Cause>, NoMemory>
+        requires sound { IsSoundListener listener }
+        ensures registered { IfOk result (λ answer. IsListening self.old listener answer self.new) }
+        ensures commits { self.new.commits ≡ self.old.commits }
+        ensures unchanged { OnErr result (self.new ≡ self.old) }
+    {
+        match self.bus.register(listener) {
+            Ok(number) => Ok(Ok(number)),
+            Err(Fault::Cause(cause)) => Ok(Err(cause)),
+            Err(Fault::Memory) => Err(NoMemory),
+        }
+    }
+
+    /// The same, answered with the bytes of a reply, which is made before the listener is registered.
+    pub(crate) fn reply_to_listener(
+        &mut self,
+        alloc: Global,
+        listener: Listener,
+    ) -> Result<Vec<u8>, NoMemory>
+        requires sound { IsSoundListener listener }
+        ensures replies { IfOk result (λ reply. IsReplyOfListener self.old listener reply.items self.new) }
+        ensures commits { self.new.commits ≡ self.old.commits }
+        ensures unchanged { OnErr result (self.new ≡ self.old) }
+    {
+        let number = self.bus.len() + 1;
+        let reply = write_reply(alloc, &Reply::Registered(number))?;
+        match self.register_listener(listener)? {
+            Ok(_) => Ok(reply),
+            Err(cause) => write_reply(alloc, &Reply::Refused { cause, step: None }),
+        }
+    }
+}

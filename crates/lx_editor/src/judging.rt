@@ -1,0 +1,130 @@
+//! What steps, a dispatch or a rule come to, before anything is changed.
+
+ghost use Rattle.std.specs.Prelude.{◌≡◌, All, IfOk, OnOk, Option, Result, List, ℕ};
+ghost use Rattle.lx_node.specs.declared.cause.Cause.{Cause as CauseOf};
+ghost use Rattle.lx_step.specs.Sound.{IsSound};
+ghost use Rattle.lx_draft.specs.Covering as drafts;
+ghost use Rattle.lx_draft.specs.Faults.{TellsStep};
+ghost use Rattle.lx_draft.specs.Working.{Working};
+ghost use Rattle.lx_rules.specs.declared.any_rule.AnyRule.{AnyRule as AnyRuleOf};
+ghost use Rattle.lx_run.specs.Refusals.{TellsRefusal};
+ghost use Rattle.lx_editor.specs.Dispatched.{answer_to, left_in_answer, was_handled};
+ghost use Rattle.lx_editor.specs.Editor.{Editor as EditorOf};
+ghost use Rattle.lx_editor.specs.Judged.{IsLeft, IsFresh, IsJudged, IsWeighed, IsForCause};
+ghost use Rattle.lx_editor.specs.Registered.{left_for, left_with};
+ghost use Rattle.lx_editor.specs.Updated.{Left, left_of, left_by, begun, rested_by};
+
+use crate::editor::Editor;
+use crate::leaving::rest;
+use crate::marking::mark_type;
+use crate::outcome::Verdict;
+use crate::reconciling::reconcile;
+use lx_draft::{Draft, Frozen};
+use lx_node::{Fault, NoMemory};
+use lx_run::{Refusal, run_dispatch, run_steps};
+use lx_step::{Command, Step, TypeRow};
+use std::alloc::Global;
+
+/// The verdict that a refusal is.
+fn verdict_of(refusal: Refusal) -> Result<Verdict, NoMemory>
+    ensures judged { (left : Result Left (CauseOf × Option ℕ)) (e : EditorOf) → TellsRefusal refusal left → IfOk result (IsJudged left e) }
+    ensures for_cause { OnOk result (IsForCause refusal) }
+{
+    match refusal {
+        Refusal::Cause { cause, step } => Ok(Verdict::Refused { cause, step }),
+        Refusal::Memory => Err(NoMemory),
+    }
+}
+
+/// The verdict that a fault of the marks for a rule is, for which no step is refused.
+fn verdict_of_marks(fault: Fault) -> Result<Verdict, NoMemory>
+    ensures { (rules : List AnyRuleOf) (marked : Result Working CauseOf) (e : EditorOf) → TellsStep fault marked → IfOk result (IsJudged (left_with rules marked) e) }
+{
+    match fault {
+        Fault::Cause(cause) => Ok(Verdict::Refused { cause, step: None }),
+        Fault::Memory => Err(NoMemory),
+    }
+}
+
+impl Editor {
+    /// A draft of what is committed.
+    fn begin(&self, alloc: Global) -> Result<Draft, NoMemory>
+        ensures begun { IfOk result (λ draft. draft ≡ begun self.now) }
+        ensures fresh { OnOk result (IsFresh (begun self.now)) }
+    {
+        Draft::start(alloc, &self.state, self.next_key)
+    }
+
+    /// What steps come to. It changes nothing.
+    pub(crate) fn judge(&self, alloc: Global, steps: &[Step]) -> Result<Verdict, NoMemory>
+        requires sound { All IsSound steps.now }
+        ensures judged { IfOk result (IsJudged (left_by self.now.rules self.now.listeners steps.now (begun self.now)) self.now) }
+    {
+        let draft = self.begin(alloc)?;
+        match run_steps(alloc, &self.bus, draft, steps) {
+            Ok(draft) => self.judge_draft(alloc, draft),
+            Err(refusal) => verdict_of(refusal),
+        }
+    }
+
+    /// What a dispatch comes to, and whether the command was handled. It changes nothing.
+    pub(crate) fn judge_dispatch(
+        &self,
+        alloc: Global,
+        command: &Command,
+    ) -> Result<(Verdict, bool), NoMemory>
+        ensures judged { IfOk result (λ told. IsJudged (left_in_answer self.now.rules (answer_to command.now self.now)) self.now told.0) }
+        ensures handled { IfOk result (λ told. told.1 ≡ was_handled (answer_to command.now self.now)) }
+    {
+        let draft = self.begin(alloc)?;
+        match run_dispatch(alloc, &self.bus, draft, command) {
+            Ok((draft, handled)) => {
+                let verdict = self.judge_draft(alloc, draft)?;
+                Ok((verdict, handled))
+            }
+            Err(refusal) => {
+                let verdict = verdict_of(refusal)?;
+                Ok((verdict, false))
+            }
+        }
+    }
+
+    /// What the rules come to where the nodes of a type are marked. It changes nothing.
+    pub(crate) fn judge_marked(&self, alloc: Global, on: TypeRow) -> Result<Verdict, NoMemory>
+        ensures judged { IfOk result (IsJudged (left_for self.now.rules on (begun self.now)) self.now) }
+    {
+        let mut draft = self.begin(alloc)?;
+        match mark_type(alloc, &mut draft, on) {
+            Ok(()) => self.judge_draft(alloc, draft),
+            Err(fault) => verdict_of_marks(fault),
+        }
+    }
+
+    /// What a draft comes to: it comes to rest under the rules, and what it leaves is weighed.
+    fn judge_draft(&self, alloc: Global, draft: Draft) -> Result<Verdict, NoMemory>
+        requires covered { drafts.AreCovered (begun self.now) draft }
+        ensures judged { IfOk result (IsJudged (rested_by self.now.rules draft) self.now) }
+    {
+        match rest(alloc, draft, self.rules.as_slice()) {
+            Ok(frozen) => self.weigh(alloc, frozen),
+            Err(refusal) => verdict_of(refusal),
+        }
+    }
+
+    /// What is to be done with what is left: it is committed, unless it is nothing new, or the view has no ids to
+    /// show it.
+    fn weigh(&self, alloc: Global, frozen: Frozen) -> Result<Verdict, NoMemory>
+        requires left { IsLeft self.now.tree (left_of self.now.rules frozen) }
+        ensures weighed { IfOk result (IsWeighed self.now (left_of self.now.rules frozen)) }
+    {
+        if frozen.marks.is_empty() && frozen.state.selection.is_equal(&self.state.selection) {
+            return Ok(Verdict::Idle);
+        }
+        let links = &frozen.state.links;
+        match reconcile(alloc, &self.state.links, links, &frozen.marks, &self.view) {
+            Ok(batch) => Ok(Verdict::Commit { frozen, batch }),
+            Err(Fault::Cause(cause)) => Ok(Verdict::Refused { cause, step: None }),
+            Err(Fault::Memory) => Err(NoMemory),
+        }
+    }
+}
