@@ -5,7 +5,7 @@
 //! An update comes out as one line with what it left: the HTML of the tree, its keys in preorder, the selection, the next
 //! key, and the leaves and the elements that it marked, in their order, with `!` behind an element that was marked itself.
 //! One that is refused leaves the state as it was, and comes out as the reply that tells its cause. A question comes out
-//! as its reply. A line that is a rule is refused: nothing comes to rest here.
+//! as its reply. Rules, listeners and dispatches are refused: nothing comes to rest here, and nobody listens.
 #![tactic(auto)]
 
 mod session;

@@ -6,10 +6,11 @@ ghost use Rattle.lx_draft.specs.Working.{MayStart};
 
 use crate::telling::tell;
 use anyhow::Result;
+use lx_bus::Bus;
 use lx_draft::{Draft, Frozen, State};
 use lx_node::{Cause, Fault, NoMemory};
 use lx_reconcile::fresh;
-use lx_run::{Names, run_steps};
+use lx_run::{Refusal, run_steps};
 use lx_script::{Reply, read_line, write_reply};
 use lx_step::{Form, Line, Shown, Step};
 use std::alloc::Global;
@@ -19,28 +20,29 @@ use std::alloc::Global;
 pub(crate) struct Session {
     state: State,
     next_key: u32,
+    /// No listeners: what steps dispatch is offered to nobody.
+    nobody: Bus,
     ghost may_start: { MayStart state.links next_key },
-}
-
-/// Why steps left nothing, and the one that was refused, where it was one.
-#[derive(Drop)]
-struct Refusal {
-    fault: Fault,
-    step: Option<u32>,
 }
 
 impl Session {
     /// The state of a new editor.
     pub(crate) fn new(alloc: Global) -> Result<Session, NoMemory> {
         let state = State::new(alloc)?;
-        Ok(Session { state, next_key: 1 })
+        let nobody = Bus::new(alloc)?;
+        Ok(Session {
+            state,
+            next_key: 1,
+            nobody,
+        })
     }
 
     /// Does what a line asks for, and tells it in a line without its end.
     pub(crate) fn answer(&mut self, alloc: Global, line: &[u8]) -> Result<Vec<u8>> {
         match read_line(alloc, line) {
             Ok(line) => self.line(alloc, line),
-            Err(fault) => refused(alloc, fault, None),
+            Err(Fault::Cause(cause)) => refused(alloc, cause, None),
+            Err(Fault::Memory) => Err(NoMemory.into()),
         }
     }
 
@@ -49,8 +51,10 @@ impl Session {
     {
         match &line.form {
             Form::Update(steps) => self.update(alloc, steps.items()),
-            // Nothing comes to rest here: what steps leave is shown as it is.
-            Form::Rule(_) => refused(alloc, Fault::Cause(Cause::BadCommand), None),
+            // Nothing comes to rest here, and nobody listens: what steps leave is shown as it is.
+            Form::Dispatch(_) | Form::Rule(_) | Form::Listener(_) => {
+                refused(alloc, Cause::BadCommand, None)
+            }
             Form::Show(shown) => self.show(alloc, *shown),
         }
     }
@@ -73,7 +77,8 @@ impl Session {
                 self.keep(frozen);
                 Ok(told)
             }
-            Err(refusal) => refused(alloc, refusal.fault, refusal.step),
+            Err(Refusal::Cause { cause, step }) => refused(alloc, cause, step),
+            Err(Refusal::Memory) => Err(NoMemory.into()),
         }
     }
 
@@ -89,35 +94,23 @@ impl Session {
         requires { All IsSound steps.now }
         ensures { IfOk result (λ frozen. MayStart frozen.state.links frozen.next_key) }
     {
-        let mut draft = match Draft::start(alloc, &self.state, self.next_key) {
+        let draft = match Draft::start(alloc, &self.state, self.next_key) {
             Ok(draft) => draft,
-            Err(NoMemory) => return Err(refused_at(Fault::Memory, None)),
+            Err(NoMemory) => return Err(Refusal::Memory),
         };
-        let mut names = Names::new(alloc);
-        let mut at = 0;
-        match run_steps(alloc, &mut draft, &mut names, steps, &mut at) {
-            Ok(()) => {}
-            Err(fault) => return Err(refused_at(fault, Some(at))),
-        }
+        let draft = match run_steps(alloc, &self.nobody, draft, steps) {
+            Ok(draft) => draft,
+            Err(refusal) => return Err(refusal),
+        };
         match draft.freeze() {
             Ok(frozen) => Ok(frozen),
-            Err(fault) => Err(refused_at(fault, None)),
+            Err(Fault::Cause(cause)) => Err(Refusal::Cause { cause, step: None }),
+            Err(Fault::Memory) => Err(Refusal::Memory),
         }
     }
-}
-
-fn refused_at(fault: Fault, step: Option<u32>) -> Refusal {
-    Refusal { fault, step }
 }
 
 /// The reply to a line that is refused.
-fn refused(alloc: Global, fault: Fault, step: Option<u32>) -> Result<Vec<u8>> {
-    match fault {
-        Fault::Cause(cause) => Ok(write_refusal(alloc, cause, step)?),
-        Fault::Memory => Err(NoMemory.into()),
-    }
-}
-
-fn write_refusal(alloc: Global, cause: Cause, step: Option<u32>) -> Result<Vec<u8>, NoMemory> {
-    write_reply(alloc, &Reply::Refused { cause, step })
+fn refused(alloc: Global, cause: Cause, step: Option<u32>) -> Result<Vec<u8>> {
+    Ok(write_reply(alloc, &Reply::Refused { cause, step })?)
 }
