@@ -101,10 +101,6 @@ fn selections_are_read(rt: HostRuntime) -> Result<(), Fail> {
         ),
         (r#"{"keys":[]}"#, "Nodes(References { references: [] })"),
         (
-            r#"{"anchor":1,"focus":2,"table":3}"#,
-            "Cells { table: Key(Key(3)), anchor: Key(Key(1)), focus: Key(Key(2)) }",
-        ),
-        (
             r#"{"anchor":[1,0,"text"],"focus":["a",9,"element"],"format":65535}"#,
             r#"Range { anchor: PointRef { node: Key(Key(1)), offset: 0, kind: Text }, focus: PointRef { node: Name(Txt { text: "a" }), offset: 9, kind: Element }, format: Some(65535) }"#,
         ),
@@ -189,6 +185,72 @@ fn new_nodes_are_read(rt: HostRuntime) -> Result<(), Fail> {
         ),
     ] {
         assert!(rt; is_step(rt.alloc(), step, wanted)?, "at {step}");
+    }
+    Ok(())
+}
+
+#[test]
+fn commands_are_read(rt: HostRuntime) -> Result<(), Fail> {
+    for (members, wanted) in [
+        (r#""k""#, "Nothing"),
+        (r#""k","payload":null"#, "Nothing"),
+        (r#""k","payload":"""#, r#"Text(Txt { text: "" })"#),
+        (
+            r#""k","payload":"@payload""#,
+            r#"Text(Txt { text: "@payload" })"#,
+        ),
+        (
+            r#""k","payload":[1,50,true]"#,
+            "Grid { rows: 1, columns: 50, headers: true }",
+        ),
+    ] {
+        let step = format!(in rt.alloc(); "{{\"dispatch\":{members}}}")?;
+        let command = format!(in rt.alloc();
+            "Command {{ name: Txt {{ text: \"k\" }}, payload: {wanted} }}"
+        )?;
+        let as_step = format!(in rt.alloc(); "Dispatch({})", command.as_str())?;
+        assert!(rt;
+            is_step(rt.alloc(), step.as_str(), as_step.as_str())?,
+            "at {members}"
+        );
+        let heard = heard(rt.alloc(), step.as_str())?;
+        assert_eq!(rt; heard.as_str(), as_step.as_str());
+    }
+    Ok(())
+}
+
+#[test]
+fn steps_hold_steps(rt: HostRuntime) -> Result<(), Fail> {
+    for (step, wanted) in [
+        (r#"{"later":[]}"#, "Later(Steps { steps: [] })"),
+        (
+            r#"{"later":[{"mark":1},{"later":[{"mark":2}]},{"mark":3}]}"#,
+            "Later(Steps { steps: [Mark(Key(Key(1))), Later(Steps { steps: [Mark(Key(Key(2)))] }), Mark(Key(Key(3)))] })",
+        ),
+    ] {
+        assert!(rt; is_step(rt.alloc(), step, wanted)?, "at {step}");
+    }
+    Ok(())
+}
+
+#[test]
+fn listeners_are_read(rt: HostRuntime) -> Result<(), Fail> {
+    for (line, wanted) in [
+        (
+            r#"{"listener":{"on":"k","priority":0,"steps":[],"handled":false}}"#,
+            r#"Listener(Listener { priority: 0, on: Txt { text: "k" }, when: When { payload: None, selection: None, block: None }, steps: Steps { steps: [] }, handled: false })"#,
+        ),
+        (
+            r#"{"listener":{"on":"","priority":4,"when":{"block":"x","payload":"@payload"},"steps":[{"later":[{"dispatch":"n","payload":"@payload"}]}],"handled":true}}"#,
+            r#"Listener(Listener { priority: 4, on: Txt { text: "" }, when: When { payload: Some(Txt { text: "@payload" }), selection: None, block: Some(Txt { text: "x" }) }, steps: Steps { steps: [Later(Steps { steps: [Dispatch(Command { name: Txt { text: "n" }, payload: Given })] })] }, handled: true })"#,
+        ),
+        (
+            r#"{"listener":{"on":"k","priority":3,"when":{"selection":"none"},"steps":[{"dispatch":"n","payload":"@payload "}],"handled":true}}"#,
+            r#"Listener(Listener { priority: 3, on: Txt { text: "k" }, when: When { payload: None, selection: Some(Txt { text: "none" }), block: None }, steps: Steps { steps: [Dispatch(Command { name: Txt { text: "n" }, payload: Text(Txt { text: "@payload " }) })] }, handled: true })"#,
+        ),
+    ] {
+        let heard = heard(rt.alloc(), line)?;
+        assert_eq!(rt; heard.as_str(), wanted);
     }
     Ok(())
 }

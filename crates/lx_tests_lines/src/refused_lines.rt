@@ -29,13 +29,25 @@ fn other_lines_are_refused(rt: HostRuntime) -> Result<(), Fail> {
 }
 
 /// What stands in the place of a step and is none.
-const OTHER_STEPS: [&str; 42] = [
+const OTHER_STEPS: [&str; 55] = [
     r#"{"append":1}"#,
     r#"{"append":"a","at":1}"#,
     r#"{"insert":"a"}"#,
     r#"{"do":"undo"}"#,
-    r#"{"dispatch":"a"}"#,
-    r#"{"later":[]}"#,
+    r#"{"do":"k","payload":"a"}"#,
+    r#"{"dispatch":1}"#,
+    r#"{"dispatch":null}"#,
+    r#"{"dispatch":"a","payload":1}"#,
+    r#"{"dispatch":"a","payload":{}}"#,
+    r#"{"dispatch":"a","payload":[0,1,true]}"#,
+    r#"{"dispatch":"a","payload":[1,51,true]}"#,
+    r#"{"dispatch":"a","payload":[1,1]}"#,
+    r#"{"dispatch":"a","payload":[1,1,null]}"#,
+    r#"{"dispatch":"a","when":{}}"#,
+    r#"{"later":{}}"#,
+    r#"{"later":[[]]}"#,
+    r#"{"later":[{"append":1}]}"#,
+    r#"{"later":[],"append":"a"}"#,
     r#"{"put":1}"#,
     r#"{"put":1,"into":2,"at":null}"#,
     r#"{"put":1,"into":2,"at":-1}"#,
@@ -70,6 +82,7 @@ const OTHER_STEPS: [&str; 42] = [
     r#"{"select":{"anchor":[1,0],"focus":[1,0,"text"]}}"#,
     r#"{"select":{"anchor":[1,0,"cell"],"focus":[1,0,"text"]}}"#,
     r#"{"select":{"anchor":1,"focus":2}}"#,
+    r#"{"select":{"anchor":1,"focus":2,"table":3}}"#,
     r#"{"select":{"keys":[null]}}"#,
     r#"{"select":{}}"#,
 ];
@@ -79,6 +92,37 @@ fn other_steps_are_refused(rt: HostRuntime) -> Result<(), Fail> {
     for step in OTHER_STEPS {
         let heard = heard_step(rt.alloc(), step)?;
         assert_eq!(rt; heard.as_str(), "2", "at {step}");
+    }
+    Ok(())
+}
+
+/// What stands in the place of a listener and is none.
+const OTHER_LISTENERS: [&str; 17] = [
+    "null",
+    r#"{"priority":0,"steps":[],"handled":true}"#,
+    r#"{"on":"k","steps":[],"handled":true}"#,
+    r#"{"on":"k","priority":0,"handled":true}"#,
+    r#"{"on":"k","priority":0,"steps":[]}"#,
+    r#"{"on":1,"priority":0,"steps":[],"handled":true}"#,
+    r#"{"on":"k","priority":5,"steps":[],"handled":true}"#,
+    r#"{"on":"k","priority":-1,"steps":[],"handled":true}"#,
+    r#"{"on":"k","priority":"0","steps":[],"handled":true}"#,
+    r#"{"on":"k","priority":0,"steps":{},"handled":true}"#,
+    r#"{"on":"k","priority":0,"steps":[{"do":"undo"}],"handled":true}"#,
+    r#"{"on":"k","priority":0,"steps":[],"handled":1}"#,
+    r#"{"on":"k","priority":0,"steps":[],"handled":true,"name":"l"}"#,
+    r#"{"on":"k","priority":0,"when":null,"steps":[],"handled":true}"#,
+    r#"{"on":"k","priority":0,"when":{"payload":null},"steps":[],"handled":true}"#,
+    r#"{"on":"k","priority":0,"when":{"block":["paragraph"]},"steps":[],"handled":true}"#,
+    r#"{"on":"k","priority":0,"when":{"key":"1"},"steps":[],"handled":true}"#,
+];
+
+#[test]
+fn other_listeners_are_refused(rt: HostRuntime) -> Result<(), Fail> {
+    for listener in OTHER_LISTENERS {
+        let line = format!(in rt.alloc(); "{{\"listener\":{listener}}}")?;
+        let heard = heard(rt.alloc(), line.as_str())?;
+        assert_eq!(rt; heard.as_str(), "2", "at {listener}");
     }
     Ok(())
 }

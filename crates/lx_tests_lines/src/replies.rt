@@ -39,6 +39,7 @@ fn paragraph(alloc: Global, text: &str) -> Result<Reply, NoMemory> {
     Ok(Reply::Committed {
         number: 1,
         ops: Ops::of(ops),
+        handled: None,
     })
 }
 
@@ -226,7 +227,7 @@ fn cells() -> Selection {
 /// A reply, and what is written of it.
 fn example(alloc: Global, index: usize) -> Result<(Reply, &'static str), NoMemory> {
     Ok(match index {
-        0 => (Reply::Idle, r#"{"idle":true}"#),
+        0 => (Reply::Idle { handled: None }, r#"{"idle":true}"#),
         1 => (
             Reply::View(Txt::new(alloc, "<div><p title=\"é\">\n</p></div>")?),
             r#"{"view":"<div><p title=\"é\">\n</p></div>"}"#,
@@ -247,6 +248,13 @@ fn example(alloc: Global, index: usize) -> Result<(Reply, &'static str), NoMemor
             Reply::Selection(Selection::Nodes(Keys::of(vec![in alloc; Key(7), Key(2)]?))),
             r#"{"selection":{"keys":[7,2],"kind":"nodes"}}"#,
         ),
+        6 => (
+            Reply::Idle {
+                handled: Some(false),
+            },
+            r#"{"handled":false,"idle":true}"#,
+        ),
+        7 => (Reply::Registered(256), r#"{"registered":256}"#),
         _ => (
             Reply::Selection(cells()),
             r#"{"selection":{"anchor":5,"focus":10,"kind":"cells","table":3}}"#,
@@ -262,7 +270,7 @@ fn is_written(alloc: Global, index: usize) -> Result<bool, NoMemory> {
 
 #[test]
 fn shown_replies_are_written(rt: HostRuntime) -> Result<(), Fail> {
-    for index in 0..7 {
+    for index in 0..9 {
         let written = is_written(rt.alloc(), index)?;
         assert!(rt; written, "reply {index}");
     }
@@ -320,8 +328,13 @@ fn operation(alloc: Global, index: usize) -> Result<(Op, &'static str), NoMemory
 fn is_told(alloc: Global, index: usize) -> Result<bool, NoMemory> {
     let (op, told) = operation(alloc, index)?;
     let ops = Ops::of(vec![in alloc; op]?);
-    let bytes = write_reply(alloc, &Reply::Committed { number: 3, ops })?;
-    let wanted = format!(in alloc; "{{\"commit\":3,\"ops\":[{told}]}}")?;
+    let reply = Reply::Committed {
+        number: 3,
+        ops,
+        handled: Some(true),
+    };
+    let bytes = write_reply(alloc, &reply)?;
+    let wanted = format!(in alloc; "{{\"commit\":3,\"handled\":true,\"ops\":[{told}]}}")?;
     Ok(bytes.as_slice() == wanted.as_bytes())
 }
 
