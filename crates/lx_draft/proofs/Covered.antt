@@ -9,7 +9,7 @@ use Rattle.lx_forest.specs.Records.{record_at}
 use Rattle.lx_draft.specs.Working.{Working}
 use Rattle.lx_draft.specs.Faults.{answer, after}
 use Rattle.lx_draft.specs.Marking.{mark_nodes}
-use Rattle.lx_draft.specs.Covering.{IsNotedUp, Covers, KindsStay, AreElements, IsReady, AreCovered, IsCovering}
+use Rattle.lx_draft.specs.Covering.{IsNotedUp, Covers, KindsStay, AreElements, IsReady, AreNew, AreCovered, IsCovering}
 use Rattle.lx_draft.proofs.Elements.{sorted-nodes, sorted_stays, element_stays}
 use Rattle.lx_draft.proofs.Touched.{is_over, touched-nodes, noted-nodes, over_up, over_child}
 
@@ -53,9 +53,19 @@ both_told : (a b c d e : Bool) → c ≡ (a || e) → d ≡ (b || e) → c ≡ t
 both_told true b c d e whole new t = inl refl
 both_told false b c d e whole new t = inr (grind (arith, whole, new, t))
 
+-- nothing is new
+pub same_keys : (w v : Working) → v.next_key ≡ w.next_key → ((q : ℕ) → has q v.forest ≡ has q w.forest) → AreNew w v
+same_keys w v next same = record { next = omega (arith, next); each = λ q e. inl (sym (same q) ∙ e) }
+
+pub new_then : (u v w : Working) → AreNew u v → AreNew v w → AreNew u w
+new_then u v w a b = record {
+  next = omega (arith, a.next, b.next);
+  each = λ q e. elim (b.each q e) [ inl before ↦ a.each q before | inr new ↦ inr (omega (arith, a.next, new)) ];
+}
+
 pub covered : (w v : Working) (marked : Forest) (ks : List ℕ) → IsForest marked → IsTold w.forest v.forest marked ks → KindsStay w.forest v.forest → KindsStay marked v.forest
-    → v.marks ≡ mark_nodes marked ks w.marks → v.fresh ≡ mark_nodes marked ks w.fresh → IsReady v → AreCovered w v
-covered w v marked ks h t kinds now marks fresh ready = record {
+    → v.marks ≡ mark_nodes marked ks w.marks → v.fresh ≡ mark_nodes marked ks w.fresh → IsReady v → AreNew w v → AreCovered w v
+covered w v marked ks h t kinds now marks fresh ready keys = record {
   marks = subst (λ n. Covers w.forest w.marks v.forest n) (sym marks) (covers w.forest v.forest marked ks w.marks h t);
   fresh = subst (λ n. Covers w.forest w.fresh v.forest n) (sym fresh) (covers w.forest v.forest marked ks w.fresh h t);
   told = λ q e. both_told (is_touched w.marks q) (is_touched w.fresh q) (is_touched v.marks q) (is_touched v.fresh q) (is_among q ks && has q marked)
@@ -65,6 +75,7 @@ covered w v marked ks h t kinds now marks fresh ready = record {
   same = λ e. marks ∙ ap (mark_nodes marked ks) e ∙ sym fresh;
   kinds = kinds;
   elements = λ a. subst (AreElements v.forest) (sym fresh) (sorted-nodes v.forest marked ks w.fresh (sorted_stays w.forest v.forest w.fresh kinds a) (λ k e. element_stays marked v.forest k now e));
+  keys = keys;
   ready = ready;
 }
 
@@ -83,6 +94,7 @@ covered-same w v r forest marks fresh next =
       in_order = subst IsForest (sym forest) r.in_order;
       free = λ q e. ap (has q) forest ∙ r.free q (subst (λ n. n ≤ q) next e);
     })
+    (same_keys w v next (λ q. ap (has q) forest))
 
 covers-then : (f g h : Forest) (m n o : Marked) → Covers f m g n → Covers g n h o → Covers f m h o
 covers-then f g h m n o a b = record {
@@ -110,6 +122,7 @@ covered-then u v w a b = record {
   same = λ e. b.same (a.same e);
   kinds = record { each = λ q kind e. b.kinds.each q kind (a.kinds.each q kind e) };
   elements = λ e. b.elements (a.elements e);
+  keys = new_then u v w a.keys b.keys;
   ready = b.ready;
 }
 

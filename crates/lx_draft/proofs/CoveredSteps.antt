@@ -1,5 +1,5 @@
 -- Each step of a draft is covered by what it marks.
-use Rattle.std.proofs.Common.{◌≡◌, ◌∙◌, ℕ, ◌+◌, ◌≤◌, Bool, true, false, cond, ltb, List, [], ◌∷◌, length, Option, None, Some, refl, sym, ap, subst, arith, inl, inr}
+use Rattle.std.proofs.Common.{◌≡◌, ◌∙◌, ℕ, ◌+◌, ◌≤◌, Bool, true, false, cond, ltb, List, [], ◌∷◌, length, Option, None, Some, refl, sym, ap, subst, arith, inl, inr, ◌⊎◌}
 use Rattle.std.specs.Prelude.{slice_get}
 use Rattle.std.specs.Option.{option_or}
 use Rattle.std.proofs.lemmas.Bool.Decides.{eqb_tells}
@@ -24,7 +24,7 @@ use Rattle.lx_draft.specs.Steps.{counted_up, count_step, edited, wrote, made, ne
 use Rattle.lx_draft.specs.Covering.{KindsStay, IsReady, AreCovered, IsCovering}
 use Rattle.lx_draft.specs.Laws.{DraftsAreCovered}
 use Rattle.lx_draft.proofs.Put.{both_none, can_put}
-use Rattle.lx_draft.proofs.Covered.{IsTold, noted_up, covered, kinds_at, covered-same, covered-self, covered-then, covered-answer}
+use Rattle.lx_draft.proofs.Covered.{IsTold, noted_up, covered, same_keys, kinds_at, covered-same, covered-self, covered-then, covered-answer}
 use Rattle.lx_draft.proofs.CoveredEdits.{told_new, told_set, told_equal, told_take, told_put, index_place}
 
 known : (f : Forest) (k : ℕ) → unknown f k ≡ None → has k f ≡ true
@@ -66,6 +66,7 @@ covered-marked w u k r forest next marks fresh =
       in_order = subst IsForest (sym forest) r.in_order;
       free = λ q e. ap (has q) forest ∙ r.free q (subst (λ n. n ≤ q) next e);
     })
+    (same_keys w (marked_in w.forest (k ∷ []) u) next (λ q. ap (has q) forest))
 
 pub covered-mark : (k : ℕ) → IsCovering (mark_step k)
 unfolding mark_step
@@ -91,6 +92,13 @@ kinds_new l f h free = record {
   ];
 }
 
+new_keys : (l : Label) (w : Working) (q : ℕ) → l.key ≡ w.next_key → has q (with_new l w.forest) ≡ true → (has q w.forest ≡ true) ⊎ (w.next_key ≤ q)
+new_keys l w q own e =
+    elim (eqb_tells l.key q) [
+      | inl same ↦ inr (omega (arith, own, same.1))
+      | inr other ↦ inl (grind (arith, e, other.0, count-with_new q l w.forest))
+    ]
+
 covered-made : (kind : Kind) (fields : Fields) (w : Working) → IsReady w → AreCovered w (made kind fields w)
 covered-made kind fields w r =
     let l : Label = record { key = w.next_key; kind = kind; fields = fields } in
@@ -99,6 +107,7 @@ covered-made kind fields w r =
       in_order = IsForest-with_new l w.forest r.in_order free;
       free = λ q e. new_free w l q r refl e;
     })
+    (record { next = omega arith; each = λ q e. new_keys l w q refl e })
 
 pub covered-new : (kind : Kind) (fields : Fields) → IsCovering (new_step kind fields)
 unfolding new_step
@@ -120,10 +129,10 @@ covered-refielded_if : (differs : Bool) (k : ℕ) (fields : Fields) (more : ℕ)
     → AreCovered w (record (marked_if differs w.forest k (wrote more w)) { forest = with_fields k fields w.forest; selection = selection })
 covered-refielded_if true k fields more selection w r there e =
     let v : Working = record (marked_in w.forest (k ∷ []) (wrote more w)) { forest = with_fields k fields w.forest; selection = selection } in
-    covered w v w.forest (k ∷ []) r.in_order (told_set k fields w.forest r.in_order there) (kinds_set k fields w.forest) (kinds_set k fields w.forest) refl refl (set_ready k fields w v r refl refl)
+    covered w v w.forest (k ∷ []) r.in_order (told_set k fields w.forest r.in_order there) (kinds_set k fields w.forest) (kinds_set k fields w.forest) refl refl (set_ready k fields w v r refl refl) (same_keys w v refl (λ q. ap (λ n. ltb 0 n) (count-with_fields q k fields w.forest)))
 covered-refielded_if false k fields more selection w r there e =
     let v : Working = record (wrote more w) { forest = with_fields k fields w.forest; selection = selection } in
-    covered w v w.forest [] r.in_order (told_equal k fields w.forest e) (kinds_set k fields w.forest) (kinds_set k fields w.forest) refl refl (set_ready k fields w v r refl refl)
+    covered w v w.forest [] r.in_order (told_equal k fields w.forest e) (kinds_set k fields w.forest) (kinds_set k fields w.forest) refl refl (set_ready k fields w v r refl refl) (same_keys w v refl (λ q. ap (λ n. ltb 0 n) (count-with_fields q k fields w.forest)))
 
 covered-refielded : (k : ℕ) (fields : Fields) (more : ℕ) (moved : Selection → Selection) (w : Working) → IsReady w → has k w.forest ≡ true → AreCovered w (fields_written k fields more moved w)
 covered-refielded k fields more moved w r there =
@@ -155,6 +164,7 @@ covered-taken k w r there =
       in_order = IsForest-take_out k w.forest r.in_order;
       free = λ q e. free_still w (take_out k w.forest) q r e (count-take_out q k w.forest);
     })
+    (same_keys w (node_taken k w) refl (λ q. ap (λ n. ltb 0 n) (count-take_out q k w.forest)))
 
 pub covered-take : (k : ℕ) → IsCovering (take_step k)
 unfolding take_step
@@ -171,6 +181,7 @@ covered-placed k p index w r none =
       in_order = IsForest-put_in p before k w.forest r.in_order can;
       free = λ q e. free_still w (put_in p before k w.forest) q r e (count-put_in q p before k w.forest r.in_order can.parent can.outside);
     })
+    (same_keys w (node_placed k p index w) refl (λ q. ap (λ n. ltb 0 n) (count-put_in q p before k w.forest r.in_order can.parent can.outside)))
 
 pub covered-put : (k p index : ℕ) → IsCovering (put_step k p index)
 unfolding put_step

@@ -41,8 +41,13 @@ pub record IsReady (w : Working) : Type 0 where
   pub in_order : IsForest w.forest
   pub free : (q : ℕ) → w.next_key ≤ q → has q w.forest ≡ false
 
+-- The key that the next new node gets doesn't fall, and each node that is new has a key that was still to be given.
+pub record AreNew (w v : Working) : Type 0 where
+  pub next : w.next_key ≤ v.next_key
+  pub each : (q : ℕ) → has q v.forest ≡ true → (has q w.forest ≡ true) ⊎ (w.next_key ≤ q)
+
 -- What a draft became: the marks of the whole update cover it, and so do those that haven't been handled yet; what is marked
--- anew by the first is so by the second too; and the next edit can rely on the same.
+-- anew by the first is so by the second too; new nodes have new keys; and the next edit can rely on the same.
 pub record AreCovered (w v : Working) : Type 0 where
   pub marks : Covers w.forest w.marks v.forest v.marks
   pub fresh : Covers w.forest w.fresh v.forest v.fresh
@@ -51,6 +56,7 @@ pub record AreCovered (w v : Working) : Type 0 where
   pub same : w.marks ≡ w.fresh → v.marks ≡ v.fresh
   pub kinds : KindsStay w.forest v.forest
   pub elements : AreElements w.forest w.fresh → AreElements v.forest v.fresh
+  pub keys : AreNew w v
   pub ready : IsReady v
 
 -- a step whose every result is covered

@@ -7,6 +7,7 @@ use Rattle.lx_draft.specs.Working.{Working}
 use Rattle.lx_draft.specs.Faults.{after}
 use Rattle.lx_draft.specs.Rounds.{round_by}
 use Rattle.lx_draft.specs.Covering.{Covers, IsReady, AreCovered}
+use Rattle.lx_draft.proofs.Covered.{new_then}
 use Rattle.lx_edit.specs.InTurn.{in_turn}
 use Rattle.lx_rules.specs.Answers.{Answers}
 use Rattle.lx_settle.specs.Acting.{rules_step}
@@ -32,6 +33,7 @@ marked_then : (u v w : Working) → AreMarked u v → IsCarried v w → AreMarke
 marked_then u v w a c = record {
   marks = covers_then u.forest v.forest w.forest u.marks v.marks w.marks a.marks c.covered.marks;
   kinds = record { each = λ q kind e. c.covered.kinds.each q kind (a.kinds.each q kind e) };
+  keys = new_then u v w a.keys c.covered.keys;
   ready = c.covered.ready;
 }
 
@@ -52,7 +54,7 @@ over_turns u rules step each (k ∷ ks) w v a e =
 -- ---- rounds
 
 taken_marked : (u w : Working) → AreMarked u w → AreMarked u (taken w)
-taken_marked u w a = record { marks = a.marks; kinds = a.kinds; ready = record { in_order = a.ready.in_order; free = a.ready.free } }
+taken_marked u w a = record { marks = a.marks; kinds = a.kinds; keys = record { next = a.keys.next; each = a.keys.each }; ready = record { in_order = a.ready.in_order; free = a.ready.free } }
 
 round_marked : (rules : List Answers) (leaves : List ℕ) (es : List (ℕ × Bool)) (u w v : Working) (again : Working → Result Working Cause) → AreMarked u w
     → ((x : Working) → AreMarked u x → again x ≡ Ok v → AreMarked u v) → passed rules (round_by leaves es) again w ≡ Ok v → AreMarked u v
@@ -78,4 +80,4 @@ rounds_marked rules (suc n) u w v a e =
 
 pub settled_marked : (rules : List Answers) (u w v : Working) → AreCovered u w → settle_step rules w ≡ Ok v → AreMarked u v
 unfolding settle_step
-settled_marked rules u w v c e = rounds_marked rules most_rounds u w v (record { marks = c.marks; kinds = c.kinds; ready = c.ready }) e
+settled_marked rules u w v c e = rounds_marked rules most_rounds u w v (record { marks = c.marks; kinds = c.kinds; keys = c.keys; ready = c.ready }) e
