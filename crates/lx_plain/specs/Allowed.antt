@@ -1,5 +1,5 @@
 -- Which operations a commit may tell: those that turn the view of the old tree into the view of the new one, keep the
--- hosts of kept nodes, and touch no other hosts than those of marked nodes and of their children.
+-- hosts of kept nodes, and touch no other hosts than those of marked nodes, and of children of those that stay.
 use Rattle.std.specs.Prelude.{◌≡◌, ◌≢◌, ℕ, ◌+◌, ◌*◌, ◌==◌, ◌&&◌, ◌++◌, if◌then◌else◌, Bool, true, false, List, [], ◌∷◌, length, filter, Option, None, Some}
 use Rattle.std.specs.List.{AllByRecursion}
 use Rattle.lx_node.specs.Trees.{Trees, nil, tree}
@@ -72,6 +72,10 @@ marked_children noted nil = 0
 marked_children noted (tree label below rest) =
     (if noted label.key then length (roots below) else 0) + marked_children noted below + marked_children noted rest
 
+-- the marked nodes that the other tree has too
+abbrev pub staying : (ℕ → Bool) → Forest → ℕ → Bool
+staying noted other q = noted q && has q other
+
 -- ---- hosts
 
 -- the ids of the hosts that show the node of that key
@@ -89,12 +93,13 @@ subject_of (Text id text) = id
 subject_of (Attr id name value) = id
 subject_of (Break id ending) = id
 
--- A host that operations may be about: it is none of the view's, or showed a node that is touched, or one whose parent is.
--- To be none of the view's is the same as to be created by these operations, since each of them fits in its turn.
-pub data MayChange (old : Forest) (touched : ℕ → Bool) (before : HostTree) : ℕ → Type 0 where
-  new_host : (id : ℕ) → hosts.has id before.hosts ≡ false → MayChange old touched before id
-  of_touched : (id key : ℕ) → is_among id (hosts_of key before.hosts) ≡ true → touched key ≡ true → MayChange old touched before id
-  of_child : (id key parent : ℕ) → is_among id (hosts_of key before.hosts) ≡ true → parent_of old key ≡ Some parent → touched parent ≡ true → MayChange old touched before id
+-- A host that operations may be about: it is none of the view's, or showed a node that is touched, or one whose parent is
+-- touched and stays. To be none of the view's is the same as to be created by these operations, since each of them fits in
+-- its turn.
+pub data MayChange (old new : Forest) (touched : ℕ → Bool) (before : HostTree) : ℕ → Type 0 where
+  new_host : (id : ℕ) → hosts.has id before.hosts ≡ false → MayChange old new touched before id
+  of_touched : (id key : ℕ) → is_among id (hosts_of key before.hosts) ≡ true → touched key ≡ true → MayChange old new touched before id
+  of_child : (id key parent : ℕ) → is_among id (hosts_of key before.hosts) ≡ true → parent_of old key ≡ Some parent → has parent new ≡ true → touched parent ≡ true → MayChange old new touched before id
 
 -- those of the first list that are in the second too
 abbrev pub common : List ℕ → List ℕ → List ℕ
@@ -130,14 +135,14 @@ AllWriteAnew w (op ∷ ops) = WritesAnew w op × AllWriteAnew (effect op w) ops
 
 -- what each operation owes by itself
 pub record IsDue (old new : Forest) (touched : ℕ → Bool) (before : HostTree) (op : Op) : Type 0 where
-  pub subject : MayChange old touched before (subject_of op)
+  pub subject : MayChange old new touched before (subject_of op)
   pub place : MayPlace old new before op
   pub drop : MayDrop before op
 
 -- The operations are allowed between two trees, from a host tree that shows the old one: each fits in turn, what they
 -- lead to shows the new one, and each kept node is shown by the host that showed it before. Each is about a host that is new
--- or that showed a touched node or a child of one; none places a kept child where the kept children keep their order, none
--- drops a new host, and none writes what stands there.
+-- or that showed a touched node or a child of one that stays; none places a kept child where the kept children keep their
+-- order, none drops a new host, and none writes what stands there.
 pub record AreAllowed (old new : Forest) (touched : ℕ → Bool) (before : HostTree) (ops : List Op) (after : HostTree) : Type 0 where
   pub leads : Leads before ops after
   pub shows : Shows after new

@@ -234,7 +234,7 @@ module _ (old new : Forest) (mk : Marking) (v : HostTree) where
   makes_leave k c h n start end b x id is = record {
     pushed = op.Drop (host_in v c) ∷ [];
     list = is ∙ ap (λ i. start ++ op.Drop i ∷ []) id;
-    due = (child_drop_due old new mk v k c b (leave_among k c n x) (leave_touched k c n b x), tt);
+    due = (child_drop_due old new mk v k c b x.are.there (leave_among k c n x) (leave_touched k c n b x), tt);
     leads = λ from ops a more w. walk_leave old new v k from ops a c more n b.view w;
   }
 
@@ -308,7 +308,7 @@ module _ (old new : Forest) (mk : Marking) (v : HostTree) where
         pushed = placing ++ r.pushed;
         list = r.list ∙ ap (λ l. l ++ r.pushed) first ∙ append_assoc start placing r.pushed;
         due = each_append (Due old new mk v) placing r.pushed
-            (place_due old new mk v k c (host_in v k) (option_map (host_in v) before) b (place_among k c before n x) (x.are.walk.to_come.stays c (grind (arith, eqb_tells c c))) (place_touched k c before n b x) (placed_order k c before n x), tt) r.due;
+            (place_due old new mk v k c (host_in v k) (option_map (host_in v) before) b x.are.there (place_among k c before n x) (x.are.walk.to_come.stays c (grind (arith, eqb_tells c c))) (place_touched k c before n b x) (placed_order k c before n x), tt) r.due;
         leads = λ from ops a more w.
             subst (λ l. IsInWalk old new v k from l a more m) (append_assoc ops placing r.pushed)
             (r.leads from (ops ++ placing) a more (walk_place old new v k from ops a c before more n b.view w));

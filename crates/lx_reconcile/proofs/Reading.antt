@@ -1,5 +1,5 @@
 -- How many reads are needed, against the marked children and the nodes that aren't kept.
-use Rattle.std.proofs.Common.{◌≡◌, ◌∙◌, ◌+◌, ◌*◌, ◌<◌, ◌≤◌, ◌⊎◌, ℕ, Bool, true, false, cond, eqb, List, [], ◌∷◌, ◌++◌, length, Option, None, Some, inl, inr, refl, sym, ap, arith, append-nil}
+use Rattle.std.proofs.Common.{◌≡◌, ◌∙◌, ◌+◌, ◌*◌, ◌<◌, ◌≤◌, ◌⊎◌, ℕ, Bool, true, false, cond, eqb, ◌&&◌, List, [], ◌∷◌, ◌++◌, length, Option, None, Some, inl, inr, refl, sym, ap, arith, append-nil}
 use Rattle.std.proofs.lemmas.Bool.{cases_Bool, cases_lt}
 use Rattle.std.proofs.lemmas.Bool.Decides.{eqb_tells}
 use Rattle.lx_node.specs.Trees.{nil, tree, joined}
@@ -11,7 +11,7 @@ use Rattle.lx_node.proofs.Siblings.{is_among-names_without, names_without-absent
 use Rattle.lx_node.proofs.Spots.{children_at-spot_below}
 use Rattle.lx_forest.specs.Forest.{Label, Forest}
 use Rattle.lx_forest.specs.Lookups.{key_of, has, count, alone, roots, children_of, trees_of, IsForest}
-use Rattle.lx_plain.specs.Allowed.{unkept, marked_children}
+use Rattle.lx_plain.specs.Allowed.{unkept, marked_children, staying}
 use Rattle.lx_reconcile.specs.Reading.{reads_in}
 use Rattle.lx_reconcile.proofs.Children.{stands_there}
 use Rattle.lx_reconcile.proofs.UnkeptNodes.{kept_here}
@@ -114,26 +114,34 @@ children_weight noted (tree l b t) once =
     let own : w l.key ≡ cond (noted l.key) (length (roots b)) 0 = ap (λ xs. cond (noted l.key) (length xs) 0) (children-first l b t (own_out l b t (once l.key))) in
     omega (arith, own, below, behind, weight-append w (named.preorder key_of b) (named.preorder key_of t))
 
--- ---- the sizes that marked nodes had
+-- ---- the sizes that marked nodes had which stay
 
 children_are : (f : Forest) (k : ℕ) → IsForest f → children_of f k ≡ named.children_of key_of k f
 children_are f k h = children_at-spot_below key_of None f k h.once
 
-pub old_sizes_less : (old new : Forest) (noted : ℕ → Bool) → IsForest old → IsForest new → weight (size_if noted (children_of old)) (named.preorder key_of new) ≤ marked_children noted old
+pub old_sizes_less : (old new : Forest) (noted : ℕ → Bool) → IsForest old → IsForest new → weight (size_if noted (children_of old)) (named.preorder key_of new) ≤ marked_children (staying noted new) old
 old_sizes_less old new noted g h =
-    let w = size_if noted (children_of old) in
-    let all : marked_children noted old ≡ weight w (named.preorder key_of old) =
-    children_weight noted old g.once ∙ weight-same (size_if noted (λ k. named.children_of key_of k old)) w (named.preorder key_of old) (λ k e. ap (λ xs. cond (noted k) (length xs) 0) (sym (children_are old k g))) in
+    let here = staying noted new in
+    let w = size_if here (children_of old) in
+    let all : marked_children here old ≡ weight w (named.preorder key_of old) =
+    children_weight here old g.once ∙ weight-same (size_if here (λ k. named.children_of key_of k old)) w (named.preorder key_of old) (λ k e. ap (λ xs. cond (here k) (length xs) 0) (sym (children_are old k g))) in
+    let same : weight (size_if noted (children_of old)) (named.preorder key_of new) ≡ weight w (named.preorder key_of new) =
+    weight-same (size_if noted (children_of old)) w (named.preorder key_of new) (λ k e. stays (noted k) (has k new) (length (children_of old k)) (sym (is_among-preorder key_of k new) ∙ e)) in
     omega (
       arith,
       all,
+      same,
       weight-some w (named.preorder key_of new) (named.preorder key_of old) (NoRepeats-preorder key_of new h.once)
           (λ k e. elim (cases_lt 0 (count k old)) [
             | inl there ↦ inr (part_of old k there)
-            | inr out ↦ inl (nothing (noted k) (children_of old k) (children_are old k g ∙ children-absent k old (omega (arith, out))))
+            | inr out ↦ inl (nothing (here k) (children_of old k) (children_are old k g ∙ children-absent k old (omega (arith, out))))
           ]),
     )
   where
+    stays : (marked there : Bool) (n : ℕ) → there ≡ true → cond marked n 0 ≡ cond (marked && there) n 0
+    stays true there n e = sym (ap (λ b. cond b n 0) e)
+    stays false there n e = refl
+
     nothing : (b : Bool) (xs : List ℕ) → xs ≡ [] → cond b (length xs) 0 ≡ 0
     nothing true xs e = ap length e
     nothing false xs e = refl

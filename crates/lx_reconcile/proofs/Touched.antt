@@ -166,11 +166,11 @@ module _ (old new : Forest) (mk : Marking) (v : HostTree) where
   host_there c b there = has_if (host_in v c) v.hosts (count-hosts_of c (host_in v c) v.hosts (shows_it c b there))
 
   -- the host of a child goes
-  pub child_drop_due : (k c : ℕ) → IsBetween old new mk v → is_among c (children_of old k) ≡ true → mk.touched k ≡ true → Due (op.Drop (host_in v c))
-  child_drop_due k c b among marked =
+  pub child_drop_due : (k c : ℕ) → IsBetween old new mk v → has k new ≡ true → is_among c (children_of old k) ≡ true → mk.touched k ≡ true → Due (op.Drop (host_in v c))
+  child_drop_due k c b stays among marked =
       let there = child_stands old k c b.view.before among in
       record {
-        subject = of_child (host_in v c) c k (shows_it c b there) (parent_of-child old c k b.was_sound among) marked;
+        subject = of_child (host_in v c) c k (shows_it c b there) (parent_of-child old c k b.was_sound among) stays marked;
         place = tt;
         drop = host_there c b there;
       }
@@ -180,12 +180,12 @@ module _ (old new : Forest) (mk : Marking) (v : HostTree) where
   drop_due c b there marked = record { subject = of_touched (host_in v c) c (shows_it c b there) marked; place = tt; drop = host_there c b there }
 
   -- a child is placed, where the children don't keep their order
-  pub place_due : (k c parent : ℕ) (before : Option ℕ) → IsBetween old new mk v → is_among c (children_of old k) ≡ true → is_among c (children_of new k) ≡ true → mk.touched k ≡ true → (KeepsOrder old new k → ⊥) → Due (op.Place parent (host_in v c) before)
-  place_due k c parent before b among among_new marked other =
+  pub place_due : (k c parent : ℕ) (before : Option ℕ) → IsBetween old new mk v → has k new ≡ true → is_among c (children_of old k) ≡ true → is_among c (children_of new k) ≡ true → mk.touched k ≡ true → (KeepsOrder old new k → ⊥) → Due (op.Place parent (host_in v c) before)
+  place_due k c parent before b stays among among_new marked other =
       let there = child_stands old k c b.view.before among in
       let shown = shows_it c b there in
       record {
-        subject = of_child (host_in v c) c k shown (parent_of-child old c k b.was_sound among) marked;
+        subject = of_child (host_in v c) c k shown (parent_of-child old c k b.was_sound among) stays marked;
         place = λ key up kept is order. elim (cases_Bool (is_among (host_in v c) (hosts_of key v.hosts))) [
           | inl too ↦
               let same : key ≡ c = one_shown (host_in v c) key c v.hosts (b.view.numbered.once (host_in v c)) too shown in

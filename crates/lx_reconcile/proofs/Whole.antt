@@ -20,7 +20,7 @@ use Rattle.lx_forest.specs.Views.{kind_at}
 use Rattle.lx_forest.specs.Suited.{is_suited}
 use Rattle.lx_forest.proofs.Edits.{has-root}
 use Rattle.lx_links.specs.Stands.{node_of}
-use Rattle.lx_plain.specs.Allowed.{Marking, AreCovered, Shows, hosts_of, unkept, marked_children}
+use Rattle.lx_plain.specs.Allowed.{Marking, AreCovered, Shows, hosts_of, unkept, marked_children, staying}
 use Rattle.lx_plain.specs.Render.{tag_of, attributes_of, text_of, face_of, last_kind, needs_break}
 use Rattle.lx_reconcile.specs.declared.moves.Move.{Move}
 use Rattle.lx_reconcile.specs.Allowing.{IsTree, IsAllowed}
@@ -233,7 +233,7 @@ pub root_same_tag : (old new : Forest) (k : ℕ) (was now : Node) → k ≡ 0 �
 root_same_tag old new k was now e s t f g = root_tag old new was now s t (root_read old k was e f) (root_read new k now e g)
 
 -- how many reads go to the root and below it
-pub root_reads : (old f : Forest) (noted : ℕ → Bool) → IsTree old → IsTree f → noted 0 ≡ true → 2 + reads_below old f noted 0 ≤ 8 * (marked_children noted old + marked_children noted f + unkept old None f + 1)
+pub root_reads : (old f : Forest) (noted : ℕ → Bool) → IsTree old → IsTree f → noted 0 ≡ true → 2 + reads_below old f noted 0 ≤ 8 * (marked_children (staying noted f) old + marked_children noted f + unkept old None f + 1)
 root_reads old f noted was t marked =
     let h = tree_ordered f t in
     let s = stands_there f 0 h (has-root f h) in
@@ -261,14 +261,14 @@ root_reads old f noted was t marked =
     )
 
 pub reads_bound : (old old_now f f_now : Forest) (noted : ℕ → Bool) (k : ℕ) → k ≡ 0 → old_now ≡ old → f_now ≡ f → IsTree old → IsTree f → noted k ≡ true
-    → 2 + reads_below old_now f_now noted k ≤ 8 * (marked_children noted old + marked_children noted f + unkept old None f + 1)
+    → 2 + reads_below old_now f_now noted k ≤ 8 * (marked_children (staying noted f) old + marked_children noted f + unkept old None f + 1)
 reads_bound old old_now f f_now noted k e c d was t marked =
     omega (arith, root_reads old f noted was t (ap noted (sym e) ∙ marked), ap (reads_below old_now f_now noted) e, reads_still old old_now f f_now noted 0 c d)
 
 -- no sum is too large
-pub bound_fits : (old f : Forest) (noted : ℕ → Bool) → IsTree old → IsTree f → 8 * (marked_children noted old + marked_children noted f + unkept old None f + 1) < last_u64
+pub bound_fits : (old f : Forest) (noted : ℕ → Bool) → IsTree old → IsTree f → 8 * (marked_children (staying noted f) old + marked_children noted f + unkept old None f + 1) < last_u64
 bound_fits old f noted was t =
-    omega (arith, marked_children-total noted old, marked_children-total noted f, unkept-total old None f, was.sound.small, t.sound.small)
+    omega (arith, marked_children-total (staying noted f) old, marked_children-total noted f, unkept-total old None f, was.sound.small, t.sound.small)
 
 -- nothing is done where the root carries no mark
 pub nothing_allowed : (old new : Forest) (mk : Marking) (v : HostTree) (k : ℕ) (ops : List Op) → k ≡ 0 → ops ≡ [] → IsTree old → IsTree new → IsBetween old new mk v → mk.noted k ≡ false → IsAllowed old new mk v ops

@@ -53,16 +53,16 @@ impl Batch {
 }
 
 ghost use Rattle.std.specs.Prelude.{true, ◌≡◌, ◌+◌, ◌*◌, ◌≤◌, None, IfOk};
-ghost use Rattle.lx_plain.specs.Allowed.{AreCovered, Shows, marked_children, unkept};
+ghost use Rattle.lx_plain.specs.Allowed.{AreCovered, Shows, marked_children, staying, unkept};
 ghost use Rattle.lx_reconcile.specs.Allowing.{marking, IsAllowed};
 ghost use Rattle.lx_forest.specs.Lookups.{alone, has};
 
 /// The operations that bring a view of one tree to another tree, both the trees of key 0 in what is read. They lead from
 /// the view to one of that tree, keep the host of each node that stays below the same parent with the same element, and
-/// are about the hosts of marked nodes and of their children alone, and new ones. Nodes without marks, and all below them,
-/// are skipped: the two readers count at most 8 reads for each child that a marked node has in either tree, for each
-/// node that isn't kept, and for one more. The new hosts' ids go on from the view's next one; `unkept` tells how many
-/// they can be.
+/// are about the hosts of marked nodes alone, of children of those that stay, and new ones. Nodes without marks, and all
+/// below them, are skipped: the two readers count at most 8 reads for each child that a marked node has in the new tree, or
+/// had in the old one where it stays, for each node that isn't kept, and for one more. The new hosts' ids go on from the
+/// view's next one; `unkept` tells how many they can be.
 pub fn operations<'a, R: Records<'a>>(
     alloc: Global,
     before: &mut R,
@@ -78,9 +78,9 @@ pub fn operations<'a, R: Records<'a>>(
     ensures allowed { IfOk result (λ batch. IsAllowed (alone 0 (R.forest before.old)) (alone 0 (R.forest after.old)) (marking marks.now) hosts.now.tree batch.ops) }
     ensures before { R.forest before.new ≡ R.forest before.old }
     ensures after { R.forest after.new ≡ R.forest after.old }
-    ensures bounded { IfOk result (λ batch. batch.reads ≤ 8 * (marked_children (marking marks.now).noted (alone 0 (R.forest before.old)) + marked_children (marking marks.now).noted (alone 0 (R.forest after.old)) + unkept (alone 0 (R.forest before.old)) None (alone 0 (R.forest after.old)) + 1)) }
+    ensures bounded { IfOk result (λ batch. batch.reads ≤ 8 * (marked_children (staying (marking marks.now).noted (alone 0 (R.forest after.old))) (alone 0 (R.forest before.old)) + marked_children (marking marks.now).noted (alone 0 (R.forest after.old)) + unkept (alone 0 (R.forest before.old)) None (alone 0 (R.forest after.old)) + 1)) }
     ensures told { IfOk result (λ batch. R.count before.new + R.count after.new ≤ R.count before.old + R.count after.old + batch.reads) }
-    ensures reads { R.count before.new + R.count after.new ≤ R.count before.old + R.count after.old + 8 * (marked_children (marking marks.now).noted (alone 0 (R.forest before.old)) + marked_children (marking marks.now).noted (alone 0 (R.forest after.old)) + unkept (alone 0 (R.forest before.old)) None (alone 0 (R.forest after.old)) + 1) }
+    ensures reads { R.count before.new + R.count after.new ≤ R.count before.old + R.count after.old + 8 * (marked_children (staying (marking marks.now).noted (alone 0 (R.forest after.old))) (alone 0 (R.forest before.old)) + marked_children (marking marks.now).noted (alone 0 (R.forest after.old)) + unkept (alone 0 (R.forest before.old)) None (alone 0 (R.forest after.old)) + 1) }
 {
     let mut ops = Vec::new(alloc);
     let mut first = Tally::new(before);

@@ -9,7 +9,7 @@ ghost use Rattle.lx_host.specs.Html.{first_tree};
 ghost use Rattle.lx_forest.specs.Lookups.{alone, roots, trees_of, children_of, first_child, next_of, has, IsForest};
 ghost use Rattle.lx_forest.specs.Records.{record_at};
 ghost use Rattle.lx_links.specs.Stands.{node_of, Sound};
-ghost use Rattle.lx_plain.specs.Allowed.{AreCovered, hosts_of, marked_children, unkept, Shows};
+ghost use Rattle.lx_plain.specs.Allowed.{AreCovered, hosts_of, marked_children, staying, unkept, Shows};
 ghost use Rattle.lx_reconcile.specs.Allowing.{marking, IsAllowed};
 ghost use Rattle.lx_plain.specs.Render as shown;
 ghost use Rattle.lx_reconcile.specs.Created.{creation_of};
@@ -379,7 +379,7 @@ pub(crate) fn reconcile_root<B, A, O: Look<B>, N: Look<A>>(
     requires room { hosts.now.tree.next + unkept (O.forest before.old) None (N.forest after.old) ≤ last_u32 }
     requires none { ops.old.items ≡ [] }
     ensures allowed { OnOk result (IsAllowed (O.forest before.old) (N.forest after.old) (marking marks.now) hosts.now.tree ops.new.items) }
-    ensures fits { 8 * (marked_children (marking marks.now).noted (O.forest before.old) + marked_children (marking marks.now).noted (N.forest after.old) + unkept (O.forest before.old) None (N.forest after.old) + 1) < last_u64 }
+    ensures fits { 8 * (marked_children (staying (marking marks.now).noted (N.forest after.old)) (O.forest before.old) + marked_children (marking marks.now).noted (N.forest after.old) + unkept (O.forest before.old) None (N.forest after.old) + 1) < last_u64 }
     ensures before { O.forest before.new ≡ O.forest before.old }
     ensures after { N.forest after.new ≡ N.forest after.old }
     ensures lag_before { O.lag before.new ≤ O.lag before.old }
@@ -388,7 +388,7 @@ pub(crate) fn reconcile_root<B, A, O: Look<B>, N: Look<A>>(
     ensures lag_after { N.lag after.new ≤ N.lag after.old }
     ensures place_after { N.place after.new ≡ N.place after.old }
     ensures whole_after { N.whole after.new ≡ N.whole after.old }
-    ensures reads { O.count before.new + N.count after.new ≤ O.count before.old + N.count after.old + 8 * (marked_children (marking marks.now).noted (O.forest before.old) + marked_children (marking marks.now).noted (N.forest after.old) + unkept (O.forest before.old) None (N.forest after.old) + 1) }
+    ensures reads { O.count before.new + N.count after.new ≤ O.count before.old + N.count after.old + 8 * (marked_children (staying (marking marks.now).noted (N.forest after.old)) (O.forest before.old) + marked_children (marking marks.now).noted (N.forest after.old) + unkept (O.forest before.old) None (N.forest after.old) + 1) }
 {
     let key = Key::root();
     let next = hosts.next_id();

@@ -1,6 +1,6 @@
 use Rattle.std.proofs.Common.{◌∙◌, ◌+◌, ◌≤◌, ap, arith, rules, None}
 use Rattle.lx_forest.specs.Lookups.{alone, has}
-use Rattle.lx_plain.specs.Allowed.{marked_children, unkept}
+use Rattle.lx_plain.specs.Allowed.{marked_children, staying, unkept}
 use Rattle.lx_reconcile.specs.Allowing.{marking}
 use Rattle.lx_reconcile.proofs.Attached.{tree_there, tree_alone}
 use Rattle.lx_reconcile.proofs.batch.operations.Goals as goal
@@ -21,7 +21,8 @@ returns-clause-told g c =
       ap count c.new-second.ensures.source,
       c.new-first.ensures.none,
       c.new-second.ensures.none,
-      ap (λ s. marked_children noted (forest s)) c.new-first.ensures.source,
+      ap (λ s. marked_children (staying noted (forest c.new-second.result.source.now)) (forest s)) c.new-first.ensures.source,
+      ap (λ s. marked_children (staying noted (forest s)) (forest c.args.before.now)) c.new-second.ensures.source,
       ap (λ s. marked_children noted (forest s)) c.new-second.ensures.source,
       ap (λ s. unkept (forest s) None (forest c.new-second.result.source.now)) c.new-first.ensures.source,
       ap (λ s. unkept (forest c.args.before.now) None (forest s)) c.new-second.ensures.source,
