@@ -1,7 +1,7 @@
 use lx_node::{NoMemory, Txt};
 use std::alloc::Global;
 
-/// What a command is given with.
+/// What a command is given.
 #[derive(Debug, Drop)]
 pub enum Payload {
     Nothing,

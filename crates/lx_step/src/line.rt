@@ -2,6 +2,7 @@ use crate::command::Command;
 use crate::listener::Listener;
 use crate::rule::Rule;
 use crate::step::Steps;
+use serde_json::Value;
 
 /// What a line of input asks for.
 #[derive(Debug, Drop)]
@@ -34,6 +35,8 @@ pub enum Form {
     Rule(Rule),
     /// A listener that is registered.
     Listener(Listener),
+    /// A document that takes the place of what is committed.
+    Load(Value),
     /// A question, which changes nothing.
     Show(Shown),
 }
@@ -73,6 +76,8 @@ impl Tags {
 /// What a line asks to be shown.
 #[derive(Clone, Copy, Debug, PartialEq, Eq, Hash)]
 pub enum Shown {
+    /// The document that is committed.
+    State,
     /// The rendered document.
     View,
     /// What is selected.
