@@ -1,0 +1,39 @@
+ghost use Rattle.std.specs.Prelude.{◌≡◌, IfOk, false};
+ghost use Rattle.clap.specs.Words.{app_of, rule_of};
+ghost use Rattle.lx_words.specs.Words.{delay_rule, lexical_app, view_rule};
+
+use clap::{Arg, ArgAction, Command, value_parser};
+use std::alloc::{AllocError, Global};
+
+/// The program as `clap` sees it. It is passed the words behind the program's name.
+pub(crate) fn lexical_command<'a>(alloc: Global) -> Result<Command<'a>, AllocError>
+    ensures { IfOk result (λ command. app_of command ≡ lexical_app) }
+{
+    Command::new(alloc, "lexical")
+        .no_binary_name(true)
+        .disable_help_flag(true)
+        .arg(view_flag(alloc))?
+        .arg(delay_option(alloc))
+}
+
+#[tactic(auto, unfolding(crate::specs::Words::view_rule))]
+fn view_flag<'a>(alloc: Global) -> Arg<'a>
+    ensures rule { rule_of result ≡ view_rule }
+    ensures local { result.global ≡ false }
+{
+    Arg::new(alloc, "view")
+        .long("view")
+        .action(ArgAction::SetTrue)
+}
+
+#[tactic(auto, unfolding(crate::specs::Words::delay_rule))]
+fn delay_option<'a>(alloc: Global) -> Arg<'a>
+    ensures rule { rule_of result ≡ delay_rule }
+    ensures local { result.global ≡ false }
+{
+    Arg::new(alloc, "delay")
+        .long("delay")
+        .action(ArgAction::Set)
+        .value_parser(value_parser!(u32).range(0..=86_400_000))
+        .default_value("1000")
+}

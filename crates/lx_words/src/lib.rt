@@ -1,0 +1,7 @@
+//! The program's words: what they ask for, or why they are not taken.
+#![tactic(auto)]
+
+mod command;
+mod options;
+
+pub use options::{Options, Refused, USAGE, options_of};
