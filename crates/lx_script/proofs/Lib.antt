@@ -1,7 +1,12 @@
+pub mod Back
 pub mod Characters
+pub mod Exported
 pub mod Gathered
 pub mod Listed
+pub mod ReadBack
 pub mod Reading
+pub mod Sorted
 pub mod Sound
 pub mod SoundSteps
 pub mod Writing
+pub mod Written

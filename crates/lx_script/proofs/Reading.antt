@@ -1,5 +1,5 @@
 -- From what a value tells of itself to what the grammar asks of it.
-use Rattle.std.proofs.Common.{◌≡◌, refl, subst, ℕ, List, [], ◌∷◌, length, slice_get, string_bytes, arith, Some, None, option_map, ◌==◌, Result, Ok, Err, IsUtf8}
+use Rattle.std.proofs.Common.{◌≡◌, refl, subst, codes, ℕ, List, [], ◌∷◌, length, slice_get, string_bytes, arith, false, Some, None, option_map, ◌==◌, Result, Ok, Err, IsUtf8}
 use Rattle.serde_json.proofs.Views.{Entry, items_len-items_view, members_len-members_view}
 use Rattle.serde_json.specs.Data.{Data, null, boolean, number, string, array, object}
 use Rattle.serde_json.specs.Find.{as_array, as_object}
@@ -10,9 +10,17 @@ use Rattle.lx_node.specs.declared.cause.Cause.TheVariants.{BadLine, BadCommand}
 use Rattle.lx_node.specs.declared.cause.Fault.{Fault}
 use Rattle.lx_node.specs.declared.cause.Fault.TheVariants.{Cause as Refused, Memory}
 use Rattle.lx_step.specs.declared.line.Line.{Line}
-use Rattle.lx_script.specs.Grammar.{IsJson, Makes, Reads, TellsLine, line_of}
+use Rattle.lx_step.specs.declared.line.Form.{Form}
+use Rattle.lx_step.specs.declared.line.Form.TheVariants.{Update, Dispatch, Rule, Listener as Listens, Load, Show}
+use Rattle.lx_script.specs.Commands.{command_of}
+use Rattle.lx_script.specs.Listeners.{listener_of}
+use Rattle.lx_script.specs.Rules.{rule_of}
+use Rattle.lx_script.specs.Steps.{script_in}
+use Rattle.lx_script.specs.Grammar.{IsJson, Asks, Makes, Reads, TellsLine, form_of, update_of, dispatch_form_of, rule_form_of, listener_form_of, show_of}
 use Rattle.lx_script.specs.References.{has_three}
-use Rattle.lx_script.specs.Values.{has_only, only_member, present, word_in}
+use Rattle.lx_script.specs.Values.{has_only, named, only_member, present, required, word_in}
+use Rattle.lx_script.specs.Words.{questions}
+use Rattle.lx_script.proofs.Sound.{mapped, either, tested}
 
 pub has_only-object : (names : List (List ℕ)) (d : Data) (es : List Entry) → Some (members_view es) ≡ as_object d → has_only names d ≡ (length es == present names d)
 has_only-object names (object ms) es is = let same : members_view es ≡ ms = cc in rw (← same, members_len-members_view es) refl
@@ -63,8 +71,43 @@ only_member-one rows (number n) es e is one first = absurd (cc)
 only_member-one rows (string s) es e is one first = absurd (cc)
 only_member-one rows (array ds) es e is one first = absurd (cc)
 
+-- ---- what a value asks for
+
+-- any form but that of a load
+abbrev IsNoLoad : Form → Type 0
+IsNoLoad (Load document) = ⊥
+IsNoLoad form = Unit {0}
+
+-- what the grammar of forms gives is no load
+form_of-no_load : (d : Data) (form : Form) → form_of d ≡ Some form → IsNoLoad form
+form_of-no_load d form is =
+    let updates = required (script_in false) (codes "update") d in
+    let rules = required rule_of (codes "rule") d in
+    let listens = required listener_of (codes "listener") d in
+    let shows = required (named questions) (codes "show") d in
+    either IsNoLoad (update_of d) _ (tested IsNoLoad (has_only (codes "update" ∷ []) d) _ (mapped IsNoLoad (λ steps. Update steps) updates (λ made at. tt)))
+    (either IsNoLoad (dispatch_form_of d) _ (mapped IsNoLoad (λ command. Dispatch command) (command_of false d) (λ made at. tt))
+    (either IsNoLoad (rule_form_of d) _ (tested IsNoLoad (has_only (codes "rule" ∷ []) d) _ (mapped IsNoLoad (λ rule. Rule rule) rules (λ made at. tt)))
+    (either IsNoLoad (listener_form_of d) (show_of d)
+    (tested IsNoLoad (has_only (codes "listener" ∷ []) d) _ (mapped IsNoLoad (λ listener. Listens listener) listens (λ made at. tt)))
+    (tested IsNoLoad (has_only (codes "show" ∷ []) d) _ (mapped IsNoLoad (λ shown. Show shown) shows (λ made at. tt)))))) form is
+
+asks : (d : Data) (form : Form) → IsNoLoad form → form_of d ≡ Some form → Asks d form
+asks d (Update steps) other is = is
+asks d (Dispatch command) other is = is
+asks d (Rule rule) other is = is
+asks d (Listens listener) other is = is
+asks d (Load document) other is = absurd other
+asks d (Show shown) other is = is
+
+-- a value asks for the form that the grammar of forms gives
+pub asks_for : (d : Data) (form : Form) → form_of d ≡ Some form → Asks d form
+asks_for d form is = asks d form (form_of-no_load d form is) is
+
+-- ---- what the bytes ask for
+
 -- what is made of the value that the bytes are tells what they ask for
-pub tells_of_json : (bytes : List ℕ) (d : Data) (result : Result Line Fault) → IsJson bytes d → Makes (line_of d) result → TellsLine bytes result
+pub tells_of_json : (bytes : List ℕ) (d : Data) (result : Result Line Fault) → IsJson bytes d → Makes d result → TellsLine bytes result
 unfolding Reads
 tells_of_json bytes d (Ok line) is made = (d, is, made)
 tells_of_json bytes d (Err (Refused BadLine)) is made = absurd made

@@ -19,7 +19,7 @@ use Rattle.lx_host.specs.declared.op.Op.TheVariants.{Create, Place, Drop, Text, 
 use Rattle.lx_host.specs.declared.tag.Name.{Name}
 use Rattle.lx_select.specs.declared.selection.Selection.{Selection}
 use Rattle.lx_select.specs.declared.selection.Selection.TheVariants as selection
-use Rattle.lx_script.specs.Replies.{selection_data, attributes_onto, detail_of, lost_data, named_data, natural, op_data, or_null, reply_data, reply_text, text_data}
+use Rattle.lx_script.specs.Replies.{selection_data, attributes_onto, detail_of, lost_data, named_data, natural, op_data, or_null, reply_data, reply_text, state_data, state_text, text_data}
 use Rattle.lx_script.specs.declared.reply.Reply.{Reply}
 use Rattle.lx_script.specs.declared.reply.Reply.TheVariants.{Committed, Refused, Idle, Registered, View, Selection as Selected}
 
@@ -33,7 +33,7 @@ either_way Less less equal greater of_less of_equal of_greater = of_less
 either_way Equal less equal greater of_less of_equal of_greater = of_equal
 either_way Greater less equal greater of_less of_equal of_greater = of_greater
 
-members_have_float-put : (name : List ℕ) (d : Data) (found : Members) → has_float d ≡ false → members_have_float found ≡ false → members_have_float (put name d found) ≡ false
+pub members_have_float-put : (name : List ℕ) (d : Data) (found : Members) → has_float d ≡ false → members_have_float found ≡ false → members_have_float (put name d found) ≡ false
 members_have_float-put name d no_members of_d of_found = rw of_d refl
 members_have_float-put name d (member other e rest) of_d of_found =
     let parts = neither (has_float e) (members_have_float rest) of_found in
@@ -44,7 +44,7 @@ members_have_float-attributes_onto [] found of_found = of_found
 members_have_float-attributes_onto (attribute ∷ attributes) found of_found =
     members_have_float-attributes_onto attributes _ (members_have_float-put (name_word attribute.0) (text_data attribute.1) found refl of_found)
 
-has_float-or_null : {A : Type 0} (data_of : A → Data) → ((a : A) → has_float (data_of a) ≡ false) → (option : Option A) → has_float (or_null data_of option) ≡ false
+pub has_float-or_null : {A : Type 0} (data_of : A → Data) → ((a : A) → has_float (data_of a) ≡ false) → (option : Option A) → has_float (or_null data_of option) ≡ false
 has_float-or_null data_of of_some None = refl
 has_float-or_null data_of of_some (Some a) = of_some a
 
@@ -87,8 +87,10 @@ has_float-selection_data (selection.Cells table anchor focus) = refl
 
 has_float-reply_data : (reply : Reply) → has_float (reply_data reply) ≡ false
 unfolding reply_data
-has_float-reply_data (Committed commit ops None) = rw (items_have_float-ops ops) refl
-has_float-reply_data (Committed commit ops (Some handled)) = rw (items_have_float-ops ops) refl
+has_float-reply_data (Committed commit ops None None) = rw (items_have_float-ops ops) refl
+has_float-reply_data (Committed commit ops None (Some html)) = rw (items_have_float-ops ops) refl
+has_float-reply_data (Committed commit ops (Some handled) None) = rw (items_have_float-ops ops) refl
+has_float-reply_data (Committed commit ops (Some handled) (Some html)) = rw (items_have_float-ops ops) refl
 has_float-reply_data (Refused cause step) = rw (has_float-detail_of cause, has_float-or_null natural (λ _. refl) step) refl
 has_float-reply_data (Idle None) = refl
 has_float-reply_data (Idle (Some handled)) = refl
@@ -99,3 +101,11 @@ has_float-reply_data (Selected shown) = rw (has_float-selection_data shown) refl
 pub text_of_reply : (reply : Reply) (d : Data) (bytes : List ℕ) → d ≡ reply_data reply → (has_float d ≡ false → bytes ≡ compact_text d) → bytes ≡ reply_text reply
 unfolding reply_text
 text_of_reply reply d bytes is written = written (ap has_float is ∙ has_float-reply_data reply) ∙ ap compact_text is
+
+-- the reply that tells a document without a float has none
+has_float-state_data : (document : Data) → has_float document ≡ false → has_float (state_data document) ≡ false
+has_float-state_data document whole = rw whole refl
+
+pub text_of_state : (document d : Data) (bytes : List ℕ) → d ≡ state_data document → has_float document ≡ false → (has_float d ≡ false → bytes ≡ compact_text d) → bytes ≡ state_text document
+unfolding state_text
+text_of_state document d bytes is whole written = written (ap has_float is ∙ has_float-state_data document whole) ∙ ap compact_text is

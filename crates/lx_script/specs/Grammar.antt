@@ -2,13 +2,15 @@
 use Rattle.std.specs.Prelude.{◌≡◌, ℕ, List, [], ◌∷◌, false, codes, IsUtf8, if◌then◌else◌, Option, None, Some, option_map, Result, Ok, Err}
 use Rattle.std.specs.Option.{option_or}
 use Rattle.serde_json.specs.Data.{Data}
+use Rattle.serde_json.specs.Find.{get}
 use Rattle.serde_json.specs.Read.{read}
+use Rattle.serde_json.specs.View.{view}
 use Rattle.lx_node.specs.declared.cause.Cause.{Cause}
 use Rattle.lx_node.specs.declared.cause.Cause.TheVariants.{BadLine, BadCommand}
 use Rattle.lx_node.specs.declared.cause.Fault.{Fault}
 use Rattle.lx_node.specs.declared.cause.Fault.TheVariants.{Cause as Refused, Memory}
 use Rattle.lx_step.specs.declared.line.Form.{Form}
-use Rattle.lx_step.specs.declared.line.Form.TheVariants.{Update, Dispatch, Rule, Listener as Listens, Show}
+use Rattle.lx_step.specs.declared.line.Form.TheVariants.{Update, Dispatch, Rule, Listener as Listens, Load, Show}
 use Rattle.lx_step.specs.declared.line.Line.{Line}
 use Rattle.lx_step.specs.Lines.{line_with}
 use Rattle.lx_script.specs.Commands.{command_of}
@@ -39,7 +41,7 @@ abbrev pub listener_form_of : Data → Option Form
 listener_form_of d =
     if has_only (codes "listener" ∷ []) d then option_map (λ listener. Listens listener) (required listener_of (codes "listener") d) else None
 
--- {"show":"view"} or {"show":"selection"}
+-- {"show":"state"}, {"show":"view"} or {"show":"selection"}
 abbrev pub show_of : Data → Option Form
 show_of d = if has_only (codes "show" ∷ []) d then option_map (λ shown. Show shown) (required (named questions) (codes "show") d) else None
 
@@ -47,22 +49,37 @@ show_of d = if has_only (codes "show" ∷ []) d then option_map (λ shown. Show 
 abbrev pub form_of : Data → Option Form
 form_of d = option_or (update_of d) (option_or (dispatch_form_of d) (option_or (rule_form_of d) (option_or (listener_form_of d) (show_of d))))
 
--- a line of one of these forms, without a moment and without tags
-unfoldable pub line_of : Data → Option Line
-line_of d = option_map line_with (form_of d)
+-- {"load":DOCUMENT}, where any value is a document: it is read as it is loaded
+abbrev pub document_in : Data → Option Data
+document_in d = if has_only (codes "load" ∷ []) d then get (codes "load") d else None
 
--- Made of a value that asks for this, or for nothing: the line, a refusal as no command, or want of memory.
-abbrev pub Makes : Option Line → Result Line Fault → Type 0
-Makes asked (Ok line) = asked ≡ Some line
-Makes asked (Err (Refused BadCommand)) = asked ≡ None
-Makes asked (Err (Refused other)) = ⊥
-Makes asked (Err Memory) = Unit {0}
+-- the value asks for this form: for a load by its document, and for any other by the grammar of that form
+abbrev pub Asks : Data → Form → Type 0
+Asks d (Load document) = document_in d ≡ Some (view document)
+Asks d form = form_of d ≡ Some form
+
+-- the value asks for nothing
+pub record AsksNothing (d : Data) : Type 0 where
+  pub no_form : form_of d ≡ None
+  pub no_document : document_in d ≡ None
+
+-- a line of a form that the value asks for, without a moment and without tags
+pub record IsLineOf (d : Data) (line : Line) : Type 0 where
+  pub asked : Asks d line.form
+  pub plain : line ≡ line_with line.form
+
+-- Made of a value: the line that it asks for, a refusal as no command, or want of memory.
+abbrev pub Makes : Data → Result Line Fault → Type 0
+Makes d (Ok line) = IsLineOf d line
+Makes d (Err (Refused BadCommand)) = AsksNothing d
+Makes d (Err (Refused other)) = ⊥
+Makes d (Err Memory) = Unit {0}
 
 -- The bytes ask for this, or are refused for this cause.
 unfoldable pub Reads : List ℕ → Result Line Cause → Type 0
-Reads bytes (Ok line) = (d : Data) × IsJson bytes d × (line_of d ≡ Some line)
+Reads bytes (Ok line) = (d : Data) × IsJson bytes d × IsLineOf d line
 Reads bytes (Err BadLine) = (d : Data) → IsJson bytes d → ⊥
-Reads bytes (Err BadCommand) = (d : Data) × IsJson bytes d × (line_of d ≡ None)
+Reads bytes (Err BadCommand) = (d : Data) × IsJson bytes d × AsksNothing d
 Reads bytes (Err other) = ⊥
 
 -- A reading that doesn't want memory tells what the bytes ask for, or why they are refused.

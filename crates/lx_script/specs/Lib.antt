@@ -1,5 +1,6 @@
 pub mod Commands
 pub mod Documents
+pub mod Exporting
 pub mod Grammar
 pub mod Listeners
 pub mod Members
@@ -8,5 +9,7 @@ pub mod References
 pub mod Replies
 pub mod Rules
 pub mod Steps
+pub mod Storable
+pub mod Types
 pub mod Values
 pub mod Words

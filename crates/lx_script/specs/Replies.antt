@@ -179,10 +179,15 @@ abbrev pub with_handled : Option Bool → Members → Members
 with_handled None members = members
 with_handled (Some handled) members = member (codes "handled") (boolean handled) members
 
--- {"commit":N,"ops":[..]}, with "handled" between them
-abbrev pub commit_data : ℕ → List Op → Option Bool → Data
-commit_data commit ops handled =
-    object (member (codes "commit") (natural commit) (with_handled handled (member (codes "ops") (list_data (map op_data ops)) no_members)))
+-- the view, where replies tell it, behind other members
+abbrev pub told_view : Option (List ℕ) → Members
+told_view None = no_members
+told_view (Some html) = member (codes "view") (text_data html) no_members
+
+-- {"commit":N,"ops":[..]}, with "handled" between them, and "view" behind them
+abbrev pub commit_data : ℕ → List Op → Option Bool → Option (List ℕ) → Data
+commit_data commit ops handled html =
+    object (member (codes "commit") (natural commit) (with_handled handled (member (codes "ops") (list_data (map op_data ops)) (told_view html))))
 
 -- {"refused":{"cause":NAME,"code":C,"detail":D,"step":I}}, where the step is an index or null
 abbrev pub refusal_data : Cause → Option ℕ → Data
@@ -201,6 +206,10 @@ idle_data handled = object (with_handled handled (member (codes "idle") (boolean
 abbrev pub registered_data : ℕ → Data
 registered_data n = object (member (codes "registered") (natural n) no_members)
 
+-- {"state":DOCUMENT}
+abbrev pub state_data : Data → Data
+state_data document = object (member (codes "state") document no_members)
+
 -- {"view":HTML}
 abbrev pub view_data : List ℕ → Data
 view_data html = object (member (codes "view") (text_data html) no_members)
@@ -210,7 +219,7 @@ abbrev pub shown_selection_data : Selection → Data
 shown_selection_data selection = object (member (codes "selection") (selection_data selection) no_members)
 
 unfoldable pub reply_data : Reply → Data
-reply_data (Committed commit ops handled) = commit_data commit ops handled
+reply_data (Committed commit ops handled html) = commit_data commit ops handled html
 reply_data (Refused cause step) = refusal_data cause step
 reply_data (Idle handled) = idle_data handled
 reply_data (Registered n) = registered_data n
@@ -219,3 +228,7 @@ reply_data (Selected selection) = shown_selection_data selection
 
 unfoldable pub reply_text : Reply → List ℕ
 reply_text reply = compact_text (reply_data reply)
+
+-- the text of the reply that tells a document
+unfoldable pub state_text : Data → List ℕ
+state_text document = compact_text (state_data document)

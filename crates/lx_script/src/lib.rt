@@ -1,7 +1,8 @@
 //! Lines of the program's input, and the replies to them: what JSON asks for, and how an answer is
 //! written.
 //!
-//! A line is an update by steps, a command that is dispatched, a rule, a listener, or a question. Steps hold steps
+//! A line is an update by steps, a command that is dispatched, a rule, a listener, a document that is loaded, or a
+//! question. Steps hold steps
 //! where they queue them, and so does a listener. Each step is an object that names its members and has no
 //! others; `specs/Grammar.antt` begins the grammar, which is stated over JSON values. The fields of nodes
 //! are read from the same table for new nodes, for patches and for documents.
@@ -11,6 +12,7 @@ mod causes;
 mod commands;
 mod conditions;
 mod edits;
+mod exporting;
 mod fields;
 mod listeners;
 mod members;
@@ -23,11 +25,14 @@ mod rules;
 mod scripts;
 mod selection;
 mod steps;
+mod types;
 mod values;
 mod words;
 mod write;
 
+pub use exporting::node_value;
 pub use fields::{FieldFault, fields_of};
 pub use read::read_line;
 pub use reply::Reply;
-pub use write::write_reply;
+pub use types::{kind_of_type, kind_told};
+pub use write::{write_reply, write_state};

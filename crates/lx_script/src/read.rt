@@ -1,6 +1,7 @@
 //! Lines: the grammar of commands over the JSON value that a line is.
 
-ghost use Rattle.std.specs.Prelude.{◌≡◌, IfOk};
+ghost use Rattle.std.specs.Prelude.{◌≡◌, IfOk, codes, option_map};
+ghost use Rattle.serde_json.specs.Find.{get};
 ghost use Rattle.serde_json.specs.View.{view};
 ghost use Rattle.lx_step.specs.Sound.{IsSoundForm};
 ghost use Rattle.lx_script.specs.Grammar.{TellsLine};
@@ -26,7 +27,7 @@ pub fn read_line(alloc: Global, bytes: &[u8]) -> Result<Line, Fault>
     ensures sound { IfOk result (λ line. IsSoundForm line.form) }
 {
     match Value::from_slice(alloc, bytes) {
-        Ok(value) => line_of(alloc, &value),
+        Ok(value) => line_of(alloc, value),
         Err(error) => match error.classify() {
             Category::Memory => Err(Fault::Memory),
             _ => Err(Fault::Cause(Cause::BadLine)),
@@ -121,15 +122,37 @@ fn form_of(alloc: Global, value: &Value) -> Result<Option<Form>, NoMemory>
     Ok(show_of(value))
 }
 
+/// The member `load` of an object, which is taken out of it.
+fn taken_load(value: Value) -> Option<Value>
+    ensures { option_map view result ≡ get (codes "load") (view value) }
+{
+    match value {
+        Value::Object(mut members) => members.remove("load"),
+        _other => None,
+    }
+}
+
+/// The document of a load, which is taken out of the value.
+fn load_of(value: Value) -> Option<Value>
+    ensures { option_map view result ≡ grammar.document_in (view value) }
+{
+    if !has_only(&["load"], &value) {
+        return None;
+    }
+    taken_load(value)
+}
+
 /// A line. A value that is none is refused as no command.
-#[tactic(auto, unfolding(crate::specs::Grammar::line_of))]
-fn line_of(alloc: Global, value: &Value) -> Result<Line, Fault>
-    ensures makes { grammar.Makes (grammar.line_of (view value.now)) result }
+fn line_of(alloc: Global, value: Value) -> Result<Line, Fault>
+    ensures makes { grammar.Makes (view value) result }
     ensures sound { IfOk result (λ line. IsSoundForm line.form) }
 {
-    match form_of(alloc, value) {
+    match form_of(alloc, &value) {
         Ok(Some(form)) => Ok(Line::of(form)),
-        Ok(None) => Err(Fault::Cause(Cause::BadCommand)),
+        Ok(None) => match load_of(value) {
+            Some(document) => Ok(Line::of(Form::Load(document))),
+            None => Err(Fault::Cause(Cause::BadCommand)),
+        },
         Err(_) => Err(Fault::Memory),
     }
 }

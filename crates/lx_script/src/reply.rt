@@ -6,11 +6,12 @@ use lx_select::Selection;
 #[derive(Debug, Drop)]
 pub enum Reply {
     /// The line made commit `number`, and these operations bring a view up to date. For a dispatch it is told
-    /// whether the command was handled.
+    /// whether the command was handled. Where replies tell the view, it is the HTML after the commit.
     Committed {
         number: u32,
         ops: Ops,
         handled: Option<bool>,
+        view: Option<Txt>,
     },
     /// The line changed nothing, for this cause. The step is its index in the line's script, from 0.
     Refused {

@@ -5,6 +5,7 @@ ghost use Rattle.serde_json.specs.View.{view};
 ghost use Rattle.lx_script.specs.Words as words;
 ghost use Rattle.lx_script.specs.Values as values;
 
+use crate::types::kind_of_type;
 use crate::values::{first_member, named, only_member, word_in};
 use lx_node::{Align, Direction, Kind, ListType, Mode, PointKind};
 use lx_step::Shown;
@@ -99,10 +100,9 @@ fn kind_in(kinds: &[Kind], text: &str) -> Option<Kind>
     None
 }
 
-/// The kind whose type a string is, for all kinds but the root's. A heading and a list are those that they
-/// are by default.
-pub(crate) fn kind_of(value: &Value) -> Option<Kind>
-    ensures { result ≡ words.kind_named (view value.now) }
+/// The kind of a type, for all kinds but the root's. A heading and a list are those that they are by default.
+pub(crate) fn made_kind(text: &str) -> Option<Kind>
+    ensures { result ≡ words.kind_in words.made_kinds text.now }
 {
     let kinds = [
         Kind::Paragraph,
@@ -120,8 +120,15 @@ pub(crate) fn kind_of(value: &Value) -> Option<Kind>
         Kind::Rule,
         Kind::Embed,
     ];
+    kind_in(&kinds, text)
+}
+
+/// The kind whose type a string is, for all kinds but the root's.
+pub(crate) fn kind_of(value: &Value) -> Option<Kind>
+    ensures { result ≡ words.kind_named (view value.now) }
+{
     match value.as_str() {
-        Some(text) => kind_in(&kinds, text),
+        Some(text) => made_kind(text),
         None => None,
     }
 }
@@ -131,12 +138,7 @@ pub(crate) fn type_of(value: &Value) -> Option<Kind>
     ensures { result ≡ words.type_named (view value.now) }
 {
     match value.as_str() {
-        Some(text) => {
-            if Kind::Root.type_name() == text {
-                return Some(Kind::Root);
-            }
-            kind_of(value)
-        }
+        Some(text) => kind_of_type(text),
         None => None,
     }
 }
@@ -220,7 +222,11 @@ pub(crate) fn shown_of(value: &Value) -> Option<Shown>
     ensures { result ≡ values.named words.questions (view value.now) }
 {
     named(
-        &[("view", Shown::View), ("selection", Shown::Selection)],
+        &[
+            ("state", Shown::State),
+            ("view", Shown::View),
+            ("selection", Shown::Selection),
+        ],
         value,
     )
 }

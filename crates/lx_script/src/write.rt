@@ -1,8 +1,9 @@
 //! Replies: a JSON value is built once, and written without spaces.
 
-ghost use Rattle.std.specs.Prelude.{◌≡◌, IfOk};
+ghost use Rattle.std.specs.Prelude.{◌≡◌, false, IfOk};
 ghost use Rattle.serde_json.specs.View.{view};
-ghost use Rattle.lx_script.specs.Replies.{reply_data, reply_text, commit_data, refusal_data, idle_data, registered_data, view_data, shown_selection_data};
+ghost use Rattle.serde_json.specs.Written.{has_float};
+ghost use Rattle.lx_script.specs.Replies.{reply_data, reply_text, commit_data, refusal_data, idle_data, registered_data, state_data, state_text, view_data, shown_selection_data};
 
 use crate::causes::{cause_name, detail_value};
 use crate::ops::ops_value;
@@ -22,6 +23,15 @@ pub fn write_reply(alloc: Global, reply: &Reply) -> Result<Vec<u8>, NoMemory>
     Ok(value.to_vec(alloc)?)
 }
 
+/// The bytes of the reply that tells a document, which has no number with a fraction.
+pub fn write_state(alloc: Global, document: Value) -> Result<Vec<u8>, NoMemory>
+    requires whole { has_float (view document) ≡ false }
+    ensures { IfOk result (λ bytes. bytes.items ≡ state_text (view document)) }
+{
+    let value = state_value(alloc, document)?;
+    Ok(value.to_vec(alloc)?)
+}
+
 #[tactic(auto, unfolding(crate::specs::Replies::reply_data))]
 fn reply_value(alloc: Global, reply: &Reply) -> Result<Value, AllocError>
     ensures { IfOk result (λ v. view v ≡ reply_data reply.now) }
@@ -31,7 +41,8 @@ fn reply_value(alloc: Global, reply: &Reply) -> Result<Value, AllocError>
             number,
             ops,
             handled,
-        } => commit_value(alloc, *number, ops.items(), *handled),
+            view,
+        } => commit_value(alloc, *number, ops.items(), *handled, view),
         Reply::Refused { cause, step } => refusal_value(alloc, cause, *step),
         Reply::Idle { handled } => idle_value(alloc, *handled),
         Reply::Registered(number) => registered_value(alloc, *number),
@@ -45,13 +56,23 @@ fn commit_value(
     number: u32,
     ops: &[Op],
     handled: Option<bool>,
+    html: &Option<Txt>,
 ) -> Result<Value, AllocError>
-    ensures { IfOk result (λ v. view v ≡ commit_data number ops.now handled) }
+    ensures { IfOk result (λ v. view v ≡ commit_data number ops.now handled html.now) }
 {
     let ops = ops_value(alloc, ops)?;
+    let Some(html) = html else {
+        return match handled {
+            Some(handled) => json!(in alloc; {"commit": number, "handled": handled, "ops": ops}),
+            None => json!(in alloc; {"commit": number, "ops": ops}),
+        };
+    };
+    let html = Value::try_from_str(alloc, html.as_str())?;
     match handled {
-        Some(handled) => json!(in alloc; {"commit": number, "handled": handled, "ops": ops}),
-        None => json!(in alloc; {"commit": number, "ops": ops}),
+        Some(handled) => {
+            json!(in alloc; {"commit": number, "handled": handled, "ops": ops, "view": html})
+        }
+        None => json!(in alloc; {"commit": number, "ops": ops, "view": html}),
     }
 }
 
@@ -82,6 +103,12 @@ fn refusal_value(alloc: Global, cause: &Cause, step: Option<u32>) -> Result<Valu
             "step": step,
         }
     })
+}
+
+fn state_value(alloc: Global, document: Value) -> Result<Value, AllocError>
+    ensures { IfOk result (λ v. view v ≡ state_data (view document)) }
+{
+    json!(in alloc; {"state": document})
 }
 
 fn shown_view(alloc: Global, html: &Txt) -> Result<Value, AllocError>
