@@ -1,0 +1,15 @@
+pub mod BackDocument
+pub mod BackKeys
+pub mod BackLimits
+pub mod BackTrees
+pub mod BackWritten
+pub mod Drafting
+pub mod Grown
+pub mod Kinded
+pub mod Looked
+pub mod Ordered
+pub mod Rooted
+pub mod Spelled
+pub mod Told
+pub mod Walked
+pub mod Whole

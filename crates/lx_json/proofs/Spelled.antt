@@ -1,0 +1,39 @@
+-- The characters of the words that name places.
+use Rattle.std.proofs.Common.{◌≡◌, ℕ, zero, suc, ◌<◌, ◌^◌, true, List, [], ◌∷◌, refl, arith, codes, decimal}
+use Rattle.std.specs.Str.{chars, IsAscii}
+use Rattle.std.proofs.lemmas.Fmt.{IsAscii-decimal}
+use Rattle.std.proofs.lemmas.Str.{chars-IsAscii, IsAscii-append}
+use Rattle.std.proofs.lemmas.Bool.Decides.{nat_tests}
+use Rattle.lx_json.specs.Reading.{child_place}
+use Rattle.lx_json.proofs.Ordered.{are_ascii}
+
+pub chars-nothing : chars (codes "") ≡ []
+unfolding chars
+chars-nothing = refl
+
+pub chars-slash : chars (codes "/") ≡ codes "/"
+unfolding chars
+chars-slash = refl
+
+pub chars-type : chars (codes "/type") ≡ codes "/type"
+unfolding chars
+chars-type = refl
+
+pub chars-root : chars (codes "/root") ≡ codes "/root"
+unfolding chars
+chars-root = refl
+
+pub chars-children : chars (codes "children") ≡ codes "children"
+unfolding chars
+chars-children = refl
+
+below_128 : (bytes : List ℕ) → are_ascii bytes ≡ true → IsAscii bytes
+below_128 [] ascii place = omega arith
+below_128 (byte ∷ bytes) ascii zero = grind (arith, nat_tests, ascii)
+below_128 (byte ∷ bytes) ascii (suc place) = below_128 bytes (grind (arith, ascii)) place
+
+front_ascii : IsAscii (codes "/children/")
+front_ascii = below_128 (codes "/children/") refl
+
+pub chars-child_place : (i : ℕ) → i < 2 ^ 64 → chars (child_place i) ≡ child_place i
+chars-child_place i small = chars-IsAscii (child_place i) (IsAscii-append (codes "/children/") (decimal i) front_ascii (IsAscii-decimal i small))

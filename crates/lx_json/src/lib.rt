@@ -1,0 +1,15 @@
+//! Documents: a JSON value is read as a draft of the tree that it tells, and a tree is written as the one value that tells
+//! it. `import` names the first thing in the value that isn't as it has to be, with its place as a JSON pointer; `export`
+//! writes what `import` reads back as the same tree, up to keys.
+#![tactic(auto)]
+
+mod exporting;
+mod growing;
+mod importing;
+mod marking;
+mod pieces;
+mod places;
+mod reading;
+
+pub use exporting::export;
+pub use importing::import;
