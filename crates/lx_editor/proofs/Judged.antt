@@ -1,5 +1,5 @@
 -- What steps or a rule come to is what they make of the editor.
-use Rattle.std.proofs.Common.{◌≡◌, ◌∙◌, ℕ, ◌+◌, ◌≤◌, Bool, true, false, if◌then◌else◌, List, Option, Some, Result, Ok, Err, refl, sym, ap, subst, arith}
+use Rattle.std.proofs.Common.{◌≡◌, ◌≢◌, ◌∙◌, ℕ, ◌+◌, ◌≤◌, Bool, true, false, if◌then◌else◌, List, Option, Some, Result, Ok, Err, refl, sym, ap, subst, arith}
 use Rattle.lx_node.specs.declared.cause.Cause.{Cause}
 use Rattle.lx_host.specs.declared.op.Op.{Op}
 use Rattle.lx_step.specs.declared.rule.Rule.{Rule}
@@ -16,7 +16,7 @@ use Rattle.lx_editor.specs.Editor.{Editor}
 use Rattle.lx_editor.specs.Follows.{reply_of}
 use Rattle.lx_editor.specs.Updated.{Left, IsNothingNew, IsCommitted, IsTaken, IsMadeOf}
 use Rattle.lx_editor.specs.Registered.{with_one_more}
-use Rattle.lx_editor.specs.Judged.{MayCommit, IsWeighed, IsJudged, MayConclude, IsConcluded, is_refused}
+use Rattle.lx_editor.specs.Judged.{MayCommit, IsWeighed, IsJudged, MayConclude, IsConcluded, is_refused, is_idle}
 
 -- what is judged may be concluded
 pub may_conclude : (r : Result Left (Cause × Option ℕ)) (e : Editor) (verdict : Verdict) → IsJudged r e verdict → MayConclude e verdict
@@ -124,7 +124,17 @@ module _ (old : Editor) (rule : Rule) where
 -- ---- a dispatch
 
 -- a reply tells of a refusal nothing of whether the command was handled
-pub handled_told : (outcome : Outcome) (handled : Bool) → reply_of (Some handled) outcome ≡ reply_of (Some (unless_refused outcome handled)) outcome
-handled_told (made.Committed number ops) handled = refl
-handled_told (made.Refused cause step) handled = refl
-handled_told made.Idle handled = refl
+pub handled_told : (outcome : Outcome) (html : Option (List ℕ)) (handled : Bool) → reply_of (Some handled) html outcome ≡ reply_of (Some (unless_refused outcome handled)) html outcome
+handled_told (made.Committed number ops) html handled = refl
+handled_told (made.Refused cause step) html handled = refl
+handled_told made.Idle html handled = refl
+
+-- ---- a load
+
+-- what isn't judged as idle isn't concluded as that
+pub never_idle : (e : Editor) (verdict : Verdict) (outcome : Outcome) (new : Editor) → is_idle verdict ≡ false → IsConcluded e verdict outcome new → outcome ≢ made.Idle
+never_idle e (Commit frozen batch) (made.Committed number ops) new anew done is = cc
+never_idle e (Commit frozen batch) (made.Refused cause step) new anew done is = absurd done
+never_idle e (Commit frozen batch) made.Idle new anew done is = absurd done
+never_idle e (Refused cause step) outcome new anew (same, rest) is = let e : made.Refused cause step ≡ made.Idle = sym same ∙ is in cc
+never_idle e Idle outcome new anew done is = absurd (cc)

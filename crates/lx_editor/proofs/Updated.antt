@@ -1,10 +1,14 @@
 -- What an update has made of an editor, from what its steps left of the draft.
-use Rattle.std.proofs.Common.{◌≡◌, ◌∙◌, ◌+◌, ◌<◌, ◌≤◌, ℕ, Bool, false, List, [], ◌∷◌, Option, None, Some, Result, Ok, refl, sym, ap, subst, arith}
+use Rattle.std.proofs.Common.{◌≡◌, ◌∙◌, ◌+◌, ◌<◌, ◌≤◌, ℕ, Bool, true, false, List, [], ◌∷◌, Option, None, Some, Result, Ok, refl, sym, ap, subst, arith}
 use Rattle.std.specs.Option.{option_or}
 use Rattle.std.proofs.lemmas.Bool.Decides.{eqb_tells}
 use Rattle.lx_node.specs.Trees.{nil, tree}
 use Rattle.lx_node.specs.Kinds.{is_text_block}
+use Rattle.lx_node.specs.Strings.{capped, characters_of, characters_of_element, characters_of_extra}
 use Rattle.lx_node.specs.declared.cause.Cause.{Cause}
+use Rattle.lx_node.specs.declared.cause.Limit.TheVariants.{Depth, Nodes, Characters, KeyCount}
+use Rattle.lx_node.specs.Limits.{most_depth, most_nodes, most_characters, most_key}
+use Rattle.lx_node.specs.NamedTrees.{total}
 use Rattle.lx_host.specs.declared.op.Op.{Op}
 use Rattle.lx_host.specs.Hosts.{HostTree, shape_of, new_tree, Leads, FitInTurn}
 use Rattle.lx_host.specs.Html.{html_of, first_tree}
@@ -16,15 +20,16 @@ use Rattle.lx_step.specs.declared.listener.Listener.{Listener}
 use Rattle.lx_step.specs.declared.step.Step.{Step}
 use Rattle.lx_forest.specs.Forest.{Forest, root_alone}
 use Rattle.lx_forest.specs.Edits.{drop_detached}
-use Rattle.lx_forest.specs.Lookups.{has, count, roots, IsForest}
+use Rattle.lx_forest.specs.Lookups.{has, count, roots, alone, IsForest}
+use Rattle.lx_forest.proofs.Edits.{has-root}
 use Rattle.lx_forest.proofs.Order.{IsForest-drop_detached}
 use Rattle.lx_draft.specs.Working.{Working, MayStart, started}
 use Rattle.lx_draft.specs.Covering as drafts
 use Rattle.lx_draft.specs.Covering.{Covers, IsReady}
-use Rattle.lx_draft.specs.Faults.{after}
+use Rattle.lx_draft.specs.Faults.{after, over}
 use Rattle.lx_draft.specs.Selecting.{selection_lost}
-use Rattle.lx_draft.specs.Freezing.{swept, freeze_step, freeze_fault, limits_fault, Freezes}
-use Rattle.lx_draft.proofs.Covered.{answered}
+use Rattle.lx_draft.specs.Freezing.{tree_depth, tree_characters, swept, freeze_step, freeze_fault, limits_fault, Freezes}
+use Rattle.lx_draft.proofs.Covered.{answered, covered-self}
 use Rattle.lx_plain.specs.Render.{render}
 use Rattle.lx_plain.specs.Allowed.{Shows, AreCovered, AreAllowed}
 use Rattle.lx_reconcile.specs.Allowing.{marking, IsAllowed}
@@ -43,12 +48,17 @@ use Rattle.lx_settle.specs.Laws.{IsAlone, AreMarked}
 use Rattle.lx_settle.specs.Rested.{IsRested}
 use Rattle.lx_settle.specs.Settling.{settle_step}
 use Rattle.lx_settle.proofs.Ends.{settling_ends}
+use Rattle.lx_settle.proofs.Rest.{there as attached_there}
 use Rattle.lx_editor.specs.Editor.{Editor}
 use Rattle.lx_editor.specs.Standing.{IsState, IsValid}
 use Rattle.lx_editor.specs.Dispatched.{left_in_answer, was_handled}
 use Rattle.lx_editor.specs.Updated.{at_commit, answers_of, rested_by, begun, left_by, Left, IsNothingNew, hosts_fault, most_reads, IsCommitted}
 use Rattle.lx_editor.specs.Registered.{marked_for, left_with, left_for}
-use Rattle.lx_editor.specs.Judged.{IsLeft, IsFresh, IsForCause}
+use Rattle.serde_json.specs.Data.{Data}
+use Rattle.lx_json.specs.Importing.{imported}
+use Rattle.lx_editor.specs.Loaded.{left_by_load}
+use Rattle.lx_editor.specs.Judged.{MayGiveWay, IsLeft, IsFresh, IsForCause, IsLeftOfImport}
+use Rattle.lx_editor.proofs.Loaded.{all_touched, only_root, shown_by}
 
 -- ---- what the steps left
 
@@ -100,16 +110,19 @@ first_none : (a b : Option Cause) → option_or a b ≡ None → a ≡ None
 first_none None b e = refl
 first_none (Some cause) b e = absurd (cc)
 
--- what is frozen has what is selected
-still_selected : (w : Working) (f : Forest) (selection : Selection) (marks : Marked) (next_key : ℕ) → Freezes w f selection marks next_key → selection_lost selection f ≡ None
+second_none : (a b : Option Cause) → option_or a b ≡ None → b ≡ None
+second_none None b e = e
+second_none (Some cause) b e = absurd (cc)
+
+-- what is frozen is within the limits, and has what is selected
+nothing_against : (w : Working) (f : Forest) (selection : Selection) (marks : Marked) (next_key : ℕ) → Freezes w f selection marks next_key → (selection_lost selection f ≡ None) × (limits_fault f next_key ≡ None)
 unfolding freeze_step
-still_selected w f selection marks next_key frozen =
+nothing_against w f selection marks next_key frozen =
     let left : Working = record (swept w) { forest = f; selection = selection; marks = marks; next_key = next_key } in
     let told = answered (freeze_fault (swept w)) (swept w) left frozen in
-    let none : selection_lost (swept w).selection (swept w).forest ≡ None =
-    first_none (selection_lost (swept w).selection (swept w).forest) (limits_fault (swept w).forest (swept w).next_key) told.0
-    in
-    subst (λ (v : Working). selection_lost v.selection v.forest ≡ None) told.1 none
+    let first = first_none (selection_lost (swept w).selection (swept w).forest) (limits_fault (swept w).forest (swept w).next_key) told.0 in
+    let second = second_none (selection_lost (swept w).selection (swept w).forest) (limits_fault (swept w).forest (swept w).next_key) told.0 in
+    subst (λ (v : Working). (selection_lost v.selection v.forest ≡ None) × (limits_fault v.forest v.next_key ≡ None)) told.1 (first, second)
 
 -- what the draft leaves that came to rest
 pub rest_left : (rules : List AnyRule) (w v : Working) (f : Forest) (selection : Selection) (marks : Marked) (next_key : ℕ) → settle_step (answers_of rules) w ≡ Ok v → Freezes v f selection marks next_key
@@ -130,28 +143,60 @@ left_covered u v f selection marks next_key none m frozen =
 all_attached : (f : Forest) → IsForest f → roots f ≡ 0 ∷ [] → IsAlone f
 all_attached f order only q there = ap (has q) (one_tree f order only) ∙ there
 
--- What came to rest and is frozen may be left: it is a state, its marks cover it, and it is at rest.
-pub left_stands : (rules : List AnyRule) (u w v : Working) (f : Forest) (selection : Selection) (marks : Marked) (next_key : ℕ) → IsFresh u → drafts.AreCovered u w → settle_step (answers_of rules) w ≡ Ok v
-    → Freezes v f selection marks next_key → MayStart f next_key → IsLeft u.forest (record { tree = f; selection = selection; marks = marks; next_key = next_key; rules = rules })
-left_stands rules u w v f selection marks next_key fresh c settled frozen start =
+-- what is swept was there
+has-swept : (f : Forest) (q : ℕ) → has q (drop_detached f) ≡ true → has q f ≡ true
+unfolding drop_detached
+has-swept f q there = attached_there f q there
+
+-- What is joined and at rest, and is frozen, may be left.
+left_frozen : (rules : List AnyRule) (v : Working) (f : Forest) (selection : Selection) (marks : Marked) (next_key : ℕ) → IsForest v.forest → IsJoined v.forest → IsRested (answers_of rules) v.forest v.marks
+    → Freezes v f selection marks next_key → MayStart f next_key → IsLeft (record { tree = f; selection = selection; marks = marks; next_key = next_key; rules = rules })
+left_frozen rules v f selection marks next_key order joined rested frozen start =
     let answers = answers_of rules in
-    let m : AreMarked u v = settling_ends.covers answers u w v c settled in
-    let order : IsForest v.forest = m.ready.in_order in
     let parts = frozen_parts v f selection marks next_key frozen in
-    let all : IsAlone u.forest = all_attached u.forest fresh.state.in_order fresh.state.alone in
-    let joined : IsJoined v.forest = settling_ends.joins answers u w v (ready_start u fresh) all fresh.state.joined fresh.fresh c settled in
-    let rested : IsRested answers v.forest v.marks = settling_ends.rests answers u w v (fresh.marks ∙ sym fresh.fresh) c settled in
+    let against = nothing_against v f selection marks next_key frozen in
     record {
       state = record {
         in_order = subst IsForest parts.0 (IsForest-drop_detached v.forest order);
         alone = subst (λ g. roots g ≡ 0 ∷ []) parts.0 (one_left v.forest order);
         start = start;
-        selected = still_selected v f selection marks next_key frozen;
+        within = against.1;
+        selected = against.0;
         joined = subst IsJoined parts.0 (settling_ends.joined_swept v.forest order joined);
       };
-      covered = left_covered u v f selection marks next_key fresh.marks m frozen;
       rested = subst (λ g. IsRested answers g marks) parts.0 (subst (IsRested answers (drop_detached v.forest)) parts.1 (settling_ends.rested_swept answers v.forest v.marks order rested));
     }
+
+-- What came to rest of a draft and is frozen may be left, and its marks cover it.
+pub left_stands : (rules : List AnyRule) (u w v : Working) (f : Forest) (selection : Selection) (marks : Marked) (next_key : ℕ) → IsFresh u → drafts.AreCovered u w → settle_step (answers_of rules) w ≡ Ok v
+    → Freezes v f selection marks next_key → MayStart f next_key → IsLeft (record { tree = f; selection = selection; marks = marks; next_key = next_key; rules = rules }) × AreCovered u.forest f (marking marks)
+left_stands rules u w v f selection marks next_key fresh c settled frozen start =
+    let answers = answers_of rules in
+    let m : AreMarked u v = settling_ends.covers answers u w v c settled in
+    let all : IsAlone u.forest = all_attached u.forest fresh.state.in_order fresh.state.alone in
+    let joined : IsJoined v.forest = settling_ends.joins answers u w v (ready_start u fresh) all fresh.state.joined fresh.fresh c settled in
+    let rested : IsRested answers v.forest v.marks = settling_ends.rests answers u w v (fresh.marks ∙ sym fresh.fresh) c settled in
+    (left_frozen rules v f selection marks next_key m.ready.in_order joined rested frozen start, left_covered u v f selection marks next_key fresh.marks m frozen)
+
+-- What came to rest of an import and is frozen may be left, and is shown where a tree gave way to it.
+pub import_stands : (rules : List AnyRule) (w v : Working) (f : Forest) (selection : Selection) (marks : Marked) (next_key : ℕ) → settle_step (answers_of rules) w ≡ Ok v
+    → Freezes v f selection marks next_key → MayStart f next_key → IsLeftOfImport w (record { tree = f; selection = selection; marks = marks; next_key = next_key; rules = rules })
+import_stands rules w v f selection marks next_key settled frozen start next im =
+    let answers = answers_of rules in
+    let left : Left = record { tree = f; selection = selection; marks = marks; next_key = next_key; rules = rules } in
+    let u : Working = started w.forest Nothing w.next_key in
+    let m : AreMarked w v = settling_ends.covers answers w w v (covered-self w im.covered.ready) settled in
+    let order : IsForest v.forest = m.ready.in_order in
+    let joined : IsJoined v.forest = settling_ends.joins_marked answers u w v refl im.covered (λ q there. im.all_marked q (attached_there w.forest q there)) settled in
+    let rested : IsRested answers v.forest v.marks = settling_ends.rests answers u w v refl im.covered settled in
+    let parts = frozen_parts v f selection marks next_key frozen in
+    let tree_order : IsForest f = subst IsForest parts.0 (IsForest-drop_detached v.forest order) in
+    let still : (q : ℕ) → has q f ≡ true → has q v.forest ≡ true = λ q there. has-swept v.forest q (ap (has q) parts.0 ∙ there) in
+    let touched : (q : ℕ) → has q f ≡ true → is_touched marks q ≡ true = λ q there. ap (λ n. is_touched n q) (sym parts.1) ∙ all_touched w v next im m q (still q there) in (
+      left_frozen rules v f selection marks next_key order joined rested frozen start,
+      touched 0 (has-root f tree_order),
+      λ old way. shown_by left old way.in_order tree_order touched (λ q was is. only_root w v next im m old way q was (still q is)),
+    )
 
 -- ---- a commit
 
@@ -184,6 +229,7 @@ module _ (e : Editor) (left : Left) (view : HostTree) (ops : List Op) (allowed :
     last = Some (record { ops = ops; reads = reads });
     rules = left.rules;
     listeners = e.listeners;
+    tells_view = e.tells_view;
   }
 
   pub still_valid : (reads : ℕ) → IsState left.tree left.selection left.next_key → IsValid (made reads)
@@ -218,6 +264,51 @@ first_whole (tree l below (tree m under rest)) only = absurd (cc)
 pub printed : (e : Editor) → IsValid e → html_of (first_tree (shape_of e.view.hosts)) ≡ html_of (render e.tree)
 printed e valid = ap (λ s. html_of (first_tree s)) valid.shown ∙ ap html_of (first_whole e.tree valid.state.alone)
 
+-- so is what is printed of any view that shows one tree
+pub told_view : (f : Forest) (view : HostTree) → IsForest f → roots f ≡ 0 ∷ [] → Shows view (alone 0 f) → html_of (first_tree (shape_of view.hosts)) ≡ html_of (render f)
+told_view f view order only shows =
+    ap (λ s. html_of (first_tree s)) (shows ∙ ap render (one_tree f order only)) ∙ ap html_of (first_whole f only)
+
+-- ---- what is exported
+
+both_none : (a b : Option Cause) → a ≡ None → b ≡ None → option_or a b ≡ None
+both_none None b first second = second
+both_none (Some cause) b first second = absurd (cc)
+
+first_key_fits : over KeyCount most_key 1 ≡ None
+unfolding capped
+first_key_fits = refl
+
+-- what is within the limits is so with the next key 1
+pub within_first : (f : Forest) (next_key : ℕ) → limits_fault f next_key ≡ None → limits_fault f 1 ≡ None
+within_first f next_key within =
+    let depth = over Depth most_depth (tree_depth f) in
+    let nodes = over Nodes most_nodes (total f) in
+    let characters = over Characters most_characters (tree_characters f) in
+    let key = over KeyCount most_key next_key in
+    let sizes = second_none depth (option_or nodes (option_or characters key)) within in
+    both_none depth (option_or nodes (option_or characters (over KeyCount most_key 1))) (first_none depth (option_or nodes (option_or characters key)) within)
+    (both_none nodes (option_or characters (over KeyCount most_key 1)) (first_none nodes (option_or characters key) sizes)
+    (both_none characters (over KeyCount most_key 1) (first_none characters key (second_none nodes (option_or characters key) sizes)) first_key_fits))
+
+-- ---- a load
+
+-- the next key is above the root's
+pub first_key : (f : Forest) (next_key : ℕ) → IsForest f → MayStart f next_key → 0 < next_key
+first_key f next_key order start = grind (arith, start.free 0, has-root f order)
+
+-- a committed tree may give way to a document whose keys are the next ones
+pub may_give_way : (e : Editor) → IsValid e → MayGiveWay e.tree e.next_key
+may_give_way e valid = record { in_order = valid.state.in_order; alone = valid.state.alone; free = valid.state.start.free }
+
+-- the draft of a document leaves what it leaves at rest
+pub load_left : (e : Editor) (d : Data) (w : Working) → imported d e.next_key ≡ Ok w → left_by_load e d ≡ rested_by e.rules w
+unfolding left_by_load
+load_left e d w is = ap (left_with e.rules) is
+
+pub load_refused : (e : Editor) (d : Data) (w : Working) (refusal : Refusal) → imported d e.next_key ≡ Ok w → TellsRefusal refusal (rested_by e.rules w) → TellsRefusal refusal (left_by_load e d)
+load_refused e d w refusal is told = subst (TellsRefusal refusal) (sym (load_left e d w is)) told
+
 -- ---- a new editor
 
 once_at : (q : ℕ) → count q root_alone < 2
@@ -236,14 +327,15 @@ root_joined = record {
 root_in_order : IsForest root_alone
 root_in_order = record { once = λ q. once_at q; rising = refl; root = refl }
 
-pub new_valid : (f : Forest) (selection : Selection) (view : HostTree) (rules : List AnyRule) (listeners : List Listener) → f ≡ root_alone → selection ≡ Nothing → view ≡ new_tree → MayStart f 1
-    → IsValid (record { tree = f; selection = selection; next_key = 1; commits = 0; view = view; last = None; rules = rules; listeners = listeners })
-unfolding is_text_block
-new_valid f selection view rules listeners alone none shown start = record {
+pub new_valid : (f : Forest) (selection : Selection) (view : HostTree) (rules : List AnyRule) (listeners : List Listener) (tells_view : Bool) → f ≡ root_alone → selection ≡ Nothing → view ≡ new_tree → MayStart f 1
+    → IsValid (record { tree = f; selection = selection; next_key = 1; commits = 0; view = view; last = None; rules = rules; listeners = listeners; tells_view = tells_view })
+unfolding is_text_block capped characters_of characters_of_element characters_of_extra
+new_valid f selection view rules listeners tells_view alone none shown start = record {
   state = record {
     in_order = subst IsForest (sym alone) root_in_order;
     alone = subst (λ g. roots g ≡ 0 ∷ []) (sym alone) refl;
     start = start;
+    within = subst (λ g. limits_fault g 1 ≡ None) (sym alone) refl;
     selected = subst (λ s. selection_lost s f ≡ None) (sym none) refl;
     joined = subst IsJoined (sym alone) root_joined;
   };

@@ -1,5 +1,5 @@
 -- What an editor is.
-use Rattle.std.specs.Prelude.{ℕ, List, [], Option, None}
+use Rattle.std.specs.Prelude.{ℕ, Bool, List, [], Option, None}
 use Rattle.lx_host.specs.Hosts.{HostTree, new_tree}
 use Rattle.lx_select.specs.declared.selection.Selection.{Selection}
 use Rattle.lx_select.specs.declared.selection.Selection.TheVariants.{Nothing}
@@ -9,7 +9,8 @@ use Rattle.lx_reconcile.specs.Told.{Told}
 use Rattle.lx_step.specs.declared.listener.Listener.{Listener}
 
 -- the tree and the selection that are committed, the key that the next new node gets, how often the editor has committed,
--- the view, what the last commit told, and the rules and listeners that are registered, each in the order of registration
+-- the view, what the last commit told, the rules and listeners that are registered, each in the order of registration, and
+-- whether replies to commits tell the view
 pub record Editor : Type 0 where
   pub tree : Forest
   pub selection : Selection
@@ -19,6 +20,7 @@ pub record Editor : Type 0 where
   pub last : Option Told
   pub rules : List AnyRule
   pub listeners : List Listener
+  pub tells_view : Bool
 
-abbrev pub new_editor : Editor
-new_editor = record { tree = root_alone; selection = Nothing; next_key = 1; commits = 0; view = new_tree; last = None; rules = []; listeners = [] }
+abbrev pub new_editor : Bool → Editor
+new_editor tells_view = record { tree = root_alone; selection = Nothing; next_key = 1; commits = 0; view = new_tree; last = None; rules = []; listeners = []; tells_view = tells_view }

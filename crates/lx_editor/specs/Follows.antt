@@ -1,14 +1,16 @@
 -- How an editor may answer lines, and how the bytes of replies follow from them.
-use Rattle.std.specs.Prelude.{◌≡◌, ℕ, List, [], ◌∷◌, ◌++◌, Bool, Option, None, Some, Result, Ok, Err}
+use Rattle.std.specs.Prelude.{◌≡◌, ℕ, List, [], ◌∷◌, ◌++◌, if◌then◌else◌, Bool, Option, None, Some, Result, Ok, Err}
+use Rattle.serde_json.specs.Data.{Data}
+use Rattle.serde_json.specs.View.{view}
 use Rattle.lx_node.specs.declared.cause.Cause.{Cause}
 use Rattle.lx_host.specs.Html.{html_of}
 use Rattle.lx_plain.specs.Render.{render}
 use Rattle.lx_step.specs.declared.command.Command.{Command}
 use Rattle.lx_step.specs.declared.line.Line.{Line}
 use Rattle.lx_step.specs.declared.line.Form.{Form}
-use Rattle.lx_step.specs.declared.line.Form.TheVariants.{Update, Dispatch, Rule, Listener, Show}
+use Rattle.lx_step.specs.declared.line.Form.TheVariants.{Update, Dispatch, Rule, Listener, Load, Show}
 use Rattle.lx_step.specs.declared.line.Shown.{Shown}
-use Rattle.lx_step.specs.declared.line.Shown.TheVariants.{View, Selection}
+use Rattle.lx_step.specs.declared.line.Shown.TheVariants.{State, View, Selection}
 use Rattle.lx_step.specs.declared.listener.Listener.{Listener as ListenerOf}
 use Rattle.lx_step.specs.declared.rule.Rule.{Rule as RuleOf}
 use Rattle.lx_step.specs.Spelled.{steps_of}
@@ -16,45 +18,58 @@ use Rattle.lx_step.specs.declared.step.Step.{Step}
 use Rattle.lx_script.specs.declared.reply.Reply.{Reply}
 use Rattle.lx_script.specs.declared.reply.Reply.TheVariants as reply
 use Rattle.lx_script.specs.Grammar.{Reads}
-use Rattle.lx_script.specs.Replies.{reply_text}
+use Rattle.lx_script.specs.Replies.{reply_text, state_text}
+use Rattle.lx_json.specs.Exporting.{exported}
 use Rattle.lx_editor.specs.declared.outcome.Outcome.{Outcome}
 use Rattle.lx_editor.specs.declared.outcome.Outcome.TheVariants.{Committed, Refused, Idle}
 use Rattle.lx_editor.specs.Dispatched.{IsDispatched, IsListening}
 use Rattle.lx_editor.specs.Editor.{Editor}
+use Rattle.lx_editor.specs.Loaded.{IsLoaded}
 use Rattle.lx_editor.specs.Registered.{IsRegistered}
 use Rattle.lx_editor.specs.Updated.{IsUpdated}
 
--- the reply that tells an outcome, and of a dispatch whether it was handled
-abbrev pub reply_of : Option Bool → Outcome → Reply
-reply_of handled (Committed commit ops) = reply.Committed commit ops handled
-reply_of handled (Refused cause step) = reply.Refused cause step
-reply_of handled Idle = reply.Idle handled
+-- the HTML of the tree's rendering, where the editor's replies to commits tell the view
+abbrev pub view_told : Editor → Option (List ℕ)
+view_told editor = if editor.tells_view then Some (html_of (render editor.tree)) else None
+
+-- the reply that tells an outcome, of a dispatch whether it was handled, and of a commit the view where that is told
+abbrev pub reply_of : Option Bool → Option (List ℕ) → Outcome → Reply
+reply_of handled html (Committed commit ops) = reply.Committed commit ops handled html
+reply_of handled html (Refused cause step) = reply.Refused cause step
+reply_of handled html Idle = reply.Idle handled
 
 -- the reply that tells a listener's number, or why there is none
 abbrev pub number_reply : Result ℕ Cause → Reply
 number_reply (Ok number) = reply.Registered number
 number_reply (Err cause) = reply.Refused cause None
 
--- The reply that shows what is committed. The view is told as the HTML of the tree's rendering, which it shows.
-abbrev pub shown_of : Shown → Editor → Reply
-shown_of View editor = reply.View (html_of (render editor.tree))
-shown_of Selection editor = reply.Selection editor.selection
+-- The bytes of the reply that shows what is committed: the document, the view as the HTML of the tree's rendering, which it
+-- shows, or the selection.
+abbrev pub shown_text : Shown → Editor → List ℕ
+shown_text State editor = state_text (exported editor.tree)
+shown_text View editor = reply_text (reply.View (html_of (render editor.tree)))
+shown_text Selection editor = reply_text (reply.Selection editor.selection)
 
 -- The editor may answer an update by these steps with these bytes, and be the new one after.
 abbrev pub IsReplyOfUpdate : Editor → List Step → List ℕ → Editor → Type 0
 IsReplyOfUpdate old steps bytes new =
-    (outcome : Outcome) × IsUpdated old steps outcome new × (bytes ≡ reply_text (reply_of None outcome))
+    (outcome : Outcome) × IsUpdated old steps outcome new × (bytes ≡ reply_text (reply_of None (view_told new) outcome))
 
 -- The editor may answer a rule with these bytes, and be the new one after.
 abbrev pub IsReplyOfRule : Editor → RuleOf → List ℕ → Editor → Type 0
 IsReplyOfRule old rule bytes new =
-    (outcome : Outcome) × IsRegistered old rule outcome new × (bytes ≡ reply_text (reply_of None outcome))
+    (outcome : Outcome) × IsRegistered old rule outcome new × (bytes ≡ reply_text (reply_of None (view_told new) outcome))
+
+-- The editor may answer a load of this document with these bytes, and be the new one after.
+abbrev pub IsReplyOfLoad : Editor → Data → List ℕ → Editor → Type 0
+IsReplyOfLoad old document bytes new =
+    (outcome : Outcome) × IsLoaded old document outcome new × (bytes ≡ reply_text (reply_of None (view_told new) outcome))
 
 -- The editor may answer a dispatch with these bytes, and be the new one after.
 abbrev pub IsReplyOfDispatch : Editor → Command → List ℕ → Editor → Type 0
 IsReplyOfDispatch old command bytes new =
     (outcome : Outcome) × (handled : Bool) × IsDispatched old command outcome handled new
-    × (bytes ≡ reply_text (reply_of (Some handled) outcome))
+    × (bytes ≡ reply_text (reply_of (Some handled) (view_told new) outcome))
 
 -- The editor may answer a listener with these bytes, and be the new one after.
 abbrev pub IsReplyOfListener : Editor → ListenerOf → List ℕ → Editor → Type 0
@@ -67,7 +82,8 @@ RepliesTo old (Update script) bytes new = IsReplyOfUpdate old (steps_of script) 
 RepliesTo old (Dispatch command) bytes new = IsReplyOfDispatch old command bytes new
 RepliesTo old (Rule rule) bytes new = IsReplyOfRule old rule bytes new
 RepliesTo old (Listener listener) bytes new = IsReplyOfListener old listener bytes new
-RepliesTo old (Show shown) bytes new = (bytes ≡ reply_text (shown_of shown old)) × (new ≡ old)
+RepliesTo old (Load document) bytes new = IsReplyOfLoad old (view document) bytes new
+RepliesTo old (Show shown) bytes new = (bytes ≡ shown_text shown old) × (new ≡ old)
 
 -- The editor may answer what was read with these bytes, and be the new one after. A line that is refused changes nothing.
 abbrev pub Replies : Editor → Result Line Cause → List ℕ → Editor → Type 0

@@ -1,8 +1,12 @@
 -- What steps and rules come to before anything is changed. Only this crate's own contracts cite it.
-use Rattle.std.specs.Prelude.{◌≡◌, ◌≤◌, ℕ, Bool, true, false, Option, None, Result, Ok, Err}
+use Rattle.std.specs.Prelude.{◌≡◌, ◌≤◌, ◌⊎◌, ℕ, Bool, true, false, List, [], ◌∷◌, Option, None, Some, Result, Ok, Err}
 use Rattle.lx_node.specs.declared.cause.Cause.{Cause}
-use Rattle.lx_marks.specs.Marks.{unmarked, is_noted}
+use Rattle.lx_node.specs.declared.cause.Fault.{Fault}
+use Rattle.lx_node.specs.declared.cause.Fault.TheVariants as fault
+use Rattle.lx_marks.specs.Marks.{Marked, unmarked, is_touched, is_noted, with_leaf}
 use Rattle.lx_forest.specs.Forest.{Forest}
+use Rattle.lx_forest.specs.Lookups.{has, parent_of, children_of, roots, IsForest}
+use Rattle.lx_json.specs.Importing.{IsImported}
 use Rattle.lx_draft.specs.Working.{Working}
 use Rattle.lx_draft.specs.Covering as drafts
 use Rattle.lx_plain.specs.Allowed.{AreCovered}
@@ -21,10 +25,9 @@ use Rattle.lx_editor.specs.Updated.{Left, left_of, answers_of, IsNothingNew, IsU
 
 -- ---- what is left
 
--- What may be left of a tree: a state again, whose marks cover the two trees, and which is at rest under its rules.
-pub record IsLeft (old : Forest) (left : Left) : Type 0 where
+-- What may be left for a commit: a state again, which is at rest under its rules.
+pub record IsLeft (left : Left) : Type 0 where
   pub state : IsState left.tree left.selection left.next_key
-  pub covered : AreCovered old left.tree (marking left.marks)
   pub rested : IsRested (answers_of left.rules) left.tree left.marks
 
 -- a draft as an update begins with it: a state of which nothing is marked
@@ -33,16 +36,51 @@ pub record IsFresh (u : Working) : Type 0 where
   pub marks : u.marks ≡ unmarked
   pub fresh : u.fresh ≡ unmarked
 
--- This may be left of any fresh draft that marks cover.
+-- What may be left of a draft that was fresh, and that its marks cover: they cover the two trees then.
 abbrev pub IsLeftOf : Working → Left → Type 0
-IsLeftOf w left = (u : Working) → IsFresh u → drafts.AreCovered u w → IsLeft u.forest left
+IsLeftOf w left = (u : Working) → IsFresh u → drafts.AreCovered u w → IsLeft left × AreCovered u.forest left.tree (marking left.marks)
+
+-- ---- what is left of a document
+
+-- it was a child of a node that stays, and that is marked
+pub record IsChildOfMarked (old : Forest) (left : Left) (q : ℕ) : Type 0 where
+  pub parent : ℕ
+  pub up : parent_of old q ≡ Some parent
+  pub stays : has parent left.tree ≡ true
+  pub marked : is_touched left.marks parent ≡ true
+
+-- Operations for these marks are operations for those of what is left: they cover the two trees, they mark the same nodes of
+-- the new tree, and beside those only nodes that are gone from below a marked one.
+pub record IsShownBy (old : Forest) (left : Left) (shown : Marked) : Type 0 where
+  pub covered : AreCovered old left.tree (marking shown)
+  pub touched : (q : ℕ) → has q left.tree ≡ true → is_touched shown q ≡ is_touched left.marks q
+  pub noted : (q : ℕ) → has q left.tree ≡ true → is_noted shown q ≡ is_noted left.marks q
+  pub gone : (q : ℕ) → has q left.tree ≡ false → is_touched shown q ≡ true → (is_touched left.marks q ≡ true) ⊎ IsChildOfMarked old left q
+
+-- the marks with these keys among the leaves
+abbrev pub with_gone : List ℕ → Marked → Marked
+with_gone [] m = m
+with_gone (k ∷ ks) m = with_gone ks (with_leaf k m)
+
+-- a tree whose place another may take, whose new nodes get keys from the next one on
+pub record MayGiveWay (old : Forest) (next : ℕ) : Type 0 where
+  pub in_order : IsForest old
+  pub alone : roots old ≡ 0 ∷ []
+  pub free : (q : ℕ) → next ≤ q → has q old ≡ false
+
+-- What may be left of an imported draft: its root is marked, and whatever tree it takes the place of, all children of that
+-- one's root are gone.
+abbrev pub IsLeftOfImport : Working → Left → Type 0
+IsLeftOfImport w left =
+    (next : ℕ) → IsImported next w → IsLeft left × (is_touched left.marks 0 ≡ true)
+    × ((old : Forest) → MayGiveWay old next → IsShownBy old left (with_gone (children_of old 0) left.marks))
 
 -- ---- what it comes to
 
 -- What is left may be committed with these operations: it is something new, the view has ids for it, and the operations are
 -- allowed and were found by few reads.
 pub record MayCommit (old : Editor) (left : Left) (batch : Told) : Type 0 where
-  pub stands : IsLeft old.tree left
+  pub stands : IsLeft left
   pub anew : IsNothingNew old left → ⊥
   pub ids : hosts_fault old.tree left.tree old.view ≡ None
   pub allowed : IsAllowed old.tree left.tree (marking left.marks) old.view batch.ops
@@ -53,6 +91,12 @@ abbrev pub IsWeighed : Editor → Left → Verdict → Type 0
 IsWeighed old left (Commit frozen batch) = (left_of old.rules frozen ≡ left) × MayCommit old left batch
 IsWeighed old left (Refused cause step) = IsUnshowable old left cause step old
 IsWeighed old left Idle = (left.rules ≡ old.rules) × IsNothingNew old left
+
+-- What is found to commit what is left: operations with which it may be committed, or why it can't be shown.
+abbrev pub IsFound : Editor → Left → Result Told Fault → Type 0
+IsFound old left (Ok batch) = MayCommit old left batch
+IsFound old left (Err (fault.Cause cause)) = IsUnshowable old left cause None old
+IsFound old left (Err fault.Memory) = Unit {0}
 
 -- it is refused, or what is left is weighed
 abbrev pub IsJudged : Result Left (Cause × Option ℕ) → Editor → Verdict → Type 0
@@ -81,3 +125,7 @@ IsConcluded old Idle outcome new = (outcome ≡ made.Idle) × (new ≡ old)
 abbrev pub is_refused : Verdict → Bool
 is_refused (Refused cause step) = true
 is_refused verdict = false
+
+abbrev pub is_idle : Verdict → Bool
+is_idle Idle = true
+is_idle verdict = false

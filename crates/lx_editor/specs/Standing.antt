@@ -5,6 +5,7 @@ use Rattle.lx_forest.specs.Forest.{Forest}
 use Rattle.lx_forest.specs.Lookups.{roots, IsForest}
 use Rattle.lx_plain.specs.Allowed.{Shows}
 use Rattle.lx_draft.specs.Working.{MayStart}
+use Rattle.lx_draft.specs.Freezing.{limits_fault}
 use Rattle.lx_draft.specs.Selecting.{selection_lost}
 use Rattle.lx_settle.specs.Joined.{IsJoined}
 use Rattle.lx_editor.specs.declared.editor.Editor.TheInside.{Inside}
@@ -20,14 +21,16 @@ editor_of a = record {
   last = a.last;
   rules = a.rules.items;
   listeners = a.bus;
+  tells_view = a.tells_view;
 }
 
 -- A state that may be committed: one tree, with no detached one beside it, from which an update may start with this next
--- key, in which the selection lies, and whose texts are joined.
+-- key, which is within the limits, in which the selection lies, and whose texts are joined.
 pub record IsState (f : Forest) (selection : Selection) (next_key : ℕ) : Type 0 where
   pub in_order : IsForest f
   pub alone : roots f ≡ 0 ∷ []
   pub start : MayStart f next_key
+  pub within : limits_fault f next_key ≡ None
   pub selected : selection_lost selection f ≡ None
   pub joined : IsJoined f
 

@@ -12,7 +12,7 @@ use Rattle.lx_select.specs.declared.selection.Selection.{Selection}
 use Rattle.lx_step.specs.declared.step.Step.{Step}
 use Rattle.lx_step.specs.declared.listener.Listener.{Listener}
 use Rattle.lx_forest.specs.Forest.{Forest}
-use Rattle.lx_plain.specs.Allowed.{AreAllowed, marked_children, unkept}
+use Rattle.lx_plain.specs.Allowed.{AreAllowed, marked_children, staying, unkept}
 use Rattle.lx_draft.specs.Working.{Working, started}
 use Rattle.lx_draft.specs.Freezing.{freeze_step}
 use Rattle.lx_draft.specs.Faults.{over, after}
@@ -86,9 +86,10 @@ abbrev pub TellsHosts : Fault → Option Cause → Type 0
 TellsHosts (fault.Cause cause) found = found ≡ Some cause
 TellsHosts fault.Memory found = Unit {0}
 
--- the most reads of nodes by which the operations between two trees are found, where these nodes are marked
+-- The most reads of nodes by which the operations between two trees are found, where these nodes are marked. Of the old
+-- tree only those of them count that stay.
 abbrev pub most_reads : Forest → Forest → (ℕ → Bool) → ℕ
-most_reads old new noted = 8 * (marked_children noted old + marked_children noted new + unkept old None new + 1)
+most_reads old new noted = 8 * (marked_children (staying noted new) old + marked_children noted new + unkept old None new + 1)
 
 -- It is something new, the view has ids for it, and it is committed: it is at rest under its rules, its texts are joined, the
 -- operations are allowed between the two trees, and they were found by no more reads than that. Of the new editor only the
@@ -111,6 +112,7 @@ pub record IsCommitted (old : Editor) (left : Left) (commit : ℕ) (ops : List O
     last = Some (record { ops = ops; reads = reads });
     rules = left.rules;
     listeners = old.listeners;
+    tells_view = old.tells_view;
   }
 
 -- It is something new that the view has no ids for, and nothing changes.

@@ -8,13 +8,14 @@ use lx_host::HostTree;
 use lx_node::NoMemory;
 use lx_reconcile::Batch;
 use lx_rules::AnyRule;
-use lx_script::{Reply, write_reply};
+use lx_script::{Reply, write_reply, write_state};
 use lx_step::{Shown, Step};
 use std::alloc::Global;
 use std::marker::Model;
 
 /// An editor: the state that is committed, the next key, the number of commits, the view, which always shows
-/// the state's tree, the operations of the last commit, and the rules and listeners that are registered.
+/// the state's tree, the operations of the last commit, the rules and listeners that are registered, and whether its
+/// replies to commits tell the view.
 #[derive(Drop)]
 pub struct Editor {
     pub(crate) state: State,
@@ -24,6 +25,7 @@ pub struct Editor {
     last: Option<Batch>,
     pub(crate) rules: Vec<AnyRule>,
     pub(crate) bus: Bus,
+    pub(crate) tells_view: bool,
 }
 
 impl Model for Editor {
@@ -53,9 +55,10 @@ impl Editor {
     ghost use Rattle.lx_editor.specs.Updated.{IsUpdated, IsCommitted, left_of};
     ghost use Rattle.lx_editor.specs.Judged.{MayCommit, MayConclude, IsConcluded};
 
-    /// A new editor: the root alone, nothing selected, no commit, no rule, no listener, and a view that shows it.
-    pub fn new(alloc: Global) -> Result<Editor, NoMemory>
-        ensures { IfOk result (λ made. made ≡ new_editor) }
+    /// A new editor: the root alone, nothing selected, no commit, no rule, no listener, and a view that shows it. Its
+    /// replies to commits tell the view, as HTML, where `tells_view` is true.
+    pub fn new(alloc: Global, tells_view: bool) -> Result<Editor, NoMemory>
+        ensures { IfOk result (λ made. made ≡ new_editor tells_view) }
     {
         Ok(Editor {
             state: State::new(alloc)?,
@@ -65,6 +68,7 @@ impl Editor {
             last: None,
             rules: Vec::new(alloc),
             bus: Bus::new(alloc)?,
+            tells_view,
         })
     }
 
@@ -162,14 +166,14 @@ impl Editor {
     }
 
     ghost use Rattle.lx_step.specs.declared.line.Shown.TheVariants as shown;
-    ghost use Rattle.lx_script.specs.Replies.{reply_text};
-    ghost use Rattle.lx_editor.specs.Follows.{shown_of};
+    ghost use Rattle.lx_editor.specs.Follows.{shown_text};
 
-    /// Shows what is committed, as the bytes of a reply: the HTML of the view, or the selection.
+    /// Shows what is committed, as the bytes of a reply: the document, the HTML of the view, or the selection.
     pub fn show(&self, alloc: Global, shown: Shown) -> Result<Vec<u8>, NoMemory>
-        ensures { IfOk result (λ reply. reply.items ≡ reply_text (shown_of shown self.now)) }
+        ensures { IfOk result (λ reply. reply.items ≡ shown_text shown self.now) }
     {
         match shown {
+            Shown::State => self.show_state(alloc),
             Shown::View => self.show_view(alloc),
             Shown::Selection => {
                 let selection = self.state.selection.copy(alloc)?;
@@ -178,9 +182,17 @@ impl Editor {
         }
     }
 
+    /// Shows the document.
+    fn show_state(&self, alloc: Global) -> Result<Vec<u8>, NoMemory>
+        ensures { IfOk result (λ reply. reply.items ≡ shown_text shown.State self.now) }
+    {
+        let document = self.export(alloc)?;
+        write_state(alloc, document)
+    }
+
     /// Shows the view.
     fn show_view(&self, alloc: Global) -> Result<Vec<u8>, NoMemory>
-        ensures { IfOk result (λ reply. reply.items ≡ reply_text (shown_of shown.View self.now)) }
+        ensures { IfOk result (λ reply. reply.items ≡ shown_text shown.View self.now) }
     {
         let html = self.view.print_html()?;
         write_reply(alloc, &Reply::View(html))

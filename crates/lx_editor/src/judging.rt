@@ -1,6 +1,6 @@
 //! What steps, a dispatch or a rule come to, before anything is changed.
 
-ghost use Rattle.std.specs.Prelude.{◌≡◌, All, IfOk, OnOk, Option, Result, List, ℕ};
+ghost use Rattle.std.specs.Prelude.{◌≡◌, true, All, IfOk, OnOk, Option, Result, List, ℕ};
 ghost use Rattle.lx_node.specs.declared.cause.Cause.{Cause as CauseOf};
 ghost use Rattle.lx_step.specs.Sound.{IsSound};
 ghost use Rattle.lx_draft.specs.Covering as drafts;
@@ -10,7 +10,9 @@ ghost use Rattle.lx_rules.specs.declared.any_rule.AnyRule.{AnyRule as AnyRuleOf}
 ghost use Rattle.lx_run.specs.Refusals.{TellsRefusal};
 ghost use Rattle.lx_editor.specs.Dispatched.{answer_to, left_in_answer, was_handled};
 ghost use Rattle.lx_editor.specs.Editor.{Editor as EditorOf};
-ghost use Rattle.lx_editor.specs.Judged.{IsLeft, IsFresh, IsJudged, IsWeighed, IsForCause};
+ghost use Rattle.lx_editor.specs.Judged.{IsLeft, IsFresh, IsJudged, IsWeighed, IsForCause, is_refused};
+ghost use Rattle.lx_plain.specs.Allowed.{AreCovered};
+ghost use Rattle.lx_reconcile.specs.Allowing.{marking};
 ghost use Rattle.lx_editor.specs.Registered.{left_for, left_with};
 ghost use Rattle.lx_editor.specs.Updated.{Left, left_of, left_by, begun, rested_by};
 
@@ -26,9 +28,10 @@ use lx_step::{Command, Step, TypeRow};
 use std::alloc::Global;
 
 /// The verdict that a refusal is.
-fn verdict_of(refusal: Refusal) -> Result<Verdict, NoMemory>
+pub(crate) fn verdict_of(refusal: Refusal) -> Result<Verdict, NoMemory>
     ensures judged { (left : Result Left (CauseOf × Option ℕ)) (e : EditorOf) → TellsRefusal refusal left → IfOk result (IsJudged left e) }
     ensures for_cause { OnOk result (IsForCause refusal) }
+    ensures refused { IfOk result (λ verdict. is_refused verdict ≡ true) }
 {
     match refusal {
         Refusal::Cause { cause, step } => Ok(Verdict::Refused { cause, step }),
@@ -36,9 +39,10 @@ fn verdict_of(refusal: Refusal) -> Result<Verdict, NoMemory>
     }
 }
 
-/// The verdict that a fault of the marks for a rule is, for which no step is refused.
-fn verdict_of_marks(fault: Fault) -> Result<Verdict, NoMemory>
-    ensures { (rules : List AnyRuleOf) (marked : Result Working CauseOf) (e : EditorOf) → TellsStep fault marked → IfOk result (IsJudged (left_with rules marked) e) }
+/// The verdict that a fault of what a draft begins with is, for which no step is refused.
+pub(crate) fn verdict_of_fault(fault: Fault) -> Result<Verdict, NoMemory>
+    ensures judged { (rules : List AnyRuleOf) (begun : Result Working CauseOf) (e : EditorOf) → TellsStep fault begun → IfOk result (IsJudged (left_with rules begun) e) }
+    ensures refused { IfOk result (λ verdict. is_refused verdict ≡ true) }
 {
     match fault {
         Fault::Cause(cause) => Ok(Verdict::Refused { cause, step: None }),
@@ -96,7 +100,7 @@ impl Editor {
         let mut draft = self.begin(alloc)?;
         match mark_type(alloc, &mut draft, on) {
             Ok(()) => self.judge_draft(alloc, draft),
-            Err(fault) => verdict_of_marks(fault),
+            Err(fault) => verdict_of_fault(fault),
         }
     }
 
@@ -114,7 +118,8 @@ impl Editor {
     /// What is to be done with what is left: it is committed, unless it is nothing new, or the view has no ids to
     /// show it.
     fn weigh(&self, alloc: Global, frozen: Frozen) -> Result<Verdict, NoMemory>
-        requires left { IsLeft self.now.tree (left_of self.now.rules frozen) }
+        requires left { IsLeft (left_of self.now.rules frozen) }
+        requires covered { AreCovered self.now.tree frozen.state.links (marking frozen.marks) }
         ensures weighed { IfOk result (IsWeighed self.now (left_of self.now.rules frozen)) }
     {
         if frozen.marks.is_empty() && frozen.state.selection.is_equal(&self.state.selection) {

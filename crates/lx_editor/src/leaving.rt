@@ -3,7 +3,7 @@
 ghost use Rattle.std.specs.Prelude.{◌≡◌, Ok, IfOk, IfErr};
 ghost use Rattle.lx_run.specs.Refusals.{TellsRefusal};
 ghost use Rattle.lx_editor.specs.Updated.{left_of, rested_by};
-ghost use Rattle.lx_editor.specs.Judged.{IsLeftOf};
+ghost use Rattle.lx_editor.specs.Judged.{IsLeftOf, IsLeftOfImport};
 
 use lx_draft::{Draft, Frozen};
 use lx_node::Fault;
@@ -16,6 +16,7 @@ use std::alloc::Global;
 pub(crate) fn rest(alloc: Global, draft: Draft, rules: &[AnyRule]) -> Result<Frozen, Refusal>
     ensures left { IfOk result (λ frozen. rested_by rules.now draft ≡ Ok (left_of rules.now frozen)) }
     ensures stands { IfOk result (λ frozen. IsLeftOf draft (left_of rules.now frozen)) }
+    ensures imported { IfOk result (λ frozen. IsLeftOfImport draft (left_of rules.now frozen)) }
     ensures refused { IfErr result (λ e. TellsRefusal e (rested_by rules.now draft)) }
 {
     let mut draft = draft;

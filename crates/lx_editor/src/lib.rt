@@ -8,6 +8,7 @@ mod editor;
 mod judging;
 mod leaving;
 mod line;
+mod loading;
 mod marking;
 mod outcome;
 mod reconciling;

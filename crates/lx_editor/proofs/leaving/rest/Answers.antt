@@ -1,4 +1,4 @@
-use Rattle.lx_editor.proofs.Updated.{left_stands}
+use Rattle.lx_editor.proofs.Updated.{left_stands, import_stands}
 use Rattle.lx_editor.proofs.leaving.rest.Goals as goal
 
 pub returns-in-Ok-freeze-clause-stands : goal.returns-in-Ok-freeze-clause-stands
@@ -6,3 +6,9 @@ returns-in-Ok-freeze-clause-stands c u fresh covers =
     let frozen = c.in-Ok-freeze.frozen in
     left_stands c.args.rules.now u c.args.draft c.settle.new.draft frozen.state.links frozen.state.selection frozen.marks frozen.next_key
     fresh covers c.in-Ok.ensures.ok c.in-Ok-freeze.ensures.ok c.in-Ok-freeze.ensures.start
+
+pub returns-in-Ok-freeze-clause-imported : goal.returns-in-Ok-freeze-clause-imported
+returns-in-Ok-freeze-clause-imported c =
+    let frozen = c.in-Ok-freeze.frozen in
+    import_stands c.args.rules.now c.args.draft c.settle.new.draft frozen.state.links frozen.state.selection frozen.marks frozen.next_key
+    c.in-Ok.ensures.ok c.in-Ok-freeze.ensures.ok c.in-Ok-freeze.ensures.start

@@ -13,10 +13,10 @@ weigh-requires c =
     let e : Editor = c.args.self.now in
     let valid : IsValid e = subst IsValid c.self.view_is c.self.invariant in
     let same : c.as_slice.result.now ≡ e.rules = c.as_slice.ensures.value ∙ ap (λ (d : Editor). d.rules) c.self.view_is in
+    let stands = c.in-Ok.ensures.stands _ (fresh_begun e valid) c.requires.covered in
     record {
-      left =
-          subst (λ (rules : List AnyRule). IsLeft e.tree (left_of rules c.in-Ok.frozen)) same
-          (c.in-Ok.ensures.stands _ (fresh_begun e valid) c.requires.covered);
+      left = subst (λ (rules : List AnyRule). IsLeft (left_of rules c.in-Ok.frozen)) same stands.0;
+      covered = stands.1;
     }
 
 pub returns-in-Ok : goal.returns-in-Ok

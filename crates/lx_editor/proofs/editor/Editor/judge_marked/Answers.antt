@@ -32,4 +32,4 @@ returns-in-Err c =
     let tells : TellsStep c.in-Err.fault (marked_for c.args.on (begun e)) =
     subst (λ w. TellsStep c.in-Err.fault (marked_for c.args.on w)) c.in_ok-draft.ensures.begun c.in-Err.ensures.err
     in
-    record { judged = c.verdict_of_marks.ensures e.rules (marked_for c.args.on (begun e)) e tells }
+    record { judged = c.verdict_of_fault.ensures.judged e.rules (marked_for c.args.on (begun e)) e tells }

@@ -1,5 +1,6 @@
 use Rattle.std.proofs.Common.{◌∙◌, ap}
 use Rattle.lx_script.specs.Replies.{reply_text}
+use Rattle.lx_editor.specs.Follows.{view_told}
 use Rattle.lx_editor.specs.Dispatched.{IsDispatched, answer_to, left_in_answer, unless_refused}
 use Rattle.lx_editor.proofs.Judged.{concluded, handled_told}
 use Rattle.lx_editor.proofs.Told.{told}
@@ -16,5 +17,5 @@ returns-clause-replies c =
       outcome,
       unless_refused outcome handled,
       (concluded (left_in_answer old.rules answer) old c.in_ok-verdict.verdict outcome c.reply.new.self c.in_ok-verdict.ensures.judged done, ap (unless_refused outcome) c.in_ok-verdict.ensures.handled),
-      text ∙ ap reply_text (handled_told outcome handled),
+      text ∙ ap reply_text (handled_told outcome (view_told c.reply.new.self) handled),
     ))

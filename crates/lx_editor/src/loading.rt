@@ -1,0 +1,115 @@
+//! Documents: one takes the place of what is committed, and what is committed is written as one.
+
+ghost use Rattle.lx_node.specs.Limits.{last_u32};
+ghost use Rattle.std.specs.Prelude.{◌≡◌, IfOk};
+ghost use Rattle.lx_forest.specs.Lookups.{children_of};
+ghost use Rattle.lx_editor.specs.Judged.{with_gone};
+
+use crate::editor::Editor;
+use crate::judging::{verdict_of, verdict_of_fault};
+use crate::leaving::rest;
+use crate::outcome::{Outcome, Verdict};
+use crate::reconciling::reconcile;
+use lx_draft::Frozen;
+use lx_json::{export, import};
+use lx_links::Links;
+use lx_marks::Marks;
+use lx_node::{Fault, Key, NoMemory};
+use serde_json::Value;
+use std::alloc::Global;
+
+/// The marks with the children of the root among the leaves.
+fn with_children_gone(marks: &Marks, old: &Links) -> Result<Marks, NoMemory>
+    ensures { IfOk result (λ shown. shown ≡ with_gone (children_of old.now 0) marks.now) }
+{
+    let mut shown = marks.copy()?;
+    for child in old.children(Key::root()) {
+        shown.mark_leaf(child)?;
+    }
+    Ok(shown)
+}
+
+impl Editor {
+    ghost use Rattle.std.specs.Prelude.{◌+◌, ◌<◌, ◌≤◌, ◌≢◌, true, false, [], OnErr};
+    ghost use Rattle.serde_json.specs.View.{view};
+    ghost use Rattle.lx_marks.specs.Marks.{is_touched};
+    ghost use Rattle.lx_json.specs.Exporting.{exported};
+    ghost use Rattle.lx_json.specs.Back.{ReadsBack};
+    ghost use Rattle.lx_editor.specs.Follows.{IsReplyOfLoad};
+    ghost use Rattle.lx_editor.specs.Judged.{IsLeft, IsShownBy, IsJudged, IsWeighed, is_idle};
+    ghost use Rattle.lx_editor.specs.Loaded.{IsLoaded, left_by_load};
+    ghost use Rattle.lx_editor.specs.Updated.{left_of};
+
+    /// Loads a document, which takes the place of what is committed: its nodes get new keys, nothing is selected, and all
+    /// of it comes to rest under the rules and is committed. It is refused, with no step, where the value isn't a
+    /// document, as `UnknownType`, `BadState` with the place as a JSON pointer, or `EmptyState`; as `TooLarge` where it is
+    /// beyond a limit; and else as an update is. It is never idle. After a refusal or want of memory the editor is as it
+    /// was.
+    #[tactic(auto, unfolding(crate::specs::Loaded::IsLoaded))]
+    pub fn load(&mut self, alloc: Global, document: &Value) -> Result<Outcome, NoMemory>
+        requires room { self.old.commits < last_u32 }
+        ensures loaded { IfOk result (λ outcome. IsLoaded self.old (view document.now) outcome self.new) }
+        ensures commits { self.new.commits ≤ self.old.commits + 1 }
+        ensures unchanged { OnErr result (self.new ≡ self.old) }
+    {
+        let verdict = self.judge_load(alloc, document)?;
+        self.conclude(alloc, verdict)
+    }
+
+    /// The same, answered with the bytes of a reply, which is made before anything is committed.
+    pub(crate) fn reply_to_load(
+        &mut self,
+        alloc: Global,
+        document: &Value,
+    ) -> Result<Vec<u8>, NoMemory>
+        requires room { self.old.commits < last_u32 }
+        ensures replies { IfOk result (λ reply. IsReplyOfLoad self.old (view document.now) reply.items self.new) }
+        ensures commits { self.new.commits ≤ self.old.commits + 1 }
+        ensures unchanged { OnErr result (self.new ≡ self.old) }
+    {
+        let verdict = self.judge_load(alloc, document)?;
+        self.reply(alloc, verdict, None)
+    }
+
+    /// What loading a document comes to. It changes nothing.
+    fn judge_load(&self, alloc: Global, document: &Value) -> Result<Verdict, NoMemory>
+        ensures judged { IfOk result (IsJudged (left_by_load self.now (view document.now)) self.now) }
+        ensures anew { IfOk result (λ verdict. is_idle verdict ≡ false) }
+    {
+        let draft = match import(alloc, document, self.next_key) {
+            Ok(draft) => draft,
+            Err(fault) => return verdict_of_fault(fault),
+        };
+        match rest(alloc, draft, self.rules.as_slice()) {
+            Ok(frozen) => self.weigh_load(alloc, frozen),
+            Err(refusal) => verdict_of(refusal),
+        }
+    }
+
+    /// What is to be done with what is left of a document: it is committed, unless the view has no ids to show it. The
+    /// children of the old root are all gone, so their hosts are.
+    fn weigh_load(&self, alloc: Global, frozen: Frozen) -> Result<Verdict, NoMemory>
+        requires left { IsLeft (left_of self.now.rules frozen) }
+        requires shown { IsShownBy self.now.tree (left_of self.now.rules frozen) (with_gone (children_of self.now.tree 0) frozen.marks) }
+        requires anew { is_touched frozen.marks 0 ≡ true }
+        ensures weighed { IfOk result (IsWeighed self.now (left_of self.now.rules frozen)) }
+        ensures anew { IfOk result (λ verdict. is_idle verdict ≡ false) }
+    {
+        let shown = with_children_gone(&frozen.marks, &self.state.links)?;
+        let links = &frozen.state.links;
+        match reconcile(alloc, &self.state.links, links, &shown, &self.view) {
+            Ok(batch) => Ok(Verdict::Commit { frozen, batch }),
+            Err(Fault::Cause(cause)) => Ok(Verdict::Refused { cause, step: None }),
+            Err(Fault::Memory) => Err(NoMemory),
+        }
+    }
+
+    /// What is committed, as the one document that says it. Where the root has children, `load` and lx_json's `import`
+    /// read it back as the same tree, up to keys.
+    pub fn export(&self, alloc: Global) -> Result<Value, NoMemory>
+        ensures written { IfOk result (λ document. view document ≡ exported self.now.tree) }
+        ensures back { children_of self.now.tree 0 ≢ [] → IfOk result (λ document. ReadsBack (view document) self.now.tree) }
+    {
+        export(alloc, &self.state)
+    }
+}
