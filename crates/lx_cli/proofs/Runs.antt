@@ -1,8 +1,9 @@
 -- Whole runs.
-use Rattle.std.proofs.Common.{◌≡◌, ◌≢◌, ℕ, ◌+◌, ◌<◌, ◌≤◌, ◌⊎◌, inl, inr, List, [], ◌++◌, length, take, sym, ap, ◌∙◌, refl, subst, length-append, arith}
+use Rattle.std.proofs.Common.{◌≡◌, ◌≢◌, ℕ, Bool, true, false, ◌+◌, ◌<◌, ◌≤◌, ◌⊎◌, inl, inr, List, [], ◌++◌, length, take, sym, ap, ◌∙◌, refl, subst, length-append, arith}
 use Rattle.lx_node.specs.Limits.{last_u32}
 use Rattle.lx_io.specs.Devices.{Consumes, IsAtEnd, HasRisen, IsCounted, last_count}
-use Rattle.lx_editor.specs.Editor.{Editor, new_editor}
+use Rattle.lx_words.specs.Words.{are_taken, view_in}
+use Rattle.lx_editor.specs.Editor.{Editor}
 use Rattle.lx_cli.specs.declared.session.Session.{Session}
 use Rattle.lx_cli.specs.declared.session.Unanswered.{Unanswered}
 use Rattle.lx_cli.specs.declared.session.Unanswered.TheVariants as unanswered
@@ -11,16 +12,16 @@ use Rattle.lx_cli.specs.declared.reading.Stop.TheVariants as stop
 use Rattle.lx_cli.specs.declared.status.Status.{Status}
 use Rattle.lx_cli.specs.declared.status.Status.TheVariants.{Done, Usage, ReadFault, Memory, InputTooLong}
 use Rattle.lx_cli.specs.Lines.{ended, unended, last_line, lines_of}
-use Rattle.lx_cli.specs.Run.{input_limit, SourceSeen, SinkSeen, Seen, Ends, IsRun}
+use Rattle.lx_cli.specs.Run.{begun_with, input_limit, SourceSeen, SinkSeen, Seen, Ends, IsRun}
 use Rattle.lx_cli.specs.Steps.{AreAnswered, AreUnanswered, AreTaken, IsUnended, IsNew, Moment, IsEnd, IsBrokenOff, IsUnanswered, IsPastLimit, HasStopped, unanswered_status, stop_status}
 use Rattle.lx_cli.proofs.Lines.{IsUnended-none, length-ended-le}
 use Rattle.lx_cli.proofs.Devices.{Consumes-none, Appends-none, IsCounted-none, IsCounted-within, AreWritten-append}
 use Rattle.lx_cli.proofs.Answering.{FollowsTo-append, IsFrontOfReplies-none, AreUnanswered-append}
 
--- a run without words
-abbrev pub wordless : List ℕ → List ℕ → SourceSeen → SourceSeen → SinkSeen → SinkSeen → Seen
-wordless read written q r s t = record {
-  words = 0;
+-- a run with words
+abbrev pub worded : List (List ℕ) → List ℕ → List ℕ → SourceSeen → SourceSeen → SinkSeen → SinkSeen → Seen
+worded words read written q r s t = record {
+  words = words;
   read = read;
   written = written;
   source_before = q;
@@ -29,22 +30,18 @@ wordless read written q r s t = record {
   sink_after = t;
 }
 
--- so it ended, whatever was written
-abbrev pub Ran : Status → List ℕ → SourceSeen → SourceSeen → SinkSeen → SinkSeen → Type 0
-Ran status read q r s t = (written : List ℕ) × IsRun status (wordless read written q r s t)
-
 HasRisen-not : (old new : ℕ) → HasRisen old new → new ≡ old → old < last_count → ⊥
 HasRisen-not old new risen same below = elim risen [ inl p ↦ omega arith | inr p ↦ omega arith ]
 
 -- a run that did nothing
-pub IsRun-none : (q : SourceSeen) (s : SinkSeen) → IsRun Memory (wordless [] [] q q s s)
+pub IsRun-none : (words : List (List ℕ)) (q : SourceSeen) (s : SinkSeen) → IsRun Memory (worded words [] [] q q s s)
 unfolding Ends
-IsRun-none q s = record {
+IsRun-none words q s = record {
   ends = record {
-    no_words = refl;
+    taken = inr refl;
     lines = ended [];
     may = inl refl;
-    front = IsFrontOfReplies-none new_editor (ended []);
+    front = IsFrontOfReplies-none (begun_with words) (ended []);
     faultless = record { source = refl; sink = refl };
   };
   consumes = Consumes-none q.left;
@@ -52,15 +49,14 @@ IsRun-none q s = record {
   bounded = omega arith;
   reads = IsCounted-none q.reads 1;
   writes = IsCounted-none s.writes 1;
-  complete = λ words faults short. inr refl;
+  complete = λ taken faults short. inr refl;
 }
 
-pub IsRun-usage : (words : ℕ) (q : SourceSeen) (s : SinkSeen) → words ≢ 0
-    → IsRun Usage (record { words = words; read = []; written = []; source_before = q; source_after = q; sink_before = s; sink_after = s })
+pub IsRun-usage : (words : List (List ℕ)) (q : SourceSeen) (s : SinkSeen) → are_taken words ≡ false → IsRun Usage (worded words [] [] q q s s)
 unfolding Ends
-IsRun-usage words q s some = record {
+IsRun-usage words q s refused = record {
   ends = record {
-    words = some;
+    refused = refused;
     read = refl;
     written = refl;
     faultless = record { source = refl; sink = refl };
@@ -70,170 +66,175 @@ IsRun-usage words q s some = record {
   bounded = omega arith;
   reads = IsCounted-none q.reads 1;
   writes = IsCounted-none s.writes 1;
-  complete = λ none faults short. absurd (some none);
+  complete = λ taken faults short. absurd (cc);
 }
 
--- what is taken in a run from its begin
-taken_new : (a b : Session) (s t : SinkSeen) (bytes : List ℕ) → IsNew a → AreTaken bytes a b s t → AreAnswered (ended bytes) new_editor b.editor s t
-taken_new a b s t bytes new p =
-    subst (λ (editor : Editor). AreAnswered (ended bytes) editor b.editor s t) new.editor
-    (subst (λ (waits : List ℕ). AreAnswered (ended (waits ++ bytes)) a.editor b.editor s t) new.pending p.answered)
-
-waiting_new : (a b : Session) (s t : SinkSeen) (bytes : List ℕ) → IsNew a → AreTaken bytes a b s t → b.pending.items ≡ unended bytes
-waiting_new a b s t bytes new p = p.waiting ∙ ap (λ waits. unended (waits ++ bytes)) new.pending
-
-pub Ran-done : (a b : Moment) (end : Editor) (t : SinkSeen) (read : List ℕ) → IsNew a.session → IsEnd input_limit read a b
-    → AreAnswered (last_line b.session.pending.items) b.session.editor end b.sink t
-    → Ran Done read a.source b.source a.sink t
-unfolding Ends
-Ran-done a b end t read new p q =
-    let lines = taken_new a.session b.session a.sink b.sink read new p.taken in
-    let last : AreAnswered (last_line (unended read)) b.session.editor end b.sink t =
-    subst (λ (waits : List ℕ). AreAnswered (last_line waits) b.session.editor end b.sink t)
-    (waiting_new a.session b.session a.sink b.sink read new p.taken) q in
-    let sink = AreWritten-append a.sink b.sink t lines.written last.written lines.sink last.sink in
-    let written : List ℕ = lines.written ++ last.written in (
-      written,
-      record {
-        ends = record {
-          no_words = refl;
-          at_end = p.source.at_end;
-          short = p.within;
-          follows = (end, FollowsTo-append new_editor b.session.editor end (ended read) (last_line (unended read)) lines.written last.written lines.follows last.follows);
-          faultless = record { source = p.source.faults; sink = sink.faults };
-        };
-        consumes = p.source.consumes;
-        appends = sink.appends;
-        bounded = omega (arith, p.within);
-        reads = p.source.reads;
-        writes = IsCounted-within a.sink.writes t.writes (length written) (length written + 1) (omega arith) sink.writes;
-        complete = λ words faults short. inl refl;
-      },
-    )
-
-pub Ran-read_fault : (a b : Moment) (read : List ℕ) → IsNew a.session → IsBrokenOff input_limit read a b
-    → Ran ReadFault read a.source b.source a.sink b.sink
-unfolding Ends
-Ran-read_fault a b read new p =
-    let lines = taken_new a.session b.session a.sink b.sink read new p.taken in (
-      lines.written,
-      record {
-        ends = record {
-          no_words = refl;
-          short = p.within;
-          follows = (b.session.editor, lines.follows);
-          source = p.source.faults;
-          sink = lines.sink.faults;
-        };
-        consumes = p.source.consumes;
-        appends = lines.sink.appends;
-        bounded = omega (arith, p.within);
-        reads = p.source.reads;
-        writes = IsCounted-within a.sink.writes b.sink.writes (length lines.written) (length lines.written + 1) (omega arith) lines.sink.writes;
-        complete = λ words faults short. absurd (HasRisen-not a.source.faults b.source.faults p.source.faults faults.faultless.source faults.source);
-      },
-    )
-
-pub Ran-too_long : (a b : Moment) (read : List ℕ) → IsNew a.session → IsPastLimit input_limit read a b
-    → Ran InputTooLong read a.source b.source a.sink b.sink
-unfolding Ends
-Ran-too_long a b read new p =
-    let lines = taken_new a.session b.session a.sink b.sink (take input_limit read) new p.taken in (
-      lines.written,
-      record {
-        ends = record {
-          no_words = refl;
-          long = p.long;
-          follows = (b.session.editor, lines.follows);
-          faultless = record { source = p.source.faults; sink = lines.sink.faults };
-        };
-        consumes = p.source.consumes;
-        appends = lines.sink.appends;
-        bounded = omega (arith, p.long);
-        reads = IsCounted-within a.source.reads b.source.reads (length read) (length read + 1) (omega arith) p.source.reads;
-        writes = IsCounted-within a.sink.writes b.sink.writes (length lines.written) (length lines.written + 1) (omega arith) lines.sink.writes;
-        complete = λ words faults short. absurd (omega (arith, p.long));
-      },
-    )
-
-ran_unanswered : (why : Unanswered) (q r : SourceSeen) (s t : SinkSeen) (read : List ℕ) (lines : List (List ℕ))
-    → length read ≤ input_limit + 1 → Consumes q.left r.left read → r.faults ≡ q.faults → IsCounted q.reads r.reads (length read + 1)
-    → (lines ≡ ended read) ⊎ (IsAtEnd r.left × (lines ≡ lines_of read))
-    → AreUnanswered why lines new_editor s t → Ran (unanswered_status why) read q r s t
-unfolding Ends
-ran_unanswered unanswered.WriteFault q r s t read lines bounded consumes faults reads may p = (
-  p.written,
-  record {
-    ends = record { no_words = refl; lines = lines; may = may; front = p.front; source = faults; sink = p.sink.faults };
-    consumes = consumes;
-    appends = p.sink.appends;
-    bounded = bounded;
-    reads = reads;
-    writes = p.sink.writes;
-    complete = λ words none short. absurd (HasRisen-not s.faults t.faults p.sink.faults none.faultless.sink none.sink);
-  },
-)
-ran_unanswered unanswered.Memory q r s t read lines bounded consumes faults reads may p = (
-  p.written,
-  record {
-    ends = record { no_words = refl; lines = lines; may = may; front = p.front; faultless = record { source = faults; sink = p.sink.faults } };
-    consumes = consumes;
-    appends = p.sink.appends;
-    bounded = bounded;
-    reads = reads;
-    writes = IsCounted-within s.writes t.writes (length p.written) (length p.written + 1) (omega arith) p.sink.writes;
-    complete = λ words none short. inr refl;
-  },
-)
-
--- where a line that had ended is not answered
-pub Ran-unanswered : (why : Unanswered) (a b : Moment) (read : List ℕ) → IsNew a.session → IsUnanswered why input_limit read a b
-    → Ran (unanswered_status why) read a.source b.source a.sink b.sink
-Ran-unanswered why a b read new p =
-    let lines : AreUnanswered why (ended read) new_editor a.sink b.sink =
-    subst (λ (editor : Editor). AreUnanswered why (ended read) editor a.sink b.sink) new.editor
-    (subst (λ (waits : List ℕ). AreUnanswered why (ended (waits ++ read)) a.session.editor a.sink b.sink) new.pending p.unanswered) in
-    ran_unanswered why a.source b.source a.sink b.sink read (ended read) p.within p.source.consumes p.source.faults
-    (IsCounted-within a.source.reads b.source.reads (length read) (length read + 1) (omega arith) p.source.reads)
-    (inl refl) lines
-
--- where the last line is not answered
-pub Ran-last_unanswered : (why : Unanswered) (a b : Moment) (t : SinkSeen) (read : List ℕ) → IsNew a.session → IsEnd input_limit read a b
-    → AreUnanswered why (last_line b.session.pending.items) b.session.editor b.sink t
-    → Ran (unanswered_status why) read a.source b.source a.sink t
-Ran-last_unanswered why a b t read new p q =
-    let lines = taken_new a.session b.session a.sink b.sink read new p.taken in
-    let last : AreUnanswered why (last_line (unended read)) b.session.editor b.sink t =
-    subst (λ (waits : List ℕ). AreUnanswered why (last_line waits) b.session.editor b.sink t)
-    (waiting_new a.session b.session a.sink b.sink read new p.taken) q in
-    ran_unanswered why a.source b.source a.sink t read (lines_of read) (omega (arith, p.within)) p.source.consumes p.source.faults p.source.reads
-    (inr (p.source.at_end, refl))
-    (AreUnanswered-append why new_editor b.session.editor a.sink b.sink t (ended read) (last_line (unended read)) lines last)
-
--- where no more was read before the end
-pub HasRun-stopped : (why : Stop) (a b : Moment) → IsNew a.session → why ≢ stop.End → HasStopped why input_limit a b
-    → (read written : List ℕ) × IsRun (stop_status why) (wordless read written a.source b.source a.sink b.sink)
-HasRun-stopped stop.End a b new early p = absurd (early refl)
-HasRun-stopped stop.ReadFault a b new early p = let run = Ran-read_fault a b p.bytes new p.stops in (p.bytes, run.0, run.1)
-HasRun-stopped stop.WriteFault a b new early p = let run = Ran-unanswered unanswered.WriteFault a b p.bytes new p.stops in (p.bytes, run.0, run.1)
-HasRun-stopped stop.Memory a b new early p = let run = Ran-unanswered unanswered.Memory a b p.bytes new p.stops in (p.bytes, run.0, run.1)
-HasRun-stopped stop.TooLong a b new early p = let run = Ran-too_long a b p.bytes new p.stops in (p.bytes, run.0, run.1)
-
-pub IsUnended-new : (session : Session) → IsNew session → IsUnended session.pending.items
-IsUnended-new session new = subst IsUnended (sym new.pending) IsUnended-none
+pub IsUnended-new : (tells_view : Bool) (session : Session) → IsNew tells_view session → IsUnended session.pending.items
+IsUnended-new tells_view session new = subst IsUnended (sym new.pending) IsUnended-none
 
 -- the editor has numbers for a last line
-pub commits-end : (a b : Moment) (read : List ℕ) → IsNew a.session → IsEnd input_limit read a b → b.session.editor.commits < last_u32
-commits-end a b read new p =
+pub commits-end : (tells_view : Bool) (a b : Moment) (read : List ℕ) → IsNew tells_view a.session → IsEnd input_limit read a b → b.session.editor.commits < last_u32
+commits-end tells_view a b read new p =
     let waits = a.session.pending.items in
     omega (arith, length-ended-le (waits ++ read), length-append waits read, ap length new.pending, ap (λ (e : Editor). e.commits) new.editor, p.taken.answered.commits, p.within)
 
-pub HasRun-done : (a b : Moment) (end : Editor) (t : SinkSeen) → IsNew a.session → HasStopped stop.End input_limit a b
-    → AreAnswered (last_line b.session.pending.items) b.session.editor end b.sink t
-    → (read written : List ℕ) × IsRun Done (wordless read written a.source b.source a.sink t)
-HasRun-done a b end t new p q = let run = Ran-done a b end t p.bytes new p.stops q in (p.bytes, run.0, run.1)
+module _ (words : List (List ℕ)) (is_taken : are_taken words ≡ true) where
+  -- so it ended, whatever was written
+  abbrev pub Ran : Status → List ℕ → SourceSeen → SourceSeen → SinkSeen → SinkSeen → Type 0
+  Ran status read q r s t = (written : List ℕ) × IsRun status (worded words read written q r s t)
 
-pub HasRun-last_unanswered : (why : Unanswered) (a b : Moment) (t : SinkSeen) → IsNew a.session → HasStopped stop.End input_limit a b
-    → AreUnanswered why (last_line b.session.pending.items) b.session.editor b.sink t
-    → (read written : List ℕ) × IsRun (unanswered_status why) (wordless read written a.source b.source a.sink t)
-HasRun-last_unanswered why a b t new p q = let run = Ran-last_unanswered why a b t p.bytes new p.stops q in (p.bytes, run.0, run.1)
+  -- what is taken in a run from its begin
+  taken_new : (a b : Session) (s t : SinkSeen) (bytes : List ℕ) → IsNew (view_in words) a → AreTaken bytes a b s t → AreAnswered (ended bytes) (begun_with words) b.editor s t
+  taken_new a b s t bytes new p =
+      subst (λ (editor : Editor). AreAnswered (ended bytes) editor b.editor s t) new.editor
+      (subst (λ (waits : List ℕ). AreAnswered (ended (waits ++ bytes)) a.editor b.editor s t) new.pending p.answered)
+
+  waiting_new : (a b : Session) (s t : SinkSeen) (bytes : List ℕ) → IsNew (view_in words) a → AreTaken bytes a b s t → b.pending.items ≡ unended bytes
+  waiting_new a b s t bytes new p = p.waiting ∙ ap (λ waits. unended (waits ++ bytes)) new.pending
+
+  pub Ran-done : (a b : Moment) (end : Editor) (t : SinkSeen) (read : List ℕ) → IsNew (view_in words) a.session → IsEnd input_limit read a b
+      → AreAnswered (last_line b.session.pending.items) b.session.editor end b.sink t
+      → Ran Done read a.source b.source a.sink t
+  unfolding Ends
+  Ran-done a b end t read new p q =
+      let lines = taken_new a.session b.session a.sink b.sink read new p.taken in
+      let last : AreAnswered (last_line (unended read)) b.session.editor end b.sink t =
+      subst (λ (waits : List ℕ). AreAnswered (last_line waits) b.session.editor end b.sink t)
+      (waiting_new a.session b.session a.sink b.sink read new p.taken) q in
+      let sink = AreWritten-append a.sink b.sink t lines.written last.written lines.sink last.sink in
+      let written : List ℕ = lines.written ++ last.written in (
+        written,
+        record {
+          ends = record {
+            taken = is_taken;
+            at_end = p.source.at_end;
+            short = p.within;
+            follows = (end, FollowsTo-append (begun_with words) b.session.editor end (ended read) (last_line (unended read)) lines.written last.written lines.follows last.follows);
+            faultless = record { source = p.source.faults; sink = sink.faults };
+          };
+          consumes = p.source.consumes;
+          appends = sink.appends;
+          bounded = omega (arith, p.within);
+          reads = p.source.reads;
+          writes = IsCounted-within a.sink.writes t.writes (length written) (length written + 1) (omega arith) sink.writes;
+          complete = λ all faults short. inl refl;
+        },
+      )
+
+  pub Ran-read_fault : (a b : Moment) (read : List ℕ) → IsNew (view_in words) a.session → IsBrokenOff input_limit read a b
+      → Ran ReadFault read a.source b.source a.sink b.sink
+  unfolding Ends
+  Ran-read_fault a b read new p =
+      let lines = taken_new a.session b.session a.sink b.sink read new p.taken in (
+        lines.written,
+        record {
+          ends = record {
+            taken = is_taken;
+            short = p.within;
+            follows = (b.session.editor, lines.follows);
+            source = p.source.faults;
+            sink = lines.sink.faults;
+          };
+          consumes = p.source.consumes;
+          appends = lines.sink.appends;
+          bounded = omega (arith, p.within);
+          reads = p.source.reads;
+          writes = IsCounted-within a.sink.writes b.sink.writes (length lines.written) (length lines.written + 1) (omega arith) lines.sink.writes;
+          complete = λ all faults short. absurd (HasRisen-not a.source.faults b.source.faults p.source.faults faults.faultless.source faults.source);
+        },
+      )
+
+  pub Ran-too_long : (a b : Moment) (read : List ℕ) → IsNew (view_in words) a.session → IsPastLimit input_limit read a b
+      → Ran InputTooLong read a.source b.source a.sink b.sink
+  unfolding Ends
+  Ran-too_long a b read new p =
+      let lines = taken_new a.session b.session a.sink b.sink (take input_limit read) new p.taken in (
+        lines.written,
+        record {
+          ends = record {
+            taken = is_taken;
+            long = p.long;
+            follows = (b.session.editor, lines.follows);
+            faultless = record { source = p.source.faults; sink = lines.sink.faults };
+          };
+          consumes = p.source.consumes;
+          appends = lines.sink.appends;
+          bounded = omega (arith, p.long);
+          reads = IsCounted-within a.source.reads b.source.reads (length read) (length read + 1) (omega arith) p.source.reads;
+          writes = IsCounted-within a.sink.writes b.sink.writes (length lines.written) (length lines.written + 1) (omega arith) lines.sink.writes;
+          complete = λ all faults short. absurd (omega (arith, p.long));
+        },
+      )
+
+  ran_unanswered : (why : Unanswered) (q r : SourceSeen) (s t : SinkSeen) (read : List ℕ) (lines : List (List ℕ))
+      → length read ≤ input_limit + 1 → Consumes q.left r.left read → r.faults ≡ q.faults → IsCounted q.reads r.reads (length read + 1)
+      → (lines ≡ ended read) ⊎ (IsAtEnd r.left × (lines ≡ lines_of read))
+      → AreUnanswered why lines (begun_with words) s t → Ran (unanswered_status why) read q r s t
+  unfolding Ends
+  ran_unanswered unanswered.WriteFault q r s t read lines bounded consumes faults reads may p = (
+    p.written,
+    record {
+      ends = record { taken = is_taken; lines = lines; may = may; front = p.front; source = faults; sink = p.sink.faults };
+      consumes = consumes;
+      appends = p.sink.appends;
+      bounded = bounded;
+      reads = reads;
+      writes = p.sink.writes;
+      complete = λ all none short. absurd (HasRisen-not s.faults t.faults p.sink.faults none.faultless.sink none.sink);
+    },
+  )
+  ran_unanswered unanswered.Memory q r s t read lines bounded consumes faults reads may p = (
+    p.written,
+    record {
+      ends = record { taken = inl is_taken; lines = lines; may = may; front = p.front; faultless = record { source = faults; sink = p.sink.faults } };
+      consumes = consumes;
+      appends = p.sink.appends;
+      bounded = bounded;
+      reads = reads;
+      writes = IsCounted-within s.writes t.writes (length p.written) (length p.written + 1) (omega arith) p.sink.writes;
+      complete = λ all none short. inr refl;
+    },
+  )
+
+  -- where a line that had ended is not answered
+  pub Ran-unanswered : (why : Unanswered) (a b : Moment) (read : List ℕ) → IsNew (view_in words) a.session → IsUnanswered why input_limit read a b
+      → Ran (unanswered_status why) read a.source b.source a.sink b.sink
+  Ran-unanswered why a b read new p =
+      let lines : AreUnanswered why (ended read) (begun_with words) a.sink b.sink =
+      subst (λ (editor : Editor). AreUnanswered why (ended read) editor a.sink b.sink) new.editor
+      (subst (λ (waits : List ℕ). AreUnanswered why (ended (waits ++ read)) a.session.editor a.sink b.sink) new.pending p.unanswered) in
+      ran_unanswered why a.source b.source a.sink b.sink read (ended read) p.within p.source.consumes p.source.faults
+      (IsCounted-within a.source.reads b.source.reads (length read) (length read + 1) (omega arith) p.source.reads)
+      (inl refl) lines
+
+  -- where the last line is not answered
+  pub Ran-last_unanswered : (why : Unanswered) (a b : Moment) (t : SinkSeen) (read : List ℕ) → IsNew (view_in words) a.session → IsEnd input_limit read a b
+      → AreUnanswered why (last_line b.session.pending.items) b.session.editor b.sink t
+      → Ran (unanswered_status why) read a.source b.source a.sink t
+  Ran-last_unanswered why a b t read new p q =
+      let lines = taken_new a.session b.session a.sink b.sink read new p.taken in
+      let last : AreUnanswered why (last_line (unended read)) b.session.editor b.sink t =
+      subst (λ (waits : List ℕ). AreUnanswered why (last_line waits) b.session.editor b.sink t)
+      (waiting_new a.session b.session a.sink b.sink read new p.taken) q in
+      ran_unanswered why a.source b.source a.sink t read (lines_of read) (omega (arith, p.within)) p.source.consumes p.source.faults p.source.reads
+      (inr (p.source.at_end, refl))
+      (AreUnanswered-append why (begun_with words) b.session.editor a.sink b.sink t (ended read) (last_line (unended read)) lines last)
+
+  -- where no more was read before the end
+  pub HasRun-stopped : (why : Stop) (a b : Moment) → IsNew (view_in words) a.session → why ≢ stop.End → HasStopped why input_limit a b
+      → (read written : List ℕ) × IsRun (stop_status why) (worded words read written a.source b.source a.sink b.sink)
+  HasRun-stopped stop.End a b new early p = absurd (early refl)
+  HasRun-stopped stop.ReadFault a b new early p = let run = Ran-read_fault a b p.bytes new p.stops in (p.bytes, run.0, run.1)
+  HasRun-stopped stop.WriteFault a b new early p = let run = Ran-unanswered unanswered.WriteFault a b p.bytes new p.stops in (p.bytes, run.0, run.1)
+  HasRun-stopped stop.Memory a b new early p = let run = Ran-unanswered unanswered.Memory a b p.bytes new p.stops in (p.bytes, run.0, run.1)
+  HasRun-stopped stop.TooLong a b new early p = let run = Ran-too_long a b p.bytes new p.stops in (p.bytes, run.0, run.1)
+
+  pub HasRun-done : (a b : Moment) (end : Editor) (t : SinkSeen) → IsNew (view_in words) a.session → HasStopped stop.End input_limit a b
+      → AreAnswered (last_line b.session.pending.items) b.session.editor end b.sink t
+      → (read written : List ℕ) × IsRun Done (worded words read written a.source b.source a.sink t)
+  HasRun-done a b end t new p q = let run = Ran-done a b end t p.bytes new p.stops q in (p.bytes, run.0, run.1)
+
+  pub HasRun-last_unanswered : (why : Unanswered) (a b : Moment) (t : SinkSeen) → IsNew (view_in words) a.session → HasStopped stop.End input_limit a b
+      → AreUnanswered why (last_line b.session.pending.items) b.session.editor b.sink t
+      → (read written : List ℕ) × IsRun (unanswered_status why) (worded words read written a.source b.source a.sink t)
+  HasRun-last_unanswered why a b t new p q = let run = Ran-last_unanswered why a b t p.bytes new p.stops q in (p.bytes, run.0, run.1)

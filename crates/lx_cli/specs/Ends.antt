@@ -11,11 +11,11 @@ number_of_status WriteFault = 4
 number_of_status Memory = 5
 number_of_status InputTooLong = 6
 
--- what is said of a run that isn't done
+-- what is said of a run that isn't done: how the program is called, where its words weren't taken
 abbrev pub message_of : Status → Option (List ℕ)
 message_of Done = None
-message_of Usage = Some (codes "usage")
-message_of ReadFault = Some (codes "read fault")
-message_of WriteFault = Some (codes "write fault")
-message_of Memory = Some (codes "memory")
-message_of InputTooLong = Some (codes "input too long")
+message_of Usage = Some (codes "usage: lexical [--view] [--delay MS]")
+message_of ReadFault = Some (codes "lexical: read fault")
+message_of WriteFault = Some (codes "lexical: write fault")
+message_of Memory = Some (codes "lexical: memory")
+message_of InputTooLong = Some (codes "lexical: input too long")

@@ -1,11 +1,16 @@
 -- What a run of the program may be.
-use Rattle.std.specs.Prelude.{◌≡◌, ◌≢◌, ℕ, ◌+◌, ◌<◌, ◌≤◌, ◌⊎◌, List, [], ◌++◌, length, take, Option}
+use Rattle.std.specs.Prelude.{◌≡◌, ℕ, true, false, ◌+◌, ◌<◌, ◌≤◌, ◌⊎◌, List, [], ◌++◌, length, take, Option}
 use Rattle.lx_io.specs.Devices.{Consumes, Appends, IsAtEnd, HasRisen, IsCounted, last_count}
 use Rattle.lx_editor.specs.Editor.{Editor, new_editor}
 use Rattle.lx_editor.specs.Follows.{Follows}
+use Rattle.lx_words.specs.Words.{are_taken, view_in}
 use Rattle.lx_cli.specs.Lines.{ended, lines_of}
 use Rattle.lx_cli.specs.declared.status.Status.{Status}
 use Rattle.lx_cli.specs.declared.status.Status.TheVariants.{Done, Usage, ReadFault, WriteFault, Memory, InputTooLong}
+
+-- the editor that a run begins with: its replies to commits tell the view where the words ask for it
+abbrev pub begun_with : List (List ℕ) → Editor
+begun_with words = new_editor (view_in words)
 
 -- the most bytes that the input may have
 abbrev pub input_limit : ℕ
@@ -31,10 +36,10 @@ source_seen left faults reads source = record { left = left source; faults = fau
 abbrev pub sink_seen : {K : Type 0} → (K → Option (List ℕ)) → (K → ℕ) → (K → Option ℕ) → K → SinkSeen
 sink_seen taken faults writes sink = record { taken = taken sink; faults = faults sink; writes = writes sink }
 
--- A run as it is seen from outside: how many words there were, the bytes that it read and wrote, and the source and the
--- sink before it and after it.
+-- A run as it is seen from outside: the words, the bytes that it read and wrote, and the source and the sink before it and
+-- after it.
 pub record Seen : Type 0 where
-  pub words : ℕ
+  pub words : List (List ℕ)
   pub read : List ℕ
   pub written : List ℕ
   pub source_before : SourceSeen
@@ -64,49 +69,50 @@ MayAnswer run lines = (lines ≡ ended run.read) ⊎ (IsAtEnd run.source_after.l
 
 -- The input was read to its end, and all of its lines are answered.
 pub record IsDone (run : Seen) : Type 0 where
-  pub no_words : run.words ≡ 0
+  pub taken : are_taken run.words ≡ true
   pub at_end : IsAtEnd run.source_after.left
   pub short : length run.read ≤ input_limit
-  pub follows : Follows new_editor (lines_of run.read) run.written
+  pub follows : Follows (begun_with run.words) (lines_of run.read) run.written
   pub faultless : IsFaultless run
 
--- There were words, and nothing was read or written.
+-- The words aren't taken, and nothing was read or written.
 pub record IsUsage (run : Seen) : Type 0 where
-  pub words : run.words ≢ 0
+  pub refused : are_taken run.words ≡ false
   pub read : run.read ≡ []
   pub written : run.written ≡ []
   pub faultless : IsFaultless run
 
 -- A read failed, and the lines that had ended are answered.
 pub record IsReadFault (run : Seen) : Type 0 where
-  pub no_words : run.words ≡ 0
+  pub taken : are_taken run.words ≡ true
   pub short : length run.read ≤ input_limit
-  pub follows : Follows new_editor (ended run.read) run.written
+  pub follows : Follows (begun_with run.words) (ended run.read) run.written
   pub source : HasRisen run.source_before.faults run.source_after.faults
   pub sink : run.sink_after.faults ≡ run.sink_before.faults
 
 -- A write failed, and a front of the replies to lines that may be answered is written.
 pub record IsWriteFault (run : Seen) : Type 0 where
-  pub no_words : run.words ≡ 0
+  pub taken : are_taken run.words ≡ true
   pub lines : List (List ℕ)
   pub may : MayAnswer run lines
-  pub front : IsFrontOfReplies new_editor lines run.written
+  pub front : IsFrontOfReplies (begun_with run.words) lines run.written
   pub source : run.source_after.faults ≡ run.source_before.faults
   pub sink : HasRisen run.sink_before.faults run.sink_after.faults
 
--- Memory was wanting, and a front of the replies to lines that may be answered is written.
+-- Memory was wanting, and a front of the replies to lines that may be answered is written: nothing, where it was wanting
+-- before the words were read.
 pub record IsOutOfMemory (run : Seen) : Type 0 where
-  pub no_words : run.words ≡ 0
+  pub taken : (are_taken run.words ≡ true) ⊎ (run.written ≡ [])
   pub lines : List (List ℕ)
   pub may : MayAnswer run lines
-  pub front : IsFrontOfReplies new_editor lines run.written
+  pub front : IsFrontOfReplies (begun_with run.words) lines run.written
   pub faultless : IsFaultless run
 
 -- One byte more than the limit was read, and the lines that had ended before it are answered.
 pub record IsTooLong (run : Seen) : Type 0 where
-  pub no_words : run.words ≡ 0
+  pub taken : are_taken run.words ≡ true
   pub long : length run.read ≡ input_limit + 1
-  pub follows : Follows new_editor (ended (take input_limit run.read)) run.written
+  pub follows : Follows (begun_with run.words) (ended (take input_limit run.read)) run.written
   pub faultless : IsFaultless run
 
 -- what each status says of a run
@@ -126,7 +132,7 @@ pub record HasNoFault (run : Seen) : Type 0 where
 
 -- A run that ended so. What it read is gone from the source, and what it wrote went to the sink. It reads at most one
 -- byte more than the limit; each read but the last takes a byte or fails, and each write takes a byte or fails. Where
--- there are no words, no fault and not too many bytes, it is done, unless memory was wanting.
+-- the words are taken, and there are no fault and not too many bytes, it is done, unless memory was wanting.
 pub record IsRun (status : Status) (run : Seen) : Type 0 where
   pub ends : Ends status run
   pub consumes : Consumes run.source_before.left run.source_after.left run.read
@@ -134,4 +140,4 @@ pub record IsRun (status : Status) (run : Seen) : Type 0 where
   pub bounded : length run.read ≤ input_limit + 1
   pub reads : IsCounted run.source_before.reads run.source_after.reads (length run.read + 1)
   pub writes : IsCounted run.sink_before.writes run.sink_after.writes (length run.written + 1)
-  pub complete : run.words ≡ 0 → HasNoFault run → length run.read ≤ input_limit → (status ≡ Done) ⊎ (status ≡ Memory)
+  pub complete : are_taken run.words ≡ true → HasNoFault run → length run.read ≤ input_limit → (status ≡ Done) ⊎ (status ≡ Memory)

@@ -1,5 +1,5 @@
 -- What the parts of a run do.
-use Rattle.std.specs.Prelude.{◌≡◌, ℕ, ◌+◌, ◌<◌, ◌≤◌, ◌==◌, if◌then◌else◌, List, [], ◌∷◌, ◌++◌, length, take, Result, Ok, Err}
+use Rattle.std.specs.Prelude.{◌≡◌, ℕ, Bool, ◌+◌, ◌<◌, ◌≤◌, ◌==◌, if◌then◌else◌, List, [], ◌∷◌, ◌++◌, length, take, Result, Ok, Err}
 use Rattle.lx_io.specs.Devices.{Consumes, Appends, IsAtEnd, HasRisen, IsCounted}
 use Rattle.lx_io.specs.declared.fault.Failed.{Failed}
 use Rattle.lx_editor.specs.Editor.{Editor, new_editor}
@@ -75,9 +75,9 @@ ended_by byte waiting = if byte == 10 then waiting ∷ [] else []
 abbrev pub waiting_after : ℕ → List ℕ → List ℕ
 waiting_after byte waiting = if byte == 10 then [] else waiting ++ byte ∷ []
 
--- a session of a run that begins
-pub record IsNew (session : Session) : Type 0 where
-  pub editor : session.editor ≡ new_editor
+-- a session of a run that begins, in which replies to commits tell the view or not
+pub record IsNew (tells_view : Bool) (session : Session) : Type 0 where
+  pub editor : session.editor ≡ new_editor tells_view
   pub pending : session.pending.items ≡ []
 
 -- no line end is among these bytes

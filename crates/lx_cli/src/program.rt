@@ -1,4 +1,5 @@
-ghost use Rattle.std.specs.Prelude.{◌<◌, ℕ, List, length};
+ghost use Rattle.std.specs.Prelude.{◌≡◌, ◌<◌, true, ℕ, List, length, map, string_bytes};
+ghost use Rattle.lx_words.specs.Words.{are_taken, view_in};
 ghost use Rattle.lx_cli.specs.Run.{source_seen, sink_seen, IsRun};
 ghost use Rattle.lx_cli.specs.Steps.{IsNew};
 
@@ -6,10 +7,12 @@ use crate::reading::{Stop, new_buffer, read_lines};
 use crate::session::Session;
 use crate::status::Status;
 use lx_io::{Sink, Source};
+use lx_words::{Refused, options_of};
 use std::alloc::Global;
 
-/// Runs the program: answers each line of the source into the sink. The words are those of the command
-/// line behind the program's name, and any word is refused.
+/// Runs the program: answers each line of the source into the sink. The words are those of the command line behind the
+/// program's name: `--view`, under which replies to commits tell the view, and `--delay` with a number of milliseconds
+/// from 0 to 86,400,000. Other words are refused, and nothing is read or written.
 pub fn run<S: Source, K: Sink>(
     alloc: Global,
     words: &[String],
@@ -17,7 +20,7 @@ pub fn run<S: Source, K: Sink>(
     sink: &mut K,
 ) -> Status
     ensures { (read written : List ℕ) × IsRun result (record {
-      words = length words.now;
+      words = map string_bytes words.now;
       read = read;
       written = written;
       source_before = source_seen S.left S.faults S.reads source.old;
@@ -26,17 +29,22 @@ pub fn run<S: Source, K: Sink>(
       sink_after = sink_seen K.taken K.faults K.writes sink.new;
     }) }
 {
-    if words.is_empty() {
-        serve(alloc, source, sink)
-    } else {
-        Status::Usage
+    match options_of(alloc, words) {
+        Ok(options) => serve(alloc, options.view, source, sink),
+        Err(Refused::Usage) => Status::Usage,
+        Err(Refused::Memory) => Status::Memory,
     }
 }
 
 /// Answers the lines of the source, if there is memory to begin.
-fn serve<S: Source, K: Sink>(alloc: Global, source: &mut S, sink: &mut K) -> Status
-    ensures { (read written : List ℕ) × IsRun result (record {
-      words = 0;
+fn serve<S: Source, K: Sink>(
+    alloc: Global,
+    tells_view: bool,
+    source: &mut S,
+    sink: &mut K,
+) -> Status
+    ensures { (words : List (List ℕ)) → are_taken words ≡ true → tells_view ≡ view_in words → (read written : List ℕ) × IsRun result (record {
+      words = words;
       read = read;
       written = written;
       source_before = source_seen S.left S.faults S.reads source.old;
@@ -45,7 +53,7 @@ fn serve<S: Source, K: Sink>(alloc: Global, source: &mut S, sink: &mut K) -> Sta
       sink_after = sink_seen K.taken K.faults K.writes sink.new;
     }) }
 {
-    let mut session = match Session::new(alloc) {
+    let mut session = match Session::new(alloc, tells_view) {
         Ok(session) => session,
         Err(_) => return Status::Memory,
     };
@@ -63,10 +71,10 @@ fn answer_all<S: Source, K: Sink>(
     source: &mut S,
     sink: &mut K,
 ) -> Status
-    requires session { IsNew session.old }
+    requires session { IsNew session.old.editor.tells_view session.old }
     requires buffer { 0 < length buffer.old }
-    ensures { (read written : List ℕ) × IsRun result (record {
-      words = 0;
+    ensures { (words : List (List ℕ)) → are_taken words ≡ true → session.old.editor.tells_view ≡ view_in words → (read written : List ℕ) × IsRun result (record {
+      words = words;
       read = read;
       written = written;
       source_before = source_seen S.left S.faults S.reads source.old;

@@ -47,11 +47,11 @@ impl Session {
     ghost use Rattle.lx_cli.specs.Run.{sink_seen};
     ghost use Rattle.lx_cli.specs.Steps.{IsNew, LinesEnd, BytesEnd, IsUnended, ended_by, waiting_after};
 
-    /// A new editor, and no bytes.
-    pub(crate) fn new(alloc: Global) -> Result<Session, NoMemory>
-        ensures { IfOk result IsNew }
+    /// A new editor, whose replies to commits tell the view or not, and no bytes.
+    pub(crate) fn new(alloc: Global, tells_view: bool) -> Result<Session, NoMemory>
+        ensures { IfOk result (IsNew tells_view) }
     {
-        match Editor::new(alloc) {
+        match Editor::new(alloc, tells_view) {
             Ok(editor) => Ok(Session {
                 alloc,
                 editor,

@@ -1,9 +1,11 @@
+use lx_words::USAGE;
+
 /// How a run of the program ended.
 #[derive(Clone, Copy, Debug, PartialEq, Eq, Hash)]
 pub enum Status {
     /// The input was read to its end, and every reply was written.
     Done,
-    /// There were words on the command line. Nothing was read or written.
+    /// The words of the command line are none that the program takes. Nothing was read or written.
     Usage,
     /// A read failed. The lines that had ended before it are answered.
     ReadFault,
@@ -33,17 +35,17 @@ impl Status {
         }
     }
 
-    /// What is said of a run that isn't done.
+    /// What is said on standard error of a run that isn't done: where the words aren't taken, how the program is called.
     pub fn message(self) -> Option<&'static str>
         ensures { option_copied result ≡ message_of self }
     {
         match self {
             Status::Done => None,
-            Status::Usage => Some("usage"),
-            Status::ReadFault => Some("read fault"),
-            Status::WriteFault => Some("write fault"),
-            Status::Memory => Some("memory"),
-            Status::InputTooLong => Some("input too long"),
+            Status::Usage => Some(USAGE),
+            Status::ReadFault => Some("lexical: read fault"),
+            Status::WriteFault => Some("lexical: write fault"),
+            Status::Memory => Some("lexical: memory"),
+            Status::InputTooLong => Some("lexical: input too long"),
         }
     }
 }

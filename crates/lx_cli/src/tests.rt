@@ -73,13 +73,28 @@ fn reads_no_more_than_the_limit(rt: HostRuntime) -> Result<(), Fail> {
     Ok(())
 }
 
+/// Runs with these words over `TWICE`.
+fn ran_with(alloc: Global, words: &[&str]) -> Result<Outcome, NoMemory> {
+    let mut source = MemorySource::new(TWICE.to_vec(alloc)?, 4096, Vec::new(alloc));
+    let mut sink = MemorySink::new(alloc, 4096, 4096, Vec::new(alloc))?;
+    let mut texts = Vec::new(alloc);
+    for word in words {
+        texts.push(String::from_str(alloc, word)?)?;
+    }
+    let status = run(alloc, &texts, &mut source, &mut sink);
+    Ok(Outcome { status, sink })
+}
+
 #[test]
 fn refuses_words(rt: HostRuntime) -> Result<(), Fail> {
-    let mut source = MemorySource::new(TWICE.to_vec(rt.alloc())?, 1, Vec::new(rt.alloc()));
-    let mut sink = MemorySink::new(rt.alloc(), 4096, 4096, Vec::new(rt.alloc()))?;
-    let words = vec![in rt.alloc(); String::from_str(rt.alloc(), "word")?]?;
-    let status = run(rt.alloc(), &words, &mut source, &mut sink);
-    assert_eq!(rt; status.message(), Some("usage"));
-    assert_eq!(rt; sink.taken(), b"".as_slice());
+    let refused = ran_with(rt.alloc(), &["--delay", "86400001"])?;
+    assert_eq!(rt;
+        refused.status.message(),
+        Some("usage: lexical [--view] [--delay MS]")
+    );
+    assert_eq!(rt; refused.sink.taken(), b"".as_slice());
+    let taken = ran_with(rt.alloc(), &["--view", "--delay", "86400000"])?;
+    assert_eq!(rt; taken.status, Status::Done);
+    assert_eq!(rt; taken.sink.taken(), TWICE_REPLY);
     Ok(())
 }

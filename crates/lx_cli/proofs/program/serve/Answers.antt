@@ -1,22 +1,26 @@
-use Rattle.std.proofs.Common.{[]}
+use Rattle.std.proofs.Common.{[], ◌∙◌, ap}
+use Rattle.lx_editor.specs.Editor.{Editor}
 use Rattle.lx_cli.specs.Run.{source_seen, sink_seen}
 use Rattle.lx_cli.proofs.Runs.{IsRun-none}
 use Rattle.lx_cli.proofs.program.serve.Goals as goal
 
 pub returns-in-Err : goal.returns-in-Err
-returns-in-Err g c = (
+returns-in-Err g c words taken is = (
   [],
   [],
-  IsRun-none
+  IsRun-none words
       (source_seen g.S.Source.left g.S.Source.faults g.S.Source.reads c.args.source.now)
       (sink_seen g.K.Sink.taken g.K.Sink.faults g.K.Sink.writes c.args.sink.now),
 )
 
 pub returns-in-Err-new_buffer : goal.returns-in-Err-new_buffer
-returns-in-Err-new_buffer g c = (
+returns-in-Err-new_buffer g c words taken is = (
   [],
   [],
-  IsRun-none
+  IsRun-none words
       (source_seen g.S.Source.left g.S.Source.faults g.S.Source.reads c.args.source.now)
       (sink_seen g.K.Sink.taken g.K.Sink.faults g.K.Sink.writes c.args.sink.now),
 )
+
+pub returns : goal.returns
+returns g c words taken is = c.answer_all.ensures words taken (ap (λ (e : Editor). e.tells_view) c.in-Ok.ensures.editor ∙ is)
