@@ -1,14 +1,44 @@
 use anyhow::{Context, Result, bail};
+use std::alloc::Global;
 
 /// What begins a line that stands for another. No line of JSON begins so.
 const MARK: &[u8] = b"*** ";
 
-/// Adds a stored line to its session: the line itself, or the one for which it stands.
-pub(crate) fn add_line(session: &mut Vec<u8>, line: &[u8]) -> Result<()> {
-    match line.strip_prefix(MARK) {
-        Some(words) => add_made(session, str::from_utf8(words)?.trim_end()),
-        None => add(session, line),
+/// What is stored of a session: its words, and its input.
+#[derive(Drop)]
+pub(crate) struct Session {
+    pub(crate) words: Vec<String>,
+    pub(crate) input: Vec<u8>,
+}
+
+impl Session {
+    /// No words, and no input.
+    pub(crate) fn new(alloc: Global) -> Session {
+        Session {
+            words: Vec::new(alloc),
+            input: Vec::new(alloc),
+        }
     }
+
+    /// Adds a stored line: the line itself, or what it stands for.
+    pub(crate) fn add_line(&mut self, alloc: Global, line: &[u8]) -> Result<()> {
+        let Some(marked) = line.strip_prefix(MARK) else {
+            return add(&mut self.input, line);
+        };
+        let text = str::from_utf8(marked)?.trim_end();
+        match text.strip_prefix("words ") {
+            Some(words) => add_words(alloc, &mut self.words, words),
+            None => add_made(&mut self.input, text),
+        }
+    }
+}
+
+/// Adds words of the command line, between which spaces stand.
+fn add_words(alloc: Global, words: &mut Vec<String>, text: &str) -> Result<()> {
+    for word in text.split(' ') {
+        words.push(String::from_str(alloc, word)?)?;
+    }
+    Ok(())
 }
 
 fn add(session: &mut Vec<u8>, bytes: &[u8]) -> Result<()> {
@@ -28,6 +58,9 @@ fn add_made(session: &mut Vec<u8>, words: &str) -> Result<()> {
             add_times(session, count.parse()?, line)
         }
         Some(("letters", count)) => add_letters(session, count.parse()?),
+        Some(("deep", count)) => add_deep(session, count.parse()?),
+        Some(("wide", count)) => add_wide(session, count.parse()?),
+        Some(("long", count)) => add_long(session, count.parse()?),
         Some(("unended", line)) => add(session, line.as_bytes()),
         _ => bail!("a line that stands for no other: {words}"),
     }
@@ -57,8 +90,52 @@ fn add_steps(session: &mut Vec<u8>, count: u32, step: &str) -> Result<()> {
 /// Adds an update that appends a text of so many letters.
 fn add_letters(session: &mut Vec<u8>, count: u32) -> Result<()> {
     add(session, b"{\"update\":[{\"append\":\"")?;
-    for _ in 0..count {
-        add(session, b"x")?;
-    }
+    add_repeated(session, count, b"x")?;
     add(session, b"\"}]}\n")
+}
+
+/// Adds a text so many times.
+fn add_repeated(session: &mut Vec<u8>, count: u32, text: &[u8]) -> Result<()> {
+    for _ in 0..count {
+        add(session, text)?;
+    }
+    Ok(())
+}
+
+/// Adds a load of so many lists and items, each below the one before it.
+fn add_deep(session: &mut Vec<u8>, count: u32) -> Result<()> {
+    add(session, b"{\"load\":{\"root\":{\"children\":[")?;
+    for index in 0..count {
+        if index % 2 == 0 {
+            add(session, b"{\"type\":\"list\",\"children\":[")?;
+        } else {
+            add(session, b"{\"type\":\"listitem\",\"children\":[")?;
+        }
+    }
+    add_repeated(session, count, b"]}")?;
+    add(session, b"]}}}\n")
+}
+
+/// Adds a load of so many paragraphs.
+fn add_wide(session: &mut Vec<u8>, count: u32) -> Result<()> {
+    add(
+        session,
+        b"{\"load\":{\"root\":{\"children\":[{\"type\":\"paragraph\"}",
+    )?;
+    add_repeated(
+        session,
+        count.saturating_sub(1),
+        b",{\"type\":\"paragraph\"}",
+    )?;
+    add(session, b"]}}}\n")
+}
+
+/// Adds a load of one text of so many letters.
+fn add_long(session: &mut Vec<u8>, count: u32) -> Result<()> {
+    add(
+        session,
+        b"{\"load\":{\"root\":{\"children\":[{\"type\":\"paragraph\",\"children\":[{\"type\":\"text\",\"text\":\"",
+    )?;
+    add_repeated(session, count, b"x")?;
+    add(session, b"\"}]}]}}}\n")
 }

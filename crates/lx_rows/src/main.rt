@@ -6,7 +6,13 @@
 //! - `*** steps COUNT STEP`: an update with the step so many times,
 //! - `*** times COUNT LINE`: the line so many times,
 //! - `*** letters COUNT`: an update that appends a text of so many letters,
+//! - `*** deep COUNT`: a load of so many lists and items, each below the one before it,
+//! - `*** wide COUNT`: a load of so many paragraphs,
+//! - `*** long COUNT`: a load of one text of so many letters,
 //! - `*** unended LINE`: the line without its end, at the end of a session.
+//!
+//! A line `*** words WORD WORD` gives the session words of the command line. Where a session isn't done, what is said of
+//! that comes out behind its replies.
 //!
 //! Of a reply of more than 4,096 bytes the first 60 come out, and then its number of bytes.
 #![tactic(auto)]

@@ -1,6 +1,6 @@
-use crate::lines::add_line;
-use anyhow::{Result, bail};
-use lx_cli::{Status, run};
+use crate::lines::Session;
+use anyhow::Result;
+use lx_cli::run;
 use lx_io::{MemorySink, MemorySource};
 use std::alloc::Global;
 use std::io::Write;
@@ -22,31 +22,31 @@ const SHOWN: usize = 60;
 
 /// Runs each session of the input.
 pub(crate) fn replay<W: Write>(alloc: Global, input: &[u8], out: &mut W) -> Result<()> {
-    let mut session = Vec::new(alloc);
+    let mut session = Session::new(alloc);
     for line in input.split_inclusive(|byte| *byte == b'\n') {
         if line.starts_with(HEAD) {
             answer(alloc, session, out)?;
-            session = Vec::new(alloc);
+            session = Session::new(alloc);
             out.write_all(line)?;
         } else {
-            add_line(&mut session, line)?;
+            session.add_line(alloc, line)?;
         }
     }
     answer(alloc, session, out)
 }
 
-/// Runs one session, and writes its replies.
-fn answer<W: Write>(alloc: Global, session: Vec<u8>, out: &mut W) -> Result<()> {
-    let mut source = MemorySource::new(session, PIECE, Vec::new(alloc));
+/// Runs one session, and writes its replies, and how it ended where it isn't done.
+fn answer<W: Write>(alloc: Global, session: Session, out: &mut W) -> Result<()> {
+    let mut source = MemorySource::new(session.input, PIECE, Vec::new(alloc));
     let mut sink = MemorySink::new(alloc, ROOM, PIECE, Vec::new(alloc))?;
-    match run(alloc, &[], &mut source, &mut sink) {
-        Status::Done => {}
-        status => bail!("a session ended with {status:?}"),
-    }
+    let status = run(alloc, &session.words, &mut source, &mut sink);
     for reply in sink.taken().split_inclusive(|byte| *byte == b'\n') {
         write_reply(reply, out)?;
     }
-    Ok(())
+    match status.message() {
+        Some(message) => Ok(writeln!(out, "*** {message}")?),
+        None => Ok(()),
+    }
 }
 
 /// Writes a reply, or where it is long its front and its length.
