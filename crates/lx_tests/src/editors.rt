@@ -1,6 +1,8 @@
 //! Editors: what no reply tells.
 
-use lx_editor::{Editor, answer_line};
+use lx_editor::{Editor, Outcome, answer_line};
+use lx_node::NoMemory;
+use serde_json::Value;
 use std::alloc::Global;
 use std::test::Fail;
 
@@ -50,7 +52,7 @@ fn sizes(alloc: Global, editor: &Editor) -> Result<String, Fail> {
 #[test]
 fn a_set_of_one_text_reads_little(rt: HostRuntime) -> Result<(), Fail> {
     let alloc = rt.alloc();
-    let mut editor = Editor::new(alloc)?;
+    let mut editor = Editor::new(alloc, false)?;
     let text = sizes(alloc, &editor)?;
     assert_eq!(rt; text.as_str(), "1 nodes");
     let line = quotes_line(alloc)?;
@@ -81,7 +83,7 @@ fn appends_line(alloc: Global) -> Result<String, Fail> {
 #[test]
 fn a_change_in_a_long_list_reads_little(rt: HostRuntime) -> Result<(), Fail> {
     let alloc = rt.alloc();
-    let mut editor = Editor::new(alloc)?;
+    let mut editor = Editor::new(alloc, false)?;
     let line = appends_line(alloc)?;
     answer_line(alloc, &mut editor, line.as_bytes())?;
     let text = sizes(alloc, &editor)?;
@@ -94,5 +96,28 @@ fn a_change_in_a_long_list_reads_little(rt: HostRuntime) -> Result<(), Fail> {
     let text = sizes(alloc, &editor)?;
     assert_eq!(rt; text.as_str(), "2001 nodes, 1 operations");
     assert_eq!(rt; reads(&editor) <= 24, true);
+    Ok(())
+}
+
+/// The document of a paragraph with a text, as it is written.
+const DOCUMENT: &str =
+    r#"{"root":{"children":[{"children":[{"detail":0,"format":0,"mode":"normal","style":"","text":"a","type":"text","version":1}],"direction":null,"format":"","indent":0,"textFormat":0,"textStyle":"","type":"paragraph","version":1}],"direction":null,"format":"","indent":0,"type":"root","version":1}}"#;
+
+/// What an editor writes that has loaded this document.
+fn loaded(alloc: Global, text: &str) -> Result<String, NoMemory> {
+    let Ok(document) = Value::from_str(alloc, text) else {
+        return Err(NoMemory);
+    };
+    let mut editor = Editor::new(alloc, false)?;
+    match editor.load(alloc, &document)? {
+        Outcome::Committed { .. } => Ok(editor.export(alloc)?.to_string(alloc)?),
+        _ => Ok(String::new(alloc)),
+    }
+}
+
+#[test]
+fn a_document_that_is_loaded_is_exported(rt: HostRuntime) -> Result<(), Fail> {
+    let written = loaded(rt.alloc(), DOCUMENT)?;
+    assert_eq!(rt; written.as_str(), DOCUMENT);
     Ok(())
 }

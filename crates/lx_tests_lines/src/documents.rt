@@ -1,7 +1,7 @@
 //! The fields of nodes in documents.
 
 use lx_node::{Kind, ListType, NoMemory};
-use lx_script::{FieldFault, fields_of};
+use lx_script::{FieldFault, fields_of, kind_of_type, kind_told, node_value};
 use serde_json::Value;
 use std::alloc::Global;
 use std::test::Fail;
@@ -106,6 +106,35 @@ fn other_elements_are_plain(rt: HostRuntime) -> Result<(), Fail> {
             r#"Element(ElementFields { direction: Unset, format: Unset, indent: 0, text_format: 0, text_style: Txt { text: "" }, extra: Plain })"#,
         )?;
         assert!(rt; plain, "at {kind:?}");
+    }
+    Ok(())
+}
+
+/// Whether the object that is written for a node with the fields of this text gives back its kind and them.
+fn is_given_back(alloc: Global, kind: Kind, text: &str) -> Result<bool, NoMemory> {
+    let Ok(value) = Value::from_str(alloc, text) else {
+        return Err(NoMemory);
+    };
+    let Ok(fields) = fields_of(alloc, kind, &value) else {
+        return Ok(true);
+    };
+    if !fields.is_of_kind(kind) {
+        return Ok(false);
+    }
+    let object = node_value(alloc, kind, &fields, Vec::new(alloc))?;
+    let Some(base) = kind_of_type(kind.type_name()) else {
+        return Ok(false);
+    };
+    match fields_of(alloc, kind, &object) {
+        Ok(again) => Ok(fields.is_equal(&again) && kind_told(base, &object) == kind),
+        Err(_) => Ok(false),
+    }
+}
+
+#[test]
+fn objects_of_nodes_give_their_fields_back(rt: HostRuntime) -> Result<(), Fail> {
+    for (kind, text, _) in MEMBERS {
+        assert!(rt; is_given_back(rt.alloc(), kind, text)?, "at {text}");
     }
     Ok(())
 }

@@ -17,7 +17,7 @@ fn other_lines_are_refused(rt: HostRuntime) -> Result<(), Fail> {
         (r#"{"update":3}"#, "2"),
         (r#"{"update":[{"append":"a"}],"at":1}"#, "2"),
         (r#"{"show":"view","update":[]}"#, "2"),
-        (r#"{"show":"state"}"#, "2"),
+        (r#"{"show":"slice"}"#, "2"),
         (r#"{"clear":"history"}"#, "2"),
         (r#"[{"append":"a"}]"#, "2"),
         ("null", "2"),

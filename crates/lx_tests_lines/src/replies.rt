@@ -40,6 +40,7 @@ fn paragraph(alloc: Global, text: &str) -> Result<Reply, NoMemory> {
         number: 1,
         ops: Ops::of(ops),
         handled: None,
+        view: None,
     })
 }
 
@@ -332,9 +333,12 @@ fn is_told(alloc: Global, index: usize) -> Result<bool, NoMemory> {
         number: 3,
         ops,
         handled: Some(true),
+        view: Some(Txt::new(alloc, "<p>")?),
     };
     let bytes = write_reply(alloc, &reply)?;
-    let wanted = format!(in alloc; "{{\"commit\":3,\"handled\":true,\"ops\":[{told}]}}")?;
+    let wanted = format!(in alloc;
+        "{{\"commit\":3,\"handled\":true,\"ops\":[{told}],\"view\":\"<p>\"}}"
+    )?;
     Ok(bytes.as_slice() == wanted.as_bytes())
 }
 
