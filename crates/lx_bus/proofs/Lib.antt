@@ -1,3 +1,2 @@
 pub mod Looked
 pub mod Sounds
-pub mod Spelled

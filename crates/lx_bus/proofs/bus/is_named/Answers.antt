@@ -1,5 +1,5 @@
 use Rattle.std.specs.Str.{chars}
-use Rattle.lx_bus.proofs.Spelled.{same_by}
+use Rattle.lx_step.proofs.Words.{same_by}
 use Rattle.lx_bus.proofs.bus.is_named.Goals as goal
 
 pub returns : goal.returns
