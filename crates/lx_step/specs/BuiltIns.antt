@@ -1,11 +1,13 @@
 -- Commands that are built in, by their names.
-use Rattle.std.specs.Prelude.{ℕ, List, [], ◌∷◌, if◌then◌else◌, Option, None, Some}
+use Rattle.std.specs.Prelude.{ℕ, List, [], ◌∷◌, chars, codes, if◌then◌else◌, Option, None, Some}
 use Rattle.lx_node.specs.Same.{same_text}
 use Rattle.lx_step.specs.declared.built_in.BuiltIn.{BuiltIn}
+use Rattle.lx_step.specs.declared.built_in.BuiltIn.TheVariants.{Turn}
+use Rattle.lx_step.specs.declared.built_in.Turn.TheVariants.{Undo, Redo}
 
--- the table of their names, which is empty yet
+-- the table of their names
 abbrev pub built_ins : List (List ℕ × BuiltIn)
-built_ins = []
+built_ins = (chars (codes "undo"), Turn Undo) ∷ (chars (codes "redo"), Turn Redo) ∷ []
 
 abbrev pub built_in_among : List (List ℕ × BuiltIn) → List ℕ → Option BuiltIn
 built_in_among [] name = None

@@ -5,7 +5,7 @@ use Rattle.lx_node.specs.declared.kind.Kind.TheVariants.{Root}
 use Rattle.lx_node.specs.declared.fields.Fields.{Fields}
 use Rattle.lx_node.specs.OfKind.{IsOfKind}
 use Rattle.lx_step.specs.declared.line.Form.{Form}
-use Rattle.lx_step.specs.declared.line.Form.TheVariants.{Update, Dispatch, Rule, Listener as Listens, Load, Show}
+use Rattle.lx_step.specs.declared.line.Form.TheVariants.{Update, Dispatch, Rule, Listener as Listens, Load, Show, Clear}
 use Rattle.lx_step.specs.declared.step.Step.{Step}
 use Rattle.lx_step.specs.declared.step.Step.TheVariants.{New, Set, Later}
 use Rattle.lx_node.specs.Trees.{nil, tree}
@@ -49,3 +49,4 @@ IsSoundForm (Rule rule) = Unit {0}
 IsSoundForm (Listens listener) = IsSoundListener listener
 IsSoundForm (Load document) = Unit {0}
 IsSoundForm (Show shown) = Unit {0}
+IsSoundForm Clear = Unit {0}

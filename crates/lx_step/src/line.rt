@@ -39,22 +39,8 @@ pub enum Form {
     Load(Value),
     /// A question, which changes nothing.
     Show(Shown),
-}
-
-impl Line {
-    ghost use Rattle.std.specs.Prelude.{◌≡◌};
-    ghost use Rattle.lx_step.specs.Lines.{line_with};
-
-    /// A line of this form that tells no moment and has no tags.
-    pub fn of(form: Form) -> Line
-        ensures { result ≡ line_with form }
-    {
-        Line {
-            at: None,
-            tags: Tags::none(),
-            form,
-        }
-    }
+    /// The history forgets its entries.
+    Clear,
 }
 
 impl Tags {
@@ -82,4 +68,6 @@ pub enum Shown {
     View,
     /// What is selected.
     Selection,
+    /// How many entries the history has to go back to, and forth to.
+    History,
 }
