@@ -1,0 +1,112 @@
+-- The history machine: the states to go back to and forth to, the current one, and the last typing.
+use Rattle.std.specs.Prelude.{ℕ, ◌+◌, ◌≤◌, ◌≡◌, ◌&&◌, Bool, not, nat_lt, is_some, if◌then◌else◌, take, length, List, [], ◌∷◌, Option, None, Some}
+use Rattle.lx_marks.specs.Marks.{Marked}
+use Rattle.lx_step.specs.declared.built_in.Turn.{Turn}
+use Rattle.lx_step.specs.declared.built_in.Turn.TheVariants.{Undo, Redo}
+use Rattle.lx_step.specs.declared.line.Tags.{Tags}
+use Rattle.lx_draft.specs.declared.state.State.{State}
+use Rattle.lx_history.specs.declared.kinds.Action.{Action}
+use Rattle.lx_history.specs.declared.kinds.Action.TheVariants.{Push, Merge, Discard}
+use Rattle.lx_history.specs.declared.kinds.Change.{Change}
+use Rattle.lx_history.specs.declared.kinds.Change.TheVariants.{Other}
+use Rattle.lx_history.specs.Changes.{change_of, is_typing, is_touched_alone, is_nothing, is_unmarked}
+
+-- an entry is a state: a tree with a selection. Of both lists the newest entry comes first.
+pub record History : Type 0 where
+  pub delay : ℕ
+  pub undo : List State
+  pub redo : List State
+  pub current : Option State
+  pub last : Change
+  pub moment : ℕ
+
+abbrev pub new_history : ℕ → History
+new_history delay = record { delay = delay; undo = []; redo = []; current = None; last = Other; moment = 0 }
+
+abbrev pub most_entries : ℕ
+most_entries = 500
+
+-- ---- what a commit does: the first that fits
+
+-- from the tags, and from: there is a current entry; nothing is marked; nothing is selected; the typing goes on in time; one
+-- text was marked and is as before
+abbrev pub chosen : Tags → Bool → Bool → Bool → Bool → Bool → Action
+chosen tags has_current unmarked nothing goes_on touched =
+    if tags.historic then Discard else
+    (if tags.merge && not tags.push then Merge else
+    (if not has_current then Push else
+    (if unmarked then (if nothing then Discard else Merge) else
+    (if not tags.push && goes_on then Merge else
+    (if touched then Merge else Push)))))
+
+abbrev pub action_by : History → State → State → Marked → Tags → ℕ → Change → Action
+action_by h before after marks tags moment change =
+    chosen tags (is_some h.current) (is_unmarked marks) (is_nothing after.selection) (is_typing change h.last && nat_lt moment (h.moment + h.delay))
+    (is_touched_alone marks.leaves before.links after.links)
+
+unfoldable pub action_of : History → State → State → Marked → Tags → ℕ → Action
+action_of h before after marks tags moment = action_by h before after marks tags moment (change_of before after marks)
+
+-- ---- recording
+
+-- an entry more, in front of the others, if there is one
+abbrev pub with_entry : Option State → List State → List State
+with_entry None entries = entries
+with_entry (Some state) entries = state ∷ entries
+
+-- with the new state after the current one, which is the newest entry then, and the oldest of too many goes; in its place; or as before
+abbrev pub recorded : Action → State → History → History
+recorded Push after h = record h { undo = take most_entries (with_entry h.current h.undo); redo = []; current = Some after }
+recorded Merge after h = record h { current = Some after }
+recorded Discard after h = h
+
+abbrev pub change_told : Tags → Change → Change
+change_told tags change = if tags.historic then Other else change
+
+unfoldable pub noted : State → State → Marked → Tags → ℕ → History → History
+noted before after marks tags moment h =
+    record (recorded (action_of h before after marks tags moment) after h) { last = change_told tags (change_of before after marks); moment = moment }
+
+-- ---- going back and forth
+
+abbrev pub undone_to : ℕ → List State → History → Option History
+undone_to moment [] h = None
+undone_to moment (state ∷ entries) h =
+    Some (record h { undo = entries; redo = with_entry h.current h.redo; current = Some state; last = Other; moment = moment })
+
+unfoldable pub undone : ℕ → History → Option History
+undone moment h = undone_to moment h.undo h
+
+abbrev pub redone_to : ℕ → List State → History → Option History
+redone_to moment [] h = None
+redone_to moment (state ∷ entries) h =
+    Some (record h { undo = with_entry h.current h.undo; redo = entries; current = Some state; last = Other; moment = moment })
+
+unfoldable pub redone : ℕ → History → Option History
+redone moment h = redone_to moment h.redo h
+
+-- the entry to which the history goes next, if there is one
+abbrev pub first : List State → Option State
+first [] = None
+first (state ∷ entries) = Some state
+
+abbrev pub entry_of : Turn → History → Option State
+entry_of Undo h = first h.undo
+entry_of Redo h = first h.redo
+
+-- one way or the other
+abbrev pub turned : Turn → ℕ → History → Option History
+turned Undo moment h = undone moment h
+turned Redo moment h = redone moment h
+
+-- ---- forgetting
+
+abbrev pub cleared : History → History
+cleared h = record h { undo = []; redo = []; current = None; last = Other }
+
+-- ---- what holds of every history
+
+-- there are no more entries than may be, and none where nothing is current
+pub record IsHistory (h : History) : Type 0 where
+  pub few : length h.undo + length h.redo ≤ most_entries
+  pub none : h.current ≡ None → (h.undo ≡ []) × (h.redo ≡ [])

@@ -1,0 +1,23 @@
+-- What the fields of a history stand for.
+use Rattle.std.specs.Prelude.{◌-◌}
+use Rattle.std.specs.VecDeque.{deque_len, deque_capacity}
+use Rattle.lx_history.specs.declared.history.History.TheInside.{Inside}
+use Rattle.lx_history.specs.History.{History}
+use Rattle.lx_history.specs.Kept.{Kept}
+
+abbrev pub history_in : Inside → History
+history_in h = record {
+  delay = h.delay;
+  undo = h.undo.items;
+  redo = h.redo.items;
+  current = h.current;
+  last = h.last;
+  moment = h.moment;
+}
+
+abbrev pub kept_of : Inside → Kept
+kept_of h = record {
+  history = history_in h;
+  undo_room = deque_capacity h.undo - deque_len h.undo;
+  redo_room = deque_capacity h.redo - deque_len h.redo;
+}

@@ -1,0 +1,137 @@
+//! What commits do to a history.
+
+ghost use Rattle.std.specs.Prelude.{◌≡◌, ◌+◌, ◌&&◌, nat_lt, if◌then◌else◌};
+ghost use Rattle.lx_history.specs.Changes as changes;
+ghost use Rattle.lx_history.specs.Kept.{IsPrepared};
+ghost use Rattle.lx_history.specs.declared.kinds.Action.TheVariants.{Push, Merge, Discard};
+ghost use Rattle.lx_history.specs.History.{action_by, action_of, change_told, noted, recorded};
+
+use crate::change::{change_of, is_typing};
+use crate::history::{History, put_first};
+use crate::kinds::{Action, Change};
+use crate::texts::is_touched_alone;
+use lx_draft::State;
+use lx_marks::Marks;
+use lx_select::Selection;
+use lx_step::Tags;
+
+impl History {
+    /// What `note` would do to the entries.
+    #[tactic(auto, unfolding(crate::specs::History::action_of))]
+    pub fn action(
+        &self,
+        before: &State,
+        after: &State,
+        marks: &Marks,
+        tags: Tags,
+        moment: u64,
+    ) -> Action
+        ensures { result ≡ action_of self.now.history before.now after.now marks.now tags moment }
+    {
+        let change = change_of(before, after, marks);
+        self.action_by(before, after, marks, tags, moment, change)
+    }
+
+    /// Notes a commit that led from one state to the other at a moment, in milliseconds. The marks tell what the update
+    /// marked, and the tags what was asked for the commit. It takes no memory.
+    #[tactic(auto, unfolding(crate::specs::History::noted, crate::specs::History::action_of))]
+    pub fn note(&mut self, before: &State, after: State, marks: &Marks, tags: Tags, moment: u64)
+        requires { IsPrepared self.old }
+        ensures { self.new.history ≡ noted before.now after marks.now tags moment self.old.history }
+    {
+        let change = change_of(before, &after, marks);
+        let action = self.action_by(before, &after, marks, tags, moment, change);
+        self.record(action, after);
+        self.last = change_told(tags, change);
+        self.moment = moment;
+    }
+
+    /// Makes the new state current, and the one that was current the newest entry. Of 501 the oldest goes.
+    fn push(&mut self, after: State)
+        requires { IsPrepared self.old }
+        ensures { self.new.history ≡ recorded Push after self.old.history }
+    {
+        self.redo.clear();
+        put_first(&mut self.undo, self.current.take());
+        self.undo.truncate(500);
+        self.current = Some(after);
+    }
+
+    /// Does what a commit of the new state does to the entries.
+    fn record(&mut self, action: Action, after: State)
+        requires { IsPrepared self.old }
+        ensures { self.new.history ≡ recorded action after self.old.history }
+    {
+        match action {
+            Action::Push => self.push(after),
+            Action::Merge => self.current = Some(after),
+            Action::Discard => {}
+        }
+    }
+
+    /// What a commit of this kind of typing does to the entries: the first that fits.
+    fn action_by(
+        &self,
+        before: &State,
+        after: &State,
+        marks: &Marks,
+        tags: Tags,
+        moment: u64,
+        change: Change,
+    ) -> Action
+        ensures { result ≡ action_by self.now.history before.now after.now marks.now tags moment change }
+    {
+        if tags.historic {
+            Action::Discard
+        } else if tags.merge && !tags.push {
+            Action::Merge
+        } else if self.current.is_none() {
+            Action::Push
+        } else if is_unmarked(marks) {
+            unmarked_action(&after.selection)
+        } else if !tags.push && self.goes_on(change, moment) {
+            Action::Merge
+        } else if is_touched_alone(marks, &before.links, &after.links) {
+            Action::Merge
+        } else {
+            Action::Push
+        }
+    }
+
+    /// Whether the typing goes on that the last commit was.
+    fn goes_on(&self, change: Change, moment: u64) -> bool
+        ensures { result ≡ (changes.is_typing change self.now.history.last && nat_lt moment (self.now.history.moment + self.now.history.delay)) }
+    {
+        is_typing(change, self.last) && is_soon(moment, self.moment, self.delay)
+    }
+}
+
+/// What a commit does that changed the selection alone.
+fn unmarked_action(selection: &Selection) -> Action
+    ensures { result ≡ (if changes.is_nothing selection.now then Discard else Merge) }
+{
+    match selection {
+        Selection::Nothing => Action::Discard,
+        _ => Action::Merge,
+    }
+}
+
+fn is_unmarked(marks: &Marks) -> bool
+    ensures { result ≡ changes.is_unmarked marks.now }
+{
+    marks.is_empty()
+}
+
+/// Whether the moment is before the end of the delay after the last one.
+fn is_soon(moment: u64, last: u64, delay: u64) -> bool
+    ensures { result ≡ nat_lt moment (last + delay) }
+{
+    moment < last || moment - last < delay
+}
+
+/// What is kept of a kind of typing.
+fn change_told(tags: Tags, change: Change) -> Change
+    ensures { result ≡ change_told tags change }
+{
+    if tags.historic { Change::Other } else { change }
+}
