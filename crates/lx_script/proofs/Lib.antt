@@ -8,5 +8,6 @@ pub mod Reading
 pub mod Sorted
 pub mod Sound
 pub mod SoundSteps
+pub mod Tagged
 pub mod Writing
 pub mod Written

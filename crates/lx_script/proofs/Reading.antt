@@ -2,7 +2,7 @@
 use Rattle.std.proofs.Common.{◌≡◌, refl, subst, codes, ℕ, List, [], ◌∷◌, length, slice_get, string_bytes, arith, false, Some, None, option_map, ◌==◌, Result, Ok, Err, IsUtf8}
 use Rattle.serde_json.proofs.Views.{Entry, items_len-items_view, members_len-members_view}
 use Rattle.serde_json.specs.Data.{Data, null, boolean, number, string, array, object}
-use Rattle.serde_json.specs.Find.{as_array, as_object}
+use Rattle.serde_json.specs.Find.{get, as_array, as_object}
 use Rattle.serde_json.specs.Read.{read}
 use Rattle.serde_json.specs.View.{view, items_view, members_view}
 use Rattle.serde_json.specs.declared.value.Value.{Value}
@@ -11,16 +11,16 @@ use Rattle.lx_node.specs.declared.cause.Fault.{Fault}
 use Rattle.lx_node.specs.declared.cause.Fault.TheVariants.{Cause as Refused, Memory}
 use Rattle.lx_step.specs.declared.line.Line.{Line}
 use Rattle.lx_step.specs.declared.line.Form.{Form}
-use Rattle.lx_step.specs.declared.line.Form.TheVariants.{Update, Dispatch, Rule, Listener as Listens, Load, Show}
-use Rattle.lx_script.specs.Commands.{command_of}
+use Rattle.lx_step.specs.declared.line.Form.TheVariants.{Update, Dispatch, Rule, Listener as Listens, Load, Show, Clear}
+use Rattle.lx_script.specs.Commands.{command_in}
 use Rattle.lx_script.specs.Listeners.{listener_of}
 use Rattle.lx_script.specs.Rules.{rule_of}
 use Rattle.lx_script.specs.Steps.{script_in}
-use Rattle.lx_script.specs.Grammar.{IsJson, Asks, Makes, Reads, TellsLine, form_of, update_of, dispatch_form_of, rule_form_of, listener_form_of, show_of}
+use Rattle.lx_script.specs.Grammar.{IsJson, Asks, Makes, Reads, TellsLine, form_of, update_of, dispatch_form_of, rule_form_of, listener_form_of, show_of, clear_of, clearings}
 use Rattle.lx_script.specs.References.{has_three}
 use Rattle.lx_script.specs.Values.{has_only, named, only_member, present, required, word_in}
 use Rattle.lx_script.specs.Words.{questions}
-use Rattle.lx_script.proofs.Sound.{mapped, either, tested}
+use Rattle.lx_script.proofs.Sound.{mapped, either, chained, tested, named_holds}
 
 pub has_only-object : (names : List (List ℕ)) (d : Data) (es : List Entry) → Some (members_view es) ≡ as_object d → has_only names d ≡ (length es == present names d)
 has_only-object names (object ms) es is = let same : members_view es ≡ ms = cc in rw (← same, members_len-members_view es) refl
@@ -85,12 +85,19 @@ form_of-no_load d form is =
     let rules = required rule_of (codes "rule") d in
     let listens = required listener_of (codes "listener") d in
     let shows = required (named questions) (codes "show") d in
-    either IsNoLoad (update_of d) _ (tested IsNoLoad (has_only (codes "update" ∷ []) d) _ (mapped IsNoLoad (λ steps. Update steps) updates (λ made at. tt)))
-    (either IsNoLoad (dispatch_form_of d) _ (mapped IsNoLoad (λ command. Dispatch command) (command_of false d) (λ made at. tt))
-    (either IsNoLoad (rule_form_of d) _ (tested IsNoLoad (has_only (codes "rule" ∷ []) d) _ (mapped IsNoLoad (λ rule. Rule rule) rules (λ made at. tt)))
-    (either IsNoLoad (listener_form_of d) (show_of d)
-    (tested IsNoLoad (has_only (codes "listener" ∷ []) d) _ (mapped IsNoLoad (λ listener. Listens listener) listens (λ made at. tt)))
-    (tested IsNoLoad (has_only (codes "show" ∷ []) d) _ (mapped IsNoLoad (λ shown. Show shown) shows (λ made at. tt)))))) form is
+    let clears = required (named clearings) (codes "clear") d in
+    either IsNoLoad (update_of d) _
+    (tested IsNoLoad (has_only (codes "at" ∷ codes "tags" ∷ codes "update" ∷ []) d) _ (mapped IsNoLoad (λ steps. Update steps) updates (λ made at. tt)))
+    (either IsNoLoad (dispatch_form_of d) _
+    (tested IsNoLoad (has_only (codes "at" ∷ codes "tags" ∷ codes "dispatch" ∷ codes "payload" ∷ []) d) _
+    (mapped IsNoLoad (λ command. Dispatch command) (command_in false d) (λ made at. tt)))
+    (either IsNoLoad (rule_form_of d) _ (tested IsNoLoad (has_only (codes "at" ∷ codes "rule" ∷ []) d) _ (mapped IsNoLoad (λ rule. Rule rule) rules (λ made at. tt)))
+    (either IsNoLoad (listener_form_of d) _
+    (tested IsNoLoad (has_only (codes "at" ∷ codes "listener" ∷ []) d) _ (mapped IsNoLoad (λ listener. Listens listener) listens (λ made at. tt)))
+    (either IsNoLoad (show_of d) (clear_of d)
+    (tested IsNoLoad (has_only (codes "at" ∷ codes "show" ∷ []) d) _ (mapped IsNoLoad (λ shown. Show shown) shows (λ made at. tt)))
+    (tested IsNoLoad (has_only (codes "at" ∷ codes "clear" ∷ []) d) clears
+    (chained IsNoLoad (named clearings) (get (codes "clear") d) (λ e there. named_holds IsNoLoad clearings (tt, tt) e))))))) form is
 
 asks : (d : Data) (form : Form) → IsNoLoad form → form_of d ≡ Some form → Asks d form
 asks d (Update steps) other is = is
@@ -99,6 +106,7 @@ asks d (Rule rule) other is = is
 asks d (Listens listener) other is = is
 asks d (Load document) other is = absurd other
 asks d (Show shown) other is = is
+asks d Clear other is = is
 
 -- a value asks for the form that the grammar of forms gives
 pub asks_for : (d : Data) (form : Form) → form_of d ≡ Some form → Asks d form

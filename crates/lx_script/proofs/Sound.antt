@@ -1,9 +1,10 @@
 -- What the grammar makes is sound: new nodes have fields of their kinds, and members that are set are within their ranges.
-use Rattle.std.proofs.Common.{◌≡◌, refl, subst, ℕ, List, Bool, true, false, ◌&&◌, leb, IsTrue, if◌then◌else◌, Option, None, Some, option_map, option_and_then, is_some, Result, Ok}
+use Rattle.std.proofs.Common.{◌≡◌, refl, subst, ℕ, List, [], ◌∷◌, Bool, true, false, ◌&&◌, leb, IsTrue, if◌then◌else◌, Option, None, Some, option_map, option_and_then, is_some, Result, Ok}
 use Rattle.std.specs.Option.{option_or}
+use Rattle.std.specs.Str.{bytes_eq}
 use Rattle.std.proofs.lemmas.Option.{cond_some}
 use Rattle.serde_json.specs.Data.{Data, Members, no_members, member}
-use Rattle.serde_json.specs.Find.{as_bool, as_null}
+use Rattle.serde_json.specs.Find.{as_bool, as_null, as_str}
 use Rattle.lx_node.specs.declared.kind.Kind.{Kind}
 use Rattle.lx_node.specs.declared.kind.Kind.TheVariants as kind
 use Rattle.lx_node.specs.declared.fields.Extra.{Extra}
@@ -20,7 +21,7 @@ use Rattle.lx_script.specs.declared.words.Name.{Name}
 use Rattle.lx_script.specs.declared.words.Name.TheVariants as name
 use Rattle.lx_script.specs.Documents.{default_extra, default_fields, extra_with_value, item_with_value, with_given, given_by, name_in, or_bad, fields_with, document_fields, members_in}
 use Rattle.lx_script.specs.Members.{direction_of, settable}
-use Rattle.lx_script.specs.Values.{named, string_of, whole_of, number_within, or_null_of}
+use Rattle.lx_script.specs.Values.{word_in, named, string_of, whole_of, number_within, or_null_of}
 use Rattle.lx_script.specs.Words.{levels, list_types, aligns, modes}
 
 -- ---- what holds of all that an option can be
@@ -33,9 +34,33 @@ pub either : {B : Type 0} (P : B → Type 0) (o p : Option B) → ((b : B) → o
 either P None p holds_o holds_p b is = holds_p b is
 either P (Some a) p holds_o holds_p b is = holds_o b is
 
+pub chained : {A B : Type 0} (P : B → Type 0) (f : A → Option B) (o : Option A) → ((a : A) → o ≡ Some a → (b : B) → f a ≡ Some b → P b) → (b : B) → option_and_then f o ≡ Some b → P b
+chained P f None holds b is = absurd (cc)
+chained P f (Some a) holds b is = holds a refl b is
+
 pub tested : {B : Type 0} (P : B → Type 0) (test : Bool) (o : Option B) → ((b : B) → o ≡ Some b → P b) → (b : B) → (if test then o else None) ≡ Some b → P b
 tested P true o holds b is = holds b is
 tested P false o holds b is = absurd (cc)
+
+-- ---- tables of words
+
+abbrev pub EachRow : {A : Type 0} → (A → Type 0) → List (List ℕ × A) → Type 0
+EachRow P [] = Unit {0}
+EachRow P (row ∷ rows) = P row.1 × EachRow P rows
+
+-- what holds of each row of a table holds of what a word stands for, and of what a string stands for
+word_holds : {A : Type 0} (P : A → Type 0) (rows : List (List ℕ × A)) → EachRow P rows → (text : List ℕ) (a : A) → word_in rows text ≡ Some a → P a
+word_holds P [] each text a is = absurd (cc)
+word_holds {A = A} P (row ∷ rows) each text a is = here (bytes_eq row.0 text) each.0 (word_holds P rows each.1 text a) is
+  where
+    here : (test : Bool) → P row.1 → (word_in rows text ≡ Some a → P a) → (if test then Some row.1 else word_in rows text) ≡ Some a → P a
+    here true holds rest is = let same : row.1 ≡ a = cc in subst P same holds
+    here false holds rest is = rest is
+
+pub named_holds : {A : Type 0} (P : A → Type 0) (rows : List (List ℕ × A)) → EachRow P rows → (d : Data) (a : A) → named rows d ≡ Some a → P a
+named_holds P rows each d a is = chained P (word_in rows) (as_str d) (λ text at. word_holds P rows each text) a is
+
+-- ---- numbers within bounds
 
 within : (least most : ℕ) (o : Option ℕ) (n : ℕ) → option_and_then (λ n. if leb least n && leb n most then Some n else None) o ≡ Some n → IsTrue (leb least n && leb n most)
 within least most None n is = absurd (cc)

@@ -31,8 +31,8 @@ use Rattle.lx_script.specs.declared.words.Name.TheVariants as name
 use Rattle.lx_script.specs.declared.words.Verb.{Verb}
 use Rattle.lx_script.specs.declared.words.Verb.TheVariants as verb
 use Rattle.lx_script.specs.Documents.{document_fields, members_in}
-use Rattle.lx_script.specs.Commands.{built_in_name, command_with, command_of, payload_in}
-use Rattle.lx_script.specs.Grammar.{update_of, dispatch_form_of, rule_form_of, listener_form_of, show_of, form_of}
+use Rattle.lx_script.specs.Commands.{built_in_name, command_with, command_in, command_of, payload_in}
+use Rattle.lx_script.specs.Grammar.{update_of, dispatch_form_of, rule_form_of, listener_form_of, show_of, clear_of, clearings, form_of}
 use Rattle.lx_script.specs.Listeners.{listener_of, listener_with, when_in}
 use Rattle.lx_script.specs.Members.{patch_member, patch_members, patch_of}
 use Rattle.lx_script.specs.NewNodes.{or_default, kind_with, may_all_be_given, new_fields}
@@ -41,13 +41,9 @@ use Rattle.lx_script.specs.Rules.{rule_of}
 use Rattle.lx_script.specs.Steps.{fields_in, new_in, new_with, new_of, set_of, patch_from, one_node, two_nodes, step_for, step_of, queued_in, script_in, script_from, truth_in}
 use Rattle.lx_script.specs.Values.{word_in, named, string_of, whole_of, number_within, has_only, required, optional, first_member, list_of}
 use Rattle.lx_script.specs.Words.{kind_in, kind_named, levels, list_types, made_kinds, names, questions, verbs}
-use Rattle.lx_script.proofs.Sound.{mapped, either, tested, up_to, settable-ranged, document_fields_of_kind}
+use Rattle.lx_script.proofs.Sound.{EachRow, mapped, either, chained, tested, named_holds, up_to, settable-ranged, document_fields_of_kind}
 
--- ---- what holds of all that an option can be
-
-chained : {A B : Type 0} (P : B → Type 0) (f : A → Option B) (o : Option A) → ((a : A) → o ≡ Some a → (b : B) → f a ≡ Some b → P b) → (b : B) → option_and_then f o ≡ Some b → P b
-chained P f None holds b is = absurd (cc)
-chained P f (Some a) holds b is = holds a refl b is
+-- ---- what two options hold, and what a result holds
 
 zip_first : {A B : Type 0} (o : Option A) (p : Option B) (both : A × B) → option_zip o p ≡ Some both → o ≡ Some both.0
 zip_first None p both is = absurd (cc)
@@ -91,22 +87,6 @@ patch_ranged : (d : Data) (made : List Member) → patch_of d ≡ Some made → 
 patch_ranged d made is = chained (All IsInRange) patch_members (as_object d) (λ members at. members_ranged members) made is
 
 -- ---- kinds
-
-abbrev EachRow : {A : Type 0} → (A → Type 0) → List (List ℕ × A) → Type 0
-EachRow P [] = Unit {0}
-EachRow P (row ∷ rows) = P row.1 × EachRow P rows
-
--- what holds of each row of a table holds of what a word stands for
-word_holds : {A : Type 0} (P : A → Type 0) (rows : List (List ℕ × A)) → EachRow P rows → (text : List ℕ) (a : A) → word_in rows text ≡ Some a → P a
-word_holds P [] each text a is = absurd (cc)
-word_holds {A = A} P (row ∷ rows) each text a is = here (bytes_eq row.0 text) each.0 (word_holds P rows each.1 text a) is
-  where
-    here : (test : Bool) → P row.1 → (word_in rows text ≡ Some a → P a) → (if test then Some row.1 else word_in rows text) ≡ Some a → P a
-    here true holds rest is = let same : row.1 ≡ a = cc in subst P same holds
-    here false holds rest is = rest is
-
-named_holds : {A : Type 0} (P : A → Type 0) (rows : List (List ℕ × A)) → EachRow P rows → (d : Data) (a : A) → named rows d ≡ Some a → P a
-named_holds P rows each d a is = chained P (word_in rows) (as_str d) (λ text at. word_holds P rows each text) a is
 
 abbrev IsNewKind : Kind → Type 0
 IsNewKind of = IsTrue (is_possible of) × (of ≢ kind.Root)
@@ -299,17 +279,19 @@ member_script_sound inside name d made is = chained IsSoundScript (script_in ins
 update_of_sound : (d : Data) (form : Form) → update_of d ≡ Some form → IsSoundForm form
 update_of_sound d form is =
     let steps = required (script_in false) (codes "update") d in
-    tested IsSoundForm (has_only (codes "update" ∷ []) d) (option_map (λ steps. Update steps) steps)
+    tested IsSoundForm (has_only (codes "at" ∷ codes "tags" ∷ codes "update" ∷ []) d) (option_map (λ steps. Update steps) steps)
     (mapped IsSoundForm (λ steps. Update steps) steps (member_script_sound false (codes "update") d))
     form is
 
 dispatch_form_of_sound : (d : Data) (form : Form) → dispatch_form_of d ≡ Some form → IsSoundForm form
-dispatch_form_of_sound d form is = mapped IsSoundForm (λ command. Dispatch command) (command_of false d) (λ command at. tt) form is
+dispatch_form_of_sound d form is =
+    tested IsSoundForm (has_only (codes "at" ∷ codes "tags" ∷ codes "dispatch" ∷ codes "payload" ∷ []) d) (option_map (λ command. Dispatch command) (command_in false d))
+    (mapped IsSoundForm (λ command. Dispatch command) (command_in false d) (λ command at. tt)) form is
 
 rule_form_of_sound : (d : Data) (form : Form) → rule_form_of d ≡ Some form → IsSoundForm form
 rule_form_of_sound d form is =
     let rule = required rule_of (codes "rule") d in
-    tested IsSoundForm (has_only (codes "rule" ∷ []) d) (option_map (λ rule. Rule rule) rule) (mapped IsSoundForm (λ rule. Rule rule) rule (λ made at. tt)) form is
+    tested IsSoundForm (has_only (codes "at" ∷ codes "rule" ∷ []) d) (option_map (λ rule. Rule rule) rule) (mapped IsSoundForm (λ rule. Rule rule) rule (λ made at. tt)) form is
 
 priority_within : (d : Data) (priority : ℕ) → required (number_within 0 4) (codes "priority") d ≡ Some priority → priority ≤ 4
 priority_within d priority is =
@@ -337,7 +319,7 @@ listener_of_sound d l is =
 listener_form_of_sound : (d : Data) (form : Form) → listener_form_of d ≡ Some form → IsSoundForm form
 listener_form_of_sound d form is =
     let listener = required listener_of (codes "listener") d in
-    tested IsSoundForm (has_only (codes "listener" ∷ []) d) (option_map (λ listener. Listens listener) listener)
+    tested IsSoundForm (has_only (codes "at" ∷ codes "listener" ∷ []) d) (option_map (λ listener. Listens listener) listener)
     (mapped IsSoundForm (λ listener. Listens listener) listener
     (chained IsSoundListener listener_of (get (codes "listener") d) (λ e there. listener_of_sound e)))
     form is
@@ -345,7 +327,12 @@ listener_form_of_sound d form is =
 show_of_sound : (d : Data) (form : Form) → show_of d ≡ Some form → IsSoundForm form
 show_of_sound d form is =
     let shown = required (named questions) (codes "show") d in
-    tested IsSoundForm (has_only (codes "show" ∷ []) d) (option_map (λ shown. Show shown) shown) (mapped IsSoundForm (λ shown. Show shown) shown (λ made at. tt)) form is
+    tested IsSoundForm (has_only (codes "at" ∷ codes "show" ∷ []) d) (option_map (λ shown. Show shown) shown) (mapped IsSoundForm (λ shown. Show shown) shown (λ made at. tt)) form is
+
+clear_of_sound : (d : Data) (form : Form) → clear_of d ≡ Some form → IsSoundForm form
+clear_of_sound d form is =
+    tested IsSoundForm (has_only (codes "at" ∷ codes "clear" ∷ []) d) (required (named clearings) (codes "clear") d)
+    (chained IsSoundForm (named clearings) (get (codes "clear") d) (λ e there. named_holds IsSoundForm clearings (tt, tt) e)) form is
 
 -- what the grammar makes of a line is sound
 pub form_of_sound : (d : Data) (form : Form) → form_of d ≡ Some form → IsSoundForm form
@@ -353,4 +340,5 @@ form_of_sound d form is =
     either IsSoundForm (update_of d) _ (update_of_sound d)
     (either IsSoundForm (dispatch_form_of d) _ (dispatch_form_of_sound d)
     (either IsSoundForm (rule_form_of d) _ (rule_form_of_sound d)
-    (either IsSoundForm (listener_form_of d) (show_of d) (listener_form_of_sound d) (show_of_sound d)))) form is
+    (either IsSoundForm (listener_form_of d) _ (listener_form_of_sound d)
+    (either IsSoundForm (show_of d) (clear_of d) (show_of_sound d) (clear_of_sound d))))) form is

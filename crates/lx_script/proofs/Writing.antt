@@ -21,7 +21,7 @@ use Rattle.lx_select.specs.declared.selection.Selection.{Selection}
 use Rattle.lx_select.specs.declared.selection.Selection.TheVariants as selection
 use Rattle.lx_script.specs.Replies.{selection_data, attributes_onto, detail_of, lost_data, named_data, natural, op_data, or_null, reply_data, reply_text, state_data, state_text, text_data}
 use Rattle.lx_script.specs.declared.reply.Reply.{Reply}
-use Rattle.lx_script.specs.declared.reply.Reply.TheVariants.{Committed, Refused, Idle, Registered, View, Selection as Selected}
+use Rattle.lx_script.specs.declared.reply.Reply.TheVariants.{Committed, Refused, Idle, Registered, Cleared, View, Selection as Selected, History}
 
 neither : (a b : Bool) → (a || b) ≡ false → (a ≡ false) × (b ≡ false)
 neither true b is = cc
@@ -95,8 +95,10 @@ has_float-reply_data (Refused cause step) = rw (has_float-detail_of cause, has_f
 has_float-reply_data (Idle None) = refl
 has_float-reply_data (Idle (Some handled)) = refl
 has_float-reply_data (Registered n) = refl
+has_float-reply_data Cleared = refl
 has_float-reply_data (View html) = refl
 has_float-reply_data (Selected shown) = rw (has_float-selection_data shown) refl
+has_float-reply_data (History redo undo) = refl
 
 pub text_of_reply : (reply : Reply) (d : Data) (bytes : List ℕ) → d ≡ reply_data reply → (has_float d ≡ false → bytes ≡ compact_text d) → bytes ≡ reply_text reply
 unfolding reply_text

@@ -41,12 +41,14 @@ payload_in inside (Some d) = payload_of inside d
 abbrev pub command_with : List ℕ → Payload → Command
 command_with name sent = record { name = name; payload = sent }
 
+-- the command that the members `dispatch` and `payload` tell, of which the second may be missing
+abbrev pub command_in : Bool → Data → Option Command
+command_in inside d =
+    option_map (λ p. command_with p.0 p.1) (option_zip (required string_of (codes "dispatch") d) (payload_in inside (get (codes "payload") d)))
+
 -- {"dispatch":NAME,"payload"?:PAYLOAD}
 abbrev pub command_of : Bool → Data → Option Command
-command_of inside d =
-    if has_only (codes "dispatch" ∷ codes "payload" ∷ []) d then option_map (λ p. command_with p.0 p.1)
-    (option_zip (required string_of (codes "dispatch") d) (payload_in inside (get (codes "payload") d)))
-    else None
+command_of inside d = if has_only (codes "dispatch" ∷ codes "payload" ∷ []) d then command_in inside d else None
 
 -- a name, if it is that of a built-in command
 abbrev pub built_in_name : List ℕ → Option (List ℕ)

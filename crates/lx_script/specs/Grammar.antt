@@ -1,8 +1,9 @@
 -- What a line of bytes asks for: the grammar of lines, over the JSON value that the bytes are.
-use Rattle.std.specs.Prelude.{◌≡◌, ℕ, List, [], ◌∷◌, false, codes, IsUtf8, if◌then◌else◌, Option, None, Some, option_map, Result, Ok, Err}
+use Rattle.std.specs.Prelude.{◌≡◌, ◌⊎◌, ◌||◌, ℕ, Bool, List, [], ◌∷◌, false, codes, IsUtf8, if◌then◌else◌, Option, None, Some, option_map, Result, Ok, Err}
 use Rattle.std.specs.Option.{option_or}
+use Rattle.std.specs.Str.{bytes_eq}
 use Rattle.serde_json.specs.Data.{Data}
-use Rattle.serde_json.specs.Find.{get}
+use Rattle.serde_json.specs.Find.{get, as_str}
 use Rattle.serde_json.specs.Read.{read}
 use Rattle.serde_json.specs.View.{view}
 use Rattle.lx_node.specs.declared.cause.Cause.{Cause}
@@ -10,63 +11,109 @@ use Rattle.lx_node.specs.declared.cause.Cause.TheVariants.{BadLine, BadCommand}
 use Rattle.lx_node.specs.declared.cause.Fault.{Fault}
 use Rattle.lx_node.specs.declared.cause.Fault.TheVariants.{Cause as Refused, Memory}
 use Rattle.lx_step.specs.declared.line.Form.{Form}
-use Rattle.lx_step.specs.declared.line.Form.TheVariants.{Update, Dispatch, Rule, Listener as Listens, Load, Show}
+use Rattle.lx_step.specs.declared.line.Form.TheVariants.{Update, Dispatch, Rule, Listener as Listens, Load, Show, Clear}
 use Rattle.lx_step.specs.declared.line.Line.{Line}
-use Rattle.lx_step.specs.Lines.{line_with}
-use Rattle.lx_script.specs.Commands.{command_of}
+use Rattle.lx_step.specs.declared.line.Tags.{Tags}
+use Rattle.lx_step.specs.Lines.{untagged}
+use Rattle.lx_script.specs.Commands.{command_in}
 use Rattle.lx_script.specs.Listeners.{listener_of}
 use Rattle.lx_script.specs.Rules.{rule_of}
 use Rattle.lx_script.specs.Steps.{script_in}
-use Rattle.lx_script.specs.Values.{named, has_only, required}
+use Rattle.lx_script.specs.Values.{named, has_only, required, optional, number_within, list_of}
 use Rattle.lx_script.specs.Words.{questions}
 
 -- the bytes are this JSON value: UTF-8 that serde_json reads, which nests at most 127 deep
 abbrev pub IsJson : List ℕ → Data → Type 0
 IsJson bytes d = IsUtf8 bytes × (read bytes ≡ Some d)
 
+-- ---- how a line is recorded: any line may tell its moment, and an update, a dispatch and a load may have tags
+
+abbrev pub most_moment : ℕ
+most_moment = 9007199254740991
+
+-- "at"?:MOMENT
+abbrev pub moment_of : Data → Option (Option ℕ)
+moment_of d = optional (number_within 0 most_moment) (codes "at") d
+
+-- the word is one of these
+abbrev pub is_tagged : List ℕ → List (List ℕ) → Bool
+is_tagged word [] = false
+is_tagged word (tag ∷ tags) = bytes_eq tag word || is_tagged word tags
+
+-- what tags say: other words than these three say nothing
+abbrev pub tags_among : List (List ℕ) → Tags
+tags_among words =
+    record { historic = is_tagged (codes "historic") words; merge = is_tagged (codes "history-merge") words; push = is_tagged (codes "history-push") words }
+
+abbrev pub tags_in : Option (List (List ℕ)) → Tags
+tags_in None = untagged
+tags_in (Some words) = tags_among words
+
+-- "tags"?:[TAG..]
+abbrev pub tags_of : Data → Option Tags
+tags_of d = option_map tags_in (optional (list_of as_str) (codes "tags") d)
+
+-- ---- forms
+
 -- {"update":[STEP..]}
 abbrev pub update_of : Data → Option Form
-update_of d = if has_only (codes "update" ∷ []) d then option_map (λ steps. Update steps) (required (script_in false) (codes "update") d) else None
+update_of d =
+    if has_only (codes "at" ∷ codes "tags" ∷ codes "update" ∷ []) d then option_map (λ steps. Update steps) (required (script_in false) (codes "update") d) else None
 
 -- {"dispatch":NAME,"payload"?:PAYLOAD}
 abbrev pub dispatch_form_of : Data → Option Form
-dispatch_form_of d = option_map (λ command. Dispatch command) (command_of false d)
+dispatch_form_of d =
+    if has_only (codes "at" ∷ codes "tags" ∷ codes "dispatch" ∷ codes "payload" ∷ []) d then option_map (λ command. Dispatch command) (command_in false d) else None
 
 -- {"rule":RULE}
 abbrev pub rule_form_of : Data → Option Form
-rule_form_of d = if has_only (codes "rule" ∷ []) d then option_map (λ rule. Rule rule) (required rule_of (codes "rule") d) else None
+rule_form_of d = if has_only (codes "at" ∷ codes "rule" ∷ []) d then option_map (λ rule. Rule rule) (required rule_of (codes "rule") d) else None
 
 -- {"listener":LISTENER}
 abbrev pub listener_form_of : Data → Option Form
 listener_form_of d =
-    if has_only (codes "listener" ∷ []) d then option_map (λ listener. Listens listener) (required listener_of (codes "listener") d) else None
+    if has_only (codes "at" ∷ codes "listener" ∷ []) d then option_map (λ listener. Listens listener) (required listener_of (codes "listener") d) else None
 
--- {"show":"state"}, {"show":"view"} or {"show":"selection"}
+-- {"show":"state"}, {"show":"view"}, {"show":"selection"} or {"show":"history"}
 abbrev pub show_of : Data → Option Form
-show_of d = if has_only (codes "show" ∷ []) d then option_map (λ shown. Show shown) (required (named questions) (codes "show") d) else None
+show_of d = if has_only (codes "at" ∷ codes "show" ∷ []) d then option_map (λ shown. Show shown) (required (named questions) (codes "show") d) else None
 
--- an update, a dispatch, a rule, a listener or a question
+-- {"clear":"history"}
+abbrev pub clearings : List (List ℕ × Form)
+clearings = (codes "history", Clear) ∷ []
+
+abbrev pub clear_of : Data → Option Form
+clear_of d = if has_only (codes "at" ∷ codes "clear" ∷ []) d then required (named clearings) (codes "clear") d else None
+
+-- an update, a dispatch, a rule, a listener, a question, or what clears the history
 abbrev pub form_of : Data → Option Form
-form_of d = option_or (update_of d) (option_or (dispatch_form_of d) (option_or (rule_form_of d) (option_or (listener_form_of d) (show_of d))))
+form_of d =
+    option_or (update_of d)
+    (option_or (dispatch_form_of d) (option_or (rule_form_of d) (option_or (listener_form_of d) (option_or (show_of d) (clear_of d)))))
 
 -- {"load":DOCUMENT}, where any value is a document: it is read as it is loaded
 abbrev pub document_in : Data → Option Data
-document_in d = if has_only (codes "load" ∷ []) d then get (codes "load") d else None
+document_in d = if has_only (codes "at" ∷ codes "tags" ∷ codes "load" ∷ []) d then get (codes "load") d else None
 
 -- the value asks for this form: for a load by its document, and for any other by the grammar of that form
 abbrev pub Asks : Data → Form → Type 0
 Asks d (Load document) = document_in d ≡ Some (view document)
 Asks d form = form_of d ≡ Some form
 
--- the value asks for nothing
-pub record AsksNothing (d : Data) : Type 0 where
+-- the value is of no form
+pub record HasNoForm (d : Data) : Type 0 where
   pub no_form : form_of d ≡ None
   pub no_document : document_in d ≡ None
 
--- a line of a form that the value asks for, without a moment and without tags
+-- The value asks for nothing: it is of no form, or its moment is none, or its tags are none.
+abbrev pub AsksNothing : Data → Type 0
+AsksNothing d = HasNoForm d ⊎ ((moment_of d ≡ None) ⊎ (tags_of d ≡ None))
+
+-- a line of a form that the value asks for, with its moment and its tags
 pub record IsLineOf (d : Data) (line : Line) : Type 0 where
   pub asked : Asks d line.form
-  pub plain : line ≡ line_with line.form
+  pub moment : moment_of d ≡ Some line.at
+  pub tags : tags_of d ≡ Some line.tags
 
 -- Made of a value: the line that it asks for, a refusal as no command, or want of memory.
 abbrev pub Makes : Data → Result Line Fault → Type 0

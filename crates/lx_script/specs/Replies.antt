@@ -25,7 +25,7 @@ use Rattle.lx_host.specs.declared.op.Op.TheVariants.{Create, Place, Drop, Text, 
 use Rattle.lx_select.specs.declared.selection.Selection.{Selection}
 use Rattle.lx_select.specs.declared.selection.Selection.TheVariants as selection
 use Rattle.lx_script.specs.declared.reply.Reply.{Reply}
-use Rattle.lx_script.specs.declared.reply.Reply.TheVariants.{Committed, Refused, Idle, Registered, View, Selection as Selected}
+use Rattle.lx_script.specs.declared.reply.Reply.TheVariants.{Committed, Refused, Idle, Registered, Cleared, View, Selection as Selected, History}
 
 -- ---- parts of replies
 
@@ -206,6 +206,15 @@ idle_data handled = object (with_handled handled (member (codes "idle") (boolean
 abbrev pub registered_data : ℕ → Data
 registered_data n = object (member (codes "registered") (natural n) no_members)
 
+-- {"cleared":true}
+abbrev pub cleared_data : Data
+cleared_data = object (member (codes "cleared") (boolean true) no_members)
+
+-- {"history":{"redo":R,"undo":U}}
+abbrev pub history_data : ℕ → ℕ → Data
+history_data redo undo =
+    object (member (codes "history") (object (member (codes "redo") (natural redo) (member (codes "undo") (natural undo) no_members))) no_members)
+
 -- {"state":DOCUMENT}
 abbrev pub state_data : Data → Data
 state_data document = object (member (codes "state") document no_members)
@@ -223,8 +232,10 @@ reply_data (Committed commit ops handled html) = commit_data commit ops handled 
 reply_data (Refused cause step) = refusal_data cause step
 reply_data (Idle handled) = idle_data handled
 reply_data (Registered n) = registered_data n
+reply_data Cleared = cleared_data
 reply_data (View html) = view_data html
 reply_data (Selected selection) = shown_selection_data selection
+reply_data (History redo undo) = history_data redo undo
 
 unfoldable pub reply_text : Reply → List ℕ
 reply_text reply = compact_text (reply_data reply)

@@ -67,7 +67,9 @@ abbrev pub point_kinds : List (List ℕ × PointKind)
 point_kinds = (codes "text", point.Text) ∷ (codes "element", point.Element) ∷ []
 
 abbrev pub questions : List (List ℕ × Shown)
-questions = (codes "state", shown.State) ∷ (codes "view", shown.View) ∷ (codes "selection", shown.Selection) ∷ []
+questions =
+    (codes "state", shown.State) ∷ (codes "view", shown.View) ∷ (codes "selection", shown.Selection)
+    ∷ (codes "history", shown.History) ∷ []
 
 -- the members of nodes that documents and scripts name
 abbrev pub names : List (List ℕ × Name)

@@ -81,7 +81,23 @@ fn payload_in(alloc: Global, inside: bool, value: &Value) -> Result<Option<Paylo
     }
 }
 
-/// A command that is dispatched.
+/// The command that an object dispatches, whatever else it holds.
+pub(crate) fn command_in(
+    alloc: Global,
+    inside: bool,
+    value: &Value,
+) -> Result<Option<Command>, NoMemory>
+    ensures { IfOk result (λ made. made ≡ commands.command_in inside (view value.now)) }
+{
+    let name = member_text(alloc, "dispatch", value)?;
+    let payload = payload_in(alloc, inside, value)?;
+    match name.zip(payload) {
+        Some((name, payload)) => Ok(Some(Command { name, payload })),
+        None => Ok(None),
+    }
+}
+
+/// A command that is dispatched by an object that holds nothing else.
 pub(crate) fn command_of(
     alloc: Global,
     inside: bool,
@@ -92,12 +108,7 @@ pub(crate) fn command_of(
     if !has_only(&["dispatch", "payload"], value) {
         return Ok(None);
     }
-    let name = member_text(alloc, "dispatch", value)?;
-    let payload = payload_in(alloc, inside, value)?;
-    match name.zip(payload) {
-        Some((name, payload)) => Ok(Some(Command { name, payload })),
-        None => Ok(None),
-    }
+    command_in(alloc, inside, value)
 }
 
 /// The name of the built-in command that is done.

@@ -7,8 +7,9 @@ ghost use Rattle.lx_step.specs.Sound.{IsSoundForm};
 ghost use Rattle.lx_script.specs.Grammar.{TellsLine};
 ghost use Rattle.lx_script.specs.Grammar as grammar;
 
-use crate::commands::command_of;
+use crate::commands::command_in;
 use crate::listeners::listener_of;
+use crate::recording::{moment_of, tags_of};
 use crate::rules::rule_of;
 use crate::scripts::member_script;
 use crate::values::has_only;
@@ -22,6 +23,11 @@ use std::alloc::Global;
 /// `BadCommand` where the JSON is no command. A new node that a step of the line makes has fields of its kind,
 /// which isn't the root's, and the members that a step sets have values within their ranges: a step of the line itself,
 /// of a listener, or that another step queues. A listener's priority is from 0 to 4.
+///
+/// Any line may tell its moment as `at`, a whole number of milliseconds from 0 to 9,007,199,254,740,991. An update,
+/// a dispatch and a load may have `tags`, a list of strings: `historic`, `history-merge` and `history-push` say how the
+/// commit is recorded, and others say nothing. A line that has any member beside these and those of its form is refused
+/// as `BadCommand`.
 pub fn read_line(alloc: Global, bytes: &[u8]) -> Result<Line, Fault>
     ensures tells { TellsLine bytes.now result }
     ensures sound { IfOk result (λ line. IsSoundForm line.form) }
@@ -39,7 +45,7 @@ pub fn read_line(alloc: Global, bytes: &[u8]) -> Result<Line, Fault>
 fn update_of(alloc: Global, value: &Value) -> Result<Option<Form>, NoMemory>
     ensures { IfOk result (λ made. made ≡ grammar.update_of (view value.now)) }
 {
-    if !has_only(&["update"], value) {
+    if !has_only(&["at", "tags", "update"], value) {
         return Ok(None);
     }
     match member_script(alloc, false, "update", value)? {
@@ -52,7 +58,10 @@ fn update_of(alloc: Global, value: &Value) -> Result<Option<Form>, NoMemory>
 fn dispatch_form_of(alloc: Global, value: &Value) -> Result<Option<Form>, NoMemory>
     ensures { IfOk result (λ made. made ≡ grammar.dispatch_form_of (view value.now)) }
 {
-    match command_of(alloc, false, value)? {
+    if !has_only(&["at", "tags", "dispatch", "payload"], value) {
+        return Ok(None);
+    }
+    match command_in(alloc, false, value)? {
         Some(command) => Ok(Some(Form::Dispatch(command))),
         None => Ok(None),
     }
@@ -62,7 +71,7 @@ fn dispatch_form_of(alloc: Global, value: &Value) -> Result<Option<Form>, NoMemo
 fn rule_form_of(alloc: Global, value: &Value) -> Result<Option<Form>, NoMemory>
     ensures { IfOk result (λ made. made ≡ grammar.rule_form_of (view value.now)) }
 {
-    if !has_only(&["rule"], value) {
+    if !has_only(&["at", "rule"], value) {
         return Ok(None);
     }
     let Some(rule) = value.get("rule") else {
@@ -78,7 +87,7 @@ fn rule_form_of(alloc: Global, value: &Value) -> Result<Option<Form>, NoMemory>
 fn listener_form_of(alloc: Global, value: &Value) -> Result<Option<Form>, NoMemory>
     ensures { IfOk result (λ made. made ≡ grammar.listener_form_of (view value.now)) }
 {
-    if !has_only(&["listener"], value) {
+    if !has_only(&["at", "listener"], value) {
         return Ok(None);
     }
     let Some(listener) = value.get("listener") else {
@@ -94,12 +103,25 @@ fn listener_form_of(alloc: Global, value: &Value) -> Result<Option<Form>, NoMemo
 fn show_of(value: &Value) -> Option<Form>
     ensures { result ≡ grammar.show_of (view value.now) }
 {
-    if !has_only(&["show"], value) {
+    if !has_only(&["at", "show"], value) {
         return None;
     }
     match value.get("show").and_then(shown_of) {
         Some(shown) => Some(Form::Show(shown)),
         None => None,
+    }
+}
+
+/// What clears the history.
+fn clear_of(value: &Value) -> Option<Form>
+    ensures { result ≡ grammar.clear_of (view value.now) }
+{
+    if !has_only(&["at", "clear"], value) {
+        return None;
+    }
+    match value.get("clear").and_then(Value::as_str) {
+        Some("history") => Some(Form::Clear),
+        _ => None,
     }
 }
 
@@ -119,7 +141,10 @@ fn form_of(alloc: Global, value: &Value) -> Result<Option<Form>, NoMemory>
     if let Some(form) = listener_form_of(alloc, value)? {
         return Ok(Some(form));
     }
-    Ok(show_of(value))
+    if let Some(form) = show_of(value) {
+        return Ok(Some(form));
+    }
+    Ok(clear_of(value))
 }
 
 /// The member `load` of an object, which is taken out of it.
@@ -136,21 +161,32 @@ fn taken_load(value: Value) -> Option<Value>
 fn load_of(value: Value) -> Option<Value>
     ensures { option_map view result ≡ grammar.document_in (view value) }
 {
-    if !has_only(&["load"], &value) {
+    if !has_only(&["at", "tags", "load"], &value) {
         return None;
     }
     taken_load(value)
 }
 
-/// A line. A value that is none is refused as no command.
+/// A line. A value that is none is refused as no command. A load takes its document out of the value, so the moment and
+/// the tags are read before.
 fn line_of(alloc: Global, value: Value) -> Result<Line, Fault>
     ensures makes { grammar.Makes (view value) result }
     ensures sound { IfOk result (λ line. IsSoundForm line.form) }
 {
+    let Some(at) = moment_of(&value) else {
+        return Err(Fault::Cause(Cause::BadCommand));
+    };
+    let Some(tags) = tags_of(&value) else {
+        return Err(Fault::Cause(Cause::BadCommand));
+    };
     match form_of(alloc, &value) {
-        Ok(Some(form)) => Ok(Line::of(form)),
+        Ok(Some(form)) => Ok(Line { at, tags, form }),
         Ok(None) => match load_of(value) {
-            Some(document) => Ok(Line::of(Form::Load(document))),
+            Some(document) => Ok(Line {
+                at,
+                tags,
+                form: Form::Load(document),
+            }),
             None => Err(Fault::Cause(Cause::BadCommand)),
         },
         Err(_) => Err(Fault::Memory),

@@ -24,8 +24,15 @@ pub enum Reply {
     },
     /// The line registered a listener, and this is its number, from 1.
     Registered(u32),
+    /// The line made the history forget its entries.
+    Cleared,
     /// The HTML of the view, for a line that asked for it.
     View(Txt),
     /// The committed selection, for a line that asked for it.
     Selection(Selection),
+    /// How many entries the history has to go forth to, and to go back to, for a line that asked for it.
+    History {
+        redo: u32,
+        undo: u32,
+    },
 }

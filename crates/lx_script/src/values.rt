@@ -133,7 +133,7 @@ pub(crate) fn number_of(value: &Value) -> Option<u64>
 }
 
 /// A whole number within two bounds.
-fn number_within(least: u64, most: u64, value: &Value) -> Option<u64>
+pub(crate) fn number_within(least: u64, most: u64, value: &Value) -> Option<u64>
     ensures { result ≡ values.number_within least most (view value.now) }
 {
     match value.as_u64() {

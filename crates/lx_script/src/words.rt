@@ -226,6 +226,7 @@ pub(crate) fn shown_of(value: &Value) -> Option<Shown>
             ("state", Shown::State),
             ("view", Shown::View),
             ("selection", Shown::Selection),
+            ("history", Shown::History),
         ],
         value,
     )

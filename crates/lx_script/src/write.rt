@@ -3,7 +3,7 @@
 ghost use Rattle.std.specs.Prelude.{◌≡◌, false, IfOk};
 ghost use Rattle.serde_json.specs.View.{view};
 ghost use Rattle.serde_json.specs.Written.{has_float};
-ghost use Rattle.lx_script.specs.Replies.{reply_data, reply_text, commit_data, refusal_data, idle_data, registered_data, state_data, state_text, view_data, shown_selection_data};
+ghost use Rattle.lx_script.specs.Replies.{reply_data, reply_text, commit_data, refusal_data, idle_data, registered_data, cleared_data, history_data, state_data, state_text, view_data, shown_selection_data};
 
 use crate::causes::{cause_name, detail_value};
 use crate::ops::ops_value;
@@ -46,8 +46,10 @@ fn reply_value(alloc: Global, reply: &Reply) -> Result<Value, AllocError>
         Reply::Refused { cause, step } => refusal_value(alloc, cause, *step),
         Reply::Idle { handled } => idle_value(alloc, *handled),
         Reply::Registered(number) => registered_value(alloc, *number),
+        Reply::Cleared => cleared_value(alloc),
         Reply::View(html) => shown_view(alloc, html),
         Reply::Selection(selection) => shown_selection(alloc, selection),
+        Reply::History { redo, undo } => shown_history(alloc, *redo, *undo),
     }
 }
 
@@ -91,6 +93,12 @@ fn registered_value(alloc: Global, number: u32) -> Result<Value, AllocError>
     json!(in alloc; {"registered": number})
 }
 
+fn cleared_value(alloc: Global) -> Result<Value, AllocError>
+    ensures { IfOk result (λ v. view v ≡ cleared_data) }
+{
+    json!(in alloc; {"cleared": true})
+}
+
 fn refusal_value(alloc: Global, cause: &Cause, step: Option<u32>) -> Result<Value, AllocError>
     ensures { IfOk result (λ v. view v ≡ refusal_data cause.now step) }
 {
@@ -123,4 +131,10 @@ fn shown_selection(alloc: Global, selection: &Selection) -> Result<Value, AllocE
 {
     let selection = selection_value(alloc, selection)?;
     json!(in alloc; {"selection": selection})
+}
+
+fn shown_history(alloc: Global, redo: u32, undo: u32) -> Result<Value, AllocError>
+    ensures { IfOk result (λ v. view v ≡ history_data redo undo) }
+{
+    json!(in alloc; {"history": {"redo": redo, "undo": undo}})
 }
