@@ -5,6 +5,7 @@ pub mod Composed
 pub mod Counted
 pub mod Covered
 pub mod Emptied
+pub mod Ends
 pub mod Gathered
 pub mod Held
 pub mod Made

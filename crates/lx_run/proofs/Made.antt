@@ -1,10 +1,9 @@
--- A line's own steps that are left, and what holds of all that a line makes.
-use Rattle.std.proofs.Common.{◌≡◌, ◌∙◌, ◌+◌, ◌≤◌, ℕ, Bool, List, [], ◌∷◌, Some, Result, Ok, Err, refl, ap, sym, subst, arith}
+-- A line's own steps that are left, and what holds of all that they make.
+use Rattle.std.proofs.Common.{◌≡◌, ◌∙◌, ◌+◌, ◌≤◌, ℕ, List, [], ◌∷◌, Some, Result, Ok, Err, refl, ap, sym, subst, arith}
 use Rattle.lx_node.specs.Limits.{most_counts}
 use Rattle.lx_node.specs.declared.cause.Cause.{Cause}
 use Rattle.lx_node.specs.declared.cause.Fault.{Fault}
 use Rattle.lx_node.specs.declared.cause.Fault.TheVariants as fault
-use Rattle.lx_step.specs.declared.command.Command.{Command}
 use Rattle.lx_step.specs.declared.command.Payload.{Payload}
 use Rattle.lx_step.specs.declared.command.Payload.TheVariants.{Nothing}
 use Rattle.lx_step.specs.declared.listener.Listener.{Listener}
@@ -14,13 +13,13 @@ use Rattle.lx_draft.specs.Working.{Working}
 use Rattle.lx_draft.specs.Faults.{TellsStep}
 use Rattle.lx_run.specs.declared.refusal.Refusal.{Refusal}
 use Rattle.lx_run.specs.declared.refusal.Refusal.TheVariants as refusal
-use Rattle.lx_run.specs.Lines.{at_first, script_from, queue_run, steps_run, dispatch_begun, dispatch_ended, dispatch_run, drafted, answer_drafted, IsEmptied, IsAnswerEmptied}
+use Rattle.lx_run.specs.Lines.{at_first, script_from, queue_run, steps_run, drafted, IsEmptied}
 use Rattle.lx_run.specs.Refusals.{Refused, at_step, at_none, and_then, IsRefusal, TellsRefusal}
-use Rattle.lx_run.specs.Running.{Running, take_count, step_in, dispatched, most_nested, emptied}
+use Rattle.lx_run.specs.Running.{Running, step_in, dispatched, most_nested, emptied}
 use Rattle.lx_run.proofs.Covered.{IsReadyRunning, AreCoveredRunning, covered, covered_queue}
 use Rattle.lx_run.proofs.Emptied.{IsEnough, is_emptied}
 use Rattle.lx_run.proofs.Paced.{AnyRunning, IsPaced, paced}
-use Rattle.lx_run.proofs.Stays.{Makes, makes_on, makes_from, IsKept, step_keeps, dispatched_keeps, emptied_keeps}
+use Rattle.lx_run.proofs.Stays.{Makes, makes_on, IsKept, step_keeps, dispatched_keeps, emptied_keeps}
 
 -- ---- steps that are left
 
@@ -51,11 +50,11 @@ script_done at ls left m is = ap (λ steps. script_from at ls steps m) is
 
 -- ---- what stays
 
-makes_step : {A B : Type 0} (P : A → Type 0) (Q : B → Type 0) (index : ℕ) (first : Result A Cause) (next : A → Result B Refused) → Makes P first → ((a : A) → P a → Makes Q (next a)) → Makes Q (and_then (at_step index first) next)
+pub makes_step : {A B : Type 0} (P : A → Type 0) (Q : B → Type 0) (index : ℕ) (first : Result A Cause) (next : A → Result B Refused) → Makes P first → ((a : A) → P a → Makes Q (next a)) → Makes Q (and_then (at_step index first) next)
 makes_step P Q index (Ok a) next p each = each a p
 makes_step P Q index (Err cause) next p each = tt
 
-makes_and : {A B : Type 0} (P : A → Type 0) (Q : B → Type 0) (first : Result A Refused) (next : A → Result B Refused) → Makes P first → ((a : A) → P a → Makes Q (next a)) → Makes Q (and_then first next)
+pub makes_and : {A B : Type 0} (P : A → Type 0) (Q : B → Type 0) (first : Result A Refused) (next : A → Result B Refused) → Makes P first → ((a : A) → P a → Makes Q (next a)) → Makes Q (and_then first next)
 makes_and P Q (Ok a) next p each = each a p
 makes_and P Q (Err refused) next p each = tt
 
@@ -71,15 +70,9 @@ script_keeps D R kept at ls (s ∷ steps) m ready =
     (step_keeps D R kept (dispatched most_nested ls) (dispatched_keeps D R kept most_nested ls) Nothing s m ready)
     (λ n h. makes_on (R n) (R m) (script_from (at + 1) ls steps n) (script_keeps D R kept (at + 1) ls steps n (kept.ready m n h)) (λ o i. kept.on m n o h i))
 
-begun_keeps : (D : Running → Type 0) (R : Running → Running → Type 0) → IsKept D R → (ls : List Listener) (c : Command) (m : Running) → D m → Makes (λ r. R m r.0) (dispatch_begun ls c m)
-begun_keeps D R kept ls c m ready =
-    makes_from (λ r. R m r.0) (take_count m) (dispatched most_nested ls c.name c.payload) (λ n e.
-    let h : R m n = kept.counted m n ready e in
-    makes_on (λ r. R n r.0) (λ r. R m r.0) (dispatched most_nested ls c.name c.payload n) (dispatched_keeps D R kept most_nested ls c.name c.payload n (kept.ready m n h)) (λ r i. kept.on m n r.0 h i))
-
 -- ---- marks
 
-queue_covered : (ls : List Listener) (m n : Running) → AreCoveredRunning m n → Makes (AreCoveredRunning m) (queue_run ls n)
+pub queue_covered : (ls : List Listener) (m n : Running) → AreCoveredRunning m n → Makes (AreCoveredRunning m) (queue_run ls n)
 queue_covered ls m n c =
     makes_none (AreCoveredRunning m) (emptied most_counts ls n)
     (makes_on (AreCoveredRunning n) (AreCoveredRunning m) (emptied most_counts ls n) (emptied_keeps IsReadyRunning AreCoveredRunning covered covered_queue most_counts ls n (covered.ready m n c)) (λ o i. covered.on m n o c i))
@@ -90,55 +83,30 @@ steps_covered ls steps w ready =
     makes_and (AreCoveredRunning (at_first w)) (AreCoveredRunning (at_first w)) (script_from 0 ls steps (at_first w)) (queue_run ls)
     (script_keeps IsReadyRunning AreCoveredRunning covered 0 ls steps (at_first w) ready) (λ n c. queue_covered ls (at_first w) n c)
 
-dispatch_covered : (ls : List Listener) (c : Command) (w : Working) → IsReady w → Makes (λ r. AreCoveredRunning (at_first w) r.0) (dispatch_run ls c w)
-unfolding dispatch_run
-dispatch_covered ls c w ready =
-    makes_step (λ r. AreCoveredRunning (at_first w) r.0) (λ r. AreCoveredRunning (at_first w) r.0) 0 (dispatch_begun ls c (at_first w)) (dispatch_ended ls)
-    (begun_keeps IsReadyRunning AreCoveredRunning covered ls c (at_first w) ready)
-    (λ r h. makes_and (AreCoveredRunning (at_first w)) (λ r. AreCoveredRunning (at_first w) r.0) (queue_run ls r.0) (λ m. Ok (m, r.1)) (queue_covered ls (at_first w) r.0 h) (λ m i. i))
-
 drafted_so : (P : Working → Type 0) (r : Result Running Refused) (left : Working) → Makes (λ m. P m.script.draft) r → drafted r ≡ Ok left → P left
 drafted_so P (Ok m) left p e = let is : m.script.draft ≡ left = cc in subst P is p
 drafted_so P (Err refused) left p e = absurd (cc)
 
-answer_so : (P : Working → Type 0) (r : Result (Running × Bool) Refused) (left : Working × Bool) → Makes (λ a. P a.0.script.draft) r → answer_drafted r ≡ Ok left → P left.0
-answer_so P (Ok a) left p e = let is : (a.0.script.draft, a.1) ≡ left = cc in subst (λ (x : Working × Bool). P x.0) is p
-answer_so P (Err refused) left p e = absurd (cc)
-
 pub steps_told : (ls : List Listener) (steps : List Step) (w left : Working) → drafted (steps_run ls steps w) ≡ Ok left → IsReady w → AreCovered w left
 steps_told ls steps w left e ready = drafted_so (AreCovered w) (steps_run ls steps w) left (steps_covered ls steps w ready) e
-
-pub dispatch_told : (ls : List Listener) (c : Command) (w : Working) (left : Working × Bool) → answer_drafted (dispatch_run ls c w) ≡ Ok left → IsReady w → AreCovered w left.0
-dispatch_told ls c w left e ready = answer_so (AreCovered w) (dispatch_run ls c w) left (dispatch_covered ls c w ready) e
 
 -- ---- nothing is queued any more
 
 enough : (most : ℕ) (w : Working) (m : Running) → w.counted ≤ most_counts → most ≡ most_counts → IsPaced (at_first w) m → IsEnough most m
 enough most w m few is p = record { most = p.most few; turns = omega (arith, p.queued, is) }
 
-queue_ends : (ls : List Listener) (w : Working) (m : Running) → w.counted ≤ most_counts → IsPaced (at_first w) m → Makes (λ n. n.queue ≡ []) (queue_run ls m)
+pub queue_ends : (ls : List Listener) (w : Working) (m : Running) → w.counted ≤ most_counts → IsPaced (at_first w) m → Makes (λ n. n.queue ≡ []) (queue_run ls m)
 queue_ends ls w m few p = makes_none (λ n. n.queue ≡ []) (emptied most_counts ls m) (is_emptied most_counts ls m (enough most_counts w m few refl p))
 
 emptied_told : (r : Result Running Refused) → Makes (λ n. n.queue ≡ []) r → IsEmptied r
 emptied_told (Ok m) p = p
 emptied_told (Err refused) p = tt
 
-answer_told : (r : Result (Running × Bool) Refused) → Makes (λ a. a.0.queue ≡ []) r → IsAnswerEmptied r
-answer_told (Ok a) p = p
-answer_told (Err refused) p = tt
-
 pub steps_end : (ls : List Listener) (steps : List Step) (w : Working) → w.counted ≤ most_counts → IsEmptied (steps_run ls steps w)
 unfolding steps_run
 steps_end ls steps w few =
     emptied_told _ (makes_and (IsPaced (at_first w)) (λ n. n.queue ≡ []) (script_from 0 ls steps (at_first w)) (queue_run ls)
     (script_keeps AnyRunning IsPaced paced 0 ls steps (at_first w) tt) (λ n p. queue_ends ls w n few p))
-
-pub dispatch_ends : (ls : List Listener) (c : Command) (w : Working) → w.counted ≤ most_counts → IsAnswerEmptied (dispatch_run ls c w)
-unfolding dispatch_run
-dispatch_ends ls c w few =
-    answer_told _ (makes_step (λ r. IsPaced (at_first w) r.0) (λ r. r.0.queue ≡ []) 0 (dispatch_begun ls c (at_first w)) (dispatch_ended ls)
-    (begun_keeps AnyRunning IsPaced paced ls c (at_first w) tt)
-    (λ r p. makes_and (λ n. n.queue ≡ []) (λ r. r.0.queue ≡ []) (queue_run ls r.0) (λ m. Ok (m, r.1)) (queue_ends ls w r.0 few p) (λ m i. i)))
 
 -- ---- a line's own step
 
@@ -155,12 +123,6 @@ unfolding steps_run
 steps_come_to ls steps w first m n is ran rest =
     ap (λ x. and_then (script_from 0 ls steps x) (queue_run ls)) (sym is) ∙ ap (λ r. and_then r (queue_run ls)) ran ∙ rest
 
-pub dispatch_comes_to : (ls : List Listener) (c : Command) (w : Working) (first m n : Running) (handled : Bool) → first ≡ at_first w → at_step 0 (dispatch_begun ls c first) ≡ Ok (m, handled) → queue_run ls m ≡ Ok n → dispatch_run ls c w ≡ Ok (n, handled)
-unfolding dispatch_run
-dispatch_comes_to ls c w first m n handled is ran rest =
-    ap (λ x. and_then (at_step 0 (dispatch_begun ls c x)) (dispatch_ended ls)) (sym is) ∙ ap (λ r. and_then r (dispatch_ended ls)) ran
-    ∙ ap (λ r. and_then r (λ o. Ok (o, handled))) rest
-
 -- what a part of a line tells of a refusal, the line tells, where it is refused as the part is
 pub refusal_of : {A B : Type 0} (r : Refusal) (part : Result A Refused) (whole : Result B Refused) → ((refused : Refused) → part ≡ Err refused → whole ≡ Err refused) → TellsRefusal r part → TellsRefusal r whole
 refusal_of (refusal.Cause cause index) part whole goes told = goes (cause, index) told
@@ -170,14 +132,3 @@ pub steps_refused_by : (ls : List Listener) (steps : List Step) (w : Working) (f
 unfolding steps_run
 steps_refused_by ls steps w first refused is ran =
     ap (λ x. and_then (script_from 0 ls steps x) (queue_run ls)) (sym is) ∙ ap (λ r. and_then r (queue_run ls)) ran
-
-pub dispatch_refused_by : (ls : List Listener) (c : Command) (w : Working) (first : Running) (refused : Refused) → first ≡ at_first w → at_step 0 (dispatch_begun ls c first) ≡ Err refused → dispatch_run ls c w ≡ Err refused
-unfolding dispatch_run
-dispatch_refused_by ls c w first refused is ran =
-    ap (λ x. and_then (at_step 0 (dispatch_begun ls c x)) (dispatch_ended ls)) (sym is) ∙ ap (λ r. and_then r (dispatch_ended ls)) ran
-
-pub dispatch_refused_behind : (ls : List Listener) (c : Command) (w : Working) (first m : Running) (handled : Bool) (refused : Refused) → first ≡ at_first w → at_step 0 (dispatch_begun ls c first) ≡ Ok (m, handled) → queue_run ls m ≡ Err refused → dispatch_run ls c w ≡ Err refused
-unfolding dispatch_run
-dispatch_refused_behind ls c w first m handled refused is ran rest =
-    ap (λ x. and_then (at_step 0 (dispatch_begun ls c x)) (dispatch_ended ls)) (sym is) ∙ ap (λ r. and_then r (dispatch_ended ls)) ran
-    ∙ ap (λ r. and_then r (λ o. Ok (o, handled))) rest

@@ -2,6 +2,7 @@
 use Rattle.std.proofs.Common.{◌≡◌, ◌∙◌, ◌+◌, ◌≤◌, ℕ, List, [], ◌∷◌, ◌++◌, length, length-append, Result, Ok, Err, refl, ap, sym, subst, arith}
 use Rattle.lx_node.specs.Limits.{most_counts}
 use Rattle.lx_node.specs.declared.cause.Cause.{Cause}
+use Rattle.lx_step.specs.BuiltIns.{built_in}
 use Rattle.lx_step.specs.declared.command.Payload.{Payload}
 use Rattle.lx_step.specs.declared.listener.Listener.{Listener}
 use Rattle.lx_step.specs.declared.step.Step.{Step}
@@ -14,7 +15,7 @@ use Rattle.lx_run.specs.Running.{Running, running, on_script, take_count, queued
 use Rattle.lx_run.proofs.Bounded.{KeepsMost, count_within, within_scripts}
 use Rattle.lx_run.proofs.Counted.{count-counted, counted_scripts}
 use Rattle.lx_run.proofs.Paths.{effect_path}
-use Rattle.lx_run.proofs.Stays.{Makes, makes_told, makes_from, makes_then, IsKept, dispatched_keeps}
+use Rattle.lx_run.proofs.Stays.{Makes, makes_told, makes_from, makes_then, IsKept, done_refused, dispatched_keeps}
 
 -- what is queued takes counts
 pub record IsPaced (m n : Running) : Type 0 where
@@ -103,7 +104,7 @@ rises_on : (m n o : Running) → Rises m n → IsPaced n o → Rises m o
 rises_on m n o begun p = omega (arith, begun, p.counted)
 
 effect_rises : (left : ℕ) (ls : List Listener) (sent : Payload) (s : Step) (m n : Running) → Rises m n → Makes (Rises m) (effect_in (dispatched left ls) sent s n)
-effect_rises left ls sent (step.Do command) m n begun = tt
+effect_rises left ls sent (step.Do c) m n begun = done_refused (Rises m) (built_in c.name) (payload_for sent c.payload) n
 effect_rises left ls sent (step.Dispatch c) m n begun =
     makes_then (λ r. IsPaced n r.0) (Rises m) (dispatched left ls c.name (payload_for sent c.payload) n) (λ r. Ok r.0)
     (dispatched_keeps AnyRunning IsPaced paced left ls c.name (payload_for sent c.payload) n tt) (λ r p. rises_on m n r.0 begun p)

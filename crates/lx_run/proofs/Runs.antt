@@ -1,18 +1,19 @@
 -- Steps and offers that are left, after those that were made.
-use Rattle.std.proofs.Common.{◌≡◌, ◌∙◌, ◌+◌, ◌-◌, ◌≤◌, ℕ, zero, suc, Bool, true, false, List, [], ◌∷◌, length, drop, Some, Result, Ok, Err, refl, ap, sym, arith}
+use Rattle.std.proofs.Common.{◌≡◌, ◌∙◌, ◌+◌, ◌-◌, ◌≤◌, ℕ, zero, suc, Bool, true, false, List, [], ◌∷◌, length, drop, None, Some, Result, Ok, Err, refl, ap, sym, arith}
 use Rattle.std.specs.List.{slice_get}
 use Rattle.lx_node.specs.declared.cause.Cause.{Cause}
 use Rattle.lx_node.specs.declared.cause.Cause.TheVariants.{DispatchDepth}
 use Rattle.lx_node.specs.declared.cause.Fault.{Fault}
 use Rattle.lx_node.specs.declared.cause.Fault.TheVariants as fault
 use Rattle.lx_step.specs.BuiltIns.{built_in}
+use Rattle.lx_step.specs.declared.built_in.BuiltIn.{BuiltIn}
 use Rattle.lx_step.specs.declared.command.Payload.{Payload}
 use Rattle.lx_step.specs.declared.listener.Listener.{Listener}
 use Rattle.lx_step.specs.declared.step.Step.{Step}
 use Rattle.lx_bus.specs.Offers.{above, behind}
 use Rattle.lx_draft.specs.Faults.{after, TellsStep}
 use Rattle.lx_edit.proofs.Turns.{left_at}
-use Rattle.lx_run.specs.Running.{Running, Dispatching, unless_handled, built_in_or, step_in, steps_in, offer, offered, dispatched}
+use Rattle.lx_run.specs.Running.{Running, Dispatching, take_count, done_by, unless_handled, built_in_or, step_in, steps_in, offer, offered, dispatched}
 
 -- ---- a list from a place in it
 
@@ -108,9 +109,31 @@ dispatched_refused left ls first name sent m cause more is answers = dispatched_
 
 -- none of the first has handled it, and there is no built-in command of the name
 pub dispatched_behind : (left : ℕ) (ls first last : List Listener) (name : List ℕ) (sent : Payload) (m n : Running) → (left ≡ 0 → ⊥) → first ≡ above name ls → last ≡ behind name ls
-    → offered (dispatched (left - 1) ls) sent first m ≡ Ok (n, false) → offered (dispatched (left - 1) ls) sent last n ≡ dispatched left ls name sent m
-dispatched_behind left ls first last name sent m n more is same answers =
-    ap (λ os. offered (dispatched (left - 1) ls) sent os n) same ∙ sym (dispatched_first left ls first name sent m (Ok (n, false)) more is answers)
+    → built_in name ≡ None → offered (dispatched (left - 1) ls) sent first m ≡ Ok (n, false) → offered (dispatched (left - 1) ls) sent last n ≡ dispatched left ls name sent m
+dispatched_behind left ls first last name sent m n more is same none answers =
+    ap (λ os. offered (dispatched (left - 1) ls) sent os n) same
+    ∙ sym (dispatched_first left ls first name sent m (Ok (n, false)) more is answers
+    ∙ ap (λ o. built_in_or o (dispatched (left - 1) ls) sent (behind name ls) n) none)
+
+-- none of the first has handled it, and there is a built-in command of the name
+dispatched_built_in : (left : ℕ) (ls first : List Listener) (name : List ℕ) (sent : Payload) (m n : Running) (command : BuiltIn) → (left ≡ 0 → ⊥) → first ≡ above name ls
+    → built_in name ≡ Some command → offered (dispatched (left - 1) ls) sent first m ≡ Ok (n, false)
+    → dispatched left ls name sent m ≡ after (take_count n) (λ o. after (done_by command sent o) (λ p. Ok (p, true)))
+dispatched_built_in left ls first name sent m n command more is known answers =
+    dispatched_first left ls first name sent m (Ok (n, false)) more is answers
+    ∙ ap (λ o. built_in_or o (dispatched (left - 1) ls) sent (behind name ls) n) known
+
+pub dispatched_uncounted : (left : ℕ) (ls first : List Listener) (name : List ℕ) (sent : Payload) (m n : Running) (command : BuiltIn) (cause : Cause) → (left ≡ 0 → ⊥) → first ≡ above name ls
+    → built_in name ≡ Some command → offered (dispatched (left - 1) ls) sent first m ≡ Ok (n, false) → take_count n ≡ Err cause → dispatched left ls name sent m ≡ Err cause
+dispatched_uncounted left ls first name sent m n command cause more is known answers counted =
+    dispatched_built_in left ls first name sent m n command more is known answers
+    ∙ ap (λ r. after r (λ o. after (done_by command sent o) (λ p. Ok (p, true)))) counted
+
+pub dispatched_undone : (left : ℕ) (ls first : List Listener) (name : List ℕ) (sent : Payload) (m n o : Running) (command : BuiltIn) (cause : Cause) → (left ≡ 0 → ⊥) → first ≡ above name ls
+    → built_in name ≡ Some command → offered (dispatched (left - 1) ls) sent first m ≡ Ok (n, false) → take_count n ≡ Ok o → done_by command sent o ≡ Err cause → dispatched left ls name sent m ≡ Err cause
+dispatched_undone left ls first name sent m n o command cause more is known answers counted undone =
+    dispatched_built_in left ls first name sent m n command more is known answers
+    ∙ ap (λ r. after r (λ o. after (done_by command sent o) (λ p. Ok (p, true)))) counted ∙ ap (λ r. after r (λ p. Ok (p, true))) undone
 
 pub dispatched_deepest : (left : ℕ) (ls : List Listener) (name : List ℕ) (sent : Payload) (m : Running) → left ≡ 0 → dispatched left ls name sent m ≡ Err DispatchDepth
 unfolding dispatched

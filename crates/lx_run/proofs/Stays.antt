@@ -2,9 +2,11 @@
 -- any depth, and by all that is queued.
 use Rattle.std.proofs.Common.{◌≡◌, ℕ, zero, suc, Bool, true, false, List, [], ◌∷◌, Option, None, Some, Result, Ok, Err, refl, if◌then◌else◌}
 use Rattle.lx_node.specs.declared.cause.Cause.{Cause}
+use Rattle.lx_node.specs.declared.cause.Cause.TheVariants.{BadCommand, HistoryInside}
 use Rattle.lx_step.specs.BuiltIns.{built_in}
 use Rattle.lx_step.specs.Spelled.{steps_of}
 use Rattle.lx_step.specs.declared.built_in.BuiltIn.{BuiltIn}
+use Rattle.lx_step.specs.declared.built_in.BuiltIn.TheVariants.{Turn}
 use Rattle.lx_step.specs.declared.command.Payload.{Payload}
 use Rattle.lx_step.specs.declared.listener.Listener.{Listener}
 use Rattle.lx_step.specs.declared.step.Step.{Step}
@@ -13,7 +15,7 @@ use Rattle.lx_bus.specs.Offers.{above, behind}
 use Rattle.lx_draft.specs.Faults.{after}
 use Rattle.lx_run.specs.Holding.{holds}
 use Rattle.lx_run.specs.Scripts.{effect_of}
-use Rattle.lx_run.specs.Running.{Running, Queued, Dispatching, running, on_script, take_count, queued, payload_for, effect_in, step_in, steps_in, answered, offer, offered, unless_handled, built_in_or, dispatched, most_nested, in_turn, emptied}
+use Rattle.lx_run.specs.Running.{Running, Queued, Dispatching, running, on_script, take_count, queued, is_nothing, done_by, done_if, payload_for, effect_in, step_in, steps_in, answered, offer, offered, unless_handled, built_in_or, dispatched, most_nested, in_turn, emptied}
 
 -- what is made, if it is, is so
 abbrev pub Makes : {A E : Type 0} → (A → Type 0) → Result A E → Type 0
@@ -56,10 +58,24 @@ unless : (P : Running × Bool → Type 0) (next : Running → Result (Running ×
 unless P next n true p q = p
 unless P next n false p q = q
 
+-- ---- built-in commands
+
+-- what is refused anyway makes nothing
+refused_either : {A : Type 0} (P : A → Type 0) (b : Bool) (cause other : Cause) → Makes P (if b then Err cause else Err other)
+refused_either P true cause other = tt
+refused_either P false cause other = tt
+
+built_in_refused : (P : Running → Type 0) (command : BuiltIn) (sent : Payload) (m : Running) → Makes P (done_by command sent m)
+built_in_refused P (Turn turn) sent m = refused_either P (is_nothing sent) HistoryInside BadCommand
+
+pub done_refused : (P : Running → Type 0) (o : Option BuiltIn) (sent : Payload) (m : Running) → Makes P (done_if o sent m)
+done_refused P None sent m = tt
+done_refused P (Some command) sent m = built_in_refused P command sent m
+
 -- ---- steps
 
 effect_keeps : (D : Running → Type 0) (R : Running → Running → Type 0) → IsKept D R → (d : Dispatching) → Keeps D R d → (sent : Payload) (s : Step) (m n : Running) → D m → take_count m ≡ Ok n → Makes (R m) (effect_in d sent s n)
-effect_keeps D R kept d keeps sent (step.Do command) m n ready e = tt
+effect_keeps D R kept d keeps sent (step.Do c) m n ready e = done_refused (R m) (built_in c.name) (payload_for sent c.payload) n
 effect_keeps D R kept d keeps sent (step.Dispatch c) m n ready e =
     let begun : R m n = kept.counted m n ready e in
     makes_then (λ r. R n r.0) (R m) (d c.name (payload_for sent c.payload) n) (λ r. Ok r.0) (keeps c.name (payload_for sent c.payload) n (kept.ready m n begun)) (λ r h. kept.on m n r.0 begun h)
@@ -92,7 +108,7 @@ unfolding offer
 offer_keeps D R kept d keeps sent l m ready =
     makes_from (λ r. R m r.0) (take_count m) (answered d sent l) (λ n e. answered_keeps D R kept d keeps sent l m n (kept.counted m n ready e))
 
-offered_keep : (D : Running → Type 0) (R : Running → Running → Type 0) → IsKept D R → (d : Dispatching) → Keeps D R d → (sent : Payload) (ls : List Listener) (m : Running) → D m → Makes (λ r. R m r.0) (offered d sent ls m)
+pub offered_keep : (D : Running → Type 0) (R : Running → Running → Type 0) → IsKept D R → (d : Dispatching) → Keeps D R d → (sent : Payload) (ls : List Listener) (m : Running) → D m → Makes (λ r. R m r.0) (offered d sent ls m)
 unfolding offered
 offered_keep D R kept d keeps sent [] m ready = kept.same m ready
 offered_keep D R kept d keeps sent (l ∷ ls) m ready =
@@ -104,7 +120,9 @@ offered_keep D R kept d keeps sent (l ∷ ls) m ready =
 
 behind_keeps : (D : Running → Type 0) (R : Running → Running → Type 0) → IsKept D R → (d : Dispatching) → Keeps D R d → (o : Option BuiltIn) (sent : Payload) (ls : List Listener) (m : Running) → D m → Makes (λ r. R m r.0) (built_in_or o d sent ls m)
 behind_keeps D R kept d keeps None sent ls m ready = offered_keep D R kept d keeps sent ls m ready
-behind_keeps D R kept d keeps (Some command) sent ls m ready = elim command [ ]
+behind_keeps D R kept d keeps (Some command) sent ls m ready =
+    makes_from (λ r. R m r.0) (take_count m) (λ n. after (done_by command sent n) (λ o. Ok (o, true))) (λ n e.
+    makes_then (λ o. R m o) (λ r. R m r.0) (done_by command sent n) (λ o. Ok (o, true)) (built_in_refused (λ o. R m o) command sent n) (λ o h. h))
 
 pub dispatched_keeps : (D : Running → Type 0) (R : Running → Running → Type 0) → IsKept D R → (left : ℕ) (ls : List Listener) → Keeps D R (dispatched left ls)
 unfolding dispatched

@@ -1,10 +1,11 @@
 -- What a line works on while its steps run, with commands that are dispatched and steps that are queued.
 use Rattle.std.specs.Prelude.{ℕ, zero, suc, ◌++◌, Bool, true, false, if◌then◌else◌, List, [], ◌∷◌, Option, None, Some, Result, Ok, Err}
 use Rattle.lx_node.specs.declared.cause.Cause.{Cause}
-use Rattle.lx_node.specs.declared.cause.Cause.TheVariants.{BadCommand, DispatchDepth}
+use Rattle.lx_node.specs.declared.cause.Cause.TheVariants.{BadCommand, DispatchDepth, HistoryInside}
 use Rattle.lx_step.specs.BuiltIns.{built_in}
 use Rattle.lx_step.specs.Spelled.{steps_of}
 use Rattle.lx_step.specs.declared.built_in.BuiltIn.{BuiltIn}
+use Rattle.lx_step.specs.declared.built_in.BuiltIn.TheVariants.{Turn}
 use Rattle.lx_step.specs.declared.command.Command.{Command}
 use Rattle.lx_step.specs.declared.command.Payload.{Payload}
 use Rattle.lx_step.specs.declared.command.Payload.TheVariants as payload
@@ -47,9 +48,14 @@ queued_first steps sent m = running m.script (record { steps = steps; sent = sen
 
 -- ---- steps
 
--- what a built-in command does with a payload
+-- nothing is sent with the command
+abbrev pub is_nothing : Payload → Bool
+is_nothing payload.Nothing = true
+is_nothing other = false
+
+-- What a built-in command does with a payload. The history takes none, and among steps it goes nowhere.
 abbrev pub done_by : BuiltIn → Payload → Running → Result Running Cause
-done_by command sent m = elim command [ ]
+done_by (Turn turn) sent m = if is_nothing sent then Err HistoryInside else Err BadCommand
 
 -- what the built-in command of a name does, if there is one
 abbrev pub done_if : Option BuiltIn → Payload → Running → Result Running Cause

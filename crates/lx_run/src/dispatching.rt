@@ -24,6 +24,24 @@ fn payload_for<'a>(sent: &'a Payload, payload: &'a Payload) -> &'a Payload
     }
 }
 
+/// Whether a payload is nothing.
+pub(crate) fn is_nothing(sent: &Payload) -> bool
+    ensures { result ≡ spec.is_nothing sent.now }
+{
+    matches!(sent, Payload::Nothing)
+}
+
+/// Does a built-in command behind its count. Those of the history take no payload, and are refused among steps.
+fn do_built_in(running: &mut Running<'_>, command: BuiltIn, sent: &Payload) -> Result<(), Fault>
+    ensures ok { OnOk result (spec.done_by command sent.now running.old ≡ Ok running.new) }
+    ensures err { IfErr result (λ e. TellsStep e (spec.done_by command sent.now running.old)) }
+{
+    match command {
+        BuiltIn::Turn(_) if is_nothing(sent) => Err(Fault::Cause(Cause::HistoryInside)),
+        BuiltIn::Turn(_) => Err(Fault::Cause(Cause::BadCommand)),
+    }
+}
+
 /// Runs steps one after another. Dispatches in them may nest `left` deep.
 #[cycle(dispatch)]
 pub(crate) fn run_all<'a>(
@@ -66,7 +84,9 @@ pub(crate) fn run_step<'a>(
     }
     match step {
         Step::Do(command) => match BuiltIn::named(command.name.as_str()) {
-            Some(built_in) => match built_in {},
+            Some(built_in) => {
+                do_built_in(running, built_in, payload_for(sent, &command.payload))
+            }
             None => Err(Fault::Cause(Cause::BadCommand)),
         },
         Step::Dispatch(command) => {
@@ -85,8 +105,8 @@ pub(crate) fn run_step<'a>(
 }
 
 /// Offers a command to the listeners of its name above editor, from the highest priority on. Where none of them has
-/// handled it, the built-in command of the name does, or those of priority editor are offered it. Dispatches may
-/// nest `left` deep with this one.
+/// handled it, the built-in command of the name takes a count and does, or those of priority editor are offered it.
+/// Dispatches may nest `left` deep with this one.
 #[cycle(dispatch)]
 pub(crate) fn dispatch<'a>(
     bus: &'a Bus,
@@ -107,14 +127,23 @@ pub(crate) fn dispatch<'a>(
         Err(fault) => return Err(fault),
     }
     match BuiltIn::named(name.as_str()) {
-        Some(command) => match command {},
+        Some(command) => {
+            match running.count() {
+                Ok(()) => {}
+                Err(cause) => return Err(Fault::Cause(cause)),
+            }
+            match do_built_in(running, command, payload) {
+                Ok(()) => Ok(true),
+                Err(fault) => Err(fault),
+            }
+        }
         None => offer_all(bus, running, bus.behind(name.as_str()), payload, left - 1),
     }
 }
 
 /// Offers a command to listeners one after another, until one has handled it, and answers whether one has.
 #[cycle(dispatch)]
-fn offer_all<'a>(
+pub(crate) fn offer_all<'a>(
     bus: &'a Bus,
     running: &mut Running<'a>,
     offers: Offers<'a>,

@@ -3,6 +3,7 @@
 
 mod append;
 mod dispatching;
+mod ending;
 mod holding;
 mod lines;
 mod names;
@@ -16,6 +17,8 @@ mod selecting;
 mod setting;
 mod splitting;
 mod stepping;
+mod turning;
 
+pub use ending::Ending;
 pub use lines::{run_dispatch, run_steps};
 pub use refusal::Refusal;

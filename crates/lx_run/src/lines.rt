@@ -4,15 +4,16 @@ ghost use Rattle.std.specs.Prelude.{◌≡◌, ◌≤◌, Ok, OnOk, IfOk, IfErr,
 ghost use Rattle.lx_step.specs.declared.command.Payload.TheVariants.{Nothing};
 ghost use Rattle.lx_step.specs.Sound.{IsSound};
 ghost use Rattle.lx_draft.specs.Covering.{IsReady, AreCovered};
-ghost use Rattle.lx_draft.specs.Faults.{TellsStep};
 ghost use Rattle.lx_node.specs.Limits.{most_counts};
-ghost use Rattle.lx_run.specs.Lines.{script_from, queue_run, steps_run, dispatch_begun, dispatch_run, drafted, answer_drafted, IsEmptied, IsAnswerEmptied};
+ghost use Rattle.lx_run.specs.Lines.{script_from, queue_run, steps_run, dispatch_begun, dispatch_run, drafted, answer_drafted, ended_with, IsEndingCovered, IsEmptied, IsAnswerEmptied};
 ghost use Rattle.lx_run.specs.Refusals.{at_step, IsRefusal, TellsRefusal};
 
-use crate::dispatching::{MOST_NESTED, dispatch, run_step};
+use crate::dispatching::{MOST_NESTED, run_step};
+use crate::ending::{Ended, Ending};
 use crate::queue::run_queue;
 use crate::refusal::Refusal;
 use crate::running::Running;
+use crate::turning::begin;
 use lx_bus::Bus;
 use lx_draft::Draft;
 use lx_node::Fault;
@@ -65,28 +66,39 @@ fn run_script<'a>(
     Ok(())
 }
 
-/// Dispatches a command, which takes a count, and answers whether it was handled. What is queued meanwhile runs
-/// last, first in, first out. A refusal tells step 0 where the dispatch was running, or none where what was queued
-/// was. The draft is dropped with it.
+/// Dispatches a command, which takes a count, and answers the draft that is left and whether the command was handled.
+/// What is queued meanwhile runs last, first in, first out.
+///
+/// `undo` and `redo` reach the history where no listener above priority editor has handled them: the command takes a
+/// second count, the answer tells which way the history goes, and the draft is dropped. It is refused at step 0 with
+/// `BadCommand` where it has a payload, and else with `HistoryInside` where an edit was taken on the way, steps are
+/// queued, or the selection isn't the one that the draft came with.
+///
+/// A refusal tells step 0 where the dispatch was running, or none where what was queued was. The draft is dropped
+/// with it.
 #[tactic(auto, unfolding(crate::specs::Lines::dispatch_run))]
 pub fn run_dispatch(
     alloc: Global,
     bus: &Bus,
     draft: Draft,
     command: &Command,
-) -> Result<(Draft, bool), Refusal>
-    ensures ok { IfOk result (λ left. answer_drafted (dispatch_run bus.now command.now draft) ≡ Ok (left.0, left.1)) }
-    ensures covered { IfOk result (λ left. IsReady draft → AreCovered draft left.0) }
+) -> Result<Ending, Refusal>
+    ensures ok { IfOk result (λ ending. answer_drafted (dispatch_run bus.now command.now draft) ≡ Ok ending) }
+    ensures covered { IfOk result (IsEndingCovered draft) }
     ensures emptied { OnOk result (IsAnswerEmptied (dispatch_run bus.now command.now draft)) }
     ensures err { IfErr result (λ e. TellsRefusal e (dispatch_run bus.now command.now draft)) }
 {
     let mut running = Running::new(alloc, draft);
     let handled = match run_command(bus, &mut running, command) {
-        Ok(handled) => handled,
+        Ok(Ended::Ran { handled }) => handled,
+        Ok(Ended::Turned(turn)) => return Ok(Ending::Turned(turn)),
         Err(refusal) => return Err(refusal),
     };
     match run_rest(bus, &mut running) {
-        Ok(()) => Ok((running.into_draft(), handled)),
+        Ok(()) => Ok(Ending::Left {
+            draft: running.into_draft(),
+            handled,
+        }),
         Err(refusal) => Err(refusal),
     }
 }
@@ -96,26 +108,14 @@ fn run_command<'a>(
     bus: &'a Bus,
     running: &mut Running<'a>,
     command: &'a Command,
-) -> Result<bool, Refusal>
-    ensures ok { IfOk result (λ handled. at_step 0 (dispatch_begun bus.now command.now running.old) ≡ Ok (running.new, handled)) }
+) -> Result<Ended, Refusal>
+    ensures ok { IfOk result (λ ended. at_step 0 (dispatch_begun bus.now command.now running.old) ≡ Ok (ended_with ended running.new)) }
     ensures err { IfErr result (λ e. TellsRefusal e (at_step 0 (dispatch_begun bus.now command.now running.old))) }
 {
     match begin(bus, running, command) {
-        Ok(handled) => Ok(handled),
+        Ok(ended) => Ok(ended),
         Err(fault) => Err(refused(fault, Some(0))),
     }
-}
-
-/// Takes a count, and dispatches the command.
-fn begin<'a>(bus: &'a Bus, running: &mut Running<'a>, command: &'a Command) -> Result<bool, Fault>
-    ensures ok { IfOk result (λ handled. dispatch_begun bus.now command.now running.old ≡ Ok (running.new, handled)) }
-    ensures err { IfErr result (λ e. TellsStep e (dispatch_begun bus.now command.now running.old)) }
-{
-    match running.count() {
-        Ok(()) => {}
-        Err(cause) => return Err(Fault::Cause(cause)),
-    }
-    dispatch(bus, running, &command.name, &command.payload, MOST_NESTED)
 }
 
 /// Runs what is queued, for which no step is refused.

@@ -1,12 +1,12 @@
 //! What a line works on while its steps run: a draft with the names of its nodes, and steps that are queued.
 
-ghost use Rattle.std.specs.Prelude.{◌≡◌, ◌≤◌, [], Ok, OnOk, IfErr, IfSome, MatchOption, All};
+ghost use Rattle.std.specs.Prelude.{◌≡◌, ◌≤◌, [], Ok, OnOk, IfOk, IfErr, IfSome, MatchOption, All};
 ghost use Rattle.lx_node.specs.Limits.{most_counts};
 ghost use Rattle.lx_step.specs.Sound.{IsSound, IsSoundScript};
 ghost use Rattle.lx_step.specs.Spelled.{steps_of};
 ghost use Rattle.lx_draft.specs.Faults.{TellsStep};
 ghost use Rattle.lx_run.specs.Holding as holding;
-ghost use Rattle.lx_run.specs.Lines.{at_first};
+ghost use Rattle.lx_run.specs.Lines.{at_first, is_untouched};
 ghost use Rattle.lx_run.specs.Running.{on_script, take_count, queued, queued_first};
 ghost use Rattle.lx_run.specs.Scripts.{effect_of};
 
@@ -15,6 +15,7 @@ use crate::names::Names;
 use crate::script::take_effect;
 use lx_draft::Draft;
 use lx_node::{Cause, Fault, NoMemory};
+use lx_select::Selection;
 use lx_step::{Payload, Step, Steps, When};
 use std::alloc::Global;
 use std::collections::VecDeque;
@@ -87,6 +88,22 @@ impl<'a> Running<'a> {
         ensures err { IfErr result (λ cause. take_count self.old ≡ Err cause) }
     {
         self.draft.count()
+    }
+
+    /// A copy of the draft's selection.
+    pub(crate) fn copy_selection(&self) -> Result<Selection, NoMemory>
+        ensures { IfOk result (λ selection. selection ≡ self.now.script.draft.selection) }
+    {
+        self.draft.selection().copy(self.alloc)
+    }
+
+    /// Whether no edit was taken, the selection is the one that is committed, and nothing is queued.
+    pub(crate) fn is_untouched(&self, committed: &Selection) -> bool
+        ensures { result ≡ is_untouched committed.now self.now }
+    {
+        self.draft.edits() == 0
+            && self.draft.selection().is_equal(committed)
+            && self.queue.is_empty()
     }
 
     /// Whether the conditions of a listener hold.

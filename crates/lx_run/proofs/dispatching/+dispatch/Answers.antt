@@ -1,11 +1,12 @@
 use Rattle.std.proofs.Common.{◌≡◌, ◌∙◌, All, Ok, IfOk, IfErr, sym, ap, subst}
 use Rattle.std.proofs.lemmas.List.Elements.{All-tail}
+use Rattle.lx_step.specs.BuiltIns.{built_in}
 use Rattle.lx_step.specs.Sound.{IsSoundListener}
 use Rattle.lx_bus.specs.Offers.{above, behind}
 use Rattle.lx_draft.specs.Faults.{TellsStep}
 use Rattle.lx_edit.proofs.Turns.{item_at}
 use Rattle.lx_run.specs.Running.{dispatched}
-use Rattle.lx_run.proofs.Runs.{left_of, none_left, told_of, steps_go_on, steps_refused, steps_done, offers_go_on, offers_handled, offers_refused, none_offered, dispatched_handled, dispatched_refused, dispatched_behind, dispatched_deepest}
+use Rattle.lx_run.proofs.Runs.{left_of, none_left, told_of, steps_go_on, steps_refused, steps_done, offers_go_on, offers_handled, offers_refused, none_offered, dispatched_handled, dispatched_refused, dispatched_behind, dispatched_uncounted, dispatched_undone, dispatched_deepest}
 use Rattle.lx_run.proofs.dispatching.+dispatch.Goals as goal
 
 pub dispatch-returns-then-left-eq0-clause-err : goal.dispatch-returns-then-left-eq0-clause-err
@@ -69,16 +70,33 @@ dispatch-returns-in-Err-clause-err t c =
     dispatched_refused c.args.left c.args.bus.now c.above.result c.args.name.now c.args.payload.now c.args.running.now cause c.if-left-eq0.false
     (c.above.ensures.order ∙ ap (λ name. above name c.args.bus.now) c.as_str.ensures.text) e) c.in-Err.ensures.err
 
-pub dispatch-returns-clause-ok : goal.dispatch-returns-clause-ok
-dispatch-returns-clause-ok t c =
+pub dispatch-returns-in-Err-count-clause-err : goal.dispatch-returns-in-Err-count-clause-err
+dispatch-returns-in-Err-count-clause-err t c =
+    dispatched_uncounted c.args.left c.args.bus.now c.above.result c.args.name.now c.args.payload.now c.args.running.now c.offer_all.new.running c.in-Some.command c.in-Err-count.cause c.if-left-eq0.false
+    (c.above.ensures.order ∙ ap (λ name. above name c.args.bus.now) c.as_str.ensures.text)
+    (sym (c.named.ensures ∙ ap built_in c.as_str-2.ensures.text) ∙ c.in-Some.is)
+    (c.in-Ok-false.ensures.ok ∙ ap (λ b. Ok (c.offer_all.new.running, b)) c.in-Ok-false.field-0-test) c.in-Err-count.ensures.err
+
+pub dispatch-returns-in-Err-do_built_in-clause-err : goal.dispatch-returns-in-Err-do_built_in-clause-err
+dispatch-returns-in-Err-do_built_in-clause-err t c =
+    told_of c.in-Err-do_built_in.fault _ _ (λ cause e.
+    dispatched_undone c.args.left c.args.bus.now c.above.result c.args.name.now c.args.payload.now c.args.running.now c.offer_all.new.running c.count.new.self c.in-Some.command cause c.if-left-eq0.false
+    (c.above.ensures.order ∙ ap (λ name. above name c.args.bus.now) c.as_str.ensures.text)
+    (sym (c.named.ensures ∙ ap built_in c.as_str-2.ensures.text) ∙ c.in-Some.is)
+    (c.in-Ok-false.ensures.ok ∙ ap (λ b. Ok (c.offer_all.new.running, b)) c.in-Ok-false.field-0-test) c.in-Ok.ensures.ok e) c.in-Err-do_built_in.ensures.err
+
+pub dispatch-returns-in-None-clause-ok : goal.dispatch-returns-in-None-clause-ok
+dispatch-returns-in-None-clause-ok t c =
     subst (λ r. IfOk c.offer_all-in-None.result (λ handled. r ≡ Ok (c.offer_all-in-None.new.running, handled)))
     (dispatched_behind c.args.left c.args.bus.now c.above.result c.behind.result c.args.name.now c.args.payload.now c.args.running.now c.offer_all.new.running c.if-left-eq0.false
     (c.above.ensures.order ∙ ap (λ name. above name c.args.bus.now) c.as_str.ensures.text) (c.behind.ensures.order ∙ ap (λ name. behind name c.args.bus.now) c.as_str-in-None.ensures.text)
+    (sym (c.named.ensures ∙ ap built_in c.as_str-2.ensures.text) ∙ c.in-None.is)
     (c.in-Ok-false.ensures.ok ∙ ap (λ b. Ok (c.offer_all.new.running, b)) c.in-Ok-false.field-0-test)) c.offer_all-in-None.ensures.ok
 
-pub dispatch-returns-clause-err : goal.dispatch-returns-clause-err
-dispatch-returns-clause-err t c =
+pub dispatch-returns-in-None-clause-err : goal.dispatch-returns-in-None-clause-err
+dispatch-returns-in-None-clause-err t c =
     subst (λ r. IfErr c.offer_all-in-None.result (λ e. TellsStep e r))
     (dispatched_behind c.args.left c.args.bus.now c.above.result c.behind.result c.args.name.now c.args.payload.now c.args.running.now c.offer_all.new.running c.if-left-eq0.false
     (c.above.ensures.order ∙ ap (λ name. above name c.args.bus.now) c.as_str.ensures.text) (c.behind.ensures.order ∙ ap (λ name. behind name c.args.bus.now) c.as_str-in-None.ensures.text)
+    (sym (c.named.ensures ∙ ap built_in c.as_str-2.ensures.text) ∙ c.in-None.is)
     (c.in-Ok-false.ensures.ok ∙ ap (λ b. Ok (c.offer_all.new.running, b)) c.in-Ok-false.field-0-test)) c.offer_all-in-None.ensures.err

@@ -1,5 +1,5 @@
 use Rattle.std.specs.Str.{chars}
-use Rattle.lx_bus.proofs.Spelled.{same_by}
+use Rattle.lx_step.proofs.Words.{same_by}
 use Rattle.lx_run.proofs.holding.is_word.Goals as goal
 
 pub returns : goal.returns
