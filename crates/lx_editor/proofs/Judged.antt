@@ -2,21 +2,30 @@
 use Rattle.std.proofs.Common.{◌≡◌, ◌≢◌, ◌∙◌, ℕ, ◌+◌, ◌≤◌, Bool, true, false, if◌then◌else◌, List, Option, Some, Result, Ok, Err, refl, sym, ap, subst, arith}
 use Rattle.lx_node.specs.declared.cause.Cause.{Cause}
 use Rattle.lx_host.specs.declared.op.Op.{Op}
+use Rattle.lx_step.specs.declared.built_in.Turn.{Turn}
 use Rattle.lx_step.specs.declared.rule.Rule.{Rule}
 use Rattle.lx_rules.specs.declared.any_rule.AnyRule.{AnyRule}
+use Rattle.lx_run.specs.Lines.{Ended, answer_drafted}
 use Rattle.lx_run.specs.Refusals.{TellsRefusal}
+use Rattle.lx_run.specs.declared.ending.Ending.{Ending}
+use Rattle.lx_run.specs.declared.ending.Ending.TheVariants as ending
 use Rattle.lx_run.specs.declared.refusal.Refusal.{Refusal}
 use Rattle.lx_run.specs.declared.refusal.Refusal.TheVariants as refusal
 use Rattle.lx_editor.specs.declared.outcome.Outcome.{Outcome}
 use Rattle.lx_editor.specs.declared.outcome.Outcome.TheVariants as made
 use Rattle.lx_editor.specs.declared.outcome.Verdict.{Verdict}
-use Rattle.lx_editor.specs.declared.outcome.Verdict.TheVariants.{Commit, Refused, Idle}
-use Rattle.lx_editor.specs.Dispatched.{unless_refused}
+use Rattle.lx_editor.specs.declared.outcome.Verdict.TheVariants.{Commit, Turned, Refused, Idle}
+use Rattle.lx_draft.specs.declared.state.State.{State}
+use Rattle.lx_history.specs.History.{entry_of}
+use Rattle.lx_editor.specs.declared.recording.Recording.{Recording}
+use Rattle.lx_editor.proofs.Kept.{state_or}
+use Rattle.lx_editor.specs.Dispatched.{unless_refused, IsMadeOfAnswer}
 use Rattle.lx_editor.specs.Editor.{Editor}
-use Rattle.lx_editor.specs.Follows.{reply_of}
-use Rattle.lx_editor.specs.Updated.{Left, IsNothingNew, IsCommitted, IsTaken, IsMadeOf}
+use Rattle.lx_editor.specs.Follows.{html_told, view_told, reply_of}
+use Rattle.lx_editor.specs.Turned.{IsTurned, IsTurnedBy}
+use Rattle.lx_editor.specs.Updated.{Left, rested_by, IsNothingNew, IsCommitted, IsTaken, IsMadeOf}
 use Rattle.lx_editor.specs.Registered.{with_one_more}
-use Rattle.lx_editor.specs.Judged.{MayCommit, IsWeighed, IsJudged, MayConclude, IsConcluded, is_refused, is_idle}
+use Rattle.lx_editor.specs.Judged.{MayCommit, MayTurn, IsWeighed, IsJudged, IsTurnJudged, IsAnswerJudged, IsForCause, MayConclude, IsConcluded, is_refused, is_idle}
 
 -- what is judged may be concluded
 pub may_conclude : (r : Result Left (Cause × Option ℕ)) (e : Editor) (verdict : Verdict) → IsJudged r e verdict → MayConclude e verdict
@@ -24,6 +33,19 @@ may_conclude r e (Refused cause step) judged = tt
 may_conclude r e Idle judged = tt
 may_conclude (Err refused) e (Commit frozen batch) judged = absurd (cc)
 may_conclude (Ok left) e (Commit frozen batch) judged = subst (λ l. MayCommit e l batch) (sym judged.0) judged.1
+may_conclude (Err refused) e (Turned turn state batch) judged = absurd (cc)
+may_conclude (Ok left) e (Turned turn state batch) judged = absurd judged
+
+pub may_conclude_turn : (turn : Turn) (e : Editor) (verdict : Verdict) → IsTurnJudged turn e verdict → MayConclude e verdict
+may_conclude_turn turn e (Refused cause step) judged = tt
+may_conclude_turn turn e Idle judged = tt
+may_conclude_turn turn e (Commit frozen batch) judged = absurd judged
+may_conclude_turn turn e (Turned way state batch) judged = subst (λ t. MayTurn e t state batch) (sym judged.0) judged.1
+
+pub may_conclude_answer : (r : Result Ending (Cause × Option ℕ)) (e : Editor) (verdict : Verdict) (handled : Bool) → IsAnswerJudged r e verdict handled → MayConclude e verdict
+may_conclude_answer (Err refused) e verdict handled judged = subst (MayConclude e) (sym judged.0) tt
+may_conclude_answer (Ok (ending.Left w was_handled)) e verdict handled judged = may_conclude (rested_by e.rules w) e verdict judged.0
+may_conclude_answer (Ok (ending.Turned turn)) e verdict handled judged = may_conclude_turn turn e verdict judged.0
 
 -- a refusal is judged as what it tells
 pub refusal_judged : (e : Refusal) (left : Result Left (Cause × Option ℕ)) (editor : Editor) (cause : Cause) (step : Option ℕ) → e ≡ refusal.Cause cause step → TellsRefusal e left → IsJudged left editor (Refused cause step)
@@ -31,25 +53,57 @@ refusal_judged e left editor cause step is told =
     let refused : left ≡ Err (cause, step) = subst (λ x. TellsRefusal x left) is told in
     subst (λ r. IsJudged r editor (Refused cause step)) (sym refused) refl
 
+-- a dispatch that is refused is judged so, and wasn't handled
+pub answer_refused : (run : Result Ended (Cause × Option ℕ)) (e : Refusal) (editor : Editor) (verdict : Verdict) → TellsRefusal e run → IsForCause e
+    → ((left : Result Left (Cause × Option ℕ)) (d : Editor) → TellsRefusal e left → IsJudged left d verdict) → IsAnswerJudged (answer_drafted run) editor verdict false
+answer_refused run (refusal.Cause cause step) editor verdict told for_cause judged =
+    subst (λ r. IsAnswerJudged (answer_drafted r) editor verdict false) (sym told) (judged (Err (cause, step)) editor refl, refl)
+answer_refused run refusal.Memory editor verdict told for_cause judged = absurd for_cause
+
 -- ---- an update
 
 -- the same rules are no other editor
 same_rules : (e : Editor) (rules : List AnyRule) → rules ≡ e.rules → e ≡ record e { rules = rules }
 same_rules e rules is = ap (λ rs. record e { rules = rs }) (sym is)
 
-taken : (left : Left) (e : Editor) (verdict : Verdict) (outcome : Outcome) (new : Editor) → IsWeighed e left verdict → IsConcluded e verdict outcome new → IsTaken e left outcome new
-taken left e (Commit frozen batch) (made.Committed number ops) new weighed done = subst (λ l. IsCommitted e l number ops new) weighed.0 done
-taken left e (Commit frozen batch) (made.Refused cause step) new weighed done = absurd done
-taken left e (Commit frozen batch) made.Idle new weighed done = absurd done
-taken left e (Refused cause step) outcome new weighed (is, same) =
-    subst (λ o. IsTaken e left o new) (sym is) (record { anew = weighed.anew; fault = weighed.fault; no_step = weighed.no_step; same = same })
-taken left e Idle outcome new weighed (is, same) = subst (λ o. IsTaken e left o new) (sym is) (weighed.1, same ∙ same_rules e left.rules weighed.0)
+module _ (how : Recording) where
+  taken : (left : Left) (e : Editor) (verdict : Verdict) (outcome : Outcome) (new : Editor) → IsWeighed e left verdict → IsConcluded e how verdict outcome new → IsTaken e how left outcome new
+  taken left e (Commit frozen batch) (made.Committed number ops) new weighed done = subst (λ l. IsCommitted e how l number ops new) weighed.0 done
+  taken left e (Commit frozen batch) (made.Refused cause step) new weighed done = absurd done
+  taken left e (Commit frozen batch) made.Idle new weighed done = absurd done
+  taken left e (Turned turn state batch) outcome new weighed done = absurd weighed
+  taken left e (Refused cause step) outcome new weighed (is, same) =
+      subst (λ o. IsTaken e how left o new) (sym is) (record { anew = weighed.anew; fault = weighed.fault; no_step = weighed.no_step; same = same })
+  taken left e Idle outcome new weighed (is, same) = subst (λ o. IsTaken e how left o new) (sym is) (weighed.1, same ∙ same_rules e left.rules weighed.0)
 
--- what is concluded is what was judged
-pub concluded : (r : Result Left (Cause × Option ℕ)) (e : Editor) (verdict : Verdict) (outcome : Outcome) (new : Editor) → IsJudged r e verdict → IsConcluded e verdict outcome new → IsMadeOf r e outcome new
-concluded (Ok left) e verdict outcome new judged done = taken left e verdict outcome new judged done
-concluded (Err refused) e verdict outcome new judged done =
-    let refusal : IsConcluded e (Refused refused.0 refused.1) outcome new = subst (λ v. IsConcluded e v outcome new) judged done in refusal
+  -- what is concluded is what was judged
+  pub concluded : (r : Result Left (Cause × Option ℕ)) (e : Editor) (verdict : Verdict) (outcome : Outcome) (new : Editor) → IsJudged r e verdict → IsConcluded e how verdict outcome new → IsMadeOf r e how outcome new
+  concluded (Ok left) e verdict outcome new judged done = taken left e verdict outcome new judged done
+  concluded (Err refused) e verdict outcome new judged done =
+      let refusal : IsConcluded e how (Refused refused.0 refused.1) outcome new = subst (λ v. IsConcluded e how v outcome new) judged done in refusal
+
+  -- ---- an undo or a redo
+
+  pub turn_concluded : (turn : Turn) (e : Editor) (verdict : Verdict) (outcome : Outcome) (new : Editor) → IsTurnJudged turn e verdict → IsConcluded e how verdict outcome new → IsTurnedBy turn how.moment e outcome new
+  turn_concluded turn e (Commit frozen batch) outcome new judged done = absurd judged
+  turn_concluded turn e (Turned way state batch) (made.Committed number ops) new judged done = subst (λ t. IsTurned t how.moment e number ops new) judged.0 done
+  turn_concluded turn e (Turned way state batch) (made.Refused cause step) new judged done = absurd done
+  turn_concluded turn e (Turned way state batch) made.Idle new judged done = absurd done
+  turn_concluded turn e (Refused cause step) outcome new judged (is, same) =
+      subst (λ o. IsTurnedBy turn how.moment e o new) (sym is) (record { entry = judged.entry; next = judged.next; fault = judged.fault; no_step = judged.no_step; same = same })
+  turn_concluded turn e Idle outcome new judged (is, same) = subst (λ o. IsTurnedBy turn how.moment e o new) (sym is) (judged, same)
+
+  -- ---- a dispatch
+
+  pub answer_concluded : (r : Result Ending (Cause × Option ℕ)) (e : Editor) (verdict : Verdict) (handled : Bool) (outcome : Outcome) (new : Editor) → IsAnswerJudged r e verdict handled → IsConcluded e how verdict outcome new
+      → IsMadeOfAnswer r e how outcome (unless_refused outcome handled) new
+  answer_concluded (Ok (ending.Left w was_handled)) e verdict handled outcome new judged done =
+      (concluded (rested_by e.rules w) e verdict outcome new judged.0 done, ap (unless_refused outcome) judged.1)
+  answer_concluded (Ok (ending.Turned turn)) e verdict handled outcome new judged done =
+      (turn_concluded turn e verdict outcome new judged.0 done, ap (unless_refused outcome) judged.1)
+  answer_concluded (Err refused) e verdict handled outcome new judged done =
+      let refusal : IsConcluded e how (Refused refused.0 refused.1) outcome new = subst (λ v. IsConcluded e how v outcome new) judged.0 done in
+      (refusal.0, refusal.1, ap (λ o. unless_refused o handled) refusal.0)
 
 -- ---- a rule
 
@@ -57,7 +111,7 @@ concluded (Err refused) e verdict outcome new judged done =
 abbrev pub with_unless_refused : Rule → Editor → Verdict → Editor
 with_unless_refused rule old verdict = if is_refused verdict then old else with_one_more rule old
 
-module _ (old : Editor) (rule : Rule) where
+module _ (how : Recording) (old : Editor) (rule : Rule) where
   abbrev pub mid : Editor
   mid = with_one_more rule old
 
@@ -65,6 +119,7 @@ module _ (old : Editor) (rule : Rule) where
   may_conclude_rule r (Refused cause step) e judged is = tt
   may_conclude_rule r Idle e judged is = tt
   may_conclude_rule r (Commit frozen batch) e judged is = subst (λ x. MayConclude x (Commit frozen batch)) (sym is) (may_conclude r mid (Commit frozen batch) judged)
+  may_conclude_rule r (Turned turn state batch) e judged is = subst (λ x. MayConclude x (Turned turn state batch)) (sym is) (may_conclude r mid (Turned turn state batch) judged)
 
   nothing_new : (left : Left) → IsNothingNew mid left → IsNothingNew old left
   nothing_new left n = record { none_marked = n.none_marked; selected = n.selected }
@@ -73,7 +128,7 @@ module _ (old : Editor) (rule : Rule) where
   as_mid left n = record { none_marked = n.none_marked; selected = n.selected }
 
   -- a commit doesn't look at the rules that there were
-  committed_before : (left : Left) (number : ℕ) (ops : List Op) (new : Editor) → IsCommitted mid left number ops new → IsCommitted old left number ops new
+  committed_before : (left : Left) (number : ℕ) (ops : List Op) (new : Editor) → IsCommitted mid how left number ops new → IsCommitted old how left number ops new
   committed_before left number ops new c = record {
     anew = λ n. c.anew (as_mid left n);
     ids = c.ids;
@@ -86,24 +141,25 @@ module _ (old : Editor) (rule : Rule) where
     made = c.made;
   }
 
-  rule_taken : (left : Left) (verdict : Verdict) (outcome : Outcome) (new : Editor) → IsWeighed mid left verdict → IsConcluded (with_unless_refused rule old verdict) verdict outcome new → IsTaken old left outcome new
-  rule_taken left (Commit frozen batch) (made.Committed number ops) new weighed done = committed_before left number ops new (subst (λ l. IsCommitted mid l number ops new) weighed.0 done)
+  rule_taken : (left : Left) (verdict : Verdict) (outcome : Outcome) (new : Editor) → IsWeighed mid left verdict → IsConcluded (with_unless_refused rule old verdict) how verdict outcome new → IsTaken old how left outcome new
+  rule_taken left (Commit frozen batch) (made.Committed number ops) new weighed done = committed_before left number ops new (subst (λ l. IsCommitted mid how l number ops new) weighed.0 done)
   rule_taken left (Commit frozen batch) (made.Refused cause step) new weighed done = absurd done
   rule_taken left (Commit frozen batch) made.Idle new weighed done = absurd done
+  rule_taken left (Turned turn state batch) outcome new weighed done = absurd weighed
   rule_taken left (Refused cause step) outcome new weighed (is, same) =
-      subst (λ o. IsTaken old left o new) (sym is) (record { anew = λ n. weighed.anew (as_mid left n); fault = weighed.fault; no_step = weighed.no_step; same = same })
+      subst (λ o. IsTaken old how left o new) (sym is) (record { anew = λ n. weighed.anew (as_mid left n); fault = weighed.fault; no_step = weighed.no_step; same = same })
   rule_taken left Idle outcome new weighed (is, same) =
-      subst (λ o. IsTaken old left o new) (sym is) (nothing_new left weighed.1, same ∙ ap (λ rs. record old { rules = rs }) (sym weighed.0))
+      subst (λ o. IsTaken old how left o new) (sym is) (nothing_new left weighed.1, same ∙ ap (λ rs. record old { rules = rs }) (sym weighed.0))
 
-  rule_judged : (r : Result Left (Cause × Option ℕ)) (verdict : Verdict) (outcome : Outcome) (new : Editor) → IsJudged r mid verdict → IsConcluded (with_unless_refused rule old verdict) verdict outcome new → IsMadeOf r old outcome new
+  rule_judged : (r : Result Left (Cause × Option ℕ)) (verdict : Verdict) (outcome : Outcome) (new : Editor) → IsJudged r mid verdict → IsConcluded (with_unless_refused rule old verdict) how verdict outcome new → IsMadeOf r old how outcome new
   rule_judged (Ok left) verdict outcome new judged done = rule_taken left verdict outcome new judged done
   rule_judged (Err refused) verdict outcome new judged done =
-      let refusal : IsConcluded old (Refused refused.0 refused.1) outcome new = subst (λ v. IsConcluded (with_unless_refused rule old v) v outcome new) judged done in refusal
+      let refusal : IsConcluded old how (Refused refused.0 refused.1) outcome new = subst (λ v. IsConcluded (with_unless_refused rule old v) how v outcome new) judged done in refusal
 
   -- what is concluded of a rule is what was judged
   pub rule_concluded : (r : Result Left (Cause × Option ℕ)) (verdict : Verdict) (e : Editor) (outcome : Outcome) (new : Editor) → IsJudged r mid verdict → e ≡ with_unless_refused rule old verdict
-      → IsConcluded e verdict outcome new → IsMadeOf r old outcome new
-  rule_concluded r verdict e outcome new judged is done = rule_judged r verdict outcome new judged (subst (λ x. IsConcluded x verdict outcome new) is done)
+      → IsConcluded e how verdict outcome new → IsMadeOf r old how outcome new
+  rule_concluded r verdict e outcome new judged is done = rule_judged r verdict outcome new judged (subst (λ x. IsConcluded x how verdict outcome new) is done)
 
   commits_same : (refused : Bool) (e : Editor) → e ≡ (if refused then old else mid) → e.commits ≡ old.commits
   commits_same true e is = ap (λ (x : Editor). x.commits) is
@@ -129,12 +185,27 @@ handled_told (made.Committed number ops) html handled = refl
 handled_told (made.Refused cause step) html handled = refl
 handled_told made.Idle html handled = refl
 
+-- ---- replies
+
+-- the view that is told of a commit is that of what was left
+pub committed_view : (old : Editor) (how : Recording) (left : Left) (commit : ℕ) (ops : List Op) (new : Editor) → IsCommitted old how left commit ops new → view_told new ≡ html_told old.tells_view left.tree
+committed_view old how left commit ops new c = ap view_told c.made
+
+-- that of an undo or a redo is the entry's
+pub turned_view : (turn : Turn) (moment : ℕ) (old : Editor) (state : State) (commit : ℕ) (ops : List Op) (new : Editor) → entry_of turn old.history ≡ Some state → IsTurned turn moment old commit ops new
+    → view_told new ≡ html_told old.tells_view state.links
+turned_view turn moment old state commit ops new next t =
+    ap view_told t.made ∙ ap (λ (s : State). html_told old.tells_view s.links) (ap (state_or state) (sym t.next ∙ next))
+
 -- ---- a load
 
 -- what isn't judged as idle isn't concluded as that
-pub never_idle : (e : Editor) (verdict : Verdict) (outcome : Outcome) (new : Editor) → is_idle verdict ≡ false → IsConcluded e verdict outcome new → outcome ≢ made.Idle
-never_idle e (Commit frozen batch) (made.Committed number ops) new anew done is = cc
-never_idle e (Commit frozen batch) (made.Refused cause step) new anew done is = absurd done
-never_idle e (Commit frozen batch) made.Idle new anew done is = absurd done
-never_idle e (Refused cause step) outcome new anew (same, rest) is = let e : made.Refused cause step ≡ made.Idle = sym same ∙ is in cc
-never_idle e Idle outcome new anew done is = absurd (cc)
+pub never_idle : (how : Recording) (e : Editor) (verdict : Verdict) (outcome : Outcome) (new : Editor) → is_idle verdict ≡ false → IsConcluded e how verdict outcome new → outcome ≢ made.Idle
+never_idle how e (Commit frozen batch) (made.Committed number ops) new anew done is = cc
+never_idle how e (Commit frozen batch) (made.Refused cause step) new anew done is = absurd done
+never_idle how e (Commit frozen batch) made.Idle new anew done is = absurd done
+never_idle how e (Turned turn state batch) (made.Committed number ops) new anew done is = cc
+never_idle how e (Turned turn state batch) (made.Refused cause step) new anew done is = absurd done
+never_idle how e (Turned turn state batch) made.Idle new anew done is = absurd done
+never_idle how e (Refused cause step) outcome new anew (same, rest) is = let e : made.Refused cause step ≡ made.Idle = sym same ∙ is in cc
+never_idle how e Idle outcome new anew done is = absurd (cc)

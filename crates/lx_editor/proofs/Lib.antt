@@ -5,3 +5,6 @@ pub mod Gathered
 pub mod Updated
 pub mod Loaded
 pub mod Shown
+pub mod Limits
+pub mod Kept
+pub mod Turned

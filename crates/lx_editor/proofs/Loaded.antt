@@ -1,21 +1,21 @@
 -- What is left of a document that takes the place of a tree: every node of it is marked, and only the root is in both trees.
-use Rattle.std.proofs.Common.{◌≡◌, ◌∙◌, ◌≤◌, ◌<◌, ◌||◌, ◌⊎◌, ℕ, eqb, Bool, true, false, is_some, List, [], ◌∷◌, Option, None, Some, refl, sym, ap, subst, arith, inl, inr}
+use Rattle.std.proofs.Common.{◌≡◌, ◌∙◌, ◌≤◌, ◌||◌, ◌⊎◌, ℕ, eqb, Bool, true, false, is_some, List, [], ◌∷◌, Option, None, Some, refl, sym, ap, arith, inl, inr}
 use Rattle.std.proofs.lemmas.Bool.{cases_Bool}
 use Rattle.std.proofs.lemmas.Bool.Decides.{eqb_tells}
 use Rattle.lx_node.specs.Siblings.{is_among, is_named}
 use Rattle.lx_marks.specs.Marks.{Marked, flag_in, is_true_flag, is_touched, is_noted, with_leaf}
 use Rattle.lx_marks.proofs.Told.{touched-leaf}
 use Rattle.lx_forest.specs.Forest.{Forest}
-use Rattle.lx_forest.specs.Lookups.{has, spot, kind_of, parent_of, children_of, roots, alone, IsForest}
+use Rattle.lx_forest.specs.Lookups.{has, kind_of, parent_of, children_of, IsForest}
 use Rattle.lx_forest.proofs.Edits.{has-root, is_some-spot}
-use Rattle.lx_forest.proofs.Lookups.{is_among-children_of, has-parent_of, has-child}
+use Rattle.lx_forest.proofs.Lookups.{is_among-children_of, has-parent_of}
 use Rattle.lx_draft.specs.Working.{Working}
 use Rattle.lx_plain.specs.Allowed.{AreCovered}
 use Rattle.lx_reconcile.specs.Allowing.{marking}
 use Rattle.lx_settle.specs.Laws.{AreMarked}
 use Rattle.lx_json.specs.Importing.{IsImported}
 use Rattle.lx_editor.specs.Updated.{Left}
-use Rattle.lx_editor.specs.Judged.{with_gone, MayGiveWay, IsShownBy, IsChildOfMarked}
+use Rattle.lx_editor.specs.Judged.{with_leaves, MayGiveWay, IsShownBy, IsChildOfMarked}
 
 -- ---- the marks with the gone nodes among them
 
@@ -31,19 +31,19 @@ or_other : (a b : Bool) → b ≡ true → (a || b) ≡ true
 or_other true b e = refl
 or_other false b e = e
 
-pub touched-with_gone : (ks : List ℕ) (m : Marked) (q : ℕ) → is_touched m q ≡ true → is_touched (with_gone ks m) q ≡ true
-touched-with_gone [] m q e = e
-touched-with_gone (k ∷ ks) m q e = touched-with_gone ks (with_leaf k m) q (touched-leaf k m q ∙ still_true (is_touched m q) (eqb q k) e)
+pub touched-with_leaves : (ks : List ℕ) (m : Marked) (q : ℕ) → is_touched m q ≡ true → is_touched (with_leaves ks m) q ≡ true
+touched-with_leaves [] m q e = e
+touched-with_leaves (k ∷ ks) m q e = touched-with_leaves ks (with_leaf k m) q (touched-leaf k m q ∙ still_true (is_touched m q) (eqb q k) e)
 
-pub gone_touched : (ks : List ℕ) (m : Marked) (q : ℕ) → is_among q ks ≡ true → is_touched (with_gone ks m) q ≡ true
+pub gone_touched : (ks : List ℕ) (m : Marked) (q : ℕ) → is_among q ks ≡ true → is_touched (with_leaves ks m) q ≡ true
 gone_touched [] m q e = absurd (cc)
 gone_touched (k ∷ ks) m q e = elim (eqb_tells q k) [
-  | inl own ↦ touched-with_gone ks (with_leaf k m) q (touched-leaf k m q ∙ or_other (is_touched m q) (eqb q k) own.0)
+  | inl own ↦ touched-with_leaves ks (with_leaf k m) q (touched-leaf k m q ∙ or_other (is_touched m q) (eqb q k) own.0)
   | inr other ↦ gone_touched ks (with_leaf k m) q (grind (arith, e, other.0, eqb_tells k q))
 ]
 
 -- nothing else is touched by them
-pub touched_or_gone : (ks : List ℕ) (m : Marked) (q : ℕ) → is_touched (with_gone ks m) q ≡ true → (is_touched m q ≡ true) ⊎ (is_among q ks ≡ true)
+pub touched_or_gone : (ks : List ℕ) (m : Marked) (q : ℕ) → is_touched (with_leaves ks m) q ≡ true → (is_touched m q ≡ true) ⊎ (is_among q ks ≡ true)
 touched_or_gone [] m q e = inl e
 touched_or_gone (k ∷ ks) m q e = elim (touched_or_gone ks (with_leaf k m) q e) [
   | inl before ↦ elim (cases_Bool (is_touched m q)) [
@@ -76,6 +76,16 @@ module _ (w v : Working) (next : ℕ) (im : IsImported next w) (m : AreMarked w 
   ]
 
   module _ (old : Forest) (way : MayGiveWay old next) where
+    -- each node but the root, which the old tree had too, has a new key
+    pub new_or_root : (q : ℕ) → has q v.forest ≡ true → (has q old ≡ true) ⊎ (next ≤ q)
+    new_or_root q is = elim (m.keys.each q is) [
+      | inl there ↦ elim (im.fresh_keys q there) [
+        | inl root ↦ inl (ap (λ k. has k old) root ∙ has-root old way.in_order)
+        | inr above ↦ inr above
+      ]
+      | inr above ↦ inr (omega (arith, im.rises, above))
+    ]
+
     -- only the root has a key that the old tree had
     pub only_root : (q : ℕ) → has q old ≡ true → has q v.forest ≡ true → q ≡ 0
     only_root q was is = elim (m.keys.each q is) [
@@ -90,10 +100,10 @@ module _ (left : Left) (old : Forest) (in_order : IsForest old) (tree_in_order :
     (touched : (q : ℕ) → has q left.tree ≡ true → is_touched left.marks q ≡ true)
     (only : (q : ℕ) → has q old ≡ true → has q left.tree ≡ true → q ≡ 0) where
   abbrev shown : Marked
-  shown = with_gone (children_of old 0) left.marks
+  shown = with_leaves (children_of old 0) left.marks
 
   shown_touched : (q : ℕ) → has q left.tree ≡ true → is_touched shown q ≡ true
-  shown_touched q there = touched-with_gone (children_of old 0) left.marks q (touched q there)
+  shown_touched q there = touched-with_leaves (children_of old 0) left.marks q (touched q there)
 
   gone_shown : (q p : ℕ) → parent_of old q ≡ Some p → has p left.tree ≡ true → is_touched shown q ≡ true
   gone_shown q p up stays =
@@ -127,7 +137,7 @@ module _ (left : Left) (old : Forest) (in_order : IsForest old) (tree_in_order :
     named None e = absurd (cc)
     named (Some p) e = grind (arith, e, eqb_tells p 0, eqb_tells 0 p)
 
-  pub shown_by : IsShownBy old left (with_gone (children_of old 0) left.marks)
+  pub shown_by : IsShownBy old left (with_leaves (children_of old 0) left.marks)
   shown_by = record {
     covered = covers;
     touched = λ q there. shown_touched q there ∙ sym (touched q there);

@@ -1,6 +1,6 @@
 -- Operations that are allowed for marks with gone nodes among them are allowed for the marks of what is left, and are found by
 -- as few reads.
-use Rattle.std.proofs.Common.{◌≡◌, ◌∙◌, ◌+◌, ◌*◌, ◌<◌, ◌≤◌, ◌&&◌, ℕ, Bool, true, false, cond, eqb, ltb, List, [], ◌∷◌, length, None, refl, sym, ap, subst, arith, inl, inr}
+use Rattle.std.proofs.Common.{◌≡◌, ◌∙◌, ◌+◌, ◌*◌, ◌<◌, ◌≤◌, ◌&&◌, ℕ, Bool, true, false, cond, ltb, List, [], ◌∷◌, length, None, refl, sym, ap, subst, arith, inl, inr}
 use Rattle.std.specs.List.{AllByRecursion}
 use Rattle.std.proofs.lemmas.Bool.{cases_Bool}
 use Rattle.std.proofs.lemmas.Bool.Decides.{eqb_tells}
@@ -15,14 +15,14 @@ use Rattle.lx_reconcile.specs.Allowing.{marking, IsAllowed}
 use Rattle.lx_reconcile.specs.Told.{Told}
 use Rattle.lx_editor.specs.Editor.{Editor}
 use Rattle.lx_editor.specs.Updated.{Left, IsNothingNew, hosts_fault, most_reads}
-use Rattle.lx_editor.specs.Judged.{IsLeft, IsShownBy, MayCommit}
+use Rattle.lx_editor.specs.Judged.{IsLeft, HasGrown, IsShownBy, MayCommit}
 
 -- ---- children of nodes that two markings mark alike
 
 own_count : (l : Label) (b t : Forest) → 0 < count l.key (tree l b t)
 own_count l b t = grind (arith, eqb_tells l.key l.key)
 
-same_children : (noted other : ℕ → Bool) (f : Forest) → ((q : ℕ) → 0 < count q f → noted q ≡ other q) → marked_children noted f ≡ marked_children other f
+pub same_children : (noted other : ℕ → Bool) (f : Forest) → ((q : ℕ) → 0 < count q f → noted q ≡ other q) → marked_children noted f ≡ marked_children other f
 same_children noted other nil same = refl
 same_children noted other (tree l b t) same =
     let own : cond (noted l.key) (length (roots b)) 0 ≡ cond (other l.key) (length (roots b)) 0 = ap (λ x. cond x (length (roots b)) 0) (same l.key (own_count l b t)) in
@@ -86,9 +86,10 @@ is_anew e left touched nothing = no_marks left.marks nothing.none_marked touched
 
 -- it may be committed with the operations for these marks
 pub may_commit : (e : Editor) (left : Left) (shown : Marked) (batch : Told) → IsLeft left → is_touched left.marks 0 ≡ true → IsShownBy e.tree left shown → hosts_fault e.tree left.tree e.view ≡ None
-    → IsAllowed e.tree left.tree (marking shown) e.view batch.ops → batch.reads ≤ most_reads e.tree left.tree (is_noted shown) → MayCommit e left batch
-may_commit e left shown batch stands touched s ids allowed few = record {
+    → HasGrown e.tree e.next_key left → IsAllowed e.tree left.tree (marking shown) e.view batch.ops → batch.reads ≤ most_reads e.tree left.tree (is_noted shown) → MayCommit e left batch
+may_commit e left shown batch stands touched s ids grown allowed few = record {
   stands = stands;
+  grown = grown;
   anew = is_anew e left touched;
   ids = ids;
   allowed = allowed_left e.tree left shown s e.view batch.ops allowed;

@@ -1,14 +1,11 @@
 -- What an update has made of an editor, from what its steps left of the draft.
-use Rattle.std.proofs.Common.{◌≡◌, ◌∙◌, ◌+◌, ◌<◌, ◌≤◌, ℕ, Bool, true, false, List, [], ◌∷◌, Option, None, Some, Result, Ok, refl, sym, ap, subst, arith}
-use Rattle.std.specs.Option.{option_or}
+use Rattle.std.proofs.Common.{◌≡◌, ◌∙◌, ◌+◌, ◌<◌, ◌≤◌, ℕ, Bool, true, List, [], ◌∷◌, None, Some, Ok, refl, sym, ap, subst, arith}
 use Rattle.std.proofs.lemmas.Bool.Decides.{eqb_tells}
 use Rattle.lx_node.specs.Trees.{nil, tree}
 use Rattle.lx_node.specs.Kinds.{is_text_block}
 use Rattle.lx_node.specs.Strings.{capped, characters_of, characters_of_element, characters_of_extra}
-use Rattle.lx_node.specs.declared.cause.Cause.{Cause}
-use Rattle.lx_node.specs.declared.cause.Limit.TheVariants.{Depth, Nodes, Characters, KeyCount}
-use Rattle.lx_node.specs.Limits.{most_depth, most_nodes, most_characters, most_key}
-use Rattle.lx_node.specs.NamedTrees.{total}
+use Rattle.lx_node.specs.declared.kind.Kind.TheVariants.{Root}
+use Rattle.std.proofs.lemmas.List.Elements.{All-nil}
 use Rattle.lx_host.specs.declared.op.Op.{Op}
 use Rattle.lx_host.specs.Hosts.{HostTree, shape_of, new_tree, Leads, FitInTurn}
 use Rattle.lx_host.specs.Html.{html_of, first_tree}
@@ -26,9 +23,9 @@ use Rattle.lx_forest.proofs.Order.{IsForest-drop_detached}
 use Rattle.lx_draft.specs.Working.{Working, MayStart, started}
 use Rattle.lx_draft.specs.Covering as drafts
 use Rattle.lx_draft.specs.Covering.{Covers, IsReady}
-use Rattle.lx_draft.specs.Faults.{after, over}
+use Rattle.lx_draft.specs.Faults.{after}
 use Rattle.lx_draft.specs.Selecting.{selection_lost}
-use Rattle.lx_draft.specs.Freezing.{tree_depth, tree_characters, swept, freeze_step, freeze_fault, limits_fault, Freezes}
+use Rattle.lx_draft.specs.Freezing.{swept, freeze_step, freeze_fault, limits_fault, Freezes}
 use Rattle.lx_draft.proofs.Covered.{answered, covered-self}
 use Rattle.lx_plain.specs.Render.{render}
 use Rattle.lx_plain.specs.Allowed.{Shows, AreCovered, AreAllowed}
@@ -37,11 +34,12 @@ use Rattle.lx_reconcile.proofs.Covered.{covered}
 use Rattle.lx_edit.specs.Texts.{simple_at}
 use Rattle.lx_reconcile.proofs.StartEnd.{one_tree}
 use Rattle.lx_reconcile.proofs.Frozen.{frozen_parts, one_left, swept_alone, kind_stays}
-use Rattle.lx_run.specs.Lines.{drafted, answer_drafted, steps_run}
+use Rattle.lx_run.specs.Lines.{drafted, steps_run}
 use Rattle.lx_run.specs.Refusals.{and_then, TellsRefusal}
-use Rattle.lx_run.specs.Running.{Running}
 use Rattle.lx_run.specs.declared.refusal.Refusal.{Refusal}
 use Rattle.lx_run.specs.declared.refusal.Refusal.TheVariants as refusal
+use Rattle.lx_draft.specs.declared.state.State.{State}
+use Rattle.lx_history.specs.History.{History, new_history, noted}
 use Rattle.lx_rules.specs.declared.any_rule.AnyRule.{AnyRule}
 use Rattle.lx_settle.specs.Joined.{IsJoined, is_empty_text, are_alike}
 use Rattle.lx_settle.specs.Laws.{IsAlone, AreMarked}
@@ -50,15 +48,17 @@ use Rattle.lx_settle.specs.Settling.{settle_step}
 use Rattle.lx_settle.proofs.Ends.{settling_ends}
 use Rattle.lx_settle.proofs.Rest.{there as attached_there}
 use Rattle.lx_editor.specs.Editor.{Editor}
-use Rattle.lx_editor.specs.Standing.{IsState, IsValid}
-use Rattle.lx_editor.specs.Dispatched.{left_in_answer, was_handled}
-use Rattle.lx_editor.specs.Updated.{at_commit, answers_of, rested_by, begun, left_by, Left, IsNothingNew, hosts_fault, most_reads, IsCommitted}
+use Rattle.lx_editor.specs.Standing.{IsState, HasKinds, IsEntry, EachEntry, IsValid}
+use Rattle.lx_editor.specs.Updated.{at_commit, answers_of, rested_by, begun, left_by, Left, state_with, recorded, IsNothingNew, hosts_fault, most_reads, IsCommitted}
+use Rattle.lx_editor.specs.declared.recording.Recording.{Recording}
 use Rattle.lx_editor.specs.Registered.{marked_for, left_with, left_for}
 use Rattle.serde_json.specs.Data.{Data}
 use Rattle.lx_json.specs.Importing.{imported}
 use Rattle.lx_editor.specs.Loaded.{left_by_load}
-use Rattle.lx_editor.specs.Judged.{MayGiveWay, IsLeft, IsFresh, IsForCause, IsLeftOfImport}
-use Rattle.lx_editor.proofs.Loaded.{all_touched, only_root, shown_by}
+use Rattle.lx_editor.specs.Judged.{MayGiveWay, IsLeft, HasGrown, IsFresh, IsLeftOfImport}
+use Rattle.lx_editor.proofs.Kept.{kinds, new_kinds, entries_kept}
+use Rattle.lx_editor.proofs.Limits.{first_none, second_none}
+use Rattle.lx_editor.proofs.Loaded.{all_touched, only_root, new_or_root, shown_by}
 
 -- ---- what the steps left
 
@@ -67,24 +67,11 @@ pub are_left : (rules : List AnyRule) (listeners : List Listener) (steps : List 
 unfolding left_by
 are_left rules listeners steps w draft ran = ap (λ r. and_then r (rested_by rules)) ran
 
--- so does a dispatch
-pub answer_left : (rules : List AnyRule) (answer : Result (Working × Bool) (Cause × Option ℕ)) (draft : Working) (handled : Bool) → answer ≡ Ok (draft, handled) → left_in_answer rules answer ≡ rested_by rules draft
-answer_left rules answer draft handled is = ap (left_in_answer rules) is
-
 -- where they are refused nothing is left
 pub steps_refused : (rules : List AnyRule) (listeners : List Listener) (steps : List Step) (w : Working) (e : Refusal) → TellsRefusal e (steps_run listeners steps w) → TellsRefusal e (left_by rules listeners steps w)
 unfolding left_by
 steps_refused rules listeners steps w (refusal.Cause cause step) told = ap (λ r. and_then (drafted r) (rested_by rules)) told
 steps_refused rules listeners steps w refusal.Memory told = tt
-
-pub answer_refused : (rules : List AnyRule) (run : Result (Running × Bool) (Cause × Option ℕ)) (e : Refusal) → TellsRefusal e run → TellsRefusal e (left_in_answer rules (answer_drafted run))
-answer_refused rules run (refusal.Cause cause step) told = ap (λ r. left_in_answer rules (answer_drafted r)) told
-answer_refused rules run refusal.Memory told = tt
-
--- a dispatch that is refused for a cause wasn't handled
-pub refused_unhandled : (run : Result (Running × Bool) (Cause × Option ℕ)) (e : Refusal) → TellsRefusal e run → IsForCause e → false ≡ was_handled (answer_drafted run)
-refused_unhandled run (refusal.Cause cause step) told for_cause = sym (ap (λ r. was_handled (answer_drafted r)) told)
-refused_unhandled run refusal.Memory told for_cause = absurd for_cause
 
 -- so do the marks for a rule
 pub marked_left : (rules : List AnyRule) (row : TypeRow) (w draft : Working) → marked_for row w ≡ Ok draft → left_for rules row w ≡ rested_by rules draft
@@ -105,14 +92,6 @@ fresh_begun e valid = fresh_start e.tree e.selection e.next_key valid.state
 -- so whatever was made of it is covered
 pub start_covered : (begin start end : Working) → start ≡ begin → IsFresh begin → (IsReady start → drafts.AreCovered start end) → drafts.AreCovered begin end
 start_covered begin start end is fresh covers = subst (λ w. drafts.AreCovered w end) is (covers (subst IsReady (sym is) (ready_start begin fresh)))
-
-first_none : (a b : Option Cause) → option_or a b ≡ None → a ≡ None
-first_none None b e = refl
-first_none (Some cause) b e = absurd (cc)
-
-second_none : (a b : Option Cause) → option_or a b ≡ None → b ≡ None
-second_none None b e = e
-second_none (Some cause) b e = absurd (cc)
 
 -- what is frozen is within the limits, and has what is selected
 nothing_against : (w : Working) (f : Forest) (selection : Selection) (marks : Marked) (next_key : ℕ) → Freezes w f selection marks next_key → (selection_lost selection f ≡ None) × (limits_fault f next_key ≡ None)
@@ -138,6 +117,13 @@ left_covered u v f selection marks next_key none m frozen =
     in
     subst (λ g. AreCovered u.forest g (marking marks)) (swept_alone v.forest ∙ parts.0)
     (covered u.forest v.forest marks m.ready.in_order covers (λ q there too. kind_stays u.forest v.forest q m.kinds there))
+
+-- the next key is what the draft has come to
+next_frozen : (v : Working) (f : Forest) (selection : Selection) (marks : Marked) (next_key : ℕ) → Freezes v f selection marks next_key → v.next_key ≡ next_key
+unfolding freeze_step swept
+next_frozen v f selection marks next_key frozen =
+    let left : Working = record (swept v) { forest = f; selection = selection; marks = marks; next_key = next_key } in
+    ap (λ (w : Working). w.next_key) (answered (freeze_fault (swept v)) (swept v) left frozen).1
 
 -- a tree that stands alone has all nodes below its root
 all_attached : (f : Forest) → IsForest f → roots f ≡ 0 ∷ [] → IsAlone f
@@ -167,16 +153,27 @@ left_frozen rules v f selection marks next_key order joined rested frozen start 
       rested = subst (λ g. IsRested answers g marks) parts.0 (subst (IsRested answers (drop_detached v.forest)) parts.1 (settling_ends.rested_swept answers v.forest v.marks order rested));
     }
 
--- What came to rest of a draft and is frozen may be left, and its marks cover it.
+-- what is left has grown from the tree that the draft began with
+left_grown : (rules : List AnyRule) (u v : Working) (f : Forest) (selection : Selection) (marks : Marked) (next_key : ℕ) → AreMarked u v → AreCovered u.forest f (marking marks) → Freezes v f selection marks next_key
+    → HasGrown u.forest u.next_key (record { tree = f; selection = selection; marks = marks; next_key = next_key; rules = rules })
+left_grown rules u v f selection marks next_key m covers frozen = record {
+  next_key = omega (arith, m.keys.next, next_frozen v f selection marks next_key frozen);
+  kinds = covers.kinds;
+  each = λ q there. m.keys.each q (has-swept v.forest q (ap (has q) (frozen_parts v f selection marks next_key frozen).0 ∙ there));
+}
+
+-- What came to rest of a draft and is frozen may be left, its marks cover it, and it has grown.
 pub left_stands : (rules : List AnyRule) (u w v : Working) (f : Forest) (selection : Selection) (marks : Marked) (next_key : ℕ) → IsFresh u → drafts.AreCovered u w → settle_step (answers_of rules) w ≡ Ok v
     → Freezes v f selection marks next_key → MayStart f next_key → IsLeft (record { tree = f; selection = selection; marks = marks; next_key = next_key; rules = rules }) × AreCovered u.forest f (marking marks)
+    × HasGrown u.forest u.next_key (record { tree = f; selection = selection; marks = marks; next_key = next_key; rules = rules })
 left_stands rules u w v f selection marks next_key fresh c settled frozen start =
     let answers = answers_of rules in
     let m : AreMarked u v = settling_ends.covers answers u w v c settled in
     let all : IsAlone u.forest = all_attached u.forest fresh.state.in_order fresh.state.alone in
     let joined : IsJoined v.forest = settling_ends.joins answers u w v (ready_start u fresh) all fresh.state.joined fresh.fresh c settled in
     let rested : IsRested answers v.forest v.marks = settling_ends.rests answers u w v (fresh.marks ∙ sym fresh.fresh) c settled in
-    (left_frozen rules v f selection marks next_key m.ready.in_order joined rested frozen start, left_covered u v f selection marks next_key fresh.marks m frozen)
+    let covers : AreCovered u.forest f (marking marks) = left_covered u v f selection marks next_key fresh.marks m frozen in
+    (left_frozen rules v f selection marks next_key m.ready.in_order joined rested frozen start, covers, left_grown rules u v f selection marks next_key m covers frozen)
 
 -- What came to rest of an import and is frozen may be left, and is shown where a tree gave way to it.
 pub import_stands : (rules : List AnyRule) (w v : Working) (f : Forest) (selection : Selection) (marks : Marked) (next_key : ℕ) → settle_step (answers_of rules) w ≡ Ok v
@@ -195,7 +192,15 @@ import_stands rules w v f selection marks next_key settled frozen start next im 
     let touched : (q : ℕ) → has q f ≡ true → is_touched marks q ≡ true = λ q there. ap (λ n. is_touched n q) (sym parts.1) ∙ all_touched w v next im m q (still q there) in (
       left_frozen rules v f selection marks next_key order joined rested frozen start,
       touched 0 (has-root f tree_order),
-      λ old way. shown_by left old way.in_order tree_order touched (λ q was is. only_root w v next im m old way q was (still q is)),
+      λ old way.
+          let shown = shown_by left old way.in_order tree_order touched (λ q was is. only_root w v next im m old way q was (still q is)) in (
+            shown,
+            record {
+              next_key = omega (arith, im.rises, m.keys.next, next_frozen v f selection marks next_key frozen);
+              kinds = shown.covered.kinds;
+              each = λ q there. new_or_root w v next im m old way q (still q there);
+            },
+          ),
     )
 
 -- ---- a commit
@@ -206,7 +211,7 @@ leads_fit v w [] leads = tt
 leads_fit v w (op ∷ ops) (mid, fits, is, rest) = (fits, subst (λ m. FitInTurn m ops) is (leads_fit mid w ops rest))
 
 -- and nowhere else
-same_end : (v w u : HostTree) (ops : List Op) → Leads v ops w → Leads v ops u → w ≡ u
+pub same_end : (v w u : HostTree) (ops : List Op) → Leads v ops w → Leads v ops u → w ≡ u
 same_end v w u [] first second = first ∙ sym second
 same_end v w u (op ∷ ops) (mid, fits, is, rest) (other, fit, at, more) =
     same_end other w u ops (subst (λ m. Leads m ops w) (is ∙ sym at) rest) more
@@ -214,7 +219,16 @@ same_end v w u (op ∷ ops) (mid, fits, is, rest) (other, fit, at, more) =
 pub allowed_fit : (old new : Forest) (marks : Marked) (v : HostTree) (ops : List Op) → IsAllowed old new (marking marks) v ops → FitInTurn v ops
 allowed_fit old new marks v ops (w, allowed) = leads_fit v w ops allowed.leads
 
-module _ (e : Editor) (left : Left) (view : HostTree) (ops : List Op) (allowed : IsAllowed e.tree left.tree (marking left.marks) e.view ops) (leads : Leads e.view ops view) where
+-- what is recorded of an equal state is recorded
+pub recorded_same : (before after entry : State) (marks : Marked) (how : Recording) (h mid g : History) → entry.links ≡ after.links → entry.selection ≡ after.selection → mid ≡ h
+    → g ≡ noted before entry marks how.tags how.moment mid → g ≡ noted before after marks how.tags how.moment h
+recorded_same before after entry marks how h mid g links selection same is =
+    is
+    ∙ ap (λ l. noted before (state_with l entry.selection) marks how.tags how.moment mid) links
+    ∙ ap (λ s. noted before (state_with after.links s) marks how.tags how.moment mid) selection
+    ∙ ap (λ k. noted before after marks how.tags how.moment k) same
+
+module _ (e : Editor) (how : Recording) (left : Left) (view : HostTree) (history : History) (is_recorded : history ≡ recorded e how left) (ops : List Op) (allowed : IsAllowed e.tree left.tree (marking left.marks) e.view ops) (leads : Leads e.view ops view) where
   -- what stands between the trees and the view that it has come to
   reached : AreAllowed e.tree left.tree (is_touched left.marks) e.view ops view
   reached = subst (λ w. AreAllowed e.tree left.tree (is_touched left.marks) e.view ops w) (same_end e.view allowed.0 view ops allowed.1.leads leads) allowed.1
@@ -227,20 +241,29 @@ module _ (e : Editor) (left : Left) (view : HostTree) (ops : List Op) (allowed :
     commits = e.commits + 1;
     view = view;
     last = Some (record { ops = ops; reads = reads });
+    history = history;
+    moment = e.moment;
     rules = left.rules;
     listeners = e.listeners;
     tells_view = e.tells_view;
   }
 
-  pub still_valid : (reads : ℕ) → IsState left.tree left.selection left.next_key → IsValid (made reads)
-  still_valid reads state = record {
+  pub still_valid : (reads : ℕ) → IsValid e → IsState left.tree left.selection left.next_key → HasGrown e.tree e.next_key left → IsValid (made reads)
+  still_valid reads valid state grown = record {
     state = state;
     shown = reached.shows;
     none = λ zero. absurd (omega (arith, zero));
     some = λ none. absurd (cc);
+    kept = record {
+      kinds = kinds e left valid.state valid.kept state grown;
+      now = new_kinds e left valid.state valid.kept state grown;
+      entries =
+          subst (EachEntry (λ s. IsEntry left.next_key s × HasKinds (kinds e left valid.state valid.kept state grown) s.links)) (sym is_recorded)
+          (entries_kept e left valid.state valid.kept state grown how);
+    };
   }
 
-  pub committed : (reads : ℕ) → IsRested (answers_of left.rules) left.tree left.marks → IsJoined left.tree → (IsNothingNew e left → ⊥) → hosts_fault e.tree left.tree e.view ≡ None → reads ≤ most_reads e.tree left.tree (is_noted left.marks) → IsCommitted e left (e.commits + 1) ops (made reads)
+  pub committed : (reads : ℕ) → IsRested (answers_of left.rules) left.tree left.marks → IsJoined left.tree → (IsNothingNew e left → ⊥) → hosts_fault e.tree left.tree e.view ≡ None → reads ≤ most_reads e.tree left.tree (is_noted left.marks) → IsCommitted e how left (e.commits + 1) ops (made reads)
   committed reads rested joined anew ids few = record {
     anew = anew;
     ids = ids;
@@ -250,7 +273,7 @@ module _ (e : Editor) (left : Left) (view : HostTree) (ops : List Op) (allowed :
     reads = reads;
     few = few;
     number = refl;
-    made = refl;
+    made = ap (λ h. record (made reads) { history = h }) is_recorded;
   }
 
 -- ---- the view
@@ -268,28 +291,6 @@ printed e valid = ap (λ s. html_of (first_tree s)) valid.shown ∙ ap html_of (
 pub told_view : (f : Forest) (view : HostTree) → IsForest f → roots f ≡ 0 ∷ [] → Shows view (alone 0 f) → html_of (first_tree (shape_of view.hosts)) ≡ html_of (render f)
 told_view f view order only shows =
     ap (λ s. html_of (first_tree s)) (shows ∙ ap render (one_tree f order only)) ∙ ap html_of (first_whole f only)
-
--- ---- what is exported
-
-both_none : (a b : Option Cause) → a ≡ None → b ≡ None → option_or a b ≡ None
-both_none None b first second = second
-both_none (Some cause) b first second = absurd (cc)
-
-first_key_fits : over KeyCount most_key 1 ≡ None
-unfolding capped
-first_key_fits = refl
-
--- what is within the limits is so with the next key 1
-pub within_first : (f : Forest) (next_key : ℕ) → limits_fault f next_key ≡ None → limits_fault f 1 ≡ None
-within_first f next_key within =
-    let depth = over Depth most_depth (tree_depth f) in
-    let nodes = over Nodes most_nodes (total f) in
-    let characters = over Characters most_characters (tree_characters f) in
-    let key = over KeyCount most_key next_key in
-    let sizes = second_none depth (option_or nodes (option_or characters key)) within in
-    both_none depth (option_or nodes (option_or characters (over KeyCount most_key 1))) (first_none depth (option_or nodes (option_or characters key)) within)
-    (both_none nodes (option_or characters (over KeyCount most_key 1)) (first_none nodes (option_or characters key) sizes)
-    (both_none characters (over KeyCount most_key 1) (first_none characters key (second_none nodes (option_or characters key) sizes)) first_key_fits))
 
 -- ---- a load
 
@@ -327,10 +328,13 @@ root_joined = record {
 root_in_order : IsForest root_alone
 root_in_order = record { once = λ q. once_at q; rising = refl; root = refl }
 
-pub new_valid : (f : Forest) (selection : Selection) (view : HostTree) (rules : List AnyRule) (listeners : List Listener) (tells_view : Bool) → f ≡ root_alone → selection ≡ Nothing → view ≡ new_tree → MayStart f 1
-    → IsValid (record { tree = f; selection = selection; next_key = 1; commits = 0; view = view; last = None; rules = rules; listeners = listeners; tells_view = tells_view })
+root_kinds : HasKinds (λ q. Root) root_alone
+root_kinds q there = grind (arith, there, eqb_tells 0 q, eqb_tells q 0)
+
+pub new_valid : (f : Forest) (selection : Selection) (view : HostTree) (history : History) (delay : ℕ) (rules : List AnyRule) (listeners : List Listener) (tells_view : Bool) → f ≡ root_alone → selection ≡ Nothing → view ≡ new_tree → history ≡ new_history delay → MayStart f 1
+    → IsValid (record { tree = f; selection = selection; next_key = 1; commits = 0; view = view; last = None; history = history; moment = 0; rules = rules; listeners = listeners; tells_view = tells_view })
 unfolding is_text_block capped characters_of characters_of_element characters_of_extra
-new_valid f selection view rules listeners tells_view alone none shown start = record {
+new_valid f selection view history delay rules listeners tells_view alone none shown nothing start = record {
   state = record {
     in_order = subst IsForest (sym alone) root_in_order;
     alone = subst (λ g. roots g ≡ 0 ∷ []) (sym alone) refl;
@@ -342,4 +346,9 @@ new_valid f selection view rules listeners tells_view alone none shown start = r
   shown = subst (Shows view) (sym alone) (subst (λ v. Shows v root_alone) (sym shown) refl);
   none = λ zero. refl;
   some = λ gone. refl;
+  kept = record {
+    kinds = λ q. Root;
+    now = subst (HasKinds (λ q. Root)) (sym alone) root_kinds;
+    entries = subst (EachEntry (λ s. IsEntry 1 s × HasKinds (λ q. Root) s.links)) (sym nothing) (record { undo = All-nil (λ s. IsEntry 1 s × HasKinds (λ q. Root) s.links); redo = All-nil (λ s. IsEntry 1 s × HasKinds (λ q. Root) s.links); current = tt });
+  };
 }

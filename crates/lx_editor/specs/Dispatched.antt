@@ -1,43 +1,43 @@
 -- What a dispatch makes of an editor, and what a listener does that is registered.
-use Rattle.std.specs.Prelude.{◌≡◌, ◌<◌, ℕ, ◌+◌, ◌++◌, Bool, false, List, [], ◌∷◌, length, Option, Result, Ok, Err}
+use Rattle.std.specs.Prelude.{◌≡◌, ◌<◌, ℕ, ◌+◌, ◌++◌, Bool, true, false, [], ◌∷◌, length, Option, Result, Ok, Err}
 use Rattle.lx_node.specs.declared.cause.Cause.{Cause}
 use Rattle.lx_node.specs.declared.cause.Cause.TheVariants.{TooManyRules}
 use Rattle.lx_step.specs.declared.command.Command.{Command}
 use Rattle.lx_step.specs.declared.listener.Listener.{Listener}
 use Rattle.lx_bus.specs.Offers.{most_listeners}
-use Rattle.lx_draft.specs.Working.{Working}
-use Rattle.lx_rules.specs.declared.any_rule.AnyRule.{AnyRule}
 use Rattle.lx_run.specs.Lines.{dispatch_run, answer_drafted}
-use Rattle.lx_run.specs.Refusals.{and_then}
+use Rattle.lx_run.specs.declared.ending.Ending.{Ending}
+use Rattle.lx_run.specs.declared.ending.Ending.TheVariants.{Left, Turned}
+use Rattle.lx_editor.specs.declared.recording.Recording.{Recording}
 use Rattle.lx_editor.specs.declared.outcome.Outcome.{Outcome}
 use Rattle.lx_editor.specs.declared.outcome.Outcome.TheVariants.{Refused}
 use Rattle.lx_editor.specs.Editor.{Editor}
-use Rattle.lx_editor.specs.Updated.{Left, rested_by, begun, IsMadeOf}
+use Rattle.lx_editor.specs.Turned.{IsTurnedBy}
+use Rattle.lx_editor.specs.Updated.{rested_by, begun, IsMadeOf}
 
 -- ---- dispatches
 
--- the draft that a dispatch leaves and whether it was handled, or why it is refused and at which step
-abbrev pub answer_to : Command → Editor → Result (Working × Bool) (Cause × Option ℕ)
+-- what a dispatch comes to: a draft that is left and whether it was handled, or the history's turn; or why it is refused and
+-- at which step
+abbrev pub answer_to : Command → Editor → Result Ending (Cause × Option ℕ)
 answer_to command old = answer_drafted (dispatch_run old.listeners command (begun old))
-
--- what that leaves for a commit
-abbrev pub left_in_answer : List AnyRule → Result (Working × Bool) (Cause × Option ℕ) → Result Left (Cause × Option ℕ)
-left_in_answer rules answer = and_then answer (λ r. rested_by rules r.0)
-
-abbrev pub was_handled : Result (Working × Bool) (Cause × Option ℕ) → Bool
-was_handled (Ok r) = r.1
-was_handled (Err refused) = false
 
 -- a command that is refused wasn't handled
 abbrev pub unless_refused : Outcome → Bool → Bool
 unless_refused (Refused cause step) handled = false
 unless_refused outcome handled = handled
 
+-- It is refused, and nothing changes; or what is left comes to rest and is taken; or the history turns, which handles the
+-- command.
+abbrev pub IsMadeOfAnswer : Result Ending (Cause × Option ℕ) → Editor → Recording → Outcome → Bool → Editor → Type 0
+IsMadeOfAnswer (Err refused) old how outcome handled new = (outcome ≡ Refused refused.0 refused.1) × (new ≡ old) × (handled ≡ false)
+IsMadeOfAnswer (Ok (Left w was_handled)) old how outcome handled new =
+    IsMadeOf (rested_by old.rules w) old how outcome new × (handled ≡ unless_refused outcome was_handled)
+IsMadeOfAnswer (Ok (Turned turn)) old how outcome handled new = IsTurnedBy turn how.moment old outcome new × (handled ≡ unless_refused outcome true)
+
 -- the outcome that a dispatch may have, whether it is said to be handled, and the editor that it may leave
-unfoldable pub IsDispatched : Editor → Command → Outcome → Bool → Editor → Type 0
-IsDispatched old command outcome handled new =
-    IsMadeOf (left_in_answer old.rules (answer_to command old)) old outcome new
-    × (handled ≡ unless_refused outcome (was_handled (answer_to command old)))
+unfoldable pub IsDispatched : Editor → Command → Recording → Outcome → Bool → Editor → Type 0
+IsDispatched old command how outcome handled new = IsMadeOfAnswer (answer_to command old) old how outcome handled new
 
 -- ---- listeners
 

@@ -7,10 +7,11 @@ use Rattle.lx_forest.specs.Forest.{Forest, root_alone}
 use Rattle.lx_rules.specs.declared.any_rule.AnyRule.{AnyRule}
 use Rattle.lx_reconcile.specs.Told.{Told}
 use Rattle.lx_step.specs.declared.listener.Listener.{Listener}
+use Rattle.lx_history.specs.History.{History, new_history}
 
 -- the tree and the selection that are committed, the key that the next new node gets, how often the editor has committed,
--- the view, what the last commit told, the rules and listeners that are registered, each in the order of registration, and
--- whether replies to commits tell the view
+-- the view, what the last commit told, the history, the moment of the line before, the rules and listeners that are
+-- registered, each in the order of registration, and whether replies to commits tell the view
 pub record Editor : Type 0 where
   pub tree : Forest
   pub selection : Selection
@@ -18,9 +19,24 @@ pub record Editor : Type 0 where
   pub commits : ℕ
   pub view : HostTree
   pub last : Option Told
+  pub history : History
+  pub moment : ℕ
   pub rules : List AnyRule
   pub listeners : List Listener
   pub tells_view : Bool
 
-abbrev pub new_editor : Bool → Editor
-new_editor tells_view = record { tree = root_alone; selection = Nothing; next_key = 1; commits = 0; view = new_tree; last = None; rules = []; listeners = []; tells_view = tells_view }
+-- a new one, whose replies to commits tell the view or not, and whose history has this delay, in milliseconds
+abbrev pub new_editor : Bool → ℕ → Editor
+new_editor tells_view delay = record {
+  tree = root_alone;
+  selection = Nothing;
+  next_key = 1;
+  commits = 0;
+  view = new_tree;
+  last = None;
+  history = new_history delay;
+  moment = 0;
+  rules = [];
+  listeners = [];
+  tells_view = tells_view;
+}

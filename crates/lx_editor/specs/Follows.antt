@@ -1,16 +1,18 @@
 -- How an editor may answer lines, and how the bytes of replies follow from them.
-use Rattle.std.specs.Prelude.{◌≡◌, ℕ, List, [], ◌∷◌, ◌++◌, if◌then◌else◌, Bool, Option, None, Some, Result, Ok, Err}
+use Rattle.std.specs.Prelude.{◌≡◌, ℕ, List, [], ◌∷◌, ◌++◌, length, if◌then◌else◌, Bool, Option, None, Some, Result, Ok, Err}
 use Rattle.serde_json.specs.Data.{Data}
 use Rattle.serde_json.specs.View.{view}
 use Rattle.lx_node.specs.declared.cause.Cause.{Cause}
 use Rattle.lx_host.specs.Html.{html_of}
+use Rattle.lx_forest.specs.Forest.{Forest}
 use Rattle.lx_plain.specs.Render.{render}
 use Rattle.lx_step.specs.declared.command.Command.{Command}
 use Rattle.lx_step.specs.declared.line.Line.{Line}
 use Rattle.lx_step.specs.declared.line.Form.{Form}
-use Rattle.lx_step.specs.declared.line.Form.TheVariants.{Update, Dispatch, Rule, Listener, Load, Show}
+use Rattle.lx_step.specs.declared.line.Form.TheVariants.{Update, Dispatch, Rule, Listener, Load, Show, Clear}
 use Rattle.lx_step.specs.declared.line.Shown.{Shown}
-use Rattle.lx_step.specs.declared.line.Shown.TheVariants.{State, View, Selection}
+use Rattle.lx_step.specs.declared.line.Shown.TheVariants.{State, View, Selection, History}
+use Rattle.lx_step.specs.declared.line.Tags.{Tags}
 use Rattle.lx_step.specs.declared.listener.Listener.{Listener as ListenerOf}
 use Rattle.lx_step.specs.declared.rule.Rule.{Rule as RuleOf}
 use Rattle.lx_step.specs.Spelled.{steps_of}
@@ -20,17 +22,23 @@ use Rattle.lx_script.specs.declared.reply.Reply.TheVariants as reply
 use Rattle.lx_script.specs.Grammar.{Reads}
 use Rattle.lx_script.specs.Replies.{reply_text, state_text}
 use Rattle.lx_json.specs.Exporting.{exported}
+use Rattle.lx_editor.specs.declared.recording.Recording.{Recording}
 use Rattle.lx_editor.specs.declared.outcome.Outcome.{Outcome}
 use Rattle.lx_editor.specs.declared.outcome.Outcome.TheVariants.{Committed, Refused, Idle}
 use Rattle.lx_editor.specs.Dispatched.{IsDispatched, IsListening}
 use Rattle.lx_editor.specs.Editor.{Editor}
 use Rattle.lx_editor.specs.Loaded.{IsLoaded}
 use Rattle.lx_editor.specs.Registered.{IsRegistered}
-use Rattle.lx_editor.specs.Updated.{IsUpdated}
+use Rattle.lx_editor.specs.Turned.{with_nothing_recorded}
+use Rattle.lx_editor.specs.Updated.{recording, IsUpdated}
+
+-- the HTML of a tree's rendering, where it is told
+abbrev pub html_told : Bool → Forest → Option (List ℕ)
+html_told is_told f = if is_told then Some (html_of (render f)) else None
 
 -- the HTML of the tree's rendering, where the editor's replies to commits tell the view
 abbrev pub view_told : Editor → Option (List ℕ)
-view_told editor = if editor.tells_view then Some (html_of (render editor.tree)) else None
+view_told editor = html_told editor.tells_view editor.tree
 
 -- the reply that tells an outcome, of a dispatch whether it was handled, and of a commit the view where that is told
 abbrev pub reply_of : Option Bool → Option (List ℕ) → Outcome → Reply
@@ -44,31 +52,32 @@ number_reply (Ok number) = reply.Registered number
 number_reply (Err cause) = reply.Refused cause None
 
 -- The bytes of the reply that shows what is committed: the document, the view as the HTML of the tree's rendering, which it
--- shows, or the selection.
+-- shows, or the selection; or how many entries the history has.
 abbrev pub shown_text : Shown → Editor → List ℕ
 shown_text State editor = state_text (exported editor.tree)
 shown_text View editor = reply_text (reply.View (html_of (render editor.tree)))
 shown_text Selection editor = reply_text (reply.Selection editor.selection)
+shown_text History editor = reply_text (reply.History (length editor.history.redo) (length editor.history.undo))
 
 -- The editor may answer an update by these steps with these bytes, and be the new one after.
-abbrev pub IsReplyOfUpdate : Editor → List Step → List ℕ → Editor → Type 0
-IsReplyOfUpdate old steps bytes new =
-    (outcome : Outcome) × IsUpdated old steps outcome new × (bytes ≡ reply_text (reply_of None (view_told new) outcome))
+abbrev pub IsReplyOfUpdate : Editor → List Step → Recording → List ℕ → Editor → Type 0
+IsReplyOfUpdate old steps how bytes new =
+    (outcome : Outcome) × IsUpdated old steps how outcome new × (bytes ≡ reply_text (reply_of None (view_told new) outcome))
 
 -- The editor may answer a rule with these bytes, and be the new one after.
-abbrev pub IsReplyOfRule : Editor → RuleOf → List ℕ → Editor → Type 0
-IsReplyOfRule old rule bytes new =
-    (outcome : Outcome) × IsRegistered old rule outcome new × (bytes ≡ reply_text (reply_of None (view_told new) outcome))
+abbrev pub IsReplyOfRule : Editor → RuleOf → ℕ → List ℕ → Editor → Type 0
+IsReplyOfRule old rule moment bytes new =
+    (outcome : Outcome) × IsRegistered old rule moment outcome new × (bytes ≡ reply_text (reply_of None (view_told new) outcome))
 
 -- The editor may answer a load of this document with these bytes, and be the new one after.
-abbrev pub IsReplyOfLoad : Editor → Data → List ℕ → Editor → Type 0
-IsReplyOfLoad old document bytes new =
-    (outcome : Outcome) × IsLoaded old document outcome new × (bytes ≡ reply_text (reply_of None (view_told new) outcome))
+abbrev pub IsReplyOfLoad : Editor → Data → Recording → List ℕ → Editor → Type 0
+IsReplyOfLoad old document how bytes new =
+    (outcome : Outcome) × IsLoaded old document how outcome new × (bytes ≡ reply_text (reply_of None (view_told new) outcome))
 
 -- The editor may answer a dispatch with these bytes, and be the new one after.
-abbrev pub IsReplyOfDispatch : Editor → Command → List ℕ → Editor → Type 0
-IsReplyOfDispatch old command bytes new =
-    (outcome : Outcome) × (handled : Bool) × IsDispatched old command outcome handled new
+abbrev pub IsReplyOfDispatch : Editor → Command → Recording → List ℕ → Editor → Type 0
+IsReplyOfDispatch old command how bytes new =
+    (outcome : Outcome) × (handled : Bool) × IsDispatched old command how outcome handled new
     × (bytes ≡ reply_text (reply_of (Some handled) (view_told new) outcome))
 
 -- The editor may answer a listener with these bytes, and be the new one after.
@@ -76,18 +85,30 @@ abbrev pub IsReplyOfListener : Editor → ListenerOf → List ℕ → Editor →
 IsReplyOfListener old listener bytes new =
     (answer : Result ℕ Cause) × IsListening old listener answer new × (bytes ≡ reply_text (number_reply answer))
 
--- The editor may answer a line of this form with these bytes, and be the new one after. A question changes nothing.
-unfoldable pub RepliesTo : Editor → Form → List ℕ → Editor → Type 0
-RepliesTo old (Update script) bytes new = IsReplyOfUpdate old (steps_of script) bytes new
-RepliesTo old (Dispatch command) bytes new = IsReplyOfDispatch old command bytes new
-RepliesTo old (Rule rule) bytes new = IsReplyOfRule old rule bytes new
-RepliesTo old (Listener listener) bytes new = IsReplyOfListener old listener bytes new
-RepliesTo old (Load document) bytes new = IsReplyOfLoad old (view document) bytes new
-RepliesTo old (Show shown) bytes new = (bytes ≡ shown_text shown old) × (new ≡ old)
+-- The editor may answer a line of this form and with these tags, at its moment, with these bytes, and be the new one after. A
+-- question changes nothing.
+unfoldable pub RepliesTo : Editor → Tags → Form → List ℕ → Editor → Type 0
+RepliesTo old tags (Update script) bytes new = IsReplyOfUpdate old (steps_of script) (recording tags old.moment) bytes new
+RepliesTo old tags (Dispatch command) bytes new = IsReplyOfDispatch old command (recording tags old.moment) bytes new
+RepliesTo old tags (Rule rule) bytes new = IsReplyOfRule old rule old.moment bytes new
+RepliesTo old tags (Listener listener) bytes new = IsReplyOfListener old listener bytes new
+RepliesTo old tags (Load document) bytes new = IsReplyOfLoad old (view document) (recording tags old.moment) bytes new
+RepliesTo old tags (Show shown) bytes new = (bytes ≡ shown_text shown old) × (new ≡ old)
+RepliesTo old tags Clear bytes new = (bytes ≡ reply_text reply.Cleared) × (new ≡ with_nothing_recorded old)
 
--- The editor may answer what was read with these bytes, and be the new one after. A line that is refused changes nothing.
+-- the editor at the moment that a line tells, or else at that of the line before
+abbrev pub at_moment : Option ℕ → Editor → Editor
+at_moment None e = e
+at_moment (Some moment) e = record e { moment = moment }
+
+-- The editor may answer this line with these bytes, and be the new one after.
+abbrev pub RepliesToLine : Editor → Line → List ℕ → Editor → Type 0
+RepliesToLine old line bytes new = RepliesTo (at_moment line.at old) line.tags line.form bytes new
+
+-- The editor may answer what was read with these bytes, and be the new one after. A line that is refused changes nothing but
+-- the moment, and one that isn't read not even that.
 abbrev pub Replies : Editor → Result Line Cause → List ℕ → Editor → Type 0
-Replies old (Ok line) bytes new = RepliesTo old line.form bytes new
+Replies old (Ok line) bytes new = RepliesToLine old line bytes new
 Replies old (Err cause) bytes new = (bytes ≡ reply_text (reply.Refused cause None)) × (new ≡ old)
 
 -- The editor may answer the line with these bytes, and be the new one after.

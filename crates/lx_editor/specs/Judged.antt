@@ -1,27 +1,32 @@
 -- What steps and rules come to before anything is changed. Only this crate's own contracts cite it.
 use Rattle.std.specs.Prelude.{◌≡◌, ◌≤◌, ◌⊎◌, ℕ, Bool, true, false, List, [], ◌∷◌, Option, None, Some, Result, Ok, Err}
 use Rattle.lx_node.specs.declared.cause.Cause.{Cause}
-use Rattle.lx_node.specs.declared.cause.Fault.{Fault}
-use Rattle.lx_node.specs.declared.cause.Fault.TheVariants as fault
 use Rattle.lx_marks.specs.Marks.{Marked, unmarked, is_touched, is_noted, with_leaf}
+use Rattle.lx_step.specs.declared.built_in.Turn.{Turn}
 use Rattle.lx_forest.specs.Forest.{Forest}
-use Rattle.lx_forest.specs.Lookups.{has, parent_of, children_of, roots, IsForest}
+use Rattle.lx_forest.specs.Lookups.{has, kind_of, parent_of, children_of, roots, IsForest}
 use Rattle.lx_json.specs.Importing.{IsImported}
+use Rattle.lx_draft.specs.declared.state.State.{State}
 use Rattle.lx_draft.specs.Working.{Working}
 use Rattle.lx_draft.specs.Covering as drafts
-use Rattle.lx_plain.specs.Allowed.{AreCovered}
+use Rattle.lx_history.specs.History.{entry_of}
+use Rattle.lx_plain.specs.Allowed.{Marking, AreCovered}
 use Rattle.lx_reconcile.specs.Told.{Told}
 use Rattle.lx_reconcile.specs.Allowing.{marking, IsAllowed}
+use Rattle.lx_run.specs.declared.ending.Ending.{Ending}
+use Rattle.lx_run.specs.declared.ending.Ending.TheVariants as ending
 use Rattle.lx_run.specs.declared.refusal.Refusal.{Refusal}
 use Rattle.lx_run.specs.declared.refusal.Refusal.TheVariants as refusal
 use Rattle.lx_settle.specs.Rested.{IsRested}
 use Rattle.lx_editor.specs.declared.outcome.Outcome.{Outcome}
 use Rattle.lx_editor.specs.declared.outcome.Outcome.TheVariants as made
 use Rattle.lx_editor.specs.declared.outcome.Verdict.{Verdict}
-use Rattle.lx_editor.specs.declared.outcome.Verdict.TheVariants.{Commit, Refused, Idle}
+use Rattle.lx_editor.specs.declared.outcome.Verdict.TheVariants.{Commit, Turned, Refused, Idle}
+use Rattle.lx_editor.specs.declared.recording.Recording.{Recording}
 use Rattle.lx_editor.specs.Editor.{Editor}
 use Rattle.lx_editor.specs.Standing.{IsState}
-use Rattle.lx_editor.specs.Updated.{Left, left_of, answers_of, IsNothingNew, IsUnshowable, hosts_fault, most_reads, IsCommitted}
+use Rattle.lx_editor.specs.Turned.{is_in_either, IsTurned, IsUnshowableEntry}
+use Rattle.lx_editor.specs.Updated.{Left, left_of, answers_of, rested_by, IsNothingNew, IsUnshowable, hosts_fault, most_reads, IsCommitted}
 
 -- ---- what is left
 
@@ -36,9 +41,17 @@ pub record IsFresh (u : Working) : Type 0 where
   pub marks : u.marks ≡ unmarked
   pub fresh : u.fresh ≡ unmarked
 
+-- It has grown from a tree with this next key: the next key doesn't fall, nodes that stay keep their kinds, and each node that
+-- is new has a key that was still to be given.
+pub record HasGrown (old : Forest) (next : ℕ) (left : Left) : Type 0 where
+  pub next_key : next ≤ left.next_key
+  pub kinds : (q : ℕ) → has q old ≡ true → has q left.tree ≡ true → kind_of old q ≡ kind_of left.tree q
+  pub each : (q : ℕ) → has q left.tree ≡ true → (has q old ≡ true) ⊎ (next ≤ q)
+
 -- What may be left of a draft that was fresh, and that its marks cover: they cover the two trees then.
 abbrev pub IsLeftOf : Working → Left → Type 0
-IsLeftOf w left = (u : Working) → IsFresh u → drafts.AreCovered u w → IsLeft left × AreCovered u.forest left.tree (marking left.marks)
+IsLeftOf w left =
+    (u : Working) → IsFresh u → drafts.AreCovered u w → IsLeft left × AreCovered u.forest left.tree (marking left.marks) × HasGrown u.forest u.next_key left
 
 -- ---- what is left of a document
 
@@ -58,9 +71,9 @@ pub record IsShownBy (old : Forest) (left : Left) (shown : Marked) : Type 0 wher
   pub gone : (q : ℕ) → has q left.tree ≡ false → is_touched shown q ≡ true → (is_touched left.marks q ≡ true) ⊎ IsChildOfMarked old left q
 
 -- the marks with these keys among the leaves
-abbrev pub with_gone : List ℕ → Marked → Marked
-with_gone [] m = m
-with_gone (k ∷ ks) m = with_gone ks (with_leaf k m)
+abbrev pub with_leaves : List ℕ → Marked → Marked
+with_leaves [] m = m
+with_leaves (k ∷ ks) m = with_leaves ks (with_leaf k m)
 
 -- a tree whose place another may take, whose new nodes get keys from the next one on
 pub record MayGiveWay (old : Forest) (next : ℕ) : Type 0 where
@@ -73,7 +86,7 @@ pub record MayGiveWay (old : Forest) (next : ℕ) : Type 0 where
 abbrev pub IsLeftOfImport : Working → Left → Type 0
 IsLeftOfImport w left =
     (next : ℕ) → IsImported next w → IsLeft left × (is_touched left.marks 0 ≡ true)
-    × ((old : Forest) → MayGiveWay old next → IsShownBy old left (with_gone (children_of old 0) left.marks))
+    × ((old : Forest) → MayGiveWay old next → IsShownBy old left (with_leaves (children_of old 0) left.marks) × HasGrown old next left)
 
 -- ---- what it comes to
 
@@ -81,6 +94,7 @@ IsLeftOfImport w left =
 -- allowed and were found by few reads.
 pub record MayCommit (old : Editor) (left : Left) (batch : Told) : Type 0 where
   pub stands : IsLeft left
+  pub grown : HasGrown old.tree old.next_key left
   pub anew : IsNothingNew old left → ⊥
   pub ids : hosts_fault old.tree left.tree old.view ≡ None
   pub allowed : IsAllowed old.tree left.tree (marking left.marks) old.view batch.ops
@@ -89,19 +103,41 @@ pub record MayCommit (old : Editor) (left : Left) (batch : Told) : Type 0 where
 -- What is left under the editor's rules is to be committed, or can't be shown, or is nothing new.
 abbrev pub IsWeighed : Editor → Left → Verdict → Type 0
 IsWeighed old left (Commit frozen batch) = (left_of old.rules frozen ≡ left) × MayCommit old left batch
+IsWeighed old left (Turned turn state batch) = ⊥
 IsWeighed old left (Refused cause step) = IsUnshowable old left cause step old
 IsWeighed old left Idle = (left.rules ≡ old.rules) × IsNothingNew old left
-
--- What is found to commit what is left: operations with which it may be committed, or why it can't be shown.
-abbrev pub IsFound : Editor → Left → Result Told Fault → Type 0
-IsFound old left (Ok batch) = MayCommit old left batch
-IsFound old left (Err (fault.Cause cause)) = IsUnshowable old left cause None old
-IsFound old left (Err fault.Memory) = Unit {0}
 
 -- it is refused, or what is left is weighed
 abbrev pub IsJudged : Result Left (Cause × Option ℕ) → Editor → Verdict → Type 0
 IsJudged (Err refused) old verdict = verdict ≡ Refused refused.0 refused.1
 IsJudged (Ok left) old verdict = IsWeighed old left verdict
+
+-- ---- what an undo or a redo comes to
+
+-- both marks of every node of either tree
+abbrev pub all_marked : Forest → Forest → Marking
+all_marked old new = record { touched = is_in_either old new; noted = is_in_either old new }
+
+-- The history may go to this state, which is its next entry, with these operations: the view has ids for it, and they are
+-- allowed and were found by few reads.
+pub record MayTurn (old : Editor) (turn : Turn) (state : State) (batch : Told) : Type 0 where
+  pub next : entry_of turn old.history ≡ Some state
+  pub stands : IsState state.links state.selection old.next_key
+  pub ids : hosts_fault old.tree state.links old.view ≡ None
+  pub allowed : IsAllowed old.tree state.links (all_marked old.tree state.links) old.view batch.ops
+  pub few : batch.reads ≤ most_reads old.tree state.links (is_in_either old.tree state.links)
+
+abbrev pub IsTurnJudged : Turn → Editor → Verdict → Type 0
+IsTurnJudged turn old (Turned way state batch) = (way ≡ turn) × MayTurn old turn state batch
+IsTurnJudged turn old (Refused cause step) = IsUnshowableEntry turn old cause step old
+IsTurnJudged turn old Idle = entry_of turn old.history ≡ None
+IsTurnJudged turn old (Commit frozen batch) = ⊥
+
+-- what a dispatch comes to, and whether it was handled
+abbrev pub IsAnswerJudged : Result Ending (Cause × Option ℕ) → Editor → Verdict → Bool → Type 0
+IsAnswerJudged (Err refused) old verdict handled = (verdict ≡ Refused refused.0 refused.1) × (handled ≡ false)
+IsAnswerJudged (Ok (ending.Left w was_handled)) old verdict handled = IsJudged (rested_by old.rules w) old verdict × (handled ≡ was_handled)
+IsAnswerJudged (Ok (ending.Turned turn)) old verdict handled = IsTurnJudged turn old verdict × (handled ≡ true)
 
 -- it is refused for a cause, and no memory was wanting
 abbrev pub IsForCause : Refusal → Type 0
@@ -113,14 +149,17 @@ IsForCause refusal.Memory = ⊥
 -- what has to hold for a verdict to be carried out: where there is a commit, it may be made
 abbrev pub MayConclude : Editor → Verdict → Type 0
 MayConclude old (Commit frozen batch) = MayCommit old (left_of old.rules frozen) batch
+MayConclude old (Turned turn state batch) = MayTurn old turn state batch
 MayConclude old verdict = Unit {0}
 
 -- the outcome that a verdict has, and the editor that it leaves
-abbrev pub IsConcluded : Editor → Verdict → Outcome → Editor → Type 0
-IsConcluded old (Commit frozen batch) (made.Committed number ops) new = IsCommitted old (left_of old.rules frozen) number ops new
-IsConcluded old (Commit frozen batch) other new = ⊥
-IsConcluded old (Refused cause step) outcome new = (outcome ≡ made.Refused cause step) × (new ≡ old)
-IsConcluded old Idle outcome new = (outcome ≡ made.Idle) × (new ≡ old)
+abbrev pub IsConcluded : Editor → Recording → Verdict → Outcome → Editor → Type 0
+IsConcluded old how (Commit frozen batch) (made.Committed number ops) new = IsCommitted old how (left_of old.rules frozen) number ops new
+IsConcluded old how (Commit frozen batch) other new = ⊥
+IsConcluded old how (Turned turn state batch) (made.Committed number ops) new = IsTurned turn how.moment old number ops new
+IsConcluded old how (Turned turn state batch) other new = ⊥
+IsConcluded old how (Refused cause step) outcome new = (outcome ≡ made.Refused cause step) × (new ≡ old)
+IsConcluded old how Idle outcome new = (outcome ≡ made.Idle) × (new ≡ old)
 
 abbrev pub is_refused : Verdict → Bool
 is_refused (Refused cause step) = true

@@ -1,5 +1,6 @@
 pub mod Editor
 pub mod Updated
+pub mod Turned
 pub mod Dispatched
 pub mod Registered
 pub mod Loaded

@@ -3,6 +3,7 @@ use Rattle.std.specs.Prelude.{◌≢◌, ℕ, Option, Result}
 use Rattle.serde_json.specs.Data.{Data}
 use Rattle.lx_node.specs.declared.cause.Cause.{Cause}
 use Rattle.lx_json.specs.Importing.{imported}
+use Rattle.lx_editor.specs.declared.recording.Recording.{Recording}
 use Rattle.lx_editor.specs.declared.outcome.Outcome.{Outcome}
 use Rattle.lx_editor.specs.declared.outcome.Outcome.TheVariants.{Idle}
 use Rattle.lx_editor.specs.Editor.{Editor}
@@ -16,5 +17,5 @@ left_by_load old document = left_with old.rules (imported document old.next_key)
 
 -- The outcome that a load may have, and the editor that it may leave. A document is always something new, since every node
 -- of it is marked.
-unfoldable pub IsLoaded : Editor → Data → Outcome → Editor → Type 0
-IsLoaded old document outcome new = IsMadeOf (left_by_load old document) old outcome new × (outcome ≢ Idle)
+unfoldable pub IsLoaded : Editor → Data → Recording → Outcome → Editor → Type 0
+IsLoaded old document how outcome new = IsMadeOf (left_by_load old document) old how outcome new × (outcome ≢ Idle)

@@ -1,7 +1,8 @@
 -- What registering a rule makes of an editor.
-use Rattle.std.specs.Prelude.{ℕ, nat_lt, ◌++◌, if◌then◌else◌, List, [], ◌∷◌, length, filter, Option, None, Result, Ok, Err}
+use Rattle.std.specs.Prelude.{ℕ, true, false, nat_lt, ◌++◌, if◌then◌else◌, List, [], ◌∷◌, length, filter, Option, None, Result, Ok, Err}
 use Rattle.lx_node.specs.declared.cause.Cause.{Cause}
 use Rattle.lx_node.specs.declared.cause.Cause.TheVariants.{TooManyRules}
+use Rattle.lx_step.specs.declared.line.Tags.{Tags}
 use Rattle.lx_step.specs.declared.rule.Rule.{Rule}
 use Rattle.lx_step.specs.declared.rule.TypeRow.{TypeRow}
 use Rattle.lx_forest.specs.Forest.{Forest}
@@ -14,7 +15,7 @@ use Rattle.lx_rules.specs.declared.any_rule.AnyRule.{AnyRule}
 use Rattle.lx_rules.specs.declared.any_rule.AnyRule.TheVariants.{Script}
 use Rattle.lx_editor.specs.declared.outcome.Outcome.{Outcome}
 use Rattle.lx_editor.specs.Editor.{Editor}
-use Rattle.lx_editor.specs.Updated.{Left, rested_by, begun, IsMadeOf}
+use Rattle.lx_editor.specs.Updated.{Left, rested_by, begun, recording, IsMadeOf}
 
 -- the most rules that an editor has
 abbrev pub most_rules : ℕ
@@ -48,6 +49,10 @@ abbrev pub left_by_rule : Editor → Rule → Result Left (Cause × Option ℕ)
 left_by_rule old rule =
     if nat_lt (length old.rules) most_rules then left_for (with_rule old.rules rule) rule.on (begun old) else Err (TooManyRules, None)
 
--- the outcome that a registering may have, and the editor that it may leave
-unfoldable pub IsRegistered : Editor → Rule → Outcome → Editor → Type 0
-IsRegistered old rule outcome new = IsMadeOf (left_by_rule old rule) old outcome new
+-- what it makes of the state goes into the history's current entry
+abbrev pub merging : Tags
+merging = record { historic = false; merge = true; push = false }
+
+-- the outcome that a registering at this moment may have, and the editor that it may leave
+unfoldable pub IsRegistered : Editor → Rule → ℕ → Outcome → Editor → Type 0
+IsRegistered old rule moment outcome new = IsMadeOf (left_by_rule old rule) old (recording merging moment) outcome new

@@ -10,6 +10,7 @@ use Rattle.lx_host.specs.Hosts.{HostTree}
 use Rattle.lx_marks.specs.Marks.{Marked, unmarked, is_touched, is_noted}
 use Rattle.lx_select.specs.declared.selection.Selection.{Selection}
 use Rattle.lx_step.specs.declared.step.Step.{Step}
+use Rattle.lx_step.specs.declared.line.Tags.{Tags}
 use Rattle.lx_step.specs.declared.listener.Listener.{Listener}
 use Rattle.lx_forest.specs.Forest.{Forest}
 use Rattle.lx_plain.specs.Allowed.{AreAllowed, marked_children, staying, unkept}
@@ -17,6 +18,8 @@ use Rattle.lx_draft.specs.Working.{Working, started}
 use Rattle.lx_draft.specs.Freezing.{freeze_step}
 use Rattle.lx_draft.specs.Faults.{over, after}
 use Rattle.lx_draft.specs.declared.state.Frozen.{Frozen}
+use Rattle.lx_draft.specs.declared.state.State.{State}
+use Rattle.lx_history.specs.History.{History, noted}
 use Rattle.lx_run.specs.Lines.{steps_run, drafted}
 use Rattle.lx_run.specs.Refusals.{and_then}
 use Rattle.lx_rules.specs.Answers.{Answers}
@@ -26,6 +29,7 @@ use Rattle.lx_settle.specs.Acting.{all_asked}
 use Rattle.lx_settle.specs.Joined.{IsJoined}
 use Rattle.lx_settle.specs.Rested.{IsRested}
 use Rattle.lx_settle.specs.Settling.{settle_step}
+use Rattle.lx_editor.specs.declared.recording.Recording.{Recording}
 use Rattle.lx_editor.specs.declared.outcome.Outcome.{Outcome}
 use Rattle.lx_editor.specs.declared.outcome.Outcome.TheVariants.{Committed, Refused, Idle}
 use Rattle.lx_editor.specs.Editor.{Editor}
@@ -70,6 +74,19 @@ left_by rules listeners steps w = and_then (drafted (steps_run listeners steps w
 abbrev pub begun : Editor → Working
 begun old = started old.tree old.selection old.next_key
 
+-- ---- how a commit is recorded
+
+abbrev pub recording : Tags → ℕ → Recording
+recording tags moment = record { tags = tags; moment = moment }
+
+abbrev pub state_with : Forest → Selection → State
+state_with f selection = record { links = f; selection = selection }
+
+-- the history with what is left, beside what was committed
+abbrev pub recorded : Editor → Recording → Left → History
+recorded old how left =
+    noted (state_with old.tree old.selection) (state_with left.tree left.selection) left.marks how.tags how.moment old.history
+
 -- ---- what is made of it
 
 -- nothing is marked, and the selection is the committed one
@@ -92,9 +109,9 @@ abbrev pub most_reads : Forest → Forest → (ℕ → Bool) → ℕ
 most_reads old new noted = 8 * (marked_children (staying noted new) old + marked_children noted new + unkept old None new + 1)
 
 -- It is something new, the view has ids for it, and it is committed: it is at rest under its rules, its texts are joined, the
--- operations are allowed between the two trees, and they were found by no more reads than that. Of the new editor only the
--- view's ids and the number of reads are left open.
-pub record IsCommitted (old : Editor) (left : Left) (commit : ℕ) (ops : List Op) (new : Editor) : Type 0 where
+-- operations are allowed between the two trees, and they were found by no more reads than that. The history has it as these
+-- tags and this moment say. Of the new editor only the view's ids and the number of reads are left open.
+pub record IsCommitted (old : Editor) (how : Recording) (left : Left) (commit : ℕ) (ops : List Op) (new : Editor) : Type 0 where
   pub anew : IsNothingNew old left → ⊥
   pub ids : hosts_fault old.tree left.tree old.view ≡ None
   pub rested : IsRested (answers_of left.rules) left.tree left.marks
@@ -110,6 +127,8 @@ pub record IsCommitted (old : Editor) (left : Left) (commit : ℕ) (ops : List O
     commits = old.commits + 1;
     view = new.view;
     last = Some (record { ops = ops; reads = reads });
+    history = recorded old how left;
+    moment = old.moment;
     rules = left.rules;
     listeners = old.listeners;
     tells_view = old.tells_view;
@@ -123,15 +142,15 @@ pub record IsUnshowable (old : Editor) (left : Left) (cause : Cause) (step : Opt
   pub same : new ≡ old
 
 -- What is left is committed, unless it is nothing new, or can't be shown. Where it is nothing new the rules stay registered.
-abbrev pub IsTaken : Editor → Left → Outcome → Editor → Type 0
-IsTaken old left (Committed commit ops) new = IsCommitted old left commit ops new
-IsTaken old left (Refused cause step) new = IsUnshowable old left cause step new
-IsTaken old left Idle new = IsNothingNew old left × (new ≡ record old { rules = left.rules })
+abbrev pub IsTaken : Editor → Recording → Left → Outcome → Editor → Type 0
+IsTaken old how left (Committed commit ops) new = IsCommitted old how left commit ops new
+IsTaken old how left (Refused cause step) new = IsUnshowable old left cause step new
+IsTaken old how left Idle new = IsNothingNew old left × (new ≡ record old { rules = left.rules })
 
 -- It is refused, and nothing changes; or what is left is taken.
-abbrev pub IsMadeOf : Result Left (Cause × Option ℕ) → Editor → Outcome → Editor → Type 0
-IsMadeOf (Err refused) old outcome new = (outcome ≡ Refused refused.0 refused.1) × (new ≡ old)
-IsMadeOf (Ok left) old outcome new = IsTaken old left outcome new
+abbrev pub IsMadeOf : Result Left (Cause × Option ℕ) → Editor → Recording → Outcome → Editor → Type 0
+IsMadeOf (Err refused) old how outcome new = (outcome ≡ Refused refused.0 refused.1) × (new ≡ old)
+IsMadeOf (Ok left) old how outcome new = IsTaken old how left outcome new
 
-unfoldable pub IsUpdated : Editor → List Step → Outcome → Editor → Type 0
-IsUpdated old steps outcome new = IsMadeOf (left_by old.rules old.listeners steps (begun old)) old outcome new
+unfoldable pub IsUpdated : Editor → List Step → Recording → Outcome → Editor → Type 0
+IsUpdated old steps how outcome new = IsMadeOf (left_by old.rules old.listeners steps (begun old)) old how outcome new

@@ -4,9 +4,10 @@ ghost use Rattle.lx_node.specs.Limits.{last_u32};
 
 use crate::editor::Editor;
 use crate::outcome::Outcome;
+use crate::recording::Recording;
 use lx_node::{Cause, Fault, NoMemory};
 use lx_script::{Reply, write_reply};
-use lx_step::{Command, Listener};
+use lx_step::{Command, Listener, Tags};
 use std::alloc::Global;
 
 impl Editor {
@@ -14,10 +15,13 @@ impl Editor {
     ghost use Rattle.lx_step.specs.Sound.{IsSoundListener};
     ghost use Rattle.lx_editor.specs.Dispatched.{IsDispatched, IsListening};
     ghost use Rattle.lx_editor.specs.Follows.{IsReplyOfDispatch, IsReplyOfListener};
+    ghost use Rattle.lx_editor.specs.Updated.{recording};
 
     /// Dispatches a command: it is offered to the listeners of its name, from priority 4 down to 0 and within one
     /// priority in the order of registration, until one has handled it. What their steps leave comes to rest under the
-    /// rules and is committed, as an update is. The answer tells whether a listener has handled the command, too; of a
+    /// rules and is committed, as an update is. `undo` and `redo` go to another state of the history, where the listeners
+    /// above them have neither handled them nor done anything: with an edit, another selection or queued steps before them
+    /// they are refused as `HistoryInside`, and with a payload as `BadCommand`. The answer tells whether a listener has handled the command, too; of a
     /// dispatch that is refused it tells that none has, and as the step that was refused it tells step 0, or none. After
     /// want of memory the editor is as it was.
     #[tactic(auto, unfolding(crate::specs::Dispatched::IsDispatched))]
@@ -25,14 +29,16 @@ impl Editor {
         &mut self,
         alloc: Global,
         command: &Command,
+        tags: Tags,
+        moment: u64,
     ) -> Result<(bool, Outcome), NoMemory>
         requires room { self.old.commits < last_u32 }
-        ensures dispatched { IfOk result (λ told. IsDispatched self.old command.now told.1 told.0 self.new) }
+        ensures dispatched { IfOk result (λ told. IsDispatched self.old command.now (recording tags moment) told.1 told.0 self.new) }
         ensures commits { self.new.commits ≤ self.old.commits + 1 }
         ensures unchanged { OnErr result (self.new ≡ self.old) }
     {
         let (verdict, handled) = self.judge_dispatch(alloc, command)?;
-        let outcome = self.conclude(alloc, verdict)?;
+        let outcome = self.conclude(alloc, verdict, Recording { tags, moment })?;
         let handled = outcome.unless_refused(handled);
         Ok((handled, outcome))
     }
@@ -42,14 +48,15 @@ impl Editor {
         &mut self,
         alloc: Global,
         command: &Command,
+        how: Recording,
     ) -> Result<Vec<u8>, NoMemory>
         requires room { self.old.commits < last_u32 }
-        ensures replies { IfOk result (λ reply. IsReplyOfDispatch self.old command.now reply.items self.new) }
+        ensures replies { IfOk result (λ reply. IsReplyOfDispatch self.old command.now how reply.items self.new) }
         ensures commits { self.new.commits ≤ self.old.commits + 1 }
         ensures unchanged { OnErr result (self.new ≡ self.old) }
     {
         let (verdict, handled) = self.judge_dispatch(alloc, command)?;
-        self.reply(alloc, verdict, Some(handled))
+        self.reply(alloc, verdict, Some(handled), how)
     }
 
     /// Registers a listener behind those that are registered, and answers its number, from 1. Nothing is committed. It

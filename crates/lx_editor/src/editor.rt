@@ -2,27 +2,32 @@ ghost use Rattle.lx_node.specs.Limits.{last_u32};
 
 use crate::outcome::{Outcome, Verdict};
 use crate::reconciling::follow;
+use crate::recording::Recording;
 use lx_bus::Bus;
 use lx_draft::{Frozen, State};
+use lx_history::History;
 use lx_host::HostTree;
 use lx_node::NoMemory;
 use lx_reconcile::Batch;
 use lx_rules::AnyRule;
 use lx_script::{Reply, write_reply, write_state};
-use lx_step::{Shown, Step};
+use lx_step::{Shown, Step, Tags};
 use std::alloc::Global;
 use std::marker::Model;
 
 /// An editor: the state that is committed, the next key, the number of commits, the view, which always shows
-/// the state's tree, the operations of the last commit, the rules and listeners that are registered, and whether its
-/// replies to commits tell the view.
+/// the state's tree, the operations of the last commit, the history, the moment of the last line, the rules and listeners
+/// that are registered, and whether its replies to commits tell the view.
 #[derive(Drop)]
 pub struct Editor {
     pub(crate) state: State,
     pub(crate) next_key: u32,
-    commits: u32,
+    pub(crate) commits: u32,
     pub(crate) view: HostTree,
-    last: Option<Batch>,
+    pub(crate) last: Option<Batch>,
+    pub(crate) history: History,
+    /// In milliseconds.
+    pub(crate) moment: u64,
     pub(crate) rules: Vec<AnyRule>,
     pub(crate) bus: Bus,
     pub(crate) tells_view: bool,
@@ -52,13 +57,14 @@ impl Editor {
     ghost use Rattle.lx_plain.specs.Allowed.{Shows};
     ghost use Rattle.lx_editor.specs.Editor.{new_editor};
     ghost use Rattle.lx_editor.specs.Standing.{IsState};
-    ghost use Rattle.lx_editor.specs.Updated.{IsUpdated, IsCommitted, left_of};
+    ghost use Rattle.lx_editor.specs.Updated.{IsUpdated, IsCommitted, left_of, recording};
     ghost use Rattle.lx_editor.specs.Judged.{MayCommit, MayConclude, IsConcluded};
 
-    /// A new editor: the root alone, nothing selected, no commit, no rule, no listener, and a view that shows it. Its
-    /// replies to commits tell the view, as HTML, where `tells_view` is true.
-    pub fn new(alloc: Global, tells_view: bool) -> Result<Editor, NoMemory>
-        ensures { IfOk result (λ made. made ≡ new_editor tells_view) }
+    /// A new editor: the root alone, nothing selected, no commit, no rule, no listener, nothing recorded, and a view that
+    /// shows it. Its replies to commits tell the view, as HTML, where `tells_view` is true. Typing goes on in one entry of
+    /// the history while less than `delay` milliseconds lie between two commits.
+    pub fn new(alloc: Global, tells_view: bool, delay: u64) -> Result<Editor, NoMemory>
+        ensures { IfOk result (λ made. made ≡ new_editor tells_view delay) }
     {
         Ok(Editor {
             state: State::new(alloc)?,
@@ -66,6 +72,8 @@ impl Editor {
             commits: 0,
             view: HostTree::new(alloc)?,
             last: None,
+            history: History::new(alloc, delay)?,
+            moment: 0,
             rules: Vec::new(alloc),
             bus: Bus::new(alloc)?,
             tells_view,
@@ -103,24 +111,36 @@ impl Editor {
     /// is offered to the listeners, and what is queued runs behind all of them. A refused update changes nothing: its
     /// outcome tells the step that was refused, or none where what was queued was refused, where the rules didn't come
     /// to rest, or where what is left is beyond a limit or has lost its selection. Steps that mark nothing and leave the
-    /// selection equal commit nothing. After want of memory the editor is as it was.
+    /// selection equal commit nothing. A commit is recorded in the history as the tags and the moment say, which is in
+    /// milliseconds. After want of memory the editor is as it was.
     #[tactic(auto, unfolding(crate::specs::Updated::IsUpdated))]
-    pub fn update(&mut self, alloc: Global, steps: &[Step]) -> Result<Outcome, NoMemory>
+    pub fn update(
+        &mut self,
+        alloc: Global,
+        steps: &[Step],
+        tags: Tags,
+        moment: u64,
+    ) -> Result<Outcome, NoMemory>
         requires sound { All IsSound steps.now }
         requires room { self.old.commits < last_u32 }
-        ensures updated { IfOk result (λ outcome. IsUpdated self.old steps.now outcome self.new) }
+        ensures updated { IfOk result (λ outcome. IsUpdated self.old steps.now (recording tags moment) outcome self.new) }
         ensures commits { self.new.commits ≤ self.old.commits + 1 }
         ensures unchanged { OnErr result (self.new ≡ self.old) }
     {
         let verdict = self.judge(alloc, steps)?;
-        self.conclude(alloc, verdict)
+        self.conclude(alloc, verdict, Recording { tags, moment })
     }
 
     /// Commits what is to be committed, and answers the outcome.
-    pub(crate) fn conclude(&mut self, alloc: Global, verdict: Verdict) -> Result<Outcome, NoMemory>
+    pub(crate) fn conclude(
+        &mut self,
+        alloc: Global,
+        verdict: Verdict,
+        how: Recording,
+    ) -> Result<Outcome, NoMemory>
         requires room { self.old.commits < last_u32 }
         requires may { MayConclude self.old verdict }
-        ensures concluded { IfOk result (λ outcome. IsConcluded self.old verdict outcome self.new) }
+        ensures concluded { IfOk result (λ outcome. IsConcluded self.old how verdict outcome self.new) }
         ensures commits { self.new.commits ≤ self.old.commits + 1 }
         ensures unchanged { OnErr result (self.new ≡ self.old) }
     {
@@ -128,7 +148,13 @@ impl Editor {
             Verdict::Commit { frozen, batch } => {
                 let number = self.next_commit();
                 let ops = batch.copy_ops(alloc)?;
-                self.commit(alloc, frozen, batch)?;
+                self.commit(alloc, frozen, batch, how)?;
+                Ok(Outcome::Committed { number, ops })
+            }
+            Verdict::Turned { turn, state, batch } => {
+                let number = self.next_commit();
+                let ops = batch.copy_ops(alloc)?;
+                self.commit_entry(alloc, turn, state, batch, how.moment)?;
                 Ok(Outcome::Committed { number, ops })
             }
             Verdict::Refused { cause, step } => Ok(Outcome::Refused { cause, step }),
@@ -144,20 +170,27 @@ impl Editor {
         self.commits + 1
     }
 
-    /// Commits what is left, with operations for the view. Without memory the editor is as it was.
+    /// Commits what is left, with operations for the view, and records it. All memory is taken first. Without memory the
+    /// editor is as it was.
     pub(crate) fn commit(
         &mut self,
         alloc: Global,
         frozen: Frozen,
         batch: Batch,
+        how: Recording,
     ) -> Result<(), NoMemory>
         requires room { self.old.commits < last_u32 }
         requires may { MayCommit self.old (left_of self.old.rules frozen) batch }
-        ensures committed { OnOk result (IsCommitted self.old (left_of self.old.rules frozen) (self.old.commits + 1) batch.ops self.new) }
+        ensures committed { OnOk result (IsCommitted self.old how (left_of self.old.rules frozen) (self.old.commits + 1) batch.ops self.new) }
         ensures commits { OnOk result (self.new.commits ≡ self.old.commits + 1) }
         ensures unchanged { OnErr result (self.new ≡ self.old) }
     {
-        follow(&mut self.view, batch.copy_ops(alloc)?)?;
+        let ops = batch.copy_ops(alloc)?;
+        let entry = frozen.state.copy(alloc)?;
+        self.history.prepare()?;
+        follow(&mut self.view, ops)?;
+        self.history
+            .note(&self.state, entry, &frozen.marks, how.tags, how.moment);
         self.state = frozen.state;
         self.next_key = frozen.next_key;
         self.commits += 1;
@@ -168,7 +201,8 @@ impl Editor {
     ghost use Rattle.lx_step.specs.declared.line.Shown.TheVariants as shown;
     ghost use Rattle.lx_editor.specs.Follows.{shown_text};
 
-    /// Shows what is committed, as the bytes of a reply: the document, the HTML of the view, or the selection.
+    /// Shows what is committed, as the bytes of a reply: the document, the HTML of the view, or the selection; or how many
+    /// entries the history has.
     pub fn show(&self, alloc: Global, shown: Shown) -> Result<Vec<u8>, NoMemory>
         ensures { IfOk result (λ reply. reply.items ≡ shown_text shown self.now) }
     {
@@ -178,6 +212,10 @@ impl Editor {
             Shown::Selection => {
                 let selection = self.state.selection.copy(alloc)?;
                 write_reply(alloc, &Reply::Selection(selection))
+            }
+            Shown::History => {
+                let (undo, redo) = self.depths();
+                write_reply(alloc, &Reply::History { redo, undo })
             }
         }
     }

@@ -8,9 +8,9 @@ ghost use Rattle.lx_draft.specs.Faults.{TellsStep};
 ghost use Rattle.lx_draft.specs.Working.{Working};
 ghost use Rattle.lx_rules.specs.declared.any_rule.AnyRule.{AnyRule as AnyRuleOf};
 ghost use Rattle.lx_run.specs.Refusals.{TellsRefusal};
-ghost use Rattle.lx_editor.specs.Dispatched.{answer_to, left_in_answer, was_handled};
+ghost use Rattle.lx_editor.specs.Dispatched.{answer_to};
 ghost use Rattle.lx_editor.specs.Editor.{Editor as EditorOf};
-ghost use Rattle.lx_editor.specs.Judged.{IsLeft, IsFresh, IsJudged, IsWeighed, IsForCause, is_refused};
+ghost use Rattle.lx_editor.specs.Judged.{IsLeft, HasGrown, IsFresh, IsJudged, IsAnswerJudged, IsWeighed, IsForCause, is_refused};
 ghost use Rattle.lx_plain.specs.Allowed.{AreCovered};
 ghost use Rattle.lx_reconcile.specs.Allowing.{marking};
 ghost use Rattle.lx_editor.specs.Registered.{left_for, left_with};
@@ -23,7 +23,7 @@ use crate::outcome::Verdict;
 use crate::reconciling::reconcile;
 use lx_draft::{Draft, Frozen};
 use lx_node::{Fault, NoMemory};
-use lx_run::{Refusal, run_dispatch, run_steps};
+use lx_run::{Ending, Refusal, run_dispatch, run_steps};
 use lx_step::{Command, Step, TypeRow};
 use std::alloc::Global;
 
@@ -77,14 +77,17 @@ impl Editor {
         alloc: Global,
         command: &Command,
     ) -> Result<(Verdict, bool), NoMemory>
-        ensures judged { IfOk result (λ told. IsJudged (left_in_answer self.now.rules (answer_to command.now self.now)) self.now told.0) }
-        ensures handled { IfOk result (λ told. told.1 ≡ was_handled (answer_to command.now self.now)) }
+        ensures { IfOk result (λ told. IsAnswerJudged (answer_to command.now self.now) self.now told.0 told.1) }
     {
         let draft = self.begin(alloc)?;
         match run_dispatch(alloc, &self.bus, draft, command) {
-            Ok((draft, handled)) => {
+            Ok(Ending::Left { draft, handled }) => {
                 let verdict = self.judge_draft(alloc, draft)?;
                 Ok((verdict, handled))
+            }
+            Ok(Ending::Turned(turn)) => {
+                let verdict = self.judge_turn(alloc, turn)?;
+                Ok((verdict, true))
             }
             Err(refusal) => {
                 let verdict = verdict_of(refusal)?;
@@ -120,6 +123,7 @@ impl Editor {
     fn weigh(&self, alloc: Global, frozen: Frozen) -> Result<Verdict, NoMemory>
         requires left { IsLeft (left_of self.now.rules frozen) }
         requires covered { AreCovered self.now.tree frozen.state.links (marking frozen.marks) }
+        requires grown { HasGrown self.now.tree self.now.next_key (left_of self.now.rules frozen) }
         ensures weighed { IfOk result (IsWeighed self.now (left_of self.now.rules frozen)) }
     {
         if frozen.marks.is_empty() && frozen.state.selection.is_equal(&self.state.selection) {

@@ -12,7 +12,9 @@ mod loading;
 mod marking;
 mod outcome;
 mod reconciling;
+mod recording;
 mod registering;
+mod turning;
 
 pub use answer::answer_line;
 pub use editor::Editor;

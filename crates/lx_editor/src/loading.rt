@@ -3,24 +3,26 @@
 ghost use Rattle.lx_node.specs.Limits.{last_u32};
 ghost use Rattle.std.specs.Prelude.{◌≡◌, IfOk};
 ghost use Rattle.lx_forest.specs.Lookups.{children_of};
-ghost use Rattle.lx_editor.specs.Judged.{with_gone};
+ghost use Rattle.lx_editor.specs.Judged.{with_leaves};
 
 use crate::editor::Editor;
 use crate::judging::{verdict_of, verdict_of_fault};
 use crate::leaving::rest;
 use crate::outcome::{Outcome, Verdict};
 use crate::reconciling::reconcile;
+use crate::recording::Recording;
 use lx_draft::Frozen;
 use lx_json::{export, import};
 use lx_links::Links;
 use lx_marks::Marks;
 use lx_node::{Fault, Key, NoMemory};
+use lx_step::Tags;
 use serde_json::Value;
 use std::alloc::Global;
 
 /// The marks with the children of the root among the leaves.
 fn with_children_gone(marks: &Marks, old: &Links) -> Result<Marks, NoMemory>
-    ensures { IfOk result (λ shown. shown ≡ with_gone (children_of old.now 0) marks.now) }
+    ensures { IfOk result (λ shown. shown ≡ with_leaves (children_of old.now 0) marks.now) }
 {
     let mut shown = marks.copy()?;
     for child in old.children(Key::root()) {
@@ -36,24 +38,31 @@ impl Editor {
     ghost use Rattle.lx_json.specs.Exporting.{exported};
     ghost use Rattle.lx_json.specs.Back.{ReadsBack};
     ghost use Rattle.lx_editor.specs.Follows.{IsReplyOfLoad};
-    ghost use Rattle.lx_editor.specs.Judged.{IsLeft, IsShownBy, IsJudged, IsWeighed, is_idle};
+    ghost use Rattle.lx_editor.specs.Judged.{IsLeft, IsShownBy, HasGrown, IsJudged, IsWeighed, is_idle};
     ghost use Rattle.lx_editor.specs.Loaded.{IsLoaded, left_by_load};
-    ghost use Rattle.lx_editor.specs.Updated.{left_of};
+    ghost use Rattle.lx_editor.specs.Updated.{left_of, recording};
 
     /// Loads a document, which takes the place of what is committed: its nodes get new keys, nothing is selected, and all
-    /// of it comes to rest under the rules and is committed. It is refused, with no step, where the value isn't a
+    /// of it comes to rest under the rules and is committed, and recorded in the history as the tags and the moment say,
+    /// which is in milliseconds. It is refused, with no step, where the value isn't a
     /// document, as `UnknownType`, `BadState` with the place as a JSON pointer, or `EmptyState`; as `TooLarge` where it is
     /// beyond a limit; and else as an update is. It is never idle. After a refusal or want of memory the editor is as it
     /// was.
     #[tactic(auto, unfolding(crate::specs::Loaded::IsLoaded))]
-    pub fn load(&mut self, alloc: Global, document: &Value) -> Result<Outcome, NoMemory>
+    pub fn load(
+        &mut self,
+        alloc: Global,
+        document: &Value,
+        tags: Tags,
+        moment: u64,
+    ) -> Result<Outcome, NoMemory>
         requires room { self.old.commits < last_u32 }
-        ensures loaded { IfOk result (λ outcome. IsLoaded self.old (view document.now) outcome self.new) }
+        ensures loaded { IfOk result (λ outcome. IsLoaded self.old (view document.now) (recording tags moment) outcome self.new) }
         ensures commits { self.new.commits ≤ self.old.commits + 1 }
         ensures unchanged { OnErr result (self.new ≡ self.old) }
     {
         let verdict = self.judge_load(alloc, document)?;
-        self.conclude(alloc, verdict)
+        self.conclude(alloc, verdict, Recording { tags, moment })
     }
 
     /// The same, answered with the bytes of a reply, which is made before anything is committed.
@@ -61,14 +70,15 @@ impl Editor {
         &mut self,
         alloc: Global,
         document: &Value,
+        how: Recording,
     ) -> Result<Vec<u8>, NoMemory>
         requires room { self.old.commits < last_u32 }
-        ensures replies { IfOk result (λ reply. IsReplyOfLoad self.old (view document.now) reply.items self.new) }
+        ensures replies { IfOk result (λ reply. IsReplyOfLoad self.old (view document.now) how reply.items self.new) }
         ensures commits { self.new.commits ≤ self.old.commits + 1 }
         ensures unchanged { OnErr result (self.new ≡ self.old) }
     {
         let verdict = self.judge_load(alloc, document)?;
-        self.reply(alloc, verdict, None)
+        self.reply(alloc, verdict, None, how)
     }
 
     /// What loading a document comes to. It changes nothing.
@@ -90,7 +100,8 @@ impl Editor {
     /// children of the old root are all gone, so their hosts are.
     fn weigh_load(&self, alloc: Global, frozen: Frozen) -> Result<Verdict, NoMemory>
         requires left { IsLeft (left_of self.now.rules frozen) }
-        requires shown { IsShownBy self.now.tree (left_of self.now.rules frozen) (with_gone (children_of self.now.tree 0) frozen.marks) }
+        requires shown { IsShownBy self.now.tree (left_of self.now.rules frozen) (with_leaves (children_of self.now.tree 0) frozen.marks) }
+        requires grown { HasGrown self.now.tree self.now.next_key (left_of self.now.rules frozen) }
         requires anew { is_touched frozen.marks 0 ≡ true }
         ensures weighed { IfOk result (IsWeighed self.now (left_of self.now.rules frozen)) }
         ensures anew { IfOk result (λ verdict. is_idle verdict ≡ false) }

@@ -1,7 +1,8 @@
-use lx_draft::Frozen;
+use lx_draft::{Frozen, State};
 use lx_host::Ops;
 use lx_node::Cause;
 use lx_reconcile::Batch;
+use lx_step::Turn;
 
 /// What a call made of an editor.
 #[derive(Debug, Drop)]
@@ -34,9 +35,21 @@ impl Outcome {
 #[derive(Drop)]
 pub(crate) enum Verdict {
     /// What they left is committed, with these operations.
-    Commit { frozen: Frozen, batch: Batch },
+    Commit {
+        frozen: Frozen,
+        batch: Batch,
+    },
+    /// The history goes to its next entry, a copy of which is this state, with these operations.
+    Turned {
+        turn: Turn,
+        state: State,
+        batch: Batch,
+    },
     /// They are refused for a cause. The step, from 0, is the one that was refused, where it was one.
-    Refused { cause: Cause, step: Option<u32> },
+    Refused {
+        cause: Cause,
+        step: Option<u32>,
+    },
     /// They ask for nothing that isn't so already.
     Idle,
 }

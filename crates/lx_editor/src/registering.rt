@@ -1,19 +1,35 @@
 //! Rules: how one comes to stand behind the others.
 
 ghost use Rattle.lx_node.specs.Limits.{last_u32};
+ghost use Rattle.std.specs.Prelude.{◌≡◌};
+ghost use Rattle.lx_editor.specs.Registered.{merging};
+ghost use Rattle.lx_editor.specs.Updated.{recording};
 
 use crate::editor::Editor;
 use crate::outcome::{Outcome, Verdict};
+use crate::recording::Recording;
 use lx_node::{Cause, NoMemory};
 use lx_rules::AnyRule;
-use lx_step::Rule;
+use lx_step::{Rule, Tags};
 use std::alloc::Global;
 
 /// The most rules that an editor has.
 const MOST_RULES: usize = 256;
 
+/// What is made of the state goes into the history's current entry.
+fn merged_at(moment: u64) -> Recording
+    ensures { result ≡ recording merging moment }
+{
+    let tags = Tags {
+        historic: false,
+        merge: true,
+        push: false,
+    };
+    Recording { tags, moment }
+}
+
 impl Editor {
-    ghost use Rattle.std.specs.Prelude.{◌≡◌, ◌+◌, ◌<◌, ◌≤◌, if◌then◌else◌, IfOk, OnOk, OnErr};
+    ghost use Rattle.std.specs.Prelude.{◌+◌, ◌<◌, ◌≤◌, if◌then◌else◌, IfOk, OnOk, OnErr};
     ghost use Rattle.lx_step.specs.declared.rule.Rule.{Rule as RuleOf};
     ghost use Rattle.lx_editor.specs.Editor.{Editor as EditorOf};
     ghost use Rattle.lx_editor.specs.Registered.{IsRegistered, left_by_rule, with_one_more};
@@ -21,20 +37,26 @@ impl Editor {
     ghost use Rattle.lx_editor.specs.Follows.{IsReplyOfRule};
 
     /// Registers a rule behind those that are registered. All nodes of its type in the tree are marked, which
-    /// takes no count, and come to rest under all rules; what that makes of the state is committed. Where there
+    /// takes no count, and come to rest under all rules; what that makes of the state is committed, and goes into the
+    /// history's current entry at this moment, in milliseconds. Where there
     /// is no such node the answer is Idle, and the rule is registered. A refusal tells no step and leaves the
     /// rule unregistered: as `TooManyRules` where 256 are registered, as `NoRest`, `StepLimit` or `TooLarge`
     /// where the rules don't come to rest, and else as an update is. After want of memory the editor is as it was.
     #[tactic(auto, unfolding(crate::specs::Registered::IsRegistered))]
-    pub fn register_rule(&mut self, alloc: Global, rule: Rule) -> Result<Outcome, NoMemory>
+    pub fn register_rule(
+        &mut self,
+        alloc: Global,
+        rule: Rule,
+        moment: u64,
+    ) -> Result<Outcome, NoMemory>
         requires room { self.old.commits < last_u32 }
-        ensures registered { IfOk result (λ outcome. IsRegistered self.old rule outcome self.new) }
+        ensures registered { IfOk result (λ outcome. IsRegistered self.old rule moment outcome self.new) }
         ensures commits { self.new.commits ≤ self.old.commits + 1 }
         ensures unchanged { OnErr result (self.new ≡ self.old) }
     {
         let verdict = self.judge_rule(alloc, rule)?;
         let is_new = !verdict.is_refused();
-        match self.conclude(alloc, verdict) {
+        match self.conclude(alloc, verdict, merged_at(moment)) {
             Ok(outcome) => Ok(outcome),
             Err(error) => {
                 if is_new {
@@ -46,15 +68,20 @@ impl Editor {
     }
 
     /// The same, answered with the bytes of a reply, which is made before anything is changed but the rules.
-    pub(crate) fn reply_to_rule(&mut self, alloc: Global, rule: Rule) -> Result<Vec<u8>, NoMemory>
+    pub(crate) fn reply_to_rule(
+        &mut self,
+        alloc: Global,
+        rule: Rule,
+        moment: u64,
+    ) -> Result<Vec<u8>, NoMemory>
         requires room { self.old.commits < last_u32 }
-        ensures replies { IfOk result (λ reply. IsReplyOfRule self.old rule reply.items self.new) }
+        ensures replies { IfOk result (λ reply. IsReplyOfRule self.old rule moment reply.items self.new) }
         ensures commits { self.new.commits ≤ self.old.commits + 1 }
         ensures unchanged { OnErr result (self.new ≡ self.old) }
     {
         let verdict = self.judge_rule(alloc, rule)?;
         let is_new = !verdict.is_refused();
-        match self.reply(alloc, verdict, None) {
+        match self.reply(alloc, verdict, None, merged_at(moment)) {
             Ok(reply) => Ok(reply),
             Err(error) => {
                 if is_new {

@@ -1,18 +1,18 @@
-use Rattle.std.proofs.Common.{◌+◌, sym, subst}
+use Rattle.std.proofs.Common.{◌≡◌, ◌+◌, sym, subst}
 use Rattle.lx_host.specs.Hosts.{FitInTurn, Leads}
 use Rattle.lx_editor.specs.Editor.{Editor}
 use Rattle.lx_editor.specs.Standing.{editor_of}
-use Rattle.lx_editor.specs.Updated.{Left, left_of, IsCommitted}
+use Rattle.lx_editor.specs.Updated.{Left, left_of, state_with, recorded, IsCommitted}
 use Rattle.lx_editor.specs.Judged.{MayCommit}
-use Rattle.lx_editor.proofs.Updated.{allowed_fit, still_valid, committed, made}
+use Rattle.lx_editor.proofs.Updated.{allowed_fit, recorded_same, still_valid, committed, made}
 use Rattle.lx_editor.proofs.editor.Editor.commit.Goals as goal
 
 pub follow-requires : goal.follow-requires
 follow-requires c =
     let now : Editor = c.args.self.now in
-    let ops = c.in_ok-copy_ops.field-0 in
+    let ops = c.in_ok-ops.ops in
     subst (λ (e : Editor). FitInTurn e.view ops) (sym c.self.view_is)
-    (subst (λ ops. FitInTurn now.view ops) (sym c.in_ok-copy_ops.ensures)
+    (subst (λ ops. FitInTurn now.view ops) (sym c.in_ok-ops.ensures)
     (allowed_fit now.tree c.args.frozen.state.links c.args.frozen.marks now.view c.args.batch.ops c.requires.may.allowed))
 
 pub invariant_of-self-2 : goal.invariant_of-self-2
@@ -21,9 +21,13 @@ invariant_of-self-2 c =
     let left : Left = left_of e.rules c.args.frozen in
     let view = c.follow.new.view.tree in
     let ops = c.args.batch.ops in
+    let history = c.note.new.self.history in
+    let is : history ≡ recorded e c.args.how left =
+    recorded_same (state_with e.tree e.selection) (state_with left.tree left.selection) c.in_ok-entry.entry left.marks c.args.how e.history c.prepare.new.self.history history
+    c.in_ok-entry.ensures.links c.in_ok-entry.ensures.selection c.prepare.ensures.same c.note.ensures in
     let may : MayCommit e left c.args.batch = subst (λ (d : Editor). MayCommit d (left_of d.rules c.args.frozen) c.args.batch) (sym c.self.view_is) c.requires.may in
-    let leads : Leads e.view ops view = subst (λ ops. Leads e.view ops view) c.in_ok-copy_ops.ensures c.in_ok-follow.ensures.leads in
-    still_valid e left view ops may.allowed leads c.args.batch.reads may.stands.state
+    let leads : Leads e.view ops view = subst (λ ops. Leads e.view ops view) c.in_ok-ops.ensures c.in_ok-follow.ensures.leads in
+    still_valid e c.args.how left view history is ops may.allowed leads c.args.batch.reads c.self.invariant may.stands.state may.grown
 
 pub returns-clause-committed : goal.returns-clause-committed
 returns-clause-committed c =
@@ -32,8 +36,12 @@ returns-clause-committed c =
     let view = c.follow.new.view.tree in
     let ops = c.args.batch.ops in
     let reads = c.args.batch.reads in
+    let history = c.note.new.self.history in
+    let is : history ≡ recorded e c.args.how left =
+    recorded_same (state_with e.tree e.selection) (state_with left.tree left.selection) c.in_ok-entry.entry left.marks c.args.how e.history c.prepare.new.self.history history
+    c.in_ok-entry.ensures.links c.in_ok-entry.ensures.selection c.prepare.ensures.same c.note.ensures in
     let may : MayCommit e left c.args.batch = subst (λ (d : Editor). MayCommit d (left_of d.rules c.args.frozen) c.args.batch) (sym c.self.view_is) c.requires.may in
-    let leads : Leads e.view ops view = subst (λ ops. Leads e.view ops view) c.in_ok-copy_ops.ensures c.in_ok-follow.ensures.leads in
-    let new : Editor = made e left view ops may.allowed leads reads in
-    let done = committed e left view ops may.allowed leads reads may.stands.rested may.stands.state.joined may.anew may.ids may.few in
-    subst (λ (d : Editor). IsCommitted d (left_of d.rules c.args.frozen) (d.commits + 1) ops new) c.self.view_is done
+    let leads : Leads e.view ops view = subst (λ ops. Leads e.view ops view) c.in_ok-ops.ensures c.in_ok-follow.ensures.leads in
+    let new : Editor = made e c.args.how left view history is ops may.allowed leads reads in
+    let done = committed e c.args.how left view history is ops may.allowed leads reads may.stands.rested may.stands.state.joined may.anew may.ids may.few in
+    subst (λ (d : Editor). IsCommitted d c.args.how (left_of d.rules c.args.frozen) (d.commits + 1) ops new) c.self.view_is done

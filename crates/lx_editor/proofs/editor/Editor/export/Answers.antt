@@ -4,7 +4,7 @@ use Rattle.lx_forest.specs.Lookups.{children_of}
 use Rattle.lx_json.specs.Back.{ReadsBack}
 use Rattle.lx_editor.specs.Editor.{Editor}
 use Rattle.lx_editor.specs.Standing.{editor_of}
-use Rattle.lx_editor.proofs.Updated.{within_first}
+use Rattle.lx_editor.proofs.Limits.{within_first}
 use Rattle.lx_editor.proofs.editor.Editor.export.Goals as goal
 
 pub returns-clause-back : goal.returns-clause-back

@@ -3,7 +3,7 @@ use Rattle.lx_rules.specs.declared.any_rule.AnyRule.{AnyRule}
 use Rattle.lx_editor.specs.Editor.{Editor}
 use Rattle.lx_editor.specs.Standing.{IsValid}
 use Rattle.lx_editor.specs.Updated.{left_of, rested_by}
-use Rattle.lx_editor.specs.Judged.{IsLeft, IsJudged}
+use Rattle.lx_editor.specs.Judged.{IsLeft, HasGrown, IsJudged}
 use Rattle.lx_editor.proofs.Updated.{fresh_begun}
 use Rattle.lx_editor.proofs.Told.{told}
 use Rattle.lx_editor.proofs.editor.Editor.judge_draft.Goals as goal
@@ -17,6 +17,7 @@ weigh-requires c =
     record {
       left = subst (λ (rules : List AnyRule). IsLeft (left_of rules c.in-Ok.frozen)) same stands.0;
       covered = stands.1;
+      grown = subst (λ (rules : List AnyRule). HasGrown e.tree e.next_key (left_of rules c.in-Ok.frozen)) same stands.2;
     }
 
 pub returns-in-Ok : goal.returns-in-Ok

@@ -9,7 +9,7 @@ use Rattle.lx_editor.specs.Editor.{Editor}
 use Rattle.lx_editor.specs.Standing.{editor_of}
 use Rattle.lx_editor.specs.Loaded.{left_by_load}
 use Rattle.lx_editor.specs.Updated.{left_of, rested_by}
-use Rattle.lx_editor.specs.Judged.{IsLeft, IsJudged, IsShownBy, with_gone}
+use Rattle.lx_editor.specs.Judged.{IsLeft, HasGrown, IsJudged, IsShownBy, with_leaves}
 use Rattle.lx_editor.proofs.Updated.{first_key, may_give_way, load_left, load_refused}
 use Rattle.lx_editor.proofs.Told.{told}
 use Rattle.lx_editor.proofs.editor.Editor.judge_load.Goals as goal
@@ -40,9 +40,17 @@ pub weigh_load-requires-clause-shown : goal.weigh_load-requires-clause-shown
 weigh_load-requires-clause-shown c =
     let e : Editor = editor_of c.self.inside in
     let frozen = c.in-Ok-rest.frozen in
-    subst (λ (d : Editor). IsShownBy d.tree (left_of d.rules frozen) (with_gone (children_of d.tree 0) frozen.marks)) c.self.view_is
-    (subst (λ (rules : List AnyRule). IsShownBy e.tree (left_of rules frozen) (with_gone (children_of e.tree 0) frozen.marks)) c.as_slice.ensures.value
-    ((c.in-Ok-rest.ensures.imported e.next_key c.in-Ok.ensures.made).2 e.tree (may_give_way e c.self.invariant)))
+    subst (λ (d : Editor). IsShownBy d.tree (left_of d.rules frozen) (with_leaves (children_of d.tree 0) frozen.marks)) c.self.view_is
+    (subst (λ (rules : List AnyRule). IsShownBy e.tree (left_of rules frozen) (with_leaves (children_of e.tree 0) frozen.marks)) c.as_slice.ensures.value
+    ((c.in-Ok-rest.ensures.imported e.next_key c.in-Ok.ensures.made).2 e.tree (may_give_way e c.self.invariant)).0)
+
+pub weigh_load-requires-clause-grown : goal.weigh_load-requires-clause-grown
+weigh_load-requires-clause-grown c =
+    let e : Editor = editor_of c.self.inside in
+    let frozen = c.in-Ok-rest.frozen in
+    subst (λ (d : Editor). HasGrown d.tree d.next_key (left_of d.rules frozen)) c.self.view_is
+    (subst (λ (rules : List AnyRule). HasGrown e.tree e.next_key (left_of rules frozen)) c.as_slice.ensures.value
+    ((c.in-Ok-rest.ensures.imported e.next_key c.in-Ok.ensures.made).2 e.tree (may_give_way e c.self.invariant)).1)
 
 pub returns-in-Ok-rest-clause-judged : goal.returns-in-Ok-rest-clause-judged
 returns-in-Ok-rest-clause-judged c =

@@ -1,5 +1,6 @@
 use Rattle.serde_json.specs.View.{view}
 use Rattle.lx_editor.specs.Loaded.{IsLoaded, left_by_load}
+use Rattle.lx_editor.specs.Updated.{recording}
 use Rattle.lx_editor.proofs.Judged.{may_conclude, concluded, never_idle}
 use Rattle.lx_editor.proofs.Told.{told}
 use Rattle.lx_editor.proofs.editor.Editor.load.Goals as goal
@@ -16,6 +17,6 @@ returns-clause-loaded c =
     let ensured = c.in_ok-verdict.ensures in
     told c.conclude.result _ _ c.conclude.ensures.concluded
     (λ outcome done. (
-      concluded (left_by_load old (view c.args.document.now)) old verdict outcome c.conclude.new.self ensured.judged done,
-      never_idle old verdict outcome c.conclude.new.self ensured.anew done,
+      concluded (recording c.args.tags c.args.moment) (left_by_load old (view c.args.document.now)) old verdict outcome c.conclude.new.self ensured.judged done,
+      never_idle (recording c.args.tags c.args.moment) old verdict outcome c.conclude.new.self ensured.anew done,
     ))

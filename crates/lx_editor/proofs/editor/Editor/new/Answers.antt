@@ -3,4 +3,6 @@ use Rattle.lx_editor.proofs.editor.Editor.new.Goals as goal
 
 pub invariant_of-result : goal.invariant_of-result
 invariant_of-result c =
-    new_valid c.in_ok-new.field-0.links c.in_ok-new.field-0.selection c.in_ok-new-2.field-0.tree c.new-3.result.items c.in_ok-new-3.field-0 c.args.tells_view c.in_ok-new.ensures.links c.in_ok-new.ensures.selection c.in_ok-new-2.ensures c.in_ok-new.ensures.start
+    let made = c.in_ok-new.field-0 in
+    new_valid made.links made.selection c.in_ok-new-2.field-0.tree c.in_ok-new-3.field-0.history c.args.delay c.new-4.result.items c.in_ok-new-4.field-0 c.args.tells_view
+    c.in_ok-new.ensures.links c.in_ok-new.ensures.selection c.in_ok-new-2.ensures c.in_ok-new-3.ensures c.in_ok-new.ensures.start

@@ -13,6 +13,6 @@ returns-clause-replies c =
     told c.reply.result _ _ c.reply.ensures.replies
     (λ bytes (outcome, done, text). (
       outcome,
-      (concluded (left_by_load old (view c.args.document.now)) old verdict outcome c.reply.new.self ensured.judged done, never_idle old verdict outcome c.reply.new.self ensured.anew done),
+      (concluded c.args.how (left_by_load old (view c.args.document.now)) old verdict outcome c.reply.new.self ensured.judged done, never_idle c.args.how old verdict outcome c.reply.new.self ensured.anew done),
       text,
     ))

@@ -9,4 +9,4 @@ returns-clause-replies c =
     let old = c.args.self.now in
     let r = left_by old.rules old.listeners c.args.steps.now (begun old) in
     told c.reply.result _ _ c.reply.ensures.replies
-    (λ bytes (outcome, done, text). (outcome, concluded r old c.in_ok-verdict.verdict outcome c.reply.new.self c.in_ok-verdict.ensures.judged done, text))
+    (λ bytes (outcome, done, text). (outcome, concluded c.args.how r old c.in_ok-verdict.verdict outcome c.reply.new.self c.in_ok-verdict.ensures.judged done, text))

@@ -1,4 +1,4 @@
-use Rattle.lx_editor.specs.Updated.{IsUpdated, left_by, begun}
+use Rattle.lx_editor.specs.Updated.{IsUpdated, left_by, begun, recording}
 use Rattle.lx_editor.proofs.Judged.{may_conclude, concluded}
 use Rattle.lx_editor.proofs.Told.{told}
 use Rattle.lx_editor.proofs.editor.Editor.update.Goals as goal
@@ -12,4 +12,4 @@ unfolding IsUpdated
 returns-clause-updated c =
     let old = c.args.self.now in
     told c.conclude.result _ _ c.conclude.ensures.concluded
-    (λ outcome done. concluded (left_by old.rules old.listeners c.args.steps.now (begun old)) old c.in_ok-verdict.verdict outcome c.conclude.new.self c.in_ok-verdict.ensures.judged done)
+    (λ outcome done. concluded (recording c.args.tags c.args.moment) (left_by old.rules old.listeners c.args.steps.now (begun old)) old c.in_ok-verdict.verdict outcome c.conclude.new.self c.in_ok-verdict.ensures.judged done)

@@ -1,11 +1,11 @@
-use Rattle.std.proofs.Common.{◌≡◌, ◌∙◌, ◌≤◌, None, Some, refl, ap, subst}
+use Rattle.std.proofs.Common.{◌≡◌, ◌≤◌, None, Some, refl, subst}
 use Rattle.lx_forest.specs.Lookups.{children_of}
 use Rattle.lx_marks.specs.Marks.{Marked, is_noted}
 use Rattle.lx_reconcile.specs.Allowing.{marking, IsAllowed}
 use Rattle.lx_editor.specs.Editor.{Editor}
 use Rattle.lx_editor.specs.Standing.{editor_of}
 use Rattle.lx_editor.specs.Updated.{left_of, hosts_fault, most_reads}
-use Rattle.lx_editor.specs.Judged.{with_gone}
+use Rattle.lx_editor.specs.Judged.{with_leaves}
 use Rattle.lx_editor.proofs.Shown.{is_anew, may_commit}
 use Rattle.lx_editor.proofs.editor.Editor.weigh_load.Goals as goal
 
@@ -16,15 +16,15 @@ returns-in-Ok-clause-weighed c =
     let frozen = c.args.frozen in
     let links = frozen.state.links in
     let batch = c.in-Ok.batch in
-    let shown : c.in_ok-shown.shown ≡ with_gone (children_of e.tree 0) frozen.marks = c.in_ok-shown.ensures in
+    let shown : c.in_ok-shown.shown ≡ with_leaves (children_of e.tree 0) frozen.marks = c.in_ok-shown.ensures in
     let ids : hosts_fault now.tree links now.view ≡ None = subst (λ (d : Editor). hosts_fault d.tree links d.view ≡ None) c.self.view_is c.in-Ok.ensures.ids in
-    let allowed : IsAllowed now.tree links (marking (with_gone (children_of now.tree 0) frozen.marks)) now.view batch.ops =
-    subst (λ (d : Editor). IsAllowed d.tree links (marking (with_gone (children_of d.tree 0) frozen.marks)) d.view batch.ops) c.self.view_is
+    let allowed : IsAllowed now.tree links (marking (with_leaves (children_of now.tree 0) frozen.marks)) now.view batch.ops =
+    subst (λ (d : Editor). IsAllowed d.tree links (marking (with_leaves (children_of d.tree 0) frozen.marks)) d.view batch.ops) c.self.view_is
     (subst (λ (m : Marked). IsAllowed e.tree links (marking m) e.view batch.ops) shown c.in-Ok.ensures.allowed) in
-    let few : batch.reads ≤ most_reads now.tree links (is_noted (with_gone (children_of now.tree 0) frozen.marks)) =
-    subst (λ (d : Editor). batch.reads ≤ most_reads d.tree links (is_noted (with_gone (children_of d.tree 0) frozen.marks))) c.self.view_is
+    let few : batch.reads ≤ most_reads now.tree links (is_noted (with_leaves (children_of now.tree 0) frozen.marks)) =
+    subst (λ (d : Editor). batch.reads ≤ most_reads d.tree links (is_noted (with_leaves (children_of d.tree 0) frozen.marks))) c.self.view_is
     (subst (λ (m : Marked). batch.reads ≤ most_reads e.tree links (is_noted m)) shown c.in-Ok.ensures.few) in
-    (refl, may_commit now (left_of now.rules frozen) (with_gone (children_of now.tree 0) frozen.marks) batch c.requires.left c.requires.anew c.requires.shown ids allowed few)
+    (refl, may_commit now (left_of now.rules frozen) (with_leaves (children_of now.tree 0) frozen.marks) batch c.requires.left c.requires.anew c.requires.shown ids c.requires.grown allowed few)
 
 pub returns-in-Err-Cause-clause-weighed : goal.returns-in-Err-Cause-clause-weighed
 returns-in-Err-Cause-clause-weighed c =

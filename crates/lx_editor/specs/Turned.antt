@@ -1,0 +1,64 @@
+-- What undo and redo make of an editor: the history goes to another of its states, which is committed.
+use Rattle.std.specs.Prelude.{◌≡◌, ◌≤◌, ◌||◌, ℕ, ◌+◌, Bool, List, Option, None, Some}
+use Rattle.lx_node.specs.declared.cause.Cause.{Cause}
+use Rattle.lx_host.specs.declared.op.Op.{Op}
+use Rattle.lx_step.specs.declared.built_in.Turn.{Turn}
+use Rattle.lx_forest.specs.Forest.{Forest}
+use Rattle.lx_forest.specs.Lookups.{has}
+use Rattle.lx_plain.specs.Allowed.{AreAllowed}
+use Rattle.lx_draft.specs.declared.state.State.{State}
+use Rattle.lx_history.specs.History.{entry_of, turned, cleared}
+use Rattle.lx_editor.specs.declared.outcome.Outcome.{Outcome}
+use Rattle.lx_editor.specs.declared.outcome.Outcome.TheVariants.{Committed, Refused, Idle}
+use Rattle.lx_editor.specs.Editor.{Editor}
+use Rattle.lx_editor.specs.Updated.{hosts_fault, most_reads}
+
+-- Every node of either tree counts as marked.
+abbrev pub is_in_either : Forest → Forest → ℕ → Bool
+is_in_either old new q = has q old || has q new
+
+-- The history has gone to an entry, whose tree and selection are committed as they were recorded, whatever was written since.
+-- No rule is asked, no key is given back, and the operations lead from the committed tree to the entry's. Of the new editor
+-- only the view's ids and the number of reads are left open.
+pub record IsTurned (turn : Turn) (moment : ℕ) (old : Editor) (commit : ℕ) (ops : List Op) (new : Editor) : Type 0 where
+  pub entry : State
+  pub next : entry_of turn old.history ≡ Some entry
+  pub turns : turned turn moment old.history ≡ Some new.history
+  pub current : new.history.current ≡ Some entry
+  pub ids : hosts_fault old.tree entry.links old.view ≡ None
+  pub allowed : AreAllowed old.tree entry.links (is_in_either old.tree entry.links) old.view ops new.view
+  pub reads : ℕ
+  pub few : reads ≤ most_reads old.tree entry.links (is_in_either old.tree entry.links)
+  pub number : commit ≡ old.commits + 1
+  pub made : new ≡ record {
+    tree = entry.links;
+    selection = entry.selection;
+    next_key = old.next_key;
+    commits = old.commits + 1;
+    view = new.view;
+    last = Some (record { ops = ops; reads = reads });
+    history = new.history;
+    moment = old.moment;
+    rules = old.rules;
+    listeners = old.listeners;
+    tells_view = old.tells_view;
+  }
+
+-- There is an entry, but the view has no ids for it, and nothing changes.
+pub record IsUnshowableEntry (turn : Turn) (old : Editor) (cause : Cause) (step : Option ℕ) (new : Editor) : Type 0 where
+  pub entry : State
+  pub next : entry_of turn old.history ≡ Some entry
+  pub fault : hosts_fault old.tree entry.links old.view ≡ Some cause
+  pub no_step : step ≡ None
+  pub same : new ≡ old
+
+-- The outcome that an undo or a redo may have, and the editor that it may leave. It is idle exactly where there is no entry to
+-- go to.
+abbrev pub IsTurnedBy : Turn → ℕ → Editor → Outcome → Editor → Type 0
+IsTurnedBy turn moment old (Committed commit ops) new = IsTurned turn moment old commit ops new
+IsTurnedBy turn moment old (Refused cause step) new = IsUnshowableEntry turn old cause step new
+IsTurnedBy turn moment old Idle new = (entry_of turn old.history ≡ None) × (new ≡ old)
+
+-- the editor whose history has forgotten its entries
+abbrev pub with_nothing_recorded : Editor → Editor
+with_nothing_recorded e = record e { history = cleared e.history }

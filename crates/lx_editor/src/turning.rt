@@ -1,0 +1,142 @@
+//! Undo and redo: the history goes to another of its states, which is committed.
+
+ghost use Rattle.lx_node.specs.Limits.{last_u32};
+
+use crate::editor::Editor;
+use crate::marking::all_marks;
+use crate::outcome::{Outcome, Verdict};
+use crate::reconciling::{follow, reconcile};
+use crate::recording::Recording;
+use lx_draft::State;
+use lx_history::History;
+use lx_node::{Fault, NoMemory};
+use lx_reconcile::Batch;
+use lx_script::{Reply, write_reply};
+use lx_step::{Tags, Turn};
+use std::alloc::Global;
+
+impl Editor {
+    ghost use Rattle.std.specs.Prelude.{◌≡◌, ◌+◌, ◌<◌, ◌≤◌, length, IfOk, OnOk, OnErr};
+    ghost use Rattle.lx_step.specs.declared.built_in.Turn.TheVariants as way;
+    ghost use Rattle.lx_script.specs.Replies.{reply_text};
+    ghost use Rattle.lx_script.specs.declared.reply.Reply.TheVariants.{Cleared};
+    ghost use Rattle.lx_editor.specs.Standing.{IsEntry, EachEntry};
+    ghost use Rattle.lx_editor.specs.Turned.{IsTurned, IsTurnedBy, with_nothing_recorded};
+    ghost use Rattle.lx_editor.specs.Judged.{MayTurn, IsTurnJudged};
+
+    /// Goes back: the history's next entry is committed as it was recorded, its tree and its selection, whatever was
+    /// written since. No rule is asked, and no key is given out again. The moment is in milliseconds; no typing goes on
+    /// behind an undo. It is idle exactly where there is no entry to go back to, and refused, as `TooLarge` with the limit
+    /// `hosts`, only where the view has no ids for the entry's nodes. After a refusal or want of memory the editor is as
+    /// it was.
+    pub fn undo(&mut self, alloc: Global, moment: u64) -> Result<Outcome, NoMemory>
+        requires room { self.old.commits < last_u32 }
+        ensures turned { IfOk result (λ outcome. IsTurnedBy way.Undo moment self.old outcome self.new) }
+        ensures commits { self.new.commits ≤ self.old.commits + 1 }
+        ensures unchanged { OnErr result (self.new ≡ self.old) }
+    {
+        self.turn(alloc, Turn::Undo, moment)
+    }
+
+    /// Goes forth again, to the state from which the last undo came. It is idle exactly where there is none: nothing was
+    /// undone, or something was written and pushed since. Else it is as `undo`.
+    pub fn redo(&mut self, alloc: Global, moment: u64) -> Result<Outcome, NoMemory>
+        requires room { self.old.commits < last_u32 }
+        ensures turned { IfOk result (λ outcome. IsTurnedBy way.Redo moment self.old outcome self.new) }
+        ensures commits { self.new.commits ≤ self.old.commits + 1 }
+        ensures unchanged { OnErr result (self.new ≡ self.old) }
+    {
+        self.turn(alloc, Turn::Redo, moment)
+    }
+
+    fn turn(&mut self, alloc: Global, turn: Turn, moment: u64) -> Result<Outcome, NoMemory>
+        requires room { self.old.commits < last_u32 }
+        ensures turned { IfOk result (λ outcome. IsTurnedBy turn moment self.old outcome self.new) }
+        ensures commits { self.new.commits ≤ self.old.commits + 1 }
+        ensures unchanged { OnErr result (self.new ≡ self.old) }
+    {
+        let verdict = self.judge_turn(alloc, turn)?;
+        let how = Recording {
+            tags: Tags::none(),
+            moment,
+        };
+        self.conclude(alloc, verdict, how)
+    }
+
+    /// What an undo or a redo comes to. It changes nothing.
+    pub(crate) fn judge_turn(&self, alloc: Global, turn: Turn) -> Result<Verdict, NoMemory>
+        ensures { IfOk result (IsTurnJudged turn self.now) }
+    {
+        let Some(entry) = self.history.state_at(turn) else {
+            return Ok(Verdict::Idle);
+        };
+        let state = entry.copy(alloc)?;
+        let marks = all_marks(alloc, &self.state.links, &state.links)?;
+        match reconcile(alloc, &self.state.links, &state.links, &marks, &self.view) {
+            Ok(batch) => Ok(Verdict::Turned { turn, state, batch }),
+            Err(Fault::Cause(cause)) => Ok(Verdict::Refused { cause, step: None }),
+            Err(Fault::Memory) => Err(NoMemory),
+        }
+    }
+
+    /// Commits the history's next entry, a copy of which this state is, with operations for the view. Without memory the
+    /// editor is as it was.
+    pub(crate) fn commit_entry(
+        &mut self,
+        alloc: Global,
+        turn: Turn,
+        state: State,
+        batch: Batch,
+        moment: u64,
+    ) -> Result<(), NoMemory>
+        requires room { self.old.commits < last_u32 }
+        requires may { MayTurn self.old turn state batch }
+        ensures turned { OnOk result (IsTurned turn moment self.old (self.old.commits + 1) batch.ops self.new) }
+        ensures commits { OnOk result (self.new.commits ≡ self.old.commits + 1) }
+        ensures unchanged { OnErr result (self.new ≡ self.old) }
+    {
+        let ops = batch.copy_ops(alloc)?;
+        self.history.prepare()?;
+        follow(&mut self.view, ops)?;
+        let _turned = self.history.turn(turn, moment);
+        self.state = state;
+        self.commits += 1;
+        self.last = Some(batch);
+        Ok(())
+    }
+
+    /// What is recorded: the states to go back to and forth to, and the current one. Each of them is one tree, in which
+    /// its selection lies and whose texts are joined.
+    pub fn history(&self) -> &History
+        ensures history { result.now.history ≡ self.now.history }
+        ensures entries { EachEntry (IsEntry self.now.next_key) self.now.history }
+    {
+        &self.history
+    }
+
+    /// How many entries there are to go back to, and to go forth to, at most 500 each.
+    pub fn depths(&self) -> (u32, u32)
+        ensures { (result.0 ≡ length self.now.history.undo) × (result.1 ≡ length self.now.history.redo) }
+    {
+        self.history.depths()
+    }
+
+    /// Forgets all that is recorded: there is nothing to go back to or forth to then, and the next commit is pushed. What
+    /// is committed stays.
+    pub fn clear_history(&mut self)
+        ensures { self.new ≡ with_nothing_recorded self.old }
+    {
+        self.history.clear();
+    }
+
+    /// The same, answered with the bytes of a reply, which is made before anything is forgotten.
+    pub(crate) fn reply_to_clear(&mut self, alloc: Global) -> Result<Vec<u8>, NoMemory>
+        ensures replies { IfOk result (λ reply. reply.items ≡ reply_text Cleared) }
+        ensures cleared { OnOk result (self.new ≡ with_nothing_recorded self.old) }
+        ensures unchanged { OnErr result (self.new ≡ self.old) }
+    {
+        let reply = write_reply(alloc, &Reply::Cleared)?;
+        self.clear_history();
+        Ok(reply)
+    }
+}
