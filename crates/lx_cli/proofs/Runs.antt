@@ -2,7 +2,8 @@
 use Rattle.std.proofs.Common.{◌≡◌, ◌≢◌, ℕ, Bool, true, false, ◌+◌, ◌<◌, ◌≤◌, ◌⊎◌, inl, inr, List, [], ◌++◌, length, take, sym, ap, ◌∙◌, refl, subst, length-append, arith}
 use Rattle.lx_node.specs.Limits.{last_u32}
 use Rattle.lx_io.specs.Devices.{Consumes, IsAtEnd, HasRisen, IsCounted, last_count}
-use Rattle.lx_words.specs.Words.{are_taken, view_in}
+use Rattle.lx_words.specs.declared.options.Options.{Options}
+use Rattle.lx_words.specs.Words.{are_taken, asked_for}
 use Rattle.lx_editor.specs.Editor.{Editor}
 use Rattle.lx_cli.specs.declared.session.Session.{Session}
 use Rattle.lx_cli.specs.declared.session.Unanswered.{Unanswered}
@@ -69,12 +70,12 @@ IsRun-usage words q s refused = record {
   complete = λ taken faults short. absurd (cc);
 }
 
-pub IsUnended-new : (tells_view : Bool) (session : Session) → IsNew tells_view session → IsUnended session.pending.items
-IsUnended-new tells_view session new = subst IsUnended (sym new.pending) IsUnended-none
+pub IsUnended-new : (options : Options) (session : Session) → IsNew options session → IsUnended session.pending.items
+IsUnended-new options session new = subst IsUnended (sym new.pending) IsUnended-none
 
 -- the editor has numbers for a last line
-pub commits-end : (tells_view : Bool) (a b : Moment) (read : List ℕ) → IsNew tells_view a.session → IsEnd input_limit read a b → b.session.editor.commits < last_u32
-commits-end tells_view a b read new p =
+pub commits-end : (options : Options) (a b : Moment) (read : List ℕ) → IsNew options a.session → IsEnd input_limit read a b → b.session.editor.commits < last_u32
+commits-end options a b read new p =
     let waits = a.session.pending.items in
     omega (arith, length-ended-le (waits ++ read), length-append waits read, ap length new.pending, ap (λ (e : Editor). e.commits) new.editor, p.taken.answered.commits, p.within)
 
@@ -84,15 +85,15 @@ module _ (words : List (List ℕ)) (is_taken : are_taken words ≡ true) where
   Ran status read q r s t = (written : List ℕ) × IsRun status (worded words read written q r s t)
 
   -- what is taken in a run from its begin
-  taken_new : (a b : Session) (s t : SinkSeen) (bytes : List ℕ) → IsNew (view_in words) a → AreTaken bytes a b s t → AreAnswered (ended bytes) (begun_with words) b.editor s t
+  taken_new : (a b : Session) (s t : SinkSeen) (bytes : List ℕ) → IsNew (asked_for words) a → AreTaken bytes a b s t → AreAnswered (ended bytes) (begun_with words) b.editor s t
   taken_new a b s t bytes new p =
       subst (λ (editor : Editor). AreAnswered (ended bytes) editor b.editor s t) new.editor
       (subst (λ (waits : List ℕ). AreAnswered (ended (waits ++ bytes)) a.editor b.editor s t) new.pending p.answered)
 
-  waiting_new : (a b : Session) (s t : SinkSeen) (bytes : List ℕ) → IsNew (view_in words) a → AreTaken bytes a b s t → b.pending.items ≡ unended bytes
+  waiting_new : (a b : Session) (s t : SinkSeen) (bytes : List ℕ) → IsNew (asked_for words) a → AreTaken bytes a b s t → b.pending.items ≡ unended bytes
   waiting_new a b s t bytes new p = p.waiting ∙ ap (λ waits. unended (waits ++ bytes)) new.pending
 
-  pub Ran-done : (a b : Moment) (end : Editor) (t : SinkSeen) (read : List ℕ) → IsNew (view_in words) a.session → IsEnd input_limit read a b
+  pub Ran-done : (a b : Moment) (end : Editor) (t : SinkSeen) (read : List ℕ) → IsNew (asked_for words) a.session → IsEnd input_limit read a b
       → AreAnswered (last_line b.session.pending.items) b.session.editor end b.sink t
       → Ran Done read a.source b.source a.sink t
   unfolding Ends
@@ -121,7 +122,7 @@ module _ (words : List (List ℕ)) (is_taken : are_taken words ≡ true) where
         },
       )
 
-  pub Ran-read_fault : (a b : Moment) (read : List ℕ) → IsNew (view_in words) a.session → IsBrokenOff input_limit read a b
+  pub Ran-read_fault : (a b : Moment) (read : List ℕ) → IsNew (asked_for words) a.session → IsBrokenOff input_limit read a b
       → Ran ReadFault read a.source b.source a.sink b.sink
   unfolding Ends
   Ran-read_fault a b read new p =
@@ -144,7 +145,7 @@ module _ (words : List (List ℕ)) (is_taken : are_taken words ≡ true) where
         },
       )
 
-  pub Ran-too_long : (a b : Moment) (read : List ℕ) → IsNew (view_in words) a.session → IsPastLimit input_limit read a b
+  pub Ran-too_long : (a b : Moment) (read : List ℕ) → IsNew (asked_for words) a.session → IsPastLimit input_limit read a b
       → Ran InputTooLong read a.source b.source a.sink b.sink
   unfolding Ends
   Ran-too_long a b read new p =
@@ -197,7 +198,7 @@ module _ (words : List (List ℕ)) (is_taken : are_taken words ≡ true) where
   )
 
   -- where a line that had ended is not answered
-  pub Ran-unanswered : (why : Unanswered) (a b : Moment) (read : List ℕ) → IsNew (view_in words) a.session → IsUnanswered why input_limit read a b
+  pub Ran-unanswered : (why : Unanswered) (a b : Moment) (read : List ℕ) → IsNew (asked_for words) a.session → IsUnanswered why input_limit read a b
       → Ran (unanswered_status why) read a.source b.source a.sink b.sink
   Ran-unanswered why a b read new p =
       let lines : AreUnanswered why (ended read) (begun_with words) a.sink b.sink =
@@ -208,7 +209,7 @@ module _ (words : List (List ℕ)) (is_taken : are_taken words ≡ true) where
       (inl refl) lines
 
   -- where the last line is not answered
-  pub Ran-last_unanswered : (why : Unanswered) (a b : Moment) (t : SinkSeen) (read : List ℕ) → IsNew (view_in words) a.session → IsEnd input_limit read a b
+  pub Ran-last_unanswered : (why : Unanswered) (a b : Moment) (t : SinkSeen) (read : List ℕ) → IsNew (asked_for words) a.session → IsEnd input_limit read a b
       → AreUnanswered why (last_line b.session.pending.items) b.session.editor b.sink t
       → Ran (unanswered_status why) read a.source b.source a.sink t
   Ran-last_unanswered why a b t read new p q =
@@ -221,7 +222,7 @@ module _ (words : List (List ℕ)) (is_taken : are_taken words ≡ true) where
       (AreUnanswered-append why (begun_with words) b.session.editor a.sink b.sink t (ended read) (last_line (unended read)) lines last)
 
   -- where no more was read before the end
-  pub HasRun-stopped : (why : Stop) (a b : Moment) → IsNew (view_in words) a.session → why ≢ stop.End → HasStopped why input_limit a b
+  pub HasRun-stopped : (why : Stop) (a b : Moment) → IsNew (asked_for words) a.session → why ≢ stop.End → HasStopped why input_limit a b
       → (read written : List ℕ) × IsRun (stop_status why) (worded words read written a.source b.source a.sink b.sink)
   HasRun-stopped stop.End a b new early p = absurd (early refl)
   HasRun-stopped stop.ReadFault a b new early p = let run = Ran-read_fault a b p.bytes new p.stops in (p.bytes, run.0, run.1)
@@ -229,12 +230,12 @@ module _ (words : List (List ℕ)) (is_taken : are_taken words ≡ true) where
   HasRun-stopped stop.Memory a b new early p = let run = Ran-unanswered unanswered.Memory a b p.bytes new p.stops in (p.bytes, run.0, run.1)
   HasRun-stopped stop.TooLong a b new early p = let run = Ran-too_long a b p.bytes new p.stops in (p.bytes, run.0, run.1)
 
-  pub HasRun-done : (a b : Moment) (end : Editor) (t : SinkSeen) → IsNew (view_in words) a.session → HasStopped stop.End input_limit a b
+  pub HasRun-done : (a b : Moment) (end : Editor) (t : SinkSeen) → IsNew (asked_for words) a.session → HasStopped stop.End input_limit a b
       → AreAnswered (last_line b.session.pending.items) b.session.editor end b.sink t
       → (read written : List ℕ) × IsRun Done (worded words read written a.source b.source a.sink t)
   HasRun-done a b end t new p q = let run = Ran-done a b end t p.bytes new p.stops q in (p.bytes, run.0, run.1)
 
-  pub HasRun-last_unanswered : (why : Unanswered) (a b : Moment) (t : SinkSeen) → IsNew (view_in words) a.session → HasStopped stop.End input_limit a b
+  pub HasRun-last_unanswered : (why : Unanswered) (a b : Moment) (t : SinkSeen) → IsNew (asked_for words) a.session → HasStopped stop.End input_limit a b
       → AreUnanswered why (last_line b.session.pending.items) b.session.editor b.sink t
       → (read written : List ℕ) × IsRun (unanswered_status why) (worded words read written a.source b.source a.sink t)
   HasRun-last_unanswered why a b t new p q = let run = Ran-last_unanswered why a b t p.bytes new p.stops q in (p.bytes, run.0, run.1)

@@ -3,14 +3,15 @@ use Rattle.std.specs.Prelude.{◌≡◌, ℕ, true, false, ◌+◌, ◌<◌, ◌
 use Rattle.lx_io.specs.Devices.{Consumes, Appends, IsAtEnd, HasRisen, IsCounted, last_count}
 use Rattle.lx_editor.specs.Editor.{Editor, new_editor}
 use Rattle.lx_editor.specs.Follows.{Follows}
-use Rattle.lx_words.specs.Words.{are_taken, view_in}
+use Rattle.lx_words.specs.Words.{are_taken, view_in, delay_in}
 use Rattle.lx_cli.specs.Lines.{ended, lines_of}
 use Rattle.lx_cli.specs.declared.status.Status.{Status}
 use Rattle.lx_cli.specs.declared.status.Status.TheVariants.{Done, Usage, ReadFault, WriteFault, Memory, InputTooLong}
 
--- the editor that a run begins with: its replies to commits tell the view where the words ask for it
+-- the editor that a run begins with: its replies to commits tell the view where the words ask for it, and its history has the
+-- delay that they ask for
 abbrev pub begun_with : List (List ℕ) → Editor
-begun_with words = new_editor (view_in words)
+begun_with words = new_editor (view_in words) (delay_in words)
 
 -- the most bytes that the input may have
 abbrev pub input_limit : ℕ

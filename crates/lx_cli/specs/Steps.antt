@@ -2,6 +2,7 @@
 use Rattle.std.specs.Prelude.{◌≡◌, ℕ, Bool, ◌+◌, ◌<◌, ◌≤◌, ◌==◌, if◌then◌else◌, List, [], ◌∷◌, ◌++◌, length, take, Result, Ok, Err}
 use Rattle.lx_io.specs.Devices.{Consumes, Appends, IsAtEnd, HasRisen, IsCounted}
 use Rattle.lx_io.specs.declared.fault.Failed.{Failed}
+use Rattle.lx_words.specs.declared.options.Options.{Options}
 use Rattle.lx_editor.specs.Editor.{Editor, new_editor}
 use Rattle.lx_editor.specs.Follows.{FollowsTo}
 use Rattle.lx_cli.specs.declared.session.Session.{Session}
@@ -75,9 +76,13 @@ ended_by byte waiting = if byte == 10 then waiting ∷ [] else []
 abbrev pub waiting_after : ℕ → List ℕ → List ℕ
 waiting_after byte waiting = if byte == 10 then [] else waiting ++ byte ∷ []
 
--- a session of a run that begins, in which replies to commits tell the view or not
-pub record IsNew (tells_view : Bool) (session : Session) : Type 0 where
-  pub editor : session.editor ≡ new_editor tells_view
+-- what was asked for of an editor as it was made
+abbrev pub options_of : Editor → Options
+options_of editor = record { view = editor.tells_view; delay = editor.history.delay }
+
+-- a session of a run that begins, with these options
+pub record IsNew (options : Options) (session : Session) : Type 0 where
+  pub editor : session.editor ≡ new_editor options.view options.delay
   pub pending : session.pending.items ≡ []
 
 -- no line end is among these bytes

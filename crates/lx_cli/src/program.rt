@@ -1,18 +1,18 @@
 ghost use Rattle.std.specs.Prelude.{◌≡◌, ◌<◌, true, ℕ, List, length, map, string_bytes};
-ghost use Rattle.lx_words.specs.Words.{are_taken, view_in};
+ghost use Rattle.lx_words.specs.Words.{are_taken, asked_for};
 ghost use Rattle.lx_cli.specs.Run.{source_seen, sink_seen, IsRun};
-ghost use Rattle.lx_cli.specs.Steps.{IsNew};
+ghost use Rattle.lx_cli.specs.Steps.{IsNew, options_of};
 
 use crate::reading::{Stop, new_buffer, read_lines};
 use crate::session::Session;
 use crate::status::Status;
 use lx_io::{Sink, Source};
-use lx_words::{Refused, options_of};
+use lx_words::{Options, Refused, options_of};
 use std::alloc::Global;
 
 /// Runs the program: answers each line of the source into the sink. The words are those of the command line behind the
 /// program's name: `--view`, under which replies to commits tell the view, and `--delay` with a number of milliseconds
-/// from 0 to 86,400,000. Other words are refused, and nothing is read or written.
+/// from 0 to 86,400,000, in which typing goes on in one entry of the history. Other words are refused, and nothing is read or written.
 pub fn run<S: Source, K: Sink>(
     alloc: Global,
     words: &[String],
@@ -30,7 +30,7 @@ pub fn run<S: Source, K: Sink>(
     }) }
 {
     match options_of(alloc, words) {
-        Ok(options) => serve(alloc, options.view, source, sink),
+        Ok(options) => serve(alloc, options, source, sink),
         Err(Refused::Usage) => Status::Usage,
         Err(Refused::Memory) => Status::Memory,
     }
@@ -39,11 +39,11 @@ pub fn run<S: Source, K: Sink>(
 /// Answers the lines of the source, if there is memory to begin.
 fn serve<S: Source, K: Sink>(
     alloc: Global,
-    tells_view: bool,
+    options: Options,
     source: &mut S,
     sink: &mut K,
 ) -> Status
-    ensures { (words : List (List ℕ)) → are_taken words ≡ true → tells_view ≡ view_in words → (read written : List ℕ) × IsRun result (record {
+    ensures { (words : List (List ℕ)) → are_taken words ≡ true → options ≡ asked_for words → (read written : List ℕ) × IsRun result (record {
       words = words;
       read = read;
       written = written;
@@ -53,7 +53,7 @@ fn serve<S: Source, K: Sink>(
       sink_after = sink_seen K.taken K.faults K.writes sink.new;
     }) }
 {
-    let mut session = match Session::new(alloc, tells_view) {
+    let mut session = match Session::new(alloc, options) {
         Ok(session) => session,
         Err(_) => return Status::Memory,
     };
@@ -71,9 +71,9 @@ fn answer_all<S: Source, K: Sink>(
     source: &mut S,
     sink: &mut K,
 ) -> Status
-    requires session { IsNew session.old.editor.tells_view session.old }
+    requires session { IsNew (options_of session.old.editor) session.old }
     requires buffer { 0 < length buffer.old }
-    ensures { (words : List (List ℕ)) → are_taken words ≡ true → session.old.editor.tells_view ≡ view_in words → (read written : List ℕ) × IsRun result (record {
+    ensures { (words : List (List ℕ)) → are_taken words ≡ true → options_of session.old.editor ≡ asked_for words → (read written : List ℕ) × IsRun result (record {
       words = words;
       read = read;
       written = written;

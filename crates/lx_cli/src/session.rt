@@ -3,6 +3,7 @@ use crate::writing::write_all;
 use lx_editor::{Editor, answer_line};
 use lx_io::{Failed, Sink};
 use lx_node::NoMemory;
+use lx_words::Options;
 use std::alloc::Global;
 
 /// The byte that ends a line, and a reply.
@@ -47,11 +48,11 @@ impl Session {
     ghost use Rattle.lx_cli.specs.Run.{sink_seen};
     ghost use Rattle.lx_cli.specs.Steps.{IsNew, LinesEnd, BytesEnd, IsUnended, ended_by, waiting_after};
 
-    /// A new editor, whose replies to commits tell the view or not, and no bytes.
-    pub(crate) fn new(alloc: Global, tells_view: bool) -> Result<Session, NoMemory>
-        ensures { IfOk result (IsNew tells_view) }
+    /// A new editor with these options, and no bytes.
+    pub(crate) fn new(alloc: Global, options: Options) -> Result<Session, NoMemory>
+        ensures { IfOk result (IsNew options) }
     {
-        match Editor::new(alloc, tells_view) {
+        match Editor::new(alloc, options.view, options.delay as u64) {
             Ok(editor) => Ok(Session {
                 alloc,
                 editor,

@@ -1,18 +1,18 @@
 use Rattle.std.proofs.Common.{ℕ, List, subst, sym}
 use Rattle.lx_cli.specs.declared.status.Status.{Status}
 use Rattle.lx_cli.specs.Run.{source_seen, sink_seen, IsRun}
-use Rattle.lx_cli.specs.Steps.{IsNew, moment}
+use Rattle.lx_cli.specs.Steps.{IsNew, options_of, moment}
 use Rattle.lx_cli.proofs.Runs.{IsUnended-new, commits-end, worded, HasRun-stopped, HasRun-done, HasRun-last_unanswered}
 use Rattle.lx_cli.proofs.program.answer_all.Goals as goal
 
 pub read_lines-requires-clause-unended : goal.read_lines-requires-clause-unended
-read_lines-requires-clause-unended g c = IsUnended-new c.args.session.now.editor.tells_view c.args.session.now c.requires.session
+read_lines-requires-clause-unended g c = IsUnended-new (options_of c.args.session.now.editor) c.args.session.now c.requires.session
 
 pub finish-requires : goal.finish-requires
 finish-requires g c =
     let source = source_seen g.S.Source.left g.S.Source.faults g.S.Source.reads in
     let sink = sink_seen g.K.Sink.taken g.K.Sink.faults g.K.Sink.writes in
-    commits-end c.args.session.now.editor.tells_view
+    commits-end (options_of c.args.session.now.editor)
     (moment c.args.session.now (source c.args.source.now) (sink c.args.sink.now))
     (moment c.read_lines.new.session (source c.read_lines.new.source) (sink c.read_lines.new.sink))
     c.in-End.ensures.bytes c.requires.session c.in-End.ensures.stops

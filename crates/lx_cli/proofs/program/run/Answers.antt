@@ -1,12 +1,11 @@
-use Rattle.std.proofs.Common.{[], map, string_bytes, ap}
-use Rattle.lx_words.specs.declared.options.Options.{Options}
+use Rattle.std.proofs.Common.{[], map, string_bytes}
 use Rattle.lx_cli.specs.Run.{source_seen, sink_seen}
 use Rattle.lx_cli.proofs.Runs.{IsRun-none, IsRun-usage}
 use Rattle.lx_cli.proofs.program.run.Goals as goal
 
 pub returns-in-Ok : goal.returns-in-Ok
 returns-in-Ok g c =
-    c.serve.ensures (map string_bytes c.args.words.now) c.in-Ok.ensures.ok.0 (ap (λ (o : Options). o.view) c.in-Ok.ensures.ok.1)
+    c.serve.ensures (map string_bytes c.args.words.now) c.in-Ok.ensures.ok.0 c.in-Ok.ensures.ok.1
 
 pub returns-in-Err-Usage : goal.returns-in-Err-Usage
 returns-in-Err-Usage g c = (

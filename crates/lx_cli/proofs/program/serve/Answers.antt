@@ -1,6 +1,6 @@
 use Rattle.std.proofs.Common.{[], ◌∙◌, ap}
-use Rattle.lx_editor.specs.Editor.{Editor}
 use Rattle.lx_cli.specs.Run.{source_seen, sink_seen}
+use Rattle.lx_cli.specs.Steps.{options_of}
 use Rattle.lx_cli.proofs.Runs.{IsRun-none}
 use Rattle.lx_cli.proofs.program.serve.Goals as goal
 
@@ -23,4 +23,4 @@ returns-in-Err-new_buffer g c words taken is = (
 )
 
 pub returns : goal.returns
-returns g c words taken is = c.answer_all.ensures words taken (ap (λ (e : Editor). e.tells_view) c.in-Ok.ensures.editor ∙ is)
+returns g c words taken is = c.answer_all.ensures words taken (ap options_of c.in-Ok.ensures.editor ∙ is)
