@@ -4,11 +4,15 @@ use std::alloc::Global;
 /// What begins a line that stands for another. No line of JSON begins so.
 const MARK: &[u8] = b"*** ";
 
-/// What is stored of a session: its words, and its input.
+/// A paragraph of a document.
+const PARAGRAPH: &[u8] = b"{\"type\":\"paragraph\"}";
+
+/// What is stored of a session: its words, its input, and whether its last reply alone comes out.
 #[derive(Drop)]
 pub(crate) struct Session {
     pub(crate) words: Vec<String>,
     pub(crate) input: Vec<u8>,
+    pub(crate) tells_last: bool,
 }
 
 impl Session {
@@ -17,6 +21,7 @@ impl Session {
         Session {
             words: Vec::new(alloc),
             input: Vec::new(alloc),
+            tells_last: false,
         }
     }
 
@@ -26,6 +31,10 @@ impl Session {
             return add(&mut self.input, line);
         };
         let text = str::from_utf8(marked)?.trim_end();
+        if text == "last" {
+            self.tells_last = true;
+            return Ok(());
+        }
         match text.strip_prefix("words ") {
             Some(words) => add_words(alloc, &mut self.words, words),
             None => add_made(&mut self.input, text),
@@ -60,6 +69,7 @@ fn add_made(session: &mut Vec<u8>, words: &str) -> Result<()> {
         Some(("letters", count)) => add_letters(session, count.parse()?),
         Some(("deep", count)) => add_deep(session, count.parse()?),
         Some(("wide", count)) => add_wide(session, count.parse()?),
+        Some(("blocks", count)) => add_blocks(session, count.parse()?),
         Some(("long", count)) => add_long(session, count.parse()?),
         Some(("unended", line)) => add(session, line.as_bytes()),
         _ => bail!("a line that stands for no other: {words}"),
@@ -118,16 +128,39 @@ fn add_deep(session: &mut Vec<u8>, count: u32) -> Result<()> {
 
 /// Adds a load of so many paragraphs.
 fn add_wide(session: &mut Vec<u8>, count: u32) -> Result<()> {
-    add(
-        session,
-        b"{\"load\":{\"root\":{\"children\":[{\"type\":\"paragraph\"}",
-    )?;
-    add_repeated(
-        session,
-        count.saturating_sub(1),
-        b",{\"type\":\"paragraph\"}",
-    )?;
+    add(session, b"{\"load\":{\"root\":{\"children\":[")?;
+    add_list(session, count, PARAGRAPH)?;
     add(session, b"]}}}\n")
+}
+
+/// Adds a load of so many quotes.
+fn add_blocks(session: &mut Vec<u8>, count: u32) -> Result<()> {
+    add(session, b"{\"load\":{\"root\":{\"children\":[")?;
+    for index in 0..count {
+        if 0 < index {
+            add(session, b",")?;
+        }
+        add_block(session)?;
+    }
+    add(session, b"]}}}\n")
+}
+
+/// Adds a quote of 99 paragraphs.
+fn add_block(session: &mut Vec<u8>) -> Result<()> {
+    add(session, b"{\"type\":\"quote\",\"children\":[")?;
+    add_list(session, 99, PARAGRAPH)?;
+    add(session, b"]}")
+}
+
+/// Adds a text so many times, with commas between.
+fn add_list(session: &mut Vec<u8>, count: u32, text: &[u8]) -> Result<()> {
+    for index in 0..count {
+        if 0 < index {
+            add(session, b",")?;
+        }
+        add(session, text)?;
+    }
+    Ok(())
 }
 
 /// Adds a load of one text of so many letters.

@@ -8,11 +8,12 @@
 //! - `*** letters COUNT`: an update that appends a text of so many letters,
 //! - `*** deep COUNT`: a load of so many lists and items, each below the one before it,
 //! - `*** wide COUNT`: a load of so many paragraphs,
+//! - `*** blocks COUNT`: a load of so many quotes, each of 99 paragraphs,
 //! - `*** long COUNT`: a load of one text of so many letters,
 //! - `*** unended LINE`: the line without its end, at the end of a session.
 //!
-//! A line `*** words WORD WORD` gives the session words of the command line. Where a session isn't done, what is said of
-//! that comes out behind its replies.
+//! A line `*** words WORD WORD` gives the session words of the command line. A line `*** last` says that of its replies
+//! the last alone comes out. Where a session isn't done, what is said of that comes out behind its replies.
 //!
 //! Of a reply of more than 4,096 bytes the first 60 come out, and then its number of bytes.
 #![tactic(auto)]

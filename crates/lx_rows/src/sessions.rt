@@ -40,13 +40,26 @@ fn answer<W: Write>(alloc: Global, session: Session, out: &mut W) -> Result<()> 
     let mut source = MemorySource::new(session.input, PIECE, Vec::new(alloc));
     let mut sink = MemorySink::new(alloc, ROOM, PIECE, Vec::new(alloc))?;
     let status = run(alloc, &session.words, &mut source, &mut sink);
-    for reply in sink.taken().split_inclusive(|byte| *byte == b'\n') {
-        write_reply(reply, out)?;
-    }
+    write_replies(sink.taken(), session.tells_last, out)?;
     match status.message() {
         Some(message) => Ok(writeln!(out, "*** {message}")?),
         None => Ok(()),
     }
+}
+
+/// Writes the replies, or the last of them alone.
+fn write_replies<W: Write>(replies: &[u8], tells_last: bool, out: &mut W) -> Result<()> {
+    let mut last: &[u8] = b"";
+    for reply in replies.split_inclusive(|byte| *byte == b'\n') {
+        if !tells_last {
+            write_reply(reply, out)?;
+        }
+        last = reply;
+    }
+    if tells_last {
+        write_reply(last, out)?;
+    }
+    Ok(())
 }
 
 /// Writes a reply, or where it is long its front and its length.

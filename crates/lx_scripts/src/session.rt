@@ -51,17 +51,16 @@ impl Session {
     {
         match &line.form {
             Form::Update(steps) => self.update(alloc, steps.items()),
-            // Nothing comes to rest here, nobody listens, and no document is read: what steps leave is shown as it is.
-            Form::Dispatch(_) | Form::Rule(_) | Form::Listener(_) | Form::Load(_) => {
-                refused(alloc, Cause::BadCommand, None)
-            }
             Form::Show(shown) => self.show(alloc, *shown),
+            // Nothing comes to rest here, nobody listens, no document is read and nothing is recorded: what steps leave is
+            // shown as it is.
+            _ => refused(alloc, Cause::BadCommand, None),
         }
     }
 
     fn show(&self, alloc: Global, shown: Shown) -> Result<Vec<u8>> {
         let reply = match shown {
-            Shown::State => return refused(alloc, Cause::BadCommand, None),
+            Shown::State | Shown::History => return refused(alloc, Cause::BadCommand, None),
             Shown::View => Reply::View(fresh(alloc, &self.state)?.print_html()?),
             Shown::Selection => Reply::Selection(self.state.selection.copy(alloc)?),
         };
