@@ -1,14 +1,12 @@
-//! Tests of drafts, of how one list of children becomes another, and of what an editor's batches tell: what no clause can
-//! say, as that a call succeeds where memory is ample.
+//! Tests of drafts, and of how one list of children becomes another: what no clause can say, as that a call succeeds where
+//! memory is ample.
 //!
 //! They stand here since a crate with tests is proved twice. Those of the layers below stand in `lx_tests_trees` and
-//! `lx_tests_lines`. What steps make of a state is shown by the program `lx_scripts`, and replies to lines by the program
-//! `lx_rows`, whose input and output are stored.
+//! `lx_tests_lines`, those of editors in `lx_tests_editors` and `lx_tests_histories`. What steps make of a state is shown by
+//! the program `lx_scripts`, and replies to lines by the program `lx_rows`, whose input and output are stored.
 #![tactic(auto)]
 
 #[cfg(test)]
 mod drafts;
-#[cfg(test)]
-mod editors;
 #[cfg(test)]
 mod moves;

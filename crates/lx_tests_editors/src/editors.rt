@@ -2,6 +2,7 @@
 
 use lx_editor::{Editor, Outcome, answer_line};
 use lx_node::NoMemory;
+use lx_step::Tags;
 use serde_json::Value;
 use std::alloc::Global;
 use std::test::Fail;
@@ -52,7 +53,7 @@ fn sizes(alloc: Global, editor: &Editor) -> Result<String, Fail> {
 #[test]
 fn a_set_of_one_text_reads_little(rt: HostRuntime) -> Result<(), Fail> {
     let alloc = rt.alloc();
-    let mut editor = Editor::new(alloc, false)?;
+    let mut editor = Editor::new(alloc, false, 1000)?;
     let text = sizes(alloc, &editor)?;
     assert_eq!(rt; text.as_str(), "1 nodes");
     let line = quotes_line(alloc)?;
@@ -83,7 +84,7 @@ fn appends_line(alloc: Global) -> Result<String, Fail> {
 #[test]
 fn a_change_in_a_long_list_reads_little(rt: HostRuntime) -> Result<(), Fail> {
     let alloc = rt.alloc();
-    let mut editor = Editor::new(alloc, false)?;
+    let mut editor = Editor::new(alloc, false, 1000)?;
     let line = appends_line(alloc)?;
     answer_line(alloc, &mut editor, line.as_bytes())?;
     let text = sizes(alloc, &editor)?;
@@ -108,8 +109,8 @@ fn loaded(alloc: Global, text: &str) -> Result<String, NoMemory> {
     let Ok(document) = Value::from_str(alloc, text) else {
         return Err(NoMemory);
     };
-    let mut editor = Editor::new(alloc, false)?;
-    match editor.load(alloc, &document)? {
+    let mut editor = Editor::new(alloc, false, 1000)?;
+    match editor.load(alloc, &document, Tags::none(), 0)? {
         Outcome::Committed { .. } => Ok(editor.export(alloc)?.to_string(alloc)?),
         _ => Ok(String::new(alloc)),
     }
