@@ -66,7 +66,7 @@ pub enum PointRule {
 
 impl Draft {
     ghost use Rattle.std.specs.Prelude.{◌≡◌};
-    ghost use Rattle.lx_select.specs.Selection.{each_point, carried};
+    ghost use Rattle.lx_select.specs.Selection.{each_point, with_format, carried};
     ghost use Rattle.lx_select.specs.Rules.{carry_moves};
     ghost use Rattle.lx_draft.specs.Points.{moved_by};
 
@@ -90,6 +90,20 @@ impl Draft {
             PointRule::Replace { old, new, len } => self.selection.after_replace(old, new, len),
             PointRule::Move { key, to } => self.selection.move_points(key, to),
         }
+    }
+
+    /// Puts both points of a range at one place, which is a caret there. Its format stays.
+    pub fn put_points(&mut self, to: Point)
+        ensures { self.new ≡ record self.old { selection = each_point (λ _. to) self.old.selection } }
+    {
+        self.selection.put_points(to);
+    }
+
+    /// Gives a range another format, whose bits are those of a text's format.
+    pub fn put_format(&mut self, format: u16)
+        ensures { self.new ≡ record self.old { selection = with_format format self.old.selection } }
+    {
+        self.selection.put_format(format);
     }
 
     /// Brings points along with what a node had, after the edits that moved that elsewhere. The two points of the

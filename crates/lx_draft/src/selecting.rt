@@ -88,7 +88,8 @@ impl Draft {
         }
     }
 
-    fn text_length(&self, key: Key) -> u32
+    /// The length of the text of a text or tab, in the unit of `lx_text`, and 0 of any other node.
+    pub fn text_length(&self, key: Key) -> u32
         ensures { result ≡ selecting.length_of (lookups.fields_of self.now.forest key) }
     {
         match self.links.node(key) {
@@ -222,8 +223,9 @@ impl Draft {
         }
     }
 
-    /// Whether a point lies in the forest.
-    fn lies(&self, point: &Point) -> bool
+    /// Whether a point lies in the forest: its node is there and has characters or children, as the point's kind
+    /// says, and the offset is no further than the last of them.
+    pub fn lies(&self, point: &Point) -> bool
         ensures { result ≡ selecting.lies_in self.now.forest point.now }
     {
         match self.links.kind(point.key) {

@@ -58,7 +58,7 @@ pub fn move_each(draft: &mut Draft, to: Key, keys: &[Key]) -> Result<(), Fault>
 
 /// Takes a node out, and puts it at the end of an element's children.
 #[tactic(auto, unfolding(crate::specs::Edits::moved_to_end))]
-pub(crate) fn move_to_end(draft: &mut Draft, parent: Key, key: Key) -> Result<(), Fault>
+pub fn move_to_end(draft: &mut Draft, parent: Key, key: Key) -> Result<(), Fault>
     ensures ok { OnOk result (edits.moved_to_end parent key draft.old ≡ Ok draft.new) }
     ensures err { IfErr result (λ e. TellsStep e (edits.moved_to_end parent key draft.old)) }
     ensures standing { IfErr result (λ e. StillStands e draft.new) }

@@ -24,8 +24,8 @@ pub(crate) fn living(draft: &Draft) -> Result<(), NoMemory>
     }
 }
 
-/// Goes on where nothing refuses the edit, and the draft hasn't failed.
-pub(crate) fn admitted(draft: &Draft, fault: Option<Cause>) -> Result<(), Fault>
+/// Goes on where nothing refuses the edit, and the draft hasn't failed. Edits that are made of others begin with it.
+pub fn admitted(draft: &Draft, fault: Option<Cause>) -> Result<(), Fault>
     ensures allowed { OnOk result (fault ≡ None) }
     ensures living { OnOk result (draft.now.forest ≢ nil) }
     ensures err { IfErr result (λ e. StopsAt e fault draft.now) }

@@ -16,10 +16,11 @@ mod texts;
 mod unwrapping;
 
 pub use around::join_around;
-pub use children::{move_children, move_each};
-pub use conditions::split_fault;
+pub use children::{move_children, move_each, move_to_end};
+pub use conditions::{admitted, split_fault};
 pub use join::join_texts;
 pub use laws::{edits_are_covered, edits_are_homed};
+pub use places::{children_of, element_point, text_point};
 pub use removing::remove;
 pub use replacing::{replace, wrap};
 pub use split::split_text;

@@ -10,7 +10,7 @@ use lx_node::{Fields, Key, NoMemory, Point, PointKind};
 use std::alloc::Global;
 
 /// The keys of a node's children, in order.
-pub(crate) fn children_of(alloc: Global, links: &Links, key: Key) -> Result<Vec<Key>, NoMemory>
+pub fn children_of(alloc: Global, links: &Links, key: Key) -> Result<Vec<Key>, NoMemory>
     ensures { IfOk result (λ keys. keys.items ≡ lookups.children_of links.now key) }
 {
     let mut keys = Vec::new(alloc);
@@ -21,7 +21,7 @@ pub(crate) fn children_of(alloc: Global, links: &Links, key: Key) -> Result<Vec<
 }
 
 /// A point before the child at this index of an element, or behind the last one.
-pub(crate) fn element_point(key: Key, offset: u32) -> Point
+pub fn element_point(key: Key, offset: u32) -> Point
     ensures { result ≡ edits.element_point key offset }
 {
     Point {
@@ -31,8 +31,8 @@ pub(crate) fn element_point(key: Key, offset: u32) -> Point
     }
 }
 
-/// A point in a text or tab.
-fn text_point(key: Key, offset: u32) -> Point
+/// A point in a text or tab, behind so many of its characters.
+pub fn text_point(key: Key, offset: u32) -> Point
     ensures { result ≡ edits.text_point key offset }
 {
     Point {

@@ -19,6 +19,11 @@ each_point moved (Range anchor focus format) = Range (moved anchor) (moved focus
 each_point moved (Nodes keys) = Nodes keys
 each_point moved (Cells table anchor focus) = Cells table anchor focus
 
+-- a range with another format; any other selection as it is
+abbrev pub with_format : ℕ → Selection → Selection
+with_format new (Range anchor focus format) = Range anchor focus new
+with_format new other = other
+
 -- ---- where points are
 
 -- a point of the selection is on the key

@@ -29,7 +29,7 @@ impl Selection {
     ghost use Rattle.std.specs.Prelude.{◌≡◌, ◌↔◌, IfOk, OnErr, IsTrue};
     ghost use Rattle.lx_node.specs.declared.cause.Point.{Point};
     ghost use Rattle.lx_select.specs.Same.{same_selection};
-    ghost use Rattle.lx_select.specs.Selection.{kind_of_selection, each_point, has_point_on, ends_of, carried};
+    ghost use Rattle.lx_select.specs.Selection.{kind_of_selection, each_point, with_format, has_point_on, ends_of, carried};
     ghost use Rattle.lx_select.specs.Rules.{put_moves, take_moves, splice_moves, set_moves, split_moves, join_moves, children_moves, unwrap_moves, replace_moves, carry_moves, moved_to};
 
     /// An equal selection. It takes memory for the keys of nodes, and none for any other selection.
@@ -234,6 +234,22 @@ impl Selection {
         ) {
             *anchor = rules::carried(*anchor, was_anchor, from, to, at);
             *focus = rules::carried(*focus, was_focus, from, to, at);
+        }
+    }
+
+    /// Makes both points of a range the point `to`, which is a caret there. Its format stays.
+    pub fn put_points(&mut self, to: Point)
+        ensures { self.new ≡ each_point (λ _. to) self.old }
+    {
+        self.move_each(|_| to);
+    }
+
+    /// Gives a range another format, whose bits are those of a text's format.
+    pub fn put_format(&mut self, new: u16)
+        ensures { self.new ≡ with_format new self.old }
+    {
+        if let Selection::Range { format, .. } = self {
+            *format = new;
         }
     }
 

@@ -1,3 +1,5 @@
+mod Computed
 pub mod Cut
 pub mod Faults
 pub mod Told
+mod Segmented

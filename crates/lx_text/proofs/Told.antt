@@ -31,11 +31,11 @@ unfolding slice_of text_length
 slice-whole text = let n : length text - 0 ≡ length text = omega arith in rw n (take-length text)
 
 -- the piece up to an offset, and the one from it on
-slice-front : (from : ℕ) (text : List ℕ) → slice_of 0 from text ≡ take from text
+pub slice-front : (from : ℕ) (text : List ℕ) → slice_of 0 from text ≡ take from text
 unfolding slice_of
 slice-front from text = let n : from - 0 ≡ from = omega arith in rw n refl
 
-slice-back : (to : ℕ) (text : List ℕ) → slice_of to (text_length text) text ≡ drop to text
+pub slice-back : (to : ℕ) (text : List ℕ) → slice_of to (text_length text) text ≡ drop to text
 unfolding slice_of text_length
 slice-back to text = ap (λ n. take n (drop to text)) (sym (length-drop to text)) ∙ take-length (drop to text)
 

@@ -2,10 +2,12 @@
 //! contracts: what offsets count can change here alone.
 #![tactic(auto)]
 
+mod clusters;
 mod laws;
 mod offsets;
 mod pieces;
 
+pub use clusters::{cluster_after, cluster_before, word_after, word_before};
 pub use laws::texts_are_told;
 pub use pieces::{length, slice, splice};
 

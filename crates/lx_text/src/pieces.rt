@@ -53,7 +53,7 @@ fn joined(alloc: Global, front: &str, middle: &str, back: &str) -> Result<Txt, N
     Ok(Txt::of(whole))
 }
 
-fn bad_place(offset: u32) -> Fault
+pub(crate) fn bad_place(offset: u32) -> Fault
     ensures { result ≡ fault.Cause (BadPlace offset) }
 {
     Fault::Cause(Cause::BadPlace(u64::from(offset)))

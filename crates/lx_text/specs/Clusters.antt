@@ -1,0 +1,49 @@
+-- Clusters and words of a text, as far as a caret goes by them.
+use Rattle.std.specs.Prelude.{ℕ, ◌+◌, ◌-◌, Bool, true, if◌then◌else◌, List, [], ◌∷◌, map, reverse, min, encode_utf8_all}
+use Rattle.std.specs.List.{list_all}
+use Rattle.std.specs.Str.{chars}
+use Rattle.std.specs.Char.{is_whitespace}
+use Rattle.unicode_segmentation.specs.Grapheme.{graphemes}
+use Rattle.unicode_segmentation.specs.Word.{word_bounds}
+use Rattle.lx_text.specs.Texts.{text_length, slice_of}
+
+-- the clusters of a text, and its pieces between word bounds, each as its characters
+abbrev pub clusters : List ℕ → List (List ℕ)
+clusters text = map chars (graphemes true (encode_utf8_all text))
+
+abbrev pub words : List ℕ → List (List ℕ)
+words text = map chars (word_bounds (encode_utf8_all text))
+
+-- the text up to an offset, and from there on
+abbrev pub front : List ℕ → ℕ → List ℕ
+front text at = slice_of 0 at text
+
+abbrev pub rest : List ℕ → ℕ → List ℕ
+rest text at = slice_of at (text_length text) text
+
+-- the length of the first of some pieces, if there is one
+abbrev pub over_first : List (List ℕ) → ℕ
+over_first [] = 0
+over_first (piece ∷ pieces) = text_length piece
+
+-- the length of the pieces of white space that come first, and of the piece behind them
+abbrev pub over_word : List (List ℕ) → ℕ
+over_word [] = 0
+over_word (piece ∷ pieces) = if list_all is_whitespace piece then text_length piece + over_word pieces else text_length piece
+
+-- where the last cluster, or the last word, of the text up to an offset begins
+unfoldable pub cluster_before : List ℕ → ℕ → ℕ
+cluster_before text at = at - over_first (reverse (clusters (front text at)))
+
+unfoldable pub word_before : List ℕ → ℕ → ℕ
+word_before text at = at - over_word (reverse (words (front text at)))
+
+-- where the first one of the rest ends; a sum of offsets ends at the last of 32 bits
+abbrev pub offset_sum : ℕ → ℕ → ℕ
+offset_sum at more = min (at + more) 4294967295
+
+unfoldable pub cluster_after : List ℕ → ℕ → ℕ
+cluster_after text at = offset_sum at (over_first (clusters (rest text at)))
+
+unfoldable pub word_after : List ℕ → ℕ → ℕ
+word_after text at = offset_sum at (over_word (words (rest text at)))
