@@ -1,0 +1,125 @@
+-- Formatting the covered texts of a range.
+use Rattle.std.specs.Prelude.{ℕ, ◌+◌, ◌-◌, ◌==◌, ◌&&◌, Bool, true, false, not, nat_lt, is_some, if◌then◌else◌, List, [], ◌∷◌, ◌++◌, map, filter, bit_and, bit_or, Option, None, Some, Result, Ok, Err}
+use Rattle.lx_node.specs.declared.fields.Fields.{Fields}
+use Rattle.lx_node.specs.declared.fields.Fields.TheVariants as fields
+use Rattle.lx_node.specs.declared.fields.TextFields.{TextFields}
+use Rattle.lx_node.specs.declared.cause.Cause.{Cause}
+use Rattle.lx_node.specs.declared.cause.Point.{Point}
+use Rattle.lx_node.specs.declared.cause.PointKind.{PointKind}
+use Rattle.lx_node.specs.declared.cause.PointKind.TheVariants as point
+use Rattle.lx_forest.specs.Forest.{Forest}
+use Rattle.lx_forest.specs.Lookups.{fields_of}
+use Rattle.lx_draft.specs.Working.{Working}
+use Rattle.lx_draft.specs.Selecting.{is_text_kind}
+use Rattle.lx_draft.specs.Faults.{after}
+use Rattle.lx_draft.specs.Steps.{set_step}
+use Rattle.lx_edit.specs.Texts.{split_step}
+use Rattle.lx_edit.specs.InTurn.{in_turn}
+use Rattle.lx_range.specs.Blocks.{is_at}
+use Rattle.lx_range.specs.Places.{covered}
+use Rattle.lx_select.specs.Selection.{with_format}
+use Rattle.lx_range.specs.Ranges.{range_of, start_of, end_of, normal_at, characters_at}
+use Rattle.lx_caret.specs.Removing.{start_part}
+
+-- ---- bits
+
+abbrev pub has_bit : ℕ → ℕ → Bool
+has_bit bit format = not (bit_and format bit == 0)
+
+abbrev pub without_bit : ℕ → ℕ → ℕ
+without_bit bit format = format - bit_and format bit
+
+-- subscript and superscript exclude each other
+abbrev pub excluded : ℕ → ℕ
+excluded bit = if bit == 32 then 64 else if bit == 64 then 32 else 0
+
+abbrev pub switched : Bool → ℕ → ℕ → ℕ
+switched true bit format = bit_or (without_bit (excluded bit) format) bit
+switched false bit format = without_bit bit format
+
+-- ---- covered texts
+
+-- a text or tab with its covered part
+pub record Piece : Type 0 where
+  pub key : ℕ
+  pub from : ℕ
+  pub to : ℕ
+
+abbrev pub piece : ℕ → ℕ → ℕ → Piece
+piece k from to = record { key = k; from = from; to = to }
+
+abbrev pub start_piece : Forest → Point → Point → PointKind → List Piece
+start_piece f start end point.Text = piece start.key start.offset (start_part f start end) ∷ []
+start_piece f start end point.Element = []
+
+abbrev pub end_piece : Point → Point → PointKind → List Piece
+end_piece start end point.Text = if start.key == end.key then [] else piece end.key 0 end.offset ∷ []
+end_piece start end point.Element = []
+
+abbrev pub whole : Forest → ℕ → Piece
+whole f k = piece k 0 (characters_at f k)
+
+-- in order, those in which a character is covered
+abbrev pub pieces : Forest → Point → Point → List Piece
+pieces f start end =
+    filter (λ p. nat_lt p.from p.to)
+    (start_piece f start end start.kind ++ (map (whole f) (filter (is_at is_text_kind f) (covered f start end)) ++ end_piece start end end.kind))
+
+-- ---- a piece by itself
+
+-- the offsets strictly inside a text at which the piece begins and ends
+abbrev pub edges : Forest → Piece → List ℕ
+edges f p = filter (λ o. nat_lt 0 o && nat_lt o (characters_at f p.key)) (p.from ∷ p.to ∷ [])
+
+-- a normal text is split there
+unfoldable pub isolate_step : Piece → Working → Result Working Cause
+isolate_step p w = if is_some (normal_at w.forest p.key) then split_step p.key (edges w.forest p) w else Ok w
+
+abbrev pub isolated_key : Piece → Working → ℕ
+isolated_key p w = if is_some (normal_at w.forest p.key) && nat_lt 0 p.from then w.next_key else p.key
+
+-- the texts that are covered then
+pub record Isolated : Type 0 where
+  pub draft : Working
+  pub texts : List ℕ
+
+abbrev pub and_before : ℕ → Isolated → Result Isolated Cause
+and_before k made = Ok (record { draft = made.draft; texts = k ∷ made.texts })
+
+unfoldable pub isolated : List Piece → Working → Result Isolated Cause
+isolated [] w = Ok (record { draft = w; texts = [] })
+isolated (p ∷ ps) w = after (isolate_step p w) (λ v. after (isolated ps v) (and_before (isolated_key p w)))
+
+-- ---- the command
+
+abbrev pub format_in : Option Fields → ℕ
+format_in (Some (fields.Text text)) = text.format
+format_in other = 0
+
+abbrev pub format_at : Forest → ℕ → ℕ
+format_at f k = format_in (fields_of f k)
+
+abbrev pub switched_in : Bool → ℕ → Option Fields → ℕ → Working → Result Working Cause
+switched_in on bit (Some (fields.Text text)) k w = set_step k (fields.Text (record text { format = switched on bit text.format })) w
+switched_in on bit other k w = Ok w
+
+unfoldable pub switch_step : Bool → ℕ → ℕ → Working → Result Working Cause
+switch_step on bit k w = switched_in on bit (fields_of w.forest k) k w
+
+abbrev pub selection_format : ℕ → Working → Working
+selection_format format w = record w { selection = with_format format w.selection }
+
+-- what the first has is cleared in all, else it is set in all
+abbrev pub switched_all : ℕ → List ℕ → Working → Result Working Cause
+switched_all bit [] w = Ok w
+switched_all bit (k ∷ ks) w =
+    after (in_turn (switch_step (not (has_bit bit (format_at w.forest k))) bit) (k ∷ ks) w)
+    (λ v. Ok (selection_format (format_at v.forest k) v))
+
+abbrev pub formatted : ℕ → List Piece → ℕ → Working → Result Working Cause
+formatted bit [] format w = Ok (selection_format (switched (not (has_bit bit format)) bit format) w)
+formatted bit ps format w = after (isolated ps w) (λ made. switched_all bit made.texts made.draft)
+
+unfoldable pub format_text_step : ℕ → Working → Result Working Cause
+format_text_step bit w =
+    after (range_of w) (λ r. formatted bit (pieces w.forest (start_of w.forest r) (end_of w.forest r)) r.format w)

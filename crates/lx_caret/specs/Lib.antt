@@ -1,0 +1,9 @@
+pub mod Adding
+pub mod Deleting
+pub mod Formatting
+pub mod Inserting
+pub mod Laws
+pub mod Lying
+pub mod Paragraphs
+pub mod Removing
+pub mod SelectAll

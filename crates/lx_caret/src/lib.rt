@@ -1,0 +1,6 @@
+//! Caret commands: what typing, deleting, breaking and formatting make of a draft. Each goes by the selection, is made of
+//! the edits of a draft and of those in `lx_edit`, and is refused only for a cause that its step names. A draft on which one
+//! was refused is only fit to be dropped. Offsets are those of `lx_text`.
+#![tactic(auto)]
+
+mod laws;

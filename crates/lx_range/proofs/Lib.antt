@@ -1,0 +1,3 @@
+mod Gathered
+mod Leading
+pub mod Up

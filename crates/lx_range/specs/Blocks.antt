@@ -1,0 +1,52 @@
+-- Text blocks, frames and lines.
+use Rattle.std.specs.Prelude.{ℕ, ◌==◌, ◌&&◌, Bool, true, false, if◌then◌else◌, List, [], ◌∷◌, find, Option, None, Some}
+use Rattle.std.specs.List.{list_any}
+use Rattle.lx_node.specs.Kinds.{is_text_block, is_inline, is_cell}
+use Rattle.lx_node.specs.declared.kind.Kind.{Kind}
+use Rattle.lx_node.specs.declared.kind.Kind.TheVariants.{Table, Rule}
+use Rattle.lx_forest.specs.Forest.{Forest}
+use Rattle.lx_forest.specs.Lookups.{kind_of, children_of, ancestors}
+
+-- what isn't a line, and yet stands among lines
+abbrev pub is_rule_or_table : Kind → Bool
+is_rule_or_table Table = true
+is_rule_or_table Rule = true
+is_rule_or_table other = false
+
+-- whether there is a node whose kind passes the test
+abbrev pub passes : (Kind → Bool) → Option Kind → Bool
+passes test None = false
+passes test (Some kind) = test kind
+
+abbrev pub is_at : (Kind → Bool) → Forest → ℕ → Bool
+is_at test f k = passes test (kind_of f k)
+
+-- the block of a node: itself, or the nearest above it that is a text block
+abbrev pub block_of : Forest → ℕ → Option ℕ
+block_of f k = find (is_at is_text_block f) (k ∷ ancestors f k)
+
+-- the frame of a node: the nearest cell above it
+abbrev pub frame_of : Forest → ℕ → Option ℕ
+frame_of f k = find (is_at is_cell f) (ancestors f k)
+
+-- whether both are the same node, or neither is there
+abbrev pub same_node : Option ℕ → Option ℕ → Bool
+same_node None None = true
+same_node (Some a) (Some b) = a == b
+same_node _ _ = false
+
+-- a line: a text block that is empty or has an inline child
+abbrev pub has_line : Forest → List ℕ → Bool
+has_line f [] = true
+has_line f children = list_any (is_at is_inline f) children
+
+abbrev pub is_line : Forest → ℕ → Bool
+is_line f k = is_at is_text_block f k && has_line f (children_of f k)
+
+-- the inline children with which a list of children begins
+abbrev pub leading_in : Forest → List ℕ → List ℕ
+leading_in f [] = []
+leading_in f (k ∷ ks) = if is_at is_inline f k then k ∷ leading_in f ks else []
+
+abbrev pub leading : Forest → ℕ → List ℕ
+leading f k = leading_in f (children_of f k)

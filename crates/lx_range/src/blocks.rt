@@ -1,0 +1,148 @@
+//! Text blocks, frames and lines.
+
+ghost use Rattle.std.specs.Prelude.{◌≡◌, ◌∷◌, IfOk, find};
+ghost use Rattle.lx_node.specs.Kinds as kinds;
+ghost use Rattle.lx_forest.specs.Lookups as lookups;
+ghost use Rattle.lx_range.specs.Blocks as blocks;
+
+use lx_links::Links;
+use lx_node::{Key, Kind, NoMemory};
+use std::alloc::Global;
+
+fn is_block_at(links: &Links, key: Key) -> bool
+    ensures { result ≡ blocks.is_at kinds.is_text_block links.now key }
+{
+    match links.kind(key) {
+        Some(kind) => kind.is_text_block(),
+        None => false,
+    }
+}
+
+/// Whether it is a node that stands in a line of text.
+pub fn is_inline_at(links: &Links, key: Key) -> bool
+    ensures { result ≡ blocks.is_at kinds.is_inline links.now key }
+{
+    match links.kind(key) {
+        Some(kind) => kind.is_inline(),
+        None => false,
+    }
+}
+
+fn is_rule_or_table(kind: Kind) -> bool
+    ensures { result ≡ blocks.is_rule_or_table kind }
+{
+    matches!(kind, Kind::Table | Kind::Rule)
+}
+
+/// Whether it is a horizontal rule or a table: what stands among lines, and is none.
+pub fn is_rule_or_table_at(links: &Links, key: Key) -> bool
+    ensures { result ≡ blocks.is_at blocks.is_rule_or_table links.now key }
+{
+    match links.kind(key) {
+        Some(kind) => is_rule_or_table(kind),
+        None => false,
+    }
+}
+
+#[tactic(auto, unfolding(lx_node::specs::Kinds::is_cell))]
+fn is_cell(kind: Kind) -> bool
+    ensures { result ≡ kinds.is_cell kind }
+{
+    matches!(kind, Kind::Cell)
+}
+
+fn is_cell_at(links: &Links, key: Key) -> bool
+    ensures { result ≡ blocks.is_at kinds.is_cell links.now key }
+{
+    match links.kind(key) {
+        Some(kind) => is_cell(kind),
+        None => false,
+    }
+}
+
+/// The text block of a node: itself, or the nearest above it.
+pub fn block(links: &Links, key: Key) -> Option<Key>
+    ensures { result ≡ blocks.block_of links.now key }
+{
+    let mut at = key;
+    while !is_block_at(links, at) {
+        match links.parent(at) {
+            Some(parent) => at = parent,
+            None => return None,
+        }
+    }
+    Some(at)
+}
+
+/// The nearest cell: a node itself, or above it.
+fn cell_from(links: &Links, key: Key) -> Option<Key>
+    ensures { result ≡ find (blocks.is_at kinds.is_cell links.now) (key ∷ lookups.ancestors links.now key) }
+{
+    let mut at = key;
+    while !is_cell_at(links, at) {
+        match links.parent(at) {
+            Some(parent) => at = parent,
+            None => return None,
+        }
+    }
+    Some(at)
+}
+
+/// The frame of a node: the nearest cell above it.
+#[tactic(auto, using(crate::proofs::Up::frame_up, crate::proofs::Up::frame_top))]
+pub fn frame(links: &Links, key: Key) -> Option<Key>
+    ensures { result ≡ blocks.frame_of links.now key }
+{
+    match links.parent(key) {
+        Some(parent) => cell_from(links, parent),
+        None => None,
+    }
+}
+
+/// Whether both are the same node, or neither is there.
+pub fn same_node(a: Option<Key>, b: Option<Key>) -> bool
+    ensures { result ≡ blocks.same_node a b }
+{
+    match (a, b) {
+        (None, None) => true,
+        (Some(a), Some(b)) => a == b,
+        _ => false,
+    }
+}
+
+/// Whether one of the node's children stands in a line of text, or it has none.
+fn has_line(links: &Links, key: Key) -> bool
+    ensures { result ≡ blocks.has_line links.now (lookups.children_of links.now key) }
+{
+    if links.size(key) == 0 {
+        return true;
+    }
+    for child in links.children(key) {
+        if is_inline_at(links, child) {
+            return true;
+        }
+    }
+    false
+}
+
+/// Whether the node is a line: a text block that is empty or has an inline child.
+pub fn is_line(links: &Links, key: Key) -> bool
+    ensures { result ≡ blocks.is_line links.now key }
+{
+    is_block_at(links, key) && has_line(links, key)
+}
+
+/// The inline children with which the node's children begin, in order.
+#[tactic(auto, using(crate::proofs::Leading::leading_on, crate::proofs::Leading::leading_ends))]
+pub fn leading(alloc: Global, links: &Links, key: Key) -> Result<Vec<Key>, NoMemory>
+    ensures { IfOk result (λ keys. keys.items ≡ blocks.leading links.now key) }
+{
+    let mut keys = Vec::new(alloc);
+    for child in links.children(key) {
+        if !is_inline_at(links, child) {
+            return Ok(keys);
+        }
+        keys.push(child)?;
+    }
+    Ok(keys)
+}
