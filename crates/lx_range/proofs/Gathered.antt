@@ -1,6 +1,6 @@
 -- What a walk has gathered, and what is left of it.
-use Rattle.std.proofs.Common.{◌≡◌, ◌∙◌, ℕ, ◌<◌, suc, Bool, true, false, cond, not, List, [], ◌∷◌, ◌++◌, length, Option, None, Some, refl, sym, ap, ap₂, arith, append_assoc, append-nil}
-use Rattle.std.specs.Prelude.{filter, take_while, IfSome, IfNone}
+use Rattle.std.proofs.Common.{◌≡◌, ◌∙◌, ℕ, Bool, true, false, cond, List, [], ◌∷◌, ◌++◌, Option, None, Some, refl, sym, ap, append_assoc}
+use Rattle.std.specs.Prelude.{filter, IfSome, IfNone}
 use Rattle.lx_node.specs.Siblings.{is_named}
 use Rattle.lx_forest.specs.Forest.{Forest}
 use Rattle.lx_forest.specs.Lookups.{from, depth}
@@ -21,42 +21,24 @@ gathered_on test stop q rest made more whole other is so_far =
     ∙ ap (λ xs. made ++ xs) (sym (filter_first test q (until stop rest)))
     ∙ ap (λ b. made ++ filter test (cond b [] (q ∷ until stop rest))) (sym other) ∙ so_far
 
--- or stops there
-pub gathered_stop : (test : ℕ → Bool) (stop : Option ℕ) (q : ℕ) (rest made whole : List ℕ) → is_named stop q ≡ true
-    → made ++ filter test (until stop (q ∷ rest)) ≡ whole → made ≡ whole
-gathered_stop test stop q rest made whole here so_far =
-    sym (append-nil made) ∙ ap (λ b. made ++ filter test (cond b [] (q ∷ until stop rest))) (sym here) ∙ so_far
-
 next_left : (o : Option (ℕ × ℕ)) (f : Forest) (q : ℕ) → IfSome o (λ next. from f q ≡ q ∷ from f next.0) → IfNone o (from f q ≡ q ∷ []) → from f q ≡ q ∷ left_from f o
 next_left None f q next last = last
 next_left (Some at) f q next last = next
 
-pub next_at : (o : Option (ℕ × ℕ)) (f : Forest) → IfSome o (λ next. depth f next.0 ≡ Some next.1) → IsAt f o
+next_at : (o : Option (ℕ × ℕ)) (f : Forest) → IfSome o (λ next. depth f next.0 ≡ Some next.1) → IsAt f o
 next_at None f e = tt
 next_at (Some at) f e = e
 
-pub gathered_next : (test : ℕ → Bool) (stop : Option ℕ) (o : Option (ℕ × ℕ)) (f : Forest) (q : ℕ) (made more whole : List ℕ) → IfSome o (λ next. from f q ≡ q ∷ from f next.0)
+gathered_next : (test : ℕ → Bool) (stop : Option ℕ) (o : Option (ℕ × ℕ)) (f : Forest) (q : ℕ) (made more whole : List ℕ) → IfSome o (λ next. from f q ≡ q ∷ from f next.0)
     → IfNone o (from f q ≡ q ∷ []) → is_named stop q ≡ false → more ≡ made ++ filter test (q ∷ []) → made ++ filter test (until stop (from f q)) ≡ whole
     → more ++ filter test (until stop (left_from f o)) ≡ whole
 gathered_next test stop o f q made more whole next last other is so_far =
     gathered_on test stop q (left_from f o) made more whole other is (ap (λ xs. made ++ filter test (until stop xs)) (sym (next_left o f q next last)) ∙ so_far)
 
-pub shorter : (o : Option (ℕ × ℕ)) (f : Forest) (q : ℕ) → IfSome o (λ next. from f q ≡ q ∷ from f next.0) → IfNone o (from f q ≡ q ∷ []) → length (left_from f o) < length (from f q)
-shorter o f q next last = omega (arith, ap length (next_left o f q next last))
-
-pub gathered_at : (test : ℕ → Bool) (stop : Option ℕ) (o : Option (ℕ × ℕ)) (f : Forest) (q : ℕ) (made whole : List ℕ) → IfSome o (λ next. from f q ≡ q ∷ from f next.0)
-    → IfNone o (from f q ≡ q ∷ []) → is_named stop q ≡ true → made ++ filter test (until stop (from f q)) ≡ whole → made ≡ whole
-gathered_at test stop o f q made whole next last here so_far =
-    gathered_stop test stop q (left_from f o) made whole here (ap (λ xs. made ++ filter test (until stop xs)) (sym (next_left o f q next last)) ∙ so_far)
-
 -- ---- by the walk's own state
 
 abbrev pub IsUnderWay : (test : ℕ → Bool) (stop : Option ℕ) (f : Forest) (at : Option (ℕ × ℕ)) (made whole : List ℕ) → Type 0
 IsUnderWay test stop f at made whole = IsAt f at × (made ++ filter test (until stop (left_from f at)) ≡ whole)
-
-pub way_ends : (test : ℕ → Bool) (stop : Option ℕ) (at o : Option (ℕ × ℕ)) (f : Forest) (q d : ℕ) (made whole : List ℕ) → IsUnderWay test stop f at made whole
-    → IfSome o (λ next. from f q ≡ q ∷ from f next.0) → IfNone o (from f q ≡ q ∷ []) → is_named stop q ≡ true → at ≡ Some (q, d) → made ≡ whole
-way_ends test stop at o f q d made whole way next last here is = gathered_at test stop o f q made whole next last here (rw is at way).1
 
 pub way_on : (test : ℕ → Bool) (stop : Option ℕ) (at o : Option (ℕ × ℕ)) (f : Forest) (q d : ℕ) (made more whole : List ℕ) → IsUnderWay test stop f at made whole
     → IfSome o (λ next. from f q ≡ q ∷ from f next.0) → IfNone o (from f q ≡ q ∷ []) → IfSome o (λ next. depth f next.0 ≡ Some next.1)

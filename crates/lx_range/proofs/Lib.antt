@@ -1,3 +1,8 @@
+mod Cuts
 mod Gathered
-mod Leading
+mod InlineFirst
+mod Previous
+mod Steps
+mod Stretches
+mod Until
 pub mod Up

@@ -1,5 +1,5 @@
 -- The way up to the first node that passes a test.
-use Rattle.std.proofs.Common.{◌≡◌, ◌∙◌, refl, ℕ, Bool, true, false, List, ◌∷◌, None, Some, ap, sym}
+use Rattle.std.proofs.Common.{◌≡◌, refl, ℕ, Bool, true, false, List, ◌∷◌, None, Some, ap}
 use Rattle.std.specs.Prelude.{find}
 use Rattle.lx_forest.specs.Forest.{Forest}
 use Rattle.lx_forest.specs.Lookups.{parent_of, ancestors}

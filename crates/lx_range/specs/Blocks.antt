@@ -1,11 +1,11 @@
 -- Text blocks, frames and lines.
-use Rattle.std.specs.Prelude.{ℕ, ◌==◌, ◌&&◌, Bool, true, false, if◌then◌else◌, List, [], ◌∷◌, find, Option, None, Some}
+use Rattle.std.specs.Prelude.{ℕ, ◌==◌, ◌&&◌, ◌||◌, Bool, true, false, if◌then◌else◌, List, [], ◌∷◌, find, Option, None, Some}
 use Rattle.std.specs.List.{list_any}
 use Rattle.lx_node.specs.Kinds.{is_text_block, is_inline, is_cell}
 use Rattle.lx_node.specs.declared.kind.Kind.{Kind}
 use Rattle.lx_node.specs.declared.kind.Kind.TheVariants.{Table, Rule}
 use Rattle.lx_forest.specs.Forest.{Forest}
-use Rattle.lx_forest.specs.Lookups.{kind_of, children_of, ancestors}
+use Rattle.lx_forest.specs.Lookups.{kind_of, children_of, size_of, ancestors}
 
 -- what isn't a line, and yet stands among lines
 abbrev pub is_rule_or_table : Kind → Bool
@@ -36,12 +36,8 @@ same_node (Some a) (Some b) = a == b
 same_node _ _ = false
 
 -- a line: a text block that is empty or has an inline child
-abbrev pub has_line : Forest → List ℕ → Bool
-has_line f [] = true
-has_line f children = list_any (is_at is_inline f) children
-
 abbrev pub is_line : Forest → ℕ → Bool
-is_line f k = is_at is_text_block f k && has_line f (children_of f k)
+is_line f k = is_at is_text_block f k && ((size_of f k == 0) || list_any (is_at is_inline f) (children_of f k))
 
 -- the inline children with which a list of children begins
 abbrev pub leading_in : Forest → List ℕ → List ℕ

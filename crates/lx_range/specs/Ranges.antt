@@ -13,7 +13,7 @@ use Rattle.lx_forest.specs.Forest.{Forest}
 use Rattle.lx_forest.specs.Lookups.{label_of, fields_of, is_attached}
 use Rattle.lx_draft.specs.Working.{Working}
 use Rattle.lx_draft.specs.Selecting.{lies_in, length_of}
-use Rattle.lx_draft.specs.Faults.{text_in, after}
+use Rattle.lx_draft.specs.Faults.{text_in}
 use Rattle.lx_range.specs.declared.ranges.Ranged.{Ranged}
 use Rattle.lx_range.specs.Blocks.{same_node, frame_of}
 use Rattle.lx_range.specs.Places.{comes_first}

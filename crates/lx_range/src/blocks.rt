@@ -1,6 +1,7 @@
 //! Text blocks, frames and lines.
 
 ghost use Rattle.std.specs.Prelude.{◌≡◌, ◌∷◌, IfOk, find};
+ghost use Rattle.std.specs.List.{list_any};
 ghost use Rattle.lx_node.specs.Kinds as kinds;
 ghost use Rattle.lx_forest.specs.Lookups as lookups;
 ghost use Rattle.lx_range.specs.Blocks as blocks;
@@ -110,13 +111,10 @@ pub fn same_node(a: Option<Key>, b: Option<Key>) -> bool
     }
 }
 
-/// Whether one of the node's children stands in a line of text, or it has none.
-fn has_line(links: &Links, key: Key) -> bool
-    ensures { result ≡ blocks.has_line links.now (lookups.children_of links.now key) }
+/// Whether one of the node's children stands in a line of text.
+fn has_inline(links: &Links, key: Key) -> bool
+    ensures { result ≡ list_any (blocks.is_at kinds.is_inline links.now) (lookups.children_of links.now key) }
 {
-    if links.size(key) == 0 {
-        return true;
-    }
     for child in links.children(key) {
         if is_inline_at(links, child) {
             return true;
@@ -129,11 +127,11 @@ fn has_line(links: &Links, key: Key) -> bool
 pub fn is_line(links: &Links, key: Key) -> bool
     ensures { result ≡ blocks.is_line links.now key }
 {
-    is_block_at(links, key) && has_line(links, key)
+    is_block_at(links, key) && (links.size(key) == 0 || has_inline(links, key))
 }
 
 /// The inline children with which the node's children begin, in order.
-#[tactic(auto, using(crate::proofs::Leading::leading_on, crate::proofs::Leading::leading_ends))]
+#[tactic(auto, using(crate::proofs::InlineFirst::leading_on, crate::proofs::InlineFirst::leading_ends))]
 pub fn leading(alloc: Global, links: &Links, key: Key) -> Result<Vec<Key>, NoMemory>
     ensures { IfOk result (λ keys. keys.items ≡ blocks.leading links.now key) }
 {

@@ -10,5 +10,7 @@ mod walks;
 
 pub use blocks::{block, frame, is_inline_at, is_line, is_rule_or_table_at, leading, same_node};
 pub use places::{children_before, comes_first};
-pub use ranges::{Ranged, in_order, is_collapsed, is_normal_at, normal_at, place_caret, range_of, shown_range};
-pub use walks::{covered, first_behind, last_before, previous_in_tree};
+pub use ranges::{
+    Ranged, in_order, is_collapsed, is_normal_at, normal_at, place_caret, range_of, shown_range,
+};
+pub use walks::{covered, first_behind, last_before, outermost, previous_in_tree};

@@ -12,14 +12,15 @@ use std::cmp::Ordering;
 pub fn children_before(links: &Links, outer: Key, key: Key) -> u32
     ensures { result ≡ length (places.children_before links.now outer key) }
 {
-    let mut passed: u32 = 0;
+    let size = links.size(outer);
+    let mut passed = 0;
     for child in links.children(outer) {
         if links.is_within(child, key) {
             return passed;
         }
-        passed = passed.saturating_add(1);
+        passed += 1;
     }
-    passed
+    size
 }
 
 fn is_less(order: Option<Ordering>) -> bool

@@ -122,6 +122,7 @@ pub fn place_caret(draft: &mut Draft, at: &Point)
     draft.put_points(*at);
 }
 
+#[tactic(auto, unfolding(lx_node::specs::OfKind::is_normal))]
 fn is_normal(mode: Mode) -> bool
     ensures { result ≡ of_kind.is_normal mode }
 {

@@ -1,8 +1,9 @@
 //! The nodes before and behind a point, in preorder.
 
-ghost use Rattle.std.specs.Prelude.{◌≡◌, ◌++◌, ◌∷◌, [], true, None, OnOk, IfOk, IfSome, IfNone, Some, filter, not};
+ghost use Rattle.std.specs.Prelude.{◌≡◌, ◌++◌, ◌∷◌, ◌||◌, [], true, OnOk, IfOk, IfSome, IfNone, Some, filter, not, option_map, unwrap_or};
 ghost use Rattle.lx_node.specs.Siblings.{is_named, first_of, last_of};
 ghost use Rattle.lx_forest.specs.Lookups as lookups;
+ghost use Rattle.lx_links.specs.Stands.{Sound};
 ghost use Rattle.lx_range.specs.Places as places;
 ghost use Rattle.lx_range.specs.Walks as walks;
 ghost use Rattle.lx_range.specs.Walks.{left_from, IsAt, nodes_before, node_before};
@@ -16,6 +17,7 @@ pub fn first_behind(links: &Links, point: &Point) -> Option<(Key, u32)>
     requires { lookups.is_attached links.now point.now.key ≡ true }
     ensures left { left_from links.now result ≡ places.nodes_behind links.now point.now }
     ensures at { IsAt links.now result }
+    ensures sound { Sound links.now }
 {
     let depth = links.depth(point.key)?;
     match point.kind {
@@ -71,20 +73,70 @@ fn collect(
     Ok(keys)
 }
 
-/// The nodes that lie wholly between two points of the root's tree, in preorder.
-pub fn covered(alloc: Global, links: &Links, start: &Point, end: &Point) -> Result<Vec<Key>, NoMemory>
+/// The nodes that lie wholly between two points.
+fn between(alloc: Global, links: &Links, start: &Point, end: &Point) -> Result<Vec<Key>, NoMemory>
     requires start { lookups.is_attached links.now start.now.key ≡ true }
     requires end { lookups.is_attached links.now end.now.key ≡ true }
-    ensures { IfOk result (λ keys. keys.items ≡ places.covered links.now start.now end.now) }
+    ensures covered { IfOk result (λ keys. keys.items ≡ places.covered links.now start.now end.now) }
+    ensures sound { Sound links.now }
 {
     let from = first_behind(links, start);
     let stop = first_behind(links, end);
     collect(alloc, links, from, stop, end.key)
 }
 
+/// The nodes that lie wholly between two points of the root's tree, in preorder.
+pub fn covered(
+    alloc: Global,
+    links: &Links,
+    start: &Point,
+    end: &Point,
+) -> Result<Vec<Key>, NoMemory>
+    requires start { lookups.is_attached links.now start.now.key ≡ true }
+    requires end { lookups.is_attached links.now end.now.key ≡ true }
+    ensures { IfOk result (λ keys. keys.items ≡ places.covered links.now start.now end.now) }
+{
+    between(alloc, links, start, end)
+}
+
+/// Whether the parent's tree holds one of the keys, or there is no parent.
+fn holds_above(links: &Links, key: Key, start: Key, end: Key) -> bool
+    ensures { result ≡ unwrap_or (option_map (λ p. lookups.is_within links.now p start || lookups.is_within links.now p end) (lookups.parent_of links.now key)) true }
+{
+    match links.parent(key) {
+        Some(parent) => links.is_within(parent, start) || links.is_within(parent, end),
+        None => true,
+    }
+}
+
+fn keep_outermost(keys: &mut Vec<Key>, links: &Links, start: Key, end: Key)
+    ensures { keys.new.items ≡ filter (λ k. unwrap_or (option_map (λ p. lookups.is_within links.now p start || lookups.is_within links.now p end) (lookups.parent_of links.now k)) true) keys.old.items }
+{
+    keys.retain(|key| holds_above(links, *key, start, end));
+}
+
+/// Of the nodes that lie wholly between two points of the root's tree, those whose parent doesn't, in preorder.
+pub fn outermost(
+    alloc: Global,
+    links: &Links,
+    start: &Point,
+    end: &Point,
+) -> Result<Vec<Key>, NoMemory>
+    requires start { lookups.is_attached links.now start.now.key ≡ true }
+    requires end { lookups.is_attached links.now end.now.key ≡ true }
+    ensures { IfOk result (λ keys. keys.items ≡ places.outermost links.now (places.covered links.now start.now end.now)) }
+{
+    // A covered node's parent is covered where its tree holds neither point.
+    let mut keys = between(alloc, links, start, end)?;
+    keep_outermost(&mut keys, links, start.key, end.key);
+    Ok(keys)
+}
+
 /// The last node of the key's tree in preorder.
 fn last_within(links: &Links, key: Key) -> Key
-    ensures { Some result ≡ last_of (lookups.keys_within links.now key) }
+    requires { lookups.has key links.now ≡ true }
+    ensures last { Some result ≡ last_of (lookups.keys_within links.now key) }
+    ensures sound { Sound links.now }
 {
     let mut at = key;
     while let Some(child) = links.last(at) {

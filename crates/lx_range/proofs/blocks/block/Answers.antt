@@ -1,4 +1,4 @@
-use Rattle.std.proofs.Common.{◌≡◌, ◌∙◌, false, ap, sym, arith}
+use Rattle.std.proofs.Common.{◌∙◌, sym, arith}
 use Rattle.lx_node.specs.Kinds.{is_text_block}
 use Rattle.lx_links.proofs.Up.{one_up}
 use Rattle.lx_range.specs.Blocks.{is_at}

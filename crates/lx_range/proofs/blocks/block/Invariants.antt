@@ -1,4 +1,4 @@
-use Rattle.std.proofs.Common.{◌≡◌, ◌∷◌, length}
+use Rattle.std.proofs.Common.{◌≡◌, length}
 use Rattle.lx_forest.specs.Lookups.{ancestors}
 use Rattle.lx_range.specs.Blocks.{block_of}
 use Rattle.lx_range.proofs.blocks.block.Given as goal

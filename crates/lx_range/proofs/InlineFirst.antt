@@ -1,5 +1,5 @@
 -- The inline children at the start of a list, passed one by one.
-use Rattle.std.proofs.Common.{◌≡◌, ◌∙◌, ℕ, Bool, true, false, cond, List, [], ◌∷◌, ◌++◌, refl, sym, ap, append_assoc, append-nil}
+use Rattle.std.proofs.Common.{◌≡◌, ◌∙◌, ℕ, true, false, cond, List, [], ◌∷◌, ◌++◌, sym, ap, append_assoc, append-nil}
 use Rattle.lx_node.specs.Kinds.{is_inline}
 use Rattle.lx_forest.specs.Forest.{Forest}
 use Rattle.lx_range.specs.Blocks.{is_at, leading_in}
