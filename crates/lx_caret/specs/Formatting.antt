@@ -1,5 +1,6 @@
 -- Formatting the covered texts of a range.
 use Rattle.std.specs.Prelude.{ℕ, ◌+◌, ◌-◌, ◌==◌, ◌&&◌, Bool, true, false, not, nat_lt, is_some, if◌then◌else◌, List, [], ◌∷◌, ◌++◌, map, filter, bit_and, bit_or, Option, None, Some, Result, Ok, Err}
+use Rattle.lx_node.specs.Kinds.{has_characters}
 use Rattle.lx_node.specs.declared.fields.Fields.{Fields}
 use Rattle.lx_node.specs.declared.fields.Fields.TheVariants as fields
 use Rattle.lx_node.specs.declared.fields.TextFields.{TextFields}
@@ -10,7 +11,6 @@ use Rattle.lx_node.specs.declared.cause.PointKind.TheVariants as point
 use Rattle.lx_forest.specs.Forest.{Forest}
 use Rattle.lx_forest.specs.Lookups.{fields_of}
 use Rattle.lx_draft.specs.Working.{Working}
-use Rattle.lx_draft.specs.Selecting.{is_text_kind}
 use Rattle.lx_draft.specs.Faults.{after}
 use Rattle.lx_draft.specs.Steps.{set_step}
 use Rattle.lx_edit.specs.Texts.{split_step}
@@ -63,7 +63,7 @@ whole f k = piece k 0 (characters_at f k)
 abbrev pub pieces : Forest → Point → Point → List Piece
 pieces f start end =
     filter (λ p. nat_lt p.from p.to)
-    (start_piece f start end start.kind ++ (map (whole f) (filter (is_at is_text_kind f) (covered f start end)) ++ end_piece start end end.kind))
+    (start_piece f start end start.kind ++ (map (whole f) (filter (is_at has_characters f) (covered f start end)) ++ end_piece start end end.kind))
 
 -- ---- a piece by itself
 

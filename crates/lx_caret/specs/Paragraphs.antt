@@ -1,7 +1,8 @@
 -- Inserting a paragraph: a block cut in two at the caret.
 use Rattle.std.specs.Prelude.{ℕ, ◌+◌, ◌==◌, ◌&&◌, Bool, true, false, nat_lt, is_some, unwrap_or, if◌then◌else◌, List, [], ◌∷◌, drop, take_while, not, Option, None, Some, Result, Ok, Err}
 use Rattle.std.specs.List.{list_all}
-use Rattle.lx_node.specs.Kinds.{is_inline, is_link, is_item}
+use Rattle.lx_node.specs.Kinds.{is_inline, is_link, is_item, has_characters}
+use Rattle.lx_node.specs.Plain.{plain_element}
 use Rattle.lx_node.specs.declared.kind.Kind.{Kind}
 use Rattle.lx_node.specs.declared.kind.Kind.TheVariants.{Paragraph, Heading, Quote, Item}
 use Rattle.lx_node.specs.declared.fields.Fields.{Fields}
@@ -17,10 +18,9 @@ use Rattle.lx_node.specs.declared.cause.PointKind.{PointKind}
 use Rattle.lx_node.specs.declared.cause.PointKind.TheVariants as point
 use Rattle.lx_select.specs.declared.selection.Selection.{Selection}
 use Rattle.lx_select.specs.declared.selection.Selection.TheVariants.{Range}
-use Rattle.lx_forest.specs.Forest.{Forest, Label, plain_element}
+use Rattle.lx_forest.specs.Forest.{Forest, Label}
 use Rattle.lx_forest.specs.Lookups.{label_of, kind_of, fields_of, parent_of, index_of, size_of, children_of, ancestors}
 use Rattle.lx_draft.specs.Working.{Working}
-use Rattle.lx_draft.specs.Selecting.{is_text_kind}
 use Rattle.lx_draft.specs.Faults.{after}
 use Rattle.lx_draft.specs.Steps.{new_step}
 use Rattle.lx_edit.specs.Edits.{text_point, element_point, moved_to_end}
@@ -116,7 +116,7 @@ new_next f (Some l) moved w = let b : Block = next_of_kind f l moved l.kind in n
 
 abbrev pub start_of_first : Forest → ℕ → List ℕ → Point
 start_of_first f block [] = element_point block 0
-start_of_first f block (k ∷ ks) = if is_at is_text_kind f k then text_point k 0 else element_point block 0
+start_of_first f block (k ∷ ks) = if is_at has_characters f k then text_point k 0 else element_point block 0
 
 unfoldable pub moved_on : ℕ → List ℕ → Working → Result Working Cause
 moved_on block moved w =

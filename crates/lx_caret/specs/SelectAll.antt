@@ -1,6 +1,6 @@
 -- The whole content selected.
 use Rattle.std.specs.Prelude.{ℕ, ◌+◌, ◌==◌, Bool, true, false, if◌then◌else◌, find, Option, None, Some, Result, Ok, Err}
-use Rattle.lx_node.specs.Kinds.{is_element}
+use Rattle.lx_node.specs.Kinds.{is_element, is_text}
 use Rattle.lx_node.specs.Siblings.{last_of}
 use Rattle.lx_node.specs.declared.kind.Kind.{Kind}
 use Rattle.lx_node.specs.declared.cause.Cause.{Cause}
@@ -10,7 +10,6 @@ use Rattle.lx_forest.specs.Forest.{Forest}
 use Rattle.lx_forest.specs.Lookups.{parent_of, index_of, size_of, keys_within}
 use Rattle.lx_draft.specs.Working.{Working}
 use Rattle.lx_draft.specs.Steps.{select_step}
-use Rattle.lx_edit.specs.Conditions.{is_text}
 use Rattle.lx_edit.specs.Edits.{text_point, element_point}
 use Rattle.lx_range.specs.Blocks.{is_at}
 use Rattle.lx_range.specs.Ranges.{characters_at}

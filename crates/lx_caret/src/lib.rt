@@ -3,4 +3,15 @@
 //! was refused is only fit to be dropped. Offsets are those of `lx_text`.
 #![tactic(auto)]
 
+mod adding;
+mod following;
+mod inserting;
 mod laws;
+mod paragraphs;
+mod parting;
+mod removing;
+
+pub use inserting::{insert_line_break, insert_tab, insert_text};
+pub use laws::commands_are_covered;
+pub use paragraphs::insert_paragraph;
+pub use removing::remove_text;

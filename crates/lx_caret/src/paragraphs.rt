@@ -1,0 +1,222 @@
+//! A paragraph inserted at the caret: a block cut in two.
+
+ghost use Rattle.std.specs.Prelude.{◌≡◌, true, Ok, OnOk, IfOk, IfErr};
+ghost use Rattle.lx_node.specs.Kinds as kinds;
+ghost use Rattle.lx_draft.specs.Covering.{IsReady};
+ghost use Rattle.lx_draft.specs.Faults.{TellsStep};
+ghost use Rattle.lx_edit.specs.Standing.{StillStands};
+ghost use Rattle.lx_range.specs.Blocks as blocks;
+ghost use Rattle.lx_range.specs.Ranges as ranges;
+ghost use Rattle.lx_caret.specs.Paragraphs as paragraphs;
+ghost use Rattle.lx_caret.specs.Paragraphs.{insert_paragraph_step};
+
+use crate::following::make_next;
+use crate::parting::{children_from, part_up};
+use crate::adding::{add, is_inside};
+use crate::removing::remove_text;
+use lx_draft::Draft;
+use lx_edit::{admitted, element_point, move_each, split_text, text_point};
+use lx_links::Links;
+use lx_node::{Cause, Fault, Fields, Key, Kind, NoMemory, Point};
+use lx_range::{block, place_caret, shown_range};
+use std::alloc::Global;
+
+/// Inserts a paragraph at the caret. The selected text is removed first, as `remove_text` does it. Then the caret's block,
+/// which is the nearest paragraph, heading, quote or item from its node upwards, is cut in two: a text with the caret
+/// strictly inside is split, and then, upwards from there, each link below the block that has children on both sides.
+/// What is behind goes into a new block right behind the old one. The caret goes to the start of the new block: to offset
+/// 0 of its first child where that is a text or tab, and otherwise before its children. The selection's format stays.
+///
+/// What the new block is goes by the old one:
+///
+/// * Behind a paragraph or a heading it is of the same kind, with the fields of the old one; but where nothing goes from a
+///   heading into it, it is a paragraph of which no field is set.
+/// * Behind a quote no field of it is set. It is a paragraph where no children but texts, tabs, line breaks, links and
+///   embeds go into it, and otherwise a quote.
+/// * Behind an item it is an item with the value 1, of which else nothing is set. Where the old one has a check mark, set
+///   or not, it has one that isn't set.
+///
+/// Where the caret is in no block, an empty paragraph is added there, and the caret goes into it. Where it is in an item
+/// without children, the item is left alone and answered, since its list decides what becomes of it. Otherwise the answer
+/// is `None`.
+///
+/// It is refused as `remove_text` is, with `NoSelection` where there is no range to go by; in no block with `WrongKind`,
+/// where what is at the caret may not hold a paragraph; and as the draft's own edits are: with `StepLimit` where 100,000
+/// counts were taken, and with `TooLarge` where the new nodes would bring what was written above 16,777,216 scalar values.
+/// A draft on which it was refused is only fit to be dropped.
+#[tactic(auto, unfolding(crate::specs::Paragraphs::insert_paragraph_step))]
+pub fn insert_paragraph(alloc: Global, draft: &mut Draft) -> Result<Option<Key>, Fault>
+    ensures ok { IfOk result (λ item. insert_paragraph_step draft.old ≡ Ok (record { draft = draft.new; item = item })) }
+    ensures err { IfErr result (λ e. TellsStep e (insert_paragraph_step draft.old)) }
+    ensures standing { IfErr result (λ e. StillStands e draft.new) }
+{
+    remove_text(alloc, draft)?;
+    let item = empty_item(draft);
+    break_at_caret(alloc, draft, &item)?;
+    Ok(item)
+}
+
+#[tactic(auto, unfolding(lx_node::specs::Kinds::is_item))]
+fn is_item(kind: Kind) -> bool
+    ensures { result ≡ kinds.is_item kind }
+{
+    matches!(kind, Kind::Item)
+}
+
+fn is_item_at(links: &Links, key: Key) -> bool
+    ensures { result ≡ blocks.is_at kinds.is_item links.now key }
+{
+    match links.kind(key) {
+        Some(kind) => is_item(kind),
+        None => false,
+    }
+}
+
+/// The block, where it is an item without children.
+fn if_empty_item(links: &Links, block: Option<Key>) -> Option<Key>
+    ensures { result ≡ paragraphs.if_empty_item links.now block }
+{
+    let block = block?;
+    if is_item_at(links, block) && links.size(block) == 0 {
+        Some(block)
+    } else {
+        None
+    }
+}
+
+/// The item of the caret, where it has no children.
+fn empty_item(draft: &Draft) -> Option<Key>
+    ensures { result ≡ paragraphs.empty_item draft.now }
+{
+    let links = draft.links();
+    match shown_range(draft.selection()) {
+        Some(range) => if_empty_item(links, block(links, range.anchor.key)),
+        None => None,
+    }
+}
+
+/// Goes by the caret, where a range is selected.
+fn break_at_caret(alloc: Global, draft: &mut Draft, item: &Option<Key>) -> Result<(), Fault>
+    ensures ok { OnOk result (ranges.at_anchor (λ p format. paragraphs.paragraph_at item.now (blocks.block_of draft.old.forest p.key) p) draft.old ≡ Ok draft.new) }
+    ensures err { IfErr result (λ e. TellsStep e (ranges.at_anchor (λ p format. paragraphs.paragraph_at item.now (blocks.block_of draft.old.forest p.key) p) draft.old)) }
+    ensures standing { IfErr result (λ e. StillStands e draft.new) }
+{
+    admitted(draft, None)?;
+    match shown_range(draft.selection()) {
+        Some(range) => break_at(alloc, draft, item, &range.anchor),
+        None => Err(Fault::Cause(Cause::NoSelection(draft.selection().kind()))),
+    }
+}
+
+/// Cuts the block of a point, or adds a paragraph where there is none. An empty item is left alone.
+#[tactic(auto, using(crate::proofs::Labelled::block_is))]
+fn break_at(
+    alloc: Global,
+    draft: &mut Draft,
+    item: &Option<Key>,
+    point: &Point,
+) -> Result<(), Fault>
+    ensures ok { OnOk result (paragraphs.paragraph_at item.now (blocks.block_of draft.old.forest point.now.key) point.now draft.old ≡ Ok draft.new) }
+    ensures err { IfErr result (λ e. TellsStep e (paragraphs.paragraph_at item.now (blocks.block_of draft.old.forest point.now.key) point.now draft.old)) }
+    ensures standing { IfErr result (λ e. StillStands e draft.new) }
+{
+    if item.is_some() {
+        return Ok(());
+    }
+    match block(draft.links(), point.key) {
+        Some(block) => cut_block(alloc, draft, block, point),
+        None => add_paragraph(alloc, draft, point),
+    }
+}
+
+/// Adds an empty paragraph at a point, with the caret in it.
+#[tactic(auto, unfolding(crate::specs::Paragraphs::paragraph_added), using(crate::proofs::Nexts::paragraph_suits, crate::proofs::Nexts::newest_is))]
+fn add_paragraph(alloc: Global, draft: &mut Draft, point: &Point) -> Result<(), Fault>
+    ensures ok { OnOk result (paragraphs.paragraph_added point.now draft.old ≡ Ok draft.new) }
+    ensures err { IfErr result (λ e. TellsStep e (paragraphs.paragraph_added point.now draft.old)) }
+    ensures standing { IfErr result (λ e. StillStands e draft.new) }
+{
+    let fields = Fields::plain_element(alloc);
+    let key = add(alloc, draft, point, Kind::Paragraph, fields)?;
+    place_caret(draft, &element_point(key, 0));
+    Ok(())
+}
+
+/// Goes on where the draft hasn't failed: it is in order then, and its next key is free.
+fn ready(draft: &Draft) -> Result<(), NoMemory>
+    ensures { OnOk result (IsReady draft.now) }
+{
+    if draft.links().has_failed() {
+        Err(NoMemory)
+    } else {
+        Ok(())
+    }
+}
+
+/// Cuts a block in two at a point below it.
+#[tactic(auto, unfolding(crate::specs::Paragraphs::block_cut))]
+fn cut_block(alloc: Global, draft: &mut Draft, block: Key, point: &Point) -> Result<(), Fault>
+    requires { blocks.is_at kinds.is_text_block draft.old.forest block ≡ true }
+    ensures ok { OnOk result (paragraphs.block_cut block point.now draft.old ≡ Ok draft.new) }
+    ensures err { IfErr result (λ e. TellsStep e (paragraphs.block_cut block point.now draft.old)) }
+    ensures standing { IfErr result (λ e. StillStands e draft.new) }
+{
+    ready(draft)?;
+    cut_text(alloc, draft, point)?;
+    let index = part_up(alloc, draft, block, point)?;
+    let moved = children_from(alloc, draft.links(), block, index)?;
+    move_on(alloc, draft, block, &moved)
+}
+
+/// Splits a text that holds a point strictly inside.
+fn cut_text(alloc: Global, draft: &mut Draft, point: &Point) -> Result<(), Fault>
+    ensures ok { OnOk result (paragraphs.cut_open point.now draft.old ≡ Ok draft.new) }
+    ensures err { IfErr result (λ e. TellsStep e (paragraphs.cut_open point.now draft.old)) }
+    ensures standing { IfErr result (λ e. StillStands e draft.new) }
+{
+    if is_inside(draft, point) {
+        split_text(alloc, draft, point.key, &[point.offset])?;
+    }
+    Ok(())
+}
+
+/// Moves nodes into a new block behind one, and the caret to its start.
+#[tactic(auto, unfolding(crate::specs::Paragraphs::moved_on))]
+fn move_on(alloc: Global, draft: &mut Draft, block: Key, moved: &[Key]) -> Result<(), Fault>
+    requires { blocks.is_at kinds.is_text_block draft.old.forest block ≡ true }
+    ensures ok { OnOk result (paragraphs.moved_on block moved.now draft.old ≡ Ok draft.new) }
+    ensures err { IfErr result (λ e. TellsStep e (paragraphs.moved_on block moved.now draft.old)) }
+    ensures standing { IfErr result (λ e. StillStands e draft.new) }
+{
+    let next = make_next(alloc, draft, block, moved)?;
+    draft.put_behind(next, block)?;
+    move_each(draft, next, moved)?;
+    let start = start_of(draft.links(), next, moved);
+    place_caret(draft, &start);
+    Ok(())
+}
+
+/// The start of a block with these children.
+fn start_of(links: &Links, block: Key, children: &[Key]) -> Point
+    ensures { result ≡ paragraphs.start_of_first links.now block children.now }
+{
+    match children {
+        [first, ..] => {
+            if has_characters_at(links, *first) {
+                text_point(*first, 0)
+            } else {
+                element_point(block, 0)
+            }
+        }
+        [] => element_point(block, 0),
+    }
+}
+
+fn has_characters_at(links: &Links, key: Key) -> bool
+    ensures { result ≡ blocks.is_at kinds.has_characters links.now key }
+{
+    match links.kind(key) {
+        Some(kind) => kind.has_characters(),
+        None => false,
+    }
+}

@@ -1,0 +1,210 @@
+//! Links that are split with the block around them: each that has children on both sides of the caret.
+
+ghost use Rattle.std.specs.Prelude.{◌≡◌, ◌&&◌, ◌∷◌, true, nat_lt, Some, OnOk, IfOk, IfErr, IfSome, IfNone, drop};
+ghost use Rattle.lx_node.specs.Kinds as kinds;
+ghost use Rattle.lx_node.specs.OfKind.{IsOfKind};
+ghost use Rattle.lx_forest.specs.Lookups as lookups;
+ghost use Rattle.lx_draft.specs.Faults.{TellsStep};
+ghost use Rattle.lx_edit.specs.Standing.{StillStands};
+ghost use Rattle.lx_range.specs.Blocks as blocks;
+ghost use Rattle.lx_range.specs.Places.{until};
+ghost use Rattle.lx_caret.specs.Paragraphs as paragraphs;
+
+use lx_draft::Draft;
+use lx_edit::move_each;
+use lx_links::Links;
+use lx_node::{Fault, Key, Kind, NoMemory, Node, Point, PointKind};
+use std::alloc::Global;
+
+/// How many children of its parent stand before an offset of a node: the node itself does so where it isn't 0.
+#[tactic(auto, using(crate::proofs::Holders::index_fits))]
+fn place_above(links: &Links, key: Key, offset: u32) -> u32
+    ensures { result ≡ paragraphs.place_of (lookups.index_of links.now key) offset }
+{
+    match links.index_of(key) {
+        Some(index) => if offset == 0 { index } else { index + 1 },
+        None => 0,
+    }
+}
+
+/// How many children of what holds a point stand before it.
+fn before_point(links: &Links, point: &Point) -> u32
+    ensures { result ≡ paragraphs.before_point links.now point.now point.now.kind }
+{
+    match point.kind {
+        PointKind::Text => place_above(links, point.key, point.offset),
+        PointKind::Element => point.offset,
+    }
+}
+
+/// The keys from a node up to the block, without it.
+fn way_up(alloc: Global, links: &Links, key: Key, block: Key) -> Result<Vec<Key>, NoMemory>
+    ensures { IfOk result (λ keys. keys.items ≡ until (Some block) (key ∷ lookups.ancestors links.now key)) }
+{
+    let mut keys = Vec::new(alloc);
+    let mut at = key;
+    'up: loop {
+        if at == block {
+            return Ok(keys);
+        }
+        keys.push(at)?;
+        match links.parent(at) {
+            Some(parent) => at = parent,
+            None => return Ok(keys),
+        }
+    }
+}
+
+/// The keys from what holds a point up to the block, without it.
+#[tactic(auto, using(crate::proofs::Holders::above_parent, crate::proofs::Holders::above_top))]
+fn holders(alloc: Global, links: &Links, block: Key, point: &Point) -> Result<Vec<Key>, NoMemory>
+    ensures { IfOk result (λ keys. keys.items ≡ paragraphs.holders_in links.now block point.now) }
+{
+    match point.kind {
+        PointKind::Text => match links.parent(point.key) {
+            Some(parent) => way_up(alloc, links, parent, block),
+            None => Ok(Vec::new(alloc)),
+        },
+        PointKind::Element => way_up(alloc, links, point.key, block),
+    }
+}
+
+/// The children of a node from an index on. Those before are passed from the nearer end, and aren't copied.
+pub(crate) fn children_from(
+    alloc: Global,
+    links: &Links,
+    key: Key,
+    index: u32,
+) -> Result<Vec<Key>, NoMemory>
+    ensures { IfOk result (λ keys. keys.items ≡ drop index (lookups.children_of links.now key)) }
+{
+    let mut keys = Vec::new(alloc);
+    let mut at = links.child_at(key, index);
+    while let Some(child) = at {
+        keys.push(child)?;
+        at = links.next(child);
+    }
+    Ok(keys)
+}
+
+#[tactic(auto, unfolding(lx_node::specs::Kinds::is_link))]
+fn is_link(kind: Kind) -> bool
+    ensures { result ≡ kinds.is_link kind }
+{
+    matches!(kind, Kind::Link)
+}
+
+fn is_link_at(links: &Links, key: Key) -> bool
+    ensures { result ≡ blocks.is_at kinds.is_link links.now key }
+{
+    match links.kind(key) {
+        Some(kind) => is_link(kind),
+        None => false,
+    }
+}
+
+/// Whether a place is among the children of a node, with some on both sides.
+fn has_both_sides(links: &Links, key: Key, index: u32) -> bool
+    ensures { result ≡ (nat_lt 0 index && nat_lt index (lookups.size_of links.now key)) }
+{
+    0 < index && index < links.size(key)
+}
+
+/// The node of a key, where there is one. Its fields are of its kind.
+pub(crate) fn node_at(links: &Links, key: Key) -> Option<&Node>
+    ensures label { IfSome result (λ node. lookups.label_of links.now key ≡ Some (record { key = key; kind = node.now.kind; fields = node.now.fields })) }
+    ensures suited { IfSome result (λ node. IsOfKind node.now.kind node.now.fields) }
+    ensures none { IfNone result (lookups.label_of links.now key ≡ None) }
+{
+    links.node(key)
+}
+
+/// Makes a link like another one, without children, and answers its key.
+fn make_like(alloc: Global, draft: &mut Draft, key: Key) -> Result<Key, Fault>
+    requires { blocks.is_at kinds.is_link draft.old.forest key ≡ true }
+    ensures ok { OnOk result (paragraphs.new_like (lookups.label_of draft.old.forest key) draft.old ≡ Ok draft.new) }
+    ensures key { IfOk result (λ new. new ≡ draft.old.next_key) }
+    ensures err { IfErr result (λ e. TellsStep e (paragraphs.new_like (lookups.label_of draft.old.forest key) draft.old)) }
+    ensures standing { IfErr result (λ e. StillStands e draft.new) }
+{
+    match node_at(draft.links(), key) {
+        Some(node) => {
+            let kind = node.kind;
+            let fields = node.fields.copy(alloc)?;
+            draft.new_node(kind, fields)
+        }
+        None => unreachable!(),
+    }
+}
+
+/// Moves the children of a link from an index on into a new one like it, behind it.
+#[tactic(auto, unfolding(crate::specs::Paragraphs::parted_at))]
+fn part_at(alloc: Global, draft: &mut Draft, key: Key, index: u32) -> Result<(), Fault>
+    requires { blocks.is_at kinds.is_link draft.old.forest key ≡ true }
+    ensures ok { OnOk result (paragraphs.parted_at key index draft.old ≡ Ok draft.new) }
+    ensures err { IfErr result (λ e. TellsStep e (paragraphs.parted_at key index draft.old)) }
+    ensures standing { IfErr result (λ e. StillStands e draft.new) }
+{
+    let moved = children_from(alloc, draft.links(), key, index)?;
+    let new = make_like(alloc, draft, key)?;
+    draft.put_behind(new, key)?;
+    move_each(draft, new, &moved)
+}
+
+/// Parts a link that has children on both sides of a place. Any other node stays whole.
+#[tactic(auto, unfolding(crate::specs::Paragraphs::link_parted))]
+fn part_link(alloc: Global, draft: &mut Draft, key: Key, index: u32) -> Result<(), Fault>
+    ensures ok { OnOk result (paragraphs.link_parted key index draft.old ≡ Ok draft.new) }
+    ensures err { IfErr result (λ e. TellsStep e (paragraphs.link_parted key index draft.old)) }
+    ensures standing { IfErr result (λ e. StillStands e draft.new) }
+{
+    if is_link_at(draft.links(), key) && has_both_sides(draft.links(), key, index) {
+        part_at(alloc, draft, key, index)
+    } else {
+        Ok(())
+    }
+}
+
+/// Parts a node at a place among its children, and answers that place among its parent's: behind what stayed.
+fn part(alloc: Global, draft: &mut Draft, key: Key, index: u32) -> Result<u32, Fault>
+    ensures ok { OnOk result (paragraphs.link_parted key index draft.old ≡ Ok draft.new) }
+    ensures place { IfOk result (λ place. place ≡ paragraphs.place_of (lookups.index_of draft.new.forest key) index) }
+    ensures err { IfErr result (λ e. TellsStep e (paragraphs.link_parted key index draft.old)) }
+    ensures standing { IfErr result (λ e. StillStands e draft.new) }
+{
+    part_link(alloc, draft, key, index)?;
+    Ok(place_above(draft.links(), key, index))
+}
+
+/// Parts nodes at a place, the innermost first, and answers how many children of what is above them stand before it.
+#[tactic(auto, using(crate::proofs::Parted::parts_done))]
+fn part_each(alloc: Global, draft: &mut Draft, keys: &[Key], index: u32) -> Result<u32, Fault>
+    ensures ok { IfOk result (λ place. paragraphs.parted_up keys.now index draft.old ≡ Ok (record { draft = draft.new; index = place })) }
+    ensures err { IfErr result (λ e. TellsStep e (paragraphs.parted_up keys.now index draft.old)) }
+    ensures standing { IfErr result (λ e. StillStands e draft.new) }
+{
+    let mut place = index;
+    for key in keys {
+        match part(alloc, draft, *key, place) {
+            Ok(above) => place = above,
+            Err(fault) => return Err(fault),
+        }
+    }
+    Ok(place)
+}
+
+/// Parts what holds a point, up to the block, and answers how many of the block's children stand before it.
+pub(crate) fn part_up(
+    alloc: Global,
+    draft: &mut Draft,
+    block: Key,
+    point: &Point,
+) -> Result<u32, Fault>
+    ensures ok { IfOk result (λ place. paragraphs.parted_up (paragraphs.holders_in draft.old.forest block point.now) (paragraphs.before_point draft.old.forest point.now point.now.kind) draft.old ≡ Ok (record { draft = draft.new; index = place })) }
+    ensures err { IfErr result (λ e. TellsStep e (paragraphs.parted_up (paragraphs.holders_in draft.old.forest block point.now) (paragraphs.before_point draft.old.forest point.now point.now.kind) draft.old)) }
+    ensures standing { IfErr result (λ e. StillStands e draft.new) }
+{
+    let keys = holders(alloc, draft.links(), block, point)?;
+    let before = before_point(draft.links(), point);
+    part_each(alloc, draft, &keys, before)
+}
