@@ -1,7 +1,17 @@
+mod Backwards
+mod BlockOrder
 pub mod Covered
+mod Covering
+mod Edged
+mod Erased
+mod Forwards
 mod Holders
+mod Inlined
+mod Isolating
 mod Labelled
+mod Leaves
 pub mod Made
+mod MovedIn
 mod Nexts
 mod Parted
 pub mod Paths

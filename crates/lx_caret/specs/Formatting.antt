@@ -19,6 +19,7 @@ use Rattle.lx_range.specs.Blocks.{is_at}
 use Rattle.lx_range.specs.Places.{covered}
 use Rattle.lx_select.specs.Selection.{with_format}
 use Rattle.lx_range.specs.Ranges.{range_of, start_of, end_of, normal_at, characters_at}
+use Rattle.lx_caret.specs.declared.pieces.Piece.{Piece}
 use Rattle.lx_caret.specs.Removing.{start_part}
 
 -- ---- bits
@@ -38,12 +39,6 @@ switched true bit format = bit_or (without_bit (excluded bit) format) bit
 switched false bit format = without_bit bit format
 
 -- ---- covered texts
-
--- a text or tab with its covered part
-pub record Piece : Type 0 where
-  pub key : ℕ
-  pub from : ℕ
-  pub to : ℕ
 
 abbrev pub piece : ℕ → ℕ → ℕ → Piece
 piece k from to = record { key = k; from = from; to = to }

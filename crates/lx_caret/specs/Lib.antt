@@ -7,3 +7,4 @@ pub mod Lying
 pub mod Paragraphs
 pub mod Removing
 pub mod SelectAll
+pub mod Stretches

@@ -4,14 +4,22 @@
 #![tactic(auto)]
 
 mod adding;
+mod deleting;
 mod following;
+mod formatting;
 mod inserting;
+mod joining;
 mod laws;
 mod paragraphs;
 mod parting;
+mod pieces;
 mod removing;
+mod selecting;
 
+pub use deleting::{delete_character, delete_word};
+pub use formatting::format_text;
 pub use inserting::{insert_line_break, insert_tab, insert_text};
 pub use laws::commands_are_covered;
 pub use paragraphs::insert_paragraph;
 pub use removing::remove_text;
+pub use selecting::select_all;

@@ -35,7 +35,7 @@ fn cut(draft: &mut Draft, key: Key, from: u32, to: u32) -> Result<(), Fault>
 }
 
 /// How far a range goes in the text of its start.
-fn start_part(draft: &Draft, start: &Point, end: &Point) -> u32
+pub(crate) fn start_part(draft: &Draft, start: &Point, end: &Point) -> u32
     ensures { result ≡ removing.start_part draft.now.forest start.now end.now }
 {
     if start.key == end.key {

@@ -1,0 +1,107 @@
+-- Where a caret is in its text.
+use Rattle.std.proofs.Common.{◌≡◌, ◌∙◌, ℕ, ◌≤◌, Bool, true, false, cond, ◌&&◌, List, [], Option, None, Some, option_map, Result, Ok, Err, refl, sym, ap, subst, arith, inl, inr}
+use Rattle.std.proofs.lemmas.Bool.{cases_Bool, and_parts}
+use Rattle.std.proofs.lemmas.Bool.Decides.{nat_tests}
+use Rattle.std.specs.Prelude.{nat_le}
+use Rattle.lx_node.specs.OfKind.{is_normal}
+use Rattle.lx_node.specs.declared.kind.Kind.{Kind}
+use Rattle.lx_node.specs.declared.kind.Kind.TheVariants.{Text}
+use Rattle.lx_node.specs.declared.fields.Fields.{Fields}
+use Rattle.lx_node.specs.declared.fields.Fields.TheVariants as fields
+use Rattle.lx_node.specs.declared.fields.TextFields.{TextFields}
+use Rattle.lx_node.specs.declared.cause.Cause.{Cause}
+use Rattle.lx_node.specs.declared.cause.Cause.TheVariants.{NoSelection}
+use Rattle.lx_node.specs.declared.cause.SelectionKind.TheVariants as kinds
+use Rattle.lx_node.specs.declared.cause.Point.{Point}
+use Rattle.lx_node.specs.declared.cause.PointKind.{PointKind}
+use Rattle.lx_node.specs.declared.cause.PointKind.TheVariants as point
+use Rattle.lx_text.specs.Texts.{text_length, is_offset}
+use Rattle.lx_select.specs.declared.selection.Selection.{Selection}
+use Rattle.lx_select.specs.declared.selection.Selection.TheVariants.{Nothing, Range, Nodes, Cells}
+use Rattle.lx_forest.specs.Forest.{Forest, Label}
+use Rattle.lx_forest.specs.Lookups.{label_of, kind_of, fields_of, is_attached}
+use Rattle.lx_draft.specs.Working.{Working}
+use Rattle.lx_draft.specs.Selecting.{length_of, length_told, extent, is_counted_in, lies_in}
+use Rattle.lx_draft.specs.Faults.{text_fields, text_in}
+use Rattle.lx_range.specs.declared.ranges.Ranged.{Ranged}
+use Rattle.lx_range.specs.Blocks.{same_node, frame_of}
+use Rattle.lx_range.specs.Ranges.{range_in, range_of, is_fit, lies, if_normal, normal_at, characters_at}
+use Rattle.lx_draft.specs.Steps.{splice_step}
+use Rattle.lx_edit.specs.Edits.{remove_step}
+use Rattle.lx_caret.specs.Deleting.{Reach, erased, erase_step, has_more}
+
+-- ---- the caret of a range
+
+fit_lies : (f : Forest) (a b : Point) (format : ℕ) (r : Ranged) → range_in f (Range a b format) ≡ Ok r → lies f r.anchor ≡ true
+fit_lies f a b format r e = elim (cases_Bool (is_fit f a b)) [
+  | inl fit ↦
+      let made : ◌≡◌ {A = Result Ranged Cause} (Ok (record { anchor = a; focus = b; format = format })) (Ok r) = rw fit at e in
+      let same : a ≡ r.anchor = cc in
+      ap (lies f) (sym same) ∙ (and_parts (lies f a) (lies f b) (and_parts (lies f a && lies f b) (same_node (frame_of f a.key) (frame_of f b.key)) fit).0).0
+  | inr not ↦ absurd (let no : ◌≡◌ {A = Result Ranged Cause} (Err (NoSelection kinds.Range)) (Ok r) = rw not at e in cc)
+]
+
+anchor_in : (f : Forest) (s : Selection) (r : Ranged) → range_in f s ≡ Ok r → lies f r.anchor ≡ true
+anchor_in f (Range a b format) r e = fit_lies f a b format r e
+anchor_in f Nothing r e = absurd (cc)
+anchor_in f (Nodes keys) r e = absurd (cc)
+anchor_in f (Cells table a b) r e = absurd (cc)
+
+-- the anchor of the range that a command needs lies in the root's tree
+pub anchor_lies : (w : Working) (r : Ranged) → range_of w ≡ Ok r → lies w.forest r.anchor ≡ true
+unfolding range_of
+anchor_lies w r e = anchor_in w.forest w.selection r e
+
+pub lies_attached : (f : Forest) (p : Point) → lies f p ≡ true → is_attached f p.key ≡ true
+lies_attached f p e = (and_parts (is_attached f p.key) (lies_in f p) e).0
+
+-- ---- an offset of a text
+
+more_in : (back : Bool) (f : Forest) (p : Point) (kind : PointKind) → nat_le p.offset (extent f p kind) ≡ true → has_more back f p kind ≡ true → p.offset ≤ characters_at f p.key
+more_in back f p point.Element within more = absurd (cc)
+more_in back f p point.Text within more = grind (arith, nat_tests, within)
+
+-- a point with characters on a side is within them
+pub more_within : (back : Bool) (f : Forest) (p : Point) → lies f p ≡ true → has_more back f p p.kind ≡ true → p.offset ≤ characters_at f p.key
+more_within back f p e more =
+    more_in back f p p.kind (and_parts (is_counted_in p.kind (kind_of f p.key)) (nat_le p.offset (extent f p p.kind)) (and_parts (is_attached f p.key) (lies_in f p) e).1).1 more
+
+told_offset : (text : List ℕ) (at : ℕ) → at ≤ length_told text → is_offset at text ≡ true
+unfolding is_offset text_length
+told_offset text at e = grind (arith, nat_tests, e)
+
+normal_is : (o : Option TextFields) (text : TextFields) → if_normal o ≡ Some text → o ≡ Some text
+normal_is None text e = cc
+normal_is (Some own) text e = elim (cases_Bool (is_normal own.mode)) [
+  | inl normal ↦ rw normal at e
+  | inr other ↦ absurd (let no : None ≡ Some text = rw other at e in cc)
+]
+
+fields_are : (kind : Kind) (all : Fields) (text : TextFields) → text_fields kind all ≡ Some text → all ≡ fields.Text text
+fields_are Text (fields.Text own) text e = let same : own ≡ text = cc in ap (λ (t : TextFields). fields.Text t) same
+fields_are kind other text e = absurd (cc)
+
+text_at : (l : Option Label) (text : TextFields) → text_in l ≡ Some text → option_map (λ (l : Label). l.fields) l ≡ Some (fields.Text text)
+text_at None text e = cc
+text_at (Some l) text e = ap (λ x. Some x) (fields_are l.kind l.fields text e)
+
+-- what is within the characters of a normal text is an offset of it
+pub offset_of : (f : Forest) (k at : ℕ) (text : TextFields) → normal_at f k ≡ Some text → at ≤ characters_at f k → is_offset at text.text ≡ true
+offset_of f k at text normal within =
+    let is : fields_of f k ≡ Some (fields.Text text) = text_at (label_of f k) text (normal_is (text_in (label_of f k)) text normal) in
+    told_offset text.text at (subst (λ n. at ≤ n) (ap length_of is) within)
+
+-- what a stretch up to this end takes away: all where there is none
+abbrev pub erased_to : Bool → ℕ → ℕ → Option ℕ → Working → Result Working Cause
+erased_to back k at None w = remove_step k w
+erased_to back k at (Some end) w = cond back (splice_step k end at [] w) (splice_step k at end [] w)
+
+erased_is : (back : Bool) (reach : Reach) (k at : ℕ) (o : Option TextFields) (w : Working) → erased_to back k at (option_map (λ (t : TextFields). reach t.text at) o) w ≡ erased back reach k at o w
+erased_is back reach k at None w = refl
+erased_is true reach k at (Some text) w = refl
+erased_is false reach k at (Some text) w = refl
+
+pub erased_by : (back : Bool) (reach : Reach) (k at : ℕ) (end : Option ℕ) (w : Working) → end ≡ option_map (λ (t : TextFields). reach t.text at) (normal_at w.forest k)
+    → erased_to back k at end w ≡ erase_step back reach k at w
+unfolding erase_step
+erased_by back reach k at end w e = ap (λ o. erased_to back k at o w) e ∙ erased_is back reach k at (normal_at w.forest k) w

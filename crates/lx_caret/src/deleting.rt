@@ -1,0 +1,374 @@
+//! Deleting a character or a word.
+
+ghost use Rattle.std.specs.Prelude.{◌≡◌, ◌≤◌, ◌&&◌, not, true, false, if◌then◌else◌, [], Ok, Some, option_map, OnOk, IfErr, IfSome, chars};
+ghost use Rattle.lx_node.specs.Kinds as kinds;
+ghost use Rattle.lx_node.specs.Siblings.{is_named};
+ghost use Rattle.lx_text.specs.Texts.{is_offset};
+ghost use Rattle.lx_forest.specs.Lookups as lookups;
+ghost use Rattle.lx_links.specs.Stands.{Sound};
+ghost use Rattle.lx_draft.specs.Faults.{TellsStep};
+ghost use Rattle.lx_draft.specs.Steps.{splice_step};
+ghost use Rattle.lx_edit.specs.Standing.{StillStands};
+ghost use Rattle.lx_range.specs.Blocks as blocks;
+ghost use Rattle.lx_range.specs.Ranges as ranges;
+ghost use Rattle.lx_range.specs.Walks as walks;
+ghost use Rattle.lx_caret.specs.Deleting as deleting;
+ghost use Rattle.lx_caret.specs.Deleting.{delete_character_step, delete_word_step};
+ghost use Rattle.lx_caret.specs.Stretches.{reach_of};
+
+use crate::joining::join;
+use crate::removing::remove_in;
+use lx_draft::Draft;
+use lx_edit::remove;
+use lx_links::Links;
+use lx_node::{Fault, Key, Point, PointKind};
+use lx_range::{
+    block, first_behind, is_collapsed, last_before, normal_at, previous_in_tree, range_of, same_node,
+};
+use lx_text::{cluster_after, cluster_before, word_after, word_before};
+use std::alloc::Global;
+
+/// What is deleted at once.
+#[derive(Clone, Copy, Debug)]
+pub(crate) enum Stretch {
+    /// The characters that a reader takes for one.
+    Cluster,
+    /// A word, with the white space between it and the caret.
+    Word,
+}
+
+/// Deletes what is selected, or else a character beside the caret: the one before it where `back` is set, and the one
+/// behind it otherwise. A character is an extended grapheme cluster, so it may be several scalar values.
+///
+/// - In a text with characters on that side, the cluster there is cut out. A tab, and a text that isn't normal, is
+///   removed whole.
+/// - Otherwise the last leaf of the block before the caret loses its last cluster, or the first leaf behind the caret its
+///   first one. A leaf without characters, as a line break, is removed, and so is a tab or a text that isn't normal.
+/// - Where the block has no such leaf, it is joined back to the line before it in the same cell, or among those in no
+///   cell. A line is a text block that is empty or has an inline child. The inline children with which the block begins go
+///   behind those of the line that stand before the block, a caret on the block goes along, and the block is removed if it
+///   is empty then. A horizontal rule that stands between is removed in place of all that, and a table stops it: nothing
+///   changes. Forward the line behind the block is joined so to the line before itself, and a rule or table behind the
+///   block does the same as one before it.
+/// - Where there is no line, rule or table on that side, or the caret is in no block, nothing changes.
+///
+/// It is refused with `NoSelection` where the selection is no range, where a point of it doesn't lie in the root's tree,
+/// and where one lies in another cell than the other; and with `StepLimit` where the update has taken its 100,000 counts.
+/// `Memory` tells that none was left. A draft on which it was refused is only fit to be dropped.
+#[tactic(auto, unfolding(crate::specs::Deleting::delete_character_step))]
+pub fn delete_character(alloc: Global, draft: &mut Draft, back: bool) -> Result<(), Fault>
+    ensures ok { OnOk result (delete_character_step back draft.old ≡ Ok draft.new) }
+    ensures err { IfErr result (λ e. TellsStep e (delete_character_step back draft.old)) }
+    ensures standing { IfErr result (λ e. StillStands e draft.new) }
+{
+    delete(alloc, draft, Stretch::Cluster, back)
+}
+
+/// Deletes what is selected, or else a word beside the caret: the one before it where `back` is set, and the one behind it
+/// otherwise, with the white space between it and the caret. Words are the pieces between the word bounds of Unicode in the
+/// text of the caret, or of the leaf, that loses them. All else is as `delete_character` does it, and it is refused for the
+/// same causes.
+#[tactic(auto, unfolding(crate::specs::Deleting::delete_word_step))]
+pub fn delete_word(alloc: Global, draft: &mut Draft, back: bool) -> Result<(), Fault>
+    ensures ok { OnOk result (delete_word_step back draft.old ≡ Ok draft.new) }
+    ensures err { IfErr result (λ e. TellsStep e (delete_word_step back draft.old)) }
+    ensures standing { IfErr result (λ e. StillStands e draft.new) }
+{
+    delete(alloc, draft, Stretch::Word, back)
+}
+
+#[tactic(auto, unfolding(crate::specs::Deleting::delete_step))]
+fn delete(alloc: Global, draft: &mut Draft, stretch: Stretch, back: bool) -> Result<(), Fault>
+    ensures ok { OnOk result (deleting.delete_step back (reach_of stretch back) draft.old ≡ Ok draft.new) }
+    ensures err { IfErr result (λ e. TellsStep e (deleting.delete_step back (reach_of stretch back) draft.old)) }
+    ensures standing { IfErr result (λ e. StillStands e draft.new) }
+{
+    let range = range_of(draft)?;
+    if is_collapsed(&range) {
+        delete_at(alloc, draft, stretch, back, &range.anchor)
+    } else {
+        remove_in(alloc, draft, &range)
+    }
+}
+
+/// Deletes beside a caret.
+fn delete_at(
+    alloc: Global,
+    draft: &mut Draft,
+    stretch: Stretch,
+    back: bool,
+    point: &Point,
+) -> Result<(), Fault>
+    requires { ranges.lies draft.old.forest point.now ≡ true }
+    ensures ok { OnOk result (deleting.deleted_in back (reach_of stretch back) point.now (blocks.block_of draft.old.forest point.now.key) draft.old ≡ Ok draft.new) }
+    ensures err { IfErr result (λ e. TellsStep e (deleting.deleted_in back (reach_of stretch back) point.now (blocks.block_of draft.old.forest point.now.key) draft.old)) }
+    ensures standing { IfErr result (λ e. StillStands e draft.new) }
+{
+    match block_at(draft.links(), point.key) {
+        Some(block) => delete_in(alloc, draft, stretch, back, point, block),
+        None => Ok(()),
+    }
+}
+
+/// The block of a node of the root's tree.
+fn block_at(links: &Links, key: Key) -> Option<Key>
+    requires { lookups.is_attached links.now key ≡ true }
+    ensures block { result ≡ blocks.block_of links.now key }
+    ensures attached { IfSome result (λ block. lookups.is_attached links.now block ≡ true) }
+{
+    if links.has(key) {
+        block(links, key)
+    } else {
+        None
+    }
+}
+
+/// Deletes beside a caret in a block: in its text, or in another leaf, or else the block is joined.
+fn delete_in(
+    alloc: Global,
+    draft: &mut Draft,
+    stretch: Stretch,
+    back: bool,
+    point: &Point,
+    block: Key,
+) -> Result<(), Fault>
+    requires lies { ranges.lies draft.old.forest point.now ≡ true }
+    requires block { lookups.is_attached draft.old.forest block ≡ true }
+    ensures ok { OnOk result (deleting.deleted_in back (reach_of stretch back) point.now (Some block) draft.old ≡ Ok draft.new) }
+    ensures err { IfErr result (λ e. TellsStep e (deleting.deleted_in back (reach_of stretch back) point.now (Some block) draft.old)) }
+    ensures standing { IfErr result (λ e. StillStands e draft.new) }
+{
+    if has_more(draft, back, point) {
+        erase(draft, stretch, back, point.key, point.offset)
+    } else {
+        delete_beyond(alloc, draft, stretch, back, point, block)
+    }
+}
+
+/// Deletes in another leaf, or else the block is joined.
+fn delete_beyond(
+    alloc: Global,
+    draft: &mut Draft,
+    stretch: Stretch,
+    back: bool,
+    point: &Point,
+    block: Key,
+) -> Result<(), Fault>
+    requires point { lookups.is_attached draft.old.forest point.now.key ≡ true }
+    requires block { lookups.is_attached draft.old.forest block ≡ true }
+    ensures ok { OnOk result (deleting.leaf_or_line back (reach_of stretch back) block (deleting.leaf_beside back draft.old.forest block point.now) draft.old ≡ Ok draft.new) }
+    ensures err { IfErr result (λ e. TellsStep e (deleting.leaf_or_line back (reach_of stretch back) block (deleting.leaf_beside back draft.old.forest block point.now) draft.old)) }
+    ensures standing { IfErr result (λ e. StillStands e draft.new) }
+{
+    match leaf_beside(draft.links(), back, block, point) {
+        Some(leaf) => erase_leaf(draft, stretch, back, leaf),
+        None => join(alloc, draft, back, block),
+    }
+}
+
+/// Whether the point is in a text with characters on that side.
+fn has_more(draft: &Draft, back: bool, point: &Point) -> bool
+    ensures { result ≡ deleting.has_more back draft.now.forest point.now point.now.kind }
+{
+    match point.kind {
+        PointKind::Element => false,
+        PointKind::Text => {
+            if back {
+                0 < point.offset
+            } else {
+                point.offset < draft.text_length(point.key)
+            }
+        }
+    }
+}
+
+/// The other end of what is deleted from an offset of a text.
+fn reach(stretch: Stretch, back: bool, text: &str, at: u32) -> u32
+    requires { is_offset at (chars text.now) ≡ true }
+    ensures { result ≡ reach_of stretch back (chars text.now) at }
+{
+    match stretch {
+        Stretch::Cluster => reach_cluster(back, text, at),
+        Stretch::Word => reach_word(back, text, at),
+    }
+}
+
+fn reach_cluster(back: bool, text: &str, at: u32) -> u32
+    requires { is_offset at (chars text.now) ≡ true }
+    ensures { result ≡ deleting.cluster_reach back (chars text.now) at }
+{
+    let end = if back {
+        cluster_before(text, at)
+    } else {
+        cluster_after(text, at)
+    };
+    end.unwrap_or(at)
+}
+
+fn reach_word(back: bool, text: &str, at: u32) -> u32
+    requires { is_offset at (chars text.now) ≡ true }
+    ensures { result ≡ deleting.word_reach back (chars text.now) at }
+{
+    let end = if back {
+        word_before(text, at)
+    } else {
+        word_after(text, at)
+    };
+    end.unwrap_or(at)
+}
+
+/// The other end of what is deleted from an offset of a normal text, and nothing for any other node.
+fn end_in(draft: &Draft, stretch: Stretch, back: bool, key: Key, at: u32) -> Option<u32>
+    requires { at ≤ ranges.characters_at draft.now.forest key }
+    ensures { result ≡ option_map (λ text. reach_of stretch back text.text at) (ranges.normal_at draft.now.forest key) }
+{
+    match normal_at(draft, key) {
+        Some(text) => Some(reach(stretch, back, text.text.as_str(), at)),
+        None => None,
+    }
+}
+
+/// Cuts what the stretch goes over out of a normal text; another text goes whole.
+fn erase(draft: &mut Draft, stretch: Stretch, back: bool, key: Key, at: u32) -> Result<(), Fault>
+    requires { at ≤ ranges.characters_at draft.old.forest key }
+    ensures ok { OnOk result (deleting.erase_step back (reach_of stretch back) key at draft.old ≡ Ok draft.new) }
+    ensures err { IfErr result (λ e. TellsStep e (deleting.erase_step back (reach_of stretch back) key at draft.old)) }
+    ensures standing { IfErr result (λ e. StillStands e draft.new) }
+{
+    match end_in(draft, stretch, back, key, at) {
+        Some(end) => cut(draft, back, key, at, end),
+        None => remove(draft, key),
+    }
+}
+
+/// Cuts out what is between two offsets of a text, of which the second is the one before where `back` is set.
+#[tactic(auto, using(lx_edit::proofs::Tails::no_characters))]
+fn cut(draft: &mut Draft, back: bool, key: Key, at: u32, end: u32) -> Result<(), Fault>
+    ensures ok { OnOk result ((if back then splice_step key end at [] draft.old else splice_step key at end [] draft.old) ≡ Ok draft.new) }
+    ensures err { IfErr result (λ e. TellsStep e (if back then splice_step key end at [] draft.old else splice_step key at end [] draft.old)) }
+    ensures standing { IfErr result (λ e. StillStands e draft.new) }
+{
+    if back {
+        draft.splice(key, end, at, "")
+    } else {
+        draft.splice(key, at, end, "")
+    }
+}
+
+/// Deletes in a leaf from the side of the caret. A leaf without characters is removed.
+#[tactic(auto, unfolding(crate::specs::Deleting::leaf_step))]
+fn erase_leaf(draft: &mut Draft, stretch: Stretch, back: bool, key: Key) -> Result<(), Fault>
+    ensures ok { OnOk result (deleting.leaf_step back (reach_of stretch back) key draft.old ≡ Ok draft.new) }
+    ensures err { IfErr result (λ e. TellsStep e (deleting.leaf_step back (reach_of stretch back) key draft.old)) }
+    ensures standing { IfErr result (λ e. StillStands e draft.new) }
+{
+    let length = draft.text_length(key);
+    if length == 0 {
+        remove(draft, key)
+    } else {
+        let at = edge(back, length);
+        erase(draft, stretch, back, key, at)
+    }
+}
+
+fn edge(back: bool, length: u32) -> u32
+    ensures { result ≡ deleting.edge back length }
+{
+    if back { length } else { 0 }
+}
+
+fn is_element_at(links: &Links, key: Key) -> bool
+    ensures element { result ≡ blocks.is_at kinds.is_element links.now key }
+    ensures sound { Sound links.now }
+{
+    match links.kind(key) {
+        Some(kind) => kind.is_element(),
+        None => false,
+    }
+}
+
+/// Whether it is a leaf of the block.
+fn is_leaf_in(links: &Links, block_key: Key, key: Key) -> bool
+    ensures leaf { result ≡ deleting.is_leaf_in links.now block_key key }
+    ensures sound { Sound links.now }
+{
+    !is_element_at(links, key) && same_node(block(links, key), Some(block_key))
+}
+
+/// The last leaf of the block before the point, or the first one behind it.
+fn leaf_beside(links: &Links, back: bool, block: Key, point: &Point) -> Option<Key>
+    requires point { lookups.is_attached links.now point.now.key ≡ true }
+    requires block { lookups.is_attached links.now block ≡ true }
+    ensures { result ≡ deleting.leaf_beside back links.now block point.now }
+{
+    if back {
+        leaf_before(links, block, point)
+    } else {
+        leaf_behind(links, block, point)
+    }
+}
+
+/// Whether it is a leaf of the block, and the point isn't in it.
+fn is_leaf_before(links: &Links, block: Key, point: &Point, key: Key) -> bool
+    ensures leaf { result ≡ (deleting.is_leaf_in links.now block key && not (lookups.is_within links.now key point.now.key)) }
+    ensures sound { Sound links.now }
+{
+    is_leaf_in(links, block, key) && !links.is_within(key, point.key)
+}
+
+/// The last leaf of the block before the point. What stands before the block isn't looked at.
+fn leaf_before(links: &Links, block: Key, point: &Point) -> Option<Key>
+    requires point { lookups.is_attached links.now point.now.key ≡ true }
+    ensures { result ≡ deleting.leaf_beside true links.now block point.now }
+{
+    let mut at = last_before(links, point);
+    while let Some(key) = at {
+        if is_leaf_before(links, block, point, key) {
+            return Some(key);
+        }
+        if key == block {
+            return None;
+        }
+        at = previous_in_tree(links, key);
+    }
+    None
+}
+
+/// The first leaf of the block behind the point. What stands behind the block isn't looked at.
+fn leaf_behind(links: &Links, block: Key, point: &Point) -> Option<Key>
+    requires point { lookups.is_attached links.now point.now.key ≡ true }
+    requires block { lookups.is_attached links.now block ≡ true }
+    ensures { result ≡ deleting.leaf_beside false links.now block point.now }
+{
+    let end = end_of(links, block);
+    let mut at = first_behind(links, point);
+    while let Some((key, depth)) = at {
+        let next = links.next_in_tree(key, depth);
+        if is_end(&end, key) {
+            return None;
+        }
+        if is_leaf_in(links, block, key) {
+            return Some(key);
+        }
+        at = next;
+    }
+    None
+}
+
+/// The first node behind the tree of a key, with its depth.
+fn end_of(links: &Links, key: Key) -> Option<(Key, u32)>
+    requires { lookups.is_attached links.now key ≡ true }
+    ensures { IfSome result (λ next. lookups.behind links.now key ≡ lookups.from links.now next.0) }
+{
+    let depth = links.depth(key)?;
+    links.next_behind(key, depth)
+}
+
+fn is_end(end: &Option<(Key, u32)>, key: Key) -> bool
+    ensures { result ≡ is_named (walks.key_of_step end.now) key }
+{
+    match end {
+        Some((end, _)) => key == *end,
+        None => false,
+    }
+}

@@ -1,0 +1,171 @@
+//! Formatting the covered texts of a range.
+
+ghost use Rattle.std.specs.Prelude.{◌≡◌, ◌<◌, ℕ, slice_get, Some, Ok, OnOk, IfOk, IfErr};
+ghost use Rattle.lx_node.specs.declared.fields.Fields.TheVariants as fields;
+ghost use Rattle.lx_forest.specs.Lookups as lookups;
+ghost use Rattle.lx_draft.specs.Faults.{TellsStep};
+ghost use Rattle.lx_edit.specs.InTurn.{in_turn};
+ghost use Rattle.lx_edit.specs.Standing.{StillStands};
+ghost use Rattle.lx_range.specs.Ranges as ranges;
+ghost use Rattle.lx_caret.specs.declared.pieces.Piece.{Piece};
+ghost use Rattle.lx_caret.specs.Formatting as formatting;
+ghost use Rattle.lx_caret.specs.Formatting.{format_text_step};
+
+use crate::pieces::{Piece, isolate_each, pieces_between};
+use lx_draft::Draft;
+use lx_node::{Fault, Fields, Key, NoMemory, TextFields};
+use lx_range::{in_order, range_of};
+use std::alloc::Global;
+
+// ---- bits
+
+fn has_bit(bit: u16, format: u16) -> bool
+    ensures { result ≡ formatting.has_bit bit format }
+{
+    format & bit != 0
+}
+
+#[tactic(auto, using(std::proofs::lemmas::Nat::and_le_l))]
+fn without_bit(bit: u16, format: u16) -> u16
+    ensures { result ≡ formatting.without_bit bit format }
+{
+    format - (format & bit)
+}
+
+/// The bit that a format can't have together with this one, or 0: subscript is 32, and superscript is 64.
+fn excluded(bit: u16) -> u16
+    ensures { result ≡ formatting.excluded bit }
+{
+    if bit == 32 {
+        64
+    } else if bit == 64 {
+        32
+    } else {
+        0
+    }
+}
+
+/// The format with the bit, and without the one that it excludes, or the format without the bit.
+fn switched(on: bool, bit: u16, format: u16) -> u16
+    ensures { result ≡ formatting.switched on bit format }
+{
+    if on {
+        without_bit(excluded(bit), format) | bit
+    } else {
+        without_bit(bit, format)
+    }
+}
+
+// ---- texts
+
+/// The format of a text or tab, and 0 of any other node.
+fn format_at(draft: &Draft, key: Key) -> u16
+    ensures { result ≡ formatting.format_at draft.now.forest key }
+{
+    match draft.links().node(key) {
+        Some(node) => match &node.fields {
+            Fields::Text(text) => text.format,
+            _ => 0,
+        },
+        None => 0,
+    }
+}
+
+fn with_format(alloc: Global, text: &TextFields, format: u16) -> Result<Fields, NoMemory>
+    ensures { IfOk result (λ made. made ≡ fields.Text (record text.now { format = format })) }
+{
+    let mut made = text.copy(alloc)?;
+    made.format = format;
+    Ok(Fields::Text(made))
+}
+
+/// Sets the bit in the format of a text or tab, or clears it.
+#[tactic(auto, unfolding(crate::specs::Formatting::switch_step))]
+fn switch(alloc: Global, draft: &mut Draft, key: Key, on: bool, bit: u16) -> Result<(), Fault>
+    ensures ok { OnOk result (formatting.switch_step on bit key draft.old ≡ Ok draft.new) }
+    ensures err { IfErr result (λ e. TellsStep e (formatting.switch_step on bit key draft.old)) }
+    ensures standing { IfErr result (λ e. StillStands e draft.new) }
+{
+    let fields = match draft.links().node(key) {
+        Some(node) => match &node.fields {
+            Fields::Text(text) => with_format(alloc, text, switched(on, bit, text.format))?,
+            _ => return Ok(()),
+        },
+        None => return Ok(()),
+    };
+    draft.set(key, fields)
+}
+
+/// Sets the bit in the format of each text and tab, or clears it in each.
+#[tactic(auto, using(lx_edit::proofs::Turns::turns_done))]
+fn switch_each(alloc: Global, draft: &mut Draft, keys: &[Key], on: bool, bit: u16) -> Result<(), Fault>
+    ensures ok { OnOk result (in_turn (formatting.switch_step on bit) keys.now draft.old ≡ Ok draft.new) }
+    ensures err { IfErr result (λ e. TellsStep e (in_turn (formatting.switch_step on bit) keys.now draft.old)) }
+    ensures standing { IfErr result (λ e. StillStands e draft.new) }
+{
+    for key in keys {
+        match switch(alloc, draft, *key, on, bit) {
+            Ok(()) => {}
+            Err(fault) => return Err(fault),
+        }
+    }
+    Ok(())
+}
+
+/// Clears the bit in all where the first has it, and sets it in all where that hasn't. The selection takes the
+/// first one's format.
+fn switch_all(alloc: Global, draft: &mut Draft, bit: u16, keys: &[Key]) -> Result<(), Fault>
+    ensures ok { OnOk result (formatting.switched_all bit keys.now draft.old ≡ Ok draft.new) }
+    ensures err { IfErr result (λ e. TellsStep e (formatting.switched_all bit keys.now draft.old)) }
+    ensures standing { IfErr result (λ e. StillStands e draft.new) }
+{
+    let Some(first) = keys.first() else {
+        return Ok(());
+    };
+    let on = !has_bit(bit, format_at(draft, *first));
+    switch_each(alloc, draft, keys, on, bit)?;
+    let format = format_at(draft, *first);
+    draft.put_format(format);
+    Ok(())
+}
+
+// ---- the command
+
+/// Formats pieces, or the selection alone where there are none.
+fn format_pieces(alloc: Global, draft: &mut Draft, bit: u16, pieces: &[Piece], format: u16) -> Result<(), Fault>
+    requires { (i : ℕ) (p : Piece) → slice_get pieces.now i ≡ Some p → 0 < p.from → (i ≡ 0) × (p.from < ranges.characters_at draft.old.forest p.key) }
+    ensures ok { OnOk result (formatting.formatted bit pieces.now format draft.old ≡ Ok draft.new) }
+    ensures err { IfErr result (λ e. TellsStep e (formatting.formatted bit pieces.now format draft.old)) }
+    ensures standing { IfErr result (λ e. StillStands e draft.new) }
+{
+    if pieces.is_empty() {
+        draft.put_format(switched(!has_bit(bit, format), bit, format));
+        return Ok(());
+    }
+    let keys = isolate_each(alloc, draft, pieces)?;
+    switch_all(alloc, draft, bit, &keys)
+}
+
+/// Switches a format bit of the texts and tabs that the selected range covers: bold 1, italic 2, strikethrough 4,
+/// underline 8, code 16, subscript 32, superscript 64, highlight 128. Where the first of them has the bit, it is
+/// cleared in all, and else it is set in all. To set subscript clears superscript, and to set superscript clears
+/// subscript. The range then has the first one's format, in which text is typed there. Where no character is covered,
+/// nothing but the range's format is switched.
+///
+/// A text that is covered in part is split, so that only what is covered is formatted; points stay at their
+/// characters. A text of another mode than normal is never split: it is formatted whole, as a tab is.
+///
+/// It is refused with `NoSelection` where the selection is no range, where a point of it doesn't lie in the root's tree, and
+/// where one lies in another cell than the other; and as the edits are of which it is made, where 100,000 counts were
+/// taken, and where more than 16,777,216 scalar values would be written.
+#[tactic(auto, unfolding(crate::specs::Formatting::format_text_step), using(crate::proofs::Covering::start_attached, crate::proofs::Covering::end_attached))]
+pub fn format_text(alloc: Global, draft: &mut Draft, bit: u16) -> Result<(), Fault>
+    ensures ok { OnOk result (format_text_step bit draft.old ≡ Ok draft.new) }
+    ensures err { IfErr result (λ e. TellsStep e (format_text_step bit draft.old)) }
+    ensures standing { IfErr result (λ e. StillStands e draft.new) }
+{
+    let range = range_of(draft)?;
+    let (start, end) = in_order(draft.links(), &range);
+    let pieces = pieces_between(alloc, draft, &start, &end)?;
+    format_pieces(alloc, draft, bit, &pieces, range.format)
+}

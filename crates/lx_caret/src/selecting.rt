@@ -1,0 +1,129 @@
+//! The whole content selected.
+
+ghost use Rattle.std.specs.Prelude.{◌≡◌, ◌≢◌, Some, Ok, OnOk, IfErr};
+ghost use Rattle.lx_node.specs.Trees.{nil};
+ghost use Rattle.lx_node.specs.Kinds as kinds;
+ghost use Rattle.lx_forest.specs.Lookups as lookups;
+ghost use Rattle.lx_draft.specs.Faults.{TellsStep};
+ghost use Rattle.lx_edit.specs.Standing.{StillStands};
+ghost use Rattle.lx_range.specs.Blocks as blocks;
+ghost use Rattle.lx_caret.specs.SelectAll as selecting;
+ghost use Rattle.lx_caret.specs.SelectAll.{select_all_step};
+
+use lx_draft::Draft;
+use lx_edit::{admitted, element_point, text_point};
+use lx_links::Links;
+use lx_node::{Fault, Key, Kind, Point};
+use lx_select::Selection;
+
+/// The first node without children, down first children from the root.
+fn first_leaf(links: &Links) -> Key
+    requires { links.now ≢ nil }
+    ensures { Some result ≡ selecting.first_leaf links.now 0 }
+{
+    let mut at = Key::root();
+    while let Some(child) = links.first(at) {
+        at = child;
+    }
+    at
+}
+
+/// The last node, down last children from the root.
+fn last_leaf(links: &Links) -> Key
+    requires { links.now ≢ nil }
+    ensures { Some result ≡ selecting.last_leaf links.now 0 }
+{
+    let mut at = Key::root();
+    while let Some(child) = links.last(at) {
+        at = child;
+    }
+    at
+}
+
+#[tactic(auto, unfolding(lx_node::specs::Kinds::is_text))]
+fn is_text_at(links: &Links, key: Key) -> bool
+    ensures { result ≡ blocks.is_at kinds.is_text links.now key }
+{
+    match links.kind(key) {
+        Some(kind) => matches!(kind, Kind::Text),
+        None => false,
+    }
+}
+
+fn is_element_at(links: &Links, key: Key) -> bool
+    ensures { result ≡ blocks.is_at kinds.is_element links.now key }
+{
+    match links.kind(key) {
+        Some(kind) => kind.is_element(),
+        None => false,
+    }
+}
+
+/// The place before a node in its parent.
+fn place_before(links: &Links, key: Key) -> Point
+    ensures { result ≡ selecting.place_at 0 key (lookups.parent_of links.now key) (lookups.index_of links.now key) }
+{
+    match (links.parent(key), links.index_of(key)) {
+        (Some(parent), Some(index)) => element_point(parent, index),
+        _ => element_point(key, 0),
+    }
+}
+
+/// The place behind a node in its parent.
+#[tactic(auto, using(crate::proofs::Leaves::index_fits))]
+fn place_behind(links: &Links, key: Key) -> Point
+    ensures { result ≡ selecting.place_at 1 key (lookups.parent_of links.now key) (lookups.index_of links.now key) }
+{
+    match (links.parent(key), links.index_of(key)) {
+        (Some(parent), Some(index)) => element_point(parent, index + 1),
+        _ => element_point(key, 0),
+    }
+}
+
+/// Where a leaf begins: with its characters, at the start of an empty element, or before any other in its parent.
+fn start_at(draft: &Draft, key: Key) -> Point
+    ensures { result ≡ selecting.start_at draft.now.forest (Some key) }
+{
+    let links = draft.links();
+    if is_text_at(links, key) {
+        text_point(key, 0)
+    } else if is_element_at(links, key) {
+        element_point(key, 0)
+    } else {
+        place_before(links, key)
+    }
+}
+
+/// Where a leaf ends: with its characters, at the start of an empty element, or behind any other in its parent.
+fn end_at(draft: &Draft, key: Key) -> Point
+    ensures { result ≡ selecting.end_at draft.now.forest (Some key) }
+{
+    let links = draft.links();
+    if is_text_at(links, key) {
+        text_point(key, draft.text_length(key))
+    } else if is_element_at(links, key) {
+        element_point(key, 0)
+    } else {
+        place_behind(links, key)
+    }
+}
+
+/// Selects the whole content, in a range of format 0: from the start of the first leaf, down first children from the
+/// root, to the end of the last, down last children. A text's start and end are before and behind its characters, an
+/// element without children has both at 0, and around another leaf they are before and behind it in its parent. It is
+/// refused only where the draft has failed, for want of memory.
+#[tactic(auto, unfolding(crate::specs::SelectAll::select_all_step))]
+pub fn select_all(draft: &mut Draft) -> Result<(), Fault>
+    ensures ok { OnOk result (select_all_step draft.old ≡ Ok draft.new) }
+    ensures err { IfErr result (λ e. TellsStep e (select_all_step draft.old)) }
+    ensures standing { IfErr result (λ e. StillStands e draft.new) }
+{
+    admitted(draft, None)?;
+    let anchor = start_at(draft, first_leaf(draft.links()));
+    let focus = end_at(draft, last_leaf(draft.links()));
+    draft.select(Selection::Range {
+        anchor,
+        focus,
+        format: 0,
+    })
+}
