@@ -1,5 +1,5 @@
 -- A walk back through the root's tree, for the last node that passes a test.
-use Rattle.std.proofs.Common.{◌≡◌, ◌∙◌, ℕ, ◌+◌, ◌<◌, Bool, true, false, cond, not, ◌&&◌, List, [], ◌∷◌, ◌++◌, length, Option, None, Some, refl, sym, ap, subst, arith, length-append}
+use Rattle.std.proofs.Common.{◌≡◌, ◌∙◌, ℕ, ◌<◌, Bool, true, false, not, ◌&&◌, List, [], ◌∷◌, ◌++◌, length, Option, None, Some, refl, sym, ap, subst, arith, length-append}
 use Rattle.std.specs.Prelude.{filter, IfSome, IfNone}
 use Rattle.lx_node.specs.Siblings.{last_from, last_of}
 use Rattle.lx_node.specs.declared.cause.Point.{Point}

@@ -1,10 +1,9 @@
 -- Of the covered pieces only the first may begin behind the start of its text, and that inside it.
-use Rattle.std.proofs.Common.{◌≡◌, ◌∙◌, ℕ, ◌+◌, ◌<◌, ◌≤◌, zero, suc, Bool, true, false, cond, eqb, ltb, ◌&&◌, List, [], ◌∷◌, ◌++◌, map, Option, None, Some, Result, Ok, Err, refl, sym, ap, subst, arith, inl, inr}
+use Rattle.std.proofs.Common.{◌≡◌, ◌∙◌, ℕ, ◌<◌, ◌≤◌, zero, suc, Bool, true, false, cond, eqb, ◌&&◌, List, [], ◌∷◌, ◌++◌, map, Option, None, Some, Result, Ok, Err, refl, sym, ap, subst, arith, inl, inr}
 use Rattle.std.specs.Prelude.{filter, nat_lt, nat_le, ◌⊎◌}
 use Rattle.std.proofs.lemmas.Bool.{cases_lt}
 use Rattle.std.specs.List.{slice_get}
 use Rattle.std.proofs.lemmas.Bool.Decides.{eqb_tells, nat_tests}
-use Rattle.std.proofs.lemmas.List.Elements.{filter-append}
 use Rattle.lx_node.specs.Kinds.{has_characters, is_element}
 use Rattle.lx_node.specs.declared.kind.Kind.{Kind}
 use Rattle.lx_node.specs.declared.kind.Kind.TheVariants.{Text, Tab}
@@ -77,12 +76,14 @@ begins f s e point.Element rest at inside i p here behind = absurd (omega (arith
 begins f s e point.Text rest at inside i p here behind = by_test (ltb_tells s.offset (start_part f s e)) i here where
   ltb_tells : (a b : ℕ) → ((nat_lt a b ≡ true) × (a < b)) ⊎ (nat_lt a b ≡ false)
   ltb_tells a b = elim (cases_lt a b) [ inl lt ↦ inl (grind (arith, lt, nat_tests), lt) | inr ge ↦ inr (grind (arith, ge, nat_tests)) ]
+
   at_first : (i : ℕ) → s.offset < start_part f s e → slice_get (piece s.key s.offset (start_part f s e) ∷ kept rest) i ≡ Some p → (i ≡ 0) × (p.from < characters_at f p.key)
   at_first zero lt is =
       let same : piece s.key s.offset (start_part f s e) ≡ p = cc in
       let P : Piece → Type 0 = λ x. x.from < characters_at f x.key in
       (refl, subst P same (inside refl lt))
   at_first (suc i) lt is = absurd (omega (arith, behind, at_start_get (kept rest) i p (at_start_kept rest at) is))
+
   by_test : ((nat_lt s.offset (start_part f s e) ≡ true) × (s.offset < start_part f s e)) ⊎ (nat_lt s.offset (start_part f s e) ≡ false) → (i : ℕ)
       → slice_get (cond (nat_lt s.offset (start_part f s e)) (piece s.key s.offset (start_part f s e) ∷ kept rest) (kept rest)) i ≡ Some p → (i ≡ 0) × (p.from < characters_at f p.key)
   by_test (inl lt) i is = at_first i lt.1 (rw lt.0 at is)
@@ -107,6 +108,7 @@ end_within : (f : Forest) (s e : Point) → s.kind ≡ point.Text → lies_in f 
 end_within f s e text in_s in_e same = by_kind e.kind in_e where
   counted : is_counted_in point.Text (kind_of f s.key) ≡ true
   counted = (both (is_counted_in point.Text (kind_of f s.key)) (nat_le s.offset (extent f s point.Text)) (let P : PointKind → Type 0 = λ k. (is_counted_in k (kind_of f s.key) && nat_le s.offset (extent f s k)) ≡ true in subst P text in_s)).0
+
   by_kind : (k : PointKind) → (is_counted_in k (kind_of f e.key) && nat_le e.offset (extent f e k)) ≡ true → e.offset ≤ characters_at f s.key
   by_kind point.Text h =
       let le : e.offset ≤ characters_at f e.key = grind (arith, nat_tests, (both (is_counted_in point.Text (kind_of f e.key)) (nat_le e.offset (characters_at f e.key)) h).1) in
@@ -150,11 +152,13 @@ pub edged : (w : Working) (r : Ranged) → range_of w ≡ Ok r → (i : ℕ) (p 
 edged w r e i p here behind = by_order (comes_first w.forest r.anchor r.focus) here where
   there : (lies_in w.forest r.anchor ≡ true) × (lies_in w.forest r.focus ≡ true)
   there = lies_both w.forest r (range_fit w r e)
+
   between : (s t : Point) → lies_in w.forest s ≡ true → lies_in w.forest t ≡ true → slice_get (pieces w.forest s t) i ≡ Some p → (i ≡ 0) × (p.from < characters_at w.forest p.key)
   between s t in_s in_t is =
       begins w.forest s t s.kind (map (whole w.forest) (filter (is_at has_characters w.forest) (covered w.forest s t)) ++ end_piece s t t.kind)
       (at_start_append (map (whole w.forest) (filter (is_at has_characters w.forest) (covered w.forest s t))) (end_piece s t t.kind) (at_start_wholes w.forest (filter (is_at has_characters w.forest) (covered w.forest s t))) (at_start_end s t t.kind))
       (start_inside w.forest s t in_s in_t) i p is behind
+
   by_order : (b : Bool) → slice_get (pieces w.forest (cond b r.anchor r.focus) (cond b r.focus r.anchor)) i ≡ Some p → (i ≡ 0) × (p.from < characters_at w.forest p.key)
   by_order true is = between r.anchor r.focus there.0 there.1 is
   by_order false is = between r.focus r.anchor there.1 there.0 is

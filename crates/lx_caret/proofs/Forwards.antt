@@ -1,5 +1,5 @@
 -- A walk on through the root's tree, for the first node that passes a test.
-use Rattle.std.proofs.Common.{◌≡◌, ◌∙◌, ℕ, ◌<◌, suc, Bool, true, false, cond, not, ◌&&◌, eqb, List, [], ◌∷◌, length, Option, None, Some, refl, sym, ap, subst, arith}
+use Rattle.std.proofs.Common.{◌≡◌, ◌∙◌, ℕ, ◌<◌, Bool, true, false, not, ◌&&◌, eqb, List, [], ◌∷◌, length, Option, None, Some, refl, sym, ap, subst, arith}
 use Rattle.std.specs.Prelude.{find, IfSome, IfNone}
 use Rattle.lx_node.specs.Siblings.{is_named, names_without}
 use Rattle.lx_forest.specs.Forest.{Forest}

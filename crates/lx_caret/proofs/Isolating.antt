@@ -1,5 +1,5 @@
 -- Pieces brought into texts by themselves, one by one.
-use Rattle.std.proofs.Common.{◌≡◌, ◌∙◌, ℕ, ◌+◌, ◌<◌, ◌≤◌, zero, suc, Bool, true, false, cond, ltb, ◌&&◌, List, [], ◌∷◌, ◌++◌, length, drop, Option, None, Some, Result, Ok, Err, refl, sym, ap, arith, inl, inr, append_assoc, append-nil}
+use Rattle.std.proofs.Common.{◌≡◌, ◌∙◌, ℕ, ◌+◌, ◌<◌, ◌≤◌, suc, Bool, true, false, cond, ◌&&◌, List, [], ◌∷◌, ◌++◌, length, drop, Some, Result, Ok, Err, refl, sym, ap, arith, inl, inr, append_assoc, append-nil}
 use Rattle.std.specs.Prelude.{filter, nat_lt, is_some, unwrap_or, ◌⊎◌}
 use Rattle.std.specs.List.{slice_get}
 use Rattle.std.proofs.lemmas.List.{drop_all}
@@ -96,6 +96,6 @@ pub key_is : (w : Working) (p : Piece) (keys : List ℕ) (k : ℕ) → is_some (
     → keys ≡ keys_from w.next_key (length (edges w.forest p)) → k ≡ cond (nat_lt 0 p.from) (unwrap_or (slice_get keys 0) p.key) p.key → k ≡ isolated_key p w
 key_is w p keys k normal inside are is =
     is ∙ by_start (cases_lt 0 p.from) ∙ sym (ap (λ b. cond (b && nat_lt 0 p.from) w.next_key p.key) normal) where
-  by_start : (0 < p.from) ⊎ (p.from ≤ 0) → cond (nat_lt 0 p.from) (unwrap_or (slice_get keys 0) p.key) p.key ≡ cond (nat_lt 0 p.from) w.next_key p.key
-  by_start (inl behind) = ap (λ o. cond (nat_lt 0 p.from) (unwrap_or o p.key) p.key) (first_is_new w.forest p w.next_key keys are behind (inside behind))
-  by_start (inr none) = let away : nat_lt 0 p.from ≡ false = grind (arith, none) in rw away
+      by_start : (0 < p.from) ⊎ (p.from ≤ 0) → cond (nat_lt 0 p.from) (unwrap_or (slice_get keys 0) p.key) p.key ≡ cond (nat_lt 0 p.from) w.next_key p.key
+      by_start (inl behind) = ap (λ o. cond (nat_lt 0 p.from) (unwrap_or o p.key) p.key) (first_is_new w.forest p w.next_key keys are behind (inside behind))
+      by_start (inr none) = let away : nat_lt 0 p.from ≡ false = grind (arith, none) in rw away

@@ -1,7 +1,7 @@
 -- Down first children from the root to a leaf, and down last ones.
-use Rattle.std.proofs.Common.{◌≡◌, ◌≢◌, ◌∙◌, ℕ, ◌+◌, ◌<◌, ◌≤◌, ◌^◌, eqb, Bool, true, false, cond, List, [], ◌∷◌, ◌++◌, length, Option, None, Some, refl, sym, ap, subst, arith, append-nil, inl, inr}
+use Rattle.std.proofs.Common.{◌≡◌, ◌≢◌, ◌∙◌, ℕ, ◌+◌, ◌<◌, ◌^◌, eqb, Bool, true, false, cond, List, [], ◌∷◌, ◌++◌, length, Option, None, Some, refl, sym, ap, arith, append-nil, inl, inr}
 use Rattle.std.specs.Prelude.{find, is_some}
-use Rattle.lx_node.specs.Trees.{nil, tree}
+use Rattle.lx_node.specs.Trees.{nil}
 use Rattle.lx_node.specs.NamedTrees as named
 use Rattle.lx_node.specs.NamedTrees.{total}
 use Rattle.lx_node.specs.Siblings.{first_of, last_from, last_of, is_among, index_in}
@@ -12,7 +12,7 @@ use Rattle.lx_node.proofs.NamedTrees.{joined-nil, preorder-joined, is_among-preo
 use Rattle.lx_node.proofs.Siblings.{first_of-among}
 use Rattle.lx_node.proofs.Positions.{index_in-lt}
 use Rattle.lx_forest.specs.Forest.{Forest, Label}
-use Rattle.lx_forest.specs.Lookups.{key_of, has, alone, trees_of, spot, parent_of, children_of, children_below, size_of, first_child, last_child, index_of, is_attached, keys_within, preorder, from, behind, IsForest}
+use Rattle.lx_forest.specs.Lookups.{key_of, has, alone, trees_of, spot, parent_of, children_of, children_below, size_of, first_child, last_child, index_of, is_attached, keys_within, from, behind, IsForest}
 use Rattle.lx_forest.proofs.Bounds.{size_of-le}
 use Rattle.lx_forest.proofs.Edits.{key-spot, is_some-spot}
 use Rattle.lx_forest.proofs.Lookups.{alone-spot, has-child}

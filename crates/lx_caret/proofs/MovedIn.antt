@@ -1,8 +1,7 @@
 -- Nodes that go into an element one after another.
-use Rattle.std.proofs.Common.{◌≡◌, ◌∙◌, ℕ, ◌+◌, ◌≤◌, ◌<◌, ◌^◌, suc, zero, List, [], ◌∷◌, length, drop, Option, None, Some, Result, Ok, Err, refl, sym, ap, ap₂, arith}
+use Rattle.std.proofs.Common.{◌≡◌, ◌∙◌, ℕ, ◌+◌, ◌≤◌, ◌<◌, ◌^◌, suc, zero, List, [], ◌∷◌, length, drop, Some, Result, Ok, Err, refl, sym, ap, ap₂, arith}
 use Rattle.std.specs.List.{slice_get}
 use Rattle.lx_node.specs.NamedTrees.{total}
-use Rattle.lx_node.specs.Limits.{most_counts, most_nodes}
 use Rattle.lx_node.specs.declared.cause.Cause.{Cause}
 use Rattle.lx_node.specs.declared.cause.Fault.{Fault}
 use Rattle.lx_node.specs.declared.cause.Fault.TheVariants as fault

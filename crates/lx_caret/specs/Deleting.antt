@@ -1,5 +1,5 @@
 -- Deleting a character or a word, and joining lines.
-use Rattle.std.specs.Prelude.{ℕ, ◌+◌, ◌==◌, ◌&&◌, ◌||◌, Bool, true, false, not, nat_lt, is_some, if◌then◌else◌, List, [], ◌∷◌, length, filter, find, Option, None, Some, Result, Ok, Err}
+use Rattle.std.specs.Prelude.{ℕ, ◌+◌, ◌==◌, ◌&&◌, ◌||◌, Bool, true, false, not, nat_lt, if◌then◌else◌, List, [], ◌∷◌, length, filter, find, Option, None, Some, Result, Ok}
 use Rattle.lx_node.specs.Kinds.{is_element, is_inline}
 use Rattle.lx_node.specs.Siblings.{last_of, names_without}
 use Rattle.lx_node.specs.declared.kind.Kind.{Kind}
@@ -12,12 +12,11 @@ use Rattle.lx_node.specs.declared.cause.PointKind.TheVariants as point
 use Rattle.lx_text.specs.Clusters.{cluster_before, cluster_after, word_before, word_after}
 use Rattle.lx_select.specs.Rules.{moved_to}
 use Rattle.lx_forest.specs.Forest.{Forest}
-use Rattle.lx_forest.specs.Lookups.{kind_of, children_of, size_of, preorder, from}
+use Rattle.lx_forest.specs.Lookups.{kind_of, preorder, from}
 use Rattle.lx_draft.specs.Working.{Working}
 use Rattle.lx_draft.specs.Faults.{after}
 use Rattle.lx_draft.specs.Steps.{splice_step, take_step, put_step}
 use Rattle.lx_edit.specs.Edits.{pointed, element_point, remove_step}
-use Rattle.lx_range.specs.declared.ranges.Ranged.{Ranged}
 use Rattle.lx_range.specs.Blocks.{is_at, is_line, is_rule_or_table, same_node, block_of, frame_of, leading}
 use Rattle.lx_range.specs.Places.{children_before, until, nodes_ahead, nodes_behind}
 use Rattle.lx_range.specs.Ranges.{range_of, is_collapsed, normal_at, characters_at}

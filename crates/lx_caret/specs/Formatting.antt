@@ -1,9 +1,8 @@
 -- Formatting the covered texts of a range.
-use Rattle.std.specs.Prelude.{ℕ, ◌+◌, ◌-◌, ◌==◌, ◌&&◌, Bool, true, false, not, nat_lt, is_some, if◌then◌else◌, List, [], ◌∷◌, ◌++◌, map, filter, bit_and, bit_or, Option, None, Some, Result, Ok, Err}
+use Rattle.std.specs.Prelude.{ℕ, ◌-◌, ◌==◌, ◌&&◌, Bool, true, false, not, nat_lt, is_some, if◌then◌else◌, List, [], ◌∷◌, ◌++◌, map, filter, bit_and, bit_or, Option, Some, Result, Ok}
 use Rattle.lx_node.specs.Kinds.{has_characters}
 use Rattle.lx_node.specs.declared.fields.Fields.{Fields}
 use Rattle.lx_node.specs.declared.fields.Fields.TheVariants as fields
-use Rattle.lx_node.specs.declared.fields.TextFields.{TextFields}
 use Rattle.lx_node.specs.declared.cause.Cause.{Cause}
 use Rattle.lx_node.specs.declared.cause.Point.{Point}
 use Rattle.lx_node.specs.declared.cause.PointKind.{PointKind}

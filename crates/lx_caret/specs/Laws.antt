@@ -1,5 +1,5 @@
 -- What holds of every caret command.
-use Rattle.std.specs.Prelude.{ℕ, Bool, List, Result}
+use Rattle.std.specs.Prelude.{ℕ, Bool, List}
 use Rattle.lx_draft.specs.Covering.{IsCovering}
 use Rattle.lx_caret.specs.Lying.{LeavesLying}
 use Rattle.lx_caret.specs.Removing.{remove_text_step}

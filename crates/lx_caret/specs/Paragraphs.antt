@@ -1,5 +1,5 @@
 -- Inserting a paragraph: a block cut in two at the caret.
-use Rattle.std.specs.Prelude.{ℕ, ◌+◌, ◌==◌, ◌&&◌, Bool, true, false, nat_lt, is_some, unwrap_or, if◌then◌else◌, List, [], ◌∷◌, drop, take_while, not, Option, None, Some, Result, Ok, Err}
+use Rattle.std.specs.Prelude.{ℕ, ◌+◌, ◌==◌, ◌&&◌, false, nat_lt, if◌then◌else◌, List, [], ◌∷◌, drop, Option, None, Some, Result, Ok, Err}
 use Rattle.std.specs.List.{list_all}
 use Rattle.lx_node.specs.Kinds.{is_inline, is_link, is_item, has_characters}
 use Rattle.lx_node.specs.Plain.{plain_element}
@@ -7,7 +7,6 @@ use Rattle.lx_node.specs.declared.kind.Kind.{Kind}
 use Rattle.lx_node.specs.declared.kind.Kind.TheVariants.{Paragraph, Heading, Quote, Item}
 use Rattle.lx_node.specs.declared.fields.Fields.{Fields}
 use Rattle.lx_node.specs.declared.fields.Fields.TheVariants as fields
-use Rattle.lx_node.specs.declared.fields.ElementFields.{ElementFields}
 use Rattle.lx_node.specs.declared.fields.Extra.{Extra}
 use Rattle.lx_node.specs.declared.fields.Extra.TheVariants as extra
 use Rattle.lx_node.specs.declared.fields.Direction.TheVariants as direction
@@ -19,7 +18,7 @@ use Rattle.lx_node.specs.declared.cause.PointKind.TheVariants as point
 use Rattle.lx_select.specs.declared.selection.Selection.{Selection}
 use Rattle.lx_select.specs.declared.selection.Selection.TheVariants.{Range}
 use Rattle.lx_forest.specs.Forest.{Forest, Label}
-use Rattle.lx_forest.specs.Lookups.{label_of, kind_of, fields_of, parent_of, index_of, size_of, children_of, ancestors}
+use Rattle.lx_forest.specs.Lookups.{label_of, index_of, size_of, children_of, ancestors}
 use Rattle.lx_draft.specs.Working.{Working}
 use Rattle.lx_draft.specs.Faults.{after}
 use Rattle.lx_draft.specs.Steps.{new_step}

@@ -1,8 +1,7 @@
 -- The whole content selected.
-use Rattle.std.specs.Prelude.{ℕ, ◌+◌, ◌==◌, Bool, true, false, if◌then◌else◌, find, Option, None, Some, Result, Ok, Err}
+use Rattle.std.specs.Prelude.{ℕ, ◌+◌, ◌==◌, if◌then◌else◌, find, Option, None, Some, Result}
 use Rattle.lx_node.specs.Kinds.{is_element, is_text}
 use Rattle.lx_node.specs.Siblings.{last_of}
-use Rattle.lx_node.specs.declared.kind.Kind.{Kind}
 use Rattle.lx_node.specs.declared.cause.Cause.{Cause}
 use Rattle.lx_node.specs.declared.cause.Point.{Point}
 use Rattle.lx_select.specs.declared.selection.Selection.TheVariants.{Range}

@@ -23,7 +23,8 @@ use lx_edit::remove;
 use lx_links::Links;
 use lx_node::{Fault, Key, Point, PointKind};
 use lx_range::{
-    block, first_behind, is_collapsed, last_before, normal_at, previous_in_tree, range_of, same_node,
+    block, first_behind, is_collapsed, last_before, normal_at, previous_in_tree, range_of,
+    same_node,
 };
 use lx_text::{cluster_after, cluster_before, word_after, word_before};
 use std::alloc::Global;

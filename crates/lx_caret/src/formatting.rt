@@ -98,7 +98,13 @@ fn switch(alloc: Global, draft: &mut Draft, key: Key, on: bool, bit: u16) -> Res
 
 /// Sets the bit in the format of each text and tab, or clears it in each.
 #[tactic(auto, using(lx_edit::proofs::Turns::turns_done))]
-fn switch_each(alloc: Global, draft: &mut Draft, keys: &[Key], on: bool, bit: u16) -> Result<(), Fault>
+fn switch_each(
+    alloc: Global,
+    draft: &mut Draft,
+    keys: &[Key],
+    on: bool,
+    bit: u16,
+) -> Result<(), Fault>
     ensures ok { OnOk result (in_turn (formatting.switch_step on bit) keys.now draft.old ≡ Ok draft.new) }
     ensures err { IfErr result (λ e. TellsStep e (in_turn (formatting.switch_step on bit) keys.now draft.old)) }
     ensures standing { IfErr result (λ e. StillStands e draft.new) }
@@ -132,7 +138,13 @@ fn switch_all(alloc: Global, draft: &mut Draft, bit: u16, keys: &[Key]) -> Resul
 // ---- the command
 
 /// Formats pieces, or the selection alone where there are none.
-fn format_pieces(alloc: Global, draft: &mut Draft, bit: u16, pieces: &[Piece], format: u16) -> Result<(), Fault>
+fn format_pieces(
+    alloc: Global,
+    draft: &mut Draft,
+    bit: u16,
+    pieces: &[Piece],
+    format: u16,
+) -> Result<(), Fault>
     requires { (i : ℕ) (p : Piece) → slice_get pieces.now i ≡ Some p → 0 < p.from → (i ≡ 0) × (p.from < ranges.characters_at draft.old.forest p.key) }
     ensures ok { OnOk result (formatting.formatted bit pieces.now format draft.old ≡ Ok draft.new) }
     ensures err { IfErr result (λ e. TellsStep e (formatting.formatted bit pieces.now format draft.old)) }

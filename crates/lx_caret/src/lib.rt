@@ -19,7 +19,7 @@ mod selecting;
 pub use deleting::{delete_character, delete_word};
 pub use formatting::format_text;
 pub use inserting::{insert_line_break, insert_tab, insert_text};
-pub use laws::commands_are_covered;
+pub use laws::{commands_are_covered, selections_lie};
 pub use paragraphs::insert_paragraph;
 pub use removing::remove_text;
 pub use selecting::select_all;

@@ -10,9 +10,9 @@ ghost use Rattle.lx_range.specs.Ranges as ranges;
 ghost use Rattle.lx_caret.specs.Paragraphs as paragraphs;
 ghost use Rattle.lx_caret.specs.Paragraphs.{insert_paragraph_step};
 
+use crate::adding::{add, is_inside};
 use crate::following::make_next;
 use crate::parting::{children_from, part_up};
-use crate::adding::{add, is_inside};
 use crate::removing::remove_text;
 use lx_draft::Draft;
 use lx_edit::{admitted, element_point, move_each, split_text, text_point};

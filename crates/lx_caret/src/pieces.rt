@@ -41,7 +41,12 @@ fn keep(pieces: &mut Vec<Piece>, piece: Piece) -> Result<(), NoMemory>
 }
 
 /// Keeps the covered part of the text or tab that has the first point.
-fn keep_start(pieces: &mut Vec<Piece>, draft: &Draft, start: &Point, end: &Point) -> Result<(), NoMemory>
+fn keep_start(
+    pieces: &mut Vec<Piece>,
+    draft: &Draft,
+    start: &Point,
+    end: &Point,
+) -> Result<(), NoMemory>
     ensures { OnOk result (pieces.new.items ≡ pieces.old.items ++ filter (λ p. nat_lt p.from p.to) (formatting.start_piece draft.now.forest start.now end.now start.now.kind)) }
 {
     match start.kind {
@@ -119,7 +124,12 @@ fn keep_each(pieces: &mut Vec<Piece>, draft: &Draft, keys: &[Key]) -> Result<(),
 /// The parts of texts and tabs that lie between two points of the root's tree, in order, but for those without a
 /// character.
 #[tactic(auto, using(crate::proofs::Covering::pieces_gathered))]
-pub(crate) fn pieces_between(alloc: Global, draft: &Draft, start: &Point, end: &Point) -> Result<Vec<Piece>, NoMemory>
+pub(crate) fn pieces_between(
+    alloc: Global,
+    draft: &Draft,
+    start: &Point,
+    end: &Point,
+) -> Result<Vec<Piece>, NoMemory>
     requires start { lookups.is_attached draft.now.forest start.now.key ≡ true }
     requires end { lookups.is_attached draft.now.forest end.now.key ≡ true }
     ensures { IfOk result (λ pieces. pieces.items ≡ formatting.pieces draft.now.forest start.now end.now) }
@@ -203,7 +213,11 @@ fn keep_key(keys: &mut Vec<Key>, key: Key) -> Result<(), NoMemory>
 /// Brings each piece into a text by itself, and answers the keys of these texts. Only the first piece may begin
 /// behind the start of its text.
 #[tactic(auto, using(crate::proofs::Isolating::way_begins))]
-pub(crate) fn isolate_each(alloc: Global, draft: &mut Draft, pieces: &[Piece]) -> Result<Vec<Key>, Fault>
+pub(crate) fn isolate_each(
+    alloc: Global,
+    draft: &mut Draft,
+    pieces: &[Piece],
+) -> Result<Vec<Key>, Fault>
     requires { (i : ℕ) (p : Piece) → slice_get pieces.now i ≡ Some p → 0 < p.from → (i ≡ 0) × (p.from < ranges.characters_at draft.old.forest p.key) }
     ensures ok { IfOk result (λ keys. formatting.isolated pieces.now draft.old ≡ Ok (record { draft = draft.new; texts = keys.items })) }
     ensures err { IfErr result (λ e. TellsStep e (formatting.isolated pieces.now draft.old)) }

@@ -8,13 +8,12 @@ ghost use Rattle.lx_edit.specs.Standing.{StillStands};
 ghost use Rattle.lx_caret.specs.Removing as removing;
 ghost use Rattle.lx_caret.specs.Removing.{remove_text_step};
 
-use lx_range::outermost;
 use lx_draft::Draft;
 use lx_edit::{move_each, remove};
 use lx_links::Links;
 use lx_node::{Fault, Key, Point, PointKind};
 use lx_range::{
-    Ranged, block, in_order, is_collapsed, is_normal_at, leading, place_caret, range_of,
+    Ranged, block, in_order, is_collapsed, is_normal_at, leading, outermost, place_caret, range_of,
 };
 use std::alloc::Global;
 

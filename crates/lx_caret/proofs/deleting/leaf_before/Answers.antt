@@ -1,4 +1,4 @@
-use Rattle.std.proofs.Common.{◌∙◌, sym, rules}
+use Rattle.std.proofs.Common.{◌∙◌, sym}
 use Rattle.lx_links.proofs.Ordered.{test_equal}
 use Rattle.lx_caret.proofs.Backwards.{is_leaf_before, leaf_starts, leaf_stops, back_on, back_found, back_ends, back_shorter, up_attached}
 use Rattle.lx_caret.proofs.deleting.leaf_before.Goals as goal

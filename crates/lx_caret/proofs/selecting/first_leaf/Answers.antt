@@ -1,4 +1,4 @@
-use Rattle.std.proofs.Common.{◌≡◌, ◌∙◌, sym, arith}
+use Rattle.std.proofs.Common.{◌∙◌, sym, arith}
 use Rattle.lx_caret.proofs.Leaves.{first_attached, first_on, first_fewer, first_found}
 use Rattle.lx_caret.proofs.selecting.first_leaf.Goals as goal
 

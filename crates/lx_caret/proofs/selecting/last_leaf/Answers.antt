@@ -1,4 +1,4 @@
-use Rattle.std.proofs.Common.{◌≡◌, ◌∙◌, sym, arith}
+use Rattle.std.proofs.Common.{◌∙◌, sym, arith}
 use Rattle.lx_caret.proofs.Leaves.{last_attached, last_on, last_fewer, last_found}
 use Rattle.lx_caret.proofs.selecting.last_leaf.Goals as goal
 
