@@ -1,5 +1,5 @@
 -- Where a caret is in its text.
-use Rattle.std.proofs.Common.{◌≡◌, ◌∙◌, ℕ, ◌≤◌, Bool, true, false, cond, ◌&&◌, List, [], Option, None, Some, option_map, Result, Ok, Err, refl, sym, ap, subst, arith, inl, inr}
+use Rattle.std.proofs.Common.{◌≡◌, ◌∙◌, ℕ, ◌≤◌, Bool, true, false, ◌&&◌, List, Option, None, Some, option_map, Result, Ok, Err, refl, sym, ap, subst, arith, inl, inr}
 use Rattle.std.proofs.lemmas.Bool.{cases_Bool, and_parts}
 use Rattle.std.proofs.lemmas.Bool.Decides.{nat_tests}
 use Rattle.std.specs.Prelude.{nat_le}
@@ -26,9 +26,8 @@ use Rattle.lx_draft.specs.Faults.{text_fields, text_in}
 use Rattle.lx_range.specs.declared.ranges.Ranged.{Ranged}
 use Rattle.lx_range.specs.Blocks.{same_node, frame_of}
 use Rattle.lx_range.specs.Ranges.{range_in, range_of, is_fit, lies, if_normal, normal_at, characters_at}
-use Rattle.lx_draft.specs.Steps.{splice_step}
-use Rattle.lx_edit.specs.Edits.{remove_step}
 use Rattle.lx_caret.specs.Deleting.{Reach, erased, erase_step, has_more}
+use Rattle.lx_caret.specs.Stretches.{erased_to}
 
 -- ---- the caret of a range
 
@@ -91,10 +90,7 @@ offset_of f k at text normal within =
     let is : fields_of f k ≡ Some (fields.Text text) = text_at (label_of f k) text (normal_is (text_in (label_of f k)) text normal) in
     told_offset text.text at (subst (λ n. at ≤ n) (ap length_of is) within)
 
--- what a stretch up to this end takes away: all where there is none
-abbrev pub erased_to : Bool → ℕ → ℕ → Option ℕ → Working → Result Working Cause
-erased_to back k at None w = remove_step k w
-erased_to back k at (Some end) w = cond back (splice_step k end at [] w) (splice_step k at end [] w)
+-- ---- up to the end of a stretch
 
 erased_is : (back : Bool) (reach : Reach) (k at : ℕ) (o : Option TextFields) (w : Working) → erased_to back k at (option_map (λ (t : TextFields). reach t.text at) o) w ≡ erased back reach k at o w
 erased_is back reach k at None w = refl

@@ -18,7 +18,7 @@ use Rattle.lx_range.specs.Blocks.{is_at}
 use Rattle.lx_range.specs.Places.{covered}
 use Rattle.lx_select.specs.Selection.{with_format}
 use Rattle.lx_range.specs.Ranges.{range_of, start_of, end_of, normal_at, characters_at}
-use Rattle.lx_caret.specs.declared.pieces.Piece.{Piece}
+pub use Rattle.lx_caret.specs.declared.pieces.Piece.{Piece}
 use Rattle.lx_caret.specs.Removing.{start_part}
 
 -- ---- bits

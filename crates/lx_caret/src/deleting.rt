@@ -14,7 +14,7 @@ ghost use Rattle.lx_range.specs.Ranges as ranges;
 ghost use Rattle.lx_range.specs.Walks as walks;
 ghost use Rattle.lx_caret.specs.Deleting as deleting;
 ghost use Rattle.lx_caret.specs.Deleting.{delete_character_step, delete_word_step};
-ghost use Rattle.lx_caret.specs.Stretches.{reach_of};
+ghost use Rattle.lx_caret.specs.Stretches.{reach_of, erased_to};
 
 use crate::joining::join;
 use crate::removing::remove_in;
@@ -236,7 +236,17 @@ fn erase(draft: &mut Draft, stretch: Stretch, back: bool, key: Key, at: u32) -> 
     ensures err { IfErr result (λ e. TellsStep e (deleting.erase_step back (reach_of stretch back) key at draft.old)) }
     ensures standing { IfErr result (λ e. StillStands e draft.new) }
 {
-    match end_in(draft, stretch, back, key, at) {
+    let end = end_in(draft, stretch, back, key, at);
+    erase_to(draft, back, key, at, end)
+}
+
+/// Cuts a text up to an end, or removes it where there is none.
+fn erase_to(draft: &mut Draft, back: bool, key: Key, at: u32, end: Option<u32>) -> Result<(), Fault>
+    ensures ok { OnOk result (erased_to back key at end draft.old ≡ Ok draft.new) }
+    ensures err { IfErr result (λ e. TellsStep e (erased_to back key at end draft.old)) }
+    ensures standing { IfErr result (λ e. StillStands e draft.new) }
+{
+    match end {
         Some(end) => cut(draft, back, key, at, end),
         None => remove(draft, key),
     }

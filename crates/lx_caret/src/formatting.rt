@@ -158,18 +158,19 @@ fn format_pieces(
     switch_all(alloc, draft, bit, &keys)
 }
 
-/// Switches a format bit of the texts and tabs that the selected range covers: bold 1, italic 2, strikethrough 4,
-/// underline 8, code 16, subscript 32, superscript 64, highlight 128. Where the first of them has the bit, it is
-/// cleared in all, and else it is set in all. To set subscript clears superscript, and to set superscript clears
-/// subscript. The range then has the first one's format, in which text is typed there. Where no character is covered,
-/// nothing but the range's format is switched.
+/// Switches a format bit in the texts and tabs that the selected range covers. The bits are bold 1, italic 2,
+/// strikethrough 4, underline 8, code 16, subscript 32, superscript 64 and highlight 128. Where the first covered text has
+/// the bit, it is cleared in all of them, and else it is set in all. Subscript and superscript exclude each other: to set
+/// one clears the other. The range then takes the first one's format, which is that of text typed there. Where no character
+/// is covered, the bit is switched in the range's format alone.
 ///
-/// A text that is covered in part is split, so that only what is covered is formatted; points stay at their
-/// characters. A text of another mode than normal is never split: it is formatted whole, as a tab is.
+/// A text that is covered in part is split first, so that only what is covered is formatted, and the range's points go
+/// along as `split_text` moves them. A text that isn't of normal mode is never split: it is formatted whole, and so is a
+/// tab.
 ///
 /// It is refused with `NoSelection` where the selection is no range, where a point of it doesn't lie in the root's tree, and
 /// where one lies in another cell than the other; and as the edits are of which it is made, where 100,000 counts were
-/// taken, and where more than 16,777,216 scalar values would be written.
+/// taken, and where what was written would come above 16,777,216 scalar values.
 #[tactic(auto, unfolding(crate::specs::Formatting::format_text_step), using(crate::proofs::Covering::start_attached, crate::proofs::Covering::end_attached))]
 pub fn format_text(alloc: Global, draft: &mut Draft, bit: u16) -> Result<(), Fault>
     ensures ok { OnOk result (format_text_step bit draft.old ≡ Ok draft.new) }

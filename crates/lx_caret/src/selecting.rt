@@ -108,10 +108,10 @@ fn end_at(draft: &Draft, key: Key) -> Point
     }
 }
 
-/// Selects the whole content, in a range of format 0: from the start of the first leaf, down first children from the
-/// root, to the end of the last, down last children. A text's start and end are before and behind its characters, an
-/// element without children has both at 0, and around another leaf they are before and behind it in its parent. It is
-/// refused only where the draft has failed, for want of memory.
+/// Selects the whole content, by a range of format 0 from the start of the first leaf, down first children from the root,
+/// to the end of the last one, down last children. A text begins before its characters and ends behind them. An element
+/// without children has both at 0, and a leaf of another kind before and behind it in its parent. Offsets of texts are
+/// those of `lx_text`. It is refused as `Draft::select` is.
 #[tactic(auto, unfolding(crate::specs::SelectAll::select_all_step))]
 pub fn select_all(draft: &mut Draft) -> Result<(), Fault>
     ensures ok { OnOk result (select_all_step draft.old ≡ Ok draft.new) }

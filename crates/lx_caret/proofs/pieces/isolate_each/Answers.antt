@@ -1,7 +1,17 @@
-use Rattle.std.proofs.Common.{arith}
+use Rattle.std.proofs.Common.{◌<◌, sym, subst, arith}
+use Rattle.lx_draft.specs.Working.{Working}
 use Rattle.lx_edit.proofs.Turns.{item_at}
+use Rattle.lx_range.specs.Ranges.{characters_at}
 use Rattle.lx_caret.proofs.Isolating.{way_on, way_told, way_done}
 use Rattle.lx_caret.proofs.pieces.isolate_each.Goals as goal
+
+pub isolate-requires : goal.isolate-requires
+isolate-requires c behind =
+    let inside =
+    c.requires c.loop-piece.piece-index c.piece-item.result
+    (item_at c.args.pieces.now c.loop-piece.piece-index c.piece-item.result c.loop-piece-test.true c.piece-item.is) behind in
+    let P : Working → Type 0 = λ w. c.piece-item.result.from < characters_at w.forest c.piece-item.result.key in
+    subst P (sym (c.loop-piece.invariant.first inside.0)) inside.1
 
 pub returns-in-Err-clause-err : goal.returns-in-Err-clause-err
 returns-in-Err-clause-err c =
