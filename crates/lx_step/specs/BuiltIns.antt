@@ -1,18 +1,36 @@
 -- Commands that are built in, by their names.
-use Rattle.std.specs.Prelude.{ℕ, List, [], ◌∷◌, chars, codes, if◌then◌else◌, Option, None, Some}
+use Rattle.std.specs.Prelude.{ℕ, List, [], ◌∷◌, chars, codes, if◌then◌else◌, Option, None, Some, option_map}
+use Rattle.std.specs.Option.{option_or}
 use Rattle.lx_node.specs.Same.{same_text}
 use Rattle.lx_step.specs.declared.built_in.BuiltIn.{BuiltIn}
-use Rattle.lx_step.specs.declared.built_in.BuiltIn.TheVariants.{Turn}
+use Rattle.lx_step.specs.declared.built_in.BuiltIn.TheVariants.{Turn as turn, Caret as caret}
+use Rattle.lx_step.specs.declared.built_in.CaretCommand.{CaretCommand}
+use Rattle.lx_step.specs.declared.built_in.CaretCommand.TheVariants.{InsertText, RemoveText, InsertParagraph, InsertLineBreak, InsertTab, DeleteCharacter, DeleteWord, FormatText, SelectAll}
+use Rattle.lx_step.specs.declared.built_in.Turn.{Turn}
 use Rattle.lx_step.specs.declared.built_in.Turn.TheVariants.{Undo, Redo}
 
--- the table of their names
-abbrev pub built_ins : List (List ℕ × BuiltIn)
-built_ins = (chars (codes "undo"), Turn Undo) ∷ (chars (codes "redo"), Turn Redo) ∷ []
+-- a table of names, and what the row of a name tells
+abbrev pub row_of : {A : Type 0} → List (List ℕ × A) → List ℕ → Option A
+row_of [] name = None
+row_of (row ∷ rows) name = if same_text row.0 name then Some row.1 else row_of rows name
 
-abbrev pub built_in_among : List (List ℕ × BuiltIn) → List ℕ → Option BuiltIn
-built_in_among [] name = None
-built_in_among (row ∷ rows) name = if same_text row.0 name then Some row.1 else built_in_among rows name
+-- the commands of the history, and those of the caret
+abbrev pub turns : List (List ℕ × Turn)
+turns = (chars (codes "undo"), Undo) ∷ (chars (codes "redo"), Redo) ∷ []
+
+abbrev pub caret_commands : List (List ℕ × CaretCommand)
+caret_commands =
+    (chars (codes "insert-text"), InsertText)
+    ∷ (chars (codes "remove-text"), RemoveText)
+    ∷ (chars (codes "insert-paragraph"), InsertParagraph)
+    ∷ (chars (codes "insert-line-break"), InsertLineBreak)
+    ∷ (chars (codes "insert-tab"), InsertTab)
+    ∷ (chars (codes "delete-character"), DeleteCharacter)
+    ∷ (chars (codes "delete-word"), DeleteWord)
+    ∷ (chars (codes "format-text"), FormatText)
+    ∷ (chars (codes "select-all"), SelectAll)
+    ∷ []
 
 -- the command of a name
 abbrev pub built_in : List ℕ → Option BuiltIn
-built_in name = built_in_among built_ins name
+built_in name = option_or (option_map turn (row_of turns name)) (option_map caret (row_of caret_commands name))

@@ -12,11 +12,27 @@ pub enum Turn {
     Redo,
 }
 
+/// A command that goes by the selection, as a person types, deletes and formats.
+#[derive(Clone, Copy, Debug, PartialEq, Eq, Hash)]
+pub enum CaretCommand {
+    InsertText,
+    RemoveText,
+    InsertParagraph,
+    InsertLineBreak,
+    InsertTab,
+    DeleteCharacter,
+    DeleteWord,
+    FormatText,
+    SelectAll,
+}
+
 /// A command that is built in: it is done without a listener. Its name is that of a row of the table of built-in commands.
 #[derive(Clone, Copy, Debug, PartialEq, Eq, Hash)]
 pub enum BuiltIn {
     /// `undo` or `redo`: the history goes to another state.
     Turn(Turn),
+    /// Any other name of the table: the draft is edited at its selection.
+    Caret(CaretCommand),
 }
 
 impl BuiltIn {
@@ -26,11 +42,64 @@ impl BuiltIn {
     pub fn named(name: &str) -> Option<BuiltIn>
         ensures { result ≡ built_in (chars name.now) }
     {
+        if let Some(turn) = Turn::named(name) {
+            return Some(BuiltIn::Turn(turn));
+        }
+        match CaretCommand::named(name) {
+            Some(command) => Some(BuiltIn::Caret(command)),
+            None => None,
+        }
+    }
+}
+
+impl Turn {
+    ghost use Rattle.lx_step.specs.BuiltIns.{row_of, turns};
+
+    fn named(name: &str) -> Option<Turn>
+        ensures { result ≡ row_of turns (chars name.now) }
+    {
         if is_word("undo", name) {
-            return Some(BuiltIn::Turn(Turn::Undo));
+            return Some(Turn::Undo);
         }
         if is_word("redo", name) {
-            return Some(BuiltIn::Turn(Turn::Redo));
+            return Some(Turn::Redo);
+        }
+        None
+    }
+}
+
+impl CaretCommand {
+    ghost use Rattle.lx_step.specs.BuiltIns.{row_of, caret_commands};
+
+    fn named(name: &str) -> Option<CaretCommand>
+        ensures { result ≡ row_of caret_commands (chars name.now) }
+    {
+        if is_word("insert-text", name) {
+            return Some(CaretCommand::InsertText);
+        }
+        if is_word("remove-text", name) {
+            return Some(CaretCommand::RemoveText);
+        }
+        if is_word("insert-paragraph", name) {
+            return Some(CaretCommand::InsertParagraph);
+        }
+        if is_word("insert-line-break", name) {
+            return Some(CaretCommand::InsertLineBreak);
+        }
+        if is_word("insert-tab", name) {
+            return Some(CaretCommand::InsertTab);
+        }
+        if is_word("delete-character", name) {
+            return Some(CaretCommand::DeleteCharacter);
+        }
+        if is_word("delete-word", name) {
+            return Some(CaretCommand::DeleteWord);
+        }
+        if is_word("format-text", name) {
+            return Some(CaretCommand::FormatText);
+        }
+        if is_word("select-all", name) {
+            return Some(CaretCommand::SelectAll);
         }
         None
     }
