@@ -1,12 +1,16 @@
 -- Marks tell whatever a line changes.
 use Rattle.std.proofs.Common.{◌≡◌, Ok, subst}
+use Rattle.lx_step.specs.declared.built_in.CaretCommand.{CaretCommand}
+use Rattle.lx_step.specs.declared.command.Payload.{Payload}
 use Rattle.lx_step.specs.declared.step.Step.{Step}
 use Rattle.lx_draft.specs.Covering.{IsReady, AreCovered}
 use Rattle.lx_draft.proofs.CoveredSteps.{covered-count, covered-mark, covered-select}
 use Rattle.lx_edit.proofs.Covered.{covered_path}
 use Rattle.lx_edit.proofs.Paths.{self}
 use Rattle.lx_run.specs.Running.{Running, on_script, take_count}
-use Rattle.lx_run.specs.Scripts.{effect_of}
+use Rattle.lx_run.specs.Carets.{caret_step}
+use Rattle.lx_run.specs.Scripts.{on_draft, effect_of}
+use Rattle.lx_run.proofs.CaretPaths.{caret_reaches}
 use Rattle.lx_run.proofs.Paced.{count_taken, left_as}
 use Rattle.lx_run.proofs.Paths.{IsScriptPath, effect_path}
 use Rattle.lx_run.proofs.Stays.{IsKept, IsOfScripts}
@@ -32,6 +36,11 @@ covered_plain : (s : Step) (m n : Running) → IsReadyRunning m → on_script (e
 covered_plain s m n ready e =
     left_as (AreCoveredRunning m n) (effect_of s) m n (λ t f is. subst (λ (x : Running). AreCoveredRunning m x) is (effect_path covered_scripts s m.script t ready f)) e
 
+covered_does : (command : CaretCommand) (sent : Payload) (m n : Running) → IsReadyRunning m → on_script (on_draft (caret_step command sent)) m ≡ Ok n → AreCoveredRunning m n
+covered_does command sent m n ready e =
+    left_as (AreCoveredRunning m n) (on_draft (caret_step command sent)) m n
+    (λ t f is. subst (λ (x : Running). AreCoveredRunning m x) is (caret_reaches covered_scripts command sent m.script t ready f)) e
+
 pub covered : IsKept IsReadyRunning AreCoveredRunning
 covered = record {
   ready = λ m n c. c.ready;
@@ -39,6 +48,7 @@ covered = record {
   on = λ m n o a b. covered_path.composed m.script.draft n.script.draft o.script.draft a b;
   counted = λ m n ready e. covered_count m n ready e;
   plain = λ s m n ready e. covered_plain s m n ready e;
+  does = λ command sent m n ready e. covered_does command sent m n ready e;
   later = λ m n steps sent ready e. covered_count m n ready e;
 }
 

@@ -1,6 +1,7 @@
 pub mod Beside
 pub mod Blocks
 pub mod Bounded
+pub mod CaretPaths
 pub mod Composed
 pub mod Counted
 pub mod Covered

@@ -3,6 +3,7 @@ use Rattle.std.proofs.Common.{◌≡◌, ◌∙◌, ◌+◌, ◌≤◌, ℕ, Lis
 use Rattle.lx_node.specs.Limits.{most_counts}
 use Rattle.lx_node.specs.declared.cause.Cause.{Cause}
 use Rattle.lx_step.specs.BuiltIns.{built_in}
+use Rattle.lx_step.specs.declared.built_in.CaretCommand.{CaretCommand}
 use Rattle.lx_step.specs.declared.command.Payload.{Payload}
 use Rattle.lx_step.specs.declared.listener.Listener.{Listener}
 use Rattle.lx_step.specs.declared.step.Step.{Step}
@@ -11,11 +12,13 @@ use Rattle.lx_draft.specs.Working.{Working}
 use Rattle.lx_draft.specs.Faults.{after}
 use Rattle.lx_draft.specs.Steps.{count_step}
 use Rattle.lx_run.specs.Scripts.{Scripted, scripted, on_draft, effect_of}
-use Rattle.lx_run.specs.Running.{Running, running, on_script, take_count, queued, payload_for, effect_in, step_in, dispatched}
+use Rattle.lx_run.specs.Carets.{caret_step}
+use Rattle.lx_run.specs.Running.{Running, running, on_script, take_count, queued, done_if, payload_for, effect_in, step_in, dispatched}
+use Rattle.lx_run.proofs.CaretPaths.{caret_reaches}
 use Rattle.lx_run.proofs.Bounded.{KeepsMost, count_within, within_scripts}
 use Rattle.lx_run.proofs.Counted.{count-counted, counted_scripts}
 use Rattle.lx_run.proofs.Paths.{effect_path}
-use Rattle.lx_run.proofs.Stays.{Makes, makes_told, makes_from, makes_then, IsKept, done_refused, dispatched_keeps}
+use Rattle.lx_run.proofs.Stays.{Makes, makes_told, makes_on, makes_from, makes_then, IsKept, done_keeps, dispatched_keeps}
 
 -- what is queued takes counts
 pub record IsPaced (m n : Running) : Type 0 where
@@ -81,6 +84,14 @@ paced_plain s m n e = left_as (IsPaced m n) (effect_of s) m n (λ t f is.
     let within : KeepsMost m.script.draft t.draft = effect_path within_scripts s m.script t tt f in
     record { counted = omega (arith, more, at); queued = omega (arith, more, at, same); most = λ few. omega (arith, within few, at) }) e
 
+paced_does : (command : CaretCommand) (sent : Payload) (m n : Running) → on_script (on_draft (caret_step command sent)) m ≡ Ok n → IsPaced m n
+paced_does command sent m n e = left_as (IsPaced m n) (on_draft (caret_step command sent)) m n (λ t f is.
+    let more : m.script.draft.counted ≤ t.draft.counted = caret_reaches counted_scripts command sent m.script t tt f in
+    let at : t.draft.counted ≡ n.script.draft.counted = ap (λ (x : Running). x.script.draft.counted) is in
+    let same : length m.queue ≡ length n.queue = ap (λ (x : Running). length x.queue) is in
+    let within : KeepsMost m.script.draft t.draft = caret_reaches within_scripts command sent m.script t tt f in
+    record { counted = omega (arith, more, at); queued = omega (arith, more, at, same); most = λ few. omega (arith, within few, at) }) e
+
 abbrev pub AnyRunning : Running → Type 0
 AnyRunning m = Unit {0}
 
@@ -91,6 +102,7 @@ paced = record {
   on = λ m n o p q. record { counted = omega (arith, p.counted, q.counted); queued = omega (arith, p.queued, q.queued, p.counted, q.counted); most = λ few. q.most (p.most few) };
   counted = λ m n r e. paced_count m n e;
   plain = λ s m n r e. paced_plain s m n e;
+  does = λ command sent m n r e. paced_does command sent m n e;
   later = λ m n steps sent r e. paced_later m n steps sent e;
 }
 
@@ -104,7 +116,9 @@ rises_on : (m n o : Running) → Rises m n → IsPaced n o → Rises m o
 rises_on m n o begun p = omega (arith, begun, p.counted)
 
 effect_rises : (left : ℕ) (ls : List Listener) (sent : Payload) (s : Step) (m n : Running) → Rises m n → Makes (Rises m) (effect_in (dispatched left ls) sent s n)
-effect_rises left ls sent (step.Do c) m n begun = done_refused (Rises m) (built_in c.name) (payload_for sent c.payload) n
+effect_rises left ls sent (step.Do c) m n begun =
+    makes_on (IsPaced n) (Rises m) (done_if (built_in c.name) (payload_for sent c.payload) n) (done_keeps AnyRunning IsPaced paced (built_in c.name) (payload_for sent c.payload) n tt)
+    (λ o p. rises_on m n o begun p)
 effect_rises left ls sent (step.Dispatch c) m n begun =
     makes_then (λ r. IsPaced n r.0) (Rises m) (dispatched left ls c.name (payload_for sent c.payload) n) (λ r. Ok r.0)
     (dispatched_keeps AnyRunning IsPaced paced left ls c.name (payload_for sent c.payload) n tt) (λ r p. rises_on m n r.0 begun p)

@@ -44,7 +44,7 @@ looked : {A : Type 0} (T : Type 0) (r : Result A Cause) (next : A → Result Scr
 looked T (Ok a) next t each e = each a e
 looked T (Err cause) next t each e = absurd (cc)
 
-on_draft_path : (D : Working → Type 0) (R : Working → Working → Type 0) (edit : Working → Result Working Cause) → Leads D R edit → Reaches D R (on_draft edit)
+pub on_draft_path : (D : Working → Type 0) (R : Working → Working → Type 0) (edit : Working → Result Working Cause) → Leads D R edit → Reaches D R (on_draft edit)
 on_draft_path D R edit leads s t d e = named_path R s t (edit s.draft) (λ w. s.names) (λ w is. leads s.draft w d is) e
 
 naming_path : (D : Working → Type 0) (R : Working → Working → Type 0) (name : Option (List ℕ)) (edit : Working → Result Working Cause) → Leads D R edit → Reaches D R (naming name edit)

@@ -135,6 +135,12 @@ dispatched_undone left ls first name sent m n o command cause more is known answ
     dispatched_built_in left ls first name sent m n command more is known answers
     ∙ ap (λ r. after r (λ o. after (done_by command sent o) (λ p. Ok (p, true)))) counted ∙ ap (λ r. after r (λ p. Ok (p, true))) undone
 
+pub dispatched_done : (left : ℕ) (ls first : List Listener) (name : List ℕ) (sent : Payload) (m n o p : Running) (command : BuiltIn) → (left ≡ 0 → ⊥) → first ≡ above name ls
+    → built_in name ≡ Some command → offered (dispatched (left - 1) ls) sent first m ≡ Ok (n, false) → take_count n ≡ Ok o → done_by command sent o ≡ Ok p → dispatched left ls name sent m ≡ Ok (p, true)
+dispatched_done left ls first name sent m n o p command more is known answers counted done =
+    dispatched_built_in left ls first name sent m n command more is known answers
+    ∙ ap (λ r. after r (λ o. after (done_by command sent o) (λ p. Ok (p, true)))) counted ∙ ap (λ r. after r (λ p. Ok (p, true))) done
+
 pub dispatched_deepest : (left : ℕ) (ls : List Listener) (name : List ℕ) (sent : Payload) (m : Running) → left ≡ 0 → dispatched left ls name sent m ≡ Err DispatchDepth
 unfolding dispatched
 dispatched_deepest left ls name sent m deepest = ap (λ n. dispatched n ls name sent m) deepest

@@ -6,15 +6,17 @@ use Rattle.lx_node.specs.declared.cause.Cause.TheVariants.{BadCommand, HistoryIn
 use Rattle.lx_step.specs.BuiltIns.{built_in}
 use Rattle.lx_step.specs.Spelled.{steps_of}
 use Rattle.lx_step.specs.declared.built_in.BuiltIn.{BuiltIn}
-use Rattle.lx_step.specs.declared.built_in.BuiltIn.TheVariants.{Turn}
+use Rattle.lx_step.specs.declared.built_in.BuiltIn.TheVariants.{Turn, Caret}
+use Rattle.lx_step.specs.declared.built_in.CaretCommand.{CaretCommand}
 use Rattle.lx_step.specs.declared.command.Payload.{Payload}
 use Rattle.lx_step.specs.declared.listener.Listener.{Listener}
 use Rattle.lx_step.specs.declared.step.Step.{Step}
 use Rattle.lx_step.specs.declared.step.Step.TheVariants as step
 use Rattle.lx_bus.specs.Offers.{above, behind}
 use Rattle.lx_draft.specs.Faults.{after}
+use Rattle.lx_run.specs.Carets.{caret_step}
 use Rattle.lx_run.specs.Holding.{holds}
-use Rattle.lx_run.specs.Scripts.{effect_of}
+use Rattle.lx_run.specs.Scripts.{on_draft, effect_of}
 use Rattle.lx_run.specs.Running.{Running, Queued, Dispatching, running, on_script, take_count, queued, is_nothing, done_by, done_if, payload_for, effect_in, step_in, steps_in, answered, offer, offered, unless_handled, built_in_or, dispatched, most_nested, in_turn, emptied}
 
 -- what is made, if it is, is so
@@ -45,6 +47,7 @@ pub record IsKept (D : Running → Type 0) (R : Running → Running → Type 0) 
   pub on : (m n o : Running) → R m n → R n o → R m o
   pub counted : (m n : Running) → D m → take_count m ≡ Ok n → R m n
   pub plain : (s : Step) (m n : Running) → D m → on_script (effect_of s) m ≡ Ok n → R m n
+  pub does : (command : CaretCommand) (sent : Payload) (m n : Running) → D m → on_script (on_draft (caret_step command sent)) m ≡ Ok n → R m n
   pub later : (m n : Running) (steps : List Step) (sent : Payload) → D m → take_count m ≡ Ok n → R m (queued steps sent n)
 
 abbrev pub Keeps : (Running → Type 0) → (Running → Running → Type 0) → Dispatching → Type 0
@@ -65,17 +68,20 @@ refused_either : {A : Type 0} (P : A → Type 0) (b : Bool) (cause other : Cause
 refused_either P true cause other = tt
 refused_either P false cause other = tt
 
-built_in_refused : (P : Running → Type 0) (command : BuiltIn) (sent : Payload) (m : Running) → Makes P (done_by command sent m)
-built_in_refused P (Turn turn) sent m = refused_either P (is_nothing sent) HistoryInside BadCommand
+built_in_keeps : (D : Running → Type 0) (R : Running → Running → Type 0) → IsKept D R → (command : BuiltIn) (sent : Payload) (m : Running) → D m → Makes (R m) (done_by command sent m)
+built_in_keeps D R kept (Turn turn) sent m ready = refused_either (R m) (is_nothing sent) HistoryInside BadCommand
+built_in_keeps D R kept (Caret command) sent m ready = makes_told (R m) (on_script (on_draft (caret_step command sent)) m) (λ n e. kept.does command sent m n ready e)
 
-pub done_refused : (P : Running → Type 0) (o : Option BuiltIn) (sent : Payload) (m : Running) → Makes P (done_if o sent m)
-done_refused P None sent m = tt
-done_refused P (Some command) sent m = built_in_refused P command sent m
+pub done_keeps : (D : Running → Type 0) (R : Running → Running → Type 0) → IsKept D R → (o : Option BuiltIn) (sent : Payload) (m : Running) → D m → Makes (R m) (done_if o sent m)
+done_keeps D R kept None sent m ready = tt
+done_keeps D R kept (Some command) sent m ready = built_in_keeps D R kept command sent m ready
 
 -- ---- steps
 
 effect_keeps : (D : Running → Type 0) (R : Running → Running → Type 0) → IsKept D R → (d : Dispatching) → Keeps D R d → (sent : Payload) (s : Step) (m n : Running) → D m → take_count m ≡ Ok n → Makes (R m) (effect_in d sent s n)
-effect_keeps D R kept d keeps sent (step.Do c) m n ready e = done_refused (R m) (built_in c.name) (payload_for sent c.payload) n
+effect_keeps D R kept d keeps sent (step.Do c) m n ready e =
+    let begun : R m n = kept.counted m n ready e in
+    makes_on (R n) (R m) (done_if (built_in c.name) (payload_for sent c.payload) n) (done_keeps D R kept (built_in c.name) (payload_for sent c.payload) n (kept.ready m n begun)) (λ o h. kept.on m n o begun h)
 effect_keeps D R kept d keeps sent (step.Dispatch c) m n ready e =
     let begun : R m n = kept.counted m n ready e in
     makes_then (λ r. R n r.0) (R m) (d c.name (payload_for sent c.payload) n) (λ r. Ok r.0) (keeps c.name (payload_for sent c.payload) n (kept.ready m n begun)) (λ r h. kept.on m n r.0 begun h)
@@ -122,7 +128,8 @@ behind_keeps : (D : Running → Type 0) (R : Running → Running → Type 0) →
 behind_keeps D R kept d keeps None sent ls m ready = offered_keep D R kept d keeps sent ls m ready
 behind_keeps D R kept d keeps (Some command) sent ls m ready =
     makes_from (λ r. R m r.0) (take_count m) (λ n. after (done_by command sent n) (λ o. Ok (o, true))) (λ n e.
-    makes_then (λ o. R m o) (λ r. R m r.0) (done_by command sent n) (λ o. Ok (o, true)) (built_in_refused (λ o. R m o) command sent n) (λ o h. h))
+    let begun : R m n = kept.counted m n ready e in
+    makes_then (λ o. R n o) (λ r. R m r.0) (done_by command sent n) (λ o. Ok (o, true)) (built_in_keeps D R kept command sent n (kept.ready m n begun)) (λ o h. kept.on m n o begun h))
 
 pub dispatched_keeps : (D : Running → Type 0) (R : Running → Running → Type 0) → IsKept D R → (left : ℕ) (ls : List Listener) → Keeps D R (dispatched left ls)
 unfolding dispatched

@@ -1,4 +1,5 @@
 pub mod Appending
+pub mod Carets
 pub mod Naming
 pub mod Scripts
 pub mod Holding

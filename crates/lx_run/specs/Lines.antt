@@ -62,6 +62,7 @@ ended_with (told.Turned turn) m = turned turn
 abbrev pub turn_of : Option BuiltIn → Option Turn
 turn_of None = None
 turn_of (Some (built_in.Turn turn)) = Some turn
+turn_of (Some (built_in.Caret command)) = None
 
 -- no edit was taken, the selection is the one that is committed, and nothing is queued
 abbrev pub is_untouched : Selection → Running → Bool

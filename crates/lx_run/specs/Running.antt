@@ -5,7 +5,7 @@ use Rattle.lx_node.specs.declared.cause.Cause.TheVariants.{BadCommand, DispatchD
 use Rattle.lx_step.specs.BuiltIns.{built_in}
 use Rattle.lx_step.specs.Spelled.{steps_of}
 use Rattle.lx_step.specs.declared.built_in.BuiltIn.{BuiltIn}
-use Rattle.lx_step.specs.declared.built_in.BuiltIn.TheVariants.{Turn}
+use Rattle.lx_step.specs.declared.built_in.BuiltIn.TheVariants.{Turn, Caret}
 use Rattle.lx_step.specs.declared.command.Command.{Command}
 use Rattle.lx_step.specs.declared.command.Payload.{Payload}
 use Rattle.lx_step.specs.declared.command.Payload.TheVariants as payload
@@ -15,6 +15,7 @@ use Rattle.lx_step.specs.declared.step.Step.TheVariants as step
 use Rattle.lx_bus.specs.Offers.{above, behind}
 use Rattle.lx_draft.specs.Faults.{after}
 use Rattle.lx_draft.specs.Steps.{count_step}
+use Rattle.lx_run.specs.Carets.{caret_step}
 use Rattle.lx_run.specs.Holding.{holds}
 use Rattle.lx_run.specs.Scripts.{Scripted, on_draft, effect_of}
 
@@ -56,6 +57,7 @@ is_nothing other = false
 -- What a built-in command does with a payload. The history takes none, and among steps it goes nowhere.
 abbrev pub done_by : BuiltIn → Payload → Running → Result Running Cause
 done_by (Turn turn) sent m = if is_nothing sent then Err HistoryInside else Err BadCommand
+done_by (Caret command) sent m = on_script (on_draft (caret_step command sent)) m
 
 -- what the built-in command of a name does, if there is one
 abbrev pub done_if : Option BuiltIn → Payload → Running → Result Running Cause

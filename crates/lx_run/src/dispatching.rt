@@ -39,6 +39,7 @@ fn do_built_in(running: &mut Running<'_>, command: BuiltIn, sent: &Payload) -> R
     match command {
         BuiltIn::Turn(_) if is_nothing(sent) => Err(Fault::Cause(Cause::HistoryInside)),
         BuiltIn::Turn(_) => Err(Fault::Cause(Cause::BadCommand)),
+        BuiltIn::Caret(command) => running.do_caret(command, sent),
     }
 }
 

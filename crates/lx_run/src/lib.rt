@@ -2,6 +2,7 @@
 #![tactic(auto)]
 
 mod append;
+mod carets;
 mod dispatching;
 mod ending;
 mod holding;

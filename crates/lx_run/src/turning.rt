@@ -27,7 +27,7 @@ pub(crate) fn begin<'a>(
     }
     match BuiltIn::named(command.name.as_str()) {
         Some(BuiltIn::Turn(turn)) => turn_history(bus, running, turn, command),
-        None => match dispatch(bus, running, &command.name, &command.payload, MOST_NESTED) {
+        _ => match dispatch(bus, running, &command.name, &command.payload, MOST_NESTED) {
             Ok(handled) => Ok(Ended::Ran { handled }),
             Err(fault) => Err(fault),
         },

@@ -6,7 +6,7 @@ use Rattle.lx_bus.specs.Offers.{above, behind}
 use Rattle.lx_draft.specs.Faults.{TellsStep}
 use Rattle.lx_edit.proofs.Turns.{item_at}
 use Rattle.lx_run.specs.Running.{dispatched}
-use Rattle.lx_run.proofs.Runs.{left_of, none_left, told_of, steps_go_on, steps_refused, steps_done, offers_go_on, offers_handled, offers_refused, none_offered, dispatched_handled, dispatched_refused, dispatched_behind, dispatched_uncounted, dispatched_undone, dispatched_deepest}
+use Rattle.lx_run.proofs.Runs.{left_of, none_left, told_of, steps_go_on, steps_refused, steps_done, offers_go_on, offers_handled, offers_refused, none_offered, dispatched_handled, dispatched_refused, dispatched_behind, dispatched_uncounted, dispatched_undone, dispatched_done, dispatched_deepest}
 use Rattle.lx_run.proofs.dispatching.+dispatch.Goals as goal
 
 pub dispatch-returns-then-left-eq0-clause-err : goal.dispatch-returns-then-left-eq0-clause-err
@@ -84,6 +84,13 @@ dispatch-returns-in-Err-do_built_in-clause-err t c =
     (c.above.ensures.order ∙ ap (λ name. above name c.args.bus.now) c.as_str.ensures.text)
     (sym (c.named.ensures ∙ ap built_in c.as_str-2.ensures.text) ∙ c.in-Some.is)
     (c.in-Ok-false.ensures.ok ∙ ap (λ b. Ok (c.offer_all.new.running, b)) c.in-Ok-false.field-0-test) c.in-Ok.ensures.ok e) c.in-Err-do_built_in.ensures.err
+
+pub dispatch-returns-in-Ok-do_built_in-clause-ok : goal.dispatch-returns-in-Ok-do_built_in-clause-ok
+dispatch-returns-in-Ok-do_built_in-clause-ok t c =
+    dispatched_done c.args.left c.args.bus.now c.above.result c.args.name.now c.args.payload.now c.args.running.now c.offer_all.new.running c.count.new.self c.do_built_in.new.running c.in-Some.command c.if-left-eq0.false
+    (c.above.ensures.order ∙ ap (λ name. above name c.args.bus.now) c.as_str.ensures.text)
+    (sym (c.named.ensures ∙ ap built_in c.as_str-2.ensures.text) ∙ c.in-Some.is)
+    (c.in-Ok-false.ensures.ok ∙ ap (λ b. Ok (c.offer_all.new.running, b)) c.in-Ok-false.field-0-test) c.in-Ok.ensures.ok c.in-Ok-do_built_in.ensures.ok
 
 pub dispatch-returns-in-None-clause-ok : goal.dispatch-returns-in-None-clause-ok
 dispatch-returns-in-None-clause-ok t c =

@@ -1,0 +1,84 @@
+-- What the caret commands do with what they are given.
+use Rattle.std.specs.Prelude.{ℕ, Bool, true, false, if◌then◌else◌, List, [], ◌∷◌, chars, codes, Option, None, Some, Result, Ok, Err}
+use Rattle.lx_node.specs.declared.cause.Cause.{Cause}
+use Rattle.lx_node.specs.declared.cause.Cause.TheVariants.{BadCommand, WrongKind}
+use Rattle.lx_node.specs.declared.kind.Kind.TheVariants.{Item}
+use Rattle.lx_step.specs.BuiltIns.{row_of}
+use Rattle.lx_step.specs.declared.built_in.CaretCommand.{CaretCommand}
+use Rattle.lx_step.specs.declared.built_in.CaretCommand.TheVariants.{InsertText, RemoveText, InsertParagraph, InsertLineBreak, InsertTab, DeleteCharacter, DeleteWord, FormatText, SelectAll}
+use Rattle.lx_step.specs.declared.command.Payload.{Payload}
+use Rattle.lx_step.specs.declared.command.Payload.TheVariants as payload
+use Rattle.lx_draft.specs.Working.{Working}
+use Rattle.lx_draft.specs.Faults.{after}
+use Rattle.lx_caret.specs.Removing.{remove_text_step}
+use Rattle.lx_caret.specs.Inserting.{insert_text_step, insert_line_break_step, insert_tab_step}
+use Rattle.lx_caret.specs.Paragraphs.{insert_paragraph_step}
+use Rattle.lx_caret.specs.Deleting.{delete_character_step, delete_word_step}
+use Rattle.lx_caret.specs.Formatting.{format_text_step}
+use Rattle.lx_caret.specs.SelectAll.{select_all_step}
+
+-- ---- what a command is given: nothing, a text, or a word; anything else is no payload of it
+
+abbrev pub with_none : (Working → Result Working Cause) → Payload → Working → Result Working Cause
+with_none command payload.Nothing w = command w
+with_none command sent w = Err BadCommand
+
+abbrev pub with_text : (List ℕ → Working → Result Working Cause) → Payload → Working → Result Working Cause
+with_text command (payload.Text text) w = command text w
+with_text command sent w = Err BadCommand
+
+-- what a word means, by a table of words
+abbrev pub meant : {A : Type 0} → (A → Working → Result Working Cause) → Option A → Working → Result Working Cause
+meant command None w = Err BadCommand
+meant command (Some a) w = command a w
+
+abbrev pub with_word : {A : Type 0} → List (List ℕ × A) → (A → Working → Result Working Cause) → Payload → Working → Result Working Cause
+with_word table command sent w = with_text (λ text. meant command (row_of table text)) sent w
+
+-- whether a deletion goes back
+abbrev pub ways : List (List ℕ × Bool)
+ways = (chars (codes "back"), true) ∷ (chars (codes "forward"), false) ∷ []
+
+-- the formats of texts, each with its bit
+abbrev pub further_formats : List (List ℕ × ℕ)
+further_formats =
+    (chars (codes "code"), 16)
+    ∷ (chars (codes "subscript"), 32)
+    ∷ (chars (codes "superscript"), 64)
+    ∷ (chars (codes "highlight"), 128)
+    ∷ []
+
+abbrev pub formats : List (List ℕ × ℕ)
+formats =
+    (chars (codes "bold"), 1)
+    ∷ (chars (codes "italic"), 2)
+    ∷ (chars (codes "strikethrough"), 4)
+    ∷ (chars (codes "underline"), 8)
+    ∷ further_formats
+
+-- ---- the commands
+
+-- an item without children isn't cut in two
+abbrev pub unless_item : Option ℕ → Working → Result Working Cause
+unless_item None w = Ok w
+unless_item (Some item) w = Err (WrongKind Item)
+
+abbrev pub paragraph_step : Working → Result Working Cause
+paragraph_step w = after (insert_paragraph_step w) (λ broken. unless_item broken.item broken.draft)
+
+-- those that take no payload
+abbrev pub plain_step : CaretCommand → Working → Result Working Cause
+plain_step RemoveText w = remove_text_step w
+plain_step InsertParagraph w = paragraph_step w
+plain_step InsertLineBreak w = insert_line_break_step w
+plain_step InsertTab w = insert_tab_step w
+plain_step SelectAll w = select_all_step w
+plain_step other w = Err BadCommand
+
+-- what a command does with what is sent
+unfoldable pub caret_step : CaretCommand → Payload → Working → Result Working Cause
+caret_step InsertText sent w = with_text insert_text_step sent w
+caret_step DeleteCharacter sent w = with_word ways delete_character_step sent w
+caret_step DeleteWord sent w = with_word ways delete_word_step sent w
+caret_step FormatText sent w = with_word formats format_text_step sent w
+caret_step plain sent w = with_none (plain_step plain) sent w

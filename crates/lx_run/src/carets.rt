@@ -1,0 +1,189 @@
+//! Caret commands, with what they are given.
+
+ghost use Rattle.std.specs.Prelude.{◌≡◌, Ok, OnOk, IfErr, chars};
+ghost use Rattle.lx_node.specs.Same.{same_text};
+ghost use Rattle.lx_node.specs.declared.cause.Cause.TheVariants.{BadCommand};
+ghost use Rattle.lx_node.specs.declared.cause.Fault.TheVariants as fault;
+ghost use Rattle.lx_step.specs.BuiltIns.{row_of};
+ghost use Rattle.lx_caret.specs.Deleting.{delete_character_step, delete_word_step};
+ghost use Rattle.lx_caret.specs.Formatting.{format_text_step};
+ghost use Rattle.lx_caret.specs.Inserting.{insert_text_step};
+ghost use Rattle.lx_draft.specs.Faults.{TellsStep};
+ghost use Rattle.lx_run.specs.Carets as carets;
+ghost use Rattle.lx_run.specs.Carets.{caret_step};
+
+use crate::dispatching::is_nothing;
+use lx_draft::Draft;
+use lx_node::{Cause, Fault, Kind, Txt};
+use lx_step::{CaretCommand, Payload};
+use std::alloc::Global;
+
+fn is_word(word: &str, text: &Txt) -> bool
+    ensures { result ≡ same_text (chars word.now) text.now }
+{
+    text.is(word)
+}
+
+/// Whether a deletion goes back, by its word.
+fn way_of(text: &Txt) -> Option<bool>
+    ensures { result ≡ row_of carets.ways text.now }
+{
+    if is_word("back", text) {
+        return Some(true);
+    }
+    if is_word("forward", text) {
+        return Some(false);
+    }
+    None
+}
+
+/// The bit of a text's format, by its name.
+fn format_of(text: &Txt) -> Option<u16>
+    ensures { result ≡ row_of carets.formats text.now }
+{
+    if is_word("bold", text) {
+        return Some(1);
+    }
+    if is_word("italic", text) {
+        return Some(2);
+    }
+    if is_word("strikethrough", text) {
+        return Some(4);
+    }
+    if is_word("underline", text) {
+        return Some(8);
+    }
+    further_format_of(text)
+}
+
+/// The bit of one of the formats that come later in the table.
+fn further_format_of(text: &Txt) -> Option<u16>
+    ensures { result ≡ row_of carets.further_formats text.now }
+{
+    if is_word("code", text) {
+        return Some(16);
+    }
+    if is_word("subscript", text) {
+        return Some(32);
+    }
+    if is_word("superscript", text) {
+        return Some(64);
+    }
+    if is_word("highlight", text) {
+        return Some(128);
+    }
+    None
+}
+
+fn bad_command() -> Fault
+    ensures { result ≡ fault.Cause BadCommand }
+{
+    Fault::Cause(Cause::BadCommand)
+}
+
+/// Deletes a cluster on the side that a payload tells.
+fn delete_character(alloc: Global, draft: &mut Draft, sent: &Payload) -> Result<(), Fault>
+    ensures ok { OnOk result (carets.with_word carets.ways delete_character_step sent.now draft.old ≡ Ok draft.new) }
+    ensures err { IfErr result (λ e. TellsStep e (carets.with_word carets.ways delete_character_step sent.now draft.old)) }
+{
+    match sent {
+        Payload::Text(text) => match way_of(text) {
+            Some(back) => lx_caret::delete_character(alloc, draft, back),
+            None => Err(bad_command()),
+        },
+        _ => Err(bad_command()),
+    }
+}
+
+/// Deletes a word on the side that a payload tells.
+fn delete_word(alloc: Global, draft: &mut Draft, sent: &Payload) -> Result<(), Fault>
+    ensures ok { OnOk result (carets.with_word carets.ways delete_word_step sent.now draft.old ≡ Ok draft.new) }
+    ensures err { IfErr result (λ e. TellsStep e (carets.with_word carets.ways delete_word_step sent.now draft.old)) }
+{
+    match sent {
+        Payload::Text(text) => match way_of(text) {
+            Some(back) => lx_caret::delete_word(alloc, draft, back),
+            None => Err(bad_command()),
+        },
+        _ => Err(bad_command()),
+    }
+}
+
+/// Gives the selected text the format that a payload names, or takes it away.
+fn format_text(alloc: Global, draft: &mut Draft, sent: &Payload) -> Result<(), Fault>
+    ensures ok { OnOk result (carets.with_word carets.formats format_text_step sent.now draft.old ≡ Ok draft.new) }
+    ensures err { IfErr result (λ e. TellsStep e (carets.with_word carets.formats format_text_step sent.now draft.old)) }
+{
+    match sent {
+        Payload::Text(text) => match format_of(text) {
+            Some(bit) => lx_caret::format_text(alloc, draft, bit),
+            None => Err(bad_command()),
+        },
+        _ => Err(bad_command()),
+    }
+}
+
+/// Puts the text that is sent in the place of what is selected.
+fn insert_text(alloc: Global, draft: &mut Draft, sent: &Payload) -> Result<(), Fault>
+    ensures ok { OnOk result (carets.with_text insert_text_step sent.now draft.old ≡ Ok draft.new) }
+    ensures err { IfErr result (λ e. TellsStep e (carets.with_text insert_text_step sent.now draft.old)) }
+{
+    match sent {
+        Payload::Text(text) => lx_caret::insert_text(alloc, draft, text.as_str()),
+        _ => Err(bad_command()),
+    }
+}
+
+/// Cuts a block in two. It is refused in an item without children.
+fn insert_paragraph(alloc: Global, draft: &mut Draft) -> Result<(), Fault>
+    ensures ok { OnOk result (carets.paragraph_step draft.old ≡ Ok draft.new) }
+    ensures err { IfErr result (λ e. TellsStep e (carets.paragraph_step draft.old)) }
+{
+    match lx_caret::insert_paragraph(alloc, draft) {
+        Ok(None) => Ok(()),
+        Ok(Some(_)) => Err(Fault::Cause(Cause::WrongKind(Kind::Item))),
+        Err(fault) => Err(fault),
+    }
+}
+
+/// Does a command that takes no payload.
+fn do_plain(alloc: Global, draft: &mut Draft, command: CaretCommand) -> Result<(), Fault>
+    ensures ok { OnOk result (carets.plain_step command draft.old ≡ Ok draft.new) }
+    ensures err { IfErr result (λ e. TellsStep e (carets.plain_step command draft.old)) }
+{
+    match command {
+        CaretCommand::RemoveText => lx_caret::remove_text(alloc, draft),
+        CaretCommand::InsertParagraph => insert_paragraph(alloc, draft),
+        CaretCommand::InsertLineBreak => lx_caret::insert_line_break(alloc, draft),
+        CaretCommand::InsertTab => lx_caret::insert_tab(alloc, draft),
+        CaretCommand::SelectAll => lx_caret::select_all(draft),
+        _ => Err(bad_command()),
+    }
+}
+
+/// Does a caret command with what is sent. It is refused with `BadCommand` where that is no payload of the command,
+/// before anything is looked at.
+#[tactic(auto, unfolding(crate::specs::Carets::caret_step))]
+pub(crate) fn do_caret(
+    alloc: Global,
+    draft: &mut Draft,
+    command: CaretCommand,
+    sent: &Payload,
+) -> Result<(), Fault>
+    ensures ok { OnOk result (caret_step command sent.now draft.old ≡ Ok draft.new) }
+    ensures err { IfErr result (λ e. TellsStep e (caret_step command sent.now draft.old)) }
+{
+    match command {
+        CaretCommand::InsertText => insert_text(alloc, draft, sent),
+        CaretCommand::DeleteCharacter => delete_character(alloc, draft, sent),
+        CaretCommand::DeleteWord => delete_word(alloc, draft, sent),
+        CaretCommand::FormatText => format_text(alloc, draft, sent),
+        plain => {
+            if is_nothing(sent) {
+                do_plain(alloc, draft, plain)
+            } else {
+                Err(bad_command())
+            }
+        }
+    }
+}
