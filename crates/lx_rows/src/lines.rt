@@ -66,6 +66,7 @@ fn add_made(session: &mut Vec<u8>, words: &str) -> Result<()> {
             let (count, line) = rest.split_once(' ').context("no line")?;
             add_times(session, count.parse()?, line)
         }
+        Some(("keys", count)) => add_keys(session, count.parse()?),
         Some(("letters", count)) => add_letters(session, count.parse()?),
         Some(("deep", count)) => add_deep(session, count.parse()?),
         Some(("wide", count)) => add_wide(session, count.parse()?),
@@ -95,6 +96,30 @@ fn add_steps(session: &mut Vec<u8>, count: u32, step: &str) -> Result<()> {
         add(session, step.as_bytes())?;
     }
     add(session, b"]}\n")
+}
+
+/// Adds so many key presses: letters, and now and then a space, a deletion, a break, or bold on or off.
+fn add_keys(session: &mut Vec<u8>, count: u32) -> Result<()> {
+    for index in 0..count {
+        add(session, key_press(index))?;
+        add(session, b"\n")?;
+    }
+    Ok(())
+}
+
+/// The line of a key press.
+fn key_press(index: u32) -> &'static [u8] {
+    if index % 97 == 96 {
+        b"{\"dispatch\":\"format-text\",\"payload\":\"bold\"}"
+    } else if index % 50 == 49 {
+        b"{\"dispatch\":\"insert-paragraph\"}"
+    } else if index % 11 == 10 {
+        b"{\"dispatch\":\"delete-character\",\"payload\":\"back\"}"
+    } else if index % 5 == 4 {
+        b"{\"dispatch\":\"insert-text\",\"payload\":\" \"}"
+    } else {
+        b"{\"dispatch\":\"insert-text\",\"payload\":\"e\"}"
+    }
 }
 
 /// Adds an update that appends a text of so many letters.
