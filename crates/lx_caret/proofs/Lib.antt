@@ -4,6 +4,7 @@ mod Backwards
 mod BlockOrder
 pub mod Breaks
 pub mod Cleared
+pub mod Computing
 pub mod Covered
 mod Covering
 pub mod Deletes
@@ -31,5 +32,8 @@ pub mod PathsOfFormatting
 pub mod PathsOfParagraphs
 pub mod PathsOfTexts
 pub mod Removes
+pub mod Rows
+mod RowsOfDeleting
+mod RowsOfFormatting
 pub mod Selected
 pub mod Splits
