@@ -5,6 +5,7 @@
 //!
 //! - `*** steps COUNT STEP`: an update with the step so many times,
 //! - `*** times COUNT LINE`: the line so many times,
+//! - `*** keys COUNT`: so many key presses: letters, and now and then a space, a deletion, a break, or bold on or off,
 //! - `*** letters COUNT`: an update that appends a text of so many letters,
 //! - `*** deep COUNT`: a load of so many lists and items, each below the one before it,
 //! - `*** wide COUNT`: a load of so many paragraphs,
