@@ -2,8 +2,8 @@
 //! memory is ample.
 //!
 //! They stand here since a crate with tests is proved twice. Those of the layers below stand in `lx_tests_trees` and
-//! `lx_tests_lines`, those of editors in `lx_tests_editors` and `lx_tests_histories`. What steps make of a state is shown by
-//! the program `lx_scripts`, and replies to lines by the program `lx_rows`, whose input and output are stored.
+//! `lx_tests_lines`. What steps make of a state is shown by the program `lx_scripts`, and replies to lines by the program
+//! `lx_rows`, whose input and output are stored.
 #![tactic(auto)]
 
 #[cfg(test)]
