@@ -1,0 +1,7 @@
+mod JoinSteps
+mod JoinSpots
+mod JoinPoints
+mod JoinRead
+mod JoinCuts
+mod JoinUndone
+pub mod JoinTold
