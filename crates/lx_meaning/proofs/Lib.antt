@@ -1,7 +1,15 @@
-mod JoinSteps
-mod JoinSpots
-mod JoinPoints
-mod JoinRead
-mod JoinCuts
-mod JoinUndone
+pub mod Reading
+pub mod ReadingPlaces
+pub mod SplitTexts
+pub mod SplitForests
+pub mod SplitPieces
+pub mod SplitPoints
+pub mod SplitCuts
+pub mod SplitLaws
+pub mod JoinSteps
+pub mod JoinSpots
+pub mod JoinPoints
+pub mod JoinRead
+pub mod JoinCuts
+pub mod JoinUndone
 pub mod JoinTold

@@ -1,11 +1,12 @@
 -- What it means to split a text.
 use Rattle.std.specs.Prelude.{ℕ, ◌≡◌, ◌≢◌, ◌≤◌, true, map, length, List, [], ◌∷◌, Some, Ok}
 use Rattle.lx_node.specs.Siblings.{is_among}
+use Rattle.lx_node.specs.Kinds.{may_hold}
 use Rattle.lx_node.specs.declared.kind.Kind.TheVariants.{Text}
 use Rattle.lx_node.specs.declared.fields.TextFields.{TextFields}
 use Rattle.lx_node.specs.Limits.{last_u32}
 use Rattle.lx_text.specs.Texts.{slice_of, text_length}
-use Rattle.lx_forest.specs.Lookups.{has, spot, label_of, parent_of, children_of}
+use Rattle.lx_forest.specs.Lookups.{has, spot, label_of, parent_of, children_of, IsHeld}
 use Rattle.lx_draft.specs.Working.{Working}
 use Rattle.lx_draft.specs.Covering.{IsReady}
 use Rattle.lx_draft.specs.Faults.{text_in}
@@ -46,6 +47,6 @@ pub record SplitsAreTold : Type 0 where
       q ≢ k → parent_of w.forest k ≢ Some q → spot v.forest q ≡ spot w.forest q
   -- each point in the text keeps its place in it
   pub points : (k : ℕ) (offsets pieces : List ℕ) (w v : Working) → IsSplit k offsets pieces w v → PlacesAreKept (k ∷ []) pieces w v
-  -- and below any other node the same is read
-  pub read : (k : ℕ) (offsets pieces : List ℕ) (w v : Working) (b : ℕ) → IsSplit k offsets pieces w v → has b w.forest ≡ true → b ≢ k →
+  -- and below any other node the same is read, where each node holds what it may, so that a text has nothing below it
+  pub read : (k : ℕ) (offsets pieces : List ℕ) (w v : Working) (b : ℕ) → IsSplit k offsets pieces w v → IsHeld may_hold w.forest → has b w.forest ≡ true → b ≢ k →
       read_below v.forest b ≡ read_below w.forest b

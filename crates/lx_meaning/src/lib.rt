@@ -4,5 +4,7 @@
 #![tactic(auto)]
 
 mod joins;
+mod splits;
 
 pub use joins::joins_are_told;
+pub use splits::splits_are_told;
