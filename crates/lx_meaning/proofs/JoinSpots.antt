@@ -8,7 +8,8 @@ use Rattle.lx_forest.proofs.Order.{IsForest-with_fields}
 use Rattle.lx_forest.specs.Edits.{fields_at, take_out, with_fields}
 use Rattle.lx_forest.specs.Forest.{Forest, Label}
 use Rattle.lx_forest.specs.Lookups.{IsForest, children_of, label_of, parent_of, spot}
-use Rattle.lx_meaning.proofs.JoinSteps.{AreJoined, label_of_text, text_label, with_behind}
+use Rattle.lx_meaning.proofs.JoinSteps.{AreJoined, with_behind}
+use Rattle.lx_meaning.proofs.SplitCuts.{label_is, text_label}
 use Rattle.lx_meaning.specs.Reading.{text_at}
 use Rattle.lx_node.proofs.Siblings.{is_named_tells, names_without-absent_list}
 use Rattle.lx_node.specs.Siblings.{is_among, is_named, names_without}
@@ -64,7 +65,7 @@ module _ (k taken : ℕ) (fields : Fields) (f : Forest) (h : IsForest f) where
   pub label_written : (t : TextFields) → text_in (label_of f k) ≡ Some t → label_of (take_out taken (with_fields k fields f)) k ≡ Some (record { key = k; kind = kinds.Text; fields = fields })
   label_written t is =
       let own : eqb k k ≡ true = grind (arith, eqb_tells k k) in
-      label_after k ∙ ap (option_map (fields_at k fields)) (label_of_text f k t is)
+      label_after k ∙ ap (option_map (fields_at k fields)) (label_is f k t is)
       ∙ ap (λ b. let made : Label = record { key = k; kind = kinds.Text; fields = cond b fields (text_label k t).fields } in Some made) own
 
 -- ---- after a join

@@ -12,12 +12,12 @@ use Rattle.lx_edit.specs.Conditions.{is_key, join_fault, length_at, length_in, n
 use Rattle.lx_edit.specs.Edits.{pointed}
 use Rattle.lx_edit.specs.Texts.{join_step, text_or_none, texts_joined}
 use Rattle.lx_forest.proofs.Edits.{is_some-spot}
-use Rattle.lx_forest.proofs.Lookups.{NoRepeats-children_of, is_among-children_of, key-label_of, parent_of-with_fields}
+use Rattle.lx_forest.proofs.Lookups.{NoRepeats-children_of, is_among-children_of, parent_of-with_fields}
 use Rattle.lx_forest.proofs.Siblings.{parent_of-next, siblings-with_fields}
 use Rattle.lx_forest.proofs.Walks.{cases_option}
 use Rattle.lx_forest.specs.Edits.{take_out, with_fields}
 use Rattle.lx_forest.specs.Forest.{Forest, Label}
-use Rattle.lx_forest.specs.Lookups.{IsForest, children_below, children_of, from, has, index_of, kind_of, label_of, next_of, parent_of, siblings, spot}
+use Rattle.lx_forest.specs.Lookups.{IsForest, children_below, children_of, has, index_of, kind_of, label_of, next_of, parent_of, siblings, spot}
 use Rattle.lx_links.specs.Faults.{detach_fault, unknown}
 use Rattle.lx_meaning.specs.Reading.{text_at}
 use Rattle.lx_node.proofs.Siblings.{first_of-among, is_some-index_in}
@@ -39,31 +39,9 @@ use Rattle.std.proofs.Common.{List, None, Ok, Option, Some, [], ap, append-nil, 
 use Rattle.std.proofs.Math.Seq.{drop-length, take-length}
 use Rattle.std.proofs.lemmas.Bool.Decides.{eqb_tells}
 use Rattle.std.specs.Option.{option_or}
-use Rattle.lx_node.specs.declared.fields.Fields.TheVariants as fields
 use Rattle.lx_node.specs.declared.kind.Kind.TheVariants as kinds
 
--- ---- texts and their labels
-
--- what has the fields of a text is one
-text_by : (kind : Kind) (x : Fields) (t : TextFields) → text_fields kind x ≡ Some t → (kind ≡ kinds.Text) × (x ≡ fields.Text t)
-text_by kinds.Text (fields.Text u) t e = (refl, let same : u ≡ t = cc in ap (λ y. fields.Text y) same)
-text_by kind x t e = absurd (grind (arith, e))
-
-abbrev pub text_label : ℕ → TextFields → Label
-text_label k t = record { key = k; kind = kinds.Text; fields = fields.Text t }
-
-label_by : (f : Forest) (k : ℕ) (t : TextFields) (o : Option Label) → label_of f k ≡ o → text_in o ≡ Some t → o ≡ Some (text_label k t)
-label_by f k t None is e = absurd (cc)
-label_by f k t (Some l) is e =
-    let own : l.key ≡ k = key-label_of f k l is in
-    let parts = text_by l.kind l.fields t e in
-    ap (λ (x : ℕ). let made : Label = record { key = x; kind = l.kind; fields = l.fields } in Some made) own
-    ∙ ap (λ (x : Kind). let made : Label = record { key = k; kind = x; fields = l.fields } in Some made) parts.0
-    ∙ ap (λ (x : Fields). let made : Label = record { key = k; kind = kinds.Text; fields = x } in Some made) parts.1
-
--- the label of a text
-pub label_of_text : (f : Forest) (k : ℕ) (t : TextFields) → text_in (label_of f k) ≡ Some t → label_of f k ≡ Some (text_label k t)
-label_of_text f k t e = label_by f k t (label_of f k) refl e
+-- ---- texts
 
 -- where a piece may be replaced there is a text
 text_there : (f : Forest) (k from to : ℕ) (o : Option (Spot Label)) → spot f k ≡ o → splice_fault k from to f ≡ None → (t : TextFields) × (text_in (option_map (λ (s : Spot Label). s.label) o) ≡ Some t)

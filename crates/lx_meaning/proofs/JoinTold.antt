@@ -4,8 +4,7 @@ use Rattle.lx_meaning.proofs.JoinPoints.{points_joined}
 use Rattle.lx_meaning.proofs.JoinRead.{read_joined}
 use Rattle.lx_meaning.proofs.JoinSpots.{children_left, label_like, spot_other, text_first}
 use Rattle.lx_meaning.proofs.JoinSteps.{AreJoined, are_joined}
-use Rattle.lx_meaning.proofs.JoinUndone.{undone_by}
-use Rattle.lx_meaning.proofs.SplitLaws.{told-splits}
+use Rattle.lx_meaning.proofs.JoinUndone.{joined_again}
 use Rattle.lx_meaning.specs.Joins.{IsJoined, JoinsAreTold}
 use Rattle.std.proofs.Common.{ℕ}
 
@@ -17,7 +16,7 @@ joins_told = record {
   others = λ first second w v q j there apart above. spot_other first second w v j.ready.in_order (is_join first second w v j) q apart above;
   points = λ first second w v j. points_joined first second w v j.ready.in_order (is_join first second w v j) j.fits;
   read = λ first second w v b j held there apart. read_joined first second w v j.ready.in_order held (is_join first second w v j) b apart;
-  undone = λ k offsets new w v u q s e old. undone_by told-splits k offsets new w v u q s e old;
+  undone = λ k offsets new w v u q s e old. joined_again k offsets new w v u q s e old;
 } where
   is_join : (first second : ℕ) (w v : Working) → IsJoined first second w v → AreJoined first second w v
   is_join first second w v j = are_joined first second w v j.ready.in_order j.fits j.joined
