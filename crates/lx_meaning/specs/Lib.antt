@@ -1,0 +1,4 @@
+pub mod Joins
+pub mod Reading
+pub mod Splits
+pub mod Wraps
