@@ -2,6 +2,7 @@ pub mod WrapLists
 pub mod WrapTrees
 pub mod WrapReads
 pub mod WrapSteps
+pub mod WrapBeside
 pub mod WrapTurns
 pub mod WrapTold
 pub mod WrapBack

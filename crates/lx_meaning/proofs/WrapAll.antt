@@ -12,7 +12,7 @@ use Rattle.lx_meaning.proofs.WrapTold.{children_behind, replaced_behind, read_un
 place_told : (k outer : ℕ) (w v : Working) (p : ℕ) → IsWrapped k outer w v → parent_of w.forest k ≡ Some p → children_of v.forest p ≡ in_place_of k (outer ∷ []) (children_of w.forest p)
 place_told k outer w v p e up =
     let s = was_wrapped k outer w v e in
-    let same : s.0 ≡ p = same_Some s.0 p (sym s.1.up ∙ up) in
+    let same : s.0 ≡ p = same_Some s.0 p (sym s.1.may.up ∙ up) in
     subst (λ q. children_of v.forest q ≡ in_place_of k (outer ∷ []) (children_of w.forest q)) same (outer_place w.forest v.forest s.0 k outer s.1)
 
 pub told-wraps : WrapsAreTold

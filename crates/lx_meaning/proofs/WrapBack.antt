@@ -10,11 +10,10 @@ use Rattle.lx_node.specs.declared.cause.Cause.{Cause}
 use Rattle.lx_node.proofs.Siblings.{is_among-names_with, names_without-absent_list}
 use Rattle.lx_forest.specs.Forest.{Forest, Label}
 use Rattle.lx_forest.specs.Lookups.{has, spot, label_of, kind_of, parent_of, children_of, IsForest}
-use Rattle.lx_forest.specs.Edits.{take_out, put_in, CanPut}
+use Rattle.lx_forest.specs.Edits.{take_out}
 use Rattle.lx_forest.proofs.Edits.{is_some-spot}
-use Rattle.lx_forest.proofs.Lookups.{is_among-children_of, NoRepeats-children_of, parent_of-self, label_of-put_in, parent_of-put_in, children_of-put_in, label_of-take_out, parent_of-take_out, children_of-take_out}
-use Rattle.lx_forest.proofs.Order.{IsForest-take_out, IsForest-put_in, same_forest}
-use Rattle.lx_forest.proofs.Within.{is_within-self}
+use Rattle.lx_forest.proofs.Lookups.{is_among-children_of, NoRepeats-children_of, label_of-take_out, parent_of-take_out, children_of-take_out}
+use Rattle.lx_forest.proofs.Order.{IsForest-take_out, same_forest}
 use Rattle.lx_links.specs.Faults.{unknown, not_below, bound_to, misfit}
 use Rattle.lx_draft.specs.Working.{Working}
 use Rattle.lx_draft.specs.Faults.{after, text_in}
@@ -31,19 +30,18 @@ use Rattle.lx_meaning.specs.Wraps.{IsWrapped}
 use Rattle.lx_meaning.proofs.WrapLists.{in_its_place, back_again}
 use Rattle.lx_meaning.proofs.WrapReads.{HasFirst, first_up, can_bring, brought_out, read_brought, read_without_leaf}
 use Rattle.lx_meaning.proofs.WrapSteps.{was_allowed, was_same, was_put_before, before_below, WasMoved, was_moved_to_end, was_moved_before, IsForest-moved, label_of-moved, parent_of-moved, children_of-moved, silent_holder}
-use Rattle.lx_meaning.proofs.WrapTurns.{own, different, not_child, left_behind, came_before, removed_alone}
+use Rattle.lx_meaning.proofs.WrapBeside.{own, different, not_child, beside, MayStandBefore, not_new, apart, beside-order, beside-label, beside-parent, beside-here, beside-elsewhere}
+use Rattle.lx_meaning.proofs.WrapTurns.{left_behind, came_before, removed_alone}
 use Rattle.lx_meaning.proofs.WrapTold.{was_unwrapped}
 
 -- ---- wrapped
 
 -- the outer one was put before k among the children of p, and k moved into it
 pub record HasWrapped (f g : Forest) (p k outer : ℕ) : Type 0 where
-  pub in_order : IsForest f
-  pub up : parent_of f k ≡ Some p
-  pub can : CanPut p outer f
+  pub may : MayStandBefore f p k outer
   pub empty : children_of f outer ≡ []
   pub silent : text_at f outer ≡ []
-  pub moved : WasMoved (put_in p (Some k) outer f) g outer k None
+  pub moved : WasMoved (beside p k outer f) g outer k None
 
 kind_there : (f : Forest) (k : ℕ) → has k f ≡ true → (kind : Kind) × (kind_of f k ≡ Some kind)
 kind_there f k there = by_spot (spot f k) refl where
@@ -68,9 +66,7 @@ was_wrapped k outer w v e =
     let put = was_put_before outer k below.0 w a.0 h below.1 a.1 in (
       below.0,
       record {
-        in_order = h;
-        up = below.1;
-        can = put.0;
+        may = record { in_order = h; up = below.1; can = put.0 };
         empty = e.empty;
         silent = silent_holder f outer inner.0 (ap (misfit (kind_of f outer)) (sym inner.1) ∙ faults.1);
         moved = subst (λ x. WasMoved x v.forest outer k None) put.1 (was_moved_to_end outer k a.0 v a.2);
@@ -78,73 +74,58 @@ was_wrapped k outer w v e =
     )
 
 module _ (f g : Forest) (p k outer : ℕ) (s : HasWrapped f g p k outer) where
-  -- with the outer one before k
-  put : Forest
-  put = put_in p (Some k) outer f
+  other : k ≢ outer
+  other = apart f p k outer s.may
 
-  put_order : IsForest put
-  unfolding put
-  put_order = IsForest-put_in p (Some k) outer f s.in_order s.can
+  parent_other : p ≢ outer
+  parent_other = not_new f p k outer s.may
+
+  put_order : IsForest (beside p k outer f)
+  put_order = beside-order f p k outer s.may
 
   pub wrapped_order : IsForest g
-  unfolding put
-  wrapped_order = IsForest-moved put g outer k None put_order s.moved
-
-  -- the three are three
-  pub not_outer : p ≢ outer
-  not_outer x = absurd (grind (arith, x, s.can.outside, is_within-self f outer, s.can.there))
-
-  pub not_self : p ≢ k
-  not_self x = absurd (grind (arith, x, s.up, parent_of-self f k s.in_order, eqb_tells p k))
-
-  pub apart : k ≢ outer
-  apart x = absurd (grind (arith, x, s.up, s.can.detached))
+  wrapped_order = IsForest-moved (beside p k outer f) g outer k None put_order s.moved
 
   -- what is read of any node
-  pub wrapped_label : (q : ℕ) → label_of g q ≡ label_of f q
-  unfolding put
-  wrapped_label q = label_of-moved put g outer k None q put_order s.moved ∙ label_of-put_in p (Some k) outer f q s.in_order s.can
+  wrapped_label : (q : ℕ) → label_of g q ≡ label_of f q
+  wrapped_label q = label_of-moved (beside p k outer f) g outer k None q put_order s.moved ∙ beside-label f p k outer s.may q
 
-  pub wrapped_parent : (q : ℕ) → parent_of g q ≡ cond (eqb q k) (Some outer) (cond (eqb q outer) (Some p) (parent_of f q))
-  unfolding put
-  wrapped_parent q = parent_of-moved put g outer k None q put_order s.moved ∙ ap (cond (eqb q k) (Some outer)) (parent_of-put_in p (Some k) outer f q s.in_order s.can)
+  wrapped_parent : (q : ℕ) → parent_of g q ≡ cond (eqb q k) (Some outer) (cond (eqb q outer) (Some p) (parent_of f q))
+  wrapped_parent q = parent_of-moved (beside p k outer f) g outer k None q put_order s.moved ∙ ap (cond (eqb q k) (Some outer)) (beside-parent f p k outer s.may q)
 
-  put_children : (q : ℕ) → children_of put q ≡ cond (eqb q p) (names_with (Some k) (outer ∷ []) (children_of f q)) (children_of f q)
-  unfolding put
-  put_children q = children_of-put_in p (Some k) outer f q s.in_order s.can
+  wrapped_children : (q : ℕ) → children_of g q ≡ cond (eqb q outer) (names_with None (k ∷ []) (names_without k (children_of (beside p k outer f) q))) (names_without k (children_of (beside p k outer f) q))
+  wrapped_children q = children_of-moved (beside p k outer f) g outer k None q put_order s.moved
 
-  wrapped_children : (q : ℕ) → children_of g q ≡ cond (eqb q outer) (names_with None (k ∷ []) (names_without k (children_of put q))) (names_without k (children_of put q))
-  unfolding put
-  wrapped_children q = children_of-moved put g outer k None q put_order s.moved
+  -- of what any other has, k leaves
+  left_children : (q : ℕ) → q ≢ outer → children_of g q ≡ names_without k (children_of (beside p k outer f) q)
+  left_children q away =
+      wrapped_children q
+      ∙ ap (λ b. cond b (names_with None (k ∷ []) (names_without k (children_of (beside p k outer f) q))) (names_without k (children_of (beside p k outer f) q))) (different q outer away)
 
   -- k is the only child of the outer one ..
   pub outer_children : children_of g outer ≡ k ∷ []
   outer_children =
-      let none : children_of put outer ≡ [] = put_children outer ∙ ap (λ b. cond b (names_with (Some k) (outer ∷ []) (children_of f outer)) (children_of f outer)) (different outer p (λ x. not_outer (sym x))) ∙ s.empty in
+      let none : children_of (beside p k outer f) outer ≡ [] = beside-elsewhere f p k outer s.may outer (λ e. parent_other (sym e)) ∙ s.empty in
       wrapped_children outer
-      ∙ ap (λ b. cond b (names_with None (k ∷ []) (names_without k (children_of put outer))) (names_without k (children_of put outer))) (own outer)
+      ∙ ap (λ b. cond b (names_with None (k ∷ []) (names_without k (children_of (beside p k outer f) outer))) (names_without k (children_of (beside p k outer f) outer))) (own outer)
       ∙ ap (λ xs. names_with None (k ∷ []) (names_without k xs)) none
 
   -- .. which stands in the place of k
   pub outer_place : children_of g p ≡ in_place_of k (outer ∷ []) (children_of f p)
   outer_place =
-      let beside : children_of put p ≡ names_with (Some k) (outer ∷ []) (children_of f p) = put_children p ∙ ap (λ b. cond b (names_with (Some k) (outer ∷ []) (children_of f p)) (children_of f p)) (own p) in
-      wrapped_children p
-      ∙ ap (λ b. cond b (names_with None (k ∷ []) (names_without k (children_of put p))) (names_without k (children_of put p))) (different p outer not_outer)
-      ∙ ap (names_without k) beside
-      ∙ in_its_place k (outer ∷ []) (children_of f p) (NoRepeats-children_of f p s.in_order) (child_of f p k s.in_order s.up) (grind (arith, apart, eqb_tells outer k))
+      left_children p parent_other
+      ∙ ap (names_without k) (beside-here f p k outer s.may)
+      ∙ in_its_place k (outer ∷ []) (children_of f p) (NoRepeats-children_of f p s.may.in_order) (child_of f p k s.may.in_order s.may.up) (grind (arith, other, eqb_tells outer k))
 
-  -- any other node has the children that it had
+  -- any other node has the children that it had, and k isn't one of them
+  without_k : (q : ℕ) → q ≢ p → names_without k (children_of f q) ≡ children_of f q
+  without_k q not_p = names_without-absent_list k (children_of f q) (not_child f k p q s.may.in_order s.may.up (λ e. not_p (sym e)))
+
   other_children : (q : ℕ) → q ≢ p → q ≢ outer → children_of g q ≡ children_of f q
-  other_children q not_p away =
-      let still : children_of put q ≡ children_of f q = put_children q ∙ grind (arith, not_p, eqb_tells q p) in
-      wrapped_children q
-      ∙ ap (λ b. cond b (names_with None (k ∷ []) (names_without k (children_of put q))) (names_without k (children_of put q))) (different q outer away)
-      ∙ ap (names_without k) still
-      ∙ names_without-absent_list k (children_of f q) (not_child f k p q s.in_order s.up (λ x. not_p (sym x)))
+  other_children q not_p away = left_children q away ∙ ap (names_without k) (beside-elsewhere f p k outer s.may q not_p) ∙ without_k q not_p
 
   pub outer_up : parent_of g outer ≡ Some p
-  outer_up = wrapped_parent outer ∙ grind (arith, apart, eqb_tells outer k, eqb_tells outer outer)
+  outer_up = wrapped_parent outer ∙ grind (arith, other, eqb_tells outer k, eqb_tells outer outer)
 
   pub outer_first : HasFirst g p outer k []
   outer_first = record { in_order = wrapped_order; up = outer_up; below = outer_children }
@@ -169,10 +150,10 @@ module _ (f g : Forest) (p k outer : ℕ) (s : HasWrapped f g p k outer) where
       parent_of-take_out outer out q out_order
       ∙ ap (cond (eqb q outer) None) (parent_of-moved g out p k (Some outer) q wrapped_order out_moved ∙ ap (cond (eqb q k) (Some p)) (wrapped_parent q))
       ∙ elim (eqb_tells q outer) [
-        | inl same ↦ rw same.0 (sym (ap (parent_of f) same.1 ∙ s.can.detached))
-        | inr other ↦ elim (eqb_tells q k) [
-          | inl same ↦ rw (other.0, same.0) (sym (ap (parent_of f) same.1 ∙ s.up))
-          | inr else ↦ rw (other.0, else.0) refl
+        | inl same ↦ rw same.0 (sym (ap (parent_of f) same.1 ∙ s.may.can.detached))
+        | inr away ↦ elim (eqb_tells q k) [
+          | inl same ↦ rw (away.0, same.0) (sym (ap (parent_of f) same.1 ∙ s.may.up))
+          | inr else ↦ rw (away.0, else.0) refl
         ]
       ]
 
@@ -180,18 +161,18 @@ module _ (f g : Forest) (p k outer : ℕ) (s : HasWrapped f g p k outer) where
   out_children q = children_of-take_out outer out q out_order ∙ ap (names_without outer) (children_of-moved g out p k (Some outer) q wrapped_order out_moved)
 
   nobodys : (q : ℕ) → is_among outer (children_of f q) ≡ false
-  nobodys q = is_among-children_of f outer q s.in_order ∙ rw s.can.detached refl
+  nobodys q = is_among-children_of f outer q s.may.in_order ∙ rw s.may.can.detached refl
 
   -- the children of p ..
   back_there : children_of (take_out outer out) p ≡ children_of f p
   back_there =
       let xs : List ℕ = children_of f p in
       let ys : List ℕ = children_of g p in
-      let gone : is_among k ys ≡ false = not_child g k outer p wrapped_order (first_up g p outer k [] outer_first) (λ x. not_outer (sym x)) in
+      let gone : is_among k ys ≡ false = not_child g k outer p wrapped_order (first_up g p outer k [] outer_first) (λ e. parent_other (sym e)) in
       out_children p
       ∙ ap (λ b. names_without outer (cond b (names_with (Some outer) (k ∷ []) (names_without k ys)) (names_without k ys))) (own p)
       ∙ ap (λ zs. names_without outer (names_with (Some outer) (k ∷ []) zs)) (names_without-absent_list k ys gone)
-      ∙ in_its_place outer (k ∷ []) ys (NoRepeats-children_of g p wrapped_order) (child_of g p outer wrapped_order outer_up) (grind (arith, apart, eqb_tells k outer))
+      ∙ in_its_place outer (k ∷ []) ys (NoRepeats-children_of g p wrapped_order) (child_of g p outer wrapped_order outer_up) (grind (arith, other, eqb_tells k outer))
       ∙ ap (in_place_of outer (k ∷ [])) outer_place
       ∙ back_again k outer xs (nobodys p)
 
@@ -206,7 +187,7 @@ module _ (f g : Forest) (p k outer : ℕ) (s : HasWrapped f g p k outer) where
   back_elsewhere : (q : ℕ) → q ≢ p → q ≢ outer → children_of (take_out outer out) q ≡ children_of f q
   back_elsewhere q not_p away =
       let still : names_without k (children_of g q) ≡ children_of f q =
-      ap (names_without k) (other_children q not_p away) ∙ names_without-absent_list k (children_of f q) (not_child f k p q s.in_order s.up (λ x. not_p (sym x))) in
+      ap (names_without k) (other_children q not_p away) ∙ without_k q not_p in
       out_children q
       ∙ ap (λ b. names_without outer (cond b (names_with (Some outer) (k ∷ []) (names_without k (children_of g q))) (names_without k (children_of g q)))) (different q p not_p)
       ∙ ap (names_without outer) still
@@ -216,16 +197,16 @@ module _ (f g : Forest) (p k outer : ℕ) (s : HasWrapped f g p k outer) where
   back_children q =
       elim (eqb_tells q p) [
         | inl same ↦ subst (λ x. children_of (take_out outer out) x ≡ children_of f x) (sym same.1) back_there
-        | inr other ↦ elim (eqb_tells q outer) [
+        | inr not_p ↦ elim (eqb_tells q outer) [
           | inl same ↦ subst (λ x. children_of (take_out outer out) x ≡ children_of f x) (sym same.1) back_empty
-          | inr else ↦ back_elsewhere q other.1 else.1
+          | inr else ↦ back_elsewhere q not_p.1 else.1
         ]
       ]
 
   -- so the forest is the old one
   pub back : take_out outer (brought_out p outer k g) ≡ f
   unfolding out
-  back = same_forest (take_out outer out) f (IsForest-take_out outer out out_order) s.in_order (λ q. spot_by (spot (take_out outer out) q) (spot f q) (back_label q) (back_parent q) (back_children q)) where
+  back = same_forest (take_out outer out) f (IsForest-take_out outer out out_order) s.may.in_order (λ q. spot_by (spot (take_out outer out) q) (spot f q) (back_label q) (back_parent q) (back_children q)) where
     spot_by : (o r : Option (Spot Label)) → option_map (λ (x : Spot Label). x.label) o ≡ option_map (λ (x : Spot Label). x.label) r → parent_at o ≡ parent_at r → children_at o ≡ children_at r → o ≡ r
     spot_by None None a b c = refl
     spot_by None (Some y) a b c = absurd (cc)
@@ -242,10 +223,10 @@ module _ (f g : Forest) (p k outer : ℕ) (s : HasWrapped f g p k outer) where
   -- and the same is read
   pub read_wrapped : (b : ℕ) → b ≢ outer → read_below g b ≡ read_below f b
   unfolding out
-  read_wrapped b other =
+  read_wrapped b away =
       let mute : text_at g outer ≡ [] = silent_by outer g (wrapped_label outer) s.silent in
       let still : text_at out outer ≡ [] = silent_by outer out (label_of-moved g out p k (Some outer) outer wrapped_order out_moved ∙ wrapped_label outer) s.silent in
-      sym (read_brought g p outer k b [] outer_first mute other)
+      sym (read_brought g p outer k b [] outer_first mute away)
       ∙ sym (read_without_leaf out outer b out_order (left_behind g out p outer k [] outer_first out_moved) still)
       ∙ ap (λ x. read_below x b) back
 
@@ -264,7 +245,7 @@ unwrapped_again f p k outer v u s e =
     let order = wrapped_order f g p k outer s in
     let up = outer_up f g p k outer s in
     let below = outer_children f g p k outer s in
-    let other : k ≢ outer = apart f g p k outer s in
+    let other : k ≢ outer = apart f p k outer s.may in
     let each : in_turn (moved_before outer) (k ∷ []) v ≡ Ok x.mid = ap (λ ks. in_turn (moved_before outer) ks v) (sym below) ∙ x.each in
     let m = was_moved_before outer k p v x.mid order up (λ y. other (sym y)) (one_turn (moved_before outer) k v x.mid each) in
     let came = came_before p outer (k ∷ []) v x.mid order up below each in

@@ -17,10 +17,6 @@ pub apart : (xs ys : List ℕ) (q : ℕ) → NoRepeats (xs ++ ys) → is_among q
 apart [] ys q u e = absurd (cc)
 apart (x ∷ xs) ys q u e = grind (arith, e, u.0, is_among-append x xs ys, eqb_tells x q, apart xs ys q u.1)
 
-pub second_part : (xs ys : List ℕ) → NoRepeats (xs ++ ys) → NoRepeats ys
-second_part [] ys u = u
-second_part (x ∷ xs) ys u = second_part xs ys u.1
-
 -- ---- what is kept
 
 pub filter-kept : (keep : ℕ → Bool) (xs : List ℕ) → ((q : ℕ) → is_among q xs ≡ true → keep q ≡ true) → filter keep xs ≡ xs

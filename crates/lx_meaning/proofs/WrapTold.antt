@@ -1,18 +1,17 @@
 -- What wrapping, unwrapping, moving children and replacing leave.
-use Rattle.std.proofs.Common.{◌≡◌, ◌≢◌, ◌∙◌, ℕ, Bool, true, false, cond, eqb, List, [], ◌∷◌, ◌++◌, Option, None, Some, Ok, refl, sym, ap, ap₂, subst, arith}
+use Rattle.std.proofs.Common.{◌≡◌, ◌≢◌, ◌∙◌, ℕ, Bool, true, false, cond, List, [], ◌∷◌, ◌++◌, Option, None, Some, Ok, refl, sym, ap, ap₂, subst, arith, Result}
 use Rattle.std.specs.Option.{option_or}
 use Rattle.std.proofs.lemmas.Bool.Decides.{eqb_tells}
 use Rattle.lx_node.specs.Kinds.{is_element}
 use Rattle.lx_node.specs.Siblings.{is_among, names_without, names_with}
 use Rattle.lx_node.specs.declared.cause.Point.{Point}
+use Rattle.lx_node.specs.declared.cause.Cause.{Cause}
 use Rattle.lx_select.specs.Selection.{ends_of}
 use Rattle.lx_node.proofs.Siblings.{is_among-names_with, names_without-absent_list}
 use Rattle.lx_forest.specs.Forest.{Forest}
 use Rattle.lx_forest.specs.Lookups.{kind_of, parent_of, children_of, size_of, index_of, ancestors, IsForest}
 use Rattle.lx_forest.specs.Edits.{take_out}
-use Rattle.lx_forest.proofs.Lookups.{NoRepeats-children_of, parent_of-self, parent_of-put_in, children_of-put_in, children_of-take_out}
-use Rattle.lx_forest.proofs.Order.{IsForest-put_in}
-use Rattle.lx_forest.proofs.Within.{is_within-self}
+use Rattle.lx_forest.proofs.Lookups.{NoRepeats-children_of, parent_of-self, children_of-take_out}
 use Rattle.lx_links.specs.Faults.{unknown, not_below}
 use Rattle.lx_draft.specs.Working.{Working}
 use Rattle.lx_draft.specs.Selecting.{unlike}
@@ -28,7 +27,8 @@ use Rattle.lx_edit.proofs.Climbed.{first_part}
 use Rattle.lx_meaning.specs.Reading.{text_at, read_below, in_place_of}
 use Rattle.lx_meaning.proofs.WrapLists.{in_its_place}
 use Rattle.lx_meaning.proofs.WrapSteps.{was_allowed, was_same, has_above, was_put_before, before_below, silent_element}
-use Rattle.lx_meaning.proofs.WrapTurns.{own, not_child, CameBehind, came_behind, came_before, removed_alone, removed_read}
+use Rattle.lx_meaning.proofs.WrapBeside.{not_child, beside, MayStandBefore, not_new, not_self, apart, beside-order, beside-up, beside-up_new, beside-elsewhere}
+use Rattle.lx_meaning.proofs.WrapTurns.{CameBehind, came_behind, came_before, removed_alone, removed_read}
 
 -- ---- children that go elsewhere
 
@@ -53,41 +53,80 @@ texts_pointed-forest : (k with : ℕ) (w : Working) → (texts_pointed k with w)
 unfolding texts_pointed
 texts_pointed-forest k with w = points_only _ _ w
 
--- Put before it, the second gets its children; then the first is removed, and nothing above it, since the second is there.
-pub replaced_behind : (k with : ℕ) (w v : Working) → IsForest w.forest → replace_step k with true w ≡ Ok v → children_of v.forest with ≡ children_of w.forest with ++ children_of w.forest k
+-- the second was put before the first, got its children, and the first was removed
+record WasReplaced (k with : ℕ) (w v : Working) : Type 0 where
+  parent : ℕ
+  may : MayStandBefore w.forest parent k with
+  mid : Working
+  put : mid.forest ≡ beside parent k with w.forest
+  moved : Working
+  each : children_step k with mid ≡ Ok moved
+  last : Working
+  same : last.forest ≡ moved.forest
+  gone : remove_step k last ≡ Ok v
+
+was_replaced : (k with : ℕ) (w v : Working) → IsForest w.forest → replace_step k with true w ≡ Ok v → WasReplaced k with w v
 unfolding replace_step
-replaced_behind k with w v h e =
-    let f : Forest = w.forest in
-    let allowed = was_allowed (replace_fault k with true f) w v (λ x. after (put_before_step with k x) (λ put. after (kept true k with put) (λ moved. remove_step k (texts_pointed k with moved)))) e in
-    let a = first_part (put_before_step with k w) (λ put. after (kept true k with put) (λ moved. remove_step k (texts_pointed k with moved))) v allowed.1 in
-    let b = first_part (children_step k with a.0) (λ moved. remove_step k (texts_pointed k with moved)) v a.2 in
+was_replaced k with w v h e =
+    let then : Working → Result Working Cause = λ moved. remove_step k (texts_pointed k with moved) in
+    let allowed = was_allowed (replace_fault k with true w.forest) w v (λ x. after (put_before_step with k x) (λ put. after (kept true k with put) then)) e in
+    let a = first_part (put_before_step with k w) (λ put. after (kept true k with put) then) v allowed.1 in
+    let b = first_part (children_step k with a.0) then v a.2 in
     let below = before_below with k w a.0 a.1 in
-    let p : ℕ = below.0 in
-    let up : parent_of f k ≡ Some p = below.1 in
-    let put = was_put_before with k p w a.0 h up a.1 in
-    let g : Forest = a.0.forest in
-    let order : IsForest g = subst IsForest (sym put.1) (IsForest-put_in p (Some k) with f h put.0) in
-    let not_with : p ≢ with = λ x. absurd (grind (arith, x, put.0.outside, is_within-self f with, put.0.there)) in
-    let not_self : p ≢ k = λ x. absurd (grind (arith, x, up, parent_of-self f k h, eqb_tells p k)) in
-    let apart : k ≢ with = λ x. absurd (grind (arith, x, up, put.0.detached)) in
-    let ups : (q : ℕ) → parent_of g q ≡ cond (eqb q with) (Some p) (parent_of f q) = λ q. ap (λ x. parent_of x q) put.1 ∙ parent_of-put_in p (Some k) with f q h put.0 in
-    let belows : (q : ℕ) → p ≢ q → children_of g q ≡ children_of f q =
-    λ q other. ap (λ x. children_of x q) put.1 ∙ children_of-put_in p (Some k) with f q h put.0 ∙ grind (arith, other, eqb_tells q p) in
-    let came = children_behind k with a.0 b.0 order apart b.1 in
-    let up_k : parent_of g k ≡ Some p = ups k ∙ grind (arith, up, apart, eqb_tells k with) in
-    let up_with : parent_of g with ≡ Some p = ups with ∙ ap (λ t. cond t (Some p) (parent_of f with)) (own with) in
-    let still_k : parent_of b.0.forest k ≡ Some p = came.up k (not_child g k p k order up_k not_self) ∙ up_k in
-    let still_with : parent_of b.0.forest with ≡ Some p = came.up with (not_child g with p k order up_with not_self) ∙ up_with in
-    let x : Working = texts_pointed k with b.0 in
-    let same : x.forest ≡ b.0.forest = texts_pointed-forest k with b.0 in
-    let order_x : IsForest x.forest = subst IsForest (sym same) came.in_order in
-    let gone : v.forest ≡ take_out k x.forest = removed_alone k p with x v order_x (ap (λ y. parent_of y k) same ∙ still_k)
-    (child_of x.forest p with order_x (ap (λ y. parent_of y with) same ∙ still_with)) (λ y. apart (sym y)) b.2 in
-    ap (λ y. children_of y with) (gone ∙ ap (take_out k) same)
-    ∙ children_of-take_out k b.0.forest with came.in_order
-    ∙ names_without-absent_list k (children_of b.0.forest with) (not_child b.0.forest k p with came.in_order still_k not_with)
-    ∙ came.there
-    ∙ ap₂ ◌++◌ (belows with not_with) (belows k not_self)
+    let put = was_put_before with k below.0 w a.0 h below.1 a.1 in
+    record {
+      parent = below.0;
+      may = record { in_order = h; up = below.1; can = put.0 };
+      mid = a.0;
+      put = put.1;
+      moved = b.0;
+      each = b.1;
+      last = texts_pointed k with b.0;
+      same = texts_pointed-forest k with b.0;
+      gone = b.2;
+    }
+
+module _ (k with : ℕ) (w v : Working) (r : WasReplaced k with w v) where
+  put_order : IsForest r.mid.forest
+  put_order = subst IsForest (sym r.put) (beside-order w.forest r.parent k with r.may)
+
+  -- neither has another parent when the children have gone
+  put_up : parent_of r.mid.forest k ≡ Some r.parent
+  put_up = ap (λ f. parent_of f k) r.put ∙ beside-up w.forest r.parent k with r.may
+
+  put_up_with : parent_of r.mid.forest with ≡ Some r.parent
+  put_up_with = ap (λ f. parent_of f with) r.put ∙ beside-up_new w.forest r.parent k with r.may
+
+  went : CameBehind r.mid.forest r.moved.forest with (children_of r.mid.forest k)
+  went = children_behind k with r.mid r.moved put_order (apart w.forest r.parent k with r.may) r.each
+
+  stays_put : (q : ℕ) → parent_of r.mid.forest q ≡ Some r.parent → parent_of r.last.forest q ≡ Some r.parent
+  stays_put q up =
+      ap (λ f. parent_of f q) r.same
+      ∙ went.up q (not_child r.mid.forest q r.parent k put_order up (not_self w.forest r.parent k with r.may))
+      ∙ up
+
+  -- nothing above goes too, since the second is there
+  gone_alone : v.forest ≡ take_out k r.last.forest
+  gone_alone =
+      let order : IsForest r.last.forest = subst IsForest (sym r.same) went.in_order in
+      removed_alone k r.parent with r.last v order (stays_put k put_up) (child_of r.last.forest r.parent with order (stays_put with put_up_with)) (λ e. apart w.forest r.parent k with r.may (sym e)) r.gone
+
+  left_with : children_of v.forest with ≡ children_of r.moved.forest with
+  left_with =
+      let up : parent_of r.moved.forest k ≡ Some r.parent = ap (λ f. parent_of f k) (sym r.same) ∙ stays_put k put_up in
+      ap (λ f. children_of f with) (gone_alone ∙ ap (take_out k) r.same)
+      ∙ children_of-take_out k r.moved.forest with went.in_order
+      ∙ names_without-absent_list k (children_of r.moved.forest with) (not_child r.moved.forest k r.parent with went.in_order up (not_new w.forest r.parent k with r.may))
+
+  children_kept : children_of v.forest with ≡ children_of w.forest with ++ children_of w.forest k
+  children_kept =
+      let before : (q : ℕ) → r.parent ≢ q → children_of r.mid.forest q ≡ children_of w.forest q =
+      λ q other. ap (λ f. children_of f q) r.put ∙ beside-elsewhere w.forest r.parent k with r.may q (λ e. other (sym e)) in
+      left_with ∙ went.there ∙ ap₂ ◌++◌ (before with (not_new w.forest r.parent k with r.may)) (before k (not_self w.forest r.parent k with r.may))
+
+pub replaced_behind : (k with : ℕ) (w v : Working) → IsForest w.forest → replace_step k with true w ≡ Ok v → children_of v.forest with ≡ children_of w.forest with ++ children_of w.forest k
+replaced_behind k with w v h e = children_kept k with w v (was_replaced k with w v h e)
 
 -- ---- unwrapped
 

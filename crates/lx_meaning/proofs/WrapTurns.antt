@@ -9,7 +9,7 @@ use Rattle.lx_node.proofs.Siblings.{is_among-append, is_among-names_without, nam
 use Rattle.lx_forest.specs.Forest.{Forest}
 use Rattle.lx_forest.specs.Lookups.{label_of, kind_of, parent_of, children_of, size_of, ancestors, IsForest}
 use Rattle.lx_forest.specs.Edits.{take_out}
-use Rattle.lx_forest.proofs.Lookups.{is_among-children_of, NoRepeats-children_of, parent_of-self, children_of-take_out}
+use Rattle.lx_forest.proofs.Lookups.{NoRepeats-children_of, parent_of-self, children_of-take_out}
 use Rattle.lx_forest.proofs.Order.{IsForest-take_out}
 use Rattle.lx_forest.proofs.Walks.{ancestors-step}
 use Rattle.lx_node.specs.declared.cause.Cause.{Cause}
@@ -22,18 +22,9 @@ use Rattle.lx_edit.specs.Texts.{text_or_none}
 use Rattle.lx_edit.proofs.Climbed.{first_part, sent_away-forest, taken-forest}
 use Rattle.lx_meaning.specs.Reading.{text_at, read_below}
 use Rattle.lx_meaning.proofs.WrapLists.{names_with-twice, names_with-none, names_with-end}
+use Rattle.lx_meaning.proofs.WrapBeside.{own, not_child}
 use Rattle.lx_meaning.proofs.WrapReads.{HasFirst, first_up, first_other, read_brought, read_without_leaf}
 use Rattle.lx_meaning.proofs.WrapSteps.{was_same, WasMoved, was_moved_to_end, was_moved_before, IsForest-moved, label_of-moved, parent_of-moved, children_of-moved, silent_gone}
-
-pub own : (q : ℕ) → eqb q q ≡ true
-own q = grind (arith, eqb_tells q q)
-
-pub different : (q k : ℕ) → q ≢ k → eqb q k ≡ false
-different q k other = grind (arith, other, eqb_tells q k)
-
--- a node stands below one parent alone
-pub not_child : (f : Forest) (k p q : ℕ) → IsForest f → parent_of f k ≡ Some p → p ≢ q → is_among k (children_of f q) ≡ false
-not_child f k p q h up other = is_among-children_of f k q h ∙ rw up (grind (arith, other, eqb_tells q p))
 
 -- ---- to the end of a node's children
 
