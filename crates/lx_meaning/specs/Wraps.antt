@@ -1,6 +1,6 @@
 -- What it means to wrap a node, to unwrap it, to replace it, and to move its children.
 use Rattle.std.specs.Prelude.{ℕ, ◌≡◌, ◌≢◌, ◌++◌, true, [], ◌∷◌, Some, Ok}
-use Rattle.lx_forest.specs.Lookups.{has, spot, parent_of, children_of}
+use Rattle.lx_forest.specs.Lookups.{parent_of, children_of}
 use Rattle.lx_draft.specs.Working.{Working}
 use Rattle.lx_draft.specs.Covering.{IsReady}
 use Rattle.lx_edit.specs.Edits.{children_step, replace_step, wrap_step, unwrap_step}
@@ -18,16 +18,15 @@ pub record WrapsAreTold : Type 0 where
   pub place : (k outer : ℕ) (w v : Working) (p : ℕ) → IsWrapped k outer w v → parent_of w.forest k ≡ Some p →
       children_of v.forest p ≡ in_place_of k (outer ∷ []) (children_of w.forest p)
   -- below any other node the same is read
-  pub wrap_read : (k outer : ℕ) (w v : Working) (b : ℕ) → IsWrapped k outer w v → has b w.forest ≡ true → b ≢ outer →
+  pub wrap_read : (k outer : ℕ) (w v : Working) (b : ℕ) → IsWrapped k outer w v → b ≢ outer →
       read_below v.forest b ≡ read_below w.forest b
-  pub unwrap_read : (k : ℕ) (w v : Working) (b : ℕ) → IsReady w → unwrap_step k w ≡ Ok v → has b w.forest ≡ true → b ≢ k →
+  pub unwrap_read : (k : ℕ) (w v : Working) (b : ℕ) → IsReady w → unwrap_step k w ≡ Ok v → b ≢ k →
       read_below v.forest b ≡ read_below w.forest b
   -- the children of an unwrapped node stand in its place, in their order
   pub unwrapped : (k p : ℕ) (w v : Working) → IsReady w → unwrap_step k w ≡ Ok v → parent_of w.forest k ≡ Some p → children_of w.forest k ≢ [] →
       children_of v.forest p ≡ in_place_of k (children_of w.forest k) (children_of w.forest p)
-  -- to unwrap what was wrapped gives the old tree
-  pub undone : (k outer : ℕ) (w v u : Working) (q : ℕ) → IsWrapped k outer w v → unwrap_step outer v ≡ Ok u → has q w.forest ≡ true → q ≢ outer →
-      spot u.forest q ≡ spot w.forest q
+  -- to unwrap what was wrapped gives the old forest
+  pub undone : (k outer : ℕ) (w v u : Working) → IsWrapped k outer w v → unwrap_step outer v ≡ Ok u → u.forest ≡ w.forest
   -- children that go elsewhere go behind those that are there, and keep their order
   pub moved : (from to : ℕ) (w v : Working) → IsReady w → from ≢ to → children_step from to w ≡ Ok v →
       children_of v.forest to ≡ children_of w.forest to ++ children_of w.forest from

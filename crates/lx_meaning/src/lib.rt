@@ -5,6 +5,8 @@
 
 mod joins;
 mod splits;
+mod wraps;
 
 pub use joins::joins_are_told;
 pub use splits::splits_are_told;
+pub use wraps::wraps_are_told;
