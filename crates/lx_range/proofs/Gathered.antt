@@ -21,11 +21,11 @@ gathered_on test stop q rest made more whole other is so_far =
     ∙ ap (λ xs. made ++ xs) (sym (filter_first test q (until stop rest)))
     ∙ ap (λ b. made ++ filter test (cond b [] (q ∷ until stop rest))) (sym other) ∙ so_far
 
-next_left : (o : Option (ℕ × ℕ)) (f : Forest) (q : ℕ) → IfSome o (λ next. from f q ≡ q ∷ from f next.0) → IfNone o (from f q ≡ q ∷ []) → from f q ≡ q ∷ left_from f o
+pub next_left : (o : Option (ℕ × ℕ)) (f : Forest) (q : ℕ) → IfSome o (λ next. from f q ≡ q ∷ from f next.0) → IfNone o (from f q ≡ q ∷ []) → from f q ≡ q ∷ left_from f o
 next_left None f q next last = last
 next_left (Some at) f q next last = next
 
-next_at : (o : Option (ℕ × ℕ)) (f : Forest) → IfSome o (λ next. depth f next.0 ≡ Some next.1) → IsAt f o
+pub next_at : (o : Option (ℕ × ℕ)) (f : Forest) → IfSome o (λ next. depth f next.0 ≡ Some next.1) → IsAt f o
 next_at None f e = tt
 next_at (Some at) f e = e
 

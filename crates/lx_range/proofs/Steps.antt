@@ -1,10 +1,10 @@
 -- The first node behind a point, as a step of a walk.
-use Rattle.std.proofs.Common.{◌≡◌, ◌∙◌, ℕ, ◌+◌, ◌<◌, ◌^◌, true, Option, None, Some, refl, sym, ap, arith}
-use Rattle.std.specs.Prelude.{option_map, slice_get}
+use Rattle.std.proofs.Common.{◌≡◌, ◌∙◌, ℕ, ◌+◌, ◌<◌, ◌^◌, true, [], ◌∷◌, Option, None, Some, refl, sym, ap, arith}
+use Rattle.std.specs.Prelude.{option_map, slice_get, drop, IfSome, IfNone}
 use Rattle.lx_node.specs.Siblings.{first_of}
 use Rattle.lx_node.proofs.Positions.{is_among-slice_get}
 use Rattle.lx_forest.specs.Forest.{Forest}
-use Rattle.lx_forest.specs.Lookups.{has, parent_of, children_of, is_attached, depth, IsForest}
+use Rattle.lx_forest.specs.Lookups.{has, parent_of, children_of, is_attached, depth, from, IsForest}
 use Rattle.lx_forest.proofs.Walks.{depth-step}
 use Rattle.lx_links.specs.Stands.{Sound}
 use Rattle.lx_links.proofs.Ordered.{there_within, deep}
@@ -13,6 +13,7 @@ use Rattle.lx_links.proofs.Up.{in_order, in_order_at, few_up}
 use Rattle.lx_node.specs.declared.cause.Point.{Point}
 use Rattle.lx_range.specs.Places.{until, nodes_behind}
 use Rattle.lx_range.specs.Walks.{left_from, IsAt, key_of_step}
+use Rattle.lx_range.proofs.Gathered.{next_left, next_at}
 use Rattle.lx_range.proofs.Stretches.{first_from}
 
 -- what is attached is there, and its forest is in order
@@ -47,3 +48,9 @@ pub left_until : (f : Forest) (start end : Point) (from_step stop : Option (ℕ 
     until (key_of_step stop) (left_from f from_step) ≡ until (first_of (nodes_behind f end)) (nodes_behind f start)
 left_until f start end from_step stop at left is =
     ap (λ ks. until (key_of_step stop) ks) left ∙ ap (λ o. until o (nodes_behind f start)) (first_left f stop at ∙ ap first_of is)
+
+-- the first node behind one, as a step that the walk takes from it
+pub next_key : (o : Option (ℕ × ℕ)) (f : Forest) (q : ℕ) → IfSome o (λ next. from f q ≡ q ∷ from f next.0) → IfNone o (from f q ≡ q ∷ []) → IfSome o (λ next. depth f next.0 ≡ Some next.1) →
+    key_of_step o ≡ first_of (drop 1 (from f q))
+next_key o f q next last deep =
+    first_left f o (next_at o f deep) ∙ ap (λ ks. first_of (drop 1 ks)) (sym (next_left o f q next last))

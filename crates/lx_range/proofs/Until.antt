@@ -28,7 +28,7 @@ pub until_without : (end : ℕ) (xs : List ℕ) → is_among end (until (Some en
 until_without end [] = refl
 until_without end (x ∷ xs) = grind (arith, until_without end xs)
 
-until_none : (xs : List ℕ) → until None xs ≡ xs
+pub until_none : (xs : List ℕ) → until None xs ≡ xs
 until_none [] = refl
 until_none (x ∷ xs) = ap (λ ys. x ∷ ys) (until_none xs)
 

@@ -1,4 +1,6 @@
 pub mod Blocks
+pub mod Lines
+pub mod Making
 pub mod Places
 pub mod Ranges
 pub mod Walks

@@ -1,69 +1,22 @@
 //! Text blocks, frames and lines.
 
-ghost use Rattle.std.specs.Prelude.{◌≡◌, ◌∷◌, IfOk, find};
+ghost use Rattle.std.specs.Prelude.{◌≡◌, ◌∷◌, true, IfOk, IfSome, find};
 ghost use Rattle.std.specs.List.{list_any};
 ghost use Rattle.lx_node.specs.Kinds as kinds;
 ghost use Rattle.lx_forest.specs.Lookups as lookups;
+ghost use Rattle.lx_links.specs.Stands.{Sound};
 ghost use Rattle.lx_range.specs.Blocks as blocks;
 
+use crate::kinds::{is_block_at, is_cell_at, is_inline_at};
 use lx_links::Links;
-use lx_node::{Key, Kind, NoMemory};
+use lx_node::{Key, NoMemory};
 use std::alloc::Global;
-
-fn is_block_at(links: &Links, key: Key) -> bool
-    ensures { result ≡ blocks.is_at kinds.is_text_block links.now key }
-{
-    match links.kind(key) {
-        Some(kind) => kind.is_text_block(),
-        None => false,
-    }
-}
-
-/// Whether it is a node that stands in a line of text.
-pub fn is_inline_at(links: &Links, key: Key) -> bool
-    ensures { result ≡ blocks.is_at kinds.is_inline links.now key }
-{
-    match links.kind(key) {
-        Some(kind) => kind.is_inline(),
-        None => false,
-    }
-}
-
-fn is_rule_or_table(kind: Kind) -> bool
-    ensures { result ≡ blocks.is_rule_or_table kind }
-{
-    matches!(kind, Kind::Table | Kind::Rule)
-}
-
-/// Whether it is a horizontal rule or a table: what stands among lines, and is none.
-pub fn is_rule_or_table_at(links: &Links, key: Key) -> bool
-    ensures { result ≡ blocks.is_at blocks.is_rule_or_table links.now key }
-{
-    match links.kind(key) {
-        Some(kind) => is_rule_or_table(kind),
-        None => false,
-    }
-}
-
-#[tactic(auto, unfolding(lx_node::specs::Kinds::is_cell))]
-fn is_cell(kind: Kind) -> bool
-    ensures { result ≡ kinds.is_cell kind }
-{
-    matches!(kind, Kind::Cell)
-}
-
-fn is_cell_at(links: &Links, key: Key) -> bool
-    ensures { result ≡ blocks.is_at kinds.is_cell links.now key }
-{
-    match links.kind(key) {
-        Some(kind) => is_cell(kind),
-        None => false,
-    }
-}
 
 /// The text block of a node: itself, or the nearest above it.
 pub fn block(links: &Links, key: Key) -> Option<Key>
-    ensures { result ≡ blocks.block_of links.now key }
+    ensures block { result ≡ blocks.block_of links.now key }
+    ensures attached { lookups.is_attached links.now key ≡ true → IfSome result (λ block. lookups.is_attached links.now block ≡ true) }
+    ensures sound { Sound links.now }
 {
     let mut at = key;
     while !is_block_at(links, at) {
@@ -92,7 +45,8 @@ fn cell_from(links: &Links, key: Key) -> Option<Key>
 /// The frame of a node: the nearest cell above it.
 #[tactic(auto, using(crate::proofs::Up::frame_up, crate::proofs::Up::frame_top))]
 pub fn frame(links: &Links, key: Key) -> Option<Key>
-    ensures { result ≡ blocks.frame_of links.now key }
+    ensures frame { result ≡ blocks.frame_of links.now key }
+    ensures sound { Sound links.now }
 {
     match links.parent(key) {
         Some(parent) => cell_from(links, parent),

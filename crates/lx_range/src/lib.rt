@@ -4,13 +4,23 @@
 #![tactic(auto)]
 
 mod blocks;
+mod kinds;
+mod lines;
+mod making;
 mod places;
 mod ranges;
 mod walks;
 
-pub use blocks::{block, frame, is_inline_at, is_line, is_rule_or_table_at, leading, same_node};
+pub use blocks::{block, frame, is_line, leading, same_node};
+pub use kinds::{
+    has_characters_at, is_element_at, is_inline_at, is_item_at, is_link_at, is_rule_or_table_at,
+    is_text_at,
+};
+pub use lines::selected_lines;
+pub use making::{make_like, node_at};
 pub use places::{children_before, comes_first};
 pub use ranges::{
-    Ranged, in_order, is_collapsed, is_normal_at, normal_at, place_caret, range_of, shown_range,
+    Ranged, in_order, is_collapsed, is_normal_at, no_range, normal_at, place_caret, range_of,
+    shown_range,
 };
 pub use walks::{covered, first_behind, last_before, outermost, previous_in_tree};

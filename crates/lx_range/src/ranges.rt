@@ -41,7 +41,8 @@ fn is_fit(draft: &Draft, anchor: &Point, focus: &Point) -> bool
         && same_node(frame(links, anchor.key), frame(links, focus.key))
 }
 
-fn no_range(kind: SelectionKind) -> Fault
+/// Why a command is refused that needs a range, by what the selection is.
+pub fn no_range(kind: SelectionKind) -> Fault
     ensures { result ≡ fault.Cause (NoSelection kind) }
 {
     Fault::Cause(Cause::NoSelection(kind))

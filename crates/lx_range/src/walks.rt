@@ -29,7 +29,7 @@ pub fn first_behind(links: &Links, point: &Point) -> Option<(Key, u32)>
     }
 }
 
-fn is_stop(stop: &Option<(Key, u32)>, key: Key) -> bool
+pub(crate) fn is_stop(stop: &Option<(Key, u32)>, key: Key) -> bool
     ensures { result ≡ is_named (walks.key_of_step stop.now) key }
 {
     match stop {

@@ -1,7 +1,8 @@
-use Rattle.std.proofs.Common.{◌∙◌, sym, arith}
+use Rattle.std.proofs.Common.{◌∙◌, Some, sym, arith}
 use Rattle.lx_node.specs.Kinds.{is_text_block}
 use Rattle.lx_links.proofs.Up.{one_up}
 use Rattle.lx_range.specs.Blocks.{is_at}
+use Rattle.lx_range.proofs.Blocked.{own_block, blocks_attached}
 use Rattle.lx_range.proofs.Up.{find_up, find_top}
 use Rattle.lx_range.proofs.blocks.block.Goals as goal
 
@@ -11,9 +12,14 @@ loop-at-smaller c = omega (arith, one_up c.args.links.now c.loop-at.at c.in-Some
 pub loop-at-preserved : goal.loop-at-preserved
 loop-at-preserved c =
     c.loop-at.invariant ∙ find_up (is_at is_text_block c.args.links.now) c.args.links.now c.loop-at.at c.in-Some.parent c.parent.ensures.sound
-    (sym c.parent.ensures.parent ∙ c.in-Some.is) (sym c.is_block_at.ensures ∙ c.loop-at-test.true)
+    (sym c.parent.ensures.parent ∙ c.in-Some.is) (sym c.is_block_at.ensures.test ∙ c.loop-at-test.true)
 
-pub returns-in-None : goal.returns-in-None
-returns-in-None c =
+pub returns-in-None-clause-block : goal.returns-in-None-clause-block
+returns-in-None-clause-block c =
     sym (c.loop-at.invariant ∙ find_top (is_at is_text_block c.args.links.now) c.args.links.now c.loop-at.at (sym c.parent.ensures.parent ∙ c.in-None.is)
-    (sym c.is_block_at.ensures ∙ c.loop-at-test.true))
+    (sym c.is_block_at.ensures.test ∙ c.loop-at-test.true))
+
+pub returns-clause-attached : goal.returns-clause-attached
+returns-clause-attached c attached =
+    blocks_attached (Some c.loop-at.at) c.args.links.now c.args.key c.is_block_at.ensures.sound attached
+    (sym (c.loop-at.invariant ∙ own_block c.args.links.now c.loop-at.at (sym c.is_block_at.ensures.test ∙ c.loop-at-test.false)))
