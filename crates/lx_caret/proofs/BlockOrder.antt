@@ -21,6 +21,7 @@ use Rattle.lx_links.proofs.Ordered.{there_within}
 use Rattle.lx_range.specs.Blocks.{is_at, same_node, block_of}
 use Rattle.lx_range.specs.Places.{until}
 use Rattle.lx_range.specs.Walks.{nodes_before}
+use Rattle.lx_range.proofs.Blocked.{block_within}
 use Rattle.lx_caret.specs.Deleting.{is_leaf_in}
 
 -- ---- lists
@@ -57,13 +58,6 @@ filter_none test (x ∷ xs) none = rw (none x (first_among x xs)) (filter_none t
 pub find_none : (test : ℕ → Bool) (xs : List ℕ) → ((k : ℕ) → is_among k xs ≡ true → test k ≡ false) → find test xs ≡ None
 find_none test [] none = refl
 find_none test (x ∷ xs) none = rw (none x (first_among x xs)) (find_none test xs (λ k e. none k (more_among x k xs e)))
-
-found_among : (test : ℕ → Bool) (ks : List ℕ) (b : ℕ) → find test ks ≡ Some b → is_among b ks ≡ true
-found_among test [] b e = cc
-found_among test (k ∷ ks) b e = elim (cases_Bool (test k)) [
-  | inl here ↦ let same : k ≡ b = let h : Some k ≡ Some b = rw here at e in cc in rw same (first_among b ks)
-  | inr later ↦ more_among k b ks (found_among test ks b (rw later at e))
-]
 
 -- ---- the root's tree, cut before a node
 
@@ -134,21 +128,6 @@ behind_attached f b k h attached later =
 same_some : (o : Option ℕ) (b : ℕ) → same_node o (Some b) ≡ true → o ≡ Some b
 same_some None b e = cc
 same_some (Some a) b e = grind (arith, e, eqb_tells a b)
-
--- the block of a node has it in its tree
-block_within : (f : Forest) (k b : ℕ) → IsForest f → has k f ≡ true → block_of f k ≡ Some b → is_within f b k ≡ true
-block_within f k b h there e = is_within-ancestors f b k h there ∙ found_among (is_at is_text_block f) (k ∷ ancestors f k) b e
-
--- and is attached where it is
-block_attached : (f : Forest) (k b : ℕ) → Sound f → is_attached f k ≡ true → block_of f k ≡ Some b → is_attached f b ≡ true
-block_attached f k b s attached e =
-    let there = there_within f 0 k attached in
-    let h = in_order_at f k s there in
-    attached_above f b k h attached (block_within f k b h there e)
-
-pub blocks_attached : (o : Option ℕ) (f : Forest) (k : ℕ) → Sound f → is_attached f k ≡ true → o ≡ block_of f k → IfSome o (λ b. is_attached f b ≡ true)
-blocks_attached None f k s attached e = tt
-blocks_attached (Some b) f k s attached e = block_attached f k b s attached (sym e)
 
 not_leaf : (f : Forest) (b k : ℕ) → IsForest f → is_attached f k ≡ true → is_within f b k ≡ false → is_leaf_in f b k ≡ false
 not_leaf f b k h attached outside = elim (cases_Bool (same_node (block_of f k) (Some b))) [

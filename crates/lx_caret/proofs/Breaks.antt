@@ -31,7 +31,8 @@ use Rattle.lx_range.specs.Ranges.{lies, at_anchor, caret_at, characters_at}
 use Rattle.lx_caret.specs.Lying.{LeavesLying}
 use Rattle.lx_caret.specs.Adding.{add_step, is_inside, newest}
 use Rattle.lx_caret.specs.Removing.{remove_text_step}
-use Rattle.lx_caret.specs.Paragraphs.{place_of, before_point, holders, holders_in, cut_open, new_like, parted_at, link_parted, Parted, parted_up, Block, next_of_kind, new_next, start_of_first, moved_on, block_cut, paragraph_added, empty_item, paragraph_at, Broken, insert_paragraph_step, draft_left}
+use Rattle.lx_range.specs.Making.{new_like}
+use Rattle.lx_caret.specs.Paragraphs.{place_of, before_point, holders, holders_in, cut_open, parted_at, link_parted, Parted, parted_up, Block, next_of_kind, new_next, start_of_first, moved_on, block_cut, paragraph_added, empty_item, paragraph_at, Broken, insert_paragraph_step, draft_left}
 use Rattle.lx_caret.proofs.Lies.{least}
 use Rattle.lx_caret.proofs.Fit.{after_tells, Fit, Stays, Staying, stays_self, stays_then, stays_ok, stays_if, caret_fits, stays_new}
 use Rattle.lx_caret.proofs.Moves.{stays_behind, put_behind_in, stays_moved, moved_attached, stays_each_moved}

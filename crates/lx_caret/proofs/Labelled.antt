@@ -1,73 +1,27 @@
--- What a node that is read tells, and what the block of a key is.
-use Rattle.std.proofs.Common.{◌≡◌, ◌≢◌, ◌∙◌, ℕ, Bool, true, false, cond, List, [], ◌∷◌, Option, None, Some, option_map, Bor, refl, sym, ap, subst}
-use Rattle.std.specs.Option.{option_copied}
-use Rattle.std.specs.Prelude.{find, IfSome, IfNone}
+-- The kind of a node that is read, and what the block of a key is.
+use Rattle.std.proofs.Common.{◌≡◌, ◌≢◌, ◌∙◌, ℕ, Bool, true, false, cond, List, [], ◌∷◌, Option, None, Some, option_map, refl, sym, ap, subst}
+use Rattle.std.specs.Prelude.{find, is_some}
 use Rattle.lx_node.specs.Kinds.{is_link, is_text_block}
-use Rattle.lx_node.specs.OfKind.{IsOfKind}
 use Rattle.lx_node.specs.declared.kind.Kind.{Kind}
 use Rattle.lx_node.specs.declared.kind.Kind.TheVariants.{Root}
-use Rattle.lx_node.specs.declared.fields.Fields.{Fields}
-use Rattle.lx_node.specs.declared.node.Node.{Node}
 use Rattle.lx_forest.specs.Forest.{Forest, Label}
-use Rattle.lx_forest.specs.Lookups.{spot, label_of, siblings, ancestors}
-use Rattle.lx_forest.specs.Records.{record_at, linked}
+use Rattle.lx_forest.specs.Lookups.{has, spot, kind_of, ancestors}
+use Rattle.lx_forest.proofs.Edits.{is_some-spot}
 use Rattle.lx_node.specs.Spots.{Spot}
-use Rattle.lx_forest.specs.Suited.{is_suited}
-use Rattle.lx_forest.proofs.Lookups.{key-label_of}
-use Rattle.lx_links.specs.Stands.{node_of, Sound}
-use Rattle.lx_links.proofs.Seen.{Seen, seen_in}
 use Rattle.lx_range.specs.Blocks.{is_at, passes, block_of}
 
--- ---- labels
+-- a link is there, and isn't the root
+pub link_there : (f : Forest) (k : ℕ) → is_at is_link f k ≡ true → has k f ≡ true
+link_there f k so = by_spot (spot f k) refl where
+  by_spot : (s : Option (Spot Label)) → spot f k ≡ s → has k f ≡ true
+  by_spot None is = let no : false ≡ true = sym (ap (λ (x : Option (Spot Label)). passes is_link (option_map (λ (l : Label). l.kind) (option_map (λ (y : Spot Label). y.label) x))) is) ∙ so in absurd (cc)
+  by_spot (Some s) is = sym (is_some-spot f k) ∙ ap is_some is
 
--- the label of a node that is read
-abbrev pub labelled : ℕ → Node → Label
-labelled k n = record { key = k; kind = n.kind; fields = n.fields }
-
-label_by : (f : Forest) (k : ℕ) (n : Node) (o : Option Label) → label_of f k ≡ o → option_map (λ (l : Label). l.kind) o ≡ Some n.kind → option_map (λ (l : Label). l.fields) o ≡ Some n.fields → o ≡ Some (labelled k n)
-label_by f k n None is kind fields = absurd (cc)
-label_by f k n (Some l) is kind fields =
-    let a : l.key ≡ k = key-label_of f k l is in
-    let b : l.kind ≡ n.kind = cc in
-    let c : l.fields ≡ n.fields = cc in
-    ap (λ (x : ℕ). let made : Label = record { key = x; kind = l.kind; fields = l.fields } in Some made) a
-    ∙ ap (λ (x : Kind). let made : Label = record { key = k; kind = x; fields = l.fields } in Some made) b
-    ∙ ap (λ (x : Fields). let made : Label = record { key = k; kind = n.kind; fields = x } in Some made) c
-
-label_read : (o : Option (Bor Node)) (n : Bor Node) (f : Forest) (k : ℕ) → option_copied o ≡ option_map node_of (record_at f k) → o ≡ Some n → label_of f k ≡ Some (labelled k n.now)
-label_read o n f k read is =
-    let s : Seen f k n.now = seen_in o n f k read is in
-    label_by f k n.now (label_of f k) refl s.kind s.fields
-
-label_suits : (f : Forest) (k : ℕ) (n : Node) → Sound f → label_of f k ≡ Some (labelled k n) → IsOfKind n.kind n.fields
-label_suits f k n s is = sym (ap is_suited is) ∙ s.suited.each k
-
--- a node that is read tells the label, and its fields are of its kind
-pub labels : (o : Option (Bor Node)) (f : Forest) (k : ℕ) → option_copied o ≡ option_map node_of (record_at f k) → IfSome o (λ n. label_of f k ≡ Some (labelled k n.now))
-labels None f k read = tt
-labels (Some n) f k read = label_read (Some n) n f k read refl
-
-pub suits : (o : Option (Bor Node)) (f : Forest) (k : ℕ) → Sound f → option_copied o ≡ option_map node_of (record_at f k) → IfSome o (λ n. IsOfKind n.now.kind n.now.fields)
-suits None f k s read = tt
-suits (Some n) f k s read = label_suits f k n.now s (label_read (Some n) n f k read refl)
-
-none_by : (f : Forest) (k : ℕ) (o : Option (Spot Label)) → None ≡ option_map node_of (option_map (linked (siblings f k) k) o) → option_map (λ (s : Spot Label). s.label) o ≡ None
-none_by f k None e = refl
-none_by f k (Some s) e = absurd (cc)
-
--- where none is read, there is no label
-pub no_label : (o : Option (Bor Node)) (f : Forest) (k : ℕ) → option_copied o ≡ option_map node_of (record_at f k) → IfNone o (label_of f k ≡ None)
-no_label None f k read = none_by f k (spot f k) read
-no_label (Some n) f k read = tt
-
--- a kind that passes a test, and that isn't the root's
-pub kind_is : (test : Kind → Bool) (f : Forest) (k : ℕ) (n : Node) → label_of f k ≡ Some (labelled k n) → is_at test f k ≡ true → test n.kind ≡ true
-kind_is test f k n is so = sym (ap (λ (o : Option Label). passes test (option_map (λ l. l.kind) o)) is) ∙ so
-
-pub link_other : (kind : Kind) → is_link kind ≡ true → kind ≢ Root
+pub link_below : (f : Forest) (k : ℕ) → is_at is_link f k ≡ true → kind_of f k ≢ Some Root
 unfolding is_link
-link_other kind so is = let P : Kind → Type 0 = λ x. is_link x ≡ true in let h : false ≡ true = subst P is so in cc
+link_below f k so is = let no : false ≡ true = sym (ap (passes is_link) is) ∙ so in absurd (cc)
 
+-- neither is a block
 pub block_other : (kind : Kind) → is_text_block kind ≡ true → kind ≢ Root
 unfolding is_text_block
 block_other kind so is = let P : Kind → Type 0 = λ x. is_text_block x ≡ true in let h : false ≡ true = subst P is so in cc

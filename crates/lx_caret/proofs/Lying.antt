@@ -1,4 +1,6 @@
 -- Every command that isn't refused leaves a selection that lies in the tree.
+use Rattle.std.proofs.Common.{Result, Ok, Err}
+use Rattle.std.specs.Prelude.{IfOk, OnOk}
 use Rattle.lx_caret.specs.Laws.{SelectionsLie}
 use Rattle.lx_caret.proofs.Selected.{lies-select_all}
 use Rattle.lx_caret.proofs.Cleared.{lies-remove_text}
@@ -19,3 +21,12 @@ selections = record {
   format_text = lies-format_text;
   select_all = lies-select_all;
 }
+
+-- what follows from an answer Ok holds of it
+pub still_lies : {A E P Q : Type 0} (r : Result A E) → (P → Q) → OnOk r P → OnOk r Q
+still_lies (Ok a) leads so = leads so
+still_lies (Err e) leads so = tt
+
+pub lies_then : {A E Q : Type 0} {P : A → Type 0} (r : Result A E) → ((a : A) → P a → Q) → IfOk r P → OnOk r Q
+lies_then (Ok a) leads so = leads a so
+lies_then (Err e) leads so = tt

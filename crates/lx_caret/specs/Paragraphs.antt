@@ -27,6 +27,7 @@ use Rattle.lx_edit.specs.Texts.{split_step}
 use Rattle.lx_draft.specs.Beside.{put_behind_step}
 use Rattle.lx_edit.specs.InTurn.{in_turn}
 use Rattle.lx_range.specs.Blocks.{is_at, block_of}
+use Rattle.lx_range.specs.Making.{new_like}
 use Rattle.lx_range.specs.Places.{until}
 use Rattle.lx_range.specs.Ranges.{at_anchor, caret_at}
 use Rattle.lx_caret.specs.Adding.{add_step, is_inside, newest}
@@ -56,10 +57,6 @@ abbrev pub cut_open : Point → Working → Result Working Cause
 cut_open p w = if is_inside w.forest p p.kind then split_step p.key (p.offset ∷ []) w else Ok w
 
 -- the children of a node from an index on go into a new node like it, behind it
-abbrev pub new_like : Option Label → Working → Result Working Cause
-new_like None w = Ok w
-new_like (Some l) w = new_step l.kind l.fields w
-
 unfoldable pub parted_at : ℕ → ℕ → Working → Result Working Cause
 parted_at k index w =
     after (new_like (label_of w.forest k) w) (λ made.

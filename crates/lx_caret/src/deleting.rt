@@ -13,7 +13,6 @@ ghost use Rattle.lx_range.specs.Blocks as blocks;
 ghost use Rattle.lx_range.specs.Ranges as ranges;
 ghost use Rattle.lx_range.specs.Walks as walks;
 ghost use Rattle.lx_caret.specs.Deleting as deleting;
-ghost use Rattle.lx_caret.specs.Deleting.{delete_character_step, delete_word_step};
 ghost use Rattle.lx_caret.specs.Stretches.{reach_of, erased_to};
 
 use crate::joining::join;
@@ -23,8 +22,8 @@ use lx_edit::remove;
 use lx_links::Links;
 use lx_node::{Fault, Key, Point, PointKind};
 use lx_range::{
-    block, first_behind, is_collapsed, last_before, normal_at, previous_in_tree, range_of,
-    same_node,
+    block, first_behind, is_collapsed, is_element_at, last_before, normal_at, previous_in_tree,
+    range_of, same_node,
 };
 use lx_text::{cluster_after, cluster_before, word_after, word_before};
 use std::alloc::Global;
@@ -38,48 +37,14 @@ pub(crate) enum Stretch {
     Word,
 }
 
-/// Deletes what is selected, or else a character beside the caret: the one before it where `back` is set, and the one
-/// behind it otherwise. A character is an extended grapheme cluster, so it may be several scalar values.
-///
-/// - In a text with characters on that side, the cluster there is cut out. A tab, and a text that isn't normal, is
-///   removed whole.
-/// - Otherwise the last leaf of the block before the caret loses its last cluster, or the first leaf behind the caret its
-///   first one. A leaf without characters, as a line break, is removed, and so is a tab or a text that isn't normal.
-/// - Where the block has no such leaf, it is joined back to the line before it in the same cell, or among those in no
-///   cell. A line is a text block that is empty or has an inline child. The inline children with which the block begins go
-///   behind those of the line that stand before the block, a caret on the block goes along, and the block is removed if it
-///   is empty then. A horizontal rule that stands between is removed in place of all that, and a table stops it: nothing
-///   changes. Forward the line behind the block is joined so to the line before itself, and a rule or table behind the
-///   block does the same as one before it.
-/// - Where there is no line, rule or table on that side, or the caret is in no block, nothing changes.
-///
-/// It is refused with `NoSelection` where the selection is no range, where a point of it doesn't lie in the root's tree,
-/// and where one lies in another cell than the other; and with `StepLimit` where the update has taken its 100,000 counts.
-/// `Memory` tells that none was left. A draft on which it was refused is only fit to be dropped.
-#[tactic(auto, unfolding(crate::specs::Deleting::delete_character_step))]
-pub fn delete_character(alloc: Global, draft: &mut Draft, back: bool) -> Result<(), Fault>
-    ensures ok { OnOk result (delete_character_step back draft.old ≡ Ok draft.new) }
-    ensures err { IfErr result (λ e. TellsStep e (delete_character_step back draft.old)) }
-    ensures standing { IfErr result (λ e. StillStands e draft.new) }
-{
-    delete(alloc, draft, Stretch::Cluster, back)
-}
-
-/// Deletes what is selected, or else a word beside the caret: the one before it where `back` is set, and the one behind it
-/// otherwise, with the white space between it and the caret. Words are the pieces between the word bounds of Unicode in the
-/// text of the caret, or of the leaf, that loses them. All else is as `delete_character` does it, and it is refused for the
-/// same causes.
-#[tactic(auto, unfolding(crate::specs::Deleting::delete_word_step))]
-pub fn delete_word(alloc: Global, draft: &mut Draft, back: bool) -> Result<(), Fault>
-    ensures ok { OnOk result (delete_word_step back draft.old ≡ Ok draft.new) }
-    ensures err { IfErr result (λ e. TellsStep e (delete_word_step back draft.old)) }
-    ensures standing { IfErr result (λ e. StillStands e draft.new) }
-{
-    delete(alloc, draft, Stretch::Word, back)
-}
-
+/// Deletes what is selected, or else a stretch beside the caret.
 #[tactic(auto, unfolding(crate::specs::Deleting::delete_step))]
-fn delete(alloc: Global, draft: &mut Draft, stretch: Stretch, back: bool) -> Result<(), Fault>
+pub(crate) fn delete(
+    alloc: Global,
+    draft: &mut Draft,
+    stretch: Stretch,
+    back: bool,
+) -> Result<(), Fault>
     ensures ok { OnOk result (deleting.delete_step back (reach_of stretch back) draft.old ≡ Ok draft.new) }
     ensures err { IfErr result (λ e. TellsStep e (deleting.delete_step back (reach_of stretch back) draft.old)) }
     ensures standing { IfErr result (λ e. StillStands e draft.new) }
@@ -105,22 +70,9 @@ fn delete_at(
     ensures err { IfErr result (λ e. TellsStep e (deleting.deleted_in back (reach_of stretch back) point.now (blocks.block_of draft.old.forest point.now.key) draft.old)) }
     ensures standing { IfErr result (λ e. StillStands e draft.new) }
 {
-    match block_at(draft.links(), point.key) {
+    match block(draft.links(), point.key) {
         Some(block) => delete_in(alloc, draft, stretch, back, point, block),
         None => Ok(()),
-    }
-}
-
-/// The block of a node of the root's tree.
-fn block_at(links: &Links, key: Key) -> Option<Key>
-    requires { lookups.is_attached links.now key ≡ true }
-    ensures block { result ≡ blocks.block_of links.now key }
-    ensures attached { IfSome result (λ block. lookups.is_attached links.now block ≡ true) }
-{
-    if links.has(key) {
-        block(links, key)
-    } else {
-        None
     }
 }
 
@@ -188,32 +140,21 @@ fn reach(stretch: Stretch, back: bool, text: &str, at: u32) -> u32
     requires { is_offset at (chars text.now) ≡ true }
     ensures { result ≡ reach_of stretch back (chars text.now) at }
 {
-    match stretch {
-        Stretch::Cluster => reach_cluster(back, text, at),
-        Stretch::Word => reach_word(back, text, at),
-    }
-}
-
-fn reach_cluster(back: bool, text: &str, at: u32) -> u32
-    requires { is_offset at (chars text.now) ≡ true }
-    ensures { result ≡ deleting.cluster_reach back (chars text.now) at }
-{
-    let end = if back {
-        cluster_before(text, at)
-    } else {
-        cluster_after(text, at)
-    };
-    end.unwrap_or(at)
-}
-
-fn reach_word(back: bool, text: &str, at: u32) -> u32
-    requires { is_offset at (chars text.now) ≡ true }
-    ensures { result ≡ deleting.word_reach back (chars text.now) at }
-{
-    let end = if back {
-        word_before(text, at)
-    } else {
-        word_after(text, at)
+    let end = match stretch {
+        Stretch::Cluster => {
+            if back {
+                cluster_before(text, at)
+            } else {
+                cluster_after(text, at)
+            }
+        }
+        Stretch::Word => {
+            if back {
+                word_before(text, at)
+            } else {
+                word_after(text, at)
+            }
+        }
     };
     end.unwrap_or(at)
 }
@@ -286,16 +227,6 @@ fn edge(back: bool, length: u32) -> u32
     ensures { result ≡ deleting.edge back length }
 {
     if back { length } else { 0 }
-}
-
-fn is_element_at(links: &Links, key: Key) -> bool
-    ensures element { result ≡ blocks.is_at kinds.is_element links.now key }
-    ensures sound { Sound links.now }
-{
-    match links.kind(key) {
-        Some(kind) => kind.is_element(),
-        None => false,
-    }
 }
 
 /// Whether it is a leaf of the block.

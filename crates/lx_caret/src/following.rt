@@ -14,11 +14,10 @@ ghost use Rattle.lx_edit.specs.Standing.{StillStands};
 ghost use Rattle.lx_range.specs.Blocks as blocks;
 ghost use Rattle.lx_caret.specs.Paragraphs as paragraphs;
 
-use crate::parting::node_at;
 use lx_draft::Draft;
 use lx_links::Links;
 use lx_node::{ElementFields, Extra, Fault, Fields, Key, Kind, NoMemory, Node};
-use lx_range::is_inline_at;
+use lx_range::{is_inline_at, node_at};
 use std::alloc::Global;
 
 /// Makes the block that comes behind one, into which these nodes go, and answers its key.

@@ -158,21 +158,9 @@ fn format_pieces(
     switch_all(alloc, draft, bit, &keys)
 }
 
-/// Switches a format bit in the texts and tabs that the selected range covers. The bits are bold 1, italic 2,
-/// strikethrough 4, underline 8, code 16, subscript 32, superscript 64 and highlight 128. Where the first covered text has
-/// the bit, it is cleared in all of them, and else it is set in all. Subscript and superscript exclude each other: to set
-/// one clears the other. The range then takes the first one's format, which is that of text typed there. Where no character
-/// is covered, the bit is switched in the range's format alone.
-///
-/// A text that is covered in part is split first, so that only what is covered is formatted, and the range's points go
-/// along as `split_text` moves them. A text that isn't of normal mode is never split: it is formatted whole, and so is a
-/// tab.
-///
-/// It is refused with `NoSelection` where the selection is no range, where a point of it doesn't lie in the root's tree, and
-/// where one lies in another cell than the other; and as the edits are of which it is made, where 100,000 counts were
-/// taken, and where what was written would come above 16,777,216 scalar values.
+/// Switches a format bit in what is selected.
 #[tactic(auto, unfolding(crate::specs::Formatting::format_text_step), using(crate::proofs::Covering::start_attached, crate::proofs::Covering::end_attached))]
-pub fn format_text(alloc: Global, draft: &mut Draft, bit: u16) -> Result<(), Fault>
+pub(crate) fn format_selected(alloc: Global, draft: &mut Draft, bit: u16) -> Result<(), Fault>
     ensures ok { OnOk result (format_text_step bit draft.old ≡ Ok draft.new) }
     ensures err { IfErr result (λ e. TellsStep e (format_text_step bit draft.old)) }
     ensures standing { IfErr result (λ e. StillStands e draft.new) }

@@ -14,21 +14,15 @@ ghost use Rattle.lx_caret.specs.Inserting as inserting;
 ghost use Rattle.lx_caret.specs.Inserting.{insert_text_step, insert_line_break_step, insert_tab_step};
 
 use crate::adding::add;
-use crate::removing::remove_text;
+use crate::removing::remove_selected;
 use lx_draft::Draft;
 use lx_edit::{admitted, element_point, text_point};
 use lx_links::Links;
 use lx_node::{
     Cause, Fault, Fields, Key, Kind, Mode, NoMemory, Point, SelectionKind, TextFields, Txt,
 };
-use lx_range::{Ranged, normal_at, place_caret, shown_range};
+use lx_range::{Ranged, no_range, normal_at, place_caret, shown_range};
 use std::alloc::Global;
-
-fn no_range(kind: SelectionKind) -> Fault
-    ensures { result ≡ fault.Cause (NoSelection kind) }
-{
-    Fault::Cause(Cause::NoSelection(kind))
-}
 
 /// The range that is selected after what it covered was removed, for a step at its anchor. It is refused with `NoSelection`
 /// where no range is selected any more.
@@ -142,21 +136,14 @@ fn has_no_text(text: &str) -> bool
     text.chars().next().is_none()
 }
 
-/// Puts a text in the place of what is selected, as `remove_text` removes it, and the caret behind it. Where the anchor is then
-/// in a normal text of the selection's format, the text goes into that. Otherwise it goes into a new text of that format, and
-/// of the style of the normal text there. The new one goes between the parts of a normal text that holds the anchor strictly
-/// inside; a text that isn't normal is never cut, and the new one goes before it at offset 0, and else behind it. An empty text
-/// only removes. Offsets count the characters of `lx_text`.
-///
-/// It is refused as `remove_text` is; with `WrongKind` and the kind of what may not hold a text; and with `StepLimit` and
-/// `TooLarge` as the edits of a draft are.
+/// The text in the place of what is selected.
 #[tactic(auto, unfolding(crate::specs::Inserting::insert_text_step))]
-pub fn insert_text(alloc: Global, draft: &mut Draft, text: &str) -> Result<(), Fault>
+pub(crate) fn put_text(alloc: Global, draft: &mut Draft, text: &str) -> Result<(), Fault>
     ensures ok { OnOk result (insert_text_step (chars text.now) draft.old ≡ Ok draft.new) }
     ensures err { IfErr result (λ e. TellsStep e (insert_text_step (chars text.now) draft.old)) }
     ensures standing { IfErr result (λ e. StillStands e draft.new) }
 {
-    remove_text(alloc, draft)?;
+    remove_selected(alloc, draft)?;
     if has_no_text(text) {
         return Ok(());
     }
@@ -187,19 +174,14 @@ fn break_at(alloc: Global, draft: &mut Draft, point: &Point) -> Result<(), Fault
     Ok(())
 }
 
-/// Puts a line break in the place of what is selected, as `remove_text` removes it, and the caret behind it in its parent. It
-/// goes between the parts of a normal text that holds the anchor strictly inside; a text that isn't normal is never cut, and the
-/// break goes before it at offset 0, and else behind it.
-///
-/// It is refused as `remove_text` is; with `WrongKind` and the kind of what may not hold a line break; and with `StepLimit` and
-/// `TooLarge` as the edits of a draft are.
+/// A line break in the place of what is selected.
 #[tactic(auto, unfolding(crate::specs::Inserting::insert_line_break_step))]
-pub fn insert_line_break(alloc: Global, draft: &mut Draft) -> Result<(), Fault>
+pub(crate) fn put_line_break(alloc: Global, draft: &mut Draft) -> Result<(), Fault>
     ensures ok { OnOk result (insert_line_break_step draft.old ≡ Ok draft.new) }
     ensures err { IfErr result (λ e. TellsStep e (insert_line_break_step draft.old)) }
     ensures standing { IfErr result (λ e. StillStands e draft.new) }
 {
-    remove_text(alloc, draft)?;
+    remove_selected(alloc, draft)?;
     let range = anchored(draft)?;
     break_at(alloc, draft, &range.anchor)
 }
@@ -231,18 +213,14 @@ fn tab_at(alloc: Global, draft: &mut Draft, point: &Point, format: u16) -> Resul
     Ok(())
 }
 
-/// Puts a tab in the place of what is selected, as `remove_text` removes it, in the selection's format, and the caret behind
-/// its character. It goes where `insert_line_break` puts a line break.
-///
-/// It is refused as `remove_text` is; with `WrongKind` and the kind of what may not hold a tab; and with `StepLimit` and
-/// `TooLarge` as the edits of a draft are.
+/// A tab in the place of what is selected.
 #[tactic(auto, unfolding(crate::specs::Inserting::insert_tab_step))]
-pub fn insert_tab(alloc: Global, draft: &mut Draft) -> Result<(), Fault>
+pub(crate) fn put_tab(alloc: Global, draft: &mut Draft) -> Result<(), Fault>
     ensures ok { OnOk result (insert_tab_step draft.old ≡ Ok draft.new) }
     ensures err { IfErr result (λ e. TellsStep e (insert_tab_step draft.old)) }
     ensures standing { IfErr result (λ e. StillStands e draft.new) }
 {
-    remove_text(alloc, draft)?;
+    remove_selected(alloc, draft)?;
     let range = anchored(draft)?;
     tab_at(alloc, draft, &range.anchor, range.format)
 }

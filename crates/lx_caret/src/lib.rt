@@ -4,6 +4,7 @@
 #![tactic(auto)]
 
 mod adding;
+mod commands;
 mod deleting;
 mod following;
 mod formatting;
@@ -13,13 +14,12 @@ mod laws;
 mod paragraphs;
 mod parting;
 mod pieces;
+mod ready;
 mod removing;
 mod selecting;
 
-pub use deleting::{delete_character, delete_word};
-pub use formatting::format_text;
-pub use inserting::{insert_line_break, insert_tab, insert_text};
+pub use commands::{
+    delete_character, delete_word, format_text, insert_line_break, insert_paragraph, insert_tab,
+    insert_text, remove_text, select_all,
+};
 pub use laws::{commands_are_covered, selections_lie};
-pub use paragraphs::insert_paragraph;
-pub use removing::remove_text;
-pub use selecting::select_all;

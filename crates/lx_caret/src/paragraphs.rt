@@ -13,63 +13,26 @@ ghost use Rattle.lx_caret.specs.Paragraphs.{insert_paragraph_step};
 use crate::adding::{add, is_inside};
 use crate::following::make_next;
 use crate::parting::{children_from, part_up};
-use crate::removing::remove_text;
+use crate::ready::ready;
+use crate::removing::remove_selected;
 use lx_draft::Draft;
 use lx_edit::{admitted, element_point, move_each, split_text, text_point};
 use lx_links::Links;
 use lx_node::{Cause, Fault, Fields, Key, Kind, NoMemory, Point};
-use lx_range::{block, place_caret, shown_range};
+use lx_range::{block, has_characters_at, is_item_at, place_caret, shown_range};
 use std::alloc::Global;
 
-/// Inserts a paragraph at the caret. The selected text is removed first, as `remove_text` does it. Then the caret's block,
-/// which is the nearest paragraph, heading, quote or item from its node upwards, is cut in two: a text with the caret
-/// strictly inside is split, and then, upwards from there, each link below the block that has children on both sides.
-/// What is behind goes into a new block right behind the old one. The caret goes to the start of the new block: to offset
-/// 0 of its first child where that is a text or tab, and otherwise before its children. The selection's format stays.
-///
-/// What the new block is goes by the old one:
-///
-/// * Behind a paragraph or a heading it is of the same kind, with the fields of the old one; but where nothing goes from a
-///   heading into it, it is a paragraph of which no field is set.
-/// * Behind a quote no field of it is set. It is a paragraph where no children but texts, tabs, line breaks, links and
-///   embeds go into it, and otherwise a quote.
-/// * Behind an item it is an item with the value 1, of which else nothing is set. Where the old one has a check mark, set
-///   or not, it has one that isn't set.
-///
-/// Where the caret is in no block, an empty paragraph is added there, and the caret goes into it. Where it is in an item
-/// without children, the item is left alone and answered, since its list decides what becomes of it. Otherwise the answer
-/// is `None`.
-///
-/// It is refused as `remove_text` is, with `NoSelection` where there is no range to go by; in no block with `WrongKind`,
-/// where what is at the caret may not hold a paragraph; and as the draft's own edits are: with `StepLimit` where 100,000
-/// counts were taken, and with `TooLarge` where the new nodes would bring what was written above 16,777,216 scalar values.
-/// A draft on which it was refused is only fit to be dropped.
+/// Removes what is selected, and cuts the block at the caret in two.
 #[tactic(auto, unfolding(crate::specs::Paragraphs::insert_paragraph_step))]
-pub fn insert_paragraph(alloc: Global, draft: &mut Draft) -> Result<Option<Key>, Fault>
+pub(crate) fn break_block(alloc: Global, draft: &mut Draft) -> Result<Option<Key>, Fault>
     ensures ok { IfOk result (λ item. insert_paragraph_step draft.old ≡ Ok (record { draft = draft.new; item = item })) }
     ensures err { IfErr result (λ e. TellsStep e (insert_paragraph_step draft.old)) }
     ensures standing { IfErr result (λ e. StillStands e draft.new) }
 {
-    remove_text(alloc, draft)?;
+    remove_selected(alloc, draft)?;
     let item = empty_item(draft);
     break_at_caret(alloc, draft, &item)?;
     Ok(item)
-}
-
-#[tactic(auto, unfolding(lx_node::specs::Kinds::is_item))]
-fn is_item(kind: Kind) -> bool
-    ensures { result ≡ kinds.is_item kind }
-{
-    matches!(kind, Kind::Item)
-}
-
-fn is_item_at(links: &Links, key: Key) -> bool
-    ensures { result ≡ blocks.is_at kinds.is_item links.now key }
-{
-    match links.kind(key) {
-        Some(kind) => is_item(kind),
-        None => false,
-    }
 }
 
 /// The block, where it is an item without children.
@@ -142,17 +105,6 @@ fn add_paragraph(alloc: Global, draft: &mut Draft, point: &Point) -> Result<(), 
     Ok(())
 }
 
-/// Goes on where the draft hasn't failed: it is in order then, and its next key is free.
-fn ready(draft: &Draft) -> Result<(), NoMemory>
-    ensures { OnOk result (IsReady draft.now) }
-{
-    if draft.links().has_failed() {
-        Err(NoMemory)
-    } else {
-        Ok(())
-    }
-}
-
 /// Cuts a block in two at a point below it.
 #[tactic(auto, unfolding(crate::specs::Paragraphs::block_cut))]
 fn cut_block(alloc: Global, draft: &mut Draft, block: Key, point: &Point) -> Result<(), Fault>
@@ -209,14 +161,5 @@ fn start_of(links: &Links, block: Key, children: &[Key]) -> Point
             }
         }
         [] => element_point(block, 0),
-    }
-}
-
-fn has_characters_at(links: &Links, key: Key) -> bool
-    ensures { result ≡ blocks.is_at kinds.has_characters links.now key }
-{
-    match links.kind(key) {
-        Some(kind) => kind.has_characters(),
-        None => false,
     }
 }

@@ -1,8 +1,7 @@
 //! Links that are split with the block around them: each that has children on both sides of the caret.
 
-ghost use Rattle.std.specs.Prelude.{◌≡◌, ◌&&◌, ◌∷◌, true, nat_lt, Some, OnOk, IfOk, IfErr, IfSome, IfNone, drop};
+ghost use Rattle.std.specs.Prelude.{◌≡◌, ◌&&◌, ◌∷◌, true, nat_lt, Some, OnOk, IfOk, IfErr, drop};
 ghost use Rattle.lx_node.specs.Kinds as kinds;
-ghost use Rattle.lx_node.specs.OfKind.{IsOfKind};
 ghost use Rattle.lx_forest.specs.Lookups as lookups;
 ghost use Rattle.lx_draft.specs.Faults.{TellsStep};
 ghost use Rattle.lx_edit.specs.Standing.{StillStands};
@@ -13,7 +12,8 @@ ghost use Rattle.lx_caret.specs.Paragraphs as paragraphs;
 use lx_draft::Draft;
 use lx_edit::move_each;
 use lx_links::Links;
-use lx_node::{Fault, Key, Kind, NoMemory, Node, Point, PointKind};
+use lx_node::{Fault, Key, NoMemory, Point, PointKind};
+use lx_range::{is_link_at, make_like};
 use std::alloc::Global;
 
 /// How many children of its parent stand before an offset of a node: the node itself does so where it isn't 0.
@@ -87,54 +87,11 @@ pub(crate) fn children_from(
     Ok(keys)
 }
 
-#[tactic(auto, unfolding(lx_node::specs::Kinds::is_link))]
-fn is_link(kind: Kind) -> bool
-    ensures { result ≡ kinds.is_link kind }
-{
-    matches!(kind, Kind::Link)
-}
-
-fn is_link_at(links: &Links, key: Key) -> bool
-    ensures { result ≡ blocks.is_at kinds.is_link links.now key }
-{
-    match links.kind(key) {
-        Some(kind) => is_link(kind),
-        None => false,
-    }
-}
-
 /// Whether a place is among the children of a node, with some on both sides.
 fn has_both_sides(links: &Links, key: Key, index: u32) -> bool
     ensures { result ≡ (nat_lt 0 index && nat_lt index (lookups.size_of links.now key)) }
 {
     0 < index && index < links.size(key)
-}
-
-/// The node of a key, where there is one. Its fields are of its kind.
-pub(crate) fn node_at(links: &Links, key: Key) -> Option<&Node>
-    ensures label { IfSome result (λ node. lookups.label_of links.now key ≡ Some (record { key = key; kind = node.now.kind; fields = node.now.fields })) }
-    ensures suited { IfSome result (λ node. IsOfKind node.now.kind node.now.fields) }
-    ensures none { IfNone result (lookups.label_of links.now key ≡ None) }
-{
-    links.node(key)
-}
-
-/// Makes a link like another one, without children, and answers its key.
-fn make_like(alloc: Global, draft: &mut Draft, key: Key) -> Result<Key, Fault>
-    requires { blocks.is_at kinds.is_link draft.old.forest key ≡ true }
-    ensures ok { OnOk result (paragraphs.new_like (lookups.label_of draft.old.forest key) draft.old ≡ Ok draft.new) }
-    ensures key { IfOk result (λ new. new ≡ draft.old.next_key) }
-    ensures err { IfErr result (λ e. TellsStep e (paragraphs.new_like (lookups.label_of draft.old.forest key) draft.old)) }
-    ensures standing { IfErr result (λ e. StillStands e draft.new) }
-{
-    match node_at(draft.links(), key) {
-        Some(node) => {
-            let kind = node.kind;
-            let fields = node.fields.copy(alloc)?;
-            draft.new_node(kind, fields)
-        }
-        None => unreachable!(),
-    }
 }
 
 /// Moves the children of a link from an index on into a new one like it, behind it.

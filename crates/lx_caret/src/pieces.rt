@@ -16,7 +16,7 @@ use lx_draft::Draft;
 use lx_edit::split_text;
 use lx_links::Links;
 use lx_node::{Fault, Key, NoMemory, Point, PointKind};
-use lx_range::{covered, is_normal_at};
+use lx_range::{covered, has_characters_at, is_normal_at};
 use std::alloc::Global;
 
 /// The part of a text or tab from one offset to another.
@@ -81,15 +81,6 @@ fn keep_end(pieces: &mut Vec<Piece>, start: &Point, end: &Point) -> Result<(), N
             )
         }
         PointKind::Element => Ok(()),
-    }
-}
-
-fn has_characters_at(links: &Links, key: Key) -> bool
-    ensures { result ≡ blocks.is_at has_characters links.now key }
-{
-    match links.kind(key) {
-        Some(kind) => kind.has_characters(),
-        None => false,
     }
 }
 

@@ -197,18 +197,9 @@ pub(crate) fn remove_in(alloc: Global, draft: &mut Draft, range: &Ranged) -> Res
     remove_between(alloc, draft, &start, &end)
 }
 
-/// Removes what lies between the two points of the selection. First both points go to the one that comes first in the tree,
-/// from where the edits move them; where they are at one place already nothing changes. Of the texts that hold a point a normal
-/// one loses what the range covers of it. One that isn't normal, and a tab, is never cut: it goes whole if the range covers
-/// anything of it. The nodes wholly between the points go, each as by `remove`, so that what may not be left empty goes with
-/// them. Then the inline children with which the block of the second point begins go to the end of the first point's block,
-/// where both are still in the tree and neither holds the other, and the second block goes if it is empty then. Offsets count
-/// the characters of `lx_text`.
-///
-/// It is refused with `NoSelection`, and what the selection is, where that isn't a range whose points lie in the root's tree
-/// and in one table cell or in none; and with `StepLimit` as the edits of a draft are. `Memory` says that none was left.
+/// Removes what lies between the two points of the selection.
 #[tactic(auto, unfolding(crate::specs::Removing::remove_text_step))]
-pub fn remove_text(alloc: Global, draft: &mut Draft) -> Result<(), Fault>
+pub(crate) fn remove_selected(alloc: Global, draft: &mut Draft) -> Result<(), Fault>
     ensures ok { OnOk result (remove_text_step draft.old ≡ Ok draft.new) }
     ensures err { IfErr result (λ e. TellsStep e (remove_text_step draft.old)) }
     ensures standing { IfErr result (λ e. StillStands e draft.new) }

@@ -2,18 +2,17 @@
 
 ghost use Rattle.std.specs.Prelude.{◌≡◌, ◌≢◌, Some, Ok, OnOk, IfErr};
 ghost use Rattle.lx_node.specs.Trees.{nil};
-ghost use Rattle.lx_node.specs.Kinds as kinds;
 ghost use Rattle.lx_forest.specs.Lookups as lookups;
 ghost use Rattle.lx_draft.specs.Faults.{TellsStep};
 ghost use Rattle.lx_edit.specs.Standing.{StillStands};
-ghost use Rattle.lx_range.specs.Blocks as blocks;
 ghost use Rattle.lx_caret.specs.SelectAll as selecting;
 ghost use Rattle.lx_caret.specs.SelectAll.{select_all_step};
 
 use lx_draft::Draft;
 use lx_edit::{admitted, element_point, text_point};
 use lx_links::Links;
-use lx_node::{Fault, Key, Kind, Point};
+use lx_node::{Fault, Key, Point};
+use lx_range::{is_element_at, is_text_at};
 use lx_select::Selection;
 
 /// The first node without children, down first children from the root.
@@ -38,25 +37,6 @@ fn last_leaf(links: &Links) -> Key
         at = child;
     }
     at
-}
-
-#[tactic(auto, unfolding(lx_node::specs::Kinds::is_text))]
-fn is_text_at(links: &Links, key: Key) -> bool
-    ensures { result ≡ blocks.is_at kinds.is_text links.now key }
-{
-    match links.kind(key) {
-        Some(kind) => matches!(kind, Kind::Text),
-        None => false,
-    }
-}
-
-fn is_element_at(links: &Links, key: Key) -> bool
-    ensures { result ≡ blocks.is_at kinds.is_element links.now key }
-{
-    match links.kind(key) {
-        Some(kind) => kind.is_element(),
-        None => false,
-    }
 }
 
 /// The place before a node in its parent.
@@ -108,12 +88,9 @@ fn end_at(draft: &Draft, key: Key) -> Point
     }
 }
 
-/// Selects the whole content, by a range of format 0 from the start of the first leaf, down first children from the root,
-/// to the end of the last one, down last children. A text begins before its characters and ends behind them. An element
-/// without children has both at 0, and a leaf of another kind before and behind it in its parent. Offsets of texts are
-/// those of `lx_text`. It is refused as `Draft::select` is.
+/// Selects the whole content.
 #[tactic(auto, unfolding(crate::specs::SelectAll::select_all_step))]
-pub fn select_all(draft: &mut Draft) -> Result<(), Fault>
+pub(crate) fn select_content(draft: &mut Draft) -> Result<(), Fault>
     ensures ok { OnOk result (select_all_step draft.old ≡ Ok draft.new) }
     ensures err { IfErr result (λ e. TellsStep e (select_all_step draft.old)) }
     ensures standing { IfErr result (λ e. StillStands e draft.new) }

@@ -13,7 +13,7 @@ loop-at-init c =
 pub returns-then-is_stop : goal.returns-then-is_stop
 returns-then-is_stop c =
     back_found (is_stop c.args.links.now (frame_of c.args.links.now c.args.block)) c.loop-at.at c.args.links.now c.in-Some.key _ c.loop-at.invariant
-    (ap (λ within. is_stop c.args.links.now within c.in-Some.key) (sym c.frame-within.ensures) ∙ sym c.is_stop.ensures ∙ c.if-is_stop.true) c.in-Some.is
+    (ap (λ within. is_stop c.args.links.now within c.in-Some.key) (sym c.frame-within.ensures.frame) ∙ sym c.is_stop.ensures ∙ c.if-is_stop.true) c.in-Some.is
 
 pub previous_in_tree-at-requires-in-Some : goal.previous_in_tree-at-requires-in-Some
 previous_in_tree-at-requires-in-Some c =
@@ -27,7 +27,7 @@ pub loop-at-preserved : goal.loop-at-preserved
 loop-at-preserved c =
     back_on (is_stop c.args.links.now (frame_of c.args.links.now c.args.block)) c.loop-at.at c.previous_in_tree-at-in-Some.result c.args.links.now c.in-Some.key _ c.loop-at.invariant
     c.previous_in_tree-at-in-Some.ensures.others c.previous_in_tree-at-in-Some.ensures.first c.previous_in_tree-at-in-Some.ensures.attached
-    (ap (λ within. is_stop c.args.links.now within c.in-Some.key) (sym c.frame-within.ensures) ∙ sym c.is_stop.ensures ∙ c.if-is_stop.false) c.in-Some.is
+    (ap (λ within. is_stop c.args.links.now within c.in-Some.key) (sym c.frame-within.ensures.frame) ∙ sym c.is_stop.ensures ∙ c.if-is_stop.false) c.in-Some.is
 
 pub returns : goal.returns
 returns c = back_ends (is_stop c.args.links.now (frame_of c.args.links.now c.args.block)) c.loop-at.at c.args.links.now _ c.loop-at.invariant c.in_default.is

@@ -3,7 +3,7 @@ use Rattle.std.specs.List.{slice_get}
 use Rattle.lx_range.specs.Ranges.{start_of, end_of}
 use Rattle.lx_caret.specs.Formatting.{pieces}
 use Rattle.lx_caret.proofs.Edged.{edged}
-use Rattle.lx_caret.proofs.formatting.format_text.Goals as goal
+use Rattle.lx_caret.proofs.formatting.format_selected.Goals as goal
 
 pub format_pieces-requires : goal.format_pieces-requires
 format_pieces-requires c i p here behind =
