@@ -1,5 +1,4 @@
 pub mod Beside
-pub mod Blocks
 pub mod Bounded
 pub mod CaretPaths
 pub mod Composed

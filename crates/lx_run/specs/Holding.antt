@@ -10,7 +10,7 @@ use Rattle.lx_step.specs.declared.command.Payload.{Payload}
 use Rattle.lx_step.specs.declared.command.Payload.TheVariants as payload
 use Rattle.lx_step.specs.declared.listener.When.{When}
 use Rattle.lx_draft.specs.Working.{Working}
-use Rattle.lx_run.specs.Scripts.{anchor_of, block_of}
+use Rattle.lx_run.specs.Scripts.{anchor_of, block_around}
 
 -- the payload is this text
 abbrev pub is_text : List ℕ → Payload → Bool
@@ -31,7 +31,7 @@ is_type text (Some kind) = same_text text (chars (type_name kind))
 
 -- the kind of the text block in which the anchor lies
 abbrev pub block_kind : Working → Option Kind
-block_kind w = option_and_then (kind_of w.forest) (block_of w.forest (anchor_of w.selection))
+block_kind w = option_and_then (kind_of w.forest) (block_around w.forest (anchor_of w.selection))
 
 -- a condition that isn't told asks nothing
 abbrev pub if_told : (List ℕ → Bool) → Option (List ℕ) → Bool

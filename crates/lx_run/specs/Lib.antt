@@ -2,6 +2,7 @@ pub mod Appending
 pub mod Carets
 pub mod Naming
 pub mod Scripts
+pub mod Stepping
 pub mod Holding
 pub mod Running
 pub mod Refusals

@@ -3,7 +3,6 @@ use Rattle.std.specs.Prelude.{ℕ, ◌==◌, ◌||◌, Bool, false, nat_lt, if�
 use Rattle.std.specs.Option.{option_or}
 use Rattle.std.specs.FinMap.{get}
 use Rattle.lx_node.specs.Siblings.{names_without}
-use Rattle.lx_node.specs.Kinds.{is_text_block}
 use Rattle.lx_node.specs.declared.kind.Kind.{Kind}
 use Rattle.lx_node.specs.declared.fields.Fields.{Fields}
 use Rattle.lx_node.specs.declared.fields.Fields.TheVariants as fields
@@ -15,7 +14,7 @@ use Rattle.lx_node.specs.declared.cause.Point.{Point}
 use Rattle.lx_select.specs.declared.selection.Selection.{Selection}
 use Rattle.lx_select.specs.declared.selection.Selection.TheVariants as selection
 use Rattle.lx_forest.specs.Forest.{Forest, Label}
-use Rattle.lx_forest.specs.Lookups.{has, label_of, kind_of, fields_of, parent_of, children_of, size_of, is_within, ancestors}
+use Rattle.lx_forest.specs.Lookups.{has, label_of, kind_of, fields_of, parent_of, children_of, size_of, is_within}
 use Rattle.lx_links.specs.Faults.{misfit}
 use Rattle.lx_step.specs.declared.member.Member.{Member}
 use Rattle.lx_step.specs.declared.reference.Reference.{Reference}
@@ -31,6 +30,7 @@ use Rattle.lx_draft.specs.Faults.{answer, after}
 use Rattle.lx_draft.specs.Steps.{new_step, set_step, take_step, put_step, mark_step, select_step}
 use Rattle.lx_edit.specs.Edits.{remove_step, replace_step, wrap_step, unwrap_step, children_step}
 use Rattle.lx_edit.specs.Texts.{split_step, join_step}
+use Rattle.lx_range.specs.Blocks.{block_of}
 use Rattle.lx_run.specs.Appending.{appended}
 use Rattle.lx_run.specs.Naming.{Naming, names_bound}
 
@@ -53,26 +53,17 @@ abbrev pub focus_of : Selection → Option ℕ
 focus_of (selection.Range anchor focus format) = Some focus.key
 focus_of other = None
 
-abbrev pub is_text_block_in : Option Kind → Bool
-is_text_block_in None = false
-is_text_block_in (Some kind) = is_text_block kind
-
--- of these nodes, the first that is a text block
-abbrev pub first_block : Forest → List ℕ → Option ℕ
-first_block f [] = None
-first_block f (k ∷ ks) = if is_text_block_in (kind_of f k) then Some k else first_block f ks
-
--- the text block of a node: itself, or the nearest above it
-abbrev pub block_of : Forest → Option ℕ → Option ℕ
-block_of f None = None
-block_of f (Some k) = first_block f (k ∷ ancestors f k)
+-- the text block of a node, if there is one
+abbrev pub block_around : Forest → Option ℕ → Option ℕ
+block_around f None = None
+block_around f (Some k) = block_of f k
 
 -- the node of a reference, if it has one, and what is said to be unknown where it has none
 abbrev pub key_for : Reference → Scripted → Option ℕ
 key_for (reference.Key k) s = Some k
 key_for reference.Anchor s = anchor_of s.draft.selection
 key_for reference.Focus s = focus_of s.draft.selection
-key_for reference.Block s = block_of s.draft.forest (anchor_of s.draft.selection)
+key_for reference.Block s = block_around s.draft.forest (anchor_of s.draft.selection)
 key_for (reference.Name name) s = get s.names name
 
 abbrev pub said_of : Reference → Named

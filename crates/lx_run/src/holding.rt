@@ -4,9 +4,10 @@ ghost use Rattle.std.specs.Prelude.{◌≡◌, chars};
 ghost use Rattle.lx_node.specs.Same.{same_text};
 ghost use Rattle.lx_run.specs.Holding as holding;
 
-use crate::resolving::{anchor_of, block_of};
+use crate::resolving::anchor_of;
 use lx_draft::Draft;
 use lx_node::{Kind, Txt};
+use lx_range::block;
 use lx_select::Selection;
 use lx_step::{Payload, When};
 
@@ -91,7 +92,7 @@ fn block_kind(draft: &Draft) -> Option<Kind>
     ensures { result ≡ holding.block_kind draft.now }
 {
     match anchor_of(draft.selection()) {
-        Some(anchor) => match block_of(draft.links(), anchor) {
+        Some(anchor) => match block(draft.links(), anchor) {
             Some(block) => draft.links().kind(block),
             None => None,
         },

@@ -1,16 +1,15 @@
 //! The nodes that references of steps mean.
 
-ghost use Rattle.std.specs.Prelude.{◌≡◌, ◌∷◌, Ok, Some, IfOk, IfErr};
+ghost use Rattle.std.specs.Prelude.{◌≡◌, Ok, Some, IfOk, IfErr};
 ghost use Rattle.lx_node.specs.declared.cause.Cause.TheVariants.{UnknownNode};
-ghost use Rattle.lx_forest.specs.Lookups as lookups;
 ghost use Rattle.lx_draft.specs.Faults.{TellsStep, TellsFault};
 ghost use Rattle.lx_run.specs.Scripts as scripts;
 ghost use Rattle.lx_run.specs.Scripts.{scripted, resolved};
 
 use crate::names::Names;
 use lx_draft::Draft;
-use lx_links::Links;
-use lx_node::{Cause, Fault, Key, Kind, Named, NoMemory, Txt};
+use lx_node::{Cause, Fault, Key, Named, NoMemory, Txt};
+use lx_range::block;
 use lx_select::Selection;
 use lx_step::Reference;
 use std::alloc::Global;
@@ -48,7 +47,7 @@ fn key_for(draft: &Draft, names: &Names, reference: &Reference) -> Option<Key>
         Reference::Anchor => anchor_of(draft.selection()),
         Reference::Focus => focus_of(draft.selection()),
         Reference::Block => match anchor_of(draft.selection()) {
-            Some(key) => block_of(draft.links(), key),
+            Some(key) => block(draft.links(), key),
             None => None,
         },
         Reference::Name(name) => names.find(name),
@@ -72,29 +71,6 @@ fn focus_of(selection: &Selection) -> Option<Key>
         Selection::Range { focus, .. } => Some(focus.key),
         _ => None,
     }
-}
-
-fn is_text_block_in(kind: Option<Kind>) -> bool
-    ensures { result ≡ scripts.is_text_block_in kind }
-{
-    match kind {
-        Some(kind) => kind.is_text_block(),
-        None => false,
-    }
-}
-
-/// The text block of a node: itself, or the nearest above it.
-pub(crate) fn block_of(links: &Links, key: Key) -> Option<Key>
-    ensures { result ≡ scripts.first_block links.now (key ∷ lookups.ancestors links.now key) }
-{
-    let mut at = key;
-    while !is_text_block_in(links.kind(at)) {
-        match links.parent(at) {
-            Some(parent) => at = parent,
-            None => return None,
-        }
-    }
-    Some(at)
 }
 
 /// There is no such node as the reference means.

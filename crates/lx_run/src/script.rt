@@ -8,10 +8,7 @@ ghost use Rattle.lx_run.specs.Scripts.{scripted, effect_of};
 use crate::append::append_paragraph;
 use crate::names::Names;
 use crate::selecting::select_at;
-use crate::stepping::{
-    join_at, mark_at, move_children_at, new_at, put_at, remove_at, replace_at, set_at, split_at,
-    unwrap_at, wrap_at,
-};
+use crate::stepping::{NodeEdit, PairEdit, edit_node, edit_nodes, new_at, split_at};
 use lx_draft::Draft;
 use lx_node::{Cause, Fault};
 use lx_step::Step;
@@ -32,20 +29,28 @@ pub(crate) fn take_effect(
     match step {
         Step::Append(text) => append_paragraph(alloc, draft, text.as_str()),
         Step::New { kind, fields, name } => new_at(alloc, draft, names, *kind, fields, name),
-        Step::Put { node, into, index } => put_at(alloc, draft, names, node, into, *index),
-        Step::Remove(node) => remove_at(alloc, draft, names, node),
-        Step::Replace { node, with, keep } => replace_at(alloc, draft, names, node, with, *keep),
-        Step::Set { node, patch } => set_at(alloc, draft, names, node, patch),
-        Step::Mark(node) => mark_at(alloc, draft, names, node),
+        Step::Put { node, into, index } => {
+            edit_nodes(alloc, draft, names, node, into, PairEdit::Put(*index))
+        }
+        Step::Remove(node) => edit_node(alloc, draft, names, node, NodeEdit::Remove),
+        Step::Replace { node, with, keep } => {
+            edit_nodes(alloc, draft, names, node, with, PairEdit::Replace(*keep))
+        }
+        Step::Set { node, patch } => edit_node(alloc, draft, names, node, NodeEdit::Set(patch)),
+        Step::Mark(node) => edit_node(alloc, draft, names, node, NodeEdit::Mark),
         Step::Split {
             node,
             offsets,
             name,
         } => split_at(alloc, draft, names, node, offsets.items(), name),
-        Step::Join { node, with } => join_at(alloc, draft, names, node, with),
-        Step::Wrap { node, outer } => wrap_at(alloc, draft, names, node, outer),
-        Step::Unwrap(node) => unwrap_at(alloc, draft, names, node),
-        Step::Children { from, into } => move_children_at(alloc, draft, names, from, into),
+        Step::Join { node, with } => { edit_nodes(alloc, draft, names, node, with, PairEdit::Join) }
+        Step::Wrap { node, outer } => {
+            edit_nodes(alloc, draft, names, node, outer, PairEdit::Wrap)
+        }
+        Step::Unwrap(node) => edit_node(alloc, draft, names, node, NodeEdit::Unwrap),
+        Step::Children { from, into } => {
+            edit_nodes(alloc, draft, names, from, into, PairEdit::Children)
+        }
         Step::Select(chosen) => select_at(alloc, draft, names, chosen),
         Step::Do(_) | Step::Dispatch(_) | Step::Later(_) => Err(Fault::Cause(Cause::BadCommand)),
     }

@@ -3,12 +3,11 @@
 ghost use Rattle.std.specs.Prelude.{◌≡◌, ◌∷◌, Ok, Some, OnOk, IfErr, length};
 ghost use Rattle.lx_step.specs.Sound.{MayBeNew};
 ghost use Rattle.lx_draft.specs.Faults.{TellsStep};
-ghost use Rattle.lx_draft.specs.Steps.{new_step, mark_step};
-ghost use Rattle.lx_edit.specs.Edits.{remove_step, replace_step, wrap_step, unwrap_step, children_step};
-ghost use Rattle.lx_edit.specs.Texts.{join_step, split_step};
+ghost use Rattle.lx_draft.specs.Steps.{new_step};
 ghost use Rattle.lx_run.specs.Naming.{names_bound};
 ghost use Rattle.lx_run.specs.Scripts as scripts;
 ghost use Rattle.lx_run.specs.Scripts.{scripted, at_node, at_nodes, naming};
+ghost use Rattle.lx_run.specs.Stepping as stepping;
 
 use crate::names::Names;
 use crate::putting::put_node;
@@ -73,133 +72,89 @@ pub(crate) fn split_at(
     }
 }
 
-/// Puts a node among another's children.
-pub(crate) fn put_at(
+/// What a step does to one node.
+#[derive(Clone, Copy)]
+pub(crate) enum NodeEdit<'a> {
+    Remove,
+    Set(&'a Patch),
+    Mark,
+    Unwrap,
+}
+
+/// What a step does to one node and another.
+#[derive(Clone, Copy)]
+pub(crate) enum PairEdit {
+    /// The first is put among the second's children, at the index or at their end.
+    Put(Option<u64>),
+    /// The second is put in the first's place, and with `true` it gets that node's children.
+    Replace(bool),
+    /// The second's text goes behind the first's.
+    Join,
+    /// The second is put in the first's place, and the first into it.
+    Wrap,
+    /// The first's children go behind the second's.
+    Children,
+}
+
+fn edit_key(alloc: Global, draft: &mut Draft, key: Key, edit: NodeEdit<'_>) -> Result<(), Fault>
+    ensures ok { OnOk result (stepping.of_node edit.entry key draft.old ≡ Ok draft.new) }
+    ensures err { IfErr result (λ e. TellsStep e (stepping.of_node edit.entry key draft.old)) }
+{
+    match edit {
+        NodeEdit::Remove => remove(draft, key),
+        NodeEdit::Set(patch) => set_node(alloc, draft, key, patch),
+        NodeEdit::Mark => draft.mark(key),
+        NodeEdit::Unwrap => unwrap(alloc, draft, key),
+    }
+}
+
+fn edit_keys(
+    alloc: Global,
+    draft: &mut Draft,
+    key: Key,
+    other: Key,
+    edit: PairEdit,
+) -> Result<(), Fault>
+    ensures ok { OnOk result (stepping.of_pair edit key other draft.old ≡ Ok draft.new) }
+    ensures err { IfErr result (λ e. TellsStep e (stepping.of_pair edit key other draft.old)) }
+{
+    match edit {
+        PairEdit::Put(index) => put_node(draft, key, other, index),
+        PairEdit::Replace(keep) => replace(alloc, draft, key, other, keep),
+        PairEdit::Join => join_texts(alloc, draft, key, other),
+        PairEdit::Wrap => wrap(draft, key, other),
+        PairEdit::Children => move_children(alloc, draft, key, other),
+    }
+}
+
+/// Edits the node of a reference.
+pub(crate) fn edit_node(
     alloc: Global,
     draft: &mut Draft,
     names: &Names,
     node: &Reference,
-    into: &Reference,
-    index: Option<u64>,
+    edit: NodeEdit<'_>,
 ) -> Result<(), Fault>
-    ensures ok { OnOk result (at_nodes node.now into.now (λ k p. scripts.script_put_step k p index) (scripted draft.old names.now) ≡ Ok (scripted draft.new names.now)) }
-    ensures err { IfErr result (λ e. TellsStep e (at_nodes node.now into.now (λ k p. scripts.script_put_step k p index) (scripted draft.old names.now))) }
+    ensures ok { OnOk result (at_node node.now (stepping.of_node edit.entry) (scripted draft.old names.now) ≡ Ok (scripted draft.new names.now)) }
+    ensures err { IfErr result (λ e. TellsStep e (at_node node.now (stepping.of_node edit.entry) (scripted draft.old names.now))) }
 {
     let key = resolve(alloc, draft, names, node)?;
-    let parent = resolve(alloc, draft, names, into)?;
-    put_node(draft, key, parent, index)
+    edit_key(alloc, draft, key, edit)
 }
 
-pub(crate) fn remove_at(
+/// Edits the nodes of two references, which are looked for in this order.
+pub(crate) fn edit_nodes(
     alloc: Global,
     draft: &mut Draft,
     names: &Names,
     node: &Reference,
+    other: &Reference,
+    edit: PairEdit,
 ) -> Result<(), Fault>
-    ensures ok { OnOk result (at_node node.now remove_step (scripted draft.old names.now) ≡ Ok (scripted draft.new names.now)) }
-    ensures err { IfErr result (λ e. TellsStep e (at_node node.now remove_step (scripted draft.old names.now))) }
+    ensures ok { OnOk result (at_nodes node.now other.now (stepping.of_pair edit) (scripted draft.old names.now) ≡ Ok (scripted draft.new names.now)) }
+    ensures err { IfErr result (λ e. TellsStep e (at_nodes node.now other.now (stepping.of_pair edit) (scripted draft.old names.now))) }
 {
     let key = resolve(alloc, draft, names, node)?;
-    remove(draft, key)
-}
-
-pub(crate) fn replace_at(
-    alloc: Global,
-    draft: &mut Draft,
-    names: &Names,
-    node: &Reference,
-    with: &Reference,
-    keep: bool,
-) -> Result<(), Fault>
-    ensures ok { OnOk result (at_nodes node.now with.now (λ k o. replace_step k o keep) (scripted draft.old names.now) ≡ Ok (scripted draft.new names.now)) }
-    ensures err { IfErr result (λ e. TellsStep e (at_nodes node.now with.now (λ k o. replace_step k o keep) (scripted draft.old names.now))) }
-{
-    let key = resolve(alloc, draft, names, node)?;
-    let other = resolve(alloc, draft, names, with)?;
-    replace(alloc, draft, key, other, keep)
-}
-
-pub(crate) fn set_at(
-    alloc: Global,
-    draft: &mut Draft,
-    names: &Names,
-    node: &Reference,
-    patch: &Patch,
-) -> Result<(), Fault>
-    ensures ok { OnOk result (at_node node.now (scripts.script_set_step patch.now.members) (scripted draft.old names.now) ≡ Ok (scripted draft.new names.now)) }
-    ensures err { IfErr result (λ e. TellsStep e (at_node node.now (scripts.script_set_step patch.now.members) (scripted draft.old names.now))) }
-{
-    let key = resolve(alloc, draft, names, node)?;
-    set_node(alloc, draft, key, patch)
-}
-
-pub(crate) fn mark_at(
-    alloc: Global,
-    draft: &mut Draft,
-    names: &Names,
-    node: &Reference,
-) -> Result<(), Fault>
-    ensures ok { OnOk result (at_node node.now mark_step (scripted draft.old names.now) ≡ Ok (scripted draft.new names.now)) }
-    ensures err { IfErr result (λ e. TellsStep e (at_node node.now mark_step (scripted draft.old names.now))) }
-{
-    let key = resolve(alloc, draft, names, node)?;
-    draft.mark(key)
-}
-
-pub(crate) fn join_at(
-    alloc: Global,
-    draft: &mut Draft,
-    names: &Names,
-    node: &Reference,
-    with: &Reference,
-) -> Result<(), Fault>
-    ensures ok { OnOk result (at_nodes node.now with.now join_step (scripted draft.old names.now) ≡ Ok (scripted draft.new names.now)) }
-    ensures err { IfErr result (λ e. TellsStep e (at_nodes node.now with.now join_step (scripted draft.old names.now))) }
-{
-    let first = resolve(alloc, draft, names, node)?;
-    let second = resolve(alloc, draft, names, with)?;
-    join_texts(alloc, draft, first, second)
-}
-
-pub(crate) fn wrap_at(
-    alloc: Global,
-    draft: &mut Draft,
-    names: &Names,
-    node: &Reference,
-    outer: &Reference,
-) -> Result<(), Fault>
-    ensures ok { OnOk result (at_nodes node.now outer.now wrap_step (scripted draft.old names.now) ≡ Ok (scripted draft.new names.now)) }
-    ensures err { IfErr result (λ e. TellsStep e (at_nodes node.now outer.now wrap_step (scripted draft.old names.now))) }
-{
-    let key = resolve(alloc, draft, names, node)?;
-    let outer = resolve(alloc, draft, names, outer)?;
-    wrap(draft, key, outer)
-}
-
-pub(crate) fn unwrap_at(
-    alloc: Global,
-    draft: &mut Draft,
-    names: &Names,
-    node: &Reference,
-) -> Result<(), Fault>
-    ensures ok { OnOk result (at_node node.now unwrap_step (scripted draft.old names.now) ≡ Ok (scripted draft.new names.now)) }
-    ensures err { IfErr result (λ e. TellsStep e (at_node node.now unwrap_step (scripted draft.old names.now))) }
-{
-    let key = resolve(alloc, draft, names, node)?;
-    unwrap(alloc, draft, key)
-}
-
-pub(crate) fn move_children_at(
-    alloc: Global,
-    draft: &mut Draft,
-    names: &Names,
-    from: &Reference,
-    into: &Reference,
-) -> Result<(), Fault>
-    ensures ok { OnOk result (at_nodes from.now into.now children_step (scripted draft.old names.now) ≡ Ok (scripted draft.new names.now)) }
-    ensures err { IfErr result (λ e. TellsStep e (at_nodes from.now into.now children_step (scripted draft.old names.now))) }
-{
-    let from = resolve(alloc, draft, names, from)?;
-    let to = resolve(alloc, draft, names, into)?;
-    move_children(alloc, draft, from, to)
+    let other = resolve(alloc, draft, names, other)?;
+    edit_keys(alloc, draft, key, other, edit)
 }
