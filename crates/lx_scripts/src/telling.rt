@@ -5,6 +5,7 @@ use lx_draft::{Frozen, State};
 use lx_links::Links;
 use lx_marks::Marks;
 use lx_node::Key;
+use lx_range::{selected_lines, shown_range};
 use lx_reconcile::fresh;
 use lx_script::{Reply, write_reply};
 use std::alloc::Global;
@@ -16,6 +17,7 @@ pub(crate) fn tell(alloc: Global, frozen: &Frozen) -> Result<Vec<u8>> {
     write!(words, "{} keys", html.as_str())?;
     tell_keys(&frozen.state.links, &mut words)?;
     tell_selection(alloc, &frozen.state, &mut words)?;
+    tell_lines(alloc, &frozen.state, &mut words)?;
     write!(words, " next {}", frozen.next_key)?;
     tell_leaves(&frozen.marks, &mut words)?;
     tell_elements(&frozen.marks, &mut words)?;
@@ -45,6 +47,23 @@ fn tell_selection(alloc: Global, state: &State, words: &mut String) -> Result<()
     let selection = state.selection.copy(alloc)?;
     let reply = write_reply(alloc, &Reply::Selection(selection))?;
     write!(words, " {}", str::from_utf8(reply.as_slice())?)?;
+    Ok(())
+}
+
+/// The lines that a range selects.
+fn tell_lines(alloc: Global, state: &State, words: &mut String) -> Result<()> {
+    let range = match shown_range(&state.selection) {
+        Some(range) => range,
+        None => return Ok(()),
+    };
+    let links = &state.links;
+    if !links.is_attached(range.anchor.key) || !links.is_attached(range.focus.key) {
+        return Ok(());
+    }
+    words.push_str(" lines")?;
+    for key in &selected_lines(alloc, links, &range)? {
+        write!(words, " {}", key.number())?;
+    }
     Ok(())
 }
 
