@@ -19,17 +19,17 @@ use Rattle.lx_forest.specs.Edits.{take_out, with_fields}
 use Rattle.lx_forest.specs.Forest.{Forest, Label}
 use Rattle.lx_forest.specs.Lookups.{IsForest, children_below, children_of, has, index_of, kind_of, label_of, next_of, parent_of, siblings, spot}
 use Rattle.lx_links.specs.Faults.{detach_fault, unknown}
+use Rattle.lx_meaning.proofs.SplitLaws.{kind_by}
 use Rattle.lx_meaning.specs.Reading.{text_at}
 use Rattle.lx_node.proofs.Siblings.{first_of-among, is_some-index_in}
 use Rattle.lx_node.specs.Kinds.{is_text}
 use Rattle.lx_node.specs.Limits.{last_u32}
 use Rattle.lx_node.specs.Siblings.{NoRepeats, index_in, is_among, next_in}
 use Rattle.lx_node.specs.Spots.{Spot}
-use Rattle.lx_node.specs.declared.cause.Cause.TheVariants.{BadPlace, WrongKind}
+use Rattle.lx_node.specs.declared.cause.Cause.TheVariants.{BadPlace}
 use Rattle.lx_node.specs.declared.cause.Point.{Point}
 use Rattle.lx_node.specs.declared.fields.Fields.{Fields}
 use Rattle.lx_node.specs.declared.fields.TextFields.{TextFields}
-use Rattle.lx_node.specs.declared.kind.Kind.{Kind}
 use Rattle.lx_select.specs.Rules.{join_moves, splice_moves, take_moves}
 use Rattle.lx_select.specs.Selection.{each_point}
 use Rattle.lx_select.specs.declared.selection.Selection.{Selection}
@@ -161,14 +161,8 @@ next_is : (o : Option ℕ) (k : ℕ) → cond (is_key o k) None (Some (BadPlace 
 next_is None k e = absurd (cc)
 next_is (Some x) k e = grind (arith, e, eqb_tells x k)
 
-text_kind : (kind : Kind) → cond (is_text kind) None (Some (WrongKind kind)) ≡ None → kind ≡ kinds.Text
-unfolding is_text
-text_kind kinds.Text e = refl
-text_kind kind e = absurd (cc)
-
-like_text : (f : Forest) (k : ℕ) (o : Option Kind) → kind_of f k ≡ o → has k f ≡ true → unlike is_text o ≡ None → o ≡ Some kinds.Text
-like_text f k None is there e = absurd (grind (arith, is, there, is_some-kind_of f k))
-like_text f k (Some kind) is there e = ap (λ x. Some x) (text_kind kind e)
+like_text : (f : Forest) (k : ℕ) → has k f ≡ true → unlike is_text (kind_of f k) ≡ None → kind_of f k ≡ Some kinds.Text
+like_text f k there e = kind_by (kind_of f k) (is_some-kind_of f k ∙ there) e
 
 -- points that are moved twice
 each_point-then : (f g : Point → Point) (s : Selection) → each_point f (each_point g s) ≡ each_point (λ x. f (g x)) s
@@ -237,8 +231,8 @@ joined_of first second w s v h none fits spliced e =
       own = spliced.own;
       own_is = spliced.own_is;
       place = place;
-      first_text = like_text w.forest first (kind_of w.forest first) refl (known_there w.forest first none.first_there) none.first_like;
-      second_text = like_text w.forest second (kind_of w.forest second) refl (known_there w.forest second none.second_there) none.second_like;
+      first_text = like_text w.forest first (known_there w.forest first none.first_there) none.first_like;
+      second_text = like_text w.forest second (known_there w.forest second none.second_there) none.second_like;
       forest =
           taken.forest ∙ ap (take_out second) (spliced.forest ∙ ap (λ x. with_fields first x w.forest) (spliced_fields w.forest first spliced.own text spliced.own_is room));
       selection =

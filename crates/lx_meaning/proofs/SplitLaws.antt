@@ -47,7 +47,8 @@ unfolding is_text
 text_kind kinds.Text e = refl
 text_kind kind e = absurd (cc)
 
-kind_by : (o : Option Kind) → is_some o ≡ true → unlike is_text o ≡ None → o ≡ Some kinds.Text
+-- what has to be a text is one
+pub kind_by : (o : Option Kind) → is_some o ≡ true → unlike is_text o ≡ None → o ≡ Some kinds.Text
 kind_by None known e = absurd (cc)
 kind_by (Some kind) known e = by_test (is_text kind) refl e where
   by_test : (b : Bool) → is_text kind ≡ b → cond b None (Some (WrongKind kind)) ≡ None → Some kind ≡ Some kinds.Text

@@ -1,5 +1,5 @@
 -- Lists of names of which one comes before another, or leaves; and the texts of such a list.
-use Rattle.std.proofs.Common.{◌≡◌, ◌∙◌, ℕ, Bool, true, false, eqb, not, List, [], ◌∷◌, ◌++◌, None, Some, refl, sym, ap, ap₂, arith, append_assoc, inl, inr}
+use Rattle.std.proofs.Common.{◌≡◌, ◌∙◌, ℕ, Bool, true, false, eqb, not, List, [], ◌∷◌, ◌++◌, None, Some, refl, sym, ap, ap₂, arith, inl, inr}
 use Rattle.std.specs.List.{filter}
 use Rattle.std.proofs.lemmas.List.Elements.{filter-append}
 use Rattle.std.proofs.lemmas.Bool.Decides.{eqb_tells}
@@ -8,6 +8,7 @@ use Rattle.lx_node.proofs.Siblings.{is_among-append, names_without-absent_list}
 use Rattle.lx_node.proofs.NamedTrees.{names_without-append}
 use Rattle.lx_forest.specs.Forest.{Forest}
 use Rattle.lx_forest.specs.Lookups.{key_of}
+use Rattle.lx_meaning.proofs.Reading.{texts_of-append}
 use Rattle.lx_meaning.specs.Reading.{text_at, texts_of, in_place_of}
 
 -- ---- without repeats
@@ -89,10 +90,6 @@ moved_ahead keep k new rest (x ∷ front) says u =
     rw (stays, other) (ap (λ ys. x ∷ ys) (moved_ahead keep k new rest front says u.1))
 
 -- ---- what is read of a list
-
-pub texts_of-append : (f : Forest) (xs ys : List ℕ) → texts_of f (xs ++ ys) ≡ texts_of f xs ++ texts_of f ys
-texts_of-append f [] ys = refl
-texts_of-append f (x ∷ xs) ys = ap (λ t. text_at f x ++ t) (texts_of-append f xs ys) ∙ sym (append_assoc (text_at f x) (texts_of f xs) (texts_of f ys))
 
 -- names that have no text may leave
 pub texts_of-filter : (f : Forest) (keep : ℕ → Bool) (xs : List ℕ) → ((q : ℕ) → keep q ≡ false → text_at f q ≡ []) → texts_of f (filter keep xs) ≡ texts_of f xs
