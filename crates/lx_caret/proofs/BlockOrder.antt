@@ -1,20 +1,18 @@
 -- Which nodes stand before a block, and which behind it.
 use Rattle.std.proofs.Common.{◌≡◌, ◌∙◌, ℕ, Bool, true, false, not, ◌&&◌, ◌||◌, eqb, List, [], ◌∷◌, ◌++◌, Option, None, Some, refl, sym, ap, subst, inl, inr, arith}
-use Rattle.std.specs.Prelude.{find, filter, IfSome}
+use Rattle.std.specs.Prelude.{find, filter}
 use Rattle.std.proofs.lemmas.Bool.{cases_Bool}
 use Rattle.std.proofs.lemmas.Bool.Decides.{eqb_tells}
 use Rattle.lx_node.specs.NamedTrees as named
 use Rattle.lx_node.specs.Siblings.{first_of, is_among, NoRepeats}
-use Rattle.lx_node.specs.Kinds.{is_element, is_text_block}
+use Rattle.lx_node.specs.Kinds.{is_element}
 use Rattle.lx_node.proofs.Siblings.{is_among-append}
 use Rattle.lx_node.proofs.NamedTrees.{is_among-preorder, count-without-alone}
 use Rattle.lx_node.proofs.Subtrees.{alone-alone}
 use Rattle.lx_rooted.proofs.Cuts.{preorder-cut}
 use Rattle.lx_forest.specs.Forest.{Forest}
-use Rattle.lx_forest.specs.Lookups.{key_of, has, alone, children_of, ancestors, is_within, is_attached, preorder, from, behind, IsForest}
+use Rattle.lx_forest.specs.Lookups.{key_of, alone, children_of, is_within, is_attached, preorder, from, behind, IsForest}
 use Rattle.lx_forest.proofs.Walks.{tree_distinct, is_among-preorder_of, NoRepeats-preorder_of, from-child, from-leaf}
-use Rattle.lx_forest.proofs.Within.{is_within-ancestors}
-use Rattle.lx_forest.proofs.Up.{attached_above}
 use Rattle.lx_links.specs.Stands.{Sound}
 use Rattle.lx_links.proofs.Up.{in_order_at}
 use Rattle.lx_links.proofs.Ordered.{there_within}

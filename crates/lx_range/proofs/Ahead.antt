@@ -1,5 +1,5 @@
 -- A walk up to a stop that may be nowhere ahead.
-use Rattle.std.proofs.Common.{◌≡◌, ◌∙◌, ℕ, ◌+◌, Bool, true, false, ◌&&◌, List, [], ◌∷◌, ◌++◌, Option, None, Some, refl, sym, ap}
+use Rattle.std.proofs.Common.{◌≡◌, ◌∙◌, ℕ, Bool, true, false, ◌&&◌, List, [], ◌∷◌, ◌++◌, Option, None, Some, refl, sym, ap}
 use Rattle.std.specs.Prelude.{filter, IfSome, IfNone}
 use Rattle.std.proofs.lemmas.List.{append-nil}
 use Rattle.lx_node.specs.Siblings.{is_named, is_among}
@@ -11,7 +11,7 @@ use Rattle.lx_range.specs.Blocks.{is_line, same_node, block_of, frame_of}
 use Rattle.lx_range.specs.Lines.{up_to, from_block, behind_block, lines_between, selected_lines}
 use Rattle.lx_range.specs.Ranges.{start_of, end_of}
 use Rattle.lx_range.specs.Places.{until}
-use Rattle.lx_range.specs.Walks.{left_from, IsAt, key_of_step}
+use Rattle.lx_range.specs.Walks.{left_from, key_of_step}
 use Rattle.lx_range.proofs.Gathered.{IsUnderWay, way_on, next_left}
 use Rattle.lx_range.proofs.Until.{until_none}
 

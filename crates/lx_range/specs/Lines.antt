@@ -1,5 +1,5 @@
 -- The lines that a range selects.
-use Rattle.std.specs.Prelude.{ℕ, ◌&&◌, Bool, if◌then◌else◌, List, [], ◌∷◌, drop, filter, Option, None, Some}
+use Rattle.std.specs.Prelude.{ℕ, ◌&&◌, Bool, if◌then◌else◌, List, [], drop, filter, Option, None, Some}
 use Rattle.lx_node.specs.Siblings.{first_of, is_among}
 use Rattle.lx_node.specs.declared.cause.Point.{Point}
 use Rattle.lx_forest.specs.Forest.{Forest}

@@ -1,5 +1,5 @@
 -- What the caret commands do with what they are given.
-use Rattle.std.specs.Prelude.{ℕ, Bool, true, false, if◌then◌else◌, List, [], ◌∷◌, chars, codes, Option, None, Some, Result, Ok, Err}
+use Rattle.std.specs.Prelude.{ℕ, Bool, true, false, List, [], ◌∷◌, chars, codes, Option, None, Some, Result, Ok, Err}
 use Rattle.lx_node.specs.declared.cause.Cause.{Cause}
 use Rattle.lx_node.specs.declared.cause.Cause.TheVariants.{BadCommand, WrongKind}
 use Rattle.lx_node.specs.declared.kind.Kind.TheVariants.{Item}

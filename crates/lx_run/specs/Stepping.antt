@@ -1,5 +1,5 @@
 -- What steps do to the nodes that they name.
-use Rattle.std.specs.Prelude.{ℕ, Bool, Option, Result}
+use Rattle.std.specs.Prelude.{ℕ, Result}
 use Rattle.lx_node.specs.declared.cause.Cause.{Cause}
 use Rattle.lx_draft.specs.Working.{Working}
 use Rattle.lx_draft.specs.Steps.{mark_step}

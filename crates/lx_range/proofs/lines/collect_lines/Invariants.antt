@@ -1,4 +1,4 @@
-use Rattle.std.proofs.Common.{◌≡◌, length, ◌&&◌}
+use Rattle.std.proofs.Common.{length, ◌&&◌}
 use Rattle.lx_range.specs.Blocks.{is_line, frame_of, same_node}
 use Rattle.lx_range.specs.Walks.{left_from, key_of_step}
 use Rattle.lx_range.proofs.Ahead.{IsAhead}
