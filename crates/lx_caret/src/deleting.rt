@@ -1,7 +1,6 @@
 //! Deleting a character or a word.
 
 ghost use Rattle.std.specs.Prelude.{◌≡◌, ◌≤◌, ◌&&◌, not, true, false, if◌then◌else◌, [], Ok, Some, option_map, OnOk, IfErr, IfSome, chars};
-ghost use Rattle.lx_node.specs.Kinds as kinds;
 ghost use Rattle.lx_node.specs.Siblings.{is_named};
 ghost use Rattle.lx_text.specs.Texts.{is_offset};
 ghost use Rattle.lx_forest.specs.Lookups as lookups;

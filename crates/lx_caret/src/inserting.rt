@@ -2,8 +2,6 @@
 
 ghost use Rattle.std.specs.Prelude.{◌≡◌, ℕ, Ok, Result, OnOk, IfOk, IfErr, chars};
 ghost use Rattle.lx_node.specs.declared.cause.Cause.{Cause as CauseOf};
-ghost use Rattle.lx_node.specs.declared.cause.Cause.TheVariants.{NoSelection};
-ghost use Rattle.lx_node.specs.declared.cause.Fault.TheVariants as fault;
 ghost use Rattle.lx_node.specs.declared.cause.Point.{Point as PointIn};
 ghost use Rattle.lx_draft.specs.Working.{Working};
 ghost use Rattle.lx_draft.specs.Faults.{TellsStep};
@@ -18,9 +16,7 @@ use crate::removing::remove_selected;
 use lx_draft::Draft;
 use lx_edit::{admitted, element_point, text_point};
 use lx_links::Links;
-use lx_node::{
-    Cause, Fault, Fields, Key, Kind, Mode, NoMemory, Point, SelectionKind, TextFields, Txt,
-};
+use lx_node::{Fault, Fields, Key, Kind, Mode, NoMemory, Point, TextFields, Txt};
 use lx_range::{Ranged, no_range, normal_at, place_caret, shown_range};
 use std::alloc::Global;
 

@@ -2,7 +2,6 @@
 
 ghost use Rattle.std.specs.Prelude.{◌≡◌, true, Ok, OnOk, IfOk, IfErr};
 ghost use Rattle.lx_node.specs.Kinds as kinds;
-ghost use Rattle.lx_draft.specs.Covering.{IsReady};
 ghost use Rattle.lx_draft.specs.Faults.{TellsStep};
 ghost use Rattle.lx_edit.specs.Standing.{StillStands};
 ghost use Rattle.lx_range.specs.Blocks as blocks;
@@ -18,7 +17,7 @@ use crate::removing::remove_selected;
 use lx_draft::Draft;
 use lx_edit::{admitted, element_point, move_each, split_text, text_point};
 use lx_links::Links;
-use lx_node::{Cause, Fault, Fields, Key, Kind, NoMemory, Point};
+use lx_node::{Cause, Fault, Fields, Key, Kind, Point};
 use lx_range::{block, has_characters_at, is_item_at, place_caret, shown_range};
 use std::alloc::Global;
 

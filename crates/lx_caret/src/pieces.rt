@@ -14,7 +14,6 @@ ghost use Rattle.lx_caret.specs.Formatting as formatting;
 use crate::removing::start_part;
 use lx_draft::Draft;
 use lx_edit::split_text;
-use lx_links::Links;
 use lx_node::{Fault, Key, NoMemory, Point, PointKind};
 use lx_range::{covered, has_characters_at, is_normal_at};
 use std::alloc::Global;

@@ -4,8 +4,6 @@ ghost use Rattle.std.specs.Prelude.{◌≡◌, ◌++◌, ◌∷◌, ◌&&◌, []
 ghost use Rattle.lx_forest.specs.Lookups as lookups;
 ghost use Rattle.lx_range.specs.Blocks as blocks;
 ghost use Rattle.lx_range.specs.Lines as lines;
-ghost use Rattle.lx_range.specs.Places as places;
-ghost use Rattle.lx_range.specs.Ranges as ranges;
 ghost use Rattle.lx_range.specs.Walks as walks;
 ghost use Rattle.lx_range.specs.Walks.{left_from, IsAt};
 

@@ -1,7 +1,6 @@
 //! Points in order.
 
 ghost use Rattle.std.specs.Prelude.{◌≡◌, length};
-ghost use Rattle.lx_forest.specs.Lookups as lookups;
 ghost use Rattle.lx_range.specs.Places as places;
 
 use lx_links::Links;

@@ -1,6 +1,6 @@
 //! The range that a command needs, and the caret.
 
-ghost use Rattle.std.specs.Prelude.{◌≡◌, ◌≢◌, true, Ok, OnOk, is_some, IfOk, IfErr};
+ghost use Rattle.std.specs.Prelude.{◌≡◌, true, Ok, is_some, IfOk, IfErr};
 ghost use Rattle.std.specs.Option.{option_copied};
 ghost use Rattle.lx_node.specs.OfKind as of_kind;
 ghost use Rattle.lx_node.specs.declared.cause.Cause.TheVariants.{NoSelection};

@@ -1,7 +1,7 @@
 //! The nodes before and behind a point, in preorder.
 
 ghost use Rattle.std.specs.Prelude.{◌≡◌, ◌++◌, ◌∷◌, ◌||◌, [], true, OnOk, IfOk, IfSome, IfNone, Some, filter, not, option_map, unwrap_or};
-ghost use Rattle.lx_node.specs.Siblings.{is_named, first_of, last_of};
+ghost use Rattle.lx_node.specs.Siblings.{is_named, last_of};
 ghost use Rattle.lx_forest.specs.Lookups as lookups;
 ghost use Rattle.lx_links.specs.Stands.{Sound};
 ghost use Rattle.lx_range.specs.Places as places;

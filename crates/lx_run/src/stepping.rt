@@ -1,6 +1,6 @@
 //! The steps of a script, each by itself.
 
-ghost use Rattle.std.specs.Prelude.{◌≡◌, ◌∷◌, Ok, Some, OnOk, IfErr, length};
+ghost use Rattle.std.specs.Prelude.{◌≡◌, Ok, Some, OnOk, IfErr};
 ghost use Rattle.lx_step.specs.Sound.{MayBeNew};
 ghost use Rattle.lx_draft.specs.Faults.{TellsStep};
 ghost use Rattle.lx_draft.specs.Steps.{new_step};
