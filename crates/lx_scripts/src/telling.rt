@@ -5,7 +5,7 @@ use lx_draft::{Frozen, State};
 use lx_links::Links;
 use lx_marks::Marks;
 use lx_node::Key;
-use lx_range::{selected_lines, shown_range};
+use lx_range::{Ranged, selected_lines, shown_range};
 use lx_reconcile::fresh;
 use lx_script::{Reply, write_reply};
 use std::alloc::Global;
@@ -50,18 +50,20 @@ fn tell_selection(alloc: Global, state: &State, words: &mut String) -> Result<()
     Ok(())
 }
 
-/// The lines that a range selects.
+/// The lines that a range selects, where it lies in the tree.
 fn tell_lines(alloc: Global, state: &State, words: &mut String) -> Result<()> {
-    let range = match shown_range(&state.selection) {
-        Some(range) => range,
-        None => return Ok(()),
-    };
-    let links = &state.links;
+    match shown_range(&state.selection) {
+        Some(range) => tell_lines_of(alloc, &state.links, &range, words),
+        None => Ok(()),
+    }
+}
+
+fn tell_lines_of(alloc: Global, links: &Links, range: &Ranged, words: &mut String) -> Result<()> {
     if !links.is_attached(range.anchor.key) || !links.is_attached(range.focus.key) {
         return Ok(());
     }
     words.push_str(" lines")?;
-    for key in &selected_lines(alloc, links, &range)? {
+    for key in &selected_lines(alloc, links, range)? {
         write!(words, " {}", key.number())?;
     }
     Ok(())
