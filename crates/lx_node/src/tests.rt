@@ -189,6 +189,17 @@ fn characters_are_scalar_values(rt: HostRuntime) -> Result<(), Fail> {
     Ok(())
 }
 
+#[test]
+fn texts_follow_texts(rt: HostRuntime) -> Result<(), Fail> {
+    let alloc = rt.alloc();
+    let text = Txt::new(alloc, "é𝄞")?.followed_by(alloc, "\u{301}a")?;
+    assert_eq!(rt; text.as_str(), "é𝄞\u{301}a");
+    assert_eq!(rt; text.characters(), 4);
+    assert_eq!(rt; text.copy(alloc)?.characters(), 4);
+    assert_eq!(rt; Txt::empty(alloc).followed_by(alloc, "")?.characters(), 0);
+    Ok(())
+}
+
 fn are_made_from_strings(alloc: Global) -> Result<bool, Fail> {
     let text = Txt::of(String::from_str(alloc, "é")?);
     Ok(text.is("é") && !text.is("e") && Txt::empty(alloc).is_empty())

@@ -1,11 +1,20 @@
 use crate::memory::NoMemory;
 use std::alloc::Global;
+use std::fmt::{self, Debug};
 use std::marker::Model;
 
-/// A text, as the list of its Unicode scalar values.
-#[derive(Debug, Drop)]
+/// A text, as the list of its Unicode scalar values. It keeps how many there are, so that its length is a read.
+#[derive(Drop)]
 pub struct Txt {
     text: String,
+    characters: u64,
+}
+
+/// It is shown as the string that it is.
+impl Debug for Txt {
+    fn fmt<W: fmt::Write>(&self, f: &mut fmt::Formatter<W>) -> fmt::Result {
+        self.as_str().fmt(f)
+    }
 }
 
 impl Model for Txt {
@@ -14,16 +23,32 @@ impl Model for Txt {
     ghost Value = { List ℕ };
 
     ghost view = { λ t. chars (string_bytes t.text) };
+
+    ghost use Rattle.std.specs.Prelude.{◌≡◌, length};
+    ghost use Rattle.lx_node.specs.Strings.{capped};
+
+    ghost invariant = { λ t. t.characters ≡ capped (length (chars (string_bytes t.text))) };
+}
+
+ghost use Rattle.std.specs.Prelude.{◌≡◌, chars, length};
+ghost use Rattle.lx_node.specs.Strings.{capped};
+
+/// How many characters a string has. From 18,446,744,073,709,551,615 on it stands still.
+fn count(text: &str) -> u64
+    ensures { result ≡ capped (length (chars text.now)) }
+{
+    text.chars().count() as u64
 }
 
 impl Txt {
-    ghost use Rattle.std.specs.Prelude.{◌≡◌, ◌==◌, [], IfOk, chars, string_bytes, encode_utf8_all, length};
+    ghost use Rattle.std.specs.Prelude.{◌==◌, ◌++◌, [], IfOk, string_bytes, encode_utf8_all};
 
     /// The text of a string, which is taken over. It takes no memory.
     pub fn of(text: String) -> Txt
         ensures { result ≡ chars (string_bytes text) }
     {
-        Txt { text }
+        let characters = count(text.as_str());
+        Txt { text, characters }
     }
 
     /// The text without characters. It takes no memory.
@@ -32,6 +57,7 @@ impl Txt {
     {
         Txt {
             text: String::new(alloc),
+            characters: 0,
         }
     }
 
@@ -39,8 +65,7 @@ impl Txt {
     pub fn new(alloc: Global, text: &str) -> Result<Txt, NoMemory>
         ensures { IfOk result (λ made. made ≡ chars text.now) }
     {
-        let text = String::from_str(alloc, text)?;
-        Ok(Txt { text })
+        Ok(Txt::of(String::from_str(alloc, text)?))
     }
 
     /// The same text, as Rust has it.
@@ -60,7 +85,6 @@ impl Txt {
 
     ghost use Rattle.std.specs.Prelude.{◌↔◌, IsTrue};
     ghost use Rattle.lx_node.specs.Same.{same_text};
-    ghost use Rattle.lx_node.specs.Strings.{capped};
 
     /// Whether they are equal texts.
     pub fn is_equal(&self, other: &Txt) -> bool
@@ -78,18 +102,36 @@ impl Txt {
     }
 
     /// How many characters, Unicode scalar values, it has: from 0 to 18,446,744,073,709,551,615, which also
-    /// stands for any number above.
+    /// stands for any number above. It is a read: the number is kept with the text.
     pub fn characters(&self) -> u64
         ensures { result ≡ capped (length self.now) }
     {
-        self.as_str().chars().count() as u64
+        self.characters
     }
 
     /// An equal text.
     pub fn copy(&self, alloc: Global) -> Result<Txt, NoMemory>
         ensures { IfOk result (λ made. made ≡ self.now) }
     {
-        Txt::new(alloc, self.as_str())
+        let text = String::from_str(alloc, self.as_str())?;
+        Ok(Txt {
+            text,
+            characters: self.characters,
+        })
+    }
+
+    /// This text with another one behind it. It takes memory for the bytes of both, and counts the characters of
+    /// the other one alone.
+    pub fn followed_by(&self, alloc: Global, more: &str) -> Result<Txt, NoMemory>
+        ensures { IfOk result (λ made. made ≡ self.now ++ chars more.now) }
+    {
+        let mut text = String::with_capacity(alloc, self.as_str().len() + more.len())?;
+        text.push_str(self.as_str())?;
+        text.push_str(more)?;
+        Ok(Txt {
+            text,
+            characters: self.characters.saturating_add(count(more)),
+        })
     }
 
     ghost use Rattle.lx_node.specs.OfKind.{is_tab_text};

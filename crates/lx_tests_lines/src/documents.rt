@@ -27,39 +27,39 @@ const MEMBERS: [(Kind, &str, &str); 15] = [
     (
         Kind::Text,
         r#"{"detail":3,"mode":"segmented","text":"x","version":1,"start":"?"}"#,
-        r#"Text(TextFields { text: Txt { text: "x" }, format: 0, detail: 3, mode: Segmented, style: Txt { text: "" } })"#,
+        r#"Text(TextFields { text: "x", format: 0, detail: 3, mode: Segmented, style: "" })"#,
     ),
     (
         Kind::Tab,
         r#"{"detail":9,"format":null,"text":7}"#,
-        r#"Text(TextFields { text: Txt { text: "\t" }, format: 0, detail: 2, mode: Normal, style: Txt { text: "" } })"#,
+        r#"Text(TextFields { text: "\t", format: 0, detail: 2, mode: Normal, style: "" })"#,
     ),
     (
         Kind::Item,
         r#"{"value":1200000,"checked":true}"#,
-        r#"Element(ElementFields { direction: Unset, format: Unset, indent: 0, text_format: 0, text_style: Txt { text: "" }, extra: Item { value: 1200000, checked: Some(true) } })"#,
+        r#"Element(ElementFields { direction: Unset, format: Unset, indent: 0, text_format: 0, text_style: "", extra: Item { value: 1200000, checked: Some(true) } })"#,
     ),
     (
         Kind::Cell,
         r#"{"backgroundColor":"red","colSpan":2,"rowSpan":3,"headerState":1,"direction":"rtl"}"#,
-        r#"Element(ElementFields { direction: Rtl, format: Unset, indent: 0, text_format: 0, text_style: Txt { text: "" }, extra: Cell { header: 1, row_span: 3, col_span: 2, background: Some(Txt { text: "red" }) } })"#,
+        r#"Element(ElementFields { direction: Rtl, format: Unset, indent: 0, text_format: 0, text_style: "", extra: Cell { header: 1, row_span: 3, col_span: 2, background: Some("red") } })"#,
     ),
     (
         Kind::List(ListType::Check),
         r#"{"listType":"check","tag":3}"#,
-        r#"Element(ElementFields { direction: Unset, format: Unset, indent: 0, text_format: 0, text_style: Txt { text: "" }, extra: List { start: 1 } })"#,
+        r#"Element(ElementFields { direction: Unset, format: Unset, indent: 0, text_format: 0, text_style: "", extra: List { start: 1 } })"#,
     ),
     (
         Kind::Heading(6),
         r#"{"direction":"ltr","format":"justify","indent":65535,"tag":"h6","textFormat":3,"textStyle":"s"}"#,
-        r#"Element(ElementFields { direction: Ltr, format: Justify, indent: 65535, text_format: 3, text_style: Txt { text: "s" }, extra: Plain })"#,
+        r#"Element(ElementFields { direction: Ltr, format: Justify, indent: 65535, text_format: 3, text_style: "s", extra: Plain })"#,
     ),
     (
         Kind::Link,
         r#"{"rel":"a","target":null,"title":"b","url":"u"}"#,
-        r#"Element(ElementFields { direction: Unset, format: Unset, indent: 0, text_format: 0, text_style: Txt { text: "" }, extra: Link { rel: Some(Txt { text: "a" }), target: None, title: Some(Txt { text: "b" }), url: Txt { text: "u" } } })"#,
+        r#"Element(ElementFields { direction: Unset, format: Unset, indent: 0, text_format: 0, text_style: "", extra: Link { rel: Some("a"), target: None, title: Some("b"), url: "u" } })"#,
     ),
-    (Kind::Embed, r#"{"src":"s"}"#, r#"Embed(Txt { text: "s" })"#),
+    (Kind::Embed, r#"{"src":"s"}"#, r#"Embed("s")"#),
     (
         Kind::List(ListType::Check),
         r#"{"listType":"x"}"#,
@@ -103,7 +103,7 @@ fn other_elements_are_plain(rt: HostRuntime) -> Result<(), Fail> {
             rt.alloc(),
             kind,
             r#"{"checked":true,"url":3}"#,
-            r#"Element(ElementFields { direction: Unset, format: Unset, indent: 0, text_format: 0, text_style: Txt { text: "" }, extra: Plain })"#,
+            r#"Element(ElementFields { direction: Unset, format: Unset, indent: 0, text_format: 0, text_style: "", extra: Plain })"#,
         )?;
         assert!(rt; plain, "at {kind:?}");
     }

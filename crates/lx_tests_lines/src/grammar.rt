@@ -34,7 +34,7 @@ fn texts_are_read(rt: HostRuntime) -> Result<(), Fail> {
         (r#"{"append":"\u00e9\ud83d\ude00"}"#, r#""é😀""#),
         (r#"{"\u0061ppend":"漢"}"#, r#""漢""#),
     ] {
-        let wanted = format!(in rt.alloc(); "Append(Txt {{ text: {wanted} }})")?;
+        let wanted = format!(in rt.alloc(); "Append({wanted})")?;
         assert!(rt; is_step(rt.alloc(), step, wanted.as_str())?, "at {step}");
     }
     Ok(())
@@ -48,7 +48,7 @@ const STEPS: [(&str, &str); 12] = [
     ),
     (
         r#"{"into":"a","put":"@b"}"#,
-        r#"Put { node: Name(Txt { text: "@b" }), into: Name(Txt { text: "a" }), index: None }"#,
+        r#"Put { node: Name("@b"), into: Name("a"), index: None }"#,
     ),
     (r#"{"remove":"@focus"}"#, "Remove(Focus)"),
     (
@@ -62,7 +62,7 @@ const STEPS: [(&str, &str); 12] = [
     (r#"{"mark":0}"#, "Mark(Key(Key(0)))"),
     (
         r#"{"split":1,"at":[3,1],"as":"x"}"#,
-        r#"Split { node: Key(Key(1)), offsets: Offsets { offsets: [3, 1] }, name: Some(Txt { text: "x" }) }"#,
+        r#"Split { node: Key(Key(1)), offsets: Offsets { offsets: [3, 1] }, name: Some("x") }"#,
     ),
     (
         r#"{"split":1,"at":[]}"#,
@@ -97,12 +97,12 @@ fn selections_are_read(rt: HostRuntime) -> Result<(), Fail> {
         ("null", "Nothing"),
         (
             r#"{"keys":[1,"a"]}"#,
-            r#"Nodes(References { references: [Key(Key(1)), Name(Txt { text: "a" })] })"#,
+            r#"Nodes(References { references: [Key(Key(1)), Name("a")] })"#,
         ),
         (r#"{"keys":[]}"#, "Nodes(References { references: [] })"),
         (
             r#"{"anchor":[1,0,"text"],"focus":["a",9,"element"],"format":65535}"#,
-            r#"Range { anchor: PointRef { node: Key(Key(1)), offset: 0, kind: Text }, focus: PointRef { node: Name(Txt { text: "a" }), offset: 9, kind: Element }, format: Some(65535) }"#,
+            r#"Range { anchor: PointRef { node: Key(Key(1)), offset: 0, kind: Text }, focus: PointRef { node: Name("a"), offset: 9, kind: Element }, format: Some(65535) }"#,
         ),
         (
             r#"{"anchor":[1,0,"text"],"focus":[1,0,"text"]}"#,
@@ -133,7 +133,7 @@ fn patches_are_read(rt: HostRuntime) -> Result<(), Fail> {
         ),
         (
             r#"{"rel":null,"title":"t","text":"","mode":"token"}"#,
-            r#"Mode(Token), Rel(None), Text(Txt { text: "" }), Title(Some(Txt { text: "t" }))"#,
+            r#"Mode(Token), Rel(None), Text(""), Title(Some("t"))"#,
         ),
         (
             r#"{"colSpan":1000,"headerState":3,"start":1000000,"detail":0}"#,
@@ -141,7 +141,7 @@ fn patches_are_read(rt: HostRuntime) -> Result<(), Fail> {
         ),
         (
             r#"{"tag":"h2","value":1200000,"z":null}"#,
-            r#"Other(Txt { text: "tag" }), Other(Txt { text: "value" }), Other(Txt { text: "z" })"#,
+            r#"Other("tag"), Other("value"), Other("z")"#,
         ),
     ] {
         let step = format!(in rt.alloc(); "{{\"set\":1,\"fields\":{fields}}}")?;
@@ -165,23 +165,23 @@ fn new_nodes_are_read(rt: HostRuntime) -> Result<(), Fail> {
         ),
         (
             r#"{"new":"embed","fields":{"src":"s"},"as":"e"}"#,
-            r#"New { kind: Embed, fields: Embed(Txt { text: "s" }), name: Some(Txt { text: "e" }) }"#,
+            r#"New { kind: Embed, fields: Embed("s"), name: Some("e") }"#,
         ),
         (
             r#"{"new":"tab","fields":{"format":1,"style":null}}"#,
-            r#"New { kind: Tab, fields: Text(TextFields { text: Txt { text: "\t" }, format: 1, detail: 2, mode: Normal, style: Txt { text: "" } }), name: None }"#,
+            r#"New { kind: Tab, fields: Text(TextFields { text: "\t", format: 1, detail: 2, mode: Normal, style: "" }), name: None }"#,
         ),
         (
             r#"{"new":"heading","fields":{"tag":"h3","indent":65535}}"#,
-            r#"New { kind: Heading(3), fields: Element(ElementFields { direction: Unset, format: Unset, indent: 65535, text_format: 0, text_style: Txt { text: "" }, extra: Plain }), name: None }"#,
+            r#"New { kind: Heading(3), fields: Element(ElementFields { direction: Unset, format: Unset, indent: 65535, text_format: 0, text_style: "", extra: Plain }), name: None }"#,
         ),
         (
             r#"{"new":"list","fields":{"listType":null,"format":"end"}}"#,
-            r#"New { kind: List(Bullet), fields: Element(ElementFields { direction: Unset, format: End, indent: 0, text_format: 0, text_style: Txt { text: "" }, extra: List { start: 1 } }), name: None }"#,
+            r#"New { kind: List(Bullet), fields: Element(ElementFields { direction: Unset, format: End, indent: 0, text_format: 0, text_style: "", extra: List { start: 1 } }), name: None }"#,
         ),
         (
             r#"{"new":"listitem","fields":{"value":null,"checked":false}}"#,
-            r#"New { kind: Item, fields: Element(ElementFields { direction: Unset, format: Unset, indent: 0, text_format: 0, text_style: Txt { text: "" }, extra: Item { value: 1, checked: Some(false) } }), name: None }"#,
+            r#"New { kind: Item, fields: Element(ElementFields { direction: Unset, format: Unset, indent: 0, text_format: 0, text_style: "", extra: Item { value: 1, checked: Some(false) } }), name: None }"#,
         ),
     ] {
         assert!(rt; is_step(rt.alloc(), step, wanted)?, "at {step}");
@@ -194,10 +194,10 @@ fn commands_are_read(rt: HostRuntime) -> Result<(), Fail> {
     for (members, wanted) in [
         (r#""k""#, "Nothing"),
         (r#""k","payload":null"#, "Nothing"),
-        (r#""k","payload":"""#, r#"Text(Txt { text: "" })"#),
+        (r#""k","payload":"""#, r#"Text("")"#),
         (
             r#""k","payload":"@payload""#,
-            r#"Text(Txt { text: "@payload" })"#,
+            r#"Text("@payload")"#,
         ),
         (
             r#""k","payload":[1,50,true]"#,
@@ -206,7 +206,7 @@ fn commands_are_read(rt: HostRuntime) -> Result<(), Fail> {
     ] {
         let step = format!(in rt.alloc(); "{{\"dispatch\":{members}}}")?;
         let command = format!(in rt.alloc();
-            "Command {{ name: Txt {{ text: \"k\" }}, payload: {wanted} }}"
+            "Command {{ name: \"k\", payload: {wanted} }}"
         )?;
         let as_step = format!(in rt.alloc(); "Dispatch({})", command.as_str())?;
         assert!(rt;
@@ -238,15 +238,15 @@ fn listeners_are_read(rt: HostRuntime) -> Result<(), Fail> {
     for (line, wanted) in [
         (
             r#"{"listener":{"on":"k","priority":0,"steps":[],"handled":false}}"#,
-            r#"Listener(Listener { priority: 0, on: Txt { text: "k" }, when: When { payload: None, selection: None, block: None }, steps: Steps { steps: [] }, handled: false })"#,
+            r#"Listener(Listener { priority: 0, on: "k", when: When { payload: None, selection: None, block: None }, steps: Steps { steps: [] }, handled: false })"#,
         ),
         (
             r#"{"listener":{"on":"","priority":4,"when":{"block":"x","payload":"@payload"},"steps":[{"later":[{"dispatch":"n","payload":"@payload"}]}],"handled":true}}"#,
-            r#"Listener(Listener { priority: 4, on: Txt { text: "" }, when: When { payload: Some(Txt { text: "@payload" }), selection: None, block: Some(Txt { text: "x" }) }, steps: Steps { steps: [Later(Steps { steps: [Dispatch(Command { name: Txt { text: "n" }, payload: Given })] })] }, handled: true })"#,
+            r#"Listener(Listener { priority: 4, on: "", when: When { payload: Some("@payload"), selection: None, block: Some("x") }, steps: Steps { steps: [Later(Steps { steps: [Dispatch(Command { name: "n", payload: Given })] })] }, handled: true })"#,
         ),
         (
             r#"{"listener":{"on":"k","priority":3,"when":{"selection":"none"},"steps":[{"dispatch":"n","payload":"@payload "}],"handled":true}}"#,
-            r#"Listener(Listener { priority: 3, on: Txt { text: "k" }, when: When { payload: None, selection: Some(Txt { text: "none" }), block: None }, steps: Steps { steps: [Dispatch(Command { name: Txt { text: "n" }, payload: Text(Txt { text: "@payload " }) })] }, handled: true })"#,
+            r#"Listener(Listener { priority: 3, on: "k", when: When { payload: None, selection: Some("none"), block: None }, steps: Steps { steps: [Dispatch(Command { name: "n", payload: Text("@payload ") })] }, handled: true })"#,
         ),
     ] {
         let heard = heard(rt.alloc(), line)?;

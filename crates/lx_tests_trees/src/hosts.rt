@@ -254,7 +254,7 @@ fn copied(alloc: Global) -> Result<(String, String), Fail> {
 }
 
 const TWO_OPERATIONS: &str =
-    "[Create { id: 1, key: Key(2), tag: P, attrs: Attrs { items: [(Dir, Txt { text: \"ltr\" })] }, text: Some(Txt { text: \"é\" }), ending: true }, Drop { id: 1 }]";
+    "[Create { id: 1, key: Key(2), tag: P, attrs: Attrs { items: [(Dir, \"ltr\")] }, text: Some(\"é\"), ending: true }, Drop { id: 1 }]";
 
 #[test]
 fn operations_are_copied(rt: HostRuntime) -> Result<(), Fail> {
@@ -276,7 +276,7 @@ fn attributes_are_written_and_copied(rt: HostRuntime) -> Result<(), Fail> {
     let text = copied_attributes(rt.alloc())?;
     assert_eq!(rt;
         text.as_str(),
-        "[(Dir, Txt { text: \"ltr\" })] [(Dir, Txt { text: \"ltr\" })]"
+        "[(Dir, \"ltr\")] [(Dir, \"ltr\")]"
     );
     Ok(())
 }
