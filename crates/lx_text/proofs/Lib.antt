@@ -1,3 +1,4 @@
+pub mod Appended
 mod Computed
 pub mod Cut
 pub mod Faults

@@ -1,5 +1,5 @@
 -- The clusters and words of a text, as the toolchain's iterators give them.
-use Rattle.std.proofs.Common.{◌≡◌, ◌∙◌, ℕ, ◌+◌, ◌-◌, ◌<◌, ◌≤◌, ◌^◌, min, Bool, true, false, cond, List, [], ◌∷◌, ◌++◌, map, reverse, take, drop, length, length-append, refl, sym, ap, arith, encode_utf8_all, IsUtf8}
+use Rattle.std.proofs.Common.{◌≡◌, ◌∙◌, ℕ, ◌+◌, ◌-◌, ◌<◌, ◌≤◌, ◌^◌, min, Bool, true, false, cond, List, [], ◌∷◌, ◌++◌, map, reverse, take, drop, length, length-append, sym, ap, arith, IsUtf8}
 use Rattle.std.specs.Str.{chars}
 use Rattle.std.proofs.lemmas.Str.{encodes-chars}
 use Rattle.std.proofs.lemmas.List.{map-append, reverse-append}

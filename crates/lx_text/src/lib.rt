@@ -9,7 +9,7 @@ mod pieces;
 
 pub use clusters::{cluster_after, cluster_before, word_after, word_before};
 pub use laws::texts_are_told;
-pub use pieces::{length, slice, splice};
+pub use pieces::{length, length_of, slice, splice};
 
 #[cfg(test)]
 mod tests;

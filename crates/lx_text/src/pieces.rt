@@ -7,11 +7,25 @@ use crate::offsets::pieces;
 use lx_node::{Cause, Fault, NoMemory, Txt};
 use std::alloc::Global;
 
+/// A number of characters as an offset. From 4,294,967,295 on it stands still.
+fn offset_of(characters: u64) -> u32
+    ensures { result ≡ min characters 4294967295 }
+{
+    u32::try_from(characters).unwrap_or(u32::MAX)
+}
+
 /// How long a text is in Unicode scalar values, which is the offset of its end. From 4,294,967,295 on it stands still.
 pub fn length(text: &str) -> u32
     ensures { result ≡ min (text_length (chars text.now)) 4294967295 }
 {
-    u32::try_from(text.chars().count()).unwrap_or(u32::MAX)
+    offset_of(text.chars().count() as u64)
+}
+
+/// How long a kept text is, as `length` counts, in constant time.
+pub fn length_of(text: &Txt) -> u32
+    ensures { result ≡ min (text_length text.now) 4294967295 }
+{
+    offset_of(text.characters())
 }
 
 /// The piece of a text between two offsets, which count Unicode scalar values from 0 to the length of the text. It is
@@ -30,9 +44,22 @@ pub fn slice(alloc: Global, text: &str, from: u32, to: u32) -> Result<Txt, Fault
 }
 
 /// The text with `new` in the place of the piece between two offsets. They count as those of `slice`, and it is refused
-/// as `slice` is. `Memory` says that none was left for the text.
+/// as `slice` is. `Memory` says that none was left for the text. At the end of the text, where typing and joins put what
+/// is new, nothing is looked for.
+pub fn splice(alloc: Global, text: &Txt, from: u32, to: u32, new: &str) -> Result<Txt, Fault>
+    ensures changed { IfOk result (λ whole. whole ≡ spliced_text from to (chars new.now) text.now) }
+    ensures allowed { IfOk result (λ _. slice_fault text.now from to ≡ None) }
+    ensures refused { IfErr result (TellsFirst (slice_fault text.now from to)) }
+{
+    if from == to && u64::from(from) == text.characters() {
+        return Ok(text.followed_by(alloc, new)?);
+    }
+    splice_within(alloc, text.as_str(), from, to, new)
+}
+
+/// The same, wherever the two offsets are.
 #[tactic(auto, unfolding(crate::specs::Texts::spliced_text))]
-pub fn splice(alloc: Global, text: &str, from: u32, to: u32, new: &str) -> Result<Txt, Fault>
+fn splice_within(alloc: Global, text: &str, from: u32, to: u32, new: &str) -> Result<Txt, Fault>
     ensures changed { IfOk result (λ whole. whole ≡ spliced_text from to (chars new.now) (chars text.now)) }
     ensures allowed { IfOk result (λ _. slice_fault (chars text.now) from to ≡ None) }
     ensures refused { IfErr result (TellsFirst (slice_fault (chars text.now) from to)) }

@@ -1,4 +1,4 @@
-use crate::{length, slice, splice};
+use crate::{length, length_of, slice, splice};
 use lx_node::{Cause, Fault, Txt};
 use std::alloc::Global;
 use std::test::Fail;
@@ -15,7 +15,7 @@ fn refused(answer: Result<Txt, Fault>) -> Option<u64> {
 }
 
 #[test]
-fn lengths_count_characters(rt: HostRuntime) {
+fn lengths_count_characters(rt: HostRuntime) -> Result<(), Fail> {
     for (text, want) in [
         ("", 0),
         ("a", 1),
@@ -25,7 +25,9 @@ fn lengths_count_characters(rt: HostRuntime) {
         (TEXT, 9),
     ] {
         assert_eq!(rt; length(text), want, "{text}");
+        assert_eq!(rt; length_of(&Txt::new(rt.alloc(), text)?), want, "{text}");
     }
+    Ok(())
 }
 
 #[test]
@@ -58,16 +60,18 @@ fn splices_put_one_piece_for_another(rt: HostRuntime) -> Result<(), Fail> {
         (3, 4, "", "aé€\tz𝄞ßa"),
         (3, 3, "ü", "aé€ü😀\tz𝄞ßa"),
     ];
+    let text = Txt::new(rt.alloc(), TEXT)?;
     for (from, to, new, want) in cases {
-        let whole = splice(rt.alloc(), TEXT, from, to, new)?;
+        let whole = splice(rt.alloc(), &text, from, to, new)?;
         assert_eq!(rt; whole.as_str(), want, "{from}..{to}");
     }
-    assert_eq!(rt; splice(rt.alloc(), "", 0, 0, "é")?.as_str(), "é");
+    let none = Txt::empty(rt.alloc());
+    assert_eq!(rt; splice(rt.alloc(), &none, 0, 0, "é")?.as_str(), "é");
     Ok(())
 }
 
 #[test]
-fn wrong_offsets_are_refused(rt: HostRuntime) {
+fn wrong_offsets_are_refused(rt: HostRuntime) -> Result<(), Fail> {
     let alloc: Global = rt.alloc();
     let cases = [
         (10, 10, 10),
@@ -80,6 +84,7 @@ fn wrong_offsets_are_refused(rt: HostRuntime) {
         (u32::MAX, u32::MAX, 4_294_967_295),
         (19, 19, 19),
     ];
+    let text = Txt::new(alloc, TEXT)?;
     for (from, to, want) in cases {
         assert_eq!(rt;
             refused(slice(alloc, TEXT, from, to)),
@@ -87,9 +92,10 @@ fn wrong_offsets_are_refused(rt: HostRuntime) {
             "{from}..{to}"
         );
         assert_eq!(rt;
-            refused(splice(alloc, TEXT, from, to, "new")),
+            refused(splice(alloc, &text, from, to, "new")),
             Some(want),
             "{from}..{to}"
         );
     }
+    Ok(())
 }
