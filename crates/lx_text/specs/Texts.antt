@@ -23,14 +23,15 @@ slice_of from to text = take (to - from) (drop from text)
 unfoldable pub spliced_text : ℕ → ℕ → List ℕ → List ℕ → List ℕ
 spliced_text from to new text = take from text ++ new ++ drop to text
 
--- why there is no piece between two offsets, the first cause: the first offset is none of the text, or the second one is, or
--- the first one is behind the second
+-- the offset is none of the text
 abbrev pub no_offset : List ℕ → ℕ → Option Cause
 no_offset text offset = if is_offset offset text then None else Some (BadPlace offset)
 
+-- the first one is behind the second
 abbrev pub turned_round : ℕ → ℕ → Option Cause
 turned_round from to = if nat_le from to then None else Some (BadPlace from)
 
+-- why there is no piece between two offsets: the first of these causes
 abbrev pub slice_fault : List ℕ → ℕ → ℕ → Option Cause
 slice_fault text from to = option_or (no_offset text from) (option_or (no_offset text to) (turned_round from to))
 
