@@ -5,7 +5,6 @@ use Rattle.std.proofs.lemmas.Option.{same_Some}
 use Rattle.std.specs.HashMap.{HashMap}
 use Rattle.std.specs.Map.{lookup}
 use Rattle.indexmap.specs.IndexMap.{get}
-use Rattle.lx_node.specs.Limits.{last_u32}
 use Rattle.lx_node.specs.Trees.{Trees, nil, tree, joined}
 use Rattle.lx_node.specs.NamedTrees.{total}
 use Rattle.lx_node.proofs.NamedTrees.{count-joined, count-put_below, count-without-alone, count-mapped}
@@ -13,7 +12,6 @@ use Rattle.lx_host.specs.Hosts.{Host, HostTree, Face, id_of, count, alone, witho
 use Rattle.lx_host.specs.Html.{first_tree}
 use Rattle.lx_host.specs.Lookups.{host_of}
 use Rattle.lx_host.specs.declared.op.Op.TheVariants.{Create, Place, Drop}
-use Rattle.lx_host.specs.declared.tag.Tag.{Tag}
 use Rattle.lx_host.proofs.Standing as standing
 use Rattle.lx_rooted.specs.Lookups.{IsOrdered, is_attached}
 use Rattle.lx_rooted.proofs.Edits.{outside_once}
@@ -118,18 +116,17 @@ shown_entry n ids s e =
     let same = from_cond (eqb n 0) (record { hosts = n; ids = ids }) s e in
     (sym (ap (λ (x : Shown). x.hosts) same.1), sym (ap (λ (x : Shown). x.ids) same.1), grind (arith, same.0, eqb_tells n 0))
 
-pub small_entry : {S : Type 0} (keys : HashMap ℕ Shown S) (next key id : ℕ) (f : Trees Host) (s : Shown) → IsOrdered id_of f → IsKept keys next f → next < last_u32 → id ≡ next → get nat_eq keys key ≡ Some s → (s.hosts + 1 < 2 ^ 32) × (s.ids + id < 2 ^ 64)
-small_entry keys next key id f s h kept small is e =
+pub small_entry : {S : Type 0} (keys : HashMap ℕ Shown S) (next key id : ℕ) (f : Trees Host) (s : Shown) → IsOrdered id_of f → IsKept keys next f → standing.FitsCreate id next → get nat_eq keys key ≡ Some s → (s.hosts + 1 < 2 ^ 32) × (s.ids + id < 2 ^ 64)
+small_entry keys next key id f s h kept fits e =
     let t = shown_entry (shown key f) (ids_shown key f) s (sym (kept.keyed.each key) ∙ e) in
     let few = total-numbered id_of next f h kept.below in
-    (omega (arith, t.0, shown-le key f, few, small), omega (arith, t.1, ids-le next key f kept.below (omega (arith, small)), few, small, is))
+    (omega (arith, t.0, shown-le key f, few, fits.below), omega (arith, t.1, ids-le next key f kept.below (omega (arith, fits.below)), few, fits.below, fits.is_next))
 
 -- ---- a host tree and the fields that it is of
 
-pub created_tree : (id key : ℕ) (tag : Tag) (attrs : _) (text : _) (ending : Bool) (w : HostTree) (f g : Trees Host) (next : ℕ) → ◌≡◌ {A = HostTree} (record { hosts = f; next = next }) w → g ≡ joined f (one_host id (record { key = key; tag = tag; attrs = attrs; text = text; ending = ending })) → ◌≡◌ {A = HostTree} (record { hosts = g; next = next + 1 }) (effect (Create id key tag attrs text ending) w)
+pub created_tree : (id : ℕ) (face : Face) (w : HostTree) (f g : Trees Host) (next : ℕ) → ◌≡◌ {A = HostTree} (record { hosts = f; next = next }) w → g ≡ joined f (one_host id face) → ◌≡◌ {A = HostTree} (record { hosts = g; next = next + 1 }) (effect (Create id face.key face.tag face.attrs face.text face.ending) w)
 unfolding effect
-created_tree id key tag attrs text ending w f g next e is =
-    let face : Face = record { key = key; tag = tag; attrs = attrs; text = text; ending = ending } in
+created_tree id face w f g next e is =
     let P : HostTree → Type 0 = λ v. ◌≡◌ {A = HostTree} (record { hosts = g; next = next + 1 }) (record { hosts = joined v.hosts (one_host id face); next = v.next + 1 }) in
     subst P e (ap (λ h. record { hosts = h; next = next + 1 }) is)
 

@@ -78,10 +78,14 @@ unfolding html_of
 html_of_one face inside =
     sym (append-nil (host_html face.tag face.attrs (inside_html face.text (html_of inside) ++ ending_html face.ending)))
 
--- the HTML of a host that shows this face, with these trees below, however what is inside was found
-module _ (page : List ℕ) (face : Face) (below t : Trees Host) (is : shape_of t ≡ tree face (shape_of below) nil) where
+-- the trees t are one host, which shows this face, with these trees below
+pub record IsOne (face : Face) (below t : Trees Host) : Type 0 where
+  pub shape : shape_of t ≡ tree face (shape_of below) nil
+
+-- the HTML of one host, however what is inside was found
+module _ (page : List ℕ) {face : Face} {below t : Trees Host} (one : IsOne face below t) where
   printed : (html : List ℕ) → html ≡ host_html face.tag face.attrs (inside_html face.text (html_of (shape_of below)) ++ ending_html face.ending) → page ++ html ≡ page ++ html_of (shape_of t)
-  printed html e = ap (λ end. page ++ end) (e ∙ html_of_one face (shape_of below) ∙ sym (ap html_of is))
+  printed html e = ap (λ end. page ++ end) (e ∙ html_of_one face (shape_of below) ∙ sym (ap html_of one.shape))
 
   -- a start alone
   pub void_printed : {opened : List ℕ} → is_void face.tag ≡ true → opened ≡ page ++ opening face.tag face.attrs → opened ≡ page ++ html_of (shape_of t)

@@ -1,7 +1,7 @@
 //! The hosts, by id. It knows no operation, no next id and no table of keys.
 
 use crate::joints::{Gap, link_in, unlink};
-use crate::linked::{Change, Linked, change_host, write_attribute};
+use crate::linked::{Change, Face, Linked, change_host, write_attribute};
 use crate::op::Attrs;
 use crate::page::Page;
 use crate::stock::Stock;
@@ -270,28 +270,20 @@ impl Grove {
     }
 
     /// Adds a host of a greater id than all others, which isn't placed yet. It takes up one place.
-    pub fn create(
-        &mut self,
-        id: u32,
-        key: Key,
-        tag: Tag,
-        attrs: Attrs,
-        text: Option<Txt>,
-        ending: bool,
-    )
+    pub fn create(&mut self, id: u32, face: Face)
         requires above { (q : ℕ) → id < q + 1 → count q self.old.hosts ≡ 0 }
         requires below { id < last_u32 }
         requires room { 0 < self.old.room }
-        ensures created { self.new.hosts ≡ joined self.old.hosts (one_host id (record { key = key; tag = tag; attrs = attrs; text = text; ending = ending })) }
+        ensures created { self.new.hosts ≡ joined self.old.hosts (one_host id (record { key = face.key; tag = face.tag; attrs = face.attrs; text = face.text; ending = face.ending })) }
         ensures room { self.old.room ≤ self.new.room + 1 }
         ensures ordered { IsOrdered id_of self.old.hosts }
     {
         let host = Linked {
-            key,
-            tag,
-            attrs,
-            text,
-            ending,
+            key: face.key,
+            tag: face.tag,
+            attrs: face.attrs,
+            text: face.text,
+            ending: face.ending,
             parent: None,
             prev: None,
             next: None,

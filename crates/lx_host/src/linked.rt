@@ -12,6 +12,17 @@ use crate::tag::{Name, Tag};
 use indexmap::IndexMap;
 use lx_node::{Key, Txt};
 
+/// What a host shows, beside its children: a node's key, an element with its attributes, a text or none, and whether
+/// a line break ends it.
+#[derive(Drop)]
+pub struct Face {
+    pub key: Key,
+    pub tag: Tag,
+    pub attrs: Attrs,
+    pub text: Option<Txt>,
+    pub ending: bool,
+}
+
 /// A host with its links: the host below which it stands, its neighbours there, the ends of its own children, and
 /// how many they are.
 #[derive(Drop)]

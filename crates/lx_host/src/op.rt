@@ -192,7 +192,14 @@ impl Op {
                 attrs,
                 text,
                 ending,
-            } => copy_create(alloc, *id, *key, *tag, attrs, text, *ending),
+            } => Ok(Op::Create {
+                id: *id,
+                key: *key,
+                tag: *tag,
+                attrs: attrs.copy(alloc)?,
+                text: copy_text(alloc, text)?,
+                ending: *ending,
+            }),
             Op::Place {
                 parent,
                 child,
@@ -221,30 +228,6 @@ impl Op {
 }
 
 ghost use Rattle.std.specs.Prelude.{◌≡◌, IfOk};
-ghost use Rattle.lx_host.specs.declared.op.Op.TheVariants.{Create};
-
-fn copy_create(
-    alloc: Global,
-    id: u32,
-    key: Key,
-    tag: Tag,
-    attrs: &Attrs,
-    text: &Option<Txt>,
-    ending: bool,
-) -> Result<Op, NoMemory>
-    ensures { IfOk result (λ made. made ≡ Create id key tag attrs.now text.now ending) }
-{
-    let attrs = attrs.copy(alloc)?;
-    let text = copy_text(alloc, text)?;
-    Ok(Op::Create {
-        id,
-        key,
-        tag,
-        attrs,
-        text,
-        ending,
-    })
-}
 
 fn copy_text(alloc: Global, text: &Option<Txt>) -> Result<Option<Txt>, NoMemory>
     ensures { IfOk result (λ made. made ≡ text.now) }

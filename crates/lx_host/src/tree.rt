@@ -1,12 +1,13 @@
 use crate::grove::Grove;
 use crate::keys::{Shown, add_shown};
-use crate::op::{Attrs, Op};
+use crate::linked::Face;
+use crate::op::Op;
 use crate::page::Page;
 use crate::removal::remove_tree;
 use crate::room::{hosts_among, values_among};
 use crate::scan::least_shown;
 use crate::stock::Stock;
-use crate::tag::{Name, Tag};
+use crate::tag::Name;
 use indexmap::IndexMap;
 use lx_node::{Key, NoMemory, Txt};
 use std::alloc::Global;
@@ -134,7 +135,16 @@ impl HostTree {
                 attrs,
                 text,
                 ending,
-            } => self.create(id, key, tag, attrs, text, ending),
+            } => {
+                let face = Face {
+                    key,
+                    tag,
+                    attrs,
+                    text,
+                    ending,
+                };
+                self.create(id, face);
+            }
             Op::Place {
                 parent,
                 child,
@@ -148,13 +158,14 @@ impl HostTree {
     }
 
     /// Adds a host that isn't placed yet.
-    fn create(&mut self, id: u32, key: Key, tag: Tag, attrs: Attrs, text: Option<Txt>, ending: bool)
-        requires fits { IsTrue (fits (Create id key tag attrs text ending) self.old.tree) }
+    fn create(&mut self, id: u32, face: Face)
+        requires fits { IsTrue (fits (Create id face.key face.tag face.attrs face.text face.ending) self.old.tree) }
         requires room { 0 < self.old.room.hosts }
-        ensures created { self.new.tree ≡ effect (Create id key tag attrs text ending) self.old.tree }
+        ensures created { self.new.tree ≡ effect (Create id face.key face.tag face.attrs face.text face.ending) self.old.tree }
         ensures room { Spends 1 0 self.old.room self.new.room }
     {
-        self.grove.create(id, key, tag, attrs, text, ending);
+        let key = face.key;
+        self.grove.create(id, face);
         add_shown(&mut self.keys, key.number(), id);
         self.next_id += 1;
     }
