@@ -48,10 +48,12 @@ pub record IsAdmitted (n more : ℕ) (w : Working) : Type 0 where
   pub counts : w.counted < most_counts
   pub written : w.written + more ≤ most_written
 
--- the key can't go below the parent, the parent may not hold it, or has fewer children
+-- the parent has fewer children
 abbrev pub beyond : Forest → ℕ → ℕ → Option Cause
 beyond f p index = if nat_lt (size_of f p) index then Some (BadPlace index) else None
 
+-- why a node isn't put, the first cause: one of the two isn't there, the key can't go below the parent, the parent may not
+-- hold it, or has fewer children
 abbrev pub put_fault : ℕ → ℕ → ℕ → Forest → Option Cause
 put_fault k p index f =
     option_or (unknown f k) (option_or (unknown f p)

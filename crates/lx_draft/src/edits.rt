@@ -124,32 +124,14 @@ impl Draft {
             Err(Fault::Memory) => return Err(self.fail()),
         };
         match self.admit(characters(new)) {
-            Ok(more) => Ok(self.write_piece(key, fields, more, from, to, new)?),
+            Ok(more) => {
+                self.refield(key, fields, more)?;
+                self.selection
+                    .after_splice(key, from, to, lx_text::length(new));
+                Ok(())
+            }
             Err(cause) => Err(let_go(fields, Fault::Cause(cause))),
         }
-    }
-
-    /// Writes fields with a new piece of so many scalar values in their text.
-    fn write_piece(
-        &mut self,
-        key: Key,
-        fields: Fields,
-        more: u32,
-        from: u32,
-        to: u32,
-        new: &str,
-    ) -> Result<(), NoMemory>
-        requires order { IsForest self.old.forest }
-        requires fault { set_fault key fields self.old.forest ≡ None }
-        requires counts { self.old.counted < most_counts }
-        requires written { self.old.written + more ≤ most_written }
-        ensures written { OnOk result (self.new ≡ steps.fields_written key fields more (steps.splice_points key from to (chars new.now)) self.old) }
-        ensures failed { OnErr result (self.new.forest ≡ nil) }
-    {
-        self.refield(key, fields, more)?;
-        self.selection
-            .after_splice(key, from, to, lx_text::length(new));
-        Ok(())
     }
 
     /// Takes a node, with all below it, out from below its parent. It is refused where there is no such

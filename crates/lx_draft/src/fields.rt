@@ -26,7 +26,7 @@ pub(crate) fn text_length_of(fields: &Fields) -> Option<u32>
     ensures { result ≡ steps.text_length_in fields.now }
 {
     match fields {
-        Fields::Text(text) => Some(lx_text::length(text.text.as_str())),
+        Fields::Text(text) => Some(lx_text::length_of(&text.text)),
         _ => None,
     }
 }

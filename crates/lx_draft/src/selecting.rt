@@ -94,7 +94,7 @@ impl Draft {
     {
         match self.links.node(key) {
             Some(node) => match &node.fields {
-                Fields::Text(text) => lx_text::length(text.text.as_str()),
+                Fields::Text(text) => lx_text::length_of(&text.text),
                 _ => 0,
             },
             None => 0,

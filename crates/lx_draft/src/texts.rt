@@ -76,7 +76,7 @@ impl Draft {
             Ok(text) => text,
             Err(cause) => return Err(Fault::Cause(cause)),
         };
-        match lx_text::splice(self.alloc, text.text.as_str(), from, to, new) {
+        match lx_text::splice(self.alloc, &text.text, from, to, new) {
             Ok(spliced) => Ok(with_text(self.alloc, text, spliced)?),
             Err(fault) => Err(fault),
         }

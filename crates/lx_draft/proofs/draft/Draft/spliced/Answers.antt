@@ -1,5 +1,4 @@
 use Rattle.std.proofs.Common.{◌≡◌, ◌∙◌, sym, ap, subst, None, Some}
-use Rattle.lx_text.specs.Texts.{slice_fault, TellsFirst}
 use Rattle.lx_links.specs.Faults.{set_fault}
 use Rattle.lx_draft.specs.Working.{Working}
 use Rattle.lx_draft.specs.Inside.{working_of}
@@ -12,7 +11,7 @@ use Rattle.lx_draft.proofs.draft.Draft.spliced.Goals as goal
 pub returns-in_ok-with_text-in-Ok-splice-clause-allowed : goal.returns-in_ok-with_text-in-Ok-splice-clause-allowed
 returns-in_ok-with_text-in-Ok-splice-clause-allowed c =
     fault_of_text c.args.self.now.forest c.args.key c.in-Ok.text.now c.args.from c.args.to c.in-Ok.ensures.found
-    ∙ ap (λ t. slice_fault t c.args.from c.args.to) (sym c.as_str.ensures.text) ∙ c.in-Ok-splice.ensures.allowed
+    ∙ c.in-Ok-splice.ensures.allowed
 
 pub returns-in_ok-with_text-in-Ok-splice-clause-suited : goal.returns-in_ok-with_text-in-Ok-splice-clause-suited
 returns-in_ok-with_text-in-Ok-splice-clause-suited c =
@@ -24,5 +23,4 @@ returns-in_ok-with_text-in-Ok-splice-clause-suited c =
 
 pub returns-in-Err-splice-clause-refused : goal.returns-in-Err-splice-clause-refused
 returns-in-Err-splice-clause-refused c =
-    piece_refused c.args.self.now.forest c.args.key c.in-Ok.text.now c.args.from c.args.to c.in-Err-splice.fault c.in-Ok.ensures.found
-    (subst (λ t. TellsFirst (slice_fault t c.args.from c.args.to) c.in-Err-splice.fault) c.as_str.ensures.text c.in-Err-splice.ensures.refused)
+    piece_refused c.args.self.now.forest c.args.key c.in-Ok.text.now c.args.from c.args.to c.in-Err-splice.fault c.in-Ok.ensures.found c.in-Err-splice.ensures.refused
