@@ -77,8 +77,8 @@ index_here f p other h up = ap (λ o. index_in (children_below f o) other) up �
 next_here : (f : Forest) (p other : ℕ) → parent_of f other ≡ Some p → next_of f other ≡ next_in (children_of f p) other
 next_here f p other up = ap (λ o. next_in (children_below f o) other) up
 
-pub next_is_place : (f : Forest) (p other : ℕ) → parent_of f other ≡ Some p → is_place (next_of f other) (children_of f p) ≡ true
-next_is_place f p other up = ap (λ o. is_place o (children_of f p)) (next_here f p other up) ∙ next_place (children_of f p) other
+pub next_is_place : (f : Forest) (p other : ℕ) (next : Option ℕ) → next ≡ next_of f other → parent_of f other ≡ Some p → is_place next (children_of f p) ≡ true
+next_is_place f p other next e up = ap (λ o. is_place o (children_of f p)) (e ∙ next_here f p other up) ∙ next_place (children_of f p) other
 
 -- ---- refused
 
@@ -98,10 +98,11 @@ unfolding put_before_step
 before_is w k p other h up =
     sym (ap (λ o. before_at k other o (index_of w.forest other) w) up ∙ ap (λ o. before_at k other (Some p) o w) (index_here w.forest p other h up))
 
-pub behind_is : (w : Working) (k p other : ℕ) → IsForest w.forest → parent_of w.forest other ≡ Some p → put_step k p (gap_index (next_of w.forest other) (children_of w.forest p)) w ≡ put_behind_step k other w
+pub behind_is : (w : Working) (k p other : ℕ) (next : Option ℕ) → next ≡ next_of w.forest other → IsForest w.forest → parent_of w.forest other ≡ Some p
+    → put_step k p (gap_index next (children_of w.forest p)) w ≡ put_behind_step k other w
 unfolding put_behind_step
-behind_is w k p other h up =
-    ap (λ i. put_step k p i w) (ap (λ o. gap_index o (children_of w.forest p)) (next_here w.forest p other up) ∙ gap_behind (children_of w.forest p) other (NoRepeats-children_of w.forest p h) (child_of w.forest p other h up))
+behind_is w k p other next e h up =
+    ap (λ i. put_step k p i w) (ap (λ o. gap_index o (children_of w.forest p)) (e ∙ next_here w.forest p other up) ∙ gap_behind (children_of w.forest p) other (NoRepeats-children_of w.forest p h) (child_of w.forest p other h up))
     ∙ sym (ap (λ o. behind_at k other o (index_of w.forest other) w) up ∙ ap (λ o. behind_at k other (Some p) o w) (index_here w.forest p other h up))
 
 -- a node that stands below nothing has no place beside it

@@ -1,5 +1,5 @@
 -- Where nothing refuses a put, the place is one for the links too.
-use Rattle.std.proofs.Common.{◌≡◌, ℕ, true, Option, None, Some, refl, arith}
+use Rattle.std.proofs.Common.{◌≡◌, ℕ, true, Option, None, Some, refl, sym, subst, arith}
 use Rattle.std.specs.Option.{option_or}
 use Rattle.std.specs.Prelude.{slice_get}
 use Rattle.std.proofs.lemmas.Bool.Decides.{eqb_tells}
@@ -13,6 +13,7 @@ use Rattle.lx_forest.proofs.Lookups.{is_among-children_of}
 use Rattle.lx_forest.proofs.Walks.{no_parent}
 use Rattle.lx_links.specs.Faults.{unknown, unknown_before, misfit, bound_to, no_child, place_fault}
 use Rattle.lx_draft.specs.Faults.{put_fault, beyond}
+use Rattle.lx_draft.specs.Working.{Working}
 
 pub both_none : {A : Type 0} (a b : Option A) → option_or a b ≡ None → (a ≡ None) × (b ≡ None)
 both_none None b e = (refl, e)
@@ -57,3 +58,16 @@ may_place f k p index h e =
     let n = none_of f k p index e in
     let b = before_fits f p (slice_get (children_of f p) index) h (λ x at. is_among-slice_get (children_of f p) x index at) in
     rw (n.parent, b.0, n.key, n.fit, n.free) b.1
+
+-- what a draft knows of a place at which nothing refuses a put
+pub record MayPlace (f : Forest) (k p : ℕ) (before : Option ℕ) : Type 0 where
+  pub order : IsForest f
+  pub can : CanPut p k f
+  pub free : place_fault p before k f ≡ None
+
+-- said of the draft from without, and known of its links within
+pub may_place_in : (w v : Working) (k p index : ℕ) (before : Option ℕ)
+    → w ≡ v → IsForest v.forest → put_fault k p index v.forest ≡ None → before ≡ slice_get (children_of v.forest p) index → MayPlace w.forest k p before
+may_place_in w v k p index before same h e here =
+    let free : place_fault p before k v.forest ≡ None = subst (λ b. place_fault p b k v.forest ≡ None) (sym here) (may_place v.forest k p index h e) in
+    subst (λ u. MayPlace u.forest k p before) (sym same) (record { order = h; can = can_put v.forest k p index e; free = free })
