@@ -30,7 +30,7 @@ pub fn length_at(draft: &Draft, key: Key) -> u32
     ensures { result ≡ conditions.length_at draft.now.forest key }
 {
     match text_at(draft, key) {
-        Some(text) => lx_text::length(text.text.as_str()),
+        Some(text) => lx_text::length_of(&text.text),
         None => 0,
     }
 }
@@ -59,8 +59,12 @@ pub(crate) fn tail_of(alloc: Global, draft: &Draft, key: Key, offset: u32) -> Re
         Ok(text) => text,
         Err(cause) => return Err(Fault::Cause(cause)),
     };
-    let whole = text.text.as_str();
-    match lx_text::slice(alloc, whole, offset, lx_text::length(whole)) {
+    match lx_text::slice(
+        alloc,
+        text.text.as_str(),
+        offset,
+        lx_text::length_of(&text.text),
+    ) {
         Ok(tail) => Ok(with_text(alloc, text, tail)?),
         Err(fault) => Err(fault),
     }
