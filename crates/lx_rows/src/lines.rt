@@ -4,6 +4,9 @@ use std::alloc::Global;
 /// What begins a line that stands for another. No line of JSON begins so.
 const MARK: &[u8] = b"*** ";
 
+/// A text of a document.
+const TEXT: &[u8] = b"{\"type\":\"text\",\"text\":\"one of many texts, \"}";
+
 /// A paragraph of a document.
 const PARAGRAPH: &[u8] = b"{\"type\":\"paragraph\"}";
 
@@ -71,6 +74,7 @@ fn add_made(session: &mut Vec<u8>, words: &str) -> Result<()> {
         Some(("deep", count)) => add_deep(session, count.parse()?),
         Some(("wide", count)) => add_wide(session, count.parse()?),
         Some(("blocks", count)) => add_blocks(session, count.parse()?),
+        Some(("texts", count)) => add_texts(session, count.parse()?),
         Some(("long", count)) => add_long(session, count.parse()?),
         Some(("unended", line)) => add(session, line.as_bytes()),
         _ => bail!("a line that stands for no other: {words}"),
@@ -175,6 +179,16 @@ fn add_block(session: &mut Vec<u8>) -> Result<()> {
     add(session, b"{\"type\":\"quote\",\"children\":[")?;
     add_list(session, 99, PARAGRAPH)?;
     add(session, b"]}")
+}
+
+/// Adds a load of a paragraph of so many texts.
+fn add_texts(session: &mut Vec<u8>, count: u32) -> Result<()> {
+    add(
+        session,
+        b"{\"load\":{\"root\":{\"children\":[{\"type\":\"paragraph\",\"children\":[",
+    )?;
+    add_list(session, count, TEXT)?;
+    add(session, b"]}]}}}\n")
 }
 
 /// Adds a text so many times, with commas between.

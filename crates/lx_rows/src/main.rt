@@ -10,6 +10,7 @@
 //! - `*** deep COUNT`: a load of so many lists and items, each below the one before it,
 //! - `*** wide COUNT`: a load of so many paragraphs,
 //! - `*** blocks COUNT`: a load of so many quotes, each of 99 paragraphs,
+//! - `*** texts COUNT`: a load of a paragraph of so many texts, which come to be one,
 //! - `*** long COUNT`: a load of one text of so many letters,
 //! - `*** unended LINE`: the line without its end, at the end of a session.
 //!

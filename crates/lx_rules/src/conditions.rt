@@ -7,7 +7,7 @@ ghost use Rattle.lx_rules.specs.Pieces.{has_piece};
 use crate::types::is_of_row;
 use lx_node::{Fields, Kind, TextFields, View};
 use lx_step::{Condition, TypeRow};
-use lx_text::length;
+use lx_text::length_of;
 
 /// Whether a piece stands in a text, with all its characters one behind another.
 fn contains(text: &str, piece: &str) -> bool
@@ -24,7 +24,7 @@ fn is_met_by_text(condition: &Condition, own: &TextFields) -> bool
     match condition {
         Condition::Text(text) => own.text.is_equal(text),
         Condition::Contains(piece) => contains(own.text.as_str(), piece.as_str()),
-        Condition::Shorter(limit) => u64::from(length(own.text.as_str())) < *limit,
+        Condition::Shorter(limit) => u64::from(length_of(&own.text)) < *limit,
         Condition::Format(format) => u64::from(own.format) == *format,
         _ => true,
     }

@@ -99,14 +99,16 @@ at_nodes r q edit s = after (resolved r s) (λ k. after (resolved q s) (λ p. on
 
 -- ---- put
 
--- It is the root, or the place is in its tree; the place may not hold it; or has fewer children beside it.
+-- the index is above the number of children beside it
 abbrev pub too_far : Option ℕ → ℕ → Option Cause
 too_far None size = None
 too_far (Some index) size = if nat_lt size index then Some (BadPlace index) else None
 
+-- it is the root, or the place is in its tree
 abbrev pub inside_itself : Forest → ℕ → ℕ → Option Cause
 inside_itself f k p = if k == 0 || is_within f k p then Some (BadPlace k) else None
 
+-- why a node isn't put there, the first cause; the place may not hold it, too
 abbrev pub move_fault : ℕ → ℕ → Option ℕ → Forest → Option Cause
 move_fault k p index f =
     option_or (inside_itself f k p) (option_or (misfit (kind_of f p) (kind_of f k))

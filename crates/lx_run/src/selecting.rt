@@ -239,7 +239,7 @@ fn length_of(links: &Links, key: Key) -> u32
 {
     match links.node(key) {
         Some(node) => match &node.fields {
-            Fields::Text(text) => lx_text::length(text.text.as_str()),
+            Fields::Text(text) => lx_text::length_of(&text.text),
             _ => 0,
         },
         None => 0,

@@ -45,7 +45,7 @@ fn length_at(draft: &Draft, key: Key) -> u32
     ensures { result ≡ conditions.length_at draft.now.forest key }
 {
     match draft.text_at(key) {
-        Ok(text) => lx_text::length(text.text.as_str()),
+        Ok(text) => lx_text::length_of(&text.text),
         Err(_) => 0,
     }
 }

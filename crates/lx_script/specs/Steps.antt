@@ -1,4 +1,5 @@
--- The steps of an update, of a listener, and those that a step queues. Each is an object with the members that its sentence names; those with ? may be missing.
+-- The steps of an update, of a listener, and those that a step queues. Each is an object with the members that its sentence
+-- names; those with ? may be missing.
 use Rattle.std.specs.Prelude.{ℕ, List, [], ◌∷◌, Bool, false, codes, if◌then◌else◌, Option, None, Some, option_map, option_and_then}
 use Rattle.std.specs.Option.{option_zip}
 use Rattle.std.specs.Str.{bytes_eq}
