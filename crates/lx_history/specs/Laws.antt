@@ -20,9 +20,9 @@ abbrev pub GoesForth : ℕ → History → History → Type 0
 GoesForth moment h g = redone moment h ≡ Some g
 
 pub record HistoriesTurn : Type 0 where
-  -- what is pushed behind a current state is undone: that state is current again
-  pub push_undone : (before after state : State) (marks : Marked) (tags : Tags) (moment later : ℕ) (h g : History) → h.current ≡ Some state
-      → action_of h before after marks tags moment ≡ Push → GoesBack later (noted before after marks tags moment h) g → g.current ≡ Some state
+  -- what is pushed behind a current state is undone: there is an entry to go back to, which is that state
+  pub push_undone : (before after state : State) (marks : Marked) (tags : Tags) (moment later : ℕ) (h : History) → h.current ≡ Some state
+      → action_of h before after marks tags moment ≡ Push → (g : History) × GoesBack later (noted before after marks tags moment h) g × (g.current ≡ Some state)
   -- what is undone is redone, and what is redone is undone
   pub undo_redone : (state : State) (moment later : ℕ) (h mid g : History) → h.current ≡ Some state → GoesBack moment h mid → GoesForth later mid g → IsBackAt state h g
   pub redo_undone : (state : State) (moment later : ℕ) (h mid g : History) → h.current ≡ Some state → GoesForth moment h mid → GoesBack later mid g → IsBackAt state h g

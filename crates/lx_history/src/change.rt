@@ -14,7 +14,7 @@ use lx_links::Links;
 use lx_marks::Marks;
 use lx_node::{Key, Mode, Point, PointKind, TextFields};
 use lx_select::Selection;
-use lx_text::length;
+use lx_text::length_of;
 
 /// The place of a range whose ends are the same.
 fn caret(selection: &Selection) -> Option<Point>
@@ -113,8 +113,8 @@ fn edited(old: &TextFields, new: &TextFields, a: Point, b: Point) -> Change
 {
     if is_same_mode(old.mode, new.mode) && is_in_text(&a) && a.key == b.key {
         grown(
-            length(old.text.as_str()) as u64,
-            length(new.text.as_str()) as u64,
+            length_of(&old.text) as u64,
+            length_of(&new.text) as u64,
             a.offset as u64,
             b.offset as u64,
         )

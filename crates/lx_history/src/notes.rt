@@ -15,6 +15,13 @@ use lx_marks::Marks;
 use lx_select::Selection;
 use lx_step::Tags;
 
+/// A commit as typing: of what kind it was, and its moment in milliseconds.
+#[derive(Clone, Copy)]
+struct Typing {
+    change: Change,
+    moment: u64,
+}
+
 impl History {
     /// What `note` would do to the entries.
     #[tactic(auto, unfolding(crate::specs::History::action_of))]
@@ -29,7 +36,7 @@ impl History {
         ensures { result ≡ action_of self.now.history before.now after.now marks.now tags moment }
     {
         let change = change_of(before, after, marks);
-        self.action_by(before, after, marks, tags, moment, change)
+        self.action_by(before, after, marks, tags, Typing { change, moment })
     }
 
     /// Notes a commit that led from one state to the other at a moment, in milliseconds. The marks tell what the update
@@ -40,7 +47,7 @@ impl History {
         ensures { self.new.history ≡ noted before.now after marks.now tags moment self.old.history }
     {
         let change = change_of(before, &after, marks);
-        let action = self.action_by(before, &after, marks, tags, moment, change);
+        let action = self.action_by(before, &after, marks, tags, Typing { change, moment });
         self.record(action, after);
         self.last = change_told(tags, change);
         self.moment = moment;
@@ -76,10 +83,9 @@ impl History {
         after: &State,
         marks: &Marks,
         tags: Tags,
-        moment: u64,
-        change: Change,
+        typing: Typing,
     ) -> Action
-        ensures { result ≡ action_by self.now.history before.now after.now marks.now tags moment change }
+        ensures { result ≡ action_by self.now.history before.now after.now marks.now tags typing.moment typing.change }
     {
         if tags.historic {
             Action::Discard
@@ -89,7 +95,7 @@ impl History {
             Action::Push
         } else if is_unmarked(marks) {
             unmarked_action(&after.selection)
-        } else if !tags.push && self.goes_on(change, moment) {
+        } else if !tags.push && self.goes_on(typing) {
             Action::Merge
         } else if is_touched_alone(marks, &before.links, &after.links) {
             Action::Merge
@@ -99,10 +105,10 @@ impl History {
     }
 
     /// Whether the typing goes on that the last commit was.
-    fn goes_on(&self, change: Change, moment: u64) -> bool
-        ensures { result ≡ (changes.is_typing change self.now.history.last && nat_lt moment (self.now.history.moment + self.now.history.delay)) }
+    fn goes_on(&self, typing: Typing) -> bool
+        ensures { result ≡ (changes.is_typing typing.change self.now.history.last && nat_lt typing.moment (self.now.history.moment + self.now.history.delay)) }
     {
-        is_typing(change, self.last) && is_soon(moment, self.moment, self.delay)
+        is_typing(typing.change, self.last) && is_soon(typing.moment, self.moment, self.delay)
     }
 }
 

@@ -8,7 +8,7 @@ ghost use Rattle.lx_history.specs.Changes as changes;
 use lx_links::Links;
 use lx_marks::Marks;
 use lx_node::{Fields, Key, TextFields};
-use lx_text::length;
+use lx_text::length_of;
 
 fn fields_at(links: &Links, key: Key) -> Option<&Fields>
     ensures { option_copied result ≡ fields_of links.now key }
@@ -34,7 +34,7 @@ pub(crate) fn length_at(links: &Links, key: Key) -> u64
     ensures { result ≡ changes.length_of (changes.text_at links.now key) }
 {
     match text_at(links, key) {
-        Some(text) => length(text.text.as_str()) as u64,
+        Some(text) => length_of(&text.text) as u64,
         None => 0,
     }
 }

@@ -1,4 +1,4 @@
-use Rattle.std.proofs.Common.{◌≡◌, ◌∙◌, ℕ, List, [], ◌∷◌, None, Some, Option, unwrap_or, sym, ap, refl, arith, take}
+use Rattle.std.proofs.Common.{◌≡◌, ℕ, List, [], ◌∷◌, None, Some, Option, refl, arith, take}
 use Rattle.std.proofs.lemmas.Grind.{common_steps}
 use Rattle.lx_draft.specs.declared.state.State.{State}
 use Rattle.lx_history.specs.declared.kinds.Action.{Action}
@@ -8,26 +8,19 @@ use Rattle.lx_history.specs.History.{History, noted, recorded, most_entries, wit
 use Rattle.lx_history.specs.Laws.{IsBackAt}
 use Rattle.lx_history.proofs.laws.histories_turn.Goals as goal
 
-told : (h g : History) → Some h ≡ Some g → h ≡ g
-told h g e = ap (λ o. unwrap_or o h) e
-
--- the first entry is the state that an undo makes current
-first_reached : (later : ℕ) (state : State) (entries : List State) (h g : History) → undone_to later (state ∷ entries) h ≡ Some g → g.current ≡ Some state
-first_reached later state entries h g goes = sym (ap (λ (k : History). k.current) (told _ g goes))
-
 -- a current state in front of the entries is the first of them, of as many as there may be
-front_reached : (later : ℕ) (state : State) (current : Option State) (entries : List State) (h g : History) → current ≡ Some state
-    → undone_to later (take most_entries (with_entry current entries)) h ≡ Some g → g.current ≡ Some state
-front_reached later state None entries h g is goes = absurd (cc)
-front_reached later state (Some other) entries h g is goes = first_reached later other (take 499 entries) h g goes ∙ is
+front_reached : (later : ℕ) (state : State) (current : Option State) (entries : List State) (h : History) → current ≡ Some state
+    → (g : History) × (undone_to later (take most_entries (with_entry current entries)) h ≡ Some g) × (g.current ≡ Some state)
+front_reached later state None entries h is = absurd (cc)
+front_reached later state (Some other) entries h is = (_, refl, is)
 
 -- what is pushed is undone
-push_back : (later moment : ℕ) (state after : State) (last : Change) (action : Action) (h g : History) → h.current ≡ Some state → action ≡ Push
-    → undone later (record (recorded action after h) { last = last; moment = moment }) ≡ Some g → g.current ≡ Some state
+push_back : (later moment : ℕ) (state after : State) (last : Change) (action : Action) (h : History) → h.current ≡ Some state → action ≡ Push
+    → (g : History) × (undone later (record (recorded action after h) { last = last; moment = moment }) ≡ Some g) × (g.current ≡ Some state)
 unfolding undone
-push_back later moment state after last Push h g is_current is_push goes = front_reached later state h.current h.undo _ g is_current goes
-push_back later moment state after last Merge h g is_current is_push goes = absurd (cc)
-push_back later moment state after last Discard h g is_current is_push goes = absurd (cc)
+push_back later moment state after last Push h is_current is_push = front_reached later state h.current h.undo _ is_current
+push_back later moment state after last Merge h is_current is_push = absurd (cc)
+push_back later moment state after last Discard h is_current is_push = absurd (cc)
 
 undo_redo : (moment later : ℕ) (state : State) (entries : List State) (h mid g : History) → h.undo ≡ entries → h.current ≡ Some state
     → undone_to moment entries h ≡ Some mid → redone_to later mid.redo mid ≡ Some g → IsBackAt state h g
@@ -42,7 +35,7 @@ redo_undo moment later state (e ∷ es) h mid g is_redo is_current goes comes = 
 pub returns : goal.returns
 unfolding undone redone noted
 returns c = record {
-  push_undone = λ before after state marks tags moment later h g is_current is_push goes. push_back later moment state after _ _ h g is_current is_push goes;
+  push_undone = λ before after state marks tags moment later h is_current is_push. push_back later moment state after _ _ h is_current is_push;
   undo_redone = λ state moment later h mid g is_current goes comes. undo_redo moment later state h.undo h mid g refl is_current goes comes;
   redo_undone = λ state moment later h mid g is_current goes comes. redo_undo moment later state h.redo h mid g refl is_current goes comes;
 }
