@@ -8,3 +8,4 @@ pub mod Shown
 pub mod Limits
 pub mod Kept
 pub mod Turned
+pub mod Selected

@@ -73,5 +73,6 @@ state_rises f g s t k m state other more = record {
   };
   within = within_key f k m state.within (key_within g m other.within);
   selected = state.selected;
+  kept = state.kept;
   joined = state.joined;
 }

@@ -211,6 +211,7 @@ module _ (e : Editor) (turn : Turn) (moment : ℕ) (state : State) (batch : Told
     allowed = reached;
     reads = batch.reads;
     few = may.few;
+    joined = may.stands.joined;
     number = refl;
     made = refl;
   }

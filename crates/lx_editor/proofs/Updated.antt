@@ -25,7 +25,7 @@ use Rattle.lx_draft.specs.Covering as drafts
 use Rattle.lx_draft.specs.Covering.{Covers, IsReady}
 use Rattle.lx_draft.specs.Faults.{after}
 use Rattle.lx_draft.specs.Selecting.{selection_lost}
-use Rattle.lx_draft.specs.Freezing.{swept, freeze_step, freeze_fault, limits_fault, Freezes}
+use Rattle.lx_draft.specs.Freezing.{swept, freeze_step, freeze_fault, limits_fault, kept_selection, Freezes}
 use Rattle.lx_draft.proofs.Covered.{answered, covered-self}
 use Rattle.lx_plain.specs.Render.{render}
 use Rattle.lx_plain.specs.Allowed.{Shows, AreCovered, AreAllowed}
@@ -58,6 +58,7 @@ use Rattle.lx_editor.specs.Loaded.{left_by_load}
 use Rattle.lx_editor.specs.Judged.{MayGiveWay, IsLeft, HasGrown, IsFresh, IsLeftOfImport}
 use Rattle.lx_editor.proofs.Kept.{kinds, new_kinds, entries_kept}
 use Rattle.lx_editor.proofs.Limits.{first_none, second_none}
+use Rattle.lx_editor.proofs.Selected.{kept_again}
 use Rattle.lx_editor.proofs.Loaded.{all_touched, only_root, new_or_root, shown_by}
 
 -- ---- what the steps left
@@ -102,6 +103,13 @@ nothing_against w f selection marks next_key frozen =
     let first = first_none (selection_lost (swept w).selection (swept w).forest) (limits_fault (swept w).forest (swept w).next_key) told.0 in
     let second = second_none (selection_lost (swept w).selection (swept w).forest) (limits_fault (swept w).forest (swept w).next_key) told.0 in
     subst (λ (v : Working). (selection_lost v.selection v.forest ≡ None) × (limits_fault v.forest v.next_key ≡ None)) told.1 (first, second)
+
+-- each node that is selected in what is frozen is there
+kept_frozen : (w : Working) (f : Forest) (s : Selection) (marks : Marked) (next_key : ℕ) → Freezes w f s marks next_key → kept_selection f s ≡ s
+unfolding freeze_step swept
+kept_frozen w f s marks next_key frozen =
+    let left : Working = record (swept w) { forest = f; selection = s; marks = marks; next_key = next_key } in
+    subst (λ (v : Working). kept_selection v.forest v.selection ≡ v.selection) (answered (freeze_fault (swept w)) (swept w) left frozen).1 (kept_again (drop_detached w.forest) w.selection)
 
 -- what the draft leaves that came to rest
 pub rest_left : (rules : List AnyRule) (w v : Working) (f : Forest) (selection : Selection) (marks : Marked) (next_key : ℕ) → settle_step (answers_of rules) w ≡ Ok v → Freezes v f selection marks next_key
@@ -148,6 +156,7 @@ left_frozen rules v f selection marks next_key order joined rested frozen start 
         start = start;
         within = against.1;
         selected = against.0;
+        kept = kept_frozen v f selection marks next_key frozen;
         joined = subst IsJoined parts.0 (settling_ends.joined_swept v.forest order joined);
       };
       rested = subst (λ g. IsRested answers g marks) parts.0 (subst (IsRested answers (drop_detached v.forest)) parts.1 (settling_ends.rested_swept answers v.forest v.marks order rested));
@@ -341,6 +350,7 @@ new_valid f selection view history delay rules listeners tells_view alone none s
     start = start;
     within = subst (λ g. limits_fault g 1 ≡ None) (sym alone) refl;
     selected = subst (λ s. selection_lost s f ≡ None) (sym none) refl;
+    kept = subst (λ s. kept_selection f s ≡ s) (sym none) refl;
     joined = subst IsJoined (sym alone) root_joined;
   };
   shown = subst (Shows view) (sym alone) (subst (λ v. Shows v root_alone) (sym shown) refl);

@@ -7,7 +7,7 @@ use Rattle.lx_forest.specs.Lookups.{has, kind_of, roots, IsForest}
 use Rattle.lx_plain.specs.Allowed.{Shows}
 use Rattle.lx_draft.specs.declared.state.State.{State}
 use Rattle.lx_draft.specs.Working.{MayStart}
-use Rattle.lx_draft.specs.Freezing.{limits_fault}
+use Rattle.lx_draft.specs.Freezing.{limits_fault, kept_selection}
 use Rattle.lx_draft.specs.Selecting.{selection_lost}
 use Rattle.lx_history.specs.History.{History}
 use Rattle.lx_settle.specs.Joined.{IsJoined}
@@ -30,13 +30,15 @@ editor_of a = record {
 }
 
 -- A state that may be committed: one tree, with no detached one beside it, from which an update may start with this next
--- key, which is within the limits, in which the selection lies, and whose texts are joined.
+-- key, which is within the limits, in which the selection lies, each point of a range and each selected node, and whose texts
+-- are joined.
 pub record IsState (f : Forest) (selection : Selection) (next_key : ℕ) : Type 0 where
   pub in_order : IsForest f
   pub alone : roots f ≡ 0 ∷ []
   pub start : MayStart f next_key
   pub within : limits_fault f next_key ≡ None
   pub selected : selection_lost selection f ≡ None
+  pub kept : kept_selection f selection ≡ selection
   pub joined : IsJoined f
 
 -- ---- what the history keeps

@@ -116,7 +116,8 @@ impl Editor {
 
     /// How many entries there are to go back to, and to go forth to, at most 500 each.
     pub fn depths(&self) -> (u32, u32)
-        ensures { (result.0 ≡ length self.now.history.undo) × (result.1 ≡ length self.now.history.redo) }
+        ensures told { (result.0 ≡ length self.now.history.undo) × (result.1 ≡ length self.now.history.redo) }
+        ensures few { (result.0 ≤ 500) × (result.1 ≤ 500) }
     {
         self.history.depths()
     }
