@@ -32,8 +32,10 @@ fn with_children_gone(marks: &Marks, old: &Links) -> Result<Marks, NoMemory>
 }
 
 impl Editor {
-    ghost use Rattle.std.specs.Prelude.{◌+◌, ◌<◌, ◌≤◌, ◌≢◌, true, false, [], OnErr};
+    ghost use Rattle.std.specs.Prelude.{ℕ, ◌+◌, ◌<◌, ◌≤◌, ◌≢◌, true, false, [], OnErr};
     ghost use Rattle.serde_json.specs.View.{view};
+    ghost use Rattle.lx_node.specs.Limits.{most_key};
+    ghost use Rattle.lx_node.specs.NamedTrees.{total};
     ghost use Rattle.lx_marks.specs.Marks.{is_touched};
     ghost use Rattle.lx_json.specs.Exporting.{exported};
     ghost use Rattle.lx_json.specs.Back.{ReadsBack};
@@ -115,11 +117,12 @@ impl Editor {
         }
     }
 
-    /// What is committed, as the one document that says it. Where the root has children, `load` and lx_json's `import`
-    /// read it back as the same tree, up to keys.
+    /// What is committed, as the one document that says it. Where the root has children, lx_json's `import`, with which
+    /// `load` begins, reads it back as the same tree, up to keys, with any next key for which there are keys enough: the
+    /// next key behind the tree's nodes is at most 1,048,576.
     pub fn export(&self, alloc: Global) -> Result<Value, NoMemory>
         ensures written { IfOk result (λ document. view document ≡ exported self.now.tree) }
-        ensures back { children_of self.now.tree 0 ≢ [] → IfOk result (λ document. ReadsBack (view document) self.now.tree) }
+        ensures back { (next : ℕ) → 0 < next → next + total self.now.tree ≤ most_key + 1 → children_of self.now.tree 0 ≢ [] → IfOk result (λ document. ReadsBack (view document) next self.now.tree) }
     {
         export(alloc, &self.state)
     }

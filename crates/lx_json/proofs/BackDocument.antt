@@ -1,9 +1,11 @@
 -- The document of a tree is read as the same tree.
-use Rattle.std.proofs.Common.{◌≡◌, ◌≢◌, ◌∙◌, ℕ, codes, [], ◌∷◌, None, Ok, refl, sym, ap, subst, arith}
+use Rattle.std.proofs.Common.{◌≡◌, ◌≢◌, ◌∙◌, ℕ, ◌+◌, ◌<◌, ◌≤◌, codes, [], ◌∷◌, None, Ok, refl, sym, ap, subst, arith}
 use Rattle.std.proofs.lemmas.Bool.Decides.{eqb_tells}
 use Rattle.serde_json.specs.Data.{Data, object, member, no_members, no_items, item}
 use Rattle.lx_node.specs.Trees.{Trees, nil, tree}
+use Rattle.lx_node.specs.NamedTrees.{total}
 use Rattle.lx_node.specs.Kinds.{type_name, may_hold}
+use Rattle.lx_node.specs.Limits.{most_key}
 use Rattle.lx_node.specs.declared.kind.Kind.{Kind}
 use Rattle.lx_node.specs.declared.kind.Kind.TheVariants.{Root}
 use Rattle.lx_forest.specs.Forest.{Forest, Label}
@@ -60,24 +62,24 @@ document-back l below h held one told some =
     ap (λ r. told_under (codes "/root") (and_then r if_filled)) (read_root l below h held one told)
     ∙ ap (told_under (codes "/root")) (filled (record { kind = l.kind; fields = l.fields }) below (some_below l below one some))
 
-draft-back : (d : Data) (trees : Trees Piece) → document_of d ≡ Ok trees → limits_fault (rooted 1 trees) (next_behind 1 trees) ≡ None → imported d 1 ≡ Ok (drafted (rooted 1 trees) (next_behind 1 trees))
+draft-back : (d : Data) (next : ℕ) (trees : Trees Piece) → document_of d ≡ Ok trees → limits_fault (rooted next trees) (next_behind next trees) ≡ None → imported d next ≡ Ok (drafted (rooted next trees) (next_behind next trees))
 unfolding imported
-draft-back d trees is none =
-    ap (λ r. and_then r (draft_of 1)) is ∙ ap (λ fault. answer fault (drafted (rooted 1 trees) (next_behind 1 trees))) none
+draft-back d next trees is none =
+    ap (λ r. and_then r (draft_of next)) is ∙ ap (λ fault. answer fault (drafted (rooted next trees) (next_behind next trees))) none
 
-tree_reads_back : (l : Label) (below : Forest) → IsForest (tree l below nil) → IsHeld may_hold (tree l below nil) → roots (tree l below nil) ≡ 0 ∷ [] → AreGivenBack (tree l below nil) → children_of (tree l below nil) 0 ≢ []
-    → limits_fault (tree l below nil) 1 ≡ None → ReadsBack (exported (tree l below nil)) (tree l below nil)
-tree_reads_back l below h held one told some none =
+tree_reads_back : (next : ℕ) (l : Label) (below : Forest) → IsForest (tree l below nil) → IsHeld may_hold (tree l below nil) → roots (tree l below nil) ≡ 0 ∷ [] → AreGivenBack (tree l below nil)
+    → 0 < next → next + total (tree l below nil) ≤ most_key + 1 → children_of (tree l below nil) 0 ≢ [] → limits_fault (tree l below nil) 1 ≡ None → ReadsBack (exported (tree l below nil)) next (tree l below nil)
+tree_reads_back next l below h held one told first room some none =
     let trees : Trees Piece = pieces_of (tree l below nil) in record {
-      draft = drafted (rooted 1 trees) (next_behind 1 trees);
-      read = draft-back (exported (tree l below nil)) trees (document-back l below h held one told some) (limits-back l below h one (root_kind l below h one) none);
-      same = ap (λ t. tree (record { kind = l.kind; fields = l.fields }) t nil) (pieces-keyed 1 (pieces_of below));
+      draft = drafted (rooted next trees) (next_behind next trees);
+      read = draft-back (exported (tree l below nil)) next trees (document-back l below h held one told some) (limits-back next l below h one (root_kind l below h one) first room none);
+      same = ap (λ t. tree (record { kind = l.kind; fields = l.fields }) t nil) (pieces-keyed next (pieces_of below));
     }
 
-reads_back : (f : Forest) → IsForest f → IsHeld may_hold f → roots f ≡ 0 ∷ [] → AreGivenBack f → children_of f 0 ≢ [] → limits_fault f 1 ≡ None → ReadsBack (exported f) f
-reads_back nil h held one told some none = absurd (cc)
-reads_back (tree l below nil) h held one told some none = tree_reads_back l below h held one told some none
-reads_back (tree l below (tree m under rest)) h held one told some none = absurd (cc)
+reads_back : (next : ℕ) (f : Forest) → IsForest f → IsHeld may_hold f → roots f ≡ 0 ∷ [] → AreGivenBack f → 0 < next → next + total f ≤ most_key + 1 → children_of f 0 ≢ [] → limits_fault f 1 ≡ None → ReadsBack (exported f) next f
+reads_back next nil h held one told first room some none = absurd (cc)
+reads_back next (tree l below nil) h held one told first room some none = tree_reads_back next l below h held one told first room some none
+reads_back next (tree l below (tree m under rest)) h held one told first room some none = absurd (cc)
 
 -- ---- what is written
 
@@ -87,8 +89,8 @@ document_written f k root document first h one own made =
     let whole : alone k f ≡ f = ap (λ k. alone k f) first ∙ alone_whole f h one in
     made ∙ sym (ap (λ ds. object (member (codes "root") (first_data ds) no_members)) (sym (ap trees_data whole) ∙ own))
 
-pub document_reads_back : (f : Forest) (k : ℕ) (root document : Data) → k ≡ 0 → IsForest f → roots f ≡ 0 ∷ [] → trees_data (alone k f) ≡ item root no_items → document ≡ object (member (codes "root") root no_members)
-    → AreGivenBack (alone k f) → Sound f → children_of f 0 ≢ [] → limits_fault f 1 ≡ None → ReadsBack document f
-document_reads_back f k root document first h one own made told s some none =
-    let whole : alone k f ≡ f = ap (λ k. alone k f) first ∙ alone_whole f h one in
-    subst (λ d. ReadsBack d f) (sym (document_written f k root document first h one own made)) (reads_back f h s.held one (subst AreGivenBack whole told) some none)
+pub document_reads_back : (next : ℕ) (f : Forest) (k : ℕ) (root document : Data) → k ≡ 0 → IsForest f → roots f ≡ 0 ∷ [] → trees_data (alone k f) ≡ item root no_items → document ≡ object (member (codes "root") root no_members)
+    → AreGivenBack (alone k f) → Sound f → 0 < next → next + total f ≤ most_key + 1 → children_of f 0 ≢ [] → limits_fault f 1 ≡ None → ReadsBack document next f
+document_reads_back next f k root document zero h one own made told s first room some none =
+    let whole : alone k f ≡ f = ap (λ k. alone k f) zero ∙ alone_whole f h one in
+    subst (λ d. ReadsBack d next f) (sym (document_written f k root document zero h one own made)) (reads_back next f h s.held one (subst AreGivenBack whole told) first room some none)

@@ -1,5 +1,5 @@
--- A document that was written within the limits is read within them: keys don't matter.
-use Rattle.std.proofs.Common.{◌≡◌, ◌∙◌, ℕ, ◌+◌, ◌≤◌, max, true, cond, eqb, List, [], ◌∷◌, ◌++◌, length, Option, None, Some, unwrap_or, refl, sym, ap, arith}
+-- A document that was written within the limits is read within them, with any next key from which on there are keys enough.
+use Rattle.std.proofs.Common.{◌≡◌, ◌∙◌, ℕ, ◌+◌, ◌<◌, ◌≤◌, max, true, cond, eqb, List, [], ◌∷◌, ◌++◌, length, Option, None, Some, unwrap_or, refl, sym, ap, arith}
 use Rattle.std.specs.Option.{option_or}
 use Rattle.std.proofs.lemmas.Bool.Decides.{eqb_tells, nat_tests}
 use Rattle.lx_node.specs.Trees.{nil, tree}
@@ -93,15 +93,6 @@ first_none None None (Some cause) d e h last = absurd (cc)
 first_none None (Some cause) c d e h last = absurd (cc)
 first_none (Some cause) b c d e h last = absurd (cc)
 
-second_none : (a b c : Option Cause) → option_or a (option_or b c) ≡ None → b ≡ None
-second_none None None c h = refl
-second_none None (Some cause) c h = absurd (cc)
-second_none (Some cause) b c h = absurd (cc)
-
-few_nodes : (n : ℕ) → over Nodes most_nodes n ≡ None → n ≤ most_nodes
-unfolding capped
-few_nodes n none = grind (arith, nat_tests, none)
-
 few_keys : (n : ℕ) → n ≤ most_key → over KeyCount most_key n ≡ None
 unfolding capped
 few_keys n small = grind (arith, nat_tests, small)
@@ -110,22 +101,21 @@ abbrev fault_of : ℕ → ℕ → ℕ → ℕ → Option Cause
 fault_of deep nodes characters next =
     option_or (over Depth most_depth deep) (option_or (over Nodes most_nodes nodes) (option_or (over Characters most_characters characters) (over KeyCount most_key next)))
 
-still_none : (deep nodes characters a b c next old : ℕ) → a ≡ deep → b ≡ nodes → c ≡ characters → next ≤ nodes → fault_of deep nodes characters old ≡ None → fault_of a b c next ≡ None
+still_none : (deep nodes characters a b c next old : ℕ) → a ≡ deep → b ≡ nodes → c ≡ characters → next ≤ most_key → fault_of deep nodes characters old ≡ None → fault_of a b c next ≡ None
 still_none deep nodes characters a b c next old e g h few none =
-    let within : nodes ≤ most_nodes = few_nodes nodes (second_none (over Depth most_depth deep) (over Nodes most_nodes nodes) (option_or (over Characters most_characters characters) (over KeyCount most_key old)) none) in
     ap (λ n. fault_of n b c next) e ∙ ap (λ n. fault_of deep n c next) g ∙ ap (λ n. fault_of deep nodes n next) h
-    ∙ first_none (over Depth most_depth deep) (over Nodes most_nodes nodes) (over Characters most_characters characters) (over KeyCount most_key old) (over KeyCount most_key next) none (few_keys next (omega (arith, few, within)))
+    ∙ first_none (over Depth most_depth deep) (over Nodes most_nodes nodes) (over Characters most_characters characters) (over KeyCount most_key old) (over KeyCount most_key next) none (few_keys next few)
 
-pub limits-back : (l : Label) (below : Forest) → IsForest (tree l below nil) → roots (tree l below nil) ≡ 0 ∷ [] → l.kind ≡ Root → limits_fault (tree l below nil) 1 ≡ None
-    → limits_fault (rooted 1 (pieces_of (tree l below nil))) (next_behind 1 (pieces_of (tree l below nil))) ≡ None
-limits-back l below h one root none =
+pub limits-back : (next : ℕ) (l : Label) (below : Forest) → IsForest (tree l below nil) → roots (tree l below nil) ≡ 0 ∷ [] → l.kind ≡ Root → 0 < next → next + total (tree l below nil) ≤ most_key + 1 → limits_fault (tree l below nil) 1 ≡ None
+    → limits_fault (rooted next (pieces_of (tree l below nil))) (next_behind next (pieces_of (tree l below nil))) ≡ None
+limits-back next l below h one root first room none =
     let f : Forest = tree l below nil in
-    let g : Forest = rooted 1 (pieces_of f) in
-    let i : IsForest g = rooted-in_order 1 (record { kind = l.kind; fields = l.fields }) (pieces_of below) nil (omega arith) root in
+    let g : Forest = rooted next (pieces_of f) in
+    let i : IsForest g = rooted-in_order next (record { kind = l.kind; fields = l.fields }) (pieces_of below) nil first root in
     let old = alone_whole f h one in
     let new = alone_whole g i refl in
-    let deep : tree_depth g ≡ tree_depth f = tree_depth-deepest g i new ∙ ap (λ n. max 0 (max n 0)) (deepest-keyed 1 1 below) ∙ sym (tree_depth-deepest f h old) in
-    let nodes : total g ≡ total f = omega (arith, total-keyed 1 (pieces_of below), total-pieces below) in
-    let weighs : weight characters_in g ≡ weight characters_in f = omega (arith, weight-keyed 1 below) in
+    let deep : tree_depth g ≡ tree_depth f = tree_depth-deepest g i new ∙ ap (λ n. max 0 (max n 0)) (deepest-keyed 1 next below) ∙ sym (tree_depth-deepest f h old) in
+    let nodes : total g ≡ total f = omega (arith, total-keyed next (pieces_of below), total-pieces below) in
+    let weighs : weight characters_in g ≡ weight characters_in f = omega (arith, weight-keyed next below) in
     let characters : tree_characters g ≡ tree_characters f = tree_characters-weight g i new ∙ weighs ∙ sym (tree_characters-weight f h old) in
-    still_none (tree_depth f) (total f) (tree_characters f) (tree_depth g) (total g) (tree_characters g) (1 + total (pieces_of below)) 1 deep nodes characters (omega (arith, total-pieces below)) none
+    still_none (tree_depth f) (total f) (tree_characters f) (tree_depth g) (total g) (tree_characters g) (next + total (pieces_of below)) 1 deep nodes characters (omega (arith, total-pieces below, room)) none

@@ -1,5 +1,5 @@
 -- What is read back from the document of a tree.
-use Rattle.std.specs.Prelude.{◌≡◌, Ok}
+use Rattle.std.specs.Prelude.{◌≡◌, ℕ, Ok}
 use Rattle.serde_json.specs.Data.{Data}
 use Rattle.lx_node.specs.Trees.{Trees, nil, tree}
 use Rattle.lx_forest.specs.Forest.{Forest}
@@ -12,8 +12,8 @@ abbrev pub pieces_of : Forest → Trees Piece
 pieces_of nil = nil
 pieces_of (tree l below rest) = tree (record { kind = l.kind; fields = l.fields }) (pieces_of below) (pieces_of rest)
 
--- imported with the next key 1, the document makes a draft of the same tree, up to keys
-pub record ReadsBack (d : Data) (f : Forest) : Type 0 where
+-- imported with this next key, the document makes a draft of the same tree, up to keys
+pub record ReadsBack (d : Data) (next : ℕ) (f : Forest) : Type 0 where
   pub draft : Working
-  pub read : imported d 1 ≡ Ok draft
+  pub read : imported d next ≡ Ok draft
   pub same : pieces_of draft.forest ≡ pieces_of f

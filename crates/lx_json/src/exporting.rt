@@ -1,6 +1,8 @@
-ghost use Rattle.std.specs.Prelude.{◌≡◌, ◌≢◌, codes, [], ◌∷◌, true, None, IfOk};
+ghost use Rattle.std.specs.Prelude.{◌≡◌, ◌≢◌, ℕ, ◌+◌, ◌<◌, ◌≤◌, codes, [], ◌∷◌, true, None, IfOk};
 ghost use Rattle.serde_json.specs.Data.{object, member, no_members, item, no_items};
 ghost use Rattle.serde_json.specs.View.{view};
+ghost use Rattle.lx_node.specs.Limits.{most_key};
+ghost use Rattle.lx_node.specs.NamedTrees.{total};
 ghost use Rattle.lx_forest.specs.Lookups.{roots, alone, has, children_of, IsForest};
 ghost use Rattle.lx_links.specs.Stands.{Sound};
 ghost use Rattle.lx_draft.specs.Freezing.{limits_fault};
@@ -16,12 +18,13 @@ use serde_json::{Value, json};
 use std::alloc::{AllocError, Global};
 
 /// The document of a state's tree, in which nothing is detached. Where the root has children, and the tree is within the
-/// limits of a document, `import` reads it back as the same tree, up to keys.
+/// limits of a document, `import` reads it back as the same tree, up to keys, with any next key for which there are keys
+/// enough: the next key behind the tree's nodes is at most 1,048,576.
 pub fn export(alloc: Global, state: &State) -> Result<Value, NoMemory>
     requires order { IsForest state.now.links }
     requires alone { roots state.now.links ≡ 0 ∷ [] }
     ensures written { IfOk result (λ document. view document ≡ exported state.now.links) }
-    ensures back { children_of state.now.links 0 ≢ [] → limits_fault state.now.links 1 ≡ None → IfOk result (λ document. ReadsBack (view document) state.now.links) }
+    ensures back { (next : ℕ) → 0 < next → next + total state.now.links ≤ most_key + 1 → children_of state.now.links 0 ≢ [] → limits_fault state.now.links 1 ≡ None → IfOk result (λ document. ReadsBack (view document) next state.now.links) }
 {
     let root = tree_value(alloc, &state.links, Key::root())?;
     let document = document_value(alloc, root)?;
