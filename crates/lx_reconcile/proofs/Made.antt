@@ -1,9 +1,10 @@
 -- What the operations for a node and its children come to, by what the code knows.
-use Rattle.std.specs.Result.{IfOk, OnOk}
+use Rattle.std.specs.Result.{OnOk}
 use Rattle.std.proofs.Common.{Result, Ok, Err, ◌≡◌, ◌∙◌, ◌+◌, ◌*◌, ◌<◌, ◌≤◌, ◌⊎◌, ℕ, Bool, true, false, not, ◌&&◌, List, [], ◌∷◌, ◌++◌, length, Option, None, Some, option_map, inl, inr, refl, sym, ap, subst, arith, append_assoc, append-nil, take, drop, get_or}
 use Rattle.std.proofs.lemmas.Bool.Decides.{eqb_tells}
 use Rattle.std.proofs.lemmas.List.{take_more, drop_more, take-append-drop}
 use Rattle.std.proofs.lemmas.Option.{same_Some}
+use Rattle.std.proofs.lemmas.Result.{on_ok_weaker}
 use Rattle.lx_node.specs.Limits.{last_u32}
 use Rattle.lx_node.specs.Trees.{Trees, nil, tree}
 use Rattle.lx_node.specs.NamedTrees.{total}
@@ -328,28 +329,27 @@ module _ (old new : Forest) (mk : Marking) (v : HostTree) where
   pub from_case : (k n : ℕ) (s t : Move) (start end : List Op) (m : ℕ) → s ≡ t → MakesMoves old new mk v k (t ∷ []) n start end m → MakesMoves old new mk v k (s ∷ []) n start end m
   from_case k n s t start end m e x = subst (λ s. MakesMoves old new mk v k (s ∷ []) n start end m) (sym e) x
 
-  pub make_done : {E : Type 0} (r : Result ℕ E) (k c h n : ℕ) (before place : Option ℕ) (s : Move) (start end : List Op) → s ≡ Make c before → IsBetween old new mk v → IsNext old new v k (Make c before) n → h ≡ host_in v k → place ≡ option_map (host_in v) before
-      → OnOk r (end ≡ start ++ creation_of n (alone c new) ++ op.Place h n place ∷ []) → IfOk r (λ m. m ≡ n + total (alone c new)) → IfOk r (λ m. MakesMoves old new mk v k (s ∷ []) n start end m)
-  make_done (Ok m) k c h n before place s start end e b x id at is next =
+  pub make_done : {A E : Type 0} (r : Result A E) (k c h n m : ℕ) (before place : Option ℕ) (s : Move) (start end : List Op) → s ≡ Make c before → IsBetween old new mk v → IsNext old new v k (Make c before) n → h ≡ host_in v k → place ≡ option_map (host_in v) before
+      → OnOk r (end ≡ start ++ creation_of n (alone c new) ++ op.Place h n place ∷ []) → OnOk r (m ≡ n + total (alone c new)) → OnOk r (MakesMoves old new mk v k (s ∷ []) n start end m)
+  make_done (Ok a) k c h n m before place s start end e b x id at is next =
       from_case k n s (Make c before) start end m e (makes_make k c h n before place start end m b (after_there k c b (make_among k c before n x)) (next_behind k (Make c before) n x) id at (make_room k c before n b x) next is)
-  make_done (Err x) k c h n before place s start end e b y id at is next = tt
+  make_done (Err a) k c h n m before place s start end e b x id at is next = tt
 
-  pub again_done : {E : Type 0} (r : Result ℕ E) (k c h i n : ℕ) (was now : Node) (start end : List Op) → IsBetween old new mk v → IsNext old new v k (Stay c) n → h ≡ host_in v k → i ≡ host_in v c
+  pub again_done : {A E : Type 0} (r : Result A E) (k c h i n m : ℕ) (was now : Node) (start end : List Op) → IsBetween old new mk v → IsNext old new v k (Stay c) n → h ≡ host_in v k → i ≡ host_in v c
       → Some was ≡ option_map node_of (record_at old c) → Some now ≡ option_map node_of (record_at new c) → (tag_of was.kind was.fields ≡ tag_of now.kind now.fields → ⊥)
-      → OnOk r (end ≡ start ++ creation_of n (alone c new) ++ op.Place h n (Some i) ∷ [] ++ op.Drop i ∷ []) → IfOk r (λ m. m ≡ n + total (alone c new)) → IfOk r (λ m. MakesMoves old new mk v k (Stay c ∷ []) n start end m)
-  again_done (Ok m) k c h i n was now start end b x id own was_is now_is other is next =
+      → OnOk r (end ≡ start ++ creation_of n (alone c new) ++ op.Place h n (Some i) ∷ [] ++ op.Drop i ∷ []) → OnOk r (m ≡ n + total (alone c new)) → OnOk r (MakesMoves old new mk v k (Stay c ∷ []) n start end m)
+  again_done (Ok a) k c h i n m was now start end b x id own was_is now_is other is next =
       makes_again k c h i n was now start end m b (next_behind k (Stay c) n x) id own (again_room k c n was now b x was_is now_is other) was_is now_is other next is
-  again_done (Err x) k c h i n was now start end b y id own was_is now_is other is next = tt
+  again_done (Err a) k c h i n m was now start end b x id own was_is now_is other is next = tt
 
-  pub place_done : {E : Type 0} (r : Result ℕ E) (k c h i n : ℕ) (before place : Option ℕ) (s : Move) (start mid end : List Op) → s ≡ Place c before → IsBetween old new mk v → IsNext old new v k (Place c before) n → h ≡ host_in v k → i ≡ host_in v c → place ≡ option_map (host_in v) before
-      → mid ≡ start ++ op.Place h i place ∷ [] → IfOk r (λ m. MakesMoves old new mk v k (Stay c ∷ []) n mid end m) → IfOk r (λ m. MakesMoves old new mk v k (s ∷ []) n start end m)
-  place_done (Ok m) k c h i n before place s start mid end e b x id own at is made =
-      from_case k n s (Place c before) start end m e (makes_place k c h i n before place start mid end m b x id own at is made)
-  place_done (Err x) k c h i n before place s start mid end e b y id own at is made = tt
+  pub place_done : {A E : Type 0} (r : Result A E) (k c h i n m : ℕ) (before place : Option ℕ) (s : Move) (start mid end : List Op) → s ≡ Place c before → IsBetween old new mk v → IsNext old new v k (Place c before) n → h ≡ host_in v k → i ≡ host_in v c → place ≡ option_map (host_in v) before
+      → mid ≡ start ++ op.Place h i place ∷ [] → OnOk r (MakesMoves old new mk v k (Stay c ∷ []) n mid end m) → OnOk r (MakesMoves old new mk v k (s ∷ []) n start end m)
+  place_done r k c h i n m before place s start mid end e b x id own at is =
+      on_ok_weaker r (λ made. from_case k n s (Place c before) start end m e (makes_place k c h i n before place start mid end m b x id own at is made))
 
-  pub stay_done : {E : Type 0} (r : Result ℕ E) (f_now g_now : Forest) (k c n : ℕ) (start end : List Op) → IsBetween old new mk v → IsNext old new v k (Stay c) n → f_now ≡ old → g_now ≡ new → IfOk r (λ m. Reconciles f_now g_now mk v c n start end m) → IfOk r (λ m. MakesMoves old new mk v k (Stay c ∷ []) n start end m)
-  stay_done (Ok m) f_now g_now k c n start end b x e d r = makes_stay k c n start end m b.view.after (child_new k c b (stay_both k c n x).1) (reconciles_still old f_now new g_now mk v c n start end m e d r)
-  stay_done (Err y) f_now g_now k c n start end b x e d r = tt
+  pub stay_done : {A E : Type 0} (r : Result A E) (f_now g_now : Forest) (k c n : ℕ) (start end : List Op) (m : ℕ) → IsBetween old new mk v → IsNext old new v k (Stay c) n → f_now ≡ old → g_now ≡ new → OnOk r (Reconciles f_now g_now mk v c n start end m) → OnOk r (MakesMoves old new mk v k (Stay c ∷ []) n start end m)
+  stay_done r f_now g_now k c n start end m b x e d =
+      on_ok_weaker r (λ done. makes_stay k c n start end m b.view.after (child_new k c b (stay_both k c n x).1) (reconciles_still old f_now new g_now mk v c n start end m e d done))
 
   -- ---- one move after another
 
@@ -489,13 +489,13 @@ module _ (old new : Forest) (mk : Marking) (v : HostTree) where
 
 -- ---- the same where sources have been read
 
-pub again_done_still : {E : Type 0} (old new new_now : Forest) (mk : Marking) (v : HostTree) (r : Result ℕ E) (k c h i n : ℕ) (was now : Node) (start end : List Op) → new_now ≡ new → IsBetween old new mk v → IsNext old new v k (Stay c) n → h ≡ host_in v k → i ≡ host_in v c
+pub again_done_still : {A E : Type 0} (old new new_now : Forest) (mk : Marking) (v : HostTree) (r : Result A E) (k c h i n m : ℕ) (was now : Node) (start end : List Op) → new_now ≡ new → IsBetween old new mk v → IsNext old new v k (Stay c) n → h ≡ host_in v k → i ≡ host_in v c
     → Some was ≡ option_map node_of (record_at old c) → Some now ≡ option_map node_of (record_at new c) → (tag_of was.kind was.fields ≡ tag_of now.kind now.fields → ⊥)
-    → OnOk r (end ≡ start ++ creation_of n (alone c new_now) ++ op.Place h n (Some i) ∷ [] ++ op.Drop i ∷ []) → IfOk r (λ m. m ≡ n + total (alone c new_now)) → IfOk r (λ m. MakesMoves old new mk v k (Stay c ∷ []) n start end m)
-again_done_still old new new_now mk v r k c h i n was now start end d b x id own was_is now_is other is next =
-    again_done old new mk v r k c h i n was now start end b x id own was_is now_is other
+    → OnOk r (end ≡ start ++ creation_of n (alone c new_now) ++ op.Place h n (Some i) ∷ [] ++ op.Drop i ∷ []) → OnOk r (m ≡ n + total (alone c new_now)) → OnOk r (MakesMoves old new mk v k (Stay c ∷ []) n start end m)
+again_done_still old new new_now mk v r k c h i n m was now start end d b x id own was_is now_is other is next =
+    again_done old new mk v r k c h i n m was now start end b x id own was_is now_is other
     (subst (λ y. OnOk r (end ≡ start ++ creation_of n (alone c y) ++ op.Place h n (Some i) ∷ [] ++ op.Drop i ∷ [])) d is)
-    (subst (λ y. IfOk r (λ m. m ≡ n + total (alone c y))) d next)
+    (subst (λ y. OnOk r (m ≡ n + total (alone c y))) d next)
 
 pub reads_still : (f f_now g g_now : Forest) (noted : ℕ → Bool) (k : ℕ) → f_now ≡ f → g_now ≡ g → reads_below f_now g_now noted k ≡ reads_below f g noted k
 reads_still f f_now g g_now noted k e d = ap (λ x. reads_below x g_now noted k) e ∙ ap (λ y. reads_below f y noted k) d

@@ -64,22 +64,41 @@ pub(crate) fn has_same_tag(was: &Node, now: &Node) -> bool
     tag_of(was.kind, &was.fields) == tag_of(now.kind, &now.fields)
 }
 
-/// Adds the operations that make hosts for a node and all below it, and put them among the children of a host. Gives
-/// the next id.
+/// The operations so far, and the id that the next new host gets.
+#[derive(Drop)]
+pub(crate) struct Written {
+    next: u32,
+    ops: Vec<Op>,
+}
+
+/// A node, and the host that shows it.
+#[derive(Clone, Copy)]
+struct Shown {
+    key: Key,
+    host: u32,
+}
+
+/// A node as both trees have it.
+#[derive(Clone, Copy)]
+pub(crate) struct Both<'n> {
+    was: &'n Node,
+    now: &'n Node,
+}
+
+/// Adds the operations that make hosts for a node and all below it, and put them among the children of a host.
 fn make_child<S, L: Look<S>>(
     alloc: Global,
     after: &mut S,
     host: u32,
     key: Key,
     before: Option<u32>,
-    next: u32,
-    ops: &mut Vec<Op>,
-) -> Result<u32, NoMemory>
+    written: &mut Written,
+) -> Result<(), NoMemory>
     requires sound { Sound (L.forest after.old) }
     requires there { has key (L.forest after.old) ≡ true }
-    requires room { next + total (alone key (L.forest after.old)) ≤ last_u32 }
-    ensures ops { OnOk result (ops.new.items ≡ ops.old.items ++ creation_of next (alone key (L.forest after.old)) ++ op.Place host next before ∷ []) }
-    ensures end { IfOk result (λ end. end ≡ next + total (alone key (L.forest after.old))) }
+    requires room { written.old.next + total (alone key (L.forest after.old)) ≤ last_u32 }
+    ensures ops { OnOk result (written.new.ops.items ≡ written.old.ops.items ++ creation_of written.old.next (alone key (L.forest after.old)) ++ op.Place host written.old.next before ∷ []) }
+    ensures end { OnOk result (written.new.next ≡ written.old.next + total (alone key (L.forest after.old))) }
     ensures same { L.forest after.new ≡ L.forest after.old }
     ensures lag { L.lag after.new ≤ L.lag after.old }
     ensures place { L.place after.new ≡ L.place after.old }
@@ -87,40 +106,40 @@ fn make_child<S, L: Look<S>>(
     ensures reads { L.count after.new ≤ L.count after.old + 2 * total (alone key (L.forest after.old)) }
 {
     let item = found::<S, L>(after, key);
-    let end = create_tree::<S, L>(alloc, after, key, item.node(), next, ops)?;
-    ops.push(Op::Place {
+    let child = written.next;
+    let end = create_tree::<S, L>(alloc, after, key, item.node(), child, &mut written.ops)?;
+    written.next = end;
+    written.ops.push(Op::Place {
         parent: host,
-        child: next,
+        child,
         before,
     })?;
-    Ok(end)
+    Ok(())
 }
 
-/// Adds the operations that put new hosts of a node in place of its old ones, among the children of a host. Gives the
-/// next id.
+/// Adds the operations that put new hosts of a node in place of its old ones, among the children of a host.
 fn replace_child<S, L: Look<S>>(
     alloc: Global,
     after: &mut S,
     host: u32,
     key: Key,
     old: u32,
-    next: u32,
-    ops: &mut Vec<Op>,
-) -> Result<u32, NoMemory>
+    written: &mut Written,
+) -> Result<(), NoMemory>
     requires sound { Sound (L.forest after.old) }
     requires there { has key (L.forest after.old) ≡ true }
-    requires room { next + total (alone key (L.forest after.old)) ≤ last_u32 }
-    ensures ops { OnOk result (ops.new.items ≡ ops.old.items ++ creation_of next (alone key (L.forest after.old)) ++ op.Place host next (Some old) ∷ [] ++ op.Drop old ∷ []) }
-    ensures end { IfOk result (λ end. end ≡ next + total (alone key (L.forest after.old))) }
+    requires room { written.old.next + total (alone key (L.forest after.old)) ≤ last_u32 }
+    ensures ops { OnOk result (written.new.ops.items ≡ written.old.ops.items ++ creation_of written.old.next (alone key (L.forest after.old)) ++ op.Place host written.old.next (Some old) ∷ [] ++ op.Drop old ∷ []) }
+    ensures end { OnOk result (written.new.next ≡ written.old.next + total (alone key (L.forest after.old))) }
     ensures same { L.forest after.new ≡ L.forest after.old }
     ensures lag { L.lag after.new ≤ L.lag after.old }
     ensures place { L.place after.new ≡ L.place after.old }
     ensures whole { L.whole after.new ≡ L.whole after.old }
     ensures reads { L.count after.new ≤ L.count after.old + 2 * total (alone key (L.forest after.old)) }
 {
-    let end = make_child::<S, L>(alloc, after, host, key, Some(old), next, ops)?;
-    ops.push(Op::Drop { id: old })?;
-    Ok(end)
+    make_child::<S, L>(alloc, after, host, key, Some(old), written)?;
+    written.ops.push(Op::Drop { id: old })?;
+    Ok(())
 }
 
 /// What all of these functions are given: the marks with their families, and the view.
@@ -138,19 +157,18 @@ fn moves_of<B, A, O: Look<B>, N: Look<A>>(
     given: &Given<'_>,
     before: &mut B,
     after: &mut A,
-    key: Key,
-    host: u32,
+    parent: &Shown,
     was: Option<Key>,
     now: Option<Key>,
 ) -> Result<Vec<Move>, NoMemory>
     requires between { IsBetween (O.forest before.old) (N.forest after.old) (marking given.now.marks.now) given.now.hosts.now.tree }
     requires families { AreFamilies given.now.hosts.now.tree (marked_keys given.now.marks.now) given.now.families.now }
-    requires host { host ≡ host_in given.now.hosts.now.tree key }
-    requires there_before { has key (O.forest before.old) ≡ true }
-    requires there_after { has key (N.forest after.old) ≡ true }
-    requires was { was ≡ first_child (O.forest before.old) key }
-    requires now { now ≡ first_child (N.forest after.old) key }
-    ensures part { IfOk result (λ moves. IsPart (marking given.now.marks.now).noted (children_of (O.forest before.old) key) (children_of (N.forest after.old) key) moves.items) }
+    requires host { parent.now.host ≡ host_in given.now.hosts.now.tree parent.now.key }
+    requires there_before { has parent.now.key (O.forest before.old) ≡ true }
+    requires there_after { has parent.now.key (N.forest after.old) ≡ true }
+    requires was { was ≡ first_child (O.forest before.old) parent.now.key }
+    requires now { now ≡ first_child (N.forest after.old) parent.now.key }
+    ensures part { IfOk result (λ moves. IsPart (marking given.now.marks.now).noted (children_of (O.forest before.old) parent.now.key) (children_of (N.forest after.old) parent.now.key) moves.items) }
     ensures before { O.forest before.new ≡ O.forest before.old }
     ensures after { N.forest after.new ≡ N.forest after.old }
     ensures lag_before { O.lag before.new ≤ O.lag before.old }
@@ -159,37 +177,37 @@ fn moves_of<B, A, O: Look<B>, N: Look<A>>(
     ensures lag_after { N.lag after.new ≤ N.lag after.old }
     ensures place_after { N.place after.new ≡ N.place after.old }
     ensures whole_after { N.whole after.new ≡ N.whole after.old }
-    ensures reads_before { O.count before.new ≤ O.count before.old + length (children_of (O.forest before.old) key) }
-    ensures reads_after { N.count after.new ≤ N.count after.old + length (children_of (N.forest after.old) key) }
+    ensures reads_before { O.count before.new ≤ O.count before.old + length (children_of (O.forest before.old) parent.now.key) }
+    ensures reads_after { N.count after.new ≤ N.count after.old + length (children_of (N.forest after.old) parent.now.key) }
 {
-    let mut window = match given.families.get(&host) {
-        Some(family) => { marked_window::<B, O>(given.alloc, before, given.marks, key, *family)? }
+    let mut window = match given.families.get(&parent.host) {
+        Some(family) => {
+            marked_window::<B, O>(given.alloc, before, given.marks, parent.key, *family)?
+        }
         None if was.is_none() => Window::empty(given.alloc),
         None => return Ok(Vec::new(given.alloc)),
     };
-    moves_in::<A, N>(given.alloc, after, key, &mut window, now)
+    moves_in::<A, N>(given.alloc, after, parent.key, &mut window, now)
 }
 
-/// Adds the operations for a node that both trees have at the same place, with the same element. Gives the next id.
+/// Adds the operations for a node that both trees have at the same place, with the same element.
 #[cycle(reconciling)]
 pub(crate) fn reconcile_node<B, A, O: Look<B>, N: Look<A>>(
     given: &Given<'_>,
     before: &mut B,
     after: &mut A,
     key: Key,
-    was: &Node,
-    now: &Node,
-    next: u32,
-    ops: &mut Vec<Op>,
-) -> Result<u32, NoMemory>
+    both: Both<'_>,
+    written: &mut Written,
+) -> Result<(), NoMemory>
     requires between { IsBetween (O.forest before.old) (N.forest after.old) (marking given.now.marks.now) given.now.hosts.now.tree }
     requires families { AreFamilies given.now.hosts.now.tree (marked_keys given.now.marks.now) given.now.families.now }
-    requires was { Some was.now ≡ option_map node_of (record_at (O.forest before.old) key) }
-    requires now { Some now.now ≡ option_map node_of (record_at (N.forest after.old) key) }
-    requires tag { shown.tag_of was.now.kind was.now.fields ≡ shown.tag_of now.now.kind now.now.fields }
-    requires behind { given.now.hosts.now.tree.next ≤ next }
-    requires room { next + unkept (O.forest before.old) (Some key) (trees_of (N.forest after.old) (children_of (N.forest after.old) key)) ≤ last_u32 }
-    ensures done { IfOk result (λ end. Reconciles (O.forest before.old) (N.forest after.old) (marking given.now.marks.now) given.now.hosts.now.tree key next ops.old.items ops.new.items end) }
+    requires was { Some both.was.now ≡ option_map node_of (record_at (O.forest before.old) key) }
+    requires now { Some both.now.now ≡ option_map node_of (record_at (N.forest after.old) key) }
+    requires tag { shown.tag_of both.was.now.kind both.was.now.fields ≡ shown.tag_of both.now.now.kind both.now.now.fields }
+    requires behind { given.now.hosts.now.tree.next ≤ written.old.next }
+    requires room { written.old.next + unkept (O.forest before.old) (Some key) (trees_of (N.forest after.old) (children_of (N.forest after.old) key)) ≤ last_u32 }
+    ensures done { OnOk result (Reconciles (O.forest before.old) (N.forest after.old) (marking given.now.marks.now) given.now.hosts.now.tree key written.old.next written.old.ops.items written.new.ops.items written.new.next) }
     ensures before { O.forest before.new ≡ O.forest before.old }
     ensures after { N.forest after.new ≡ N.forest after.old }
     ensures lag_before { O.lag before.new ≤ O.lag before.old }
@@ -201,41 +219,38 @@ pub(crate) fn reconcile_node<B, A, O: Look<B>, N: Look<A>>(
     ensures reads { O.count before.new + N.count after.new ≤ O.count before.old + N.count after.old + reads_below (O.forest before.old) (N.forest after.old) (marking given.now.marks.now).noted key }
 {
     let host = host_of(given.hosts, key);
-    push_face(given.alloc, host, was, now, ops)?;
-    let moves = moves_of::<B, A, O, N>(given, before, after, key, host, was.first, now.first)?;
-    let end = make_moves::<B, A, O, N>(
+    push_face(given.alloc, host, both.was, both.now, &mut written.ops)?;
+    let parent = Shown { key, host };
+    let moves = moves_of::<B, A, O, N>(
         given,
         before,
         after,
-        key,
-        host,
-        moves.as_slice(),
-        next,
-        ops,
+        &parent,
+        both.was.first,
+        both.now.first,
     )?;
-    let old = is_ended::<B, O>(before, was);
-    let new = is_ended::<A, N>(after, now);
-    push_ending(host, old, new, ops)?;
-    Ok(end)
+    make_moves::<B, A, O, N>(given, before, after, &parent, moves.as_slice(), written)?;
+    let old = is_ended::<B, O>(before, both.was);
+    let new = is_ended::<A, N>(after, both.now);
+    push_ending(host, old, new, &mut written.ops)?;
+    Ok(())
 }
 
-/// Adds the operations for the children of a node, which are these moves. Gives the next id.
+/// Adds the operations for the children of a node, which are these moves.
 #[cycle(reconciling)]
 fn make_moves<B, A, O: Look<B>, N: Look<A>>(
     given: &Given<'_>,
     before: &mut B,
     after: &mut A,
-    parent: Key,
-    host: u32,
+    parent: &Shown,
     moves: &[Move],
-    next: u32,
-    ops: &mut Vec<Op>,
-) -> Result<u32, NoMemory>
+    written: &mut Written,
+) -> Result<(), NoMemory>
     requires between { IsBetween (O.forest before.old) (N.forest after.old) (marking given.now.marks.now) given.now.hosts.now.tree }
     requires families { AreFamilies given.now.hosts.now.tree (marked_keys given.now.marks.now) given.now.families.now }
-    requires host { host ≡ host_in given.now.hosts.now.tree parent }
-    requires coming { AreComing (O.forest before.old) (N.forest after.old) given.now.hosts.now.tree parent moves.now next }
-    ensures done { IfOk result (λ end. MakesMoves (O.forest before.old) (N.forest after.old) (marking given.now.marks.now) given.now.hosts.now.tree parent moves.now next ops.old.items ops.new.items end) }
+    requires host { parent.now.host ≡ host_in given.now.hosts.now.tree parent.now.key }
+    requires coming { AreComing (O.forest before.old) (N.forest after.old) given.now.hosts.now.tree parent.now.key moves.now written.old.next }
+    ensures done { OnOk result (MakesMoves (O.forest before.old) (N.forest after.old) (marking given.now.marks.now) given.now.hosts.now.tree parent.now.key moves.now written.old.next written.old.ops.items written.new.ops.items written.new.next) }
     ensures before { O.forest before.new ≡ O.forest before.old }
     ensures after { N.forest after.new ≡ N.forest after.old }
     ensures lag_before { O.lag before.new ≤ O.lag before.old }
@@ -244,35 +259,29 @@ fn make_moves<B, A, O: Look<B>, N: Look<A>>(
     ensures lag_after { N.lag after.new ≤ N.lag after.old }
     ensures place_after { N.place after.new ≡ N.place after.old }
     ensures whole_after { N.whole after.new ≡ N.whole after.old }
-    ensures reads { O.count before.new + N.count after.new ≤ O.count before.old + N.count after.old + reads_in (O.forest before.old) (marking given.now.marks.now).noted (Some parent) (trees_of (N.forest after.old) (standing moves.now)) }
+    ensures reads { O.count before.new + N.count after.new ≤ O.count before.old + N.count after.old + reads_in (O.forest before.old) (marking given.now.marks.now).noted (Some parent.now.key) (trees_of (N.forest after.old) (standing moves.now)) }
 {
-    let mut id = next;
     for step in moves {
-        match make_move::<B, A, O, N>(given, before, after, parent, host, *step, id, ops) {
-            Ok(end) => id = end,
-            Err(error) => return Err(error),
-        }
+        make_move::<B, A, O, N>(given, before, after, parent, *step, written)?;
     }
-    Ok(id)
+    Ok(())
 }
 
-/// Adds the operations for one move. Gives the next id.
+/// Adds the operations for one move.
 #[cycle(reconciling)]
 fn make_move<B, A, O: Look<B>, N: Look<A>>(
     given: &Given<'_>,
     before: &mut B,
     after: &mut A,
-    parent: Key,
-    host: u32,
+    parent: &Shown,
     step: Move,
-    next: u32,
-    ops: &mut Vec<Op>,
-) -> Result<u32, NoMemory>
+    written: &mut Written,
+) -> Result<(), NoMemory>
     requires between { IsBetween (O.forest before.old) (N.forest after.old) (marking given.now.marks.now) given.now.hosts.now.tree }
     requires families { AreFamilies given.now.hosts.now.tree (marked_keys given.now.marks.now) given.now.families.now }
-    requires host { host ≡ host_in given.now.hosts.now.tree parent }
-    requires coming { IsNext (O.forest before.old) (N.forest after.old) given.now.hosts.now.tree parent step next }
-    ensures done { IfOk result (λ end. MakesMoves (O.forest before.old) (N.forest after.old) (marking given.now.marks.now) given.now.hosts.now.tree parent (step ∷ []) next ops.old.items ops.new.items end) }
+    requires host { parent.now.host ≡ host_in given.now.hosts.now.tree parent.now.key }
+    requires coming { IsNext (O.forest before.old) (N.forest after.old) given.now.hosts.now.tree parent.now.key step written.old.next }
+    ensures done { OnOk result (MakesMoves (O.forest before.old) (N.forest after.old) (marking given.now.marks.now) given.now.hosts.now.tree parent.now.key (step ∷ []) written.old.next written.old.ops.items written.new.ops.items written.new.next) }
     ensures before { O.forest before.new ≡ O.forest before.old }
     ensures after { N.forest after.new ≡ N.forest after.old }
     ensures lag_before { O.lag before.new ≤ O.lag before.old }
@@ -281,56 +290,54 @@ fn make_move<B, A, O: Look<B>, N: Look<A>>(
     ensures lag_after { N.lag after.new ≤ N.lag after.old }
     ensures place_after { N.place after.new ≡ N.place after.old }
     ensures whole_after { N.whole after.new ≡ N.whole after.old }
-    ensures reads { O.count before.new + N.count after.new ≤ O.count before.old + N.count after.old + reads_in (O.forest before.old) (marking given.now.marks.now).noted (Some parent) (trees_of (N.forest after.old) (standing (step ∷ []))) }
+    ensures reads { O.count before.new + N.count after.new ≤ O.count before.old + N.count after.old + reads_in (O.forest before.old) (marking given.now.marks.now).noted (Some parent.now.key) (trees_of (N.forest after.old) (standing (step ∷ []))) }
 {
     match step {
         Move::Stay(key) => {
-            reconcile_child::<B, A, O, N>(given, before, after, parent, host, key, next, ops)
+            reconcile_child::<B, A, O, N>(given, before, after, parent, key, written)
         }
         Move::Leave(key) => {
-            ops.push(Op::Drop {
+            written.ops.push(Op::Drop {
                 id: host_of(given.hosts, key),
             })?;
-            Ok(next)
+            Ok(())
         }
         Move::Make {
             key,
             before: behind,
         } => {
             let behind = host_before(given.hosts, behind);
-            make_child::<A, N>(given.alloc, after, host, key, behind, next, ops)
+            make_child::<A, N>(given.alloc, after, parent.host, key, behind, written)
         }
         Move::Place {
             key,
             before: behind,
         } => {
-            ops.push(Op::Place {
-                parent: host,
+            written.ops.push(Op::Place {
+                parent: parent.host,
                 child: host_of(given.hosts, key),
                 before: host_before(given.hosts, behind),
             })?;
-            reconcile_child::<B, A, O, N>(given, before, after, parent, host, key, next, ops)
+            reconcile_child::<B, A, O, N>(given, before, after, parent, key, written)
         }
     }
 }
 
-/// Adds the operations for a child that both trees have: none where it carries no mark. Gives the next id.
+/// Adds the operations for a child that both trees have: none where it carries no mark.
 #[cycle(reconciling)]
 fn reconcile_child<B, A, O: Look<B>, N: Look<A>>(
     given: &Given<'_>,
     before: &mut B,
     after: &mut A,
-    parent: Key,
-    host: u32,
+    parent: &Shown,
     key: Key,
-    next: u32,
-    ops: &mut Vec<Op>,
-) -> Result<u32, NoMemory>
+    written: &mut Written,
+) -> Result<(), NoMemory>
     requires between { IsBetween (O.forest before.old) (N.forest after.old) (marking given.now.marks.now) given.now.hosts.now.tree }
     requires families { AreFamilies given.now.hosts.now.tree (marked_keys given.now.marks.now) given.now.families.now }
-    requires host { host ≡ host_in given.now.hosts.now.tree parent }
-    requires coming { IsNext (O.forest before.old) (N.forest after.old) given.now.hosts.now.tree parent (Stay key) next }
-    ensures done { IfOk result (λ end. MakesMoves (O.forest before.old) (N.forest after.old) (marking given.now.marks.now) given.now.hosts.now.tree parent (Stay key ∷ []) next ops.old.items ops.new.items end) }
+    requires host { parent.now.host ≡ host_in given.now.hosts.now.tree parent.now.key }
+    requires coming { IsNext (O.forest before.old) (N.forest after.old) given.now.hosts.now.tree parent.now.key (Stay key) written.old.next }
+    ensures done { OnOk result (MakesMoves (O.forest before.old) (N.forest after.old) (marking given.now.marks.now) given.now.hosts.now.tree parent.now.key (Stay key ∷ []) written.old.next written.old.ops.items written.new.ops.items written.new.next) }
     ensures before { O.forest before.new ≡ O.forest before.old }
     ensures after { N.forest after.new ≡ N.forest after.old }
     ensures lag_before { O.lag before.new ≤ O.lag before.old }
@@ -339,25 +346,22 @@ fn reconcile_child<B, A, O: Look<B>, N: Look<A>>(
     ensures lag_after { N.lag after.new ≤ N.lag after.old }
     ensures place_after { N.place after.new ≡ N.place after.old }
     ensures whole_after { N.whole after.new ≡ N.whole after.old }
-    ensures reads { O.count before.new + N.count after.new ≤ O.count before.old + N.count after.old + reads_in (O.forest before.old) (marking given.now.marks.now).noted (Some parent) (alone key (N.forest after.old)) }
+    ensures reads { O.count before.new + N.count after.new ≤ O.count before.old + N.count after.old + reads_in (O.forest before.old) (marking given.now.marks.now).noted (Some parent.now.key) (alone key (N.forest after.old)) }
 {
     if !is_noted(given.marks, key) {
-        return Ok(next);
+        return Ok(());
     }
     let was = found::<B, O>(before, key);
     let now = found::<A, N>(after, key);
     if has_same_tag(was.node(), now.node()) {
-        reconcile_node::<B, A, O, N>(given, before, after, key, was.node(), now.node(), next, ops)
+        let both = Both {
+            was: was.node(),
+            now: now.node(),
+        };
+        reconcile_node::<B, A, O, N>(given, before, after, key, both, written)
     } else {
-        replace_child::<A, N>(
-            given.alloc,
-            after,
-            host,
-            key,
-            host_of(given.hosts, key),
-            next,
-            ops,
-        )
+        let old = host_of(given.hosts, key);
+        replace_child::<A, N>(given.alloc, after, parent.host, key, old, written)
     }
 }
 
@@ -397,8 +401,10 @@ pub(crate) fn reconcile_root<B, A, O: Look<B>, N: Look<A>>(
     if !is_noted(marks, key) {
         return Ok(());
     }
-    let was_node = was.node();
-    let now_node = now.node();
+    let both = Both {
+        was: was.node(),
+        now: now.node(),
+    };
     let families = families_of(alloc, marks, hosts)?;
     let given = Given {
         alloc,
@@ -406,6 +412,11 @@ pub(crate) fn reconcile_root<B, A, O: Look<B>, N: Look<A>>(
         families: &families,
         hosts,
     };
-    reconcile_node::<B, A, O, N>(&given, before, after, key, was_node, now_node, next, ops)?;
+    let mut written = Written {
+        next,
+        ops: Vec::new(alloc),
+    };
+    reconcile_node::<B, A, O, N>(&given, before, after, key, both, &mut written)?;
+    *ops = written.ops;
     Ok(())
 }

@@ -11,7 +11,7 @@ abbrev pub decreases-reconcile_node : goal.decreases-reconcile_node
 decreases-reconcile_node g l = 4 * total (alone l.key (g.N.Look.forest l.after.now)) + 1
 
 abbrev pub decreases-make_moves : goal.decreases-make_moves
-decreases-make_moves g l = 4 * total (alone l.parent (g.N.Look.forest l.after.now))
+decreases-make_moves g l = 4 * total (alone l.parent.now.key (g.N.Look.forest l.after.now))
 
 abbrev pub decreases-make_move : goal.decreases-make_move
 decreases-make_move g l = 4 * standing_total (g.N.Look.forest l.after.now) (l.step ∷ []) + 3
@@ -23,12 +23,12 @@ abbrev pub invariant-make_moves-loop-step : goal.invariant-make_moves-loop-step
 invariant-make_moves-loop-step g l = record {
   before : g.O.Look.forest l.before ≡ g.O.Look.forest l.initial.before;
   after : g.N.Look.forest l.after ≡ g.N.Look.forest l.initial.after;
-  made : MakesMoves (g.O.Look.forest l.initial.before) (g.N.Look.forest l.initial.after) (marking l.given.marks.now) l.given.hosts.now.tree l.parent (take l.step-index l.moves) l.fn.next l.initial.ops.items l.ops.items l.id;
+  made : MakesMoves (g.O.Look.forest l.initial.before) (g.N.Look.forest l.initial.after) (marking l.given.marks.now) l.given.hosts.now.tree l.parent.key (take l.step-index l.moves) l.initial.written.next l.initial.written.ops.items l.written.ops.items l.written.next;
   lag_before : g.O.Look.lag l.before ≤ g.O.Look.lag l.initial.before;
   place_before : g.O.Look.place l.before ≡ g.O.Look.place l.initial.before;
   whole_before : g.O.Look.whole l.before ≡ g.O.Look.whole l.initial.before;
   lag_after : g.N.Look.lag l.after ≤ g.N.Look.lag l.initial.after;
   place_after : g.N.Look.place l.after ≡ g.N.Look.place l.initial.after;
   whole_after : g.N.Look.whole l.after ≡ g.N.Look.whole l.initial.after;
-  reads : g.O.Look.count l.before + g.N.Look.count l.after ≤ g.O.Look.count l.initial.before + g.N.Look.count l.initial.after + reads_in (g.O.Look.forest l.initial.before) (marking l.given.marks.now).noted (Some l.parent) (trees_of (g.N.Look.forest l.initial.after) (standing (take l.step-index l.moves)));
+  reads : g.O.Look.count l.before + g.N.Look.count l.after ≤ g.O.Look.count l.initial.before + g.N.Look.count l.initial.after + reads_in (g.O.Look.forest l.initial.before) (marking l.given.marks.now).noted (Some l.parent.key) (trees_of (g.N.Look.forest l.initial.after) (standing (take l.step-index l.moves)));
 }

@@ -17,19 +17,19 @@ pub marked_window-requires-clause-child : goal.marked_window-requires-clause-chi
 marked_window-requires-clause-child g c =
     let given = c.args.given.now in
     let found = sym (ap (get nat_eq given.families.now) c.requires.host) ∙ sym c.in-Some.ensures.value in
-    (is_family (g.O.Look.forest c.args.before.now) (g.N.Look.forest c.args.after.now) (marking given.marks.now) given.hosts.now.tree c.requires.between given.marks.now given.families.now c.requires.families c.args.key c.in-Some.family.now c.requires.there_before found).child
+    (is_family (g.O.Look.forest c.args.before.now) (g.N.Look.forest c.args.after.now) (marking given.marks.now) given.hosts.now.tree c.requires.between given.marks.now given.families.now c.requires.families c.args.parent.now.key c.in-Some.family.now c.requires.there_before found).child
 
 pub marked_window-requires-clause-marked : goal.marked_window-requires-clause-marked
 marked_window-requires-clause-marked g c =
     let given = c.args.given.now in
     let found = sym (ap (get nat_eq given.families.now) c.requires.host) ∙ sym c.in-Some.ensures.value in
-    (is_family (g.O.Look.forest c.args.before.now) (g.N.Look.forest c.args.after.now) (marking given.marks.now) given.hosts.now.tree c.requires.between given.marks.now given.families.now c.requires.families c.args.key c.in-Some.family.now c.requires.there_before found).marked
+    (is_family (g.O.Look.forest c.args.before.now) (g.N.Look.forest c.args.after.now) (marking given.marks.now) given.hosts.now.tree c.requires.between given.marks.now given.families.now c.requires.families c.args.parent.now.key c.in-Some.family.now c.requires.there_before found).marked
 
 pub marked_window-requires-clause-size : goal.marked_window-requires-clause-size
 marked_window-requires-clause-size g c =
     let given = c.args.given.now in
     let found = sym (ap (get nat_eq given.families.now) c.requires.host) ∙ sym c.in-Some.ensures.value in
-    (is_family (g.O.Look.forest c.args.before.now) (g.N.Look.forest c.args.after.now) (marking given.marks.now) given.hosts.now.tree c.requires.between given.marks.now given.families.now c.requires.families c.args.key c.in-Some.family.now c.requires.there_before found).size
+    (is_family (g.O.Look.forest c.args.before.now) (g.N.Look.forest c.args.after.now) (marking given.marks.now) given.hosts.now.tree c.requires.between given.marks.now given.families.now c.requires.families c.args.parent.now.key c.in-Some.family.now c.requires.there_before found).size
 
 -- ---- where no child is marked
 
@@ -39,10 +39,10 @@ returns-in-None-2-clause-part g c =
     let old = g.O.Look.forest c.args.before.now in
     let new = g.N.Look.forest c.args.after.now in
     let none = sym (ap (get nat_eq given.families.now) c.requires.host) ∙ sym c.in-None-2.ensures.value in
-    let first = some_child (children_of old c.args.key) c.args.was c.requires.was c.if-is_none.ensures in
-    subst (IsPart (marking given.marks.now).noted (children_of old c.args.key) (children_of new c.args.key)) (sym c.new.ensures.items)
-    (plain_part old new (marking given.marks.now) given.hosts.now.tree c.requires.between c.args.key c.requires.there_after first.0 first.1
-    (no_family old new (marking given.marks.now) given.hosts.now.tree c.requires.between given.marks.now given.families.now c.requires.families c.args.key c.requires.there_before none))
+    let first = some_child (children_of old c.args.parent.now.key) c.args.was c.requires.was c.if-is_none.ensures in
+    subst (IsPart (marking given.marks.now).noted (children_of old c.args.parent.now.key) (children_of new c.args.parent.now.key)) (sym c.new.ensures.items)
+    (plain_part old new (marking given.marks.now) given.hosts.now.tree c.requires.between c.args.parent.now.key c.requires.there_after first.0 first.1
+    (no_family old new (marking given.marks.now) given.hosts.now.tree c.requires.between given.marks.now given.families.now c.requires.families c.args.parent.now.key c.requires.there_before none))
 
 -- ---- the run of the marked children
 
@@ -51,46 +51,46 @@ moves_in-requires-clause-once g c =
     let given = c.args.given.now in
     let old = g.O.Look.forest c.args.before.now in
     let new = g.N.Look.forest c.args.after.now in
-    let marks : IsWindowOfMarks (marking given.marks.now).noted (children_of old c.args.key) c.match-get.window =
+    let marks : IsWindowOfMarks (marking given.marks.now).noted (children_of old c.args.parent.now.key) c.match-get.window =
     elim c.match-get.branch [
-      | in-Some+in_ok-window-in-Some w ↦ subst (IsWindowOfMarks (marking given.marks.now).noted (children_of old c.args.key)) (sym w.window-is) w.in_ok-window-in-Some.ensures.window
+      | in-Some+in_ok-window-in-Some w ↦ subst (IsWindowOfMarks (marking given.marks.now).noted (children_of old c.args.parent.now.key)) (sym w.window-is) w.in_ok-window-in-Some.ensures.window
       | in-None w ↦
-          subst (IsWindowOfMarks (marking given.marks.now).noted (children_of old c.args.key)) (sym w.window-is)
-          (none_window (marking given.marks.now).noted (children_of old c.args.key) w.empty-window.result (no_children (children_of old c.args.key) c.args.was c.requires.was (w.is_none.ensures ∙ ap not w.if-is_none.true))
+          subst (IsWindowOfMarks (marking given.marks.now).noted (children_of old c.args.parent.now.key)) (sym w.window-is)
+          (none_window (marking given.marks.now).noted (children_of old c.args.parent.now.key) w.empty-window.result (no_children (children_of old c.args.parent.now.key) c.args.was c.requires.was (w.is_none.ensures ∙ ap not w.if-is_none.true))
           w.empty-window.ensures.before w.empty-window.ensures.keys w.empty-window.ensures.behind)
     ] in
-    keys_once old new (marking given.marks.now) given.hosts.now.tree c.requires.between c.args.key c.requires.there_after c.match-get.window marks
+    keys_once old new (marking given.marks.now) given.hosts.now.tree c.requires.between c.args.parent.now.key c.requires.there_after c.match-get.window marks
 
 pub moves_in-requires-clause-first : goal.moves_in-requires-clause-first
 moves_in-requires-clause-first g c =
     let given = c.args.given.now in
     let old = g.O.Look.forest c.args.before.now in
     let new = g.N.Look.forest c.args.after.now in
-    let marks : IsWindowOfMarks (marking given.marks.now).noted (children_of old c.args.key) c.match-get.window =
+    let marks : IsWindowOfMarks (marking given.marks.now).noted (children_of old c.args.parent.now.key) c.match-get.window =
     elim c.match-get.branch [
-      | in-Some+in_ok-window-in-Some w ↦ subst (IsWindowOfMarks (marking given.marks.now).noted (children_of old c.args.key)) (sym w.window-is) w.in_ok-window-in-Some.ensures.window
+      | in-Some+in_ok-window-in-Some w ↦ subst (IsWindowOfMarks (marking given.marks.now).noted (children_of old c.args.parent.now.key)) (sym w.window-is) w.in_ok-window-in-Some.ensures.window
       | in-None w ↦
-          subst (IsWindowOfMarks (marking given.marks.now).noted (children_of old c.args.key)) (sym w.window-is)
-          (none_window (marking given.marks.now).noted (children_of old c.args.key) w.empty-window.result (no_children (children_of old c.args.key) c.args.was c.requires.was (w.is_none.ensures ∙ ap not w.if-is_none.true))
+          subst (IsWindowOfMarks (marking given.marks.now).noted (children_of old c.args.parent.now.key)) (sym w.window-is)
+          (none_window (marking given.marks.now).noted (children_of old c.args.parent.now.key) w.empty-window.result (no_children (children_of old c.args.parent.now.key) c.args.was c.requires.was (w.is_none.ensures ∙ ap not w.if-is_none.true))
           w.empty-window.ensures.before w.empty-window.ensures.keys w.empty-window.ensures.behind)
     ] in
-    start_place old new (marking given.marks.now) given.hosts.now.tree c.requires.between c.args.key c.requires.there_after c.match-get.window marks c.args.now c.requires.now
+    start_place old new (marking given.marks.now) given.hosts.now.tree c.requires.between c.args.parent.now.key c.requires.there_after c.match-get.window marks c.args.now c.requires.now
 
 pub returns-clause-part : goal.returns-clause-part
 returns-clause-part g c =
     let given = c.args.given.now in
     let old = g.O.Look.forest c.args.before.now in
     let new = g.N.Look.forest c.args.after.now in
-    let marks : IsWindowOfMarks (marking given.marks.now).noted (children_of old c.args.key) c.match-get.window =
+    let marks : IsWindowOfMarks (marking given.marks.now).noted (children_of old c.args.parent.now.key) c.match-get.window =
     elim c.match-get.branch [
-      | in-Some+in_ok-window-in-Some w ↦ subst (IsWindowOfMarks (marking given.marks.now).noted (children_of old c.args.key)) (sym w.window-is) w.in_ok-window-in-Some.ensures.window
+      | in-Some+in_ok-window-in-Some w ↦ subst (IsWindowOfMarks (marking given.marks.now).noted (children_of old c.args.parent.now.key)) (sym w.window-is) w.in_ok-window-in-Some.ensures.window
       | in-None w ↦
-          subst (IsWindowOfMarks (marking given.marks.now).noted (children_of old c.args.key)) (sym w.window-is)
-          (none_window (marking given.marks.now).noted (children_of old c.args.key) w.empty-window.result (no_children (children_of old c.args.key) c.args.was c.requires.was (w.is_none.ensures ∙ ap not w.if-is_none.true))
+          subst (IsWindowOfMarks (marking given.marks.now).noted (children_of old c.args.parent.now.key)) (sym w.window-is)
+          (none_window (marking given.marks.now).noted (children_of old c.args.parent.now.key) w.empty-window.result (no_children (children_of old c.args.parent.now.key) c.args.was c.requires.was (w.is_none.ensures ∙ ap not w.if-is_none.true))
           w.empty-window.ensures.before w.empty-window.ensures.keys w.empty-window.ensures.behind)
     ] in
     if_ok_then c.moves_in.result _ _ c.moves_in.ensures.walk
-    (λ moves walk. window_part old new (marking given.marks.now) given.hosts.now.tree c.requires.between c.args.key c.requires.there_after c.match-get.window marks c.args.now moves.items c.requires.now walk)
+    (λ moves walk. window_part old new (marking given.marks.now) given.hosts.now.tree c.requires.between c.args.parent.now.key c.requires.there_after c.match-get.window marks c.args.now moves.items c.requires.now walk)
   where
     if_ok_then : {X E : Type 0} (r : Result X E) (P Q : X → Type 0) → IfOk r P → ((x : X) → P x → Q x) → IfOk r Q
     if_ok_then (Ok x) P Q p then = then x p

@@ -20,16 +20,16 @@ reconcile_node-requires-clause-between g c =
 
 pub reconcile_node-requires-clause-was : goal.reconcile_node-requires-clause-was
 reconcile_node-requires-clause-was g c =
-    Made.read_still (g.O.Look.forest c.args.before.now) _ c.root-key.result c.node-was_node.result.now c.found-was.ensures.same (ap (λ n. Some n) c.node-was_node.ensures ∙ c.found-was.ensures.found)
+    Made.read_still (g.O.Look.forest c.args.before.now) _ c.root-key.result c.node.result.now c.found-was.ensures.same (ap (λ n. Some n) c.node.ensures ∙ c.found-was.ensures.found)
 
 pub reconcile_node-requires-clause-now : goal.reconcile_node-requires-clause-now
 reconcile_node-requires-clause-now g c =
-    Made.read_still (g.N.Look.forest c.args.after.now) _ c.root-key.result c.node-now_node.result.now c.found-now.ensures.same (ap (λ n. Some n) c.node-now_node.ensures ∙ c.found-now.ensures.found)
+    Made.read_still (g.N.Look.forest c.args.after.now) _ c.root-key.result c.node-2.result.now c.found-now.ensures.same (ap (λ n. Some n) c.node-2.ensures ∙ c.found-now.ensures.found)
 
 pub reconcile_node-requires-clause-tag : goal.reconcile_node-requires-clause-tag
 reconcile_node-requires-clause-tag g c =
-    Whole.root_same_tag (g.O.Look.forest c.args.before.now) (g.N.Look.forest c.args.after.now) c.root-key.result c.node-was_node.result.now c.node-now_node.result.now c.root-key.ensures (Whole.is_tree (g.O.Look.forest c.args.before.now) c.found-was.ensures.sound c.requires.alone_before) (Whole.is_tree (g.N.Look.forest c.args.after.now) c.found-now.ensures.sound c.requires.alone_after)
-    (ap (λ n. Some n) c.node-was_node.ensures ∙ c.found-was.ensures.found) (ap (λ n. Some n) c.node-now_node.ensures ∙ c.found-now.ensures.found)
+    Whole.root_same_tag (g.O.Look.forest c.args.before.now) (g.N.Look.forest c.args.after.now) c.root-key.result c.node.result.now c.node-2.result.now c.root-key.ensures (Whole.is_tree (g.O.Look.forest c.args.before.now) c.found-was.ensures.sound c.requires.alone_before) (Whole.is_tree (g.N.Look.forest c.args.after.now) c.found-now.ensures.sound c.requires.alone_after)
+    (ap (λ n. Some n) c.node.ensures ∙ c.found-was.ensures.found) (ap (λ n. Some n) c.node-2.ensures ∙ c.found-now.ensures.found)
 
 pub reconcile_node-requires-clause-room : goal.reconcile_node-requires-clause-room
 reconcile_node-requires-clause-room g c =
@@ -39,7 +39,7 @@ pub returns-clause-allowed : goal.returns-clause-allowed
 returns-clause-allowed g c =
     let old = g.O.Look.forest c.args.before.now in
     let new = g.N.Look.forest c.args.after.now in
-    Whole.root_allowed old _ new _ (marking c.args.marks.now) c.args.hosts.now.tree c.root-key.result c.next_id-next.result _ _ _ c.root-key.ensures c.next_id-next.ensures.next c.requires.none c.found-was.ensures.same c.found-now.ensures.same (Whole.is_tree (g.O.Look.forest c.args.before.now) c.found-was.ensures.sound c.requires.alone_before) (Whole.is_tree (g.N.Look.forest c.args.after.now) c.found-now.ensures.sound c.requires.alone_after)
+    Whole.root_allowed old _ new _ (marking c.args.marks.now) c.args.hosts.now.tree c.root-key.result c.next_id-next.result _ _ _ c.root-key.ensures c.next_id-next.ensures.next c.new.ensures.items c.found-was.ensures.same c.found-now.ensures.same (Whole.is_tree (g.O.Look.forest c.args.before.now) c.found-was.ensures.sound c.requires.alone_before) (Whole.is_tree (g.N.Look.forest c.args.after.now) c.found-now.ensures.sound c.requires.alone_after)
     (Whole.are_between old new (marking c.args.marks.now) c.args.hosts.now.tree c.requires.covered (Whole.is_tree (g.O.Look.forest c.args.before.now) c.found-was.ensures.sound c.requires.alone_before) (Whole.is_tree (g.N.Look.forest c.args.after.now) c.found-now.ensures.sound c.requires.alone_after) c.requires.shown c.next_id-next.ensures.numbered c.next_id-next.ensures.rooted)
     c.in_ok-reconcile_node.ensures.done
 
