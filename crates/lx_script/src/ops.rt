@@ -4,8 +4,8 @@ ghost use Rattle.std.specs.Prelude.{◌≡◌, IfOk, Option, map};
 ghost use Rattle.serde_json.specs.View.{view};
 ghost use Rattle.lx_script.specs.Replies.{op_data as data_of_op, text_data, attributes_data, list_data, or_null};
 
-use lx_host::{Attrs, Name, Op, Tag};
-use lx_node::{Key, Txt};
+use lx_host::{Name, Op};
+use lx_node::Txt;
 use serde_json::{Map, Value, json};
 use std::alloc::{AllocError, Global};
 
@@ -19,6 +19,7 @@ pub(crate) fn ops_value(alloc: Global, ops: &[Op]) -> Result<Value, AllocError>
     Ok(Value::Array(values))
 }
 
+#[tactic(auto, unfolding(crate::specs::Replies::op_data))]
 fn op_value(alloc: Global, op: &Op) -> Result<Value, AllocError>
     ensures { IfOk result (λ v. view v ≡ data_of_op op.now) }
 {
@@ -30,7 +31,11 @@ fn op_value(alloc: Global, op: &Op) -> Result<Value, AllocError>
             attrs,
             text,
             ending,
-        } => create_value(alloc, *id, *key, *tag, attrs, text, *ending),
+        } => {
+            let attributes = attributes_value(alloc, attrs.items())?;
+            let text = text_or_null(alloc, text)?;
+            json!(in alloc; ["create", *id, key.number(), tag.word(), attributes, text, *ending])
+        }
         Op::Place {
             parent,
             child,
@@ -43,24 +48,7 @@ fn op_value(alloc: Global, op: &Op) -> Result<Value, AllocError>
     }
 }
 
-ghost use Rattle.lx_host.specs.declared.op.Op.TheVariants.{Create, Place, Drop, Text, Attr, Break};
-
-#[tactic(auto, unfolding(crate::specs::Replies::op_data))]
-fn create_value(
-    alloc: Global,
-    id: u32,
-    key: Key,
-    tag: Tag,
-    attrs: &Attrs,
-    text: &Option<Txt>,
-    ending: bool,
-) -> Result<Value, AllocError>
-    ensures { IfOk result (λ v. view v ≡ data_of_op (Create id key tag attrs.now text.now ending)) }
-{
-    let attributes = attributes_value(alloc, attrs.items())?;
-    let text = text_or_null(alloc, text)?;
-    json!(in alloc; ["create", id, key.number(), tag.word(), attributes, text, ending])
-}
+ghost use Rattle.lx_host.specs.declared.op.Op.TheVariants.{Place, Drop, Text, Attr, Break};
 
 #[tactic(auto, unfolding(crate::specs::Replies::op_data))]
 fn place_value(
