@@ -1,0 +1,57 @@
+//! Calls that commit nothing.
+
+ghost use Rattle.std.specs.Prelude.{◌<◌, ◌≤◌, ◌+◌};
+
+use anyhow::Result;
+use lx_editor::{Editor, answer_line};
+use lx_step::Shown;
+use std::alloc::Global;
+
+/// The view as HTML, and how many nodes the state has.
+pub(crate) fn view(alloc: Global, editor: &Editor) -> Result<String> {
+    let html = editor.view().print_html()?;
+    Ok(format!(in alloc; "{} {}", editor.state().links.len(), html.as_str())?)
+}
+
+/// How many entries there are to go back to, and forth to.
+pub(crate) fn depths(alloc: Global, editor: &Editor) -> Result<String> {
+    let (undo, redo) = editor.depths();
+    Ok(format!(in alloc; "{undo} {redo}")?)
+}
+
+/// Whether the history has a current entry.
+pub(crate) fn current(alloc: Global, editor: &Editor) -> Result<String> {
+    let is_some = editor.history().current().is_some();
+    Ok(format!(in alloc; "{is_some}")?)
+}
+
+/// The document that is committed.
+pub(crate) fn export(alloc: Global, editor: &Editor) -> Result<String> {
+    let document = editor.export(alloc)?;
+    Ok(format!(in alloc; "{document}")?)
+}
+
+/// The operations of the last commit, again.
+pub(crate) fn last_batch(alloc: Global, editor: &Editor) -> Result<String> {
+    match editor.last_batch() {
+        Some(batch) => Ok(format!(in alloc; "{:?}", batch.ops())?),
+        None => Ok(format!(in alloc; "none")?),
+    }
+}
+
+/// What is selected, as the reply to a line tells it.
+pub(crate) fn show(alloc: Global, editor: &Editor) -> Result<String> {
+    text(alloc, editor.show(alloc, Shown::Selection)?)
+}
+
+/// A line, answered with the bytes of its reply.
+pub(crate) fn line(alloc: Global, editor: &mut Editor) -> Result<String>
+    requires { editor.old.commits < 1000 }
+    ensures { editor.new.commits ≤ editor.old.commits + 1 }
+{
+    text(alloc, answer_line(alloc, editor, br#"{"show":"history"}"#)?)
+}
+
+fn text(alloc: Global, bytes: Vec<u8>) -> Result<String> {
+    Ok(String::from_str(alloc, str::from_utf8(&bytes)?)?)
+}
