@@ -195,19 +195,14 @@ fn commands_are_read(rt: HostRuntime) -> Result<(), Fail> {
         (r#""k""#, "Nothing"),
         (r#""k","payload":null"#, "Nothing"),
         (r#""k","payload":"""#, r#"Text("")"#),
-        (
-            r#""k","payload":"@payload""#,
-            r#"Text("@payload")"#,
-        ),
+        (r#""k","payload":"@payload""#, r#"Text("@payload")"#),
         (
             r#""k","payload":[1,50,true]"#,
             "Grid { rows: 1, columns: 50, headers: true }",
         ),
     ] {
         let step = format!(in rt.alloc(); "{{\"dispatch\":{members}}}")?;
-        let command = format!(in rt.alloc();
-            "Command {{ name: \"k\", payload: {wanted} }}"
-        )?;
+        let command = format!(in rt.alloc(); "Command {{ name: \"k\", payload: {wanted} }}")?;
         let as_step = format!(in rt.alloc(); "Dispatch({})", command.as_str())?;
         assert!(rt;
             is_step(rt.alloc(), step.as_str(), as_step.as_str())?,

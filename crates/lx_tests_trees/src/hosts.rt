@@ -274,9 +274,6 @@ fn copied_attributes(alloc: Global) -> Result<String, Fail> {
 #[test]
 fn attributes_are_written_and_copied(rt: HostRuntime) -> Result<(), Fail> {
     let text = copied_attributes(rt.alloc())?;
-    assert_eq!(rt;
-        text.as_str(),
-        "[(Dir, \"ltr\")] [(Dir, \"ltr\")]"
-    );
+    assert_eq!(rt; text.as_str(), "[(Dir, \"ltr\")] [(Dir, \"ltr\")]");
     Ok(())
 }
