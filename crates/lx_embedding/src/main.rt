@@ -1,5 +1,5 @@
-//! Uses the editor as a library, as a program does that embeds it: each call of `Editor` once. Nothing is read, and each
-//! line of standard output tells what one call answered.
+//! Uses the editor as a library, as a program does that embeds it: each call of `Editor`, and `line` through `answer_line`.
+//! Nothing is read, and each line of standard output tells what one call answered.
 #![tactic(auto)]
 
 mod asking;
