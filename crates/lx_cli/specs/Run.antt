@@ -132,8 +132,8 @@ pub record HasNoFault (run : Seen) : Type 0 where
   pub sink : run.sink_before.faults < last_count
 
 -- A run that ended so. What it read is gone from the source, and what it wrote went to the sink. It reads at most one
--- byte more than the limit; each read but the last takes a byte or fails, and each write takes a byte or fails. Where
--- the words are taken, and there are no fault and not too many bytes, it is done, unless memory was wanting.
+-- byte more than the limit. The calls are at most one more than the bytes: reads than were read, writes than were written.
+-- Where the words are taken, and there are no fault and not too many bytes, it is done, unless memory was wanting.
 pub record IsRun (status : Status) (run : Seen) : Type 0 where
   pub ends : Ends status run
   pub consumes : Consumes run.source_before.left run.source_after.left run.read

@@ -58,11 +58,12 @@ ghost use Rattle.lx_reconcile.specs.Allowing.{marking, IsAllowed};
 ghost use Rattle.lx_forest.specs.Lookups.{alone, has};
 
 /// The operations that bring a view of one tree to another tree, both the trees of key 0 in what is read. They lead from
-/// the view to one of that tree, keep the host of each node that stays below the same parent with the same element, and
-/// are about the hosts of marked nodes alone, of children of those that stay, and new ones. Nodes without marks, and all
-/// below them, are skipped: the two readers count at most 8 reads for each child that a marked node has in the new tree, or
-/// had in the old one where it stays, for each node that isn't kept, and for one more. The new hosts' ids go on from the
-/// view's next one; `unkept` tells how many they can be.
+/// the view to one of that tree, and keep the host of each node that is kept: of the root, and of each node that has the
+/// same tag below the same kept parent in both trees. They are about the hosts of nodes that are marked themselves, of
+/// children of those where these stay, and about new ones. Nodes without marks, and all below them, are skipped: the two
+/// readers count at most 8 reads for each child that a marked node has in the new tree, or had in the old one where it
+/// stays, for each node that isn't kept, and for one more. The new hosts' ids go on from the view's next one; `unkept`
+/// tells how many they can be.
 pub fn operations<'a, R: Records<'a>>(
     alloc: Global,
     before: &mut R,
