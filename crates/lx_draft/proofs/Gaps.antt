@@ -13,6 +13,7 @@ use Rattle.lx_forest.proofs.Lookups.{NoRepeats-children_of, is_among-children_of
 use Rattle.lx_forest.proofs.Walks.{cases_option}
 use Rattle.lx_draft.specs.Working.{Working}
 use Rattle.lx_draft.specs.Faults.{put_fault, beyond}
+use Rattle.lx_draft.proofs.Put.{put_within}
 use Rattle.lx_draft.specs.Steps.{put_step}
 use Rattle.lx_draft.specs.Beside.{gap_index, before_at, put_before_step, behind_at, put_behind_step}
 
@@ -26,6 +27,16 @@ gap_at (Some b) xs e = sym (slice_get-place_in xs b e)
 pub gap_within : (before : Option ℕ) (xs : List ℕ) → is_place before xs ≡ true → gap_index before xs ≤ length xs
 gap_within None xs e = omega arith
 gap_within (Some b) xs e = let h : place_in xs b < length xs = index_in-lt xs b (place_in xs b) (index_in-among xs b e) in omega (arith, h)
+
+-- and what stands at an index tells the gap there
+gap_of : (xs : List ℕ) (i : ℕ) → NoRepeats xs → i ≤ length xs → gap_index (slice_get xs i) xs ≡ i
+gap_of xs i once within =
+    elim (slice_get_cases xs i).1 [
+      | inl there ↦ ap (λ o. gap_index o xs) there.2 ∙ ap (λ o. unwrap_or o 0) (index_in-slice_get xs there.0 i once there.2)
+      | inr past ↦ ap (λ o. gap_index o xs) past.1 ∙ same (length xs) past.0 within
+    ] where
+      same : (n : ℕ) → n ≤ i → i ≤ n → n ≡ i
+      same n h l = omega (arith, h, l)
 
 -- the next name is a place, whose index is one more
 pub next_place : (xs : List ℕ) (k : ℕ) → is_place (next_in xs k) xs ≡ true
@@ -92,6 +103,10 @@ pub gap_refused : (f : Forest) (k p : ℕ) (before : Option ℕ) → is_place be
 gap_refused f k p before e = same_fault f k p 0 (gap_index before (children_of f p)) (omega arith) (gap_within before (children_of f p) e)
 
 -- ---- put
+
+-- where a put isn't refused, the index is that of the gap before the child which stands there
+pub gap_put : (f : Forest) (k p index : ℕ) → IsForest f → put_fault k p index f ≡ None → gap_index (slice_get (children_of f p) index) (children_of f p) ≡ index
+gap_put f k p index h e = gap_of (children_of f p) index (NoRepeats-children_of f p h) (put_within f k p index e)
 
 pub before_is : (w : Working) (k p other : ℕ) → IsForest w.forest → parent_of w.forest other ≡ Some p → put_step k p (gap_index (Some other) (children_of w.forest p)) w ≡ put_before_step k other w
 unfolding put_before_step

@@ -1,5 +1,5 @@
 -- Where nothing refuses a put, the place is one for the links too.
-use Rattle.std.proofs.Common.{◌≡◌, ℕ, true, Option, None, Some, refl, sym, subst, arith}
+use Rattle.std.proofs.Common.{◌≡◌, ◌≤◌, ℕ, true, length, Option, None, Some, refl, sym, subst, arith}
 use Rattle.std.specs.Option.{option_or}
 use Rattle.std.specs.Prelude.{slice_get}
 use Rattle.std.proofs.lemmas.Bool.Decides.{eqb_tells}
@@ -45,6 +45,10 @@ can_put f k p index e =
       parent = grind (arith, n.parent);
       outside = grind (arith, n.free);
     }
+
+-- and the index is one of a place among the children
+pub put_within : (f : Forest) (k p index : ℕ) → put_fault k p index f ≡ None → index ≤ length (children_of f p)
+put_within f k p index e = grind (arith, (none_of f k p index e).within)
 
 child_there : (f : Forest) (p b : ℕ) → IsForest f → is_among b (children_of f p) ≡ true → has b f ≡ true
 child_there f p b h among = grind (arith, among, is_among-children_of f b p h, is_named_tells (parent_of f b) p, no_parent f b)

@@ -115,7 +115,12 @@ impl Draft {
     }
 
     /// Puts a node before a child of the parent, or at the end, and marks it, the parent and its neighbours.
-    fn place_in_gap(&mut self, key: Key, parent: Key, before: Option<Key>) -> Result<(), NoMemory>
+    pub(crate) fn place_in_gap(
+        &mut self,
+        key: Key,
+        parent: Key,
+        before: Option<Key>,
+    ) -> Result<(), NoMemory>
         requires here { before ≡ slice_get (lookups.children_of self.old.forest parent) (gap_index before (lookups.children_of self.old.forest parent)) }
         requires fault { put_fault key parent (gap_index before (lookups.children_of self.old.forest parent)) self.old.forest ≡ None }
         requires order { IsForest self.old.forest }

@@ -4,7 +4,6 @@ ghost use Rattle.lx_marks.specs.Marks.{with_leaf};
 
 use crate::draft::Draft;
 use crate::fields::{let_go, text_length_of};
-use crate::marking::mark_both_near;
 use crate::texts::characters;
 use lx_links::Links;
 use lx_marks::Marks;
@@ -256,9 +255,6 @@ impl Draft {
         ensures failed { OnErr result (self.new.forest ≡ nil) }
     {
         let before = self.links.child_at(parent, index);
-        match self.links.place(parent, before, key) {
-            Ok(()) => mark_both_near(&mut self.marks, &mut self.fresh, &mut self.links, key),
-            Err(_) => Err(NoMemory),
-        }
+        self.place_in_gap(key, parent, before)
     }
 }

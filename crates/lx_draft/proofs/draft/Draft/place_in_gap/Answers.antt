@@ -17,7 +17,7 @@ may c = may_place_in _ c.args.self.now _ _ _ _ c.self.view_is c.requires.order c
 lost : (c : After-place) → OnErr c.place.result (c.place.new.self ≡ nil)
 lost c = after_error _ _ _ _ (may c).free c.place.ensures.refused
 
--- the nodes on the way up are still marked, but for the one that was put there
+-- the parent of each marked node is still marked too, but maybe not that of the one that was put there
 raised : (c : In-Ok) → IsRaisedBut c.place.new.self c.args.key c.self.inside.marks × IsRaisedBut c.place.new.self c.args.key c.self.inside.fresh
 raised c =
     let at = may (goal.at.In-Ok c).After-place in
