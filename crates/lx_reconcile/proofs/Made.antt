@@ -33,7 +33,7 @@ use Rattle.lx_reconcile.specs.Making.{IsBetween, Reconciles, MakesMoves, AreComi
 use Rattle.lx_reconcile.specs.Reconciled.{host_in}
 use Rattle.lx_reconcile.specs.ToCome.{IsInWalk}
 use Rattle.lx_reconcile.specs.Walk.{is_waiting, standing}
-use Rattle.lx_reconcile.proofs.Children.{label_from, IsRead, is_read, there_read, stands_there}
+use Rattle.lx_reconcile.proofs.Children.{label_from, IsRead, is_read, stands_there}
 use Rattle.lx_reconcile.specs.Reading.{reads_in, reads_below}
 use Rattle.lx_reconcile.proofs.InTurn.{standing-append}
 use Rattle.lx_reconcile.proofs.Reading.{reads_append, reads_one, reads_unkept, reads_kept, roots_of}
@@ -93,19 +93,39 @@ found_none k v e whole shown = absurd (let h = found_is k v None e whole shown i
 
 -- ---- where a source has been read, its forest is the same
 
-pub between_still : (f f_now g g_now : Forest) (mk : Marking) (v : HostTree) → f_now ≡ f → g_now ≡ g → IsBetween f g mk v → IsBetween f_now g_now mk v
-between_still f f_now g g_now mk v e d b = subst (λ x. IsBetween x g_now mk v) (sym e) (subst (λ y. IsBetween f y mk v) (sym d) b)
+module _ {f f_now g g_now : Forest} (e : f_now ≡ f) (d : g_now ≡ g) where
+  pub between_still : {mk : Marking} {v : HostTree} → IsBetween f g mk v → IsBetween f_now g_now mk v
+  between_still {mk} {v} b = subst (λ x. IsBetween x g_now mk v) (sym e) (subst (λ y. IsBetween f y mk v) (sym d) b)
 
-pub moves_still : (f f_now g g_now : Forest) (mk : Marking) (v : HostTree) (k : ℕ) (ms : List Move) (n : ℕ) (start end : List Op) (m : ℕ) → f_now ≡ f → g_now ≡ g → MakesMoves f_now g_now mk v k ms n start end m → MakesMoves f g mk v k ms n start end m
-moves_still f f_now g g_now mk v k ms n start end m e d b =
-    subst (λ x. MakesMoves x g mk v k ms n start end m) e (subst (λ y. MakesMoves f_now y mk v k ms n start end m) d b)
+  pub moves_still : {mk : Marking} {v : HostTree} {k : ℕ} {ms : List Move} {n : ℕ} {start end : List Op} {m : ℕ} → MakesMoves f_now g_now mk v k ms n start end m → MakesMoves f g mk v k ms n start end m
+  moves_still {mk} {v} {k} {ms} {n} {start} {end} {m} b =
+      subst (λ x. MakesMoves x g mk v k ms n start end m) e (subst (λ y. MakesMoves f_now y mk v k ms n start end m) d b)
 
-pub reconciles_still : (f f_now g g_now : Forest) (mk : Marking) (v : HostTree) (k n : ℕ) (start end : List Op) (m : ℕ) → f_now ≡ f → g_now ≡ g → Reconciles f_now g_now mk v k n start end m → Reconciles f g mk v k n start end m
-reconciles_still f f_now g g_now mk v k n start end m e d b =
-    subst (λ x. Reconciles x g mk v k n start end m) e (subst (λ y. Reconciles f_now y mk v k n start end m) d b)
+  pub reconciles_still : {mk : Marking} {v : HostTree} {k n : ℕ} {start end : List Op} {m : ℕ} → Reconciles f_now g_now mk v k n start end m → Reconciles f g mk v k n start end m
+  reconciles_still {mk} {v} {k} {n} {start} {end} {m} b =
+      subst (λ x. Reconciles x g mk v k n start end m) e (subst (λ y. Reconciles f_now y mk v k n start end m) d b)
 
-pub coming_still : (f f_now g g_now : Forest) (v : HostTree) (k : ℕ) (ms : List Move) (n : ℕ) → f_now ≡ f → g_now ≡ g → AreComing f g v k ms n → AreComing f_now g_now v k ms n
-coming_still f f_now g g_now v k ms n e d b = subst (λ x. AreComing x g_now v k ms n) (sym e) (subst (λ y. AreComing f y v k ms n) (sym d) b)
+  pub coming_still : {v : HostTree} {k : ℕ} {ms : List Move} {n : ℕ} → AreComing f g v k ms n → AreComing f_now g_now v k ms n
+  coming_still {v} {k} {ms} {n} b = subst (λ x. AreComing x g_now v k ms n) (sym e) (subst (λ y. AreComing f y v k ms n) (sym d) b)
+
+  pub reads_still : (noted : ℕ → Bool) (k : ℕ) → reads_below f_now g_now noted k ≡ reads_below f g noted k
+  reads_still noted k = ap (λ x. reads_below x g_now noted k) e ∙ ap (λ y. reads_below f y noted k) d
+
+  pub move_reads_still : (noted : ℕ → Bool) (p : Option ℕ) (ks : List ℕ) → reads_in f_now noted p (trees_of g_now ks) ≡ reads_in f noted p (trees_of g ks)
+  move_reads_still noted p ks = ap (λ x. reads_in x noted p (trees_of g_now ks)) e ∙ ap (λ y. reads_in f noted p (trees_of y ks)) d
+
+  pub unkept_still : (c n : ℕ) → n + unkept f (Some c) (trees_of g (children_of g c)) ≤ last_u32 → n + unkept f_now (Some c) (trees_of g_now (children_of g_now c)) ≤ last_u32
+  unkept_still c n h = subst (λ x. n + unkept x (Some c) (trees_of g_now (children_of g_now c)) ≤ last_u32) (sym e) (subst (λ y. n + unkept f (Some c) (trees_of y (children_of y c)) ≤ last_u32) (sym d) h)
+
+module _ {f f_now : Forest} (e : f_now ≡ f) where
+  pub room_still : (c n : ℕ) → n + total (alone c f) ≤ last_u32 → n + total (alone c f_now) ≤ last_u32
+  room_still c n h = subst (λ y. n + total (alone c y) ≤ last_u32) (sym e) h
+
+  pub read_still : (k : ℕ) {n : Node} → Some n ≡ option_map node_of (record_at f k) → Some n ≡ option_map node_of (record_at f_now k)
+  read_still k {n} h = subst (λ y. Some n ≡ option_map node_of (record_at y k)) (sym e) h
+
+  pub child_node_less : (k : ℕ) → 4 * total (alone k f_now) + 1 < 4 * total (alone k f) + 2
+  child_node_less k = omega (arith, ap (λ f. total (alone k f)) e)
 
 -- ---- the next move
 
@@ -117,244 +137,330 @@ not_both : (b : Bool) → not b ≡ true → b ≡ false
 not_both true e = absurd (cc)
 not_both false e = refl
 
-module _ (old new : Forest) (mk : Marking) (v : HostTree) where
+waiting_among : (olds handled : List ℕ) (before : Option ℕ) (b : ℕ) → is_waiting olds handled before ≡ true → before ≡ Some b → is_among b olds ≡ true
+waiting_among olds handled None b e is = absurd (cc)
+waiting_among olds handled (Some k) b e is =
+    let same : k ≡ b = cc in
+    subst (λ q. is_among q olds ≡ true) same (both (is_among k olds) (not (is_among k handled)) e).0
+
+module _ {old new : Forest} {v : HostTree} where
+  pub to_case : {k n : ℕ} {s t : Move} → s ≡ t → IsNext old new v k s n → IsNext old new v k t n
+  to_case {k} {n} e x = subst (λ s. IsNext old new v k s n) e x
+
+  stay_both : {k c n : ℕ} → IsNext old new v k (Stay c) n → (is_among c (children_of old k) ≡ true) × (is_among c (children_of new k) ≡ true)
+  stay_both {k} {c} {n} x = walk_both old new v k x.are.from x.are.ops x.are.a c x.more n x.are.walk
+
+  next_behind : {k n : ℕ} {s : Move} → IsNext old new v k s n → v.next ≤ n
+  next_behind x = omega (arith, x.are.behind, x.are.walk.rises)
+
+  walk_to : (k from : ℕ) (ops : List Op) (a : Host) (more : List Move) (m l : ℕ) → m ≡ l → IsInWalk old new v k from ops a more m → IsInWalk old new v k from ops a more l
+  walk_to k from ops a more m l e w = subst (IsInWalk old new v k from ops a more) e w
+
+module _ {old new : Forest} {mk : Marking} {v : HostTree} (b : IsBetween old new mk v) where
   -- the host of a child is found
-  pub child_shown : (k c : ℕ) → IsBetween old new mk v → is_among c (children_of old k) ≡ true → hosts_of c v.hosts ≡ host_in v c ∷ []
-  child_shown k c b among = only_host old v c b.view.before b.view.shows (child_stands old k c b.view.before among)
+  child_shown : (k c : ℕ) → is_among c (children_of old k) ≡ true → hosts_of c v.hosts ≡ host_in v c ∷ []
+  child_shown k c among = only_host old v c b.view.before b.view.shows (child_stands old k c b.view.before among)
 
-  pub stay_both : (k c n : ℕ) → IsNext old new v k (Stay c) n → (is_among c (children_of old k) ≡ true) × (is_among c (children_of new k) ≡ true)
-  stay_both k c n x = walk_both old new v k x.are.from x.are.ops x.are.a c x.more n x.are.walk
+  was_there : (k c : ℕ) → is_among c (children_of old k) ≡ true → has k old ≡ true
+  was_there k c among = has-parent_of old c k (parent_of-child old c k b.was_sound among)
 
-  child_new : (k c : ℕ) → IsBetween old new mk v → is_among c (children_of new k) ≡ true → has c new ≡ true
-  child_new k c b among = has-child new c k (parent_of-child new c k b.sound among)
+  pub after_there : (k c : ℕ) → is_among c (children_of new k) ≡ true → has c new ≡ true
+  after_there k c among = has-child new c k (parent_of-child new c k b.sound among)
 
-  pub stay_room : (k c n : ℕ) → IsBetween old new mk v → IsNext old new v k (Stay c) n → n + unkept old (Some c) (trees_of new (children_of new c)) ≤ last_u32
-  stay_room k c n b x =
-      omega (arith, x.are.room, walk_room old new v k x.are.from x.are.ops x.are.a c (Stay c) x.more n x.are.walk refl, child_unkept old new v k c b.view.after (child_new k c b (stay_both k c n x).1))
+module _ {old new : Forest} {mk : Marking} {v : HostTree} where
+  from_case : {k n : ℕ} {s t : Move} {start end : List Op} {m : ℕ} → s ≡ t → MakesMoves old new mk v k (t ∷ []) n start end m → MakesMoves old new mk v k (s ∷ []) n start end m
+  from_case {k} {n} {start} {end} {m} e x = subst (λ s. MakesMoves old new mk v k (s ∷ []) n start end m) (sym e) x
 
-  -- and for all of it, where it is made anew
-  pub again_room : (k c n : ℕ) (was now : Node) → IsBetween old new mk v → IsNext old new v k (Stay c) n → Some was ≡ option_map node_of (record_at old c) → Some now ≡ option_map node_of (record_at new c)
-      → (tag_of was.kind was.fields ≡ tag_of now.kind now.fields → ⊥) → n + total (alone c new) ≤ last_u32
-  again_room k c n was now b x was_is now_is other =
-      let p = is_read old c was b.was_sound was_is in
-      let q = is_read new c now b.sound now_is in
-      omega (
-        arith,
-        x.are.room,
-        walk_room old new v k x.are.from x.are.ops x.are.a c (Stay c) x.more n x.are.walk refl,
-        again_unkept old new v k c (label_from c was) (label_from c now) b.view.before b.view.after (child_new k c b (stay_both k c n x).1)
-            (ap (option_map (λ (s : Spot Label). s.label)) p.at_is ∙ ap (λ l. Some l) p.label)
-            (ap (option_map (λ (s : Spot Label). s.label)) q.at_is ∙ ap (λ l. Some l) q.label) other,
-      )
-
-  pub leave_among : (k c n : ℕ) → IsNext old new v k (Leave c) n → is_among c (children_of old k) ≡ true
-  leave_among k c n x = x.are.walk.to_come.suited.0
-
-  pub make_among : (k c : ℕ) (before : Option ℕ) (n : ℕ) → IsNext old new v k (Make c before) n → is_among c (children_of new k) ≡ true
-  make_among k c before n x = x.are.walk.to_come.stays c (grind (arith, eqb_tells c c))
-
-  pub make_room : (k c : ℕ) (before : Option ℕ) (n : ℕ) → IsBetween old new mk v → IsNext old new v k (Make c before) n → n + total (alone c new) ≤ last_u32
-  make_room k c before n b x =
-      omega (
-        arith,
-        x.are.room,
-        walk_room old new v k x.are.from x.are.ops x.are.a c (Make c before) x.more n x.are.walk refl,
-        made_unkept old new v k c b.view.before b.view.after (child_new k c b (make_among k c before n x)) (not_both (is_among c (children_of old k)) x.are.walk.to_come.suited.0),
-      )
-
-  pub place_among : (k c : ℕ) (before : Option ℕ) (n : ℕ) → IsNext old new v k (Place c before) n → is_among c (children_of old k) ≡ true
-  place_among k c before n x = x.are.walk.to_come.suited.0
-
-  waiting_among : (olds handled : List ℕ) (before : Option ℕ) (b : ℕ) → is_waiting olds handled before ≡ true → before ≡ Some b → is_among b olds ≡ true
-  waiting_among olds handled None b e is = absurd (cc)
-  waiting_among olds handled (Some k) b e is =
-      let same : k ≡ b = cc in
-      subst (λ q. is_among q olds ≡ true) same (both (is_among k olds) (not (is_among k handled)) e).0
-
-  pub make_before : (k c : ℕ) (before : Option ℕ) (n : ℕ) → IsBetween old new mk v → IsNext old new v k (Make c before) n → (b : ℕ) → before ≡ Some b → hosts_of b v.hosts ≡ host_in v b ∷ []
-  make_before k c before n w x b is = child_shown k b w (waiting_among (children_of old k) x.are.walk.handled before b x.are.walk.to_come.unhandled.0 is)
-
-  pub place_before : (k c : ℕ) (before : Option ℕ) (n : ℕ) → IsBetween old new mk v → IsNext old new v k (Place c before) n → (b : ℕ) → before ≡ Some b → hosts_of b v.hosts ≡ host_in v b ∷ []
-  place_before k c before n w x b is = child_shown k b w (waiting_among (children_of old k) x.are.walk.handled before b x.are.walk.to_come.unhandled.0 is)
-
-  -- where a child was placed, it stays next
-  pub placed_next : (k c : ℕ) (before : Option ℕ) (n : ℕ) → IsBetween old new mk v → IsNext old new v k (Place c before) n → IsNext old new v k (Stay c) n
-  placed_next k c before n w x = record {
-    more = x.more;
-    are = record {
-      from = x.are.from;
-      ops = x.are.ops ++ op.Place (host_in v k) (host_in v c) (option_map (host_in v) before) ∷ [];
-      a = x.are.a;
-      walk = walk_place old new v k x.are.from x.are.ops x.are.a c before x.more n w.view x.are.walk;
-      behind = x.are.behind;
-      room = x.are.room;
-      there = x.are.there;
-    };
-  }
-
-  -- ---- what each move's operations are
-
-  pub makes_stay : (k c n : ℕ) (start end : List Op) (m : ℕ) → IsForest new → has c new ≡ true → Reconciles old new mk v c n start end m → MakesMoves old new mk v k (Stay c ∷ []) n start end m
-  makes_stay k c n start end m h there r = record {
+  makes_stay : (k : ℕ) {c n : ℕ} {start end : List Op} {m : ℕ} → IsForest new → has c new ≡ true → Reconciles old new mk v c n start end m → MakesMoves old new mk v k (Stay c ∷ []) n start end m
+  makes_stay k {c} {n} {m} h there r = record {
     pushed = r.pushed;
     list = r.list;
     due = r.due;
     leads = λ from ops a more w. walk_stay old new v k from ops a c more n r.pushed m h there w r.done;
   }
 
-  next_behind : (k : ℕ) (m : Move) (n : ℕ) → IsNext old new v k m n → v.next ≤ n
-  next_behind k m n x = omega (arith, x.are.behind, x.are.walk.rises)
+-- ---- a child that stays
 
-  pub stay_behind : (k c n : ℕ) → IsNext old new v k (Stay c) n → v.next ≤ n
-  stay_behind k c n x = next_behind k (Stay c) n x
+module _ {old new : Forest} {mk : Marking} {v : HostTree} {k c n : ℕ} (b : IsBetween old new mk v) (x : IsNext old new v k (Stay c) n) where
+  pub stay_behind : v.next ≤ n
+  stay_behind = next_behind x
 
-  was_there : (k c : ℕ) → IsBetween old new mk v → is_among c (children_of old k) ≡ true → has k old ≡ true
-  was_there k c b among = has-parent_of old c k (parent_of-child old c k b.was_sound among)
+  pub stay_before : has c old ≡ true
+  stay_before = child_stands old k c b.view.before (stay_both x).0
 
-  -- a child left, so the children differ
-  leave_touched : (k c n : ℕ) → IsBetween old new mk v → IsNext old new v k (Leave c) n → mk.touched k ≡ true
-  leave_touched k c n b x =
-      let among = leave_among k c n x in
-      let gone : is_among c (children_of new k) ≡ false = x.are.walk.to_come.gone c (grind (arith, eqb_tells c c)) in
-      children_touched old new mk v k b.covered (was_there k c b among) x.are.there (λ same. absurd (let e = ap (is_among c) same in cc))
+  pub stay_after : has c new ≡ true
+  stay_after = after_there b k c (stay_both x).1
 
-  -- a child is placed, so the children don't keep their order, and differ
-  placed_order : (k c : ℕ) (before : Option ℕ) (n : ℕ) → IsNext old new v k (Place c before) n → KeepsOrder old new k → ⊥
-  placed_order k c before n x order = absurd (let e = x.are.walk.to_come.order order in cc)
+  pub stay_shown : hosts_of c v.hosts ≡ host_in v c ∷ []
+  stay_shown = child_shown b k c (stay_both x).0
 
-  place_touched : (k c : ℕ) (before : Option ℕ) (n : ℕ) → IsBetween old new mk v → IsNext old new v k (Place c before) n → mk.touched k ≡ true
-  place_touched k c before n b x =
-      children_touched old new mk v k b.covered (was_there k c b (place_among k c before n x)) x.are.there
-      (λ same. placed_order k c before n x (ap (λ ys. common ys (children_of new k)) same ∙ sym (ap (common (children_of new k)) same)))
+  pub stay_room : n + unkept old (Some c) (trees_of new (children_of new c)) ≤ last_u32
+  stay_room = omega (arith, x.are.room, walk_room old new v k x.are.from x.are.ops x.are.a c (Stay c) x.more n x.are.walk refl, child_unkept old new v k c b.view.after stay_after)
 
   -- nothing is done for a child without a mark
-  pub makes_skip : (k c n : ℕ) (start : List Op) → IsBetween old new mk v → IsNext old new v k (Stay c) n → mk.noted c ≡ false → MakesMoves old new mk v k (Stay c ∷ []) n start start n
-  makes_skip k c n start b x plain = makes_stay k c n start start n b.view.after (child_new k c b (stay_both k c n x).1) (skipped old new mk v b c n start (has-child new c k (parent_of-child new c k b.sound (stay_both k c n x).1)) plain)
+  pub stay_skipped : (start : List Op) → mk.noted c ≡ false → MakesMoves old new mk v k (Stay c ∷ []) n start start n
+  stay_skipped start plain = makes_stay k b.view.after stay_after (skipped old new mk v b c n start stay_after plain)
 
-  pub makes_leave : (k c h n : ℕ) (start end : List Op) → IsBetween old new mk v → IsNext old new v k (Leave c) n → h ≡ host_in v c → end ≡ start ++ op.Drop h ∷ [] → MakesMoves old new mk v k (Leave c ∷ []) n start end n
-  makes_leave k c h n start end b x id is = record {
+  pub stay_done : {A E : Type 0} (r : Result A E) {f_now g_now : Forest} (start end : List Op) (m : ℕ) → f_now ≡ old → g_now ≡ new → OnOk r (Reconciles f_now g_now mk v c n start end m) → OnOk r (MakesMoves old new mk v k (Stay c ∷ []) n start end m)
+  stay_done r start end m e d = on_ok_weaker r (λ done. makes_stay k b.view.after stay_after (reconciles_still e d done))
+
+  module _ {was now : Node} (was_is : Some was ≡ option_map node_of (record_at old c)) (now_is : Some now ≡ option_map node_of (record_at new c)) where
+    was_read : IsRead old c was
+    was_read = is_read old c was b.was_sound was_is
+
+    now_read : IsRead new c now
+    now_read = is_read new c now b.sound now_is
+
+    was_label : label_of old c ≡ Some (label_from c was)
+    was_label = ap (option_map (λ (s : Spot Label). s.label)) was_read.at_is ∙ ap (λ l. Some l) was_read.label
+
+    now_label : label_of new c ≡ Some (label_from c now)
+    now_label = ap (option_map (λ (s : Spot Label). s.label)) now_read.at_is ∙ ap (λ l. Some l) now_read.label
+
+    pub node_reads : tag_of was.kind was.fields ≡ tag_of now.kind now.fields → mk.noted c ≡ true → reads_in old mk.noted (Some k) (alone c new) ≡ 2 + reads_below old new mk.noted c
+    node_reads same marked =
+        let t = stands_there new c b.view.after stay_after in
+        let own : t.label ≡ label_from c now = same_Some t.label (label_from c now) (sym t.label_is ∙ now_label) in
+        let kept = same_kept old k (label_from c was) t.label b.view.before (ap (λ q. is_among q (children_of old k)) t.key ∙ (stay_both x).0) (ap (label_of old) t.key ∙ was_label) (same ∙ sym (ap (λ (l : Label). tag_of l.kind l.fields) own)) in
+        let all : roots t.below ≡ children_of new c = ap roots t.below_is ∙ roots_of new (children_of new c) b.view.after (λ d e. after_there b c d e) in
+        ap (reads_in old mk.noted (Some k)) t.tree_is
+        ∙ omega (
+          arith,
+          reads_kept old mk.noted (Some k) t.label t.below kept (ap mk.noted t.key ∙ marked),
+          ap (λ q. length (children_of old q)) t.key,
+          ap length all,
+          ap (λ q. reads_in old mk.noted (Some q) t.below) t.key,
+          ap (reads_in old mk.noted (Some c)) t.below_is,
+        )
+
+    -- where it is made anew, with another element
+    module _ (other : tag_of was.kind was.fields ≡ tag_of now.kind now.fields → ⊥) where
+      pub again_room : n + total (alone c new) ≤ last_u32
+      again_room =
+          omega (
+            arith,
+            x.are.room,
+            walk_room old new v k x.are.from x.are.ops x.are.a c (Stay c) x.more n x.are.walk refl,
+            again_unkept old new v k c (label_from c was) (label_from c now) b.view.before b.view.after stay_after was_label now_label other,
+          )
+
+      -- with another element it has another kind or other fields
+      again_touched : mk.touched c ≡ true
+      again_touched =
+          label_touched old new mk v c (label_from c was) (label_from c now) b.covered stay_before stay_after was_label now_label
+          (λ kinds fields. other (ap (λ k. tag_of k was.fields) kinds ∙ ap (tag_of now.kind) fields))
+
+      makes_again : (h i : ℕ) (start end : List Op) (m : ℕ) → h ≡ host_in v k → i ≡ host_in v c → m ≡ n + total (alone c new) → end ≡ start ++ creation_of n (alone c new) ++ op.Place h n (Some i) ∷ [] ++ op.Drop i ∷ []
+          → MakesMoves old new mk v k (Stay c ∷ []) n start end m
+      makes_again h i start end m id own next is =
+          let made = creation_of n (alone c new) in
+          let placing = op.Place (host_in v k) n (Some (host_in v c)) ∷ [] in
+          let dropping = op.Drop (host_in v c) ∷ [] in
+          record {
+            pushed = (made ++ placing) ++ dropping;
+            list =
+                is
+                ∙ ap (λ z. start ++ made ++ op.Place z n (Some i) ∷ [] ++ op.Drop i ∷ []) id
+                ∙ ap (λ z. start ++ made ++ op.Place (host_in v k) n (Some z) ∷ [] ++ op.Drop z ∷ []) own
+                ∙ ap (λ l. l ++ dropping) (append_assoc start made placing)
+                ∙ append_assoc start (made ++ placing) dropping;
+            due = each_append (Due old new mk v) (made ++ placing) dropping
+                (each_append (Due old new mk v) made placing (creation_due old new mk v n c b stay_after stay_behind) (new_due old new mk v (host_in v k) n (Some (host_in v c)) b.view.numbered stay_behind, tt))
+                (drop_due old new mk v c b stay_before again_touched, tt);
+            leads = λ low ops a more w.
+                walk_to k low (ops ++ ((made ++ placing) ++ dropping)) a more (n + total (alone c new)) m (sym next)
+                (walk_again old new v k low ops a c more n (label_from c was) (label_from c now) b.view w was_label now_label other again_room);
+          }
+
+      pub again_done : {A E : Type 0} (r : Result A E) {h i : ℕ} {new_now : Forest} (start end : List Op) (m : ℕ) → new_now ≡ new → h ≡ host_in v k → i ≡ host_in v c
+          → OnOk r (end ≡ start ++ creation_of n (alone c new_now) ++ op.Place h n (Some i) ∷ [] ++ op.Drop i ∷ []) → OnOk r (m ≡ n + total (alone c new_now)) → OnOk r (MakesMoves old new mk v k (Stay c ∷ []) n start end m)
+      again_done (Ok a) {h} {i} start end m d id own is next =
+          makes_again h i start end m id own (next ∙ ap (λ y. n + total (alone c y)) d) (is ∙ ap (λ y. start ++ creation_of n (alone c y) ++ op.Place h n (Some i) ∷ [] ++ op.Drop i ∷ []) d)
+      again_done (Err a) start end m d id own is next = tt
+
+      pub again_reads : reads_in old mk.noted (Some k) (alone c new) ≡ 2 + 2 * total (alone c new)
+      again_reads =
+          let t = stands_there new c b.view.after stay_after in
+          let own : t.label ≡ label_from c now = same_Some t.label (label_from c now) (sym t.label_is ∙ now_label) in
+          ap (reads_in old mk.noted (Some k)) t.tree_is
+          ∙ reads_unkept old mk.noted (Some k) t.label t.below
+          (other_unkept old k (label_from c was) t.label b.view.before (ap (label_of old) t.key ∙ was_label) (λ e. other (e ∙ ap (λ (l : Label). tag_of l.kind l.fields) own)))
+          ∙ ap (λ y. 2 + 2 * total y) (sym t.tree_is)
+
+-- ---- how much smaller the trees become
+
+one_total : (new : Forest) (c : ℕ) → total (trees_of new (c ∷ [])) ≡ total (alone c new)
+one_total new c = omega (arith, total-joined (alone c new) nil)
+
+module _ {old new : Forest} {mk : Marking} {v : HostTree} (b : IsBetween old new mk v) where
+  stands_some : (k : ℕ) → has k new ≡ true → 0 < total (alone k new)
+  stands_some k there =
+      let s = stands_there new k b.view.after there in
+      omega (arith, ap total s.tree_is)
+
+  standing_less : (k c : ℕ) → is_among c (children_of new k) ≡ true → 4 * total (trees_of new (c ∷ [])) + 3 < 4 * total (alone k new)
+  standing_less k c among = omega (arith, one_total new c, total-alone-lt new c k b.view.after (parent_of-child new c k b.sound among))
+
+  move_less : {k : ℕ} (s : Move) {n : ℕ} → IsNext old new v k s n → 4 * standing_total new (s ∷ []) + 3 < 4 * total (alone k new)
+  move_less {k} (Stay c) x = standing_less k c (x.are.walk.to_come.stays c (grind (arith, eqb_tells c c)))
+  move_less {k} (Leave c) x = omega (arith, stands_some k x.are.there)
+  move_less {k} (Make c before) x = standing_less k c (x.are.walk.to_come.stays c (grind (arith, eqb_tells c c)))
+  move_less {k} (Place c before) x = standing_less k c (x.are.walk.to_come.stays c (grind (arith, eqb_tells c c)))
+
+  pub move_less_still : {k : ℕ} {s : Move} {n : ℕ} {new_now : Forest} → new_now ≡ new → IsNext old new v k s n → 4 * standing_total new_now (s ∷ []) + 3 < 4 * total (alone k new)
+  move_less_still {k} {s} d x = subst (λ y. 4 * standing_total y (s ∷ []) + 3 < 4 * total (alone k new)) (sym d) (move_less s x)
+
+-- ---- one move, by which of them it is
+
+module _ {old new : Forest} {mk : Marking} {v : HostTree} {k c n : ℕ} {s : Move} (e : s ≡ Stay c) (b : IsBetween old new mk v) (y : IsNext old new v k s n) where
+  pub stay_less : 4 * total (alone c new) + 2 < 4 * standing_total new (s ∷ []) + 3
+  stay_less = omega (arith, one_total new c, ap (λ s. standing_total new (s ∷ [])) e)
+
+  pub stay_reads : reads_in old mk.noted (Some k) (trees_of new (standing (s ∷ []))) ≡ reads_in old mk.noted (Some k) (alone c new)
+  stay_reads = ap (λ s. reads_in old mk.noted (Some k) (trees_of new (standing (s ∷ [])))) e ∙ reads_one old new mk.noted (Some k) c
+
+module _ {old new : Forest} {mk : Marking} {v : HostTree} {k c n : ℕ} {s : Move} (e : s ≡ Leave c) (b : IsBetween old new mk v) (y : IsNext old new v k s n) where
+  leave_next : IsNext old new v k (Leave c) n
+  leave_next = to_case e y
+
+  leave_among : is_among c (children_of old k) ≡ true
+  leave_among = leave_next.are.walk.to_come.suited.0
+
+  pub leave_shown : hosts_of c v.hosts ≡ host_in v c ∷ []
+  leave_shown = child_shown b k c leave_among
+
+  -- a child left, so the children differ
+  leave_touched : mk.touched k ≡ true
+  leave_touched =
+      let gone : is_among c (children_of new k) ≡ false = leave_next.are.walk.to_come.gone c (grind (arith, eqb_tells c c)) in
+      let among = leave_among in
+      children_touched old new mk v k b.covered (was_there b k c among) leave_next.are.there (λ same. absurd (let e = ap (is_among c) same in cc))
+
+  pub leave_done : {h : ℕ} {start end : List Op} → h ≡ host_in v c → end ≡ start ++ op.Drop h ∷ [] → MakesMoves old new mk v k (s ∷ []) n start end n
+  leave_done {start} id is = from_case e (record {
     pushed = op.Drop (host_in v c) ∷ [];
     list = is ∙ ap (λ i. start ++ op.Drop i ∷ []) id;
-    due = (child_drop_due old new mk v k c b x.are.there (leave_among k c n x) (leave_touched k c n b x), tt);
+    due = (child_drop_due old new mk v k c b leave_next.are.there leave_among leave_touched, tt);
     leads = λ from ops a more w. walk_leave old new v k from ops a c more n b.view w;
-  }
+  })
 
-  walk_to : (k from : ℕ) (ops : List Op) (a : Host) (more : List Move) (m l : ℕ) → m ≡ l → IsInWalk old new v k from ops a more m → IsInWalk old new v k from ops a more l
-  walk_to k from ops a more m l e w = subst (IsInWalk old new v k from ops a more) e w
+module _ {old new : Forest} {mk : Marking} {v : HostTree} {k c n : ℕ} {before : Option ℕ} {s : Move} (e : s ≡ Make c before) (b : IsBetween old new mk v) (y : IsNext old new v k s n) where
+  make_next : IsNext old new v k (Make c before) n
+  make_next = to_case e y
 
-  pub makes_make : (k c h n : ℕ) (before place : Option ℕ) (start end : List Op) (m : ℕ) → IsBetween old new mk v → has c new ≡ true → v.next ≤ n → h ≡ host_in v k → place ≡ option_map (host_in v) before → n + total (alone c new) ≤ last_u32
-      → m ≡ n + total (alone c new) → end ≡ start ++ creation_of n (alone c new) ++ op.Place h n place ∷ []
+  make_other : is_among c (children_of old k) ≡ false
+  make_other = not_both (is_among c (children_of old k)) make_next.are.walk.to_come.suited.0
+
+  pub make_there : has c new ≡ true
+  make_there = after_there b k c (make_next.are.walk.to_come.stays c (grind (arith, eqb_tells c c)))
+
+  pub make_before : (q : ℕ) → before ≡ Some q → hosts_of q v.hosts ≡ host_in v q ∷ []
+  make_before q is = child_shown b k q (waiting_among (children_of old k) make_next.are.walk.handled before q make_next.are.walk.to_come.unhandled.0 is)
+
+  pub make_room : n + total (alone c new) ≤ last_u32
+  make_room =
+      let x = make_next in
+      omega (arith, x.are.room, walk_room old new v k x.are.from x.are.ops x.are.a c (Make c before) x.more n x.are.walk refl, made_unkept old new v k c b.view.before b.view.after make_there make_other)
+
+  makes_make : (h : ℕ) (place : Option ℕ) (start end : List Op) (m : ℕ) → h ≡ host_in v k → place ≡ option_map (host_in v) before → m ≡ n + total (alone c new) → end ≡ start ++ creation_of n (alone c new) ++ op.Place h n place ∷ []
       → MakesMoves old new mk v k (Make c before ∷ []) n start end m
-  makes_make k c h n before place start end m b there from id at room next is = record {
-    pushed = creation_of n (alone c new) ++ op.Place (host_in v k) n (option_map (host_in v) before) ∷ [];
-    list =
-        is
-        ∙ ap (λ i. start ++ creation_of n (alone c new) ++ op.Place i n place ∷ []) id
-        ∙ ap (λ o. start ++ creation_of n (alone c new) ++ op.Place (host_in v k) n o ∷ []) at
-        ∙ append_assoc start (creation_of n (alone c new)) (op.Place (host_in v k) n (option_map (host_in v) before) ∷ []);
-    due = each_append (Due old new mk v) (creation_of n (alone c new)) (op.Place (host_in v k) n (option_map (host_in v) before) ∷ []) (creation_due old new mk v n c b there from) (new_due old new mk v (host_in v k) n (option_map (host_in v) before) b.view.numbered from, tt);
-    leads = λ low ops a more w.
-        walk_to k low (ops ++ (creation_of n (alone c new) ++ op.Place (host_in v k) n (option_map (host_in v) before) ∷ [])) a more (n + total (alone c new)) m (sym next) (walk_make old new v k low ops a c before more n b.view w room);
-  }
-
-  -- with another element it has another kind or other fields
-  again_touched : (c : ℕ) (was now : Node) → IsBetween old new mk v → (x : IsRead old c was) → (y : IsRead new c now) → (tag_of was.kind was.fields ≡ tag_of now.kind now.fields → ⊥) → mk.touched c ≡ true
-  again_touched c was now b x y other =
-      label_touched old new mk v c (label_from c was) (label_from c now) b.covered (there_read old c was x) (there_read new c now y)
-      (ap (option_map (λ (s : Spot Label). s.label)) x.at_is ∙ ap (λ l. Some l) x.label)
-      (ap (option_map (λ (s : Spot Label). s.label)) y.at_is ∙ ap (λ l. Some l) y.label)
-      (λ kinds fields. other (ap (λ k. tag_of k was.fields) kinds ∙ ap (tag_of now.kind) fields))
-
-  -- made anew with another element
-  pub makes_again : (k c h i n : ℕ) (was now : Node) (start end : List Op) (m : ℕ) → IsBetween old new mk v → v.next ≤ n → h ≡ host_in v k → i ≡ host_in v c → n + total (alone c new) ≤ last_u32
-      → Some was ≡ option_map node_of (record_at old c) → Some now ≡ option_map node_of (record_at new c) → (tag_of was.kind was.fields ≡ tag_of now.kind now.fields → ⊥)
-      → m ≡ n + total (alone c new) → end ≡ start ++ creation_of n (alone c new) ++ op.Place h n (Some i) ∷ [] ++ op.Drop i ∷ []
-      → MakesMoves old new mk v k (Stay c ∷ []) n start end m
-  makes_again k c h i n was now start end m b from id own room was_is now_is other next is =
-      let x = is_read old c was b.was_sound was_is in
-      let y = is_read new c now b.sound now_is in
+  makes_make h place start end m id at next is =
       let made = creation_of n (alone c new) in
-      let placing = op.Place (host_in v k) n (Some (host_in v c)) ∷ [] in
-      let dropping = op.Drop (host_in v c) ∷ [] in
+      let placing = op.Place (host_in v k) n (option_map (host_in v) before) ∷ [] in
+      let from = next_behind y in
       record {
-        pushed = (made ++ placing) ++ dropping;
-        list =
-            is
-            ∙ ap (λ z. start ++ made ++ op.Place z n (Some i) ∷ [] ++ op.Drop i ∷ []) id
-            ∙ ap (λ z. start ++ made ++ op.Place (host_in v k) n (Some z) ∷ [] ++ op.Drop z ∷ []) own
-            ∙ ap (λ l. l ++ dropping) (append_assoc start made placing)
-            ∙ append_assoc start (made ++ placing) dropping;
-        due = each_append (Due old new mk v) (made ++ placing) dropping
-            (each_append (Due old new mk v) made placing (creation_due old new mk v n c b (there_read new c now y) from) (new_due old new mk v (host_in v k) n (Some (host_in v c)) b.view.numbered from, tt))
-            (drop_due old new mk v c b (there_read old c was x) (again_touched c was now b x y other), tt);
-        leads = λ low ops a more w.
-            walk_to k low (ops ++ ((made ++ placing) ++ dropping)) a more (n + total (alone c new)) m (sym next) (
-            walk_again old new v k low ops a c more n (label_from c was) (label_from c now) b.view w
-            (ap (option_map (λ (s : Spot Label). s.label)) x.at_is ∙ ap (λ l. Some l) x.label)
-            (ap (option_map (λ (s : Spot Label). s.label)) y.at_is ∙ ap (λ l. Some l) y.label) other room
-            );
+        pushed = made ++ placing;
+        list = is ∙ ap (λ i. start ++ made ++ op.Place i n place ∷ []) id ∙ ap (λ o. start ++ made ++ op.Place (host_in v k) n o ∷ []) at ∙ append_assoc start made placing;
+        due = each_append (Due old new mk v) made placing (creation_due old new mk v n c b make_there from) (new_due old new mk v (host_in v k) n (option_map (host_in v) before) b.view.numbered from, tt);
+        leads = λ low ops a more w. walk_to k low (ops ++ (made ++ placing)) a more (n + total (alone c new)) m (sym next) (walk_make old new v k low ops a c before more n b.view w make_room);
       }
 
-  pub makes_place : (k c h i n : ℕ) (before place : Option ℕ) (start mid end : List Op) (m : ℕ) → IsBetween old new mk v → IsNext old new v k (Place c before) n → h ≡ host_in v k → i ≡ host_in v c → place ≡ option_map (host_in v) before
-      → mid ≡ start ++ op.Place h i place ∷ [] → MakesMoves old new mk v k (Stay c ∷ []) n mid end m
-      → MakesMoves old new mk v k (Place c before ∷ []) n start end m
-  makes_place k c h i n before place start mid end m b x id own at is r =
+  pub make_done : {A E : Type 0} (r : Result A E) {h : ℕ} {place : Option ℕ} (start end : List Op) (m : ℕ) → h ≡ host_in v k → place ≡ option_map (host_in v) before
+      → OnOk r (end ≡ start ++ creation_of n (alone c new) ++ op.Place h n place ∷ []) → OnOk r (m ≡ n + total (alone c new)) → OnOk r (MakesMoves old new mk v k (s ∷ []) n start end m)
+  make_done (Ok a) {h} {place} start end m id at is next = from_case e (makes_make h place start end m id at next is)
+  make_done (Err a) start end m id at is next = tt
+
+  pub make_reads : reads_in old mk.noted (Some k) (trees_of new (standing (s ∷ []))) ≡ 2 + 2 * total (alone c new)
+  make_reads =
+      let t = stands_there new c b.view.after make_there in
+      ap (λ s. reads_in old mk.noted (Some k) (trees_of new (standing (s ∷ [])))) e ∙ reads_one old new mk.noted (Some k) c
+      ∙ ap (reads_in old mk.noted (Some k)) t.tree_is
+      ∙ reads_unkept old mk.noted (Some k) t.label t.below (new_unkept old k t.label b.view.before (ap (λ q. is_among q (children_of old k)) t.key ∙ make_other))
+      ∙ ap (λ y. 2 + 2 * total y) (sym t.tree_is)
+
+module _ {old new : Forest} {mk : Marking} {v : HostTree} {k c n : ℕ} {before : Option ℕ} {s : Move} (e : s ≡ Place c before) (b : IsBetween old new mk v) (y : IsNext old new v k s n) where
+  place_next : IsNext old new v k (Place c before) n
+  place_next = to_case e y
+
+  place_among : is_among c (children_of old k) ≡ true
+  place_among = place_next.are.walk.to_come.suited.0
+
+  pub place_shown : hosts_of c v.hosts ≡ host_in v c ∷ []
+  place_shown = child_shown b k c place_among
+
+  pub place_before : (q : ℕ) → before ≡ Some q → hosts_of q v.hosts ≡ host_in v q ∷ []
+  place_before q is = child_shown b k q (waiting_among (children_of old k) place_next.are.walk.handled before q place_next.are.walk.to_come.unhandled.0 is)
+
+  -- where a child was placed, it stays next
+  pub placed_next : IsNext old new v k (Stay c) n
+  placed_next =
+      let x = place_next in
+      record {
+        more = x.more;
+        are = record {
+          from = x.are.from;
+          ops = x.are.ops ++ op.Place (host_in v k) (host_in v c) (option_map (host_in v) before) ∷ [];
+          a = x.are.a;
+          walk = walk_place old new v k x.are.from x.are.ops x.are.a c before x.more n b.view x.are.walk;
+          behind = x.are.behind;
+          room = x.are.room;
+          there = x.are.there;
+        };
+      }
+
+  pub place_less : 4 * total (alone c new) + 2 < 4 * standing_total new (s ∷ []) + 3
+  place_less = omega (arith, one_total new c, ap (λ s. standing_total new (s ∷ [])) e)
+
+  pub place_reads : reads_in old mk.noted (Some k) (trees_of new (standing (s ∷ []))) ≡ reads_in old mk.noted (Some k) (alone c new)
+  place_reads = ap (λ s. reads_in old mk.noted (Some k) (trees_of new (standing (s ∷ [])))) e ∙ reads_one old new mk.noted (Some k) c
+
+  -- a child is placed, so the children don't keep their order, and differ
+  placed_order : KeepsOrder old new k → ⊥
+  placed_order order = absurd (let e = place_next.are.walk.to_come.order order in cc)
+
+  place_touched : mk.touched k ≡ true
+  place_touched =
+      children_touched old new mk v k b.covered (was_there b k c place_among) place_next.are.there
+      (λ same. placed_order (ap (λ ys. common ys (children_of new k)) same ∙ sym (ap (common (children_of new k)) same)))
+
+  makes_place : {h i : ℕ} {place : Option ℕ} {start mid end : List Op} {m : ℕ} → h ≡ host_in v k → i ≡ host_in v c → place ≡ option_map (host_in v) before → mid ≡ start ++ op.Place h i place ∷ []
+      → MakesMoves old new mk v k (Stay c ∷ []) n mid end m → MakesMoves old new mk v k (Place c before ∷ []) n start end m
+  makes_place {i} {place} {start} {mid} {m} id own at is r =
       let placing = op.Place (host_in v k) (host_in v c) (option_map (host_in v) before) ∷ [] in
       let first : mid ≡ start ++ placing =
       is
       ∙ ap (λ z. start ++ op.Place z i place ∷ []) id
       ∙ ap (λ z. start ++ op.Place (host_in v k) z place ∷ []) own
       ∙ ap (λ z. start ++ op.Place (host_in v k) (host_in v c) z ∷ []) at in
+      let stays = place_next.are.walk.to_come.stays c (grind (arith, eqb_tells c c)) in
       record {
         pushed = placing ++ r.pushed;
         list = r.list ∙ ap (λ l. l ++ r.pushed) first ∙ append_assoc start placing r.pushed;
-        due = each_append (Due old new mk v) placing r.pushed
-            (place_due old new mk v k c (host_in v k) (option_map (host_in v) before) b x.are.there (place_among k c before n x) (x.are.walk.to_come.stays c (grind (arith, eqb_tells c c))) (place_touched k c before n b x) (placed_order k c before n x), tt) r.due;
+        due = each_append (Due old new mk v) placing r.pushed (place_due old new mk v k c (host_in v k) (option_map (host_in v) before) b place_next.are.there place_among stays place_touched placed_order, tt) r.due;
         leads = λ from ops a more w.
             subst (λ l. IsInWalk old new v k from l a more m) (append_assoc ops placing r.pushed)
             (r.leads from (ops ++ placing) a more (walk_place old new v k from ops a c before more n b.view w));
       }
 
-  -- ---- by what the code knows of a move
+  pub place_done : {A E : Type 0} (r : Result A E) {h i : ℕ} {place : Option ℕ} (start mid end : List Op) (m : ℕ) → h ≡ host_in v k → i ≡ host_in v c → place ≡ option_map (host_in v) before → mid ≡ start ++ op.Place h i place ∷ []
+      → OnOk r (MakesMoves old new mk v k (Stay c ∷ []) n mid end m) → OnOk r (MakesMoves old new mk v k (s ∷ []) n start end m)
+  place_done r start mid end m id own at is = on_ok_weaker r (λ made. from_case e (makes_place id own at is made))
 
-  pub after_there : (k c : ℕ) → IsBetween old new mk v → is_among c (children_of new k) ≡ true → has c new ≡ true
-  after_there k c b among = has-child new c k (parent_of-child new c k b.sound among)
+-- ---- one move after another
 
-  pub before_there : (k c : ℕ) → IsBetween old new mk v → is_among c (children_of old k) ≡ true → has c old ≡ true
-  before_there k c b among = child_stands old k c b.view.before among
-
-  pub to_case : (k n : ℕ) (s t : Move) → s ≡ t → IsNext old new v k s n → IsNext old new v k t n
-  to_case k n s t e x = subst (λ s. IsNext old new v k s n) e x
-
-  pub from_case : (k n : ℕ) (s t : Move) (start end : List Op) (m : ℕ) → s ≡ t → MakesMoves old new mk v k (t ∷ []) n start end m → MakesMoves old new mk v k (s ∷ []) n start end m
-  from_case k n s t start end m e x = subst (λ s. MakesMoves old new mk v k (s ∷ []) n start end m) (sym e) x
-
-  pub make_done : {A E : Type 0} (r : Result A E) (k c h n m : ℕ) (before place : Option ℕ) (s : Move) (start end : List Op) → s ≡ Make c before → IsBetween old new mk v → IsNext old new v k (Make c before) n → h ≡ host_in v k → place ≡ option_map (host_in v) before
-      → OnOk r (end ≡ start ++ creation_of n (alone c new) ++ op.Place h n place ∷ []) → OnOk r (m ≡ n + total (alone c new)) → OnOk r (MakesMoves old new mk v k (s ∷ []) n start end m)
-  make_done (Ok a) k c h n m before place s start end e b x id at is next =
-      from_case k n s (Make c before) start end m e (makes_make k c h n before place start end m b (after_there k c b (make_among k c before n x)) (next_behind k (Make c before) n x) id at (make_room k c before n b x) next is)
-  make_done (Err a) k c h n m before place s start end e b x id at is next = tt
-
-  pub again_done : {A E : Type 0} (r : Result A E) (k c h i n m : ℕ) (was now : Node) (start end : List Op) → IsBetween old new mk v → IsNext old new v k (Stay c) n → h ≡ host_in v k → i ≡ host_in v c
-      → Some was ≡ option_map node_of (record_at old c) → Some now ≡ option_map node_of (record_at new c) → (tag_of was.kind was.fields ≡ tag_of now.kind now.fields → ⊥)
-      → OnOk r (end ≡ start ++ creation_of n (alone c new) ++ op.Place h n (Some i) ∷ [] ++ op.Drop i ∷ []) → OnOk r (m ≡ n + total (alone c new)) → OnOk r (MakesMoves old new mk v k (Stay c ∷ []) n start end m)
-  again_done (Ok a) k c h i n m was now start end b x id own was_is now_is other is next =
-      makes_again k c h i n was now start end m b (next_behind k (Stay c) n x) id own (again_room k c n was now b x was_is now_is other) was_is now_is other next is
-  again_done (Err a) k c h i n m was now start end b x id own was_is now_is other is next = tt
-
-  pub place_done : {A E : Type 0} (r : Result A E) (k c h i n m : ℕ) (before place : Option ℕ) (s : Move) (start mid end : List Op) → s ≡ Place c before → IsBetween old new mk v → IsNext old new v k (Place c before) n → h ≡ host_in v k → i ≡ host_in v c → place ≡ option_map (host_in v) before
-      → mid ≡ start ++ op.Place h i place ∷ [] → OnOk r (MakesMoves old new mk v k (Stay c ∷ []) n mid end m) → OnOk r (MakesMoves old new mk v k (s ∷ []) n start end m)
-  place_done r k c h i n m before place s start mid end e b x id own at is =
-      on_ok_weaker r (λ made. from_case k n s (Place c before) start end m e (makes_place k c h i n before place start mid end m b x id own at is made))
-
-  pub stay_done : {A E : Type 0} (r : Result A E) (f_now g_now : Forest) (k c n : ℕ) (start end : List Op) (m : ℕ) → IsBetween old new mk v → IsNext old new v k (Stay c) n → f_now ≡ old → g_now ≡ new → OnOk r (Reconciles f_now g_now mk v c n start end m) → OnOk r (MakesMoves old new mk v k (Stay c ∷ []) n start end m)
-  stay_done r f_now g_now k c n start end m b x e d =
-      on_ok_weaker r (λ done. makes_stay k c n start end m b.view.after (child_new k c b (stay_both k c n x).1) (reconciles_still old f_now new g_now mk v c n start end m e d done))
-
-  -- ---- one move after another
-
-  pub makes_none : (k n : ℕ) (start : List Op) → MakesMoves old new mk v k [] n start start n
-  makes_none k n start = record {
+module _ {old new : Forest} {mk : Marking} {v : HostTree} {k : ℕ} where
+  pub makes_none : {n : ℕ} {start : List Op} → MakesMoves old new mk v k [] n start start n
+  makes_none {n} {start} = record {
     pushed = [];
     list = sym (append-nil start);
     due = tt;
@@ -362,8 +468,8 @@ module _ (old new : Forest) (mk : Marking) (v : HostTree) where
   }
 
   -- these moves, then those
-  pub makes_both : (k : ℕ) (xs ys : List Move) (n m l : ℕ) (start mid end : List Op) → MakesMoves old new mk v k xs n start mid m → MakesMoves old new mk v k ys m mid end l → MakesMoves old new mk v k (xs ++ ys) n start end l
-  makes_both k xs ys n m l start mid end first then = record {
+  pub makes_both : (xs ys : List Move) {n m l : ℕ} {start mid end : List Op} → MakesMoves old new mk v k xs n start mid m → MakesMoves old new mk v k ys m mid end l → MakesMoves old new mk v k (xs ++ ys) n start end l
+  makes_both xs ys {n} {l} {start} first then = record {
     pushed = first.pushed ++ then.pushed;
     list = then.list ∙ ap (λ x. x ++ then.pushed) first.list ∙ append_assoc start first.pushed then.pushed;
     due = each_append (Due old new mk v) first.pushed then.pushed first.due then.due;
@@ -374,13 +480,13 @@ module _ (old new : Forest) (mk : Marking) (v : HostTree) where
   }
 
   -- of these moves those up to place i are made, and the next one is s
-  pub makes_next : (k : ℕ) (moves : List Move) (i : ℕ) (s : Move) (n m l : ℕ) (start mid end : List Op) → i < length moves → s ≡ get_or moves i s → MakesMoves old new mk v k (take i moves) n start mid m → MakesMoves old new mk v k (s ∷ []) m mid end l
+  pub makes_next : (moves : List Move) (i : ℕ) {s : Move} {n m l : ℕ} {start mid end : List Op} → i < length moves → s ≡ get_or moves i s → MakesMoves old new mk v k (take i moves) n start mid m → MakesMoves old new mk v k (s ∷ []) m mid end l
       → MakesMoves old new mk v k (take (i + 1) moves) n start end l
-  makes_next k moves i s n m l start mid end within item first then =
-      subst (λ x. MakesMoves old new mk v k x n start end l) (sym (take_more moves i s within ∙ ap (λ y. take i moves ++ y ∷ []) (sym item))) (makes_both k (take i moves) (s ∷ []) n m l start mid end first then)
+  makes_next moves i {s} {n} {l} {start} {end} within item first then =
+      subst (λ x. MakesMoves old new mk v k x n start end l) (sym (take_more moves i s within ∙ ap (λ y. take i moves ++ y ∷ []) (sym item))) (makes_both (take i moves) (s ∷ []) first then)
 
-  pub is_next : (k : ℕ) (moves : List Move) (i : ℕ) (s : Move) (n m : ℕ) (start mid : List Op) → i < length moves → s ≡ get_or moves i s → AreComing old new v k moves n → MakesMoves old new mk v k (take i moves) n start mid m → IsNext old new v k s m
-  is_next k moves i s n m start mid within item x made =
+  pub is_next : {moves : List Move} (i : ℕ) {s : Move} {n m : ℕ} {start mid : List Op} → i < length moves → s ≡ get_or moves i s → AreComing old new v k moves n → MakesMoves old new mk v k (take i moves) n start mid m → IsNext old new v k s m
+  is_next {moves} i {s} {n} within item x made =
       let behind = drop (i + 1) moves ++ x.more in
       let here : drop i moves ≡ s ∷ drop (i + 1) moves = drop_more moves i s within ∙ ap (λ y. y ∷ drop (i + 1) moves) (sym item) in
       let split : moves ++ x.more ≡ take i moves ++ s ∷ behind =
@@ -391,129 +497,20 @@ module _ (old new : Forest) (mk : Marking) (v : HostTree) where
         are = record { from = x.are.from; ops = x.are.ops ++ made.pushed; a = x.are.a; walk = made.leads x.are.from x.are.ops x.are.a (s ∷ behind) walk; behind = x.are.behind; room = x.are.room; there = x.are.there };
       }
 
-  -- ---- how many reads go to a move's child
+-- ---- how many reads go to some of the moves
 
-  pub stay_reads : (k c : ℕ) (s : Move) → s ≡ Stay c → reads_in old mk.noted (Some k) (trees_of new (standing (s ∷ []))) ≡ reads_in old mk.noted (Some k) (alone c new)
-  stay_reads k c s e = ap (λ s. reads_in old mk.noted (Some k) (trees_of new (standing (s ∷ [])))) e ∙ reads_one old new mk.noted (Some k) c
+module _ (old new : Forest) (noted : ℕ → Bool) (k : ℕ) (moves : List Move) (i : ℕ) where
+  pub take_reads : (s : Move) → i < length moves → s ≡ get_or moves i s
+      → reads_in old noted (Some k) (trees_of new (standing (take (i + 1) moves))) ≡ reads_in old noted (Some k) (trees_of new (standing (take i moves))) + reads_in old noted (Some k) (trees_of new (standing (s ∷ [])))
+  take_reads s within item =
+      ap (λ ms. reads_in old noted (Some k) (trees_of new (standing ms))) (take_more moves i s within ∙ ap (λ y. take i moves ++ y ∷ []) (sym item))
+      ∙ ap (λ ks. reads_in old noted (Some k) (trees_of new ks)) (standing-append (take i moves) (s ∷ []))
+      ∙ reads_append old new noted (Some k) (standing (take i moves)) (standing (s ∷ []))
 
-  pub place_reads : (k c : ℕ) (before : Option ℕ) (s : Move) → s ≡ Place c before → reads_in old mk.noted (Some k) (trees_of new (standing (s ∷ []))) ≡ reads_in old mk.noted (Some k) (alone c new)
-  place_reads k c before s e = ap (λ s. reads_in old mk.noted (Some k) (trees_of new (standing (s ∷ [])))) e ∙ reads_one old new mk.noted (Some k) c
-
-  pub make_reads : (k c : ℕ) (before : Option ℕ) (n : ℕ) (s : Move) → IsBetween old new mk v → IsNext old new v k (Make c before) n → s ≡ Make c before
-      → reads_in old mk.noted (Some k) (trees_of new (standing (s ∷ []))) ≡ 2 + 2 * total (alone c new)
-  make_reads k c before n s b x e =
-      let t = stands_there new c b.view.after (child_new k c b (make_among k c before n x)) in
-      let out = not_both (is_among c (children_of old k)) x.are.walk.to_come.suited.0 in
-      ap (λ s. reads_in old mk.noted (Some k) (trees_of new (standing (s ∷ [])))) e ∙ reads_one old new mk.noted (Some k) c
-      ∙ ap (reads_in old mk.noted (Some k)) t.tree_is
-      ∙ reads_unkept old mk.noted (Some k) t.label t.below (new_unkept old k t.label b.view.before (ap (λ q. is_among q (children_of old k)) t.key ∙ out))
-      ∙ ap (λ y. 2 + 2 * total y) (sym t.tree_is)
-
-  read_label : (f : Forest) (c : ℕ) (n : Node) → IsRead f c n → label_of f c ≡ Some (label_from c n)
-  read_label f c n r = ap (option_map (λ (s : Spot Label). s.label)) r.at_is ∙ ap (λ l. Some l) r.label
-
-  pub again_reads : (k c n : ℕ) (was now : Node) → IsBetween old new mk v → IsNext old new v k (Stay c) n → Some was ≡ option_map node_of (record_at old c) → Some now ≡ option_map node_of (record_at new c)
-      → (tag_of was.kind was.fields ≡ tag_of now.kind now.fields → ⊥) → reads_in old mk.noted (Some k) (alone c new) ≡ 2 + 2 * total (alone c new)
-  again_reads k c n was now b x was_is now_is other =
-      let t = stands_there new c b.view.after (child_new k c b (stay_both k c n x).1) in
-      let p = is_read old c was b.was_sound was_is in
-      let q = is_read new c now b.sound now_is in
-      let own : t.label ≡ label_from c now = same_Some t.label (label_from c now) (sym t.label_is ∙ read_label new c now q) in
-      ap (reads_in old mk.noted (Some k)) t.tree_is
-      ∙ reads_unkept old mk.noted (Some k) t.label t.below
-      (other_unkept old k (label_from c was) t.label b.view.before (ap (label_of old) t.key ∙ read_label old c was p) (λ e. other (e ∙ ap (λ (l : Label). tag_of l.kind l.fields) own)))
-      ∙ ap (λ y. 2 + 2 * total y) (sym t.tree_is)
-
-  pub node_reads : (k c n : ℕ) (was now : Node) → IsBetween old new mk v → IsNext old new v k (Stay c) n → Some was ≡ option_map node_of (record_at old c) → Some now ≡ option_map node_of (record_at new c)
-      → tag_of was.kind was.fields ≡ tag_of now.kind now.fields → mk.noted c ≡ true → reads_in old mk.noted (Some k) (alone c new) ≡ 2 + reads_below old new mk.noted c
-  node_reads k c n was now b x was_is now_is same marked =
-      let both = stay_both k c n x in
-      let t = stands_there new c b.view.after (child_new k c b both.1) in
-      let p = is_read old c was b.was_sound was_is in
-      let q = is_read new c now b.sound now_is in
-      let own : t.label ≡ label_from c now = same_Some t.label (label_from c now) (sym t.label_is ∙ read_label new c now q) in
-      let kept = same_kept old k (label_from c was) t.label b.view.before (ap (λ q. is_among q (children_of old k)) t.key ∙ both.0) (ap (label_of old) t.key ∙ read_label old c was p) (same ∙ sym (ap (λ (l : Label). tag_of l.kind l.fields) own)) in
-      let all : roots t.below ≡ children_of new c = ap roots t.below_is ∙ roots_of new (children_of new c) b.view.after (λ d e. child_new c d b e) in
-      ap (reads_in old mk.noted (Some k)) t.tree_is
-      ∙ omega (
-        arith,
-        reads_kept old mk.noted (Some k) t.label t.below kept (ap mk.noted t.key ∙ marked),
-        ap (λ q. length (children_of old q)) t.key,
-        ap length all,
-        ap (λ q. reads_in old mk.noted (Some q) t.below) t.key,
-        ap (reads_in old mk.noted (Some c)) t.below_is,
-      )
-
-  pub take_reads : (k : ℕ) (moves : List Move) (i : ℕ) (s : Move) → i < length moves → s ≡ get_or moves i s
-      → reads_in old mk.noted (Some k) (trees_of new (standing (take (i + 1) moves))) ≡ reads_in old mk.noted (Some k) (trees_of new (standing (take i moves))) + reads_in old mk.noted (Some k) (trees_of new (standing (s ∷ [])))
-  take_reads k moves i s within item =
-      ap (λ ms. reads_in old mk.noted (Some k) (trees_of new (standing ms))) (take_more moves i s within ∙ ap (λ y. take i moves ++ y ∷ []) (sym item))
-      ∙ ap (λ ks. reads_in old mk.noted (Some k) (trees_of new ks)) (standing-append (take i moves) (s ∷ []))
-      ∙ reads_append old new mk.noted (Some k) (standing (take i moves)) (standing (s ∷ []))
-
-  pub part_reads : (k : ℕ) (moves : List Move) (i : ℕ) → reads_in old mk.noted (Some k) (trees_of new (standing (take i moves))) ≤ reads_in old mk.noted (Some k) (trees_of new (standing moves))
-  part_reads k moves i =
-      let all : reads_in old mk.noted (Some k) (trees_of new (standing moves)) ≡ reads_in old mk.noted (Some k) (trees_of new (standing (take i moves))) + reads_in old mk.noted (Some k) (trees_of new (standing (drop i moves))) =
-      ap (λ ms. reads_in old mk.noted (Some k) (trees_of new (standing ms))) (sym (take-append-drop i moves))
-      ∙ ap (λ ks. reads_in old mk.noted (Some k) (trees_of new ks)) (standing-append (take i moves) (drop i moves))
-      ∙ reads_append old new mk.noted (Some k) (standing (take i moves)) (standing (drop i moves)) in
+  pub part_reads : reads_in old noted (Some k) (trees_of new (standing (take i moves))) ≤ reads_in old noted (Some k) (trees_of new (standing moves))
+  part_reads =
+      let all : reads_in old noted (Some k) (trees_of new (standing moves)) ≡ reads_in old noted (Some k) (trees_of new (standing (take i moves))) + reads_in old noted (Some k) (trees_of new (standing (drop i moves))) =
+      ap (λ ms. reads_in old noted (Some k) (trees_of new (standing ms))) (sym (take-append-drop i moves))
+      ∙ ap (λ ks. reads_in old noted (Some k) (trees_of new ks)) (standing-append (take i moves) (drop i moves))
+      ∙ reads_append old new noted (Some k) (standing (take i moves)) (standing (drop i moves)) in
       omega (arith, all)
-
-  -- ---- how much smaller the trees become
-
-  stands_some : (k : ℕ) → IsForest new → has k new ≡ true → 0 < total (alone k new)
-  stands_some k h there =
-      let s = stands_there new k h there in
-      omega (arith, ap total s.tree_is)
-
-  one_total : (c : ℕ) → total (trees_of new (c ∷ [])) ≡ total (alone c new)
-  one_total c = omega (arith, total-joined (alone c new) nil)
-
-  child_less : (k c : ℕ) → IsBetween old new mk v → is_among c (children_of new k) ≡ true → total (alone c new) < total (alone k new)
-  child_less k c b among = total-alone-lt new c k b.view.after (parent_of-child new c k b.sound among)
-
-  standing_less : (k c : ℕ) → IsBetween old new mk v → is_among c (children_of new k) ≡ true → 4 * total (trees_of new (c ∷ [])) + 3 < 4 * total (alone k new)
-  standing_less k c b among = omega (arith, one_total c, child_less k c b among)
-
-  pub move_less : (k : ℕ) (s : Move) (n : ℕ) → IsBetween old new mk v → IsNext old new v k s n → 4 * standing_total new (s ∷ []) + 3 < 4 * total (alone k new)
-  move_less k (Stay c) n b x = standing_less k c b (x.are.walk.to_come.stays c (grind (arith, eqb_tells c c)))
-  move_less k (Leave c) n b x = omega (arith, stands_some k b.view.after x.are.there)
-  move_less k (Make c before) n b x = standing_less k c b (x.are.walk.to_come.stays c (grind (arith, eqb_tells c c)))
-  move_less k (Place c before) n b x = standing_less k c b (x.are.walk.to_come.stays c (grind (arith, eqb_tells c c)))
-
-  pub stay_less : (c : ℕ) (s : Move) → s ≡ Stay c → 4 * total (alone c new) + 2 < 4 * standing_total new (s ∷ []) + 3
-  stay_less c s e = omega (arith, one_total c, ap (λ s. standing_total new (s ∷ [])) e)
-
-  pub place_less : (c : ℕ) (before : Option ℕ) (s : Move) → s ≡ Place c before → 4 * total (alone c new) + 2 < 4 * standing_total new (s ∷ []) + 3
-  place_less c before s e = omega (arith, one_total c, ap (λ s. standing_total new (s ∷ [])) e)
-
--- ---- the same where sources have been read
-
-pub again_done_still : {A E : Type 0} (old new new_now : Forest) (mk : Marking) (v : HostTree) (r : Result A E) (k c h i n m : ℕ) (was now : Node) (start end : List Op) → new_now ≡ new → IsBetween old new mk v → IsNext old new v k (Stay c) n → h ≡ host_in v k → i ≡ host_in v c
-    → Some was ≡ option_map node_of (record_at old c) → Some now ≡ option_map node_of (record_at new c) → (tag_of was.kind was.fields ≡ tag_of now.kind now.fields → ⊥)
-    → OnOk r (end ≡ start ++ creation_of n (alone c new_now) ++ op.Place h n (Some i) ∷ [] ++ op.Drop i ∷ []) → OnOk r (m ≡ n + total (alone c new_now)) → OnOk r (MakesMoves old new mk v k (Stay c ∷ []) n start end m)
-again_done_still old new new_now mk v r k c h i n m was now start end d b x id own was_is now_is other is next =
-    again_done old new mk v r k c h i n m was now start end b x id own was_is now_is other
-    (subst (λ y. OnOk r (end ≡ start ++ creation_of n (alone c y) ++ op.Place h n (Some i) ∷ [] ++ op.Drop i ∷ [])) d is)
-    (subst (λ y. OnOk r (m ≡ n + total (alone c y))) d next)
-
-pub reads_still : (f f_now g g_now : Forest) (noted : ℕ → Bool) (k : ℕ) → f_now ≡ f → g_now ≡ g → reads_below f_now g_now noted k ≡ reads_below f g noted k
-reads_still f f_now g g_now noted k e d = ap (λ x. reads_below x g_now noted k) e ∙ ap (λ y. reads_below f y noted k) d
-
-pub move_reads_still : (f f_now g g_now : Forest) (noted : ℕ → Bool) (p : Option ℕ) (ks : List ℕ) → f_now ≡ f → g_now ≡ g → reads_in f_now noted p (trees_of g_now ks) ≡ reads_in f noted p (trees_of g ks)
-move_reads_still f f_now g g_now noted p ks e d = ap (λ x. reads_in x noted p (trees_of g_now ks)) e ∙ ap (λ y. reads_in f noted p (trees_of y ks)) d
-
-pub unkept_still : (f f_now g g_now : Forest) (c n : ℕ) → f_now ≡ f → g_now ≡ g → n + unkept f (Some c) (trees_of g (children_of g c)) ≤ last_u32 → n + unkept f_now (Some c) (trees_of g_now (children_of g_now c)) ≤ last_u32
-unkept_still f f_now g g_now c n e d h = subst (λ x. n + unkept x (Some c) (trees_of g_now (children_of g_now c)) ≤ last_u32) (sym e) (subst (λ y. n + unkept f (Some c) (trees_of y (children_of y c)) ≤ last_u32) (sym d) h)
-
-pub room_still : (g g_now : Forest) (c n : ℕ) → g_now ≡ g → n + total (alone c g) ≤ last_u32 → n + total (alone c g_now) ≤ last_u32
-room_still g g_now c n d h = subst (λ y. n + total (alone c y) ≤ last_u32) (sym d) h
-
-pub read_still : (f f_now : Forest) (k : ℕ) (n : Node) → f_now ≡ f → Some n ≡ option_map node_of (record_at f k) → Some n ≡ option_map node_of (record_at f_now k)
-read_still f f_now k n d h = subst (λ y. Some n ≡ option_map node_of (record_at y k)) (sym d) h
-
-pub child_node_less : (f g : Forest) (k : ℕ) → g ≡ f → 4 * total (alone k g) + 1 < 4 * total (alone k f) + 2
-child_node_less f g k e = omega (arith, ap (λ f. total (alone k f)) e)
-
-pub move_less_still : (f g g_now : Forest) (mk : Marking) (v : HostTree) (k : ℕ) (s : Move) (n : ℕ) → g_now ≡ g → IsBetween f g mk v → IsNext f g v k s n → 4 * standing_total g_now (s ∷ []) + 3 < 4 * total (alone k g)
-move_less_still f g g_now mk v k s n d b x = subst (λ y. 4 * standing_total y (s ∷ []) + 3 < 4 * total (alone k g)) (sym d) (move_less f g mk v k s n b x)

@@ -42,7 +42,7 @@ module _ (old new : Forest) (mk : Marking) (v : HostTree) (b : IsBetween old new
 
   skip_one : (k c from : ℕ) (ops : List Op) (a : Host) (more : List Move) (n : ℕ) → mk.noted c ≡ false → IsInWalk old new v k from ops a (Stay c ∷ more) n → IsInWalk old new v k from ops a more n
   skip_one k c from ops a more n plain w =
-      let there = after_there old new mk v k c b (walk_both old new v k from ops a c more n w).1 in
+      let there = after_there b k c (walk_both old new v k from ops a c more n w).1 in
       subst (λ l. IsInWalk old new v k from l a more n) (append-nil ops) (walk_stay old new v k from ops a c more n [] n b.view.after there w (done_plain old new mk v b c n there plain))
 
   skip_all : (k from : ℕ) (ops : List Op) (a : Host) (front : List ℕ) (more : List Move) (n : ℕ) → ArePlain mk.noted front → IsInWalk old new v k from ops a (map Stay front ++ more) n → IsInWalk old new v k from ops a more n
@@ -70,8 +70,8 @@ module _ (old new : Forest) (mk : Marking) (v : HostTree) (b : IsBetween old new
 
   pub part_makes : (k : ℕ) (olds news : List ℕ) (moves : List Move) (n m : ℕ) (start end : List Op) → (p : IsPart mk.noted olds news moves) → MakesMoves old new mk v k moves n start end m → MakesMoves old new mk v k (all_of p) n start end m
   part_makes k olds news moves n m start end p made =
-      makes_both old new mk v k (map Stay p.front) (moves ++ map Stay p.back) n n m start start end (makes_plain k p.front n start p.front_plain)
-      (makes_both old new mk v k moves (map Stay p.back) n m m start end end made (makes_plain k p.back m end p.back_plain))
+      makes_both (map Stay p.front) (moves ++ map Stay p.back) (makes_plain k p.front n start p.front_plain)
+      (makes_both moves (map Stay p.back) made (makes_plain k p.back m end p.back_plain))
 
 -- no more reads go to its children than to all
 pub part_reads : (old new : Forest) (noted : ℕ → Bool) (k : ℕ) (olds : List ℕ) (moves : List Move) → IsPart noted olds (children_of new k) moves

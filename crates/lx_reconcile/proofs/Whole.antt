@@ -232,8 +232,12 @@ root_read f k n e h = subst (λ k. Some n ≡ option_map node_of (record_at f k)
 pub root_same_tag : (old new : Forest) (k : ℕ) (was now : Node) → k ≡ 0 → IsTree old → IsTree new → Some was ≡ option_map node_of (record_at old k) → Some now ≡ option_map node_of (record_at new k) → tag_of was.kind was.fields ≡ tag_of now.kind now.fields
 root_same_tag old new k was now e s t f g = root_tag old new was now s t (root_read old k was e f) (root_read new k now e g)
 
+-- the most reads that there are for all that may be done
+abbrev pub most_reads : Forest → Forest → (ℕ → Bool) → ℕ
+most_reads old f noted = 8 * (marked_children (staying noted f) old + marked_children noted f + unkept old None f + 1)
+
 -- how many reads go to the root and below it
-pub root_reads : (old f : Forest) (noted : ℕ → Bool) → IsTree old → IsTree f → noted 0 ≡ true → 2 + reads_below old f noted 0 ≤ 8 * (marked_children (staying noted f) old + marked_children noted f + unkept old None f + 1)
+pub root_reads : (old f : Forest) (noted : ℕ → Bool) → IsTree old → IsTree f → noted 0 ≡ true → 2 + reads_below old f noted 0 ≤ most_reads old f noted
 root_reads old f noted was t marked =
     let h = tree_ordered f t in
     let s = stands_there f 0 h (has-root f h) in
@@ -261,12 +265,12 @@ root_reads old f noted was t marked =
     )
 
 pub reads_bound : (old old_now f f_now : Forest) (noted : ℕ → Bool) (k : ℕ) → k ≡ 0 → old_now ≡ old → f_now ≡ f → IsTree old → IsTree f → noted k ≡ true
-    → 2 + reads_below old_now f_now noted k ≤ 8 * (marked_children (staying noted f) old + marked_children noted f + unkept old None f + 1)
+    → 2 + reads_below old_now f_now noted k ≤ most_reads old f noted
 reads_bound old old_now f f_now noted k e c d was t marked =
-    omega (arith, root_reads old f noted was t (ap noted (sym e) ∙ marked), ap (reads_below old_now f_now noted) e, reads_still old old_now f f_now noted 0 c d)
+    omega (arith, root_reads old f noted was t (ap noted (sym e) ∙ marked), ap (reads_below old_now f_now noted) e, reads_still c d noted 0)
 
 -- no sum is too large
-pub bound_fits : (old f : Forest) (noted : ℕ → Bool) → IsTree old → IsTree f → 8 * (marked_children (staying noted f) old + marked_children noted f + unkept old None f + 1) < last_u64
+pub bound_fits : (old f : Forest) (noted : ℕ → Bool) → IsTree old → IsTree f → most_reads old f noted < last_u64
 bound_fits old f noted was t =
     omega (arith, marked_children-total (staying noted f) old, marked_children-total noted f, unkept-total old None f, was.sound.small, t.sound.small)
 
@@ -282,6 +286,6 @@ root_room v old old_now f f_now k n e is c d t room =
 pub root_allowed : (old old_now new new_now : Forest) (mk : Marking) (v : HostTree) (k n : ℕ) (start ops : List Op) (m : ℕ) → k ≡ 0 → n ≡ v.next → start ≡ [] → old_now ≡ old → new_now ≡ new → IsTree old → IsTree new → IsBetween old new mk v
     → Reconciles old_now new_now mk v k n start ops m → IsAllowed old new mk v ops
 root_allowed old old_now new new_now mk v k n start ops m e is none a b s t w r =
-    let there = reconciles_still old old_now new new_now mk v k n start ops m a b r in
+    let there = reconciles_still a b r in
     all_allowed old new mk v start ops m s t w none
     (subst (λ k. Reconciles old new mk v k v.next start ops m) e (subst (λ n. Reconciles old new mk v k n start ops m) is there))
