@@ -117,8 +117,8 @@ children-back l below told leaf back =
     let d = node_data l.kind l.fields (trees_data below) in
     elim (cases_Bool (is_element l.kind)) [
       | inl element ↦
-          children_told-list l.kind d (trees_data below) element (ap (option_and_then as_array) (children-there l.kind l.fields (trees_data below) element told.of_kind)) ∙ back
-      | inr apart ↦ children_told-leaf l.kind d apart ∙ ap (λ f. Ok (pieces_of f)) (sym (leaf apart))
+          children_told-list l.kind d (trees_data below) refl element (ap (option_and_then as_array) (children-there l.kind l.fields (trees_data below) element told.of_kind)) ∙ back
+      | inr apart ↦ children_told-leaf l.kind d refl apart ∙ ap (λ f. Ok (pieces_of f)) (sym (leaf apart))
     ]
 
 pub node-back : (above : Option Kind) (l : Label) (below : Forest) → IsGivenBack l (trees_data below)

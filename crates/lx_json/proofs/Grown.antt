@@ -1,11 +1,15 @@
 -- How links grow: by a node and then by what is below it, and by one tree after another.
-use Rattle.std.proofs.Common.{◌≡◌, ◌∙◌, ◌+◌, ◌≤◌, ◌<◌, ℕ, Bool, true, false, ltb, cond, List, None, Some, Result, Ok, Err, refl, ap, sym, subst, arith}
+use Rattle.std.proofs.Common.{◌≡◌, ◌∙◌, ◌+◌, ◌≤◌, ◌<◌, ℕ, Bool, true, false, ltb, cond, List, drop, None, Some, Result, Ok, Err, refl, ap, sym, subst, arith}
 use Rattle.std.proofs.lemmas.Bool.Decides.{eqb_tells}
+use Rattle.std.specs.List.{slice_get}
+use Rattle.serde_json.specs.declared.value.Value.{Value}
 use Rattle.serde_json.specs.Data.{Data}
+use Rattle.serde_json.specs.View.{view, items_view}
 use Rattle.lx_node.specs.Trees.{Trees, nil, tree}
 use Rattle.lx_node.specs.NamedTrees.{total, inserted, put_below}
 use Rattle.lx_node.specs.declared.kind.Kind.{Kind}
 use Rattle.lx_node.specs.declared.cause.Cause.{Cause}
+use Rattle.lx_node.specs.declared.cause.Fault.{Fault}
 use Rattle.lx_forest.specs.Forest.{Forest, Label}
 use Rattle.lx_forest.specs.Lookups.{key_of, count, has, IsForest}
 use Rattle.lx_forest.specs.Edits.{with_new, put_in, last_below}
@@ -14,11 +18,13 @@ use Rattle.lx_forest.proofs.Edits.{count-with_new, count-put_in, total-with_new,
 use Rattle.lx_forest.proofs.Order.{IsForest-with_new, IsForest-put_in}
 use Rattle.lx_links.specs.Faults.{place_fault}
 use Rattle.lx_links.proofs.Placed.{placing}
+use Rattle.lx_draft.specs.Faults.{TellsStep}
 use Rattle.lx_json.specs.declared.growing.Growth.{Growth}
-use Rattle.lx_json.specs.Reading.{Piece, and_then, told_under, with_tree, with_rest, tree_of, piece_of}
+use Rattle.lx_json.specs.Reading.{Piece, and_then, told_under, child_place, with_tree, with_rest, tree_of, trees_of, piece_of}
 use Rattle.lx_json.specs.Importing.{label_for, keyed}
-use Rattle.lx_json.specs.Growing.{IsGrowing, grown, grown_by, children_told}
-use Rattle.lx_json.proofs.Looked.{with_children, tree_of-node}
+use Rattle.lx_json.specs.Growing.{IsGrowing, IsUnder, grown, grown_by, children_told}
+use Rattle.lx_json.proofs.Looked.{with_children, tree_of-node, trees_left}
+use Rattle.lx_json.proofs.Told.{tells_same, tells_first, tells_up, tells_where}
 
 pub growth_is : (f g : Forest) (m n : ℕ) → f ≡ g → m ≡ n → ◌≡◌ {A = Growth} (record { links = f; next = m }) (record { links = g; next = n })
 growth_is f g m n e h = ap (λ f. record { links = f; next = m }) e ∙ ap (λ n. record { links = g; next = n }) h
@@ -107,14 +113,15 @@ grown_one p piece g made f i new none is =
 pub ok_is : {A : Type 0} (a b : A) → ◌≡◌ {A = Result A Cause} (Ok a) (Ok b) → a ≡ b
 ok_is a b e = cc
 
-pub next_up : (p : ℕ) (r : Result (Trees Piece) Cause) (g h : Growth) → grown_by p r g ≡ Ok h → g.next ≤ h.next
+next_up : (p : ℕ) (r : Result (Trees Piece) Cause) (g h : Growth) → grown_by p r g ≡ Ok h → g.next ≤ h.next
 unfolding grown_by grown
 next_up p (Ok trees) g h e = let same = ok_is (grown p trees g) h e in omega (arith, ap (λ (g : Growth). g.next) same)
 next_up p (Err cause) g h e = absurd (cc)
 
-pub next_one : (p : ℕ) (piece : Piece) (g made : Growth) → made ≡ grown p (tree piece nil nil) g → g.next < made.next
+-- a node's key is below the next one
+pub key_below : {key : ℕ} {made : Growth} (p : ℕ) (piece : Piece) (g : Growth) → key ≡ g.next → made ≡ grown p (tree piece nil nil) g → key < made.next
 unfolding grown
-next_one p piece g made is = omega (arith, ap (λ (g : Growth). g.next) is)
+key_below p piece g same is = omega (arith, same, ap (λ (g : Growth). g.next) is)
 
 pub grown_by-none : (p : ℕ) (r : Result (Trees Piece) Cause) (g : Growth) → r ≡ Ok nil → grown_by p r g ≡ Ok g
 unfolding grown_by
@@ -125,12 +132,14 @@ unfolding grown_by
 grown_with p piece (Ok below) g i low = ap (λ h. Ok h) (sym (grown-below p piece below g i low))
 grown_with p piece (Err cause) g i low = refl
 
-pub node_grown : (p : ℕ) (parent : Kind) (d : Data) (piece : Piece) (g made h : Growth) → IsGrowing g → p < g.next → piece_of (Some parent) d ≡ Ok piece → made ≡ grown p (tree piece nil nil) g → grown_by g.next (children_told piece.kind d) made ≡ Ok h
-    → grown_by p (tree_of d (Some parent)) g ≡ Ok h
-node_grown p parent d piece g made h i low of is e =
+-- the node gets this key, and then its children are read
+pub node_grown : {piece : Piece} {key : ℕ} {g made h : Growth} (p : ℕ) (parent : Kind) (d : Data) → IsGrowing g → p < g.next → piece_of (Some parent) d ≡ Ok piece → key ≡ g.next → made ≡ grown p (tree piece nil nil) g
+    → grown_by key (children_told piece.kind d) made ≡ Ok h → grown_by p (tree_of d (Some parent)) g ≡ Ok h
+node_grown {piece} {key} {g} {made} p parent d i low of same is e =
     ap (λ r. grown_by p r g) (tree_of-node d parent ∙ ap (λ r. and_then r (with_children d)) of)
     ∙ grown_with p piece (children_told piece.kind d) g i low
     ∙ ap (grown_by g.next (children_told piece.kind d)) (sym is)
+    ∙ ap (λ k. grown_by k (children_told piece.kind d) made) (sym same)
     ∙ e
 
 -- ---- one tree after another
@@ -162,16 +171,13 @@ behind p place (Ok (tree piece below nil)) (Err cause) g h lone low e = refl
 behind p place (Ok (tree piece below nil)) (Ok trees) g h lone low e =
     ap (λ h. Ok (grown p trees h)) (sym (ok_is (grown p (tree piece below nil) g) h e)) ∙ ap (λ h. Ok h) (grown-behind p piece below trees g low)
 
-pub grown_behind : (p : ℕ) (place : List ℕ) (d : Data) (kind : Kind) (others : Result (Trees Piece) Cause) (g h : Growth) → p < g.next → grown_by p (tree_of d (Some kind)) g ≡ Ok h → grown_by p others h ≡ grown_by p (with_rest (told_under place (tree_of d (Some kind))) others) g
-grown_behind p place d kind others g h low e = behind p place (tree_of d (Some kind)) others g h (lone_node d kind) low e
-
 -- what refuses a growth is what refuses its trees
-pub refused_by : (p : ℕ) (r : Result (Trees Piece) Cause) (g : Growth) (cause : Cause) → grown_by p r g ≡ Err cause → r ≡ Err cause
+refused_by : (p : ℕ) (r : Result (Trees Piece) Cause) (g : Growth) (cause : Cause) → grown_by p r g ≡ Err cause → r ≡ Err cause
 unfolding grown_by
 refused_by p (Ok trees) g cause e = absurd (cc)
 refused_by p (Err other) g cause e = cc
 
-pub refuses : (p : ℕ) (r : Result (Trees Piece) Cause) (g : Growth) (cause : Cause) → r ≡ Err cause → grown_by p r g ≡ Err cause
+refuses : (p : ℕ) (r : Result (Trees Piece) Cause) (g : Growth) (cause : Cause) → r ≡ Err cause → grown_by p r g ≡ Err cause
 unfolding grown_by
 refuses p r g cause e = ap (λ r. grown_by p r g) e
 
@@ -182,3 +188,19 @@ pub record IsReadTo (p : ℕ) (left : Result (Trees Piece) Cause) (g : Growth) (
   pub same : grown_by p left g ≡ grown_by p all first
   pub growing : IsGrowing g
   pub below : p < g.next
+
+-- the first of the items that are left is read
+pub read_on : {p : ℕ} {v : Value} {all : Result (Trees Piece) Cause} {g h first : Growth} (vs : List Value) (i n : ℕ) (kind : Kind) → IsReadTo p (trees_of (items_view (drop i vs)) n kind) g all first
+    → slice_get vs i ≡ Some v → grown_by p (tree_of (view v) (Some kind)) g ≡ Ok h → IsGrowing h → IsReadTo p (trees_of (items_view (drop (i + 1) vs)) (n + 1) kind) h all first
+read_on {p} {v} {g = g} {h = h} vs i n kind read is e growing = record {
+  same = behind p (child_place n) (tree_of (view v) (Some kind)) _ g h (lone_node (view v) kind) read.below e ∙ ap (λ r. grown_by p r g) (sym (trees_left vs i n v kind is)) ∙ read.same;
+  growing = growing;
+  below = omega (arith, read.below, next_up p _ g h e);
+}
+
+-- what refuses it, told from one place further up, refuses all
+pub tells_all : {p : ℕ} {v : Value} {all : Result (Trees Piece) Cause} {g first : Growth} (vs : List Value) (i n : ℕ) (kind : Kind) (e up : Fault) → IsReadTo p (trees_of (items_view (drop i vs)) n kind) g all first
+    → slice_get vs i ≡ Some v → IsUnder (child_place n) e up → TellsStep e (tree_of (view v) (Some kind)) → TellsStep up all
+tells_all {p} {v} {all} {g} {first} vs i n kind e up read is above told =
+    tells_where up _ all (λ cause refused. refused_by p all first cause (sym read.same ∙ refuses p _ g cause refused))
+    (tells_same up _ _ (trees_left vs i n v kind is) (tells_first up _ _ (tells_up (child_place n) e up _ above told)))

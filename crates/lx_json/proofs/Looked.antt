@@ -1,5 +1,5 @@
 -- Looking into a value: what is found lies less deep, and the reading by members is one by look-ups.
-use Rattle.std.proofs.Common.{◌≡◌, ◌∙◌, ◌+◌, ◌≤◌, ◌<◌, ℕ, zero, suc, Bool, true, false, max, List, [], ◌∷◌, length, Option, None, Some, is_some, option_and_then, Result, Ok, Err, refl, ap, arith, codes, if◌then◌else◌, drop, Ordering}
+use Rattle.std.proofs.Common.{◌≡◌, ◌∙◌, ◌+◌, ◌≤◌, ◌<◌, ℕ, zero, suc, Bool, true, false, max, List, [], ◌∷◌, length, Option, None, Some, is_some, option_and_then, Result, Ok, Err, refl, ap, sym, arith, codes, if◌then◌else◌, drop, Ordering}
 use Rattle.std.specs.List.{slice_get, slice_index_or}
 use Rattle.std.proofs.lemmas.Option.{slice_get_read}
 use Rattle.std.specs.Ordering.{nat_cmp, match_ordering, is_eq}
@@ -139,19 +139,19 @@ listed-other (Some (number n)) kind is = refl
 listed-other (Some (string s)) kind is = refl
 listed-other (Some (object ms)) kind is = refl
 
-pub children_told-list : (kind : Kind) (d : Data) (ds : Items) → is_element kind ≡ true → option_and_then as_array (get (codes "children") d) ≡ Some ds → children_told kind d ≡ trees_of ds 0 kind
+pub children_told-list : {b : Bool} (kind : Kind) (d : Data) (ds : Items) → b ≡ is_element kind → b ≡ true → option_and_then as_array (get (codes "children") d) ≡ Some ds → children_told kind d ≡ trees_of ds 0 kind
 unfolding children_told
-children_told-list kind d ds element is =
-    ap (λ b. if b then listed_in (get (codes "children") d) kind else Ok nil) element ∙ listed-array (get (codes "children") d) ds kind is
+children_told-list kind d ds same element is =
+    ap (λ b. if b then listed_in (get (codes "children") d) kind else Ok nil) (sym same ∙ element) ∙ listed-array (get (codes "children") d) ds kind is
 
-pub children_told-none : (kind : Kind) (d : Data) → is_element kind ≡ true → option_and_then as_array (get (codes "children") d) ≡ None → children_told kind d ≡ Ok nil
+pub children_told-none : {b : Bool} (kind : Kind) (d : Data) → b ≡ is_element kind → b ≡ true → option_and_then as_array (get (codes "children") d) ≡ None → children_told kind d ≡ Ok nil
 unfolding children_told
-children_told-none kind d element is =
-    ap (λ b. if b then listed_in (get (codes "children") d) kind else Ok nil) element ∙ listed-other (get (codes "children") d) kind is
+children_told-none kind d same element is =
+    ap (λ b. if b then listed_in (get (codes "children") d) kind else Ok nil) (sym same ∙ element) ∙ listed-other (get (codes "children") d) kind is
 
-pub children_told-leaf : (kind : Kind) (d : Data) → is_element kind ≡ false → children_told kind d ≡ Ok nil
+pub children_told-leaf : {b : Bool} (kind : Kind) (d : Data) → b ≡ is_element kind → b ≡ false → children_told kind d ≡ Ok nil
 unfolding children_told
-children_told-leaf kind d leaf = ap (λ b. if b then listed_in (get (codes "children") d) kind else Ok nil) leaf
+children_told-leaf kind d same leaf = ap (λ b. if b then listed_in (get (codes "children") d) kind else Ok nil) (sym same ∙ leaf)
 
 -- ---- items
 

@@ -69,26 +69,30 @@ empty next piece (Ok (tree other below rest)) made h is e none =
     absurd (omega (arith, ap (λ (g : Growth). g.next) (ok_is (grown 0 (tree other below rest) made) h e), ap (λ (g : Growth). g.next) is, none))
 empty next piece (Err cause) made h is e none = absurd (cc)
 
-tree_with : (d : Data) (piece : Piece) → is_some (as_object d) ≡ true → piece_of None d ≡ Ok piece → tree_of d None ≡ with_children d piece
-tree_with d piece is of = tree_of-object d None is ∙ ap (λ r. and_then r (with_children d)) of
+-- the root's tree is its piece, with what the object tells of the children
+pub root_told : {piece : Piece} (d : Data) → is_some (as_object d) ≡ true → piece_of None d ≡ Ok piece → piece.kind ≡ Root → tree_of d None ≡ with_children d (root_piece piece.fields)
+root_told {piece} d is of top =
+    tree_of-object d None is ∙ ap (λ r. and_then r (with_children d)) (of ∙ ap (λ k. Ok (record { kind = k; fields = piece.fields })) top)
 
-pub root_grown : (next : ℕ) (d : Data) (fields : Fields) (made h : Growth) → is_some (as_object d) ≡ true → piece_of None d ≡ Ok (root_piece fields) → made ≡ rooted_growth next (tree (root_piece fields) nil nil)
-    → grown_by 0 (children_told Root d) made ≡ Ok h → h.next ≢ next → rooted_by next (and_then (tree_of d None) if_filled) ≡ Ok h
-root_grown next d fields made h is of alone e more =
-    ap (λ r. rooted_by next (and_then r if_filled)) (tree_with d (root_piece fields) is of) ∙ filled next (root_piece fields) (children_told Root d) made h alone e more
+pub root_grown : {key : ℕ} {made h : Growth} (next : ℕ) (d : Data) (fields : Fields) → tree_of d None ≡ with_children d (root_piece fields) → made ≡ rooted_growth next (tree (root_piece fields) nil nil)
+    → key ≡ 0 → grown_by key (children_told Root d) made ≡ Ok h → h.next ≢ next → rooted_by next (and_then (tree_of d None) if_filled) ≡ Ok h
+root_grown {made = made} {h = h} next d fields told alone root e more =
+    ap (λ r. rooted_by next (and_then r if_filled)) told
+    ∙ filled next (root_piece fields) (children_told Root d) made h alone (ap (λ k. grown_by k (children_told Root d) made) (sym root) ∙ e) more
 
-pub root_empty : (next : ℕ) (d : Data) (fields : Fields) (made h : Growth) → is_some (as_object d) ≡ true → piece_of None d ≡ Ok (root_piece fields) → made ≡ rooted_growth next (tree (root_piece fields) nil nil)
-    → grown_by 0 (children_told Root d) made ≡ Ok h → h.next ≡ next → and_then (tree_of d None) if_filled ≡ Err EmptyState
-root_empty next d fields made h is of alone e none =
-    ap (λ r. and_then r if_filled) (tree_with d (root_piece fields) is of) ∙ empty next (root_piece fields) (children_told Root d) made h alone e none
+pub root_empty : {key : ℕ} {made h : Growth} (next : ℕ) (d : Data) (fields : Fields) → tree_of d None ≡ with_children d (root_piece fields) → made ≡ rooted_growth next (tree (root_piece fields) nil nil)
+    → key ≡ 0 → grown_by key (children_told Root d) made ≡ Ok h → h.next ≡ next → and_then (tree_of d None) if_filled ≡ Err EmptyState
+root_empty {made = made} {h = h} next d fields told alone root e none =
+    ap (λ r. and_then r if_filled) told
+    ∙ empty next (root_piece fields) (children_told Root d) made h alone (ap (λ k. grown_by k (children_told Root d) made) (sym root) ∙ e) none
 
 pub root_refused : (d : Data) (e : Fault) → is_some (as_object d) ≡ true → TellsStep e (piece_of None d) → TellsStep e (and_then (tree_of d None) if_filled)
 root_refused d e is told =
     tells_on e (tree_of d None) if_filled (tells_same e _ _ (tree_of-object d None is) (tells_on e (piece_of None d) (with_children d) told))
 
-pub below_refused : (d : Data) (fields : Fields) (e : Fault) → is_some (as_object d) ≡ true → piece_of None d ≡ Ok (root_piece fields) → TellsStep e (children_told Root d) → TellsStep e (and_then (tree_of d None) if_filled)
-below_refused d fields e is of told =
-    tells_on e (tree_of d None) if_filled (tells_same e _ _ (tree_with d (root_piece fields) is of) (tells_on e (children_told Root d) _ told))
+pub below_refused : (d : Data) (fields : Fields) (e : Fault) → tree_of d None ≡ with_children d (root_piece fields) → TellsStep e (children_told Root d) → TellsStep e (and_then (tree_of d None) if_filled)
+below_refused d fields e told refused =
+    tells_on e (tree_of d None) if_filled (tells_same e _ _ told (tells_on e (children_told Root d) _ refused))
 
 -- ---- the document
 
