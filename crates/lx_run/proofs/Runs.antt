@@ -1,6 +1,6 @@
 -- Steps and offers that are left, after those that were made.
-use Rattle.std.proofs.Common.{◌≡◌, ◌∙◌, ◌+◌, ◌-◌, ◌≤◌, ℕ, zero, suc, Bool, true, false, List, [], ◌∷◌, length, drop, None, Some, Result, Ok, Err, refl, ap, sym, arith}
-use Rattle.std.specs.List.{slice_get}
+use Rattle.std.proofs.Common.{◌≡◌, ◌∙◌, ◌+◌, ◌-◌, ◌≤◌, ◌<◌, ℕ, zero, suc, Bool, true, false, List, [], ◌∷◌, length, drop, Option, None, Some, Result, Ok, Err, refl, ap, sym, arith}
+use Rattle.std.specs.List.{slice_index_or}
 use Rattle.lx_node.specs.declared.cause.Cause.{Cause}
 use Rattle.lx_node.specs.declared.cause.Cause.TheVariants.{DispatchDepth}
 use Rattle.lx_node.specs.declared.cause.Fault.{Fault}
@@ -12,7 +12,7 @@ use Rattle.lx_step.specs.declared.listener.Listener.{Listener}
 use Rattle.lx_step.specs.declared.step.Step.{Step}
 use Rattle.lx_bus.specs.Offers.{above, behind}
 use Rattle.lx_draft.specs.Faults.{after, TellsStep}
-use Rattle.lx_edit.proofs.Turns.{left_at}
+use Rattle.lx_edit.proofs.Turns.{left_at, item_at}
 use Rattle.lx_run.specs.Running.{Running, Dispatching, take_count, done_by, unless_handled, built_in_or, step_in, steps_in, offer, offered, dispatched}
 
 -- ---- a list from a place in it
@@ -20,8 +20,9 @@ use Rattle.lx_run.specs.Running.{Running, Dispatching, take_count, done_by, unle
 next_place : (i : ℕ) → suc i ≡ i + 1
 next_place i = omega arith
 
-pub left_of : {A : Type 0} (all : List A) (i : ℕ) (a : A) → slice_get all i ≡ Some a → drop i all ≡ a ∷ drop (i + 1) all
-left_of all i a is = left_at all i a is ∙ ap (λ n. a ∷ drop n all) (next_place i)
+-- what is left from an item on is the item and what is behind it
+pub left_from : {A : Type 0} (all : List A) (i : ℕ) (a : A) → i < length all → a ≡ slice_index_or all i a → drop i all ≡ a ∷ drop (i + 1) all
+left_from all i a within is = left_at all i a (item_at all i a within is) ∙ ap (λ n. a ∷ drop n all) (next_place i)
 
 pub none_left : {A : Type 0} (all : List A) (i : ℕ) → length all ≤ i → drop i all ≡ []
 none_left [] zero h = refl
@@ -34,19 +35,18 @@ pub told_of : {A B : Type 0} (fault : Fault) (part : Result A Cause) (whole : Re
 told_of (fault.Cause cause) part whole goes told = goes cause told
 told_of fault.Memory part whole goes told = tt
 
+-- an answer whose flag is known
+pub flagged : {r : Result (Running × Bool) Cause} {n : Running} {b known : Bool} → r ≡ Ok (n, b) → b ≡ known → r ≡ Ok (n, known)
+flagged {n = n} answers is = answers ∙ ap (λ b. Ok (n, b)) is
+
 -- ---- steps
 
-pub steps_go_on : (d : Dispatching) (sent : Payload) (left rest : List Step) (step : Step) (m n : Running) → left ≡ step ∷ rest → step_in d sent step m ≡ Ok n
-    → steps_in d sent rest n ≡ steps_in d sent left m
+-- the rest go on from what the first comes to
+pub steps_first : {left rest : List Step} {step : Step} {r : Result Running Cause} (d : Dispatching) (sent : Payload) (m : Running) → left ≡ step ∷ rest → step_in d sent step m ≡ r
+    → steps_in d sent left m ≡ after r (steps_in d sent rest)
 unfolding steps_in
-steps_go_on d sent left rest step m n is ran =
-    sym (ap (λ steps. steps_in d sent steps m) is ∙ ap (λ r. after r (steps_in d sent rest)) ran)
-
-pub steps_refused : (d : Dispatching) (sent : Payload) (left rest : List Step) (step : Step) (m : Running) (cause : Cause) → left ≡ step ∷ rest → step_in d sent step m ≡ Err cause
-    → steps_in d sent left m ≡ Err cause
-unfolding steps_in
-steps_refused d sent left rest step m cause is refused =
-    ap (λ steps. steps_in d sent steps m) is ∙ ap (λ r. after r (steps_in d sent rest)) refused
+steps_first {rest = rest} d sent m is comes =
+    ap (λ steps. steps_in d sent steps m) is ∙ ap (λ r. after r (steps_in d sent rest)) comes
 
 pub steps_done : (d : Dispatching) (sent : Payload) (left : List Step) (m : Running) → left ≡ [] → steps_in d sent left m ≡ Ok m
 unfolding steps_in
@@ -54,23 +54,12 @@ steps_done d sent left m is = ap (λ steps. steps_in d sent steps m) is
 
 -- ---- offers
 
-pub offers_go_on : (d : Dispatching) (sent : Payload) (left rest : List Listener) (l : Listener) (m n : Running) → left ≡ l ∷ rest → offer d sent l m ≡ Ok (n, false)
-    → offered d sent rest n ≡ offered d sent left m
+-- the rest go on from what the first answers
+pub offers_first : {left rest : List Listener} {l : Listener} {r : Result (Running × Bool) Cause} (d : Dispatching) (sent : Payload) (m : Running) → left ≡ l ∷ rest → offer d sent l m ≡ r
+    → offered d sent left m ≡ after r (unless_handled (offered d sent rest))
 unfolding offered
-offers_go_on d sent left rest l m n is passed =
-    sym (ap (λ ls. offered d sent ls m) is ∙ ap (λ r. after r (unless_handled (offered d sent rest))) passed)
-
-pub offers_handled : (d : Dispatching) (sent : Payload) (left rest : List Listener) (l : Listener) (m n : Running) → left ≡ l ∷ rest → offer d sent l m ≡ Ok (n, true)
-    → offered d sent left m ≡ Ok (n, true)
-unfolding offered
-offers_handled d sent left rest l m n is passed =
-    ap (λ ls. offered d sent ls m) is ∙ ap (λ r. after r (unless_handled (offered d sent rest))) passed
-
-pub offers_refused : (d : Dispatching) (sent : Payload) (left rest : List Listener) (l : Listener) (m : Running) (cause : Cause) → left ≡ l ∷ rest → offer d sent l m ≡ Err cause
-    → offered d sent left m ≡ Err cause
-unfolding offered
-offers_refused d sent left rest l m cause is refused =
-    ap (λ ls. offered d sent ls m) is ∙ ap (λ r. after r (unless_handled (offered d sent rest))) refused
+offers_first {rest = rest} d sent m is answers =
+    ap (λ ls. offered d sent ls m) is ∙ ap (λ r. after r (unless_handled (offered d sent rest))) answers
 
 pub none_offered : (d : Dispatching) (sent : Payload) (left : List Listener) (m : Running) → left ≡ [] → offered d sent left m ≡ Ok (m, false)
 unfolding offered
@@ -81,65 +70,51 @@ none_offered d sent left m is = ap (λ ls. offered d sent ls m) is
 one_less : (n : ℕ) → suc n - 1 ≡ n
 one_less n = omega arith
 
--- a dispatch, where these offers come first and answer this
-abbrev Dispatched : ℕ → List Listener → List ℕ → Payload → Running → Result (Running × Bool) Cause → Type 0
-Dispatched left ls name sent m first =
-    dispatched left ls name sent m ≡ after first (unless_handled (built_in_or (built_in name) (dispatched (left - 1) ls) sent (behind name ls)))
+-- what is done where no listener above editor has handled the command
+abbrev pub done_else : ℕ → List Listener → List ℕ → Payload → Running → Result (Running × Bool) Cause
+done_else left ls name sent = built_in_or (built_in name) (dispatched (left - 1) ls) sent (behind name ls)
 
-dispatched_by : (left : ℕ) (ls : List Listener) (name : List ℕ) (sent : Payload) (m : Running) → (left ≡ 0 → ⊥) → Dispatched left ls name sent m (offered (dispatched (left - 1) ls) sent (above name ls) m)
+dispatched_by : (left : ℕ) (ls : List Listener) (name : List ℕ) (sent : Payload) (m : Running) → (left ≡ 0 → ⊥)
+    → dispatched left ls name sent m ≡ after (offered (dispatched (left - 1) ls) sent (above name ls) m) (unless_handled (done_else left ls name sent))
 unfolding dispatched
 dispatched_by zero ls name sent m more = absurd (more refl)
 dispatched_by (suc left) ls name sent m more =
     ap (λ n. after (offered (dispatched n ls) sent (above name ls) m) (unless_handled (built_in_or (built_in name) (dispatched n ls) sent (behind name ls)))) (sym (one_less left))
 
-dispatched_first : (left : ℕ) (ls first : List Listener) (name : List ℕ) (sent : Payload) (m : Running) (r : Result (Running × Bool) Cause)
-    → (left ≡ 0 → ⊥) → first ≡ above name ls → offered (dispatched (left - 1) ls) sent first m ≡ r → Dispatched left ls name sent m r
-dispatched_first left ls first name sent m r more is answers =
-    let from : offered (dispatched (left - 1) ls) sent (above name ls) m ≡ r = ap (λ os. offered (dispatched (left - 1) ls) sent os m) (sym is) ∙ answers in
+-- a dispatch goes on from what the listeners above editor answer
+pub dispatched_first : {first : List Listener} {r : Result (Running × Bool) Cause} (left : ℕ) (ls : List Listener) (name : List ℕ) (sent : Payload) (m : Running) → (left ≡ 0 → ⊥) → first ≡ above name ls
+    → offered (dispatched (left - 1) ls) sent first m ≡ r → dispatched left ls name sent m ≡ after r (unless_handled (done_else left ls name sent))
+dispatched_first left ls name sent m more is answers =
     dispatched_by left ls name sent m more
-    ∙ ap (λ r. after r (unless_handled (built_in_or (built_in name) (dispatched (left - 1) ls) sent (behind name ls)))) from
+    ∙ ap (λ r. after r (unless_handled (done_else left ls name sent))) (ap (λ os. offered (dispatched (left - 1) ls) sent os m) (sym is) ∙ answers)
 
-pub dispatched_handled : (left : ℕ) (ls first : List Listener) (name : List ℕ) (sent : Payload) (m n : Running) → (left ≡ 0 → ⊥) → first ≡ above name ls
-    → offered (dispatched (left - 1) ls) sent first m ≡ Ok (n, true) → dispatched left ls name sent m ≡ Ok (n, true)
-dispatched_handled left ls first name sent m n more is answers = dispatched_first left ls first name sent m (Ok (n, true)) more is answers
+-- none of them has handled it, this is what they leave, and this the built-in command of the name, if there is one
+pub record IsPassed (left : ℕ) (ls : List Listener) (name : List ℕ) (sent : Payload) (m n : Running) (o : Option BuiltIn) : Type 0 where
+  pub goes_on : dispatched left ls name sent m ≡ built_in_or o (dispatched (left - 1) ls) sent (behind name ls) n
 
-pub dispatched_refused : (left : ℕ) (ls first : List Listener) (name : List ℕ) (sent : Payload) (m : Running) (cause : Cause) → (left ≡ 0 → ⊥) → first ≡ above name ls
-    → offered (dispatched (left - 1) ls) sent first m ≡ Err cause → dispatched left ls name sent m ≡ Err cause
-dispatched_refused left ls first name sent m cause more is answers = dispatched_first left ls first name sent m (Err cause) more is answers
+pub passed_to : {text : List ℕ} {o : Option BuiltIn} (left : ℕ) (ls : List Listener) (name : List ℕ) (sent : Payload) (m n : Running) → dispatched left ls name sent m ≡ done_else left ls name sent n
+    → o ≡ built_in text → text ≡ name → IsPassed left ls name sent m n o
+passed_to left ls name sent m n e is same = record { goes_on = e ∙ ap (λ o. built_in_or o (dispatched (left - 1) ls) sent (behind name ls) n) (sym (is ∙ ap built_in same)) }
 
--- none of the first has handled it, and there is no built-in command of the name
-pub dispatched_behind : (left : ℕ) (ls first last : List Listener) (name : List ℕ) (sent : Payload) (m n : Running) → (left ≡ 0 → ⊥) → first ≡ above name ls → last ≡ behind name ls
-    → built_in name ≡ None → offered (dispatched (left - 1) ls) sent first m ≡ Ok (n, false) → offered (dispatched (left - 1) ls) sent last n ≡ dispatched left ls name sent m
-dispatched_behind left ls first last name sent m n more is same none answers =
-    ap (λ os. offered (dispatched (left - 1) ls) sent os n) same
-    ∙ sym (dispatched_first left ls first name sent m (Ok (n, false)) more is answers
-    ∙ ap (λ o. built_in_or o (dispatched (left - 1) ls) sent (behind name ls) n) none)
+-- there is none
+pub dispatched_behind : {left : ℕ} {ls last : List Listener} {name text : List ℕ} {sent : Payload} {m n : Running} {o : Option BuiltIn} → IsPassed left ls name sent m n o → o ≡ None
+    → last ≡ behind text ls → text ≡ name → offered (dispatched (left - 1) ls) sent last n ≡ dispatched left ls name sent m
+dispatched_behind {left} {ls} {name = name} {sent = sent} {n = n} passed none is same =
+    ap (λ os. offered (dispatched (left - 1) ls) sent os n) (is ∙ ap (λ name. behind name ls) same)
+    ∙ sym (passed.goes_on ∙ ap (λ o. built_in_or o (dispatched (left - 1) ls) sent (behind name ls) n) none)
 
--- none of the first has handled it, and there is a built-in command of the name
-dispatched_built_in : (left : ℕ) (ls first : List Listener) (name : List ℕ) (sent : Payload) (m n : Running) (command : BuiltIn) → (left ≡ 0 → ⊥) → first ≡ above name ls
-    → built_in name ≡ Some command → offered (dispatched (left - 1) ls) sent first m ≡ Ok (n, false)
-    → dispatched left ls name sent m ≡ after (take_count n) (λ o. after (done_by command sent o) (λ p. Ok (p, true)))
-dispatched_built_in left ls first name sent m n command more is known answers =
-    dispatched_first left ls first name sent m (Ok (n, false)) more is answers
+-- there is one, which goes on from its count
+pub dispatched_counted : {left : ℕ} {ls : List Listener} {name : List ℕ} {sent : Payload} {m n : Running} {o : Option BuiltIn} {command : BuiltIn} {r : Result Running Cause}
+    → IsPassed left ls name sent m n o → o ≡ Some command → take_count n ≡ r → dispatched left ls name sent m ≡ after r (λ o. after (done_by command sent o) (λ p. Ok (p, true)))
+dispatched_counted {left} {ls} {name} {sent} {n = n} {command = command} passed known counted =
+    passed.goes_on
     ∙ ap (λ o. built_in_or o (dispatched (left - 1) ls) sent (behind name ls) n) known
-
-pub dispatched_uncounted : (left : ℕ) (ls first : List Listener) (name : List ℕ) (sent : Payload) (m n : Running) (command : BuiltIn) (cause : Cause) → (left ≡ 0 → ⊥) → first ≡ above name ls
-    → built_in name ≡ Some command → offered (dispatched (left - 1) ls) sent first m ≡ Ok (n, false) → take_count n ≡ Err cause → dispatched left ls name sent m ≡ Err cause
-dispatched_uncounted left ls first name sent m n command cause more is known answers counted =
-    dispatched_built_in left ls first name sent m n command more is known answers
     ∙ ap (λ r. after r (λ o. after (done_by command sent o) (λ p. Ok (p, true)))) counted
 
-pub dispatched_undone : (left : ℕ) (ls first : List Listener) (name : List ℕ) (sent : Payload) (m n o : Running) (command : BuiltIn) (cause : Cause) → (left ≡ 0 → ⊥) → first ≡ above name ls
-    → built_in name ≡ Some command → offered (dispatched (left - 1) ls) sent first m ≡ Ok (n, false) → take_count n ≡ Ok o → done_by command sent o ≡ Err cause → dispatched left ls name sent m ≡ Err cause
-dispatched_undone left ls first name sent m n o command cause more is known answers counted undone =
-    dispatched_built_in left ls first name sent m n command more is known answers
-    ∙ ap (λ r. after r (λ o. after (done_by command sent o) (λ p. Ok (p, true)))) counted ∙ ap (λ r. after r (λ p. Ok (p, true))) undone
-
-pub dispatched_done : (left : ℕ) (ls first : List Listener) (name : List ℕ) (sent : Payload) (m n o p : Running) (command : BuiltIn) → (left ≡ 0 → ⊥) → first ≡ above name ls
-    → built_in name ≡ Some command → offered (dispatched (left - 1) ls) sent first m ≡ Ok (n, false) → take_count n ≡ Ok o → done_by command sent o ≡ Ok p → dispatched left ls name sent m ≡ Ok (p, true)
-dispatched_done left ls first name sent m n o p command more is known answers counted done =
-    dispatched_built_in left ls first name sent m n command more is known answers
-    ∙ ap (λ r. after r (λ o. after (done_by command sent o) (λ p. Ok (p, true)))) counted ∙ ap (λ r. after r (λ p. Ok (p, true))) done
+-- and then from what the command does
+pub dispatched_done : {left : ℕ} {ls : List Listener} {name : List ℕ} {sent : Payload} {m n o : Running} {known : Option BuiltIn} {command : BuiltIn} {r : Result Running Cause}
+    → IsPassed left ls name sent m n known → known ≡ Some command → take_count n ≡ Ok o → done_by command sent o ≡ r → dispatched left ls name sent m ≡ after r (λ p. Ok (p, true))
+dispatched_done passed is counted done = dispatched_counted passed is counted ∙ ap (λ r. after r (λ p. Ok (p, true))) done
 
 pub dispatched_deepest : (left : ℕ) (ls : List Listener) (name : List ℕ) (sent : Payload) (m : Running) → left ≡ 0 → dispatched left ls name sent m ≡ Err DispatchDepth
 unfolding dispatched

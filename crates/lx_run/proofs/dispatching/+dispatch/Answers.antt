@@ -1,13 +1,13 @@
-use Rattle.std.proofs.Common.{◌≡◌, ◌∙◌, All, Ok, IfOk, IfErr, sym, ap, subst}
+use Rattle.std.proofs.Common.{◌≡◌, ◌∙◌, ◌-◌, ℕ, Bool, All, Result, sym, ap, subst}
 use Rattle.std.proofs.lemmas.List.Elements.{All-tail}
-use Rattle.lx_step.specs.BuiltIns.{built_in}
+use Rattle.lx_node.specs.declared.cause.Cause.{Cause}
 use Rattle.lx_step.specs.Sound.{IsSoundListener}
-use Rattle.lx_bus.specs.Offers.{above, behind}
-use Rattle.lx_draft.specs.Faults.{TellsStep}
-use Rattle.lx_edit.proofs.Turns.{item_at}
-use Rattle.lx_run.specs.Running.{dispatched}
-use Rattle.lx_run.proofs.Runs.{left_of, none_left, told_of, steps_go_on, steps_refused, steps_done, offers_go_on, offers_handled, offers_refused, none_offered, dispatched_handled, dispatched_refused, dispatched_behind, dispatched_uncounted, dispatched_undone, dispatched_done, dispatched_deepest}
+use Rattle.lx_bus.specs.Offers.{above}
+use Rattle.lx_draft.specs.Faults.{after}
+use Rattle.lx_run.specs.Running.{Running, unless_handled, offered, dispatched}
+use Rattle.lx_run.proofs.Runs.{left_from, none_left, told_of, flagged, steps_first, steps_done, offers_first, none_offered, done_else, IsPassed, passed_to, dispatched_first, dispatched_behind, dispatched_counted, dispatched_done, dispatched_deepest}
 use Rattle.lx_run.proofs.dispatching.+dispatch.Goals as goal
+use Rattle.lx_run.proofs.dispatching.+dispatch.Goals.{dispatch-After-offer_all, dispatch-After-named, dispatch-After-offer_all-in-None}
 
 pub dispatch-returns-then-left-eq0-clause-err : goal.dispatch-returns-then-left-eq0-clause-err
 dispatch-returns-then-left-eq0-clause-err t c = dispatched_deepest _ _ _ _ _ c.if-left-eq0.true
@@ -16,14 +16,11 @@ dispatch-returns-then-left-eq0-clause-err t c = dispatched_deepest _ _ _ _ _ c.i
 
 pub run_all-returns-in-Err-clause-err : goal.run_all-returns-in-Err-clause-err
 run_all-returns-in-Err-clause-err t c =
-    told_of c.in-Err.fault _ _ (λ cause e. sym c.loop-step.invariant.same
-    ∙ steps_refused _ _ _ _ _ _ cause (left_of c.args.steps.now c.loop-step.step-index c.step-item.result (item_at c.args.steps.now c.loop-step.step-index c.step-item.result c.loop-step-test.true c.step-item.is)) e) c.in-Err.ensures.err
+    told_of c.in-Err.fault _ _ (λ cause e. sym c.loop-step.invariant.same ∙ steps_first _ _ _ (left_from _ _ _ c.loop-step-test.true c.step-item.is) e) c.in-Err.ensures.err
 
 pub run_all-loop-step-preserved : goal.run_all-loop-step-preserved
 run_all-loop-step-preserved t c = record {
-  same =
-      steps_go_on _ _ _ _ _ _ _ (left_of c.args.steps.now c.loop-step.step-index c.step-item.result (item_at c.args.steps.now c.loop-step.step-index c.step-item.result c.loop-step-test.true c.step-item.is)) c.in-Ok.ensures.ok
-      ∙ c.loop-step.invariant.same;
+  same = sym (steps_first _ _ _ (left_from _ _ _ c.loop-step-test.true c.step-item.is) c.in-Ok.ensures.ok) ∙ c.loop-step.invariant.same;
 }
 
 pub run_all-returns-clause-ok : goal.run_all-returns-clause-ok
@@ -33,77 +30,60 @@ run_all-returns-clause-ok t c = sym c.loop-step.invariant.same ∙ steps_done _ 
 
 pub offer_all-returns-in-Ok-true-clause-ok : goal.offer_all-returns-in-Ok-true-clause-ok
 offer_all-returns-in-Ok-true-clause-ok t c =
-    sym c.loop-listener.invariant.same
-    ∙ offers_handled (dispatched c.args.left c.args.bus.now) c.args.payload.now c.loop-listener.listener-iterator c.next.new.self c.in-Some.listener.now c.loop-listener.running c.offer.new.running
-    c.in-Some.ensures.steps (c.in-Ok-true.ensures.ok ∙ ap (λ b. Ok (c.offer.new.running, b)) c.in-Ok-true.field-0-test)
+    sym c.loop-listener.invariant.same ∙ offers_first _ _ _ c.in-Some.ensures.steps (flagged c.in-Ok-true.ensures.ok c.in-Ok-true.field-0-test)
 
 pub offer_all-loop-listener-preserved : goal.offer_all-loop-listener-preserved
 offer_all-loop-listener-preserved t c = record {
   can_next = tt;
   is_finite = tt;
-  sound = All-tail IsSoundListener c.in-Some.listener.now c.next.new.self (subst (λ ls. All IsSoundListener ls) c.in-Some.ensures.steps c.loop-listener.invariant.sound);
-  same =
-      offers_go_on (dispatched c.args.left c.args.bus.now) c.args.payload.now c.loop-listener.listener-iterator c.next.new.self c.in-Some.listener.now c.loop-listener.running c.offer.new.running
-      c.in-Some.ensures.steps (c.in-Ok-false.ensures.ok ∙ ap (λ b. Ok (c.offer.new.running, b)) c.in-Ok-false.field-0-test)
-      ∙ c.loop-listener.invariant.same;
+  sound = All-tail IsSoundListener _ _ (subst (λ ls. All IsSoundListener ls) c.in-Some.ensures.steps c.loop-listener.invariant.sound);
+  same = sym (offers_first _ _ _ c.in-Some.ensures.steps (flagged c.in-Ok-false.ensures.ok c.in-Ok-false.field-0-test)) ∙ c.loop-listener.invariant.same;
 }
 
 pub offer_all-returns-in-Err-clause-err : goal.offer_all-returns-in-Err-clause-err
 offer_all-returns-in-Err-clause-err t c =
-    told_of c.in-Err.fault _ _ (λ cause e. sym c.loop-listener.invariant.same
-    ∙ offers_refused (dispatched c.args.left c.args.bus.now) c.args.payload.now c.loop-listener.listener-iterator c.next.new.self c.in-Some.listener.now c.loop-listener.running cause c.in-Some.ensures.steps e) c.in-Err.ensures.err
+    told_of c.in-Err.fault _ _ (λ cause e. sym c.loop-listener.invariant.same ∙ offers_first _ _ _ c.in-Some.ensures.steps e) c.in-Err.ensures.err
 
 pub offer_all-returns-clause-ok : goal.offer_all-returns-clause-ok
-offer_all-returns-clause-ok t c =
-    sym c.loop-listener.invariant.same ∙ none_offered (dispatched c.args.left c.args.bus.now) c.args.payload.now c.loop-listener.listener-iterator c.loop-listener.running c.in-None.ensures.steps.0
+offer_all-returns-clause-ok t c = sym c.loop-listener.invariant.same ∙ none_offered _ _ _ _ c.in-None.ensures.steps.0
 
 -- ---- dispatches
 
+-- the dispatch goes on from what the listeners above editor answer
+goes_on : {t : ℕ} (c : dispatch-After-offer_all t) {r : Result (Running × Bool) Cause} → offered (dispatched (c.args.left - 1) c.args.bus.now) c.args.payload.now c.above.result c.args.running.now ≡ r
+    → dispatched c.args.left c.args.bus.now c.args.name.now c.args.payload.now c.args.running.now ≡ after r (unless_handled (done_else c.args.left c.args.bus.now c.args.name.now c.args.payload.now))
+goes_on c answers = dispatched_first _ _ _ _ _ c.if-left-eq0.false (c.above.ensures.order ∙ ap (λ name. above name c.args.bus.now) c.as_str.ensures.text) answers
+
+-- none of them has handled it
+passed : {t : ℕ} (c : dispatch-After-named t) → IsPassed c.args.left c.args.bus.now c.args.name.now c.args.payload.now c.args.running.now c.offer_all.new.running c.named.result
+passed c = passed_to _ _ _ _ _ _ (goes_on (goal.at.dispatch-After-named _ c).After-offer_all (flagged c.in-Ok-false.ensures.ok c.in-Ok-false.field-0-test)) c.named.ensures c.as_str-2.ensures.text
+
+-- nor is there a built-in command of the name, and what those behind it answer is the answer
+behind_it : {t : ℕ} (c : dispatch-After-offer_all-in-None t)
+    → offered (dispatched (c.args.left - 1) c.args.bus.now) c.args.payload.now c.behind.result c.offer_all.new.running ≡ dispatched c.args.left c.args.bus.now c.args.name.now c.args.payload.now c.args.running.now
+behind_it c = dispatched_behind (passed (goal.at.dispatch-After-offer_all-in-None _ c).After-named) c.in-None.is c.behind.ensures.order c.as_str-in-None.ensures.text
+
 pub dispatch-returns-in-Ok-true-clause-ok : goal.dispatch-returns-in-Ok-true-clause-ok
-dispatch-returns-in-Ok-true-clause-ok t c =
-    dispatched_handled c.args.left c.args.bus.now c.above.result c.args.name.now c.args.payload.now c.args.running.now c.offer_all.new.running c.if-left-eq0.false
-    (c.above.ensures.order ∙ ap (λ name. above name c.args.bus.now) c.as_str.ensures.text) (c.in-Ok-true.ensures.ok ∙ ap (λ b. Ok (c.offer_all.new.running, b)) c.in-Ok-true.field-0-test)
+dispatch-returns-in-Ok-true-clause-ok t c = goes_on (goal.at.dispatch-returns-in-Ok-true-clause-ok t c).After-offer_all (flagged c.in-Ok-true.ensures.ok c.in-Ok-true.field-0-test)
 
 pub dispatch-returns-in-Err-clause-err : goal.dispatch-returns-in-Err-clause-err
 dispatch-returns-in-Err-clause-err t c =
-    told_of c.in-Err.fault _ _ (λ cause e.
-    dispatched_refused c.args.left c.args.bus.now c.above.result c.args.name.now c.args.payload.now c.args.running.now cause c.if-left-eq0.false
-    (c.above.ensures.order ∙ ap (λ name. above name c.args.bus.now) c.as_str.ensures.text) e) c.in-Err.ensures.err
+    told_of c.in-Err.fault _ _ (λ cause e. goes_on (goal.at.dispatch-returns-in-Err-clause-err t c).After-offer_all e) c.in-Err.ensures.err
 
 pub dispatch-returns-in-Err-count-clause-err : goal.dispatch-returns-in-Err-count-clause-err
-dispatch-returns-in-Err-count-clause-err t c =
-    dispatched_uncounted c.args.left c.args.bus.now c.above.result c.args.name.now c.args.payload.now c.args.running.now c.offer_all.new.running c.in-Some.command c.in-Err-count.cause c.if-left-eq0.false
-    (c.above.ensures.order ∙ ap (λ name. above name c.args.bus.now) c.as_str.ensures.text)
-    (sym (c.named.ensures ∙ ap built_in c.as_str-2.ensures.text) ∙ c.in-Some.is)
-    (c.in-Ok-false.ensures.ok ∙ ap (λ b. Ok (c.offer_all.new.running, b)) c.in-Ok-false.field-0-test) c.in-Err-count.ensures.err
+dispatch-returns-in-Err-count-clause-err t c = dispatched_counted (passed (goal.at.dispatch-returns-in-Err-count-clause-err t c).After-named) c.in-Some.is c.in-Err-count.ensures.err
 
 pub dispatch-returns-in-Err-do_built_in-clause-err : goal.dispatch-returns-in-Err-do_built_in-clause-err
 dispatch-returns-in-Err-do_built_in-clause-err t c =
-    told_of c.in-Err-do_built_in.fault _ _ (λ cause e.
-    dispatched_undone c.args.left c.args.bus.now c.above.result c.args.name.now c.args.payload.now c.args.running.now c.offer_all.new.running c.count.new.self c.in-Some.command cause c.if-left-eq0.false
-    (c.above.ensures.order ∙ ap (λ name. above name c.args.bus.now) c.as_str.ensures.text)
-    (sym (c.named.ensures ∙ ap built_in c.as_str-2.ensures.text) ∙ c.in-Some.is)
-    (c.in-Ok-false.ensures.ok ∙ ap (λ b. Ok (c.offer_all.new.running, b)) c.in-Ok-false.field-0-test) c.in-Ok.ensures.ok e) c.in-Err-do_built_in.ensures.err
+    let at = goal.at.dispatch-returns-in-Err-do_built_in-clause-err t c in
+    told_of c.in-Err-do_built_in.fault _ _ (λ cause e. dispatched_done (passed at.After-named) c.in-Some.is c.in-Ok.ensures.ok e) c.in-Err-do_built_in.ensures.err
 
 pub dispatch-returns-in-Ok-do_built_in-clause-ok : goal.dispatch-returns-in-Ok-do_built_in-clause-ok
 dispatch-returns-in-Ok-do_built_in-clause-ok t c =
-    dispatched_done c.args.left c.args.bus.now c.above.result c.args.name.now c.args.payload.now c.args.running.now c.offer_all.new.running c.count.new.self c.do_built_in.new.running c.in-Some.command c.if-left-eq0.false
-    (c.above.ensures.order ∙ ap (λ name. above name c.args.bus.now) c.as_str.ensures.text)
-    (sym (c.named.ensures ∙ ap built_in c.as_str-2.ensures.text) ∙ c.in-Some.is)
-    (c.in-Ok-false.ensures.ok ∙ ap (λ b. Ok (c.offer_all.new.running, b)) c.in-Ok-false.field-0-test) c.in-Ok.ensures.ok c.in-Ok-do_built_in.ensures.ok
+    dispatched_done (passed (goal.at.dispatch-returns-in-Ok-do_built_in-clause-ok t c).After-named) c.in-Some.is c.in-Ok.ensures.ok c.in-Ok-do_built_in.ensures.ok
 
 pub dispatch-returns-in-None-clause-ok : goal.dispatch-returns-in-None-clause-ok
-dispatch-returns-in-None-clause-ok t c =
-    subst (λ r. IfOk c.offer_all-in-None.result (λ handled. r ≡ Ok (c.offer_all-in-None.new.running, handled)))
-    (dispatched_behind c.args.left c.args.bus.now c.above.result c.behind.result c.args.name.now c.args.payload.now c.args.running.now c.offer_all.new.running c.if-left-eq0.false
-    (c.above.ensures.order ∙ ap (λ name. above name c.args.bus.now) c.as_str.ensures.text) (c.behind.ensures.order ∙ ap (λ name. behind name c.args.bus.now) c.as_str-in-None.ensures.text)
-    (sym (c.named.ensures ∙ ap built_in c.as_str-2.ensures.text) ∙ c.in-None.is)
-    (c.in-Ok-false.ensures.ok ∙ ap (λ b. Ok (c.offer_all.new.running, b)) c.in-Ok-false.field-0-test)) c.offer_all-in-None.ensures.ok
+dispatch-returns-in-None-clause-ok t c = rw (behind_it c) at c.offer_all-in-None.ensures.ok
 
 pub dispatch-returns-in-None-clause-err : goal.dispatch-returns-in-None-clause-err
-dispatch-returns-in-None-clause-err t c =
-    subst (λ r. IfErr c.offer_all-in-None.result (λ e. TellsStep e r))
-    (dispatched_behind c.args.left c.args.bus.now c.above.result c.behind.result c.args.name.now c.args.payload.now c.args.running.now c.offer_all.new.running c.if-left-eq0.false
-    (c.above.ensures.order ∙ ap (λ name. above name c.args.bus.now) c.as_str.ensures.text) (c.behind.ensures.order ∙ ap (λ name. behind name c.args.bus.now) c.as_str-in-None.ensures.text)
-    (sym (c.named.ensures ∙ ap built_in c.as_str-2.ensures.text) ∙ c.in-None.is)
-    (c.in-Ok-false.ensures.ok ∙ ap (λ b. Ok (c.offer_all.new.running, b)) c.in-Ok-false.field-0-test)) c.offer_all-in-None.ensures.err
+dispatch-returns-in-None-clause-err t c = rw (behind_it c) at c.offer_all-in-None.ensures.err
