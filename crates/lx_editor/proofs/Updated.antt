@@ -316,9 +316,6 @@ pub load_left : (e : Editor) (d : Data) (w : Working) → imported d e.next_key 
 unfolding left_by_load
 load_left e d w is = ap (left_with e.rules) is
 
-pub load_refused : (e : Editor) (d : Data) (w : Working) (refusal : Refusal) → imported d e.next_key ≡ Ok w → TellsRefusal refusal (rested_by e.rules w) → TellsRefusal refusal (left_by_load e d)
-load_refused e d w refusal is told = subst (TellsRefusal refusal) (sym (load_left e d w is)) told
-
 -- ---- a new editor
 
 once_at : (q : ℕ) → count q root_alone < 2
