@@ -1,5 +1,5 @@
 -- Whole runs.
-use Rattle.std.proofs.Common.{◌≡◌, ◌≢◌, ℕ, Bool, true, false, ◌+◌, ◌<◌, ◌≤◌, ◌⊎◌, inl, inr, List, [], ◌++◌, length, take, sym, ap, ◌∙◌, refl, subst, length-append, arith}
+use Rattle.std.proofs.Common.{◌≡◌, ◌≢◌, ℕ, true, false, ◌+◌, ◌<◌, ◌≤◌, ◌⊎◌, inl, inr, List, [], ◌++◌, length, take, sym, ap, ◌∙◌, refl, subst, length-append, arith}
 use Rattle.lx_node.specs.Limits.{last_u32}
 use Rattle.lx_io.specs.Devices.{Consumes, IsAtEnd, HasRisen, IsCounted, last_count}
 use Rattle.lx_words.specs.declared.options.Options.{Options}
@@ -221,21 +221,28 @@ module _ (words : List (List ℕ)) (is_taken : are_taken words ≡ true) where
       (inr (p.source.at_end, refl))
       (AreUnanswered-append why (begun_with words) b.session.editor a.sink b.sink t (ended read) (last_line (unended read)) lines last)
 
-  -- where no more was read before the end
-  pub HasRun-stopped : (why : Stop) (a b : Moment) → IsNew (asked_for words) a.session → why ≢ stop.End → HasStopped why input_limit a b
+  stopped : (why : Stop) (a b : Moment) → IsNew (asked_for words) a.session → why ≢ stop.End → HasStopped why input_limit a b
       → (read written : List ℕ) × IsRun (stop_status why) (worded words read written a.source b.source a.sink b.sink)
-  HasRun-stopped stop.End a b new early p = absurd (early refl)
-  HasRun-stopped stop.ReadFault a b new early p = let run = Ran-read_fault a b p.bytes new p.stops in (p.bytes, run.0, run.1)
-  HasRun-stopped stop.WriteFault a b new early p = let run = Ran-unanswered unanswered.WriteFault a b p.bytes new p.stops in (p.bytes, run.0, run.1)
-  HasRun-stopped stop.Memory a b new early p = let run = Ran-unanswered unanswered.Memory a b p.bytes new p.stops in (p.bytes, run.0, run.1)
-  HasRun-stopped stop.TooLong a b new early p = let run = Ran-too_long a b p.bytes new p.stops in (p.bytes, run.0, run.1)
+  stopped stop.End a b new early p = absurd (early refl)
+  stopped stop.ReadFault a b new early p = let run = Ran-read_fault a b p.bytes new p.stops in (p.bytes, run.0, run.1)
+  stopped stop.WriteFault a b new early p = let run = Ran-unanswered unanswered.WriteFault a b p.bytes new p.stops in (p.bytes, run.0, run.1)
+  stopped stop.Memory a b new early p = let run = Ran-unanswered unanswered.Memory a b p.bytes new p.stops in (p.bytes, run.0, run.1)
+  stopped stop.TooLong a b new early p = let run = Ran-too_long a b p.bytes new p.stops in (p.bytes, run.0, run.1)
+
+  -- where no more was read before the end
+  pub HasRun-stopped : (r : Status) (why : Stop) (a b : Moment) → r ≡ stop_status why → IsNew (asked_for words) a.session → why ≢ stop.End → HasStopped why input_limit a b
+      → (read written : List ℕ) × IsRun r (worded words read written a.source b.source a.sink b.sink)
+  HasRun-stopped r why a b is new early p =
+      subst (λ (r : Status). (read written : List ℕ) × IsRun r (worded words read written a.source b.source a.sink b.sink)) (sym is) (stopped why a b new early p)
 
   pub HasRun-done : (a b : Moment) (end : Editor) (t : SinkSeen) → IsNew (asked_for words) a.session → HasStopped stop.End input_limit a b
       → AreAnswered (last_line b.session.pending.items) b.session.editor end b.sink t
       → (read written : List ℕ) × IsRun Done (worded words read written a.source b.source a.sink t)
   HasRun-done a b end t new p q = let run = Ran-done a b end t p.bytes new p.stops q in (p.bytes, run.0, run.1)
 
-  pub HasRun-last_unanswered : (why : Unanswered) (a b : Moment) (t : SinkSeen) → IsNew (asked_for words) a.session → HasStopped stop.End input_limit a b
+  pub HasRun-last_unanswered : (r : Status) (why : Unanswered) (a b : Moment) (t : SinkSeen) → r ≡ unanswered_status why → IsNew (asked_for words) a.session → HasStopped stop.End input_limit a b
       → AreUnanswered why (last_line b.session.pending.items) b.session.editor b.sink t
-      → (read written : List ℕ) × IsRun (unanswered_status why) (worded words read written a.source b.source a.sink t)
-  HasRun-last_unanswered why a b t new p q = let run = Ran-last_unanswered why a b t p.bytes new p.stops q in (p.bytes, run.0, run.1)
+      → (read written : List ℕ) × IsRun r (worded words read written a.source b.source a.sink t)
+  HasRun-last_unanswered r why a b t is new p q =
+      let run = Ran-last_unanswered why a b t p.bytes new p.stops q in
+      subst (λ (r : Status). (read written : List ℕ) × IsRun r (worded words read written a.source b.source a.sink t)) (sym is) (p.bytes, run.0, run.1)
