@@ -1,3 +1,4 @@
+pub mod CodeUnits
 pub mod NamedTrees
 pub mod Positions
 pub mod Preorder

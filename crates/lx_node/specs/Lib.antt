@@ -1,4 +1,5 @@
 pub mod Causes
+pub mod Counted
 pub mod Kinds
 pub mod Limits
 pub mod NamedTrees
@@ -10,3 +11,4 @@ pub mod Spots
 pub mod Strings
 pub mod Trees
 pub mod Walks
+pub mod Units

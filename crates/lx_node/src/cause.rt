@@ -4,16 +4,16 @@ use crate::memory::NoMemory;
 use crate::text::Txt;
 use thiserror::Error;
 
-/// What a point lies in: the characters of a text, or the children of an element.
-#[derive(Clone, Copy, Debug, PartialEq, Eq, Hash)]
+/// What a point lies in: a text, or the children of an element.
+#[derive(Clone, Copy, Debug, PartialEq, Eq)]
 pub enum PointKind {
     Text,
     Element,
 }
 
-/// A place: a node, an offset in it (in scalar values of a text, in children of an element), and which
+/// A place: a node, an offset in it (in UTF-16 code units of a text, in children of an element), and which
 /// of the two the offset counts.
-#[derive(Clone, Copy, Debug, PartialEq, Eq, Hash)]
+#[derive(Clone, Copy, Debug, PartialEq, Eq)]
 pub struct Point {
     pub key: Key,
     pub offset: u32,
@@ -21,7 +21,7 @@ pub struct Point {
 }
 
 /// What a selection is, without its places.
-#[derive(Clone, Copy, Debug, PartialEq, Eq, Hash)]
+#[derive(Clone, Copy, Debug)]
 pub enum SelectionKind {
     Nothing,
     Range,
@@ -30,7 +30,7 @@ pub enum SelectionKind {
 }
 
 /// What an editor bounds.
-#[derive(Clone, Copy, Debug, PartialEq, Eq, Hash)]
+#[derive(Clone, Copy, Debug)]
 pub enum Limit {
     Depth,
     Nodes,
@@ -48,7 +48,7 @@ pub enum Named {
 }
 
 /// What of a selection isn't in the tree any more.
-#[derive(Clone, Copy, Debug, PartialEq, Eq, Hash)]
+#[derive(Clone, Copy, Debug)]
 pub enum Lost {
     Point(Point),
     Key(Key),

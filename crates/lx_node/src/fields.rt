@@ -8,7 +8,7 @@ use crate::text::Txt;
 use std::alloc::Global;
 
 /// How a text takes part in editing: as any text, as a whole, or word by word.
-#[derive(Clone, Copy, Debug, PartialEq, Eq, Hash)]
+#[derive(Clone, Copy, Debug, PartialEq, Eq)]
 pub enum Mode {
     Normal,
     Token,
@@ -16,7 +16,7 @@ pub enum Mode {
 }
 
 /// The direction of an element's text, where it is set.
-#[derive(Clone, Copy, Debug, PartialEq, Eq, Hash)]
+#[derive(Clone, Copy, Debug, PartialEq, Eq)]
 pub enum Direction {
     Unset,
     Ltr,
@@ -24,7 +24,7 @@ pub enum Direction {
 }
 
 /// The alignment of an element, where it is set.
-#[derive(Clone, Copy, Debug, PartialEq, Eq, Hash)]
+#[derive(Clone, Copy, Debug, PartialEq, Eq)]
 pub enum Align {
     Unset,
     Left,

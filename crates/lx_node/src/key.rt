@@ -2,7 +2,7 @@ use std::marker::Model;
 
 /// The name of a node in an editor state: 0 for the root, and 1, 2, 3 and so on in the order in which
 /// nodes are made. Contracts see a key as its number.
-#[derive(Clone, Copy, Debug, PartialEq, Eq, PartialOrd, Ord, Hash)]
+#[derive(Clone, Copy, Debug, PartialEq, Eq, Hash)]
 pub struct Key(pub u32);
 
 impl Model for Key {

@@ -1,5 +1,5 @@
 /// How a list numbers its items.
-#[derive(Clone, Copy, Debug, PartialEq, Eq, Hash)]
+#[derive(Clone, Copy, Debug, PartialEq, Eq)]
 pub enum ListType {
     Bullet,
     Number,
@@ -7,7 +7,7 @@ pub enum ListType {
 }
 
 /// What a node is. A heading has a level from 1 to 6.
-#[derive(Clone, Copy, Debug, PartialEq, Eq, Hash)]
+#[derive(Clone, Copy, Debug, PartialEq, Eq)]
 pub enum Kind {
     Root,
     Paragraph,

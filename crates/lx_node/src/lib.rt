@@ -3,6 +3,7 @@
 
 mod cause;
 mod characters;
+mod counts;
 mod equal;
 mod fields;
 mod key;
@@ -14,6 +15,7 @@ mod node;
 mod text;
 
 pub use cause::{Cause, Fault, Limit, Lost, Named, Point, PointKind, SelectionKind};
+pub use counts::units;
 pub use fields::{Align, Direction, ElementFields, Extra, Fields, Mode, TextFields};
 pub use key::Key;
 pub use kind::{Kind, ListType};
@@ -21,6 +23,3 @@ pub use kinds::Kinds;
 pub use memory::NoMemory;
 pub use node::{Node, View};
 pub use text::Txt;
-
-#[cfg(test)]
-mod tests;

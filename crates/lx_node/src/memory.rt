@@ -3,7 +3,7 @@ use thiserror::Error;
 
 /// Memory was wanted and none was left. It isn't a cause: a line that meets it isn't refused, and the
 /// program ends.
-#[derive(Clone, Copy, Debug, PartialEq, Eq, Error)]
+#[derive(Clone, Copy, Debug, Error)]
 #[error("out of memory")]
 pub struct NoMemory;
 

@@ -1,13 +1,15 @@
+use crate::counts::{Counts, count};
 use crate::memory::NoMemory;
 use std::alloc::Global;
 use std::fmt::{self, Debug};
 use std::marker::Model;
 
-/// A text, as the list of its Unicode scalar values. It keeps how many there are, so that its length is a read.
+/// A text, as the list of its Unicode scalar values. It keeps how many there are, and how many UTF-16 code units, so that
+/// both are a read.
 #[derive(Drop)]
 pub struct Txt {
     text: String,
-    characters: u64,
+    counts: Counts,
 }
 
 /// It is shown as the string that it is.
@@ -24,31 +26,22 @@ impl Model for Txt {
 
     ghost view = { λ t. chars (string_bytes t.text) };
 
-    ghost use Rattle.std.specs.Prelude.{◌≡◌, length};
-    ghost use Rattle.lx_node.specs.Strings.{capped};
+    ghost use Rattle.lx_node.specs.Counted.{AreCounted};
 
-    ghost invariant = { λ t. t.characters ≡ capped (length (chars (string_bytes t.text))) };
-}
-
-ghost use Rattle.std.specs.Prelude.{◌≡◌, chars, length};
-ghost use Rattle.lx_node.specs.Strings.{capped};
-
-/// How many characters a string has. From 18,446,744,073,709,551,615 on it stands still.
-fn count(text: &str) -> u64
-    ensures { result ≡ capped (length (chars text.now)) }
-{
-    text.chars().count() as u64
+    ghost invariant = { λ t. AreCounted t.counts (chars (string_bytes t.text)) };
 }
 
 impl Txt {
-    ghost use Rattle.std.specs.Prelude.{◌==◌, ◌++◌, [], IfOk, string_bytes, encode_utf8_all};
+    ghost use Rattle.std.specs.Prelude.{◌≡◌, ◌==◌, ◌++◌, [], IfOk, chars, length, string_bytes, encode_utf8_all};
+    ghost use Rattle.lx_node.specs.Strings.{capped};
+    ghost use Rattle.lx_node.specs.Units.{units};
 
     /// The text of a string, which is taken over. It takes no memory.
     pub fn of(text: String) -> Txt
         ensures { result ≡ chars (string_bytes text) }
     {
-        let characters = count(text.as_str());
-        Txt { text, characters }
+        let counts = count(text.as_str());
+        Txt { text, counts }
     }
 
     /// The text without characters. It takes no memory.
@@ -57,7 +50,7 @@ impl Txt {
     {
         Txt {
             text: String::new(alloc),
-            characters: 0,
+            counts: Counts::none(),
         }
     }
 
@@ -106,7 +99,15 @@ impl Txt {
     pub fn characters(&self) -> u64
         ensures { result ≡ capped (length self.now) }
     {
-        self.characters
+        self.counts.characters
+    }
+
+    /// How many UTF-16 code units it has: from 0 to 18,446,744,073,709,551,615, which also stands for any number
+    /// above. It is a read as well.
+    pub fn units(&self) -> u64
+        ensures { result ≡ capped (units self.now) }
+    {
+        self.counts.units
     }
 
     /// An equal text.
@@ -116,12 +117,12 @@ impl Txt {
         let text = String::from_str(alloc, self.as_str())?;
         Ok(Txt {
             text,
-            characters: self.characters,
+            counts: self.counts,
         })
     }
 
-    /// This text with another one behind it. It takes memory for the bytes of both, and counts the characters of
-    /// the other one alone.
+    /// This text with another one behind it. It takes memory for the bytes of both, and counts what the other one
+    /// has alone.
     pub fn followed_by(&self, alloc: Global, more: &str) -> Result<Txt, NoMemory>
         ensures { IfOk result (λ made. made ≡ self.now ++ chars more.now) }
     {
@@ -130,7 +131,31 @@ impl Txt {
         text.push_str(more)?;
         Ok(Txt {
             text,
-            characters: self.characters.saturating_add(count(more)),
+            counts: self.counts.with(count(more)),
+        })
+    }
+
+    /// This text with `new` in the place of a piece: `front`, `piece` and `rest`, one behind another, are the text. It
+    /// takes memory for the bytes of the new text, which it copies, and counts the piece and what is new alone.
+    pub fn spliced(
+        &self,
+        alloc: Global,
+        front: &str,
+        piece: &str,
+        rest: &str,
+        new: &str,
+    ) -> Result<Txt, NoMemory>
+        requires { self.now ≡ chars front.now ++ chars piece.now ++ chars rest.now }
+        ensures { IfOk result (λ made. made ≡ chars front.now ++ chars new.now ++ chars rest.now) }
+    {
+        let kept = self.as_str().len().saturating_sub(piece.len());
+        let mut text = String::with_capacity(alloc, kept.saturating_add(new.len()))?;
+        text.push_str(front)?;
+        text.push_str(new)?;
+        text.push_str(rest)?;
+        Ok(Txt {
+            text,
+            counts: self.counts.spliced(count(piece), count(new)),
         })
     }
 
