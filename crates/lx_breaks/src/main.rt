@@ -1,7 +1,7 @@
 //! Shows that the clusters and the words that a caret goes over are those of Unicode's own break tests.
 //!
 //! Standard input holds a case a line: `c` for clusters or `w` for words, and the scalar values of a text in hexadecimal, a
-//! space before each. A case comes out as the offsets, in scalar values, where calls stop that go over the text: from its
+//! space before each. A case comes out as the offsets, in UTF-16 code units, where calls stop that go over the text: from its
 //! start to its end by `cluster_after` or `word_after`, then `|`, then back to its start by `cluster_before` or `word_before`.
 //!
 //! The stored cases are those of `GraphemeBreakTest.txt` (602) and `WordBreakTest.txt` (1,823) of Unicode 15.0, in their

@@ -44,7 +44,7 @@ pub(crate) fn stops(alloc: Global, unit: Unit, text: &str) -> Result<String> {
     Ok(told)
 }
 
-/// The stops on the way to the end. There are no more of them than scalar values, since each call goes over one at least.
+/// The stops on the way to the end. There are no more of them than code units, since each call goes over one at least.
 fn tell_forward(unit: Unit, text: &str, told: &mut String) -> Result<()> {
     let end = length(text);
     let mut at = 0;

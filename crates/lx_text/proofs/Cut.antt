@@ -1,79 +1,114 @@
--- A text as its bytes, cut behind as many characters as an offset counts.
-use Rattle.std.proofs.Common.{◌≡◌, ◌∙◌, ℕ, ◌+◌, ◌-◌, ◌<◌, ◌≤◌, suc, List, [], ◌∷◌, ◌++◌, length, take, drop, get_or, refl, sym, ap, encode_utf8_all, encode_utf8, IsUtf8, arith, append_assoc, append-nil, length-append, length-drop, add-one, drop-cons}
+-- A text as its bytes, gone over character by character up to an offset.
+use Rattle.std.proofs.Common.{◌≡◌, ◌∙◌, ℕ, ◌+◌, ◌-◌, ◌<◌, ◌≤◌, List, [], ◌∷◌, ◌++◌, length, take, drop, refl, sym, ap, subst, encode_utf8_all, encode_utf8, IsUtf8, arith, append_assoc, append-nil, length-append as lengths}
 use Rattle.std.specs.Str.{chars, IsCharBoundary}
+use Rattle.std.proofs.lemmas.Bool.Decides.{nat_tests}
 use Rattle.std.proofs.lemmas.Str.{chars-nil, chars_past_char, IsUtf8-past_char, IsUtf8-take, encodes-append, chars_from_encodes, IsCharBoundary-at_seam}
-use Rattle.std.proofs.lemmas.List.{take_more}
 use Rattle.std.proofs.Math.Seq.{take-append_seam, drop-append_seam}
+use Rattle.lx_node.specs.Units.{units_of}
+use Rattle.lx_text.specs.Texts.{text_length, front_of, rest_of}
+use Rattle.lx_text.specs.Passing.{IsStopped}
+use Rattle.lx_text.proofs.Places.{length-none, length-append, length-one, front-passed, rest-passed, front-stopped, rest-stopped, front-none, rest-none, within_is}
 
--- behind so many characters of the text these bytes are left
-pub record IsCutAt (text : List ℕ) (passed : ℕ) (rest : List ℕ) : Type 0 where
+-- what was passed of a text up to an offset, and the bytes and code units that are left
+pub record IsPassed (text : List ℕ) (offset left : ℕ) (rest : List ℕ) : Type 0 where
+  pub front : List ℕ
   pub utf8 : IsUtf8 rest
-  pub bytes : encode_utf8_all (take passed (chars text)) ++ rest ≡ text
-  pub left : chars rest ≡ drop passed (chars text)
-  pub within : passed ≤ length (chars text)
+  pub bytes : encode_utf8_all front ++ rest ≡ text
+  pub front_is : front_of offset (chars text) ≡ front ++ front_of left (chars rest)
+  pub rest_is : rest_of offset (chars text) ≡ rest_of left (chars rest)
+  pub length_is : text_length front + left ≡ offset
 
-pub cut_at_start : (text : List ℕ) → IsUtf8 text → IsCutAt text 0 text
-cut_at_start text utf8 = record { utf8 = utf8; bytes = refl; left = refl; within = omega arith }
-
--- one more character, where some are left
-drop_past : (cs ds : List ℕ) (i c : ℕ) → c ∷ ds ≡ drop i cs → (drop (i + 1) cs ≡ ds) × (i < length cs) × (take (i + 1) cs ≡ take i cs ++ c ∷ [])
-drop_past cs ds i c e =
-    let lt : i < length cs = omega (arith, length-drop i cs, ap length e) in
-    let next : c ∷ ds ≡ get_or cs i c ∷ drop (suc i) cs = e ∙ drop-cons cs i c lt in
-    let same : c ≡ get_or cs i c = cc in
-    let rest : drop (suc i) cs ≡ ds = cc in
-    (rw add-one rest, lt, take_more cs i c lt ∙ ap (λ x. take i cs ++ x ∷ []) (sym same))
+pub passed_none : (text : List ℕ) (offset : ℕ) → IsUtf8 text → IsPassed text offset offset text
+passed_none text offset utf8 = record {
+  front = [];
+  utf8 = utf8;
+  bytes = refl;
+  front_is = refl;
+  rest_is = refl;
+  length_is = omega (arith, length-none);
+}
 
 encode-one_more : (cs more : List ℕ) (c : ℕ) → encode_utf8_all (cs ++ c ∷ []) ++ more ≡ encode_utf8_all cs ++ (encode_utf8 c ++ more)
 encode-one_more cs more c =
     ap (λ bs. bs ++ more) (encodes-append cs (c ∷ []) ∙ ap (λ bs. encode_utf8_all cs ++ bs) (append-nil (encode_utf8 c)))
     ∙ append_assoc (encode_utf8_all cs) (encode_utf8 c) more
 
-pub cut_past_char : (text rest more : List ℕ) (passed c : ℕ) → IsCutAt text passed rest → rest ≡ encode_utf8 c ++ more → IsCutAt text (passed + 1) more
-cut_past_char text rest more passed c cut next =
-    let first : chars rest ≡ c ∷ chars more = chars_past_char rest more c cut.utf8 next in
-    let past = drop_past (chars text) (chars more) passed c (sym first ∙ cut.left) in
+-- one more character
+pub passed_more : (text rest more : List ℕ) (offset left c : ℕ) → IsPassed text offset left rest → rest ≡ encode_utf8 c ++ more → units_of c ≤ left → IsPassed text offset (left - units_of c) more
+passed_more text rest more offset left c p next fits =
+    let first : chars rest ≡ c ∷ chars more = chars_past_char rest more c p.utf8 next in
     record {
-      utf8 = IsUtf8-past_char rest more c cut.utf8 next;
-      bytes =
-          ap (λ cs. encode_utf8_all cs ++ more) past.2 ∙ encode-one_more (take passed (chars text)) more c
-          ∙ ap (λ bs. encode_utf8_all (take passed (chars text)) ++ bs) (sym next) ∙ cut.bytes;
-      left = sym past.0;
-      within = omega (arith, past.1);
+      front = p.front ++ c ∷ [];
+      utf8 = IsUtf8-past_char rest more c p.utf8 next;
+      bytes = encode-one_more p.front more c ∙ ap (λ bs. encode_utf8_all p.front ++ bs) (sym next) ∙ p.bytes;
+      front_is =
+          p.front_is ∙ ap (λ cs. p.front ++ front_of left cs) first ∙ ap (λ cs. p.front ++ cs) (front-passed left c (chars more) fits)
+          ∙ sym (append_assoc p.front (c ∷ []) (front_of (left - units_of c) (chars more)));
+      rest_is = p.rest_is ∙ ap (rest_of left) first ∙ rest-passed left c (chars more) fits;
+      length_is = omega (arith, p.length_is, fits, length-append p.front (c ∷ []), length-one c);
     }
+
+stopped_by : (text rest : List ℕ) (offset left : ℕ) → IsPassed text offset left rest → front_of left (chars rest) ≡ [] → rest_of left (chars rest) ≡ chars rest → IsStopped text offset left (length rest)
+stopped_by text rest offset left p none all =
+    let front : front_of offset (chars text) ≡ p.front = p.front_is ∙ ap (λ cs. p.front ++ cs) none ∙ append-nil p.front in
+    record {
+      front = p.front;
+      back = rest;
+      utf8 = p.utf8;
+      bytes = p.bytes;
+      rest_is = refl;
+      front_of_is = sym front;
+      rest_of_is = sym (p.rest_is ∙ all);
+      within_is = ap (λ n. n + left) (within_is offset (chars text) ∙ ap text_length front) ∙ p.length_is;
+    }
+
+-- a character that is too long for what is left
+pub stopped_before : (text rest more : List ℕ) (offset left c : ℕ) → IsPassed text offset left rest → rest ≡ encode_utf8 c ++ more → left < units_of c → IsStopped text offset left (length rest)
+stopped_before text rest more offset left c p next long =
+    let first : chars rest ≡ c ∷ chars more = chars_past_char rest more c p.utf8 next in
+    stopped_by text rest offset left p (ap (front_of left) first ∙ front-stopped left c (chars more) long) (ap (rest_of left) first ∙ rest-stopped left c (chars more) long ∙ sym first)
 
 no_length : (xs : List ℕ) → length xs ≡ 0 → xs ≡ []
 no_length [] e = refl
 no_length (x ∷ xs) e = absurd (omega arith)
 
--- nothing is left behind the last character
-pub cut_at_end : (text rest : List ℕ) (passed : ℕ) → IsCutAt text passed rest → length rest ≡ 0 → length (chars text) ≡ passed
-cut_at_end text rest passed cut none =
-    let nothing : drop passed (chars text) ≡ [] = sym cut.left ∙ ap chars (no_length rest none) ∙ chars-nil in
-    omega (arith, ap length nothing, length-drop passed (chars text), cut.within)
+-- the end of the text
+pub stopped_at_end : (text rest : List ℕ) (offset left : ℕ) → IsPassed text offset left rest → length rest ≡ 0 → IsStopped text offset left (length rest)
+stopped_at_end text rest offset left p none =
+    let nothing : chars rest ≡ [] = ap chars (no_length rest none) ∙ chars-nil in
+    stopped_by text rest offset left p (ap (front_of left) nothing ∙ front-none left) (ap (rest_of left) nothing ∙ rest-none left ∙ sym nothing)
 
-module _ (text rest : List ℕ) (passed : ℕ) (cut : IsCutAt text passed rest) where
-  -- the bytes before the place
-  front : List ℕ
-  front = encode_utf8_all (take passed (chars text))
+-- ---- how many code units a character has, as a machine tells them
 
-  front_length : length text - length rest ≡ length front
-  unfolding front
-  front_length = omega (arith, length-append front rest, ap length cut.bytes)
+pub units_told : (c n : ℕ) → (c < 65536 → n ≡ 1) → (65536 ≤ c → n ≡ 2) → n ≡ units_of c
+unfolding units_of
+units_told c n few many = grind (arith, nat_tests, few, many)
 
-  pub front_boundary : IsCharBoundary text (length text - length rest)
-  unfolding front
-  front_boundary = rw front_length (IsCharBoundary-at_seam text front rest (sym cut.bytes) cut.utf8)
+pub long_told : (c n left : ℕ) → (c < 65536 → n ≡ 1) → (65536 ≤ c → n ≡ 2) → left < n → left < units_of c
+long_told c n left few many long = omega (arith, long, units_told c n few many)
 
-  front_bytes : take (length text - length rest) text ≡ front
-  unfolding front
-  front_bytes = ap (λ n. take n text) front_length ∙ ap (take (length front)) (sym cut.bytes) ∙ take-append_seam front rest
+pub fits_told : (c n left : ℕ) → (c < 65536 → n ≡ 1) → (65536 ≤ c → n ≡ 2) → n ≤ left → units_of c ≤ left
+fits_told c n left few many fits = omega (arith, fits, units_told c n few many)
 
-  pub chars-front : IsUtf8 text → chars (take (length text - length rest) text) ≡ take passed (chars text)
-  unfolding front
-  chars-front utf8 = sym (chars_from_encodes (take passed (chars text)) (take (length text - length rest) text) (IsUtf8-take text (length text - length rest) utf8 front_boundary) (sym front_bytes))
+-- ---- what stands before a place and behind it
 
-  pub chars-back : chars (drop (length text - length rest) text) ≡ drop passed (chars text)
-  unfolding front
-  chars-back =
-      ap chars (ap (λ n. drop n text) front_length ∙ ap (drop (length front)) (sym cut.bytes) ∙ drop-append_seam front rest) ∙ cut.left
+front_length : (text front rest : List ℕ) → encode_utf8_all front ++ rest ≡ text → length text - length rest ≡ length (encode_utf8_all front)
+front_length text front rest is = omega (arith, lengths (encode_utf8_all front) rest, ap length is)
+
+pub front_boundary : (text front rest : List ℕ) → IsUtf8 rest → encode_utf8_all front ++ rest ≡ text → IsCharBoundary text (length text - length rest)
+front_boundary text front rest utf8 is = rw (front_length text front rest is) (IsCharBoundary-at_seam text (encode_utf8_all front) rest (sym is) utf8)
+
+front_bytes : (text front rest : List ℕ) (n : ℕ) → encode_utf8_all front ++ rest ≡ text → length rest ≡ n → take (length text - n) text ≡ encode_utf8_all front
+front_bytes text front rest n is behind =
+    ap (λ m. take (length text - m) text) (sym behind) ∙ ap (λ m. take m text) (front_length text front rest is)
+    ∙ ap (take (length (encode_utf8_all front))) (sym is) ∙ take-append_seam (encode_utf8_all front) rest
+
+pub chars-front : (text front rest : List ℕ) (n : ℕ) → IsUtf8 text → IsUtf8 rest → encode_utf8_all front ++ rest ≡ text → length rest ≡ n → chars (take (length text - n) text) ≡ front
+chars-front text front rest n utf8 rest_utf8 is behind =
+    let boundary : IsCharBoundary text (length text - n) = subst (λ m. IsCharBoundary text (length text - m)) behind (front_boundary text front rest rest_utf8 is) in
+    sym (chars_from_encodes front (take (length text - n) text) (IsUtf8-take text (length text - n) utf8 boundary) (sym (front_bytes text front rest n is behind)))
+
+pub chars-back : (text front rest : List ℕ) (n : ℕ) → encode_utf8_all front ++ rest ≡ text → length rest ≡ n → drop (length text - n) text ≡ rest
+chars-back text front rest n is behind =
+    ap (λ m. drop (length text - m) text) (sym behind) ∙ ap (λ m. drop m text) (front_length text front rest is)
+    ∙ ap (drop (length (encode_utf8_all front))) (sym is) ∙ drop-append_seam (encode_utf8_all front) rest

@@ -1,6 +1,9 @@
 pub mod Appended
+mod Ascii
 mod Computed
 pub mod Cut
 pub mod Faults
+pub mod Places
 pub mod Told
 mod Segmented
+mod Utf16

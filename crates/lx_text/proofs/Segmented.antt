@@ -1,5 +1,5 @@
 -- The clusters and words of a text, as the toolchain's iterators give them.
-use Rattle.std.proofs.Common.{◌≡◌, ◌∙◌, ℕ, ◌+◌, ◌-◌, ◌<◌, ◌≤◌, ◌^◌, min, Bool, true, false, cond, List, [], ◌∷◌, ◌++◌, map, reverse, take, drop, length, length-append, sym, ap, arith, IsUtf8}
+use Rattle.std.proofs.Common.{◌≡◌, ◌∙◌, ℕ, ◌+◌, ◌-◌, ◌<◌, ◌≤◌, ◌^◌, min, Bool, true, false, cond, List, [], ◌∷◌, ◌++◌, map, reverse, length, length-append, sym, ap, arith, IsUtf8}
 use Rattle.std.specs.Str.{chars}
 use Rattle.std.proofs.lemmas.Str.{encodes-chars}
 use Rattle.std.proofs.lemmas.List.{map-append, reverse-append}
@@ -7,9 +7,8 @@ use Rattle.std.specs.List.{list_all}
 use Rattle.std.specs.Char.{is_whitespace}
 use Rattle.unicode_segmentation.specs.Grapheme.{graphemes}
 use Rattle.unicode_segmentation.specs.Word.{word_bounds}
-use Rattle.lx_text.specs.Texts.{text_length}
+use Rattle.lx_text.specs.Texts.{text_length, front_of, rest_of}
 use Rattle.lx_text.specs.Clusters.{clusters, words, over_first, over_word, cluster_before, cluster_after, word_before, word_after, offset_sum}
-use Rattle.lx_text.proofs.Told.{slice-front, slice-back}
 
 -- ---- pieces of bytes, and of characters
 
@@ -91,18 +90,18 @@ less at n h = omega (arith, h)
 more_than : (at n : ℕ) → min (at + min n 4294967295) 4294967295 ≡ offset_sum at n
 more_than at n = omega arith
 
-pub before_told : (text start : List ℕ) (at : ℕ) → at < 2 ^ 32 → start ≡ take at text → at - min (over_first (reverse (clusters start))) 4294967295 ≡ cluster_before text at
+pub before_told : (text start : List ℕ) (at : ℕ) → at < 2 ^ 32 → start ≡ front_of at text → at - min (over_first (reverse (clusters start))) 4294967295 ≡ cluster_before text at
 unfolding cluster_before
-before_told text start at h e = less at _ h ∙ ap (λ s. at - over_first (reverse (clusters s))) (e ∙ sym (slice-front at text))
+before_told text start at h e = less at _ h ∙ ap (λ s. at - over_first (reverse (clusters s))) e
 
-pub word_before_told : (text start : List ℕ) (at : ℕ) → at < 2 ^ 32 → start ≡ take at text → at - min (over_word (reverse (words start))) 4294967295 ≡ word_before text at
+pub word_before_told : (text start : List ℕ) (at : ℕ) → at < 2 ^ 32 → start ≡ front_of at text → at - min (over_word (reverse (words start))) 4294967295 ≡ word_before text at
 unfolding word_before
-word_before_told text start at h e = less at _ h ∙ ap (λ s. at - over_word (reverse (words s))) (e ∙ sym (slice-front at text))
+word_before_told text start at h e = less at _ h ∙ ap (λ s. at - over_word (reverse (words s))) e
 
-pub after_told : (text rest : List ℕ) (at : ℕ) → rest ≡ drop at text → min (at + min (over_first (clusters rest)) 4294967295) 4294967295 ≡ cluster_after text at
+pub after_told : (text rest : List ℕ) (at : ℕ) → rest ≡ rest_of at text → min (at + min (over_first (clusters rest)) 4294967295) 4294967295 ≡ cluster_after text at
 unfolding cluster_after
-after_told text rest at e = more_than at _ ∙ ap (λ s. offset_sum at (over_first (clusters s))) (e ∙ sym (slice-back at text))
+after_told text rest at e = more_than at _ ∙ ap (λ s. offset_sum at (over_first (clusters s))) e
 
-pub word_after_told : (text rest : List ℕ) (at : ℕ) → rest ≡ drop at text → min (at + min (over_word (words rest)) 4294967295) 4294967295 ≡ word_after text at
+pub word_after_told : (text rest : List ℕ) (at : ℕ) → rest ≡ rest_of at text → min (at + min (over_word (words rest)) 4294967295) 4294967295 ≡ word_after text at
 unfolding word_after
-word_after_told text rest at e = more_than at _ ∙ ap (λ s. offset_sum at (over_word (words s))) (e ∙ sym (slice-back at text))
+word_after_told text rest at e = more_than at _ ∙ ap (λ s. offset_sum at (over_word (words s))) e

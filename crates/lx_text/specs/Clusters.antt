@@ -5,7 +5,7 @@ use Rattle.std.specs.Str.{chars}
 use Rattle.std.specs.Char.{is_whitespace}
 use Rattle.unicode_segmentation.specs.Grapheme.{graphemes}
 use Rattle.unicode_segmentation.specs.Word.{word_bounds}
-use Rattle.lx_text.specs.Texts.{text_length, slice_of}
+use Rattle.lx_text.specs.Texts.{text_length, front_of, rest_of}
 
 -- the clusters of a text, and its pieces between word bounds, each as its characters
 abbrev pub clusters : List ℕ → List (List ℕ)
@@ -13,13 +13,6 @@ clusters text = map chars (graphemes true (encode_utf8_all text))
 
 abbrev pub words : List ℕ → List (List ℕ)
 words text = map chars (word_bounds (encode_utf8_all text))
-
--- the text up to an offset, and from there on
-abbrev pub front : List ℕ → ℕ → List ℕ
-front text at = slice_of 0 at text
-
-abbrev pub rest : List ℕ → ℕ → List ℕ
-rest text at = slice_of at (text_length text) text
 
 -- the length of the first of some pieces, if there is one
 abbrev pub over_first : List (List ℕ) → ℕ
@@ -33,17 +26,17 @@ over_word (piece ∷ pieces) = if list_all is_whitespace piece then text_length 
 
 -- where the last cluster, or the last word, of the text up to an offset begins
 unfoldable pub cluster_before : List ℕ → ℕ → ℕ
-cluster_before text at = at - over_first (reverse (clusters (front text at)))
+cluster_before text at = at - over_first (reverse (clusters (front_of at text)))
 
 unfoldable pub word_before : List ℕ → ℕ → ℕ
-word_before text at = at - over_word (reverse (words (front text at)))
+word_before text at = at - over_word (reverse (words (front_of at text)))
 
 -- where the first one of the rest ends; a sum of offsets ends at the last of 32 bits
 abbrev pub offset_sum : ℕ → ℕ → ℕ
 offset_sum at more = min (at + more) 4294967295
 
 unfoldable pub cluster_after : List ℕ → ℕ → ℕ
-cluster_after text at = offset_sum at (over_first (clusters (rest text at)))
+cluster_after text at = offset_sum at (over_first (clusters (rest_of at text)))
 
 unfoldable pub word_after : List ℕ → ℕ → ℕ
-word_after text at = offset_sum at (over_word (words (rest text at)))
+word_after text at = offset_sum at (over_word (words (rest_of at text)))

@@ -1,3 +1,4 @@
 pub mod Clusters
 pub mod Laws
+pub mod Passing
 pub mod Texts

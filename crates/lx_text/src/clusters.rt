@@ -12,7 +12,7 @@ ghost use Rattle.lx_text.specs.Texts.{is_offset};
 ghost use Rattle.lx_text.specs.Clusters as clusters;
 
 use crate::offsets::parted;
-use crate::pieces::{bad_place, length};
+use crate::pieces::{bad_place, units};
 use lx_node::Fault;
 use unicode_segmentation::UnicodeSegmentation;
 
@@ -21,7 +21,7 @@ fn last_cluster(text: &str) -> u32
     ensures { result ≡ min (clusters.over_first (reverse (clusters.clusters (chars text.now)))) 4294967295 }
 {
     match text.graphemes(true).next_back() {
-        Some(cluster) => length(cluster),
+        Some(cluster) => units(cluster),
         None => 0,
     }
 }
@@ -31,13 +31,13 @@ fn first_cluster(text: &str) -> u32
     ensures { result ≡ min (clusters.over_first (clusters.clusters (chars text.now))) 4294967295 }
 {
     match text.graphemes(true).next() {
-        Some(cluster) => length(cluster),
+        Some(cluster) => units(cluster),
         None => 0,
     }
 }
 
 /// Where the last cluster of the text up to an offset begins: at the offset itself where there is none. It is
-/// refused with `BadPlace` and the offset where that is past the end.
+/// refused with `BadPlace` and the offset where that is past the end or inside a pair.
 #[tactic(auto, unfolding(crate::specs::Clusters::cluster_before))]
 pub fn cluster_before(text: &str, at: u32) -> Result<u32, Fault>
     ensures start { IfOk result (λ start. start ≡ clusters.cluster_before (chars text.now) at) }
@@ -51,7 +51,7 @@ pub fn cluster_before(text: &str, at: u32) -> Result<u32, Fault>
 }
 
 /// Where the first cluster of the text from an offset on ends: at the offset itself where there is none. It is
-/// refused with `BadPlace` and the offset where that is past the end.
+/// refused with `BadPlace` and the offset where that is past the end or inside a pair.
 #[tactic(auto, unfolding(crate::specs::Clusters::cluster_after))]
 pub fn cluster_after(text: &str, at: u32) -> Result<u32, Fault>
     ensures end { IfOk result (λ end. end ≡ clusters.cluster_after (chars text.now) at) }
@@ -78,7 +78,7 @@ fn last_word(text: &str) -> u32
     let mut pieces = text.split_word_bounds();
     let mut over: u32 = 0;
     while let Some(piece) = pieces.next_back() {
-        over = over.saturating_add(length(piece));
+        over = over.saturating_add(units(piece));
         if !is_white(piece) {
             return over;
         }
@@ -93,7 +93,7 @@ fn first_word(text: &str) -> u32
     let mut pieces = text.split_word_bounds();
     let mut over: u32 = 0;
     while let Some(piece) = pieces.next() {
-        over = over.saturating_add(length(piece));
+        over = over.saturating_add(units(piece));
         if !is_white(piece) {
             return over;
         }
@@ -103,7 +103,7 @@ fn first_word(text: &str) -> u32
 
 /// Where the last word of the text up to an offset begins: white space at its end is passed over first. It is the
 /// offset itself where there is nothing before. It is refused with `BadPlace` and the offset where that is past the
-/// end.
+/// end or inside a pair.
 #[tactic(auto, unfolding(crate::specs::Clusters::word_before))]
 pub fn word_before(text: &str, at: u32) -> Result<u32, Fault>
     ensures start { IfOk result (λ start. start ≡ clusters.word_before (chars text.now) at) }
@@ -118,7 +118,7 @@ pub fn word_before(text: &str, at: u32) -> Result<u32, Fault>
 
 /// Where the first word of the text from an offset on ends: white space at its start is passed over first. It is the
 /// offset itself where there is nothing behind. It is refused with `BadPlace` and the offset where that is past the
-/// end.
+/// end or inside a pair.
 #[tactic(auto, unfolding(crate::specs::Clusters::word_after))]
 pub fn word_after(text: &str, at: u32) -> Result<u32, Fault>
     ensures end { IfOk result (λ end. end ≡ clusters.word_after (chars text.now) at) }

@@ -1,36 +1,49 @@
-ghost use Rattle.std.specs.Prelude.{◌≡◌, ◌++◌, None, Some, IfOk, IfErr, chars, min};
+ghost use Rattle.std.specs.Prelude.{◌≡◌, None, Some, IfOk, IfErr, chars, min};
 ghost use Rattle.lx_node.specs.declared.cause.Cause.TheVariants.{BadPlace};
 ghost use Rattle.lx_node.specs.declared.cause.Fault.TheVariants as fault;
-ghost use Rattle.lx_text.specs.Texts.{text_length, slice_of, spliced_text, slice_fault, TellsFirst};
+ghost use Rattle.lx_node.specs.Strings.{capped};
+ghost use Rattle.lx_text.specs.Texts.{text_length, length_told, slice_of, spliced_text, slice_fault, TellsFirst};
 
-use crate::offsets::pieces;
-use lx_node::{Cause, Fault, NoMemory, Txt};
+use crate::offsets::{pieces, pieces_of, within};
+use lx_node::{Cause, Fault, Txt};
 use std::alloc::Global;
 
-/// A number of characters as an offset. From 4,294,967,295 on it stands still.
-fn offset_of(characters: u64) -> u32
-    ensures { result ≡ min characters 4294967295 }
-{
-    u32::try_from(characters).unwrap_or(u32::MAX)
-}
-
-/// How long a text is in Unicode scalar values, which is the offset of its end. From 4,294,967,295 on it stands still.
-pub fn length(text: &str) -> u32
+/// How many code units a text has. From 4,294,967,295 on it stands still.
+pub(crate) fn units(text: &str) -> u32
     ensures { result ≡ min (text_length (chars text.now)) 4294967295 }
 {
-    offset_of(text.chars().count() as u64)
+    u32::try_from(lx_node::units(text)).unwrap_or(u32::MAX)
+}
+
+/// How long a text is in UTF-16 code units, which is the offset of its end. Of a text that is longer than an offset
+/// tells, it is the last place that one tells.
+pub fn length(text: &str) -> u32
+    ensures { result ≡ length_told (chars text.now) }
+{
+    told(text, lx_node::units(text))
 }
 
 /// How long a kept text is, as `length` counts, in constant time.
 pub fn length_of(text: &Txt) -> u32
-    ensures { result ≡ min (text_length text.now) 4294967295 }
+    ensures { result ≡ length_told text.now }
 {
-    offset_of(text.characters())
+    told(text.as_str(), text.units())
 }
 
-/// The piece of a text between two offsets, which count Unicode scalar values from 0 to the length of the text. It is
-/// refused with `BadPlace` and the offset that is wrong: the first one that is past the end, or else `from` where it is
-/// behind `to`. `Memory` says that none was left for the piece.
+/// The length of a text that has so many code units.
+fn told(text: &str, units: u64) -> u32
+    requires { units ≡ capped (text_length (chars text.now)) }
+    ensures { result ≡ length_told (chars text.now) }
+{
+    match u32::try_from(units) {
+        Ok(length) => length,
+        Err(_) => within(text, u32::MAX),
+    }
+}
+
+/// The piece of a text between two offsets, which count UTF-16 code units from 0 to the length of the text. It is refused
+/// with `BadPlace` and the offset that is wrong: the first one that is past the end or inside a pair, or else `from`
+/// where it is behind `to`. `Memory` says that none was left for the piece.
 #[tactic(auto, unfolding(crate::specs::Texts::slice_of))]
 pub fn slice(alloc: Global, text: &str, from: u32, to: u32) -> Result<Txt, Fault>
     ensures cut { IfOk result (λ piece. piece ≡ slice_of from to (chars text.now)) }
@@ -45,39 +58,29 @@ pub fn slice(alloc: Global, text: &str, from: u32, to: u32) -> Result<Txt, Fault
 
 /// The text with `new` in the place of the piece between two offsets. They count as those of `slice`, and it is refused
 /// as `slice` is. `Memory` says that none was left for the text. At the end of the text, where typing and joins put what
-/// is new, nothing is looked for.
+/// is new, and in a text of ASCII, nothing is looked for; anywhere the piece and what is new alone are counted.
 pub fn splice(alloc: Global, text: &Txt, from: u32, to: u32, new: &str) -> Result<Txt, Fault>
     ensures changed { IfOk result (λ whole. whole ≡ spliced_text from to (chars new.now) text.now) }
     ensures allowed { IfOk result (λ _. slice_fault text.now from to ≡ None) }
     ensures refused { IfErr result (TellsFirst (slice_fault text.now from to)) }
 {
-    if from == to && u64::from(from) == text.characters() {
+    if from == to && u64::from(from) == text.units() {
         return Ok(text.followed_by(alloc, new)?);
     }
-    splice_within(alloc, text.as_str(), from, to, new)
+    splice_within(alloc, text, from, to, new)
 }
 
 /// The same, wherever the two offsets are.
 #[tactic(auto, unfolding(crate::specs::Texts::spliced_text))]
-fn splice_within(alloc: Global, text: &str, from: u32, to: u32, new: &str) -> Result<Txt, Fault>
-    ensures changed { IfOk result (λ whole. whole ≡ spliced_text from to (chars new.now) (chars text.now)) }
-    ensures allowed { IfOk result (λ _. slice_fault (chars text.now) from to ≡ None) }
-    ensures refused { IfErr result (TellsFirst (slice_fault (chars text.now) from to)) }
+fn splice_within(alloc: Global, text: &Txt, from: u32, to: u32, new: &str) -> Result<Txt, Fault>
+    ensures changed { IfOk result (λ whole. whole ≡ spliced_text from to (chars new.now) text.now) }
+    ensures allowed { IfOk result (λ _. slice_fault text.now from to ≡ None) }
+    ensures refused { IfErr result (TellsFirst (slice_fault text.now from to)) }
 {
-    match pieces(text, from, to) {
-        Ok((before, _, behind)) => Ok(joined(alloc, before, new, behind)?),
+    match pieces_of(text, from, to) {
+        Ok((before, piece, behind)) => Ok(text.spliced(alloc, before, piece, behind, new)?),
         Err(offset) => Err(bad_place(offset)),
     }
-}
-
-/// Three texts, one after another.
-fn joined(alloc: Global, front: &str, middle: &str, back: &str) -> Result<Txt, NoMemory>
-    ensures { IfOk result (λ whole. whole ≡ chars front.now ++ chars middle.now ++ chars back.now) }
-{
-    let mut whole = String::from_str(alloc, front)?;
-    whole.push_str(middle)?;
-    whole.push_str(back)?;
-    Ok(Txt::of(whole))
 }
 
 pub(crate) fn bad_place(offset: u32) -> Fault

@@ -1,8 +1,8 @@
-use Rattle.std.proofs.Common.{◌∙◌, length, min, ap}
+use Rattle.std.proofs.Common.{◌∙◌, ap, sym}
+use Rattle.lx_node.specs.Strings.{capped}
 use Rattle.lx_text.specs.Texts.{text_length}
-use Rattle.lx_text.proofs.Appended.{min-capped}
 use Rattle.lx_text.proofs.pieces.length_of.Goals as goal
 
-pub returns : goal.returns
+pub told-requires : goal.told-requires
 unfolding text_length
-returns c = c.offset_of.ensures ∙ ap (λ n. min n 4294967295) c.characters.ensures ∙ min-capped (length c.args.text.now)
+told-requires c = c.units.ensures ∙ ap (λ text. capped (text_length text)) (sym c.as_str.ensures.text)
