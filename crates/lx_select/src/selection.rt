@@ -26,7 +26,7 @@ pub enum Selection {
 }
 
 impl Selection {
-    ghost use Rattle.std.specs.Prelude.{◌≡◌, ◌↔◌, IfOk, OnErr, IsTrue};
+    ghost use Rattle.std.specs.Prelude.{◌≡◌, ◌↔◌, IfOk, OnErr, IsTrue, chars};
     ghost use Rattle.lx_node.specs.declared.cause.Point.{Point};
     ghost use Rattle.lx_select.specs.Same.{same_selection};
     ghost use Rattle.lx_select.specs.Selection.{kind_of_selection, each_point, with_format, has_point_on, ends_of, carried};
@@ -163,24 +163,24 @@ impl Selection {
         self.move_each(|point| rules::take_moved(point, parent, index));
     }
 
-    /// Moves the points on the key where a piece of `len` characters came in the place of those from the
+    /// Moves the points on the key where a piece of `len` code units came in the place of those from the
     /// offset `from` to the offset `to`. A point at most at `from` stays, one at least at `to` keeps its
-    /// place among the characters behind, and one between goes to the end of the piece.
+    /// place in the text behind, and one between goes to the end of the piece.
     pub fn after_splice(&mut self, key: Key, from: u32, to: u32, len: u32)
         ensures { self.new ≡ each_point (splice_moves key from to len) self.old }
     {
         self.move_each(|point| rules::splice_moved(point, key, from, to, len));
     }
 
-    /// Moves the points on the key where it got a text of `len` characters: an offset past that becomes
-    /// `len`.
-    pub fn after_set(&mut self, key: Key, len: u32)
-        ensures { self.new ≡ each_point (set_moves key len) self.old }
+    /// Moves the points on the key where it got the text: an offset past its length becomes that, and one inside
+    /// a surrogate pair of it becomes the pair's start.
+    pub fn after_set(&mut self, key: Key, text: &str)
+        ensures { self.new ≡ each_point (set_moves key (chars text.now)) self.old }
     {
-        self.move_each(|point| rules::set_moved(point, key, len));
+        self.move_each(|point| rules::set_moved(point, key, text));
     }
 
-    /// Moves the points on the key where its characters from the offset `at` on became the text of the key
+    /// Moves the points on the key where its text from the offset `at` on became the text of the key
     /// `new`: those at an offset above `at` go with them.
     pub fn after_split(&mut self, key: Key, at: u32, new: Key)
         ensures { self.new ≡ each_point (split_moves key at new) self.old }
@@ -188,8 +188,8 @@ impl Selection {
         self.move_each(|point| rules::split_moved(point, key, at, new));
     }
 
-    /// Moves the points on the second key where its characters went behind those of the first, which had
-    /// `len` of them.
+    /// Moves the points on the second key where its text went behind that of the first, which had `len` code
+    /// units.
     #[tactic(auto, unfolding(crate::specs::Rules::join_moves))]
     pub fn after_join(&mut self, first: Key, len: u32, second: Key)
         ensures { self.new ≡ each_point (join_moves first len second) self.old }
@@ -215,12 +215,12 @@ impl Selection {
         self.move_each(|point| rules::carry_moved(point, key, parent, index));
     }
 
-    /// Moves the points on the key `old` where the key `new`, a text of `len` characters, came in its place:
-    /// they keep their offsets, or get `len` where that is less.
-    pub fn after_replace(&mut self, old: Key, new: Key, len: u32)
-        ensures { self.new ≡ each_point (replace_moves old new len) self.old }
+    /// Moves the points on the key `old` where the key `new`, which has the text, came in its place: they keep their
+    /// offsets, but one past the text's length becomes that, and one inside a surrogate pair the pair's start.
+    pub fn after_replace(&mut self, old: Key, new: Key, text: &str)
+        ensures { self.new ≡ each_point (replace_moves old new (chars text.now)) self.old }
     {
-        self.move_each(|point| rules::replace_moved(point, old, new, len));
+        self.move_each(|point| rules::replace_moved(point, old, new, text));
     }
 
     /// Brings points along with what a node had, after the edits that moved that elsewhere. The two points of the
