@@ -4,8 +4,6 @@
 mod laws;
 mod marks;
 mod tables;
-#[cfg(test)]
-mod tests;
 
 pub use laws::marks_are_told;
 pub use marks::Marks;
