@@ -1,4 +1,5 @@
+pub mod Chapters
 pub mod Counted
 pub mod Held
-pub mod Paged
+pub mod Joined
 pub mod Sorted

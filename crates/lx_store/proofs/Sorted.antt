@@ -1,4 +1,4 @@
--- Pages in a vector that is sorted by their numbers: what stands at a place, and what an edit at a place does.
+-- Chapters in a vector that is sorted by their numbers: what stands at a place, and what an edit at a place does.
 use Rattle.std.proofs.Common.{◌≡◌, ℕ, zero, suc, ◌/◌, ◌%◌, replicate, ◌<◌, ◌≤◌, true, false, cond, List, [], ◌∷◌, length, get_or, set, Option, Some, None, option_map, Result, Ok, Err, IfOk, IfErr, refl, sym, ap, ◌∙◌, subst, arith}
 use Rattle.std.specs.declared.cmp.Ordering.TheVariants.{Less}
 use Rattle.std.specs.Ordering.{nat_cmp, ordering_index}
@@ -12,11 +12,12 @@ use Rattle.std.proofs.lemmas.List.{set-get_or}
 use Rattle.std.proofs.lemmas.List.Sorted.{IsNonDecreasingBy-from_default}
 use Rattle.std.proofs.lemmas.Bool.Decides.{nat_tests}
 use Rattle.lx_store.specs.Edits.{with_item, with_edit}
-use Rattle.lx_store.specs.Pages.{slot_at, written, number_at, StandsAt, GoesAt, IsTable}
+use Rattle.lx_store.specs.Pages.{slot_at, written}
+use Rattle.lx_store.specs.Tables.{number_at, StandsAt, GoesAt, IsTable}
 use Rattle.std.specs.declared.rc.Rc.{Rc}
 use Rattle.std.specs.FinMap.{get, insert as with_key, remove as without_key}
 use Rattle.lx_store.proofs.Held.{at}
-use Rattle.lx_store.proofs.Paged.{paged, get_page, get_none, put_paged, take_paged, kept_paged, give_up_paged, add_paged, table_alike, same_key, other_key, is_key, no_key, less_is, is_less, not_after}
+use Rattle.lx_store.proofs.Chapters.{mapped, get_chapter, get_none, put_mapped, take_mapped, kept_mapped, give_up_mapped, add_mapped, table_alike, same_key, other_key, is_key, no_key, less_is, is_less, not_after}
 
 turned : (n m : ℕ) → is_at (nat_cmp m) n ≡ is_at (nat_cmp n) m
 turned n m = elim (is_at (nat_cmp n) m) as (λ b. is_at (nat_cmp n) m ≡ b → is_at (nat_cmp m) n ≡ b) [
@@ -39,7 +40,7 @@ module _ {P : Type 0} where
   rises (e ∷ es) zero (suc j) d sorted lt fits = later e es j d sorted (omega (arith, fits))
   rises (e ∷ es) (suc i) (suc j) d sorted lt fits = rises es i j d (sorted_tail nat_cmp e.0 (keys_of es) sorted) (omega (arith, lt)) (omega (arith, fits))
 
-  -- the page at a place is the one under its number
+  -- the chapter at a place is the one under its number
   pub found_at : (es : List (ℕ × P)) (i : ℕ) (d : ℕ × P) → IsStrictlySortedBy nat_cmp (keys_of es) → i < length es → at es (number_at es i d) ≡ Some (get_or es i d).1
   found_at [] i d sorted lt = absurd (omega (arith, lt))
   found_at (e ∷ es) zero d sorted lt = rw (same_key e.0 e.0 refl) refl
@@ -62,7 +63,7 @@ module _ {P : Type 0} where
   covers : (n m : ℕ) (v w : P) (o : Option P) → cond (is_at (nat_cmp m) n) (Some w) o ≡ cond (is_at (nat_cmp n) m) (Some w) (cond (is_at (nat_cmp m) n) (Some v) o)
   covers n m v w o = rw (turned n m) (elim (is_at (nat_cmp n) m) as (λ b. cond b (Some w) o ≡ cond b (Some w) (cond b (Some v) o)) [ true ↦ refl | false ↦ refl ])
 
-  -- a page that is changed at its place
+  -- a chapter that is changed at its place
   pub set_at : (es : List (ℕ × P)) (i n : ℕ) (d : ℕ × P) (w : P) → IsStrictlySortedBy nat_cmp (keys_of es) → i < length es → number_at es i d ≡ n → (m : ℕ) → at (set es i (n, w)) m ≡ cond (is_at (nat_cmp n) m) (Some w) (at es m)
   set_at [] i n d w sorted lt is m = absurd (omega (arith, lt))
   set_at (e ∷ es) zero n d w sorted lt is m = subst (λ k. cond (is_at (nat_cmp m) n) (Some w) (at es m) ≡ cond (is_at (nat_cmp n) m) (Some w) (cond (is_at (nat_cmp m) k) (Some e.1) (at es m))) (sym is) (covers n m e.1 w (at es m))
@@ -76,7 +77,7 @@ module _ {P : Type 0} where
   set_keys (e ∷ es) zero n d w lt is = ap (λ k. k ∷ keys_of es) (sym is)
   set_keys (e ∷ es) (suc i) n d w lt is = ap (λ ks. e.0 ∷ ks) (set_keys es i n d w (omega (arith, lt)) is)
 
-  -- a page that comes to its place
+  -- a chapter that comes to its place
   pub insert_at : (es : List (ℕ × P)) (i n : ℕ) (d : ℕ × P) (w : P) → i ≤ length es → ((j : ℕ) → j < i → number_at es j d < n) → (m : ℕ) → at (insert es i (n, w)) m ≡ cond (is_at (nat_cmp n) m) (Some w) (at es m)
   insert_at es zero n d w fits below m = ap (λ b. cond b (Some w) (at es m)) (turned n m)
   insert_at [] (suc i) n d w fits below m = absurd (omega (arith, fits))
@@ -109,7 +110,7 @@ module _ {P : Type 0} where
     insert_sorted es i n d w sorted.1 (omega (arith, fits)) (λ j lt. below (suc j) (omega (arith, lt))) (λ j le lt. above (suc j) (omega (arith, le)) (omega (arith, lt))),
   )
 
-  -- a page that goes from its place
+  -- a chapter that goes from its place
   pub remove_at : (es : List (ℕ × P)) (i n : ℕ) (d : ℕ × P) → IsStrictlySortedBy nat_cmp (keys_of es) → i < length es → number_at es i d ≡ n → (m : ℕ) → at (remove es i) m ≡ cond (is_at (nat_cmp n) m) None (at es m)
   remove_at [] i n d sorted lt is m = absurd (omega (arith, lt))
   remove_at (e ∷ es) zero n d sorted lt is m = elim (is_at (nat_cmp n) m) as (λ b. is_at (nat_cmp n) m ≡ b → at es m ≡ cond b None (cond (is_at (nat_cmp m) e.0) (Some e.1) (at es m))) [
@@ -129,14 +130,14 @@ module _ {P : Type 0} where
   remove_sorted (e ∷ es) (suc i) sorted = (all_removed (λ y. nat_cmp e.0 y ≡ Less) es i sorted.0, remove_sorted es i sorted.1)
 
 module _ {P : Type 0} (es : List (ℕ × P)) (sorted : IsStrictlySortedBy nat_cmp (keys_of es)) (n : ℕ) where
-  -- the comparisons with a number rise along the pages
-  comparisons_rise : ℕ × P → IsNonDecreasingBy (λ page. ordering_index (nat_cmp page.0 n)) es
-  comparisons_rise d = IsNonDecreasingBy-from_default (λ page. ordering_index (nat_cmp page.0 n)) es d (λ i j le lt.
+  -- the comparisons with a number rise along the chapters
+  comparisons_rise : ℕ × P → IsNonDecreasingBy (λ chapter. ordering_index (nat_cmp chapter.0 n)) es
+  comparisons_rise d = IsNonDecreasingBy-from_default (λ chapter. ordering_index (nat_cmp chapter.0 n)) es d (λ i j le lt.
       let keys_rise : number_at es i d ≤ number_at es j d = grind (arith, rises es i j d sorted, λ (same : i ≡ j). ap (λ i. number_at es i d) same) in
       grind (arith, nat_tests))
 
-  -- a binary search ends at the page, or where it would go
-  pub searched : (r : Result ℕ ℕ) → IsSearchInRange r (length es) → IsBinarySearchResult (λ page. nat_cmp page.0 n) es r → IfOk r (λ place. StandsAt es n place) × IfErr r (λ place. GoesAt es n place)
+  -- a binary search ends at the chapter, or where it would go
+  pub searched : (r : Result ℕ ℕ) → IsSearchInRange r (length es) → IsBinarySearchResult (λ chapter. nat_cmp chapter.0 n) es r → IfOk r (λ place. StandsAt es n place) × IfErr r (λ place. GoesAt es n place)
   searched (Ok place) fits equal = (record { fits = fits; same = λ d. ranked _ n _ (sym (equal d)) }, tt)
   searched (Err place) fits parted = (
     tt,
@@ -162,51 +163,51 @@ module _ {X Z : Type 0} where
     pub stands_found : at es n ≡ Some e.1
     stands_found = ap (at es) (sym (stands.same e)) ∙ found_at es place e table.0 stands.fits ∙ ap (λ x. Some x.1) (sym read)
 
-    pub read_stands : (q i : ℕ) (slots : List (Option X)) → n ≡ q / 32 → i ≡ q % 32 → slots ≡ e.1.value → get (paged es) q ≡ slot_at slots i
-    read_stands q i slots number slot value = get_page es q n i e.1 slots table.0 number slot stands_found value
+    pub read_stands : (q i : ℕ) (slots : List (Option X)) → n ≡ q / 1024 → i ≡ q % 1024 → slots ≡ e.1.value → get (mapped es) q ≡ slot_at slots i
+    read_stands q i slots number slot value = get_chapter es q n i e.1 slots table.0 number slot stands_found value
 
-    -- the pages with another at the place
+    -- the chapters with another at the place
     pub table_set : (w : Rc (List (Option X)) Z) → IsTable (set es place (e.0, w))
     table_set w = table_alike es (set es place (e.0, w)) table (set_keys es place e.0 e w stands.fits own)
 
     after_set : (w : Rc (List (Option X)) Z) (m : ℕ) → at (set es place (e.0, w)) m ≡ cond (is_at (nat_cmp n) m) (Some w) (at es m)
     after_set w m = set_at es place e.0 e w table.0 stands.fits own m ∙ ap (λ k. cond (is_at (nat_cmp k) m) (Some w) (at es m)) number_is
 
-    pub put_stands : (k i : ℕ) (w : Rc (List (Option X)) Z) (v : X) → n ≡ k / 32 → i ≡ k % 32 → w.value ≡ written e.1.value i (Some v) → length e.1.value ≡ 32 → paged (set es place (e.0, w)) ≡ with_key (paged es) k v
-    put_stands k i w v number slot new size = put_paged es (set es place (e.0, w)) k n i e.1 w v table.0 (table_set w).0 number slot stands_found (after_set w) new size
+    pub put_stands : (k i : ℕ) (w : Rc (List (Option X)) Z) (v : X) → n ≡ k / 1024 → i ≡ k % 1024 → w.value ≡ written e.1.value i (Some v) → length e.1.value ≡ 1024 → mapped (set es place (e.0, w)) ≡ with_key (mapped es) k v
+    put_stands k i w v number slot new size = put_mapped es (set es place (e.0, w)) k n i e.1 w v table.0 (table_set w).0 number slot stands_found (after_set w) new size
 
-    pub take_stands : (k i : ℕ) (w : Rc (List (Option X)) Z) → n ≡ k / 32 → i ≡ k % 32 → w.value ≡ written e.1.value i None → length e.1.value ≡ 32 → paged (set es place (e.0, w)) ≡ without_key (paged es) k
-    take_stands k i w number slot new size = take_paged es (set es place (e.0, w)) k n i e.1 w table.0 (table_set w).0 number slot stands_found (after_set w) new size
+    pub take_stands : (k i : ℕ) (w : Rc (List (Option X)) Z) → n ≡ k / 1024 → i ≡ k % 1024 → w.value ≡ written e.1.value i None → length e.1.value ≡ 1024 → mapped (set es place (e.0, w)) ≡ without_key (mapped es) k
+    take_stands k i w number slot new size = take_mapped es (set es place (e.0, w)) k n i e.1 w table.0 (table_set w).0 number slot stands_found (after_set w) new size
 
-    pub kept_stands : (w : Rc (List (Option X)) Z) → w.value ≡ e.1.value → paged (set es place (e.0, w)) ≡ paged es
-    kept_stands w same = kept_paged es (set es place (e.0, w)) n e.1 w table.0 (table_set w).0 stands_found (after_set w) same
+    pub kept_stands : (w : Rc (List (Option X)) Z) → w.value ≡ e.1.value → mapped (set es place (e.0, w)) ≡ mapped es
+    kept_stands w same = kept_mapped es (set es place (e.0, w)) n e.1 w table.0 (table_set w).0 stands_found (after_set w) same
 
-    pub edit_stands : (k i : ℕ) (w : Rc (List (Option X)) Z) (edited : X → X) → n ≡ k / 32 → i ≡ k % 32 → w.value ≡ written e.1.value i (option_map edited (slot_at e.1.value i)) → length e.1.value ≡ 32 → paged (set es place (e.0, w)) ≡ with_edit edited k (paged es)
+    pub edit_stands : (k i : ℕ) (w : Rc (List (Option X)) Z) (edited : X → X) → n ≡ k / 1024 → i ≡ k % 1024 → w.value ≡ written e.1.value i (option_map edited (slot_at e.1.value i)) → length e.1.value ≡ 1024 → mapped (set es place (e.0, w)) ≡ with_edit edited k (mapped es)
     edit_stands k i w edited number slot new size =
-        (elim (slot_at e.1.value i) as (λ o. slot_at e.1.value i ≡ o → paged (set es place (e.0, w)) ≡ with_item (paged es) k (option_map edited o)) [
+        (elim (slot_at e.1.value i) as (λ o. slot_at e.1.value i ≡ o → mapped (set es place (e.0, w)) ≡ with_item (mapped es) k (option_map edited o)) [
           | None ↦ λ none. kept_stands w (new ∙ ap (λ o. written e.1.value i (option_map edited o)) none ∙ ap (written e.1.value i) (sym none) ∙ set-get_or e.1.value i None)
           | Some item ↦ λ some. put_stands k i w (edited item) number slot (new ∙ ap (λ o. written e.1.value i (option_map edited o)) some) size
         ] refl)
-        ∙ ap (λ o. with_item (paged es) k (option_map edited o)) (sym (read_stands k i e.1.value number slot refl))
+        ∙ ap (λ o. with_item (mapped es) k (option_map edited o)) (sym (read_stands k i e.1.value number slot refl))
 
-    -- the pages without the one at the place
+    -- the chapters without the one at the place
     pub table_remove : IsTable (remove es place)
-    table_remove = (remove_sorted es place table.0, all_removed (λ n. n < 134217728) es place table.1)
+    table_remove = (remove_sorted es place table.0, all_removed (λ n. n < 4194304) es place table.1)
 
-    pub give_up_stands : ((j : ℕ) → slot_at e.1.value j ≡ None) → paged (remove es place) ≡ paged es
-    give_up_stands free = give_up_paged es (remove es place) n e.1 table.0 (remove_sorted es place table.0) stands_found (remove_at es place n e table.0 stands.fits (stands.same e)) free
+    pub give_up_stands : ((j : ℕ) → slot_at e.1.value j ≡ None) → mapped (remove es place) ≡ mapped es
+    give_up_stands free = give_up_mapped es (remove es place) n e.1 table.0 (remove_sorted es place table.0) stands_found (remove_at es place n e table.0 stands.fits (stands.same e)) free
 
   module _ (es : List (ℕ × Rc (List (Option X)) Z)) (n place : ℕ) (table : IsTable es) (goes : GoesAt es n place) where
-    pub read_goes : (q : ℕ) → n ≡ q / 32 → get (paged es) q ≡ None
+    pub read_goes : (q : ℕ) → n ≡ q / 1024 → get (mapped es) q ≡ None
     read_goes q number = get_none es q n table.0 number (goes_absent es n place goes)
 
-    -- the pages with a new one
-    pub table_insert : (w : Rc (List (Option X)) Z) → n < 134217728 → IsTable (insert es place (n, w))
-    table_insert w low = (insert_sorted es place n (n, w) w table.0 goes.fits (goes.below (n, w)) (goes.above (n, w)), all_inserted (λ n. n < 134217728) es place n w table.1 low)
+    -- the chapters with a new one
+    pub table_insert : (w : Rc (List (Option X)) Z) → n < 4194304 → IsTable (insert es place (n, w))
+    table_insert w low = (insert_sorted es place n (n, w) w table.0 goes.fits (goes.below (n, w)) (goes.above (n, w)), all_inserted (λ n. n < 4194304) es place n w table.1 low)
 
-    pub add_goes : (k i : ℕ) (w : Rc (List (Option X)) Z) (v : X) → n < 134217728 → n ≡ k / 32 → i ≡ k % 32 → w.value ≡ written (replicate 32 None) i (Some v) → paged (insert es place (n, w)) ≡ with_key (paged es) k v
-    add_goes k i w v low number slot new = add_paged es (insert es place (n, w)) k n i w v table.0 (table_insert w low).0 number slot (goes_absent es n place goes) (insert_at es place n (n, w) w goes.fits (goes.below (n, w))) new
+    pub add_goes : (k i : ℕ) (w : Rc (List (Option X)) Z) (v : X) → n < 4194304 → n ≡ k / 1024 → i ≡ k % 1024 → w.value ≡ written (replicate 1024 None) i (Some v) → mapped (insert es place (n, w)) ≡ with_key (mapped es) k v
+    add_goes k i w v low number slot new = add_mapped es (insert es place (n, w)) k n i w v table.0 (table_insert w low).0 number slot (goes_absent es n place goes) (insert_at es place n (n, w) w goes.fits (goes.below (n, w))) new
 
-pub no_pages : {P : Type 0} (es : List (ℕ × P)) → es ≡ [] → IsTable es
+pub no_chapters : {P : Type 0} (es : List (ℕ × P)) → es ≡ [] → IsTable es
 unfolding IsStrictlySortedBy
-no_pages es none = subst IsTable (sym none) (tt, tt)
+no_chapters es none = subst IsTable (sym none) (tt, tt)

@@ -2,7 +2,7 @@ use crate::item::Tally;
 use std::marker::Model;
 
 /// A count of copies. Contracts see it as its number.
-#[derive(Debug, Drop)]
+#[derive(Drop)]
 pub struct Copies {
     count: u64,
 }

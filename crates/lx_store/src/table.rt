@@ -6,37 +6,38 @@ ghost use Rattle.std.specs.List.Sorted.{IsStrictlySortedBy};
 ghost use Rattle.std.specs.Map.{keys_of};
 ghost use Rattle.std.specs.FinMap as map;
 ghost use Rattle.lx_store.specs.Edits.{with_edit};
-ghost use Rattle.lx_store.specs.Pages.{slot_at, written, keyed, StandsAt, GoesAt};
+ghost use Rattle.lx_store.specs.Pages.{slot_at, written};
+ghost use Rattle.lx_store.specs.Tables.{keyed, StandsAt, GoesAt};
 
+use crate::chapter::{Chapter, SLOTS, number_of, slot_of};
 use crate::edit::Edit;
 use crate::item::Item;
-use crate::page::{Page, SLOTS, number_of, slot_of};
 use lx_node::{Key, NoMemory};
 use std::alloc::Global;
 use std::marker::Model;
 use std::rc::Rc;
 
-/// A map from key to item, in pages that forks share. Contracts see it as a finite map. The pages stand in the
-/// order of their numbers, and only those that have items.
+/// A map from key to item, in chapters that forks share. Contracts see it as a finite map. The chapters stand in
+/// the order of their numbers, and only those that have items.
 #[derive(Drop)]
 pub struct Table<V: Item> {
     alloc: Global,
-    pages: Vec<(u32, Rc<Page<V>>)>,
+    chapters: Vec<(u32, Rc<Chapter<V>>)>,
 }
 
 impl<V: Item> Model for Table<V> {
     ghost use Rattle.std.specs.Ordering.{nat_cmp};
     ghost use Rattle.std.specs.FinMap as map;
     ghost use Rattle.std.specs.Coded.{coded_ℕ};
-    ghost use Rattle.lx_store.specs.Pages.{items_of, slots_of, IsTable};
+    ghost use Rattle.lx_store.specs.Tables.{items_of, slots_of, IsTable};
 
     ghost Value = { map.FinMap nat_cmp V };
 
     ghost coded = { map.code coded_ℕ V.code };
 
-    ghost view = { λ s. map.from_entries (items_of slots_of s.pages.items) };
+    ghost view = { λ s. map.from_entries (items_of slots_of s.chapters.items) };
 
-    ghost invariant = { λ s. IsTable s.pages.items };
+    ghost invariant = { λ s. IsTable s.chapters.items };
 }
 
 impl<V: Item> Table<V> {
@@ -46,17 +47,17 @@ impl<V: Item> Table<V> {
     {
         Table {
             alloc,
-            pages: Vec::new(alloc),
+            chapters: Vec::new(alloc),
         }
     }
 
-    /// An equal map, which shares each page with this one.
+    /// An equal map, which shares each chapter with this one.
     pub fn fork(&self) -> Result<Table<V>, NoMemory>
         ensures { IfOk result (λ made. made ≡ self.now) }
     {
         Ok(Table {
             alloc: self.alloc,
-            pages: self.pages.clone()?,
+            chapters: self.chapters.clone()?,
         })
     }
 
@@ -64,8 +65,8 @@ impl<V: Item> Table<V> {
     pub fn get(&self, key: Key) -> Option<&V>
         ensures { option_copied result ≡ map.get self.now key }
     {
-        match place(&self.pages, number_of(key)) {
-            Ok(place) => self.pages[place].1.get(slot_of(key)),
+        match place(&self.chapters, number_of(key)) {
+            Ok(place) => self.chapters[place].1.get(slot_of(key)),
             Err(_) => None,
         }
     }
@@ -80,14 +81,14 @@ impl<V: Item> Table<V> {
     {
         let number = number_of(key);
         let slot = slot_of(key);
-        match place(&self.pages, number) {
+        match place(&self.chapters, number) {
             Ok(place) => {
-                let page = &mut self.pages[place].1;
-                Ok(write(page, slot, Some(item), self.alloc, count)?)
+                let chapter = &mut self.chapters[place].1;
+                Ok(write(chapter, slot, item, self.alloc, count)?)
             }
             Err(place) => {
-                let page = page_of(slot, item, self.alloc)?;
-                self.pages.insert(place, (number, page))?;
+                let chapter = chapter_of(slot, item, self.alloc, count)?;
+                self.chapters.insert(place, (number, chapter))?;
                 Ok(None)
             }
         }
@@ -109,11 +110,11 @@ impl<V: Item> Table<V> {
     {
         let number = number_of(key);
         let slot = slot_of(key);
-        let Ok(place) = place(&self.pages, number) else {
+        let Ok(place) = place(&self.chapters, number) else {
             return Ok(false);
         };
-        let page = &mut self.pages[place].1;
-        Ok(change(page, slot, edit, self.alloc, count)?)
+        let chapter = &mut self.chapters[place].1;
+        Ok(change(chapter, slot, edit, self.alloc, count)?)
     }
 
     /// Takes out the item under the key, where there is one.
@@ -126,24 +127,24 @@ impl<V: Item> Table<V> {
     {
         let number = number_of(key);
         let slot = slot_of(key);
-        let Ok(place) = place(&self.pages, number) else {
+        let Ok(place) = place(&self.chapters, number) else {
             return Ok(None);
         };
-        let page = &mut self.pages[place].1;
-        let taken = take_out(page, slot, self.alloc, count)?;
+        let chapter = &mut self.chapters[place].1;
+        let taken = take_out(chapter, slot, self.alloc, count)?;
         self.give_up(number);
         Ok(taken)
     }
 
-    // Gives up the page if it has no items.
+    // Gives up the chapter if it has no items.
     fn give_up(&mut self, number: u32)
         ensures { self.new ≡ self.old }
     {
-        let Ok(place) = place(&self.pages, number) else {
+        let Ok(place) = place(&self.chapters, number) else {
             return;
         };
-        if self.pages[place].1.is_empty() {
-            drop(self.pages.remove(place));
+        if self.chapters[place].1.is_empty() {
+            drop(self.chapters.remove(place));
         }
     }
 
@@ -152,92 +153,99 @@ impl<V: Item> Table<V> {
         ensures { IfOk result (λ keys. keys.items ≡ map.keys self.now) }
     {
         let mut keys = Vec::new(self.alloc);
-        for page in &self.pages {
-            push_keys(page.0, &page.1, &mut keys)?;
+        for chapter in &self.chapters {
+            push_keys(chapter.0, &chapter.1, &mut keys)?;
         }
         Ok(keys)
     }
 }
 
-// Where the page with the number stands, or where it would go. Where the numbers run from 0 without a gap, a
-// page stands at the place that its number says, so that is looked at first.
-fn place<V: Item>(pages: &[(u32, Rc<Page<V>>)], number: u32) -> Result<usize, usize>
-    requires { IsStrictlySortedBy nat_cmp (keys_of pages.now) }
-    ensures stands { IfOk result (λ place. StandsAt pages.now number place) }
-    ensures goes { IfErr result (λ place. GoesAt pages.now number place) }
+// Where the chapter with the number stands, or where it would go. Where the numbers run from 0 without a gap,
+// a chapter stands at the place that its number says, so that is looked at first.
+fn place<V: Item>(chapters: &[(u32, Rc<Chapter<V>>)], number: u32) -> Result<usize, usize>
+    requires { IsStrictlySortedBy nat_cmp (keys_of chapters.now) }
+    ensures stands { IfOk result (λ place. StandsAt chapters.now number place) }
+    ensures goes { IfErr result (λ place. GoesAt chapters.now number place) }
 {
     let guess = number as usize;
-    if guess < pages.len() && pages[guess].0 == number {
+    if guess < chapters.len() && chapters[guess].0 == number {
         return Ok(guess);
     }
-    pages.binary_search_by_key(&number, |page| page.0)
+    chapters.binary_search_by_key(&number, |chapter| chapter.0)
 }
 
-// A page with one item.
-fn page_of<V: Item>(slot: u32, item: V, alloc: Global) -> Result<Rc<Page<V>>, NoMemory>
-    requires { slot < 32 }
-    ensures { IfOk result (λ page. page.value ≡ written (replicate 32 None) slot (Some item)) }
-{
-    let mut page = Page::new(alloc)?;
-    page.write(slot, Some(item));
-    Ok(Rc::new(alloc, page)?)
-}
-
-// Writes the slot, and answers what stood there. A page that others hold too stays with them as it was, and a
-// copy takes its place here.
-fn write<V: Item>(
-    page: &mut Rc<Page<V>>,
+// A chapter with one item.
+fn chapter_of<V: Item>(
     slot: u32,
-    item: Option<V>,
+    item: V,
+    alloc: Global,
+    count: &mut V::Count,
+) -> Result<Rc<Chapter<V>>, NoMemory>
+    requires { slot < 1024 }
+    ensures chapter { IfOk result (λ chapter. chapter.value ≡ written (replicate 1024 None) slot (Some item)) }
+    ensures counted { V.Count.total count.old ≤ V.Count.total count.new }
+    ensures few_twinned { V.Count.total count.new ≤ V.Count.total count.old + 1 }
+{
+    let mut chapter = Chapter::new(alloc)?;
+    drop(chapter.put(slot, item, alloc, count)?);
+    Ok(Rc::new(alloc, chapter)?)
+}
+
+// Puts the item into the slot, and answers what stood there. A chapter that others hold too stays with them as
+// it was, and a copy takes its place here.
+fn write<V: Item>(
+    chapter: &mut Rc<Chapter<V>>,
+    slot: u32,
+    item: V,
     alloc: Global,
     count: &mut V::Count,
 ) -> Result<Option<V>, NoMemory>
-    requires { slot < 32 }
-    ensures old { IfOk result (λ old. old ≡ slot_at page.old.value slot) }
-    ensures written { OnOk result (page.new.value ≡ written page.old.value slot item) }
-    ensures unchanged { OnErr result (page.new.value ≡ page.old.value) }
-    ensures size { IfOk result (λ _. length page.old.value ≡ 32) }
+    requires { slot < 1024 }
+    ensures old { IfOk result (λ old. old ≡ slot_at chapter.old.value slot) }
+    ensures written { OnOk result (chapter.new.value ≡ written chapter.old.value slot (Some item)) }
+    ensures unchanged { OnErr result (chapter.new.value ≡ chapter.old.value) }
+    ensures size { IfOk result (λ _. length chapter.old.value ≡ 1024) }
     ensures counted { V.Count.total count.old ≤ V.Count.total count.new }
-    ensures few_twinned { V.Count.total count.new ≤ V.Count.total count.old + 32 }
+    ensures few_twinned { V.Count.total count.new ≤ V.Count.total count.old + 1 }
 {
-    match Rc::get_mut(page) {
-        Some(own) => Ok(own.write(slot, item)),
+    match Rc::get_mut(chapter) {
+        Some(own) => Ok(own.put(slot, item, alloc, count)?),
         None => {
-            let mut copy = page.twin(alloc, count)?;
-            let old = copy.write(slot, item);
-            *page = Rc::new(alloc, copy)?;
+            let mut copy = chapter.fork()?;
+            let old = copy.put(slot, item, alloc, count)?;
+            *chapter = Rc::new(alloc, copy)?;
             Ok(old)
         }
     }
 }
 
-// Edits the item in the slot, and tells whether there is one. No copy is made for a slot that is empty. A page
-// that others hold too stays with them as it was, and a copy takes its place here.
+// Edits the item in the slot, and tells whether there is one. No copy is made for a slot that is empty. A
+// chapter that others hold too stays with them as it was, and a copy takes its place here.
 fn change<V: Item, E: Edit<V>>(
-    page: &mut Rc<Page<V>>,
+    chapter: &mut Rc<Chapter<V>>,
     slot: u32,
     edit: E,
     alloc: Global,
     count: &mut V::Count,
 ) -> Result<bool, NoMemory>
-    requires slot { slot < 32 }
-    requires fits { IfSome (slot_at page.old.value slot) (E.fits edit) }
-    ensures found { IfOk result (λ found. found ≡ is_some (slot_at page.old.value slot)) }
-    ensures changed { OnOk result (page.new.value ≡ written page.old.value slot (option_map (E.edited edit) (slot_at page.old.value slot))) }
-    ensures unchanged { OnErr result (page.new.value ≡ page.old.value) }
-    ensures size { IfOk result (λ _. length page.old.value ≡ 32) }
+    requires slot { slot < 1024 }
+    requires fits { IfSome (slot_at chapter.old.value slot) (E.fits edit) }
+    ensures found { IfOk result (λ found. found ≡ is_some (slot_at chapter.old.value slot)) }
+    ensures changed { OnOk result (chapter.new.value ≡ written chapter.old.value slot (option_map (E.edited edit) (slot_at chapter.old.value slot))) }
+    ensures unchanged { OnErr result (chapter.new.value ≡ chapter.old.value) }
+    ensures size { IfOk result (λ _. length chapter.old.value ≡ 1024) }
     ensures counted { V.Count.total count.old ≤ V.Count.total count.new }
-    ensures few_twinned { V.Count.total count.new ≤ V.Count.total count.old + 32 }
+    ensures few_twinned { V.Count.total count.new ≤ V.Count.total count.old + 1 }
 {
-    if page.get(slot).is_none() {
+    if chapter.get(slot).is_none() {
         return Ok(false);
     }
-    match Rc::get_mut(page) {
-        Some(own) => Ok(own.change(slot, edit)),
+    match Rc::get_mut(chapter) {
+        Some(own) => Ok(own.change(slot, edit, alloc, count)?),
         None => {
-            let mut twin = page.twin(alloc, count)?;
-            let found = twin.change(slot, edit);
-            *page = Rc::new(alloc, twin)?;
+            let mut copy = chapter.fork()?;
+            let found = copy.change(slot, edit, alloc, count)?;
+            *chapter = Rc::new(alloc, copy)?;
             Ok(found)
         }
     }
@@ -245,32 +253,44 @@ fn change<V: Item, E: Edit<V>>(
 
 // Empties the slot, and answers what stood there. No copy is made for a slot that is empty already.
 fn take_out<V: Item>(
-    page: &mut Rc<Page<V>>,
+    chapter: &mut Rc<Chapter<V>>,
     slot: u32,
     alloc: Global,
     count: &mut V::Count,
 ) -> Result<Option<V>, NoMemory>
-    requires { slot < 32 }
-    ensures old { IfOk result (λ old. old ≡ slot_at page.old.value slot) }
-    ensures written { OnOk result (page.new.value ≡ written page.old.value slot None) }
-    ensures unchanged { OnErr result (page.new.value ≡ page.old.value) }
-    ensures size { IfOk result (λ _. length page.old.value ≡ 32) }
+    requires { slot < 1024 }
+    ensures old { IfOk result (λ old. old ≡ slot_at chapter.old.value slot) }
+    ensures written { OnOk result (chapter.new.value ≡ written chapter.old.value slot None) }
+    ensures unchanged { OnErr result (chapter.new.value ≡ chapter.old.value) }
+    ensures size { IfOk result (λ _. length chapter.old.value ≡ 1024) }
     ensures counted { V.Count.total count.old ≤ V.Count.total count.new }
-    ensures few_twinned { V.Count.total count.new ≤ V.Count.total count.old + 32 }
+    ensures few_twinned { V.Count.total count.new ≤ V.Count.total count.old + 1 }
 {
-    if page.get(slot).is_none() {
+    if chapter.get(slot).is_none() {
         return Ok(None);
     }
-    write(page, slot, None, alloc, count)
+    match Rc::get_mut(chapter) {
+        Some(own) => Ok(own.take(slot, alloc, count)?),
+        None => {
+            let mut copy = chapter.fork()?;
+            let taken = copy.take(slot, alloc, count)?;
+            *chapter = Rc::new(alloc, copy)?;
+            Ok(taken)
+        }
+    }
 }
 
-// Pushes the keys of the items of a page.
-fn push_keys<V: Item>(number: u32, page: &Page<V>, keys: &mut Vec<Key>) -> Result<(), NoMemory>
-    requires { number < 134217728 }
-    ensures { OnOk result (keys.new.items ≡ keys.old.items ++ keys_of (keyed (number * 32) (take 32 page.now))) }
+// Pushes the keys of the items of a chapter.
+fn push_keys<V: Item>(
+    number: u32,
+    chapter: &Chapter<V>,
+    keys: &mut Vec<Key>,
+) -> Result<(), NoMemory>
+    requires { number < 4194304 }
+    ensures { OnOk result (keys.new.items ≡ keys.old.items ++ keys_of (keyed (number * 1024) (take 1024 chapter.now))) }
 {
     for slot in 0..SLOTS {
-        push_key(Key(number * SLOTS + slot), page.get(slot), keys)?;
+        push_key(Key(number * SLOTS + slot), chapter.get(slot), keys)?;
     }
     Ok(())
 }

@@ -1,0 +1,155 @@
+ghost use Rattle.std.specs.Prelude.{◌≡◌, ◌<◌, ◌≤◌, ◌+◌, ◌/◌, ◌%◌, ℕ, length, replicate, is_some, option_map, IfSome, IfOk, OnOk, OnErr, IsTrue};
+ghost use Rattle.std.specs.Option.{option_copied};
+ghost use Rattle.std.specs.declared.option.Option.TheVariants.{None, Some};
+ghost use Rattle.lx_store.specs.Pages.{slot_at, written};
+
+use crate::edit::Edit;
+use crate::item::Item;
+use crate::leaf::Leaf;
+use crate::page;
+use lx_node::{Key, NoMemory};
+use std::alloc::Global;
+use std::marker::Model;
+
+/// How many slots a chapter has.
+pub const SLOTS: u32 = LEAVES * page::SLOTS;
+
+// How many leaves a chapter has.
+const LEAVES: u32 = 32;
+
+/// 1,024 slots in 32 leaves, always as many: slot s is slot s mod 32 of leaf s div 32. Contracts see the list of
+/// the slots, so that a chapter is a longer page. A copy shares the pages, and a page is copied once it is written.
+#[derive(Drop)]
+pub struct Chapter<V: Item> {
+    leaves: Vec<Leaf<V>>,
+}
+
+impl<V: Item> Model for Chapter<V> {
+    ghost use Rattle.std.specs.Prelude.{◌≡◌, List, length};
+    ghost use Rattle.std.specs.declared.option.Option.{Option};
+    ghost use Rattle.lx_store.specs.Pages.{joined};
+
+    ghost Value = { List (Option V) };
+
+    ghost view = { λ chapter. joined chapter.leaves.items };
+
+    ghost invariant = { λ chapter. length chapter.leaves.items ≡ 32 };
+}
+
+impl<V: Item> Chapter<V> {
+    /// A chapter without items.
+    pub fn new(alloc: Global) -> Result<Chapter<V>, NoMemory>
+        ensures { IfOk result (λ chapter. chapter ≡ replicate 1024 None) }
+    {
+        let mut leaves = Vec::new(alloc);
+        for _ in 0..LEAVES {
+            leaves.push(Leaf::empty())?;
+        }
+        Ok(Chapter { leaves })
+    }
+
+    /// An equal chapter, which shares each page with this one.
+    pub fn fork(&self) -> Result<Chapter<V>, NoMemory>
+        ensures { IfOk result (λ chapter. chapter ≡ self.now) }
+    {
+        Ok(Chapter {
+            leaves: self.leaves.clone()?,
+        })
+    }
+
+    /// The item in the slot, where there is one.
+    pub fn get(&self, slot: u32) -> Option<&V>
+        requires { slot < 1024 }
+        ensures item { option_copied result ≡ slot_at self.now slot }
+        ensures size { length self.now ≡ 1024 }
+    {
+        self.leaves[(slot / page::SLOTS) as usize].get(slot % page::SLOTS)
+    }
+
+    /// Puts the item into the slot, and answers what stood there.
+    pub fn put(
+        &mut self,
+        slot: u32,
+        item: V,
+        alloc: Global,
+        count: &mut V::Count,
+    ) -> Result<Option<V>, NoMemory>
+        requires { slot < 1024 }
+        ensures old { IfOk result (λ old. old ≡ slot_at self.old slot) }
+        ensures written { OnOk result (self.new ≡ written self.old slot (Some item)) }
+        ensures unchanged { OnErr result (self.new ≡ self.old) }
+        ensures size { IfOk result (λ _. length self.old ≡ 1024) }
+        ensures counted { V.Count.total count.old ≤ V.Count.total count.new }
+        ensures few_twinned { V.Count.total count.new ≤ V.Count.total count.old + 1 }
+    {
+        let leaf = &mut self.leaves[(slot / page::SLOTS) as usize];
+        Ok(leaf.put(slot % page::SLOTS, item, alloc, count)?)
+    }
+
+    /// Edits the item in the slot, and tells whether there is one.
+    pub fn change<E: Edit<V>>(
+        &mut self,
+        slot: u32,
+        edit: E,
+        alloc: Global,
+        count: &mut V::Count,
+    ) -> Result<bool, NoMemory>
+        requires slot { slot < 1024 }
+        requires fits { IfSome (slot_at self.old slot) (E.fits edit) }
+        ensures found { IfOk result (λ found. found ≡ is_some (slot_at self.old slot)) }
+        ensures changed { OnOk result (self.new ≡ written self.old slot (option_map (E.edited edit) (slot_at self.old slot))) }
+        ensures unchanged { OnErr result (self.new ≡ self.old) }
+        ensures size { IfOk result (λ _. length self.old ≡ 1024) }
+        ensures counted { V.Count.total count.old ≤ V.Count.total count.new }
+        ensures few_twinned { V.Count.total count.new ≤ V.Count.total count.old + 1 }
+    {
+        let leaf = &mut self.leaves[(slot / page::SLOTS) as usize];
+        Ok(leaf.change(slot % page::SLOTS, edit, alloc, count)?)
+    }
+
+    /// Empties the slot, and answers what stood there.
+    pub fn take(
+        &mut self,
+        slot: u32,
+        alloc: Global,
+        count: &mut V::Count,
+    ) -> Result<Option<V>, NoMemory>
+        requires { slot < 1024 }
+        ensures old { IfOk result (λ old. old ≡ slot_at self.old slot) }
+        ensures written { OnOk result (self.new ≡ written self.old slot None) }
+        ensures unchanged { OnErr result (self.new ≡ self.old) }
+        ensures size { IfOk result (λ _. length self.old ≡ 1024) }
+        ensures counted { V.Count.total count.old ≤ V.Count.total count.new }
+        ensures few_twinned { V.Count.total count.new ≤ V.Count.total count.old + 1 }
+    {
+        let leaf = &mut self.leaves[(slot / page::SLOTS) as usize];
+        Ok(leaf.take(slot % page::SLOTS, alloc, count)?)
+    }
+
+    /// Whether no slot has an item.
+    pub fn is_empty(&self) -> bool
+        ensures { IsTrue result → (slot : ℕ) → slot_at self.now slot ≡ None }
+    {
+        for leaf in &self.leaves {
+            if !leaf.is_empty() {
+                return false;
+            }
+        }
+        true
+    }
+}
+
+/// The number of the chapter that the key stands in.
+pub fn number_of(key: Key) -> u32
+    ensures number { result ≡ key / 1024 }
+    ensures small { result < 4194304 }
+{
+    key.number() / SLOTS
+}
+
+/// The slot of the chapter that the key stands in.
+pub fn slot_of(key: Key) -> u32
+    ensures { result ≡ key % 1024 }
+{
+    key.number() % SLOTS
+}
