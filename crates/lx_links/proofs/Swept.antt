@@ -1,13 +1,16 @@
 -- What is left where the detached nodes are taken out.
+use Rattle.std.specs.Prelude.{T, map}
 use Rattle.std.proofs.Common.{ℕ, ◌≡◌, ◌+◌, ◌<◌, Bool, true, false, not, cond, eqb, ◌&&◌, ◌||◌, List, [], ◌∷◌, length, take, get_or, Option, None, Some, option_map, is_some, inl, inr, refl, sym, ap, ◌∙◌, arith}
-use Rattle.std.specs.Ordering.{nat_cmp, eq_by_cmp}
+use Rattle.std.specs.Ordering.{nat_cmp, eq_by_cmp, is_lt, is_eq}
+use Rattle.std.specs.declared.cmp.Ordering.{Ordering}
+use Rattle.std.specs.declared.cmp.Ordering.TheVariants.{Less, Equal, Greater}
 use Rattle.std.specs.Cmp.{unsigned_tied}
 use Rattle.std.specs.List.{list_any}
-use Rattle.std.specs.FinMap.{get, keys, remove, contains_key-keys}
+use Rattle.std.specs.FinMap.{get, keys, remove, contains_key-keys, is_sorted, entries, entries_sorted}
 use Rattle.std.proofs.lemmas.List.{take_more}
 use Rattle.std.proofs.lemmas.Bool.{cases_Bool}
 use Rattle.std.proofs.lemmas.Bool.Decides.{eqb_tells}
-use Rattle.lx_node.specs.Siblings.{is_among}
+use Rattle.lx_node.specs.Siblings.{is_among, NoRepeats}
 use Rattle.lx_node.proofs.Siblings.{is_among-append}
 use Rattle.lx_node.specs.declared.node.Node.{Node}
 use Rattle.lx_forest.specs.Forest.{Forest}
@@ -35,6 +38,39 @@ same_any q (x ∷ xs) = ap (λ b. b || list_any (eq_by_cmp nat_cmp q) xs) (unsig
 pub keys_in : (m : Nodes) (f : Forest) (q : ℕ) → StandsFor (records m) f → is_among q (keys m) ≡ has q f
 keys_in m f q s =
     sym (same_any q (keys m)) ∙ sym (contains_key-keys m q) ∙ sym (is_some-map (record_of q) (get m q)) ∙ ap is_some (s.same q) ∙ is_some-record_at f q
+
+-- the keys of a map rise, so none stands twice
+both : (a b : Bool) → T (a && b) → T a × T b
+both true b h = (tt, h)
+both false b h = absurd h
+
+but_the_third : (a b c d : Bool) → T ((a && b) && (c && d)) → T a × T (b && d)
+but_the_third true true true d h = (tt, h)
+but_the_third true true false d h = absurd h
+but_the_third true false c d h = absurd h
+but_the_third false b c d h = absurd h
+
+not_tied : (r : Ordering) → T (is_lt r) → is_eq r ≡ false
+not_tied Less h = refl
+not_tied Equal h = absurd h
+not_tied Greater h = refl
+
+first_two : (k : ℕ) (n : Node) (e : ℕ × Node) (es : List (ℕ × Node)) → T (is_sorted nat_cmp ((k, n) ∷ e ∷ es)) → T (is_lt (nat_cmp k e.0)) × T (is_sorted nat_cmp ((k, n) ∷ es))
+first_two k n e es h = but_the_third _ _ _ _ h
+
+risen : (k : ℕ) (n : Node) (es : List (ℕ × Node)) → T (is_sorted nat_cmp ((k, n) ∷ es)) → is_among k (map (λ e. e.0) es) ≡ false
+risen k n [] h = refl
+risen k n (e ∷ es) h =
+    let lower = first_two k n e es h in
+    let other : eqb k e.0 ≡ false = sym (unsigned_tied k e.0) ∙ not_tied (nat_cmp k e.0) lower.0 in
+    grind (arith, other, turned k e.0, risen k n es lower.1)
+
+once_sorted : (es : List (ℕ × Node)) → T (is_sorted nat_cmp es) → NoRepeats (map (λ e. e.0) es)
+once_sorted [] h = tt
+once_sorted (e ∷ es) h = (risen e.0 e.1 es h, once_sorted es (both _ _ h).1)
+
+pub NoRepeats-keys : (m : Nodes) → NoRepeats (keys m)
+NoRepeats-keys m = once_sorted (entries m) (entries_sorted m)
 
 -- ---- the loops
 

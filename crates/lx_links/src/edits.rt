@@ -4,6 +4,7 @@ use crate::changes::{Change, change_node, put_node};
 use crate::joints::{Gap, link_in, unlink};
 use crate::links::Links;
 use crate::nodes::{bad_place, lone_node, unknown};
+use crate::sums::Sums;
 use lx_node::{Cause, Fault, Fields, Key, Kind, NoMemory};
 
 impl Links {
@@ -27,13 +28,13 @@ impl Links {
         ensures living { OnOk result (self.old ≢ nil) }
         ensures failed { OnErr result (self.new ≡ nil) }
     {
-        let more = fields.characters() as u128;
+        let more = Sums::of(kind, &fields);
         let Some(mut store) = self.held.take() else {
             return Err(NoMemory);
         };
         put_node(&mut store, key, lone_node(kind, fields))?;
         self.held = Some(store);
-        self.characters += more;
+        self.sums = self.sums.plus(more);
         Ok(())
     }
 
@@ -51,14 +52,14 @@ impl Links {
         if !fields.is_of_kind(node.kind) {
             return Err(Fault::Cause(Cause::WrongKind(node.kind)));
         }
-        let old = node.fields.characters() as u128;
-        let new = fields.characters() as u128;
+        let old = Sums::of(node.kind, &node.fields);
+        let new = Sums::of(node.kind, &fields);
         let Some(mut store) = self.held.take() else {
             return Err(Fault::Memory);
         };
         change_node(&mut store, Some(key), Change::Content(fields))?;
         self.held = Some(store);
-        self.characters = self.characters + new - old;
+        self.sums = self.sums.plus(new).less(old);
         Ok(())
     }
 

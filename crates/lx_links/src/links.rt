@@ -2,6 +2,7 @@ ghost use Rattle.lx_links.specs.Stands.{Standing, Standing-prop};
 
 use crate::changes::put_node;
 use crate::nodes::lone_node;
+use crate::sums::Sums;
 use lx_node::{Fields, Key, Kind, NoMemory, Node};
 use lx_store::{Copies, Store};
 use std::alloc::Global;
@@ -14,9 +15,8 @@ pub struct Links {
     pub(crate) alloc: Global,
     /// The nodes, or none where the links have failed.
     pub(crate) held: Option<Store<Node>>,
-    /// The scalar values in the strings of all nodes, where there are any: the sum of what `characters`
-    /// answers for each.
-    pub(crate) characters: u128,
+    /// The sums of all nodes, where there are any.
+    pub(crate) sums: Sums,
     ghost stands: { Standing held } by { Standing-prop held },
 }
 
@@ -30,11 +30,11 @@ impl Model for Links {
     ghost coded = { Prim.hlevel (codes, trees_code) };
 
     ghost use Rattle.lx_links.specs.Stands.{forest_in};
-    ghost use Rattle.lx_links.specs.Characters.{CountsCharacters};
+    ghost use Rattle.lx_links.specs.Sums.{AreCounted};
 
     ghost view = { λ s. forest_in s.held s.stands };
 
-    ghost invariant = { λ s. CountsCharacters s.characters (forest_in s.held s.stands) };
+    ghost invariant = { λ s. AreCounted s.sums (forest_in s.held s.stands) };
 }
 
 impl Links {
@@ -55,7 +55,10 @@ impl Links {
         Ok(Links {
             alloc,
             held: Some(store),
-            characters: 0,
+            sums: Sums {
+                characters: 0,
+                items: 0,
+            },
         })
     }
 
@@ -72,7 +75,7 @@ impl Links {
                 Ok(Links {
                     alloc: self.alloc,
                     held: Some(fork),
-                    characters: self.characters,
+                    sums: self.sums,
                 })
             }
             None => Err(NoMemory),

@@ -4,7 +4,7 @@ use Rattle.lx_links.specs.Stands.{Holds}
 use Rattle.lx_links.proofs.Edited.{few_held, put_stands}
 use Rattle.lx_links.proofs.Refused.{any_err}
 use Rattle.lx_links.proofs.Stood.{stood_by, fails, is_now, held_living}
-use Rattle.lx_links.proofs.Characters.{failed_counts, counts_now, counted_by, counted_small, told_small, new_counts}
+use Rattle.lx_links.proofs.Summed.{failed_counts, counts_now, counted_by, counted_few, few_own, new_counts}
 use Rattle.lx_links.proofs.links.Links.insert_new.Goals as goal
 use Rattle.lx_links.proofs.links.Links.insert_new.Goals.{In-Some, In_ok-put_node}
 
@@ -40,11 +40,15 @@ invariant_of-self c = failed_counts _ _ _ c.take.ensures.after
 pub invariant_of-self-in_err-put_node : goal.invariant_of-self-in_err-put_node
 invariant_of-self-in_err-put_node c = failed_counts _ _ _ c.take.ensures.after
 
+pub plus-self-inside-requires : goal.plus-self-inside-requires
+plus-self-inside-requires c = record {
+  few = counted_few _ _ c.self.inside.stands _ _ c.self.view_is (holds (goal.at.plus-self-inside-requires c).In-Some) c.self.invariant;
+  few_more = few_own _ _ _ c.of-more.ensures;
+}
+
 pub invariant_of-self-2 : goal.invariant_of-self-2
 invariant_of-self-2 c =
     let at = goal.at.invariant_of-self-2 c in
-    counts_now _ _ _ _ (stands at.In_ok-put_node) (new_counts _ _ _ _ (counted_by _ _ c.self.inside.stands _ _ c.self.view_is (holds at.In-Some) c.self.invariant) c.characters-more.ensures)
-
-pub overflow_add-self : goal.overflow_add-self
-overflow_add-self c =
-    omega (arith, counted_small _ _ c.self.inside.stands _ _ c.self.view_is (holds (goal.at.overflow_add-self c).In-Some) c.self.invariant, told_small _ _ c.characters-more.ensures)
+    counts_now _ _ _ _ (stands at.In_ok-put_node)
+    (c.plus-self-inside.ensures
+    ∙ new_counts _ _ _ _ (counted_by _ _ c.self.inside.stands _ _ c.self.view_is (holds at.In-Some) c.self.invariant) c.of-more.ensures)

@@ -5,7 +5,7 @@ use Rattle.lx_node.specs.declared.node.Node.{Node}
 use Rattle.lx_forest.specs.Forest.{root_alone}
 use Rattle.lx_links.proofs.Edited.{new_stands}
 use Rattle.lx_links.proofs.Stood.{is_now}
-use Rattle.lx_links.proofs.Characters.{counts_now, root_counts}
+use Rattle.lx_links.proofs.Summed.{counts_now, root_counts}
 use Rattle.lx_links.proofs.links.Links.new.Goals as goal
 
 pub put_node-requires : goal.put_node-requires

@@ -1,14 +1,13 @@
-use Rattle.std.proofs.Common.{◌≡◌, ◌+◌, None, ◌∙◌, sym, refl, arith}
+use Rattle.std.proofs.Common.{◌≡◌, None, ◌∙◌, sym, refl}
 use Rattle.lx_forest.specs.Edits.{with_fields}
-use Rattle.lx_forest.specs.Weights.{weight}
-use Rattle.lx_links.specs.Characters.{counted_in}
+use Rattle.lx_links.specs.Sums.{sums_of, plus}
 use Rattle.lx_links.specs.Faults.{set_fault}
 use Rattle.lx_links.specs.Stands.{Holds}
 use Rattle.lx_links.proofs.Edited.{set_stands}
 use Rattle.lx_links.proofs.Refused.{set_missing, set_wrong, set_fine, refused_by, failed_by_memory}
 use Rattle.lx_links.proofs.Seen.{seen_in, absent_in}
 use Rattle.lx_links.proofs.Stood.{stood_by, fails, is_now}
-use Rattle.lx_links.proofs.Characters.{failed_counts, counts_now, counted_small, set_counts, less, told_small}
+use Rattle.lx_links.proofs.Summed.{failed_counts, counts_now, counted_few, few_own, set_counts, is_part, less_part}
 use Rattle.lx_links.proofs.links.Links.set.Goals as goal
 use Rattle.lx_links.proofs.links.Links.set.Goals.{After-take, In-Some-take, In_ok-change_node}
 
@@ -24,9 +23,12 @@ holds c = stood_by _ c.self.inside.stands _ c.in-Some-take.store c.self.view_is 
 stands : (c : In_ok-change_node) → Holds c.change_node.new.store (with_fields c.args.key c.args.fields c.args.self.now)
 stands c = let at = goal.at.In_ok-change_node c in set_stands _ _ _ _ _ (holds at.In-Some-take) (fine at.After-take) c.in_ok-change_node.ensures
 
--- the characters after the set, and those that it took away, are those before it and the new ones
-sum : (c : In-Some-take) → c.self.inside.characters + c.characters-new.result ≡ weight counted_in (with_fields c.args.key c.args.fields c.args.self.now) + c.characters-old.result
-sum c = set_counts _ _ _ _ c.self.inside.stands _ _ _ _ _ c.in-Some.node c.self.view_is (holds c) c.self.invariant c.node.ensures.node c.in-Some.is c.characters-old.ensures c.characters-new.ensures
+-- the sums with those of the new fields are those of the forest afterwards with those of the old fields
+sums : (c : In-Some-take)
+    → plus c.self.inside.sums c.of-new.result ≡ plus (sums_of (with_fields c.args.key c.args.fields c.args.self.now)) c.of-old.result
+sums c =
+    set_counts _ _ _ _ c.self.inside.stands _ _ _ _ _ c.in-Some.node c.self.view_is (holds c) c.self.invariant
+    c.node.ensures.node c.in-Some.is c.of-old.ensures c.of-new.ensures
 
 pub returns-in_default-clause-refused : goal.returns-in_default-clause-refused
 returns-in_default-clause-refused c =
@@ -56,13 +58,16 @@ invariant_of-self c = failed_counts _ _ _ c.take.ensures.after
 pub invariant_of-self-in_err-change_node : goal.invariant_of-self-in_err-change_node
 invariant_of-self-in_err-change_node c = failed_counts _ _ _ c.take.ensures.after
 
-pub overflow_add-self : goal.overflow_add-self
-overflow_add-self c =
-    let had = holds (goal.at.overflow_add-self c).In-Some-take in
-    omega (arith, counted_small _ _ c.self.inside.stands _ _ c.self.view_is had c.self.invariant, told_small _ _ c.characters-new.ensures)
+pub plus-requires : goal.plus-requires
+plus-requires c = record {
+  few = counted_few _ _ c.self.inside.stands _ _ c.self.view_is (holds (goal.at.plus-requires c).In-Some-take) c.self.invariant;
+  few_more = few_own _ _ _ c.of-new.ensures;
+}
 
-pub overflow_sub-self : goal.overflow_sub-self
-overflow_sub-self c = omega (arith, sum (goal.at.overflow_sub-self c).In-Some-take)
+pub less-self-inside-requires : goal.less-self-inside-requires
+less-self-inside-requires c = is_part _ _ _ (c.plus.ensures ∙ sums (goal.at.less-self-inside-requires c).In-Some-take)
 
 pub invariant_of-self-2 : goal.invariant_of-self-2
-invariant_of-self-2 c = let at = goal.at.invariant_of-self-2 c in counts_now _ _ _ _ (stands at.In_ok-change_node) (less _ _ _ _ (sum at.In-Some-take))
+invariant_of-self-2 c =
+    let at = goal.at.invariant_of-self-2 c in
+    counts_now _ _ _ _ (stands at.In_ok-change_node) (c.less-self-inside.ensures ∙ less_part _ _ _ (c.plus.ensures ∙ sums at.In-Some-take))

@@ -1,0 +1,44 @@
+-- What the nodes of a forest hold together: the scalar values in their strings, as a machine counts those of each, and items.
+use Rattle.std.specs.Prelude.{ℕ, ◌+◌, ◌-◌, ◌<◌, ◌≤◌, ◌^◌, ◌≡◌, ◌≢◌, List, cond, sum_by}
+use Rattle.lx_node.specs.Trees.{nil}
+use Rattle.lx_node.specs.Kinds.{is_item}
+use Rattle.lx_node.specs.Strings.{capped, characters_of}
+use Rattle.lx_node.specs.declared.kind.Kind.{Kind}
+use Rattle.lx_node.specs.declared.fields.Fields.{Fields}
+use Rattle.lx_forest.specs.Forest.{Forest, Label}
+use Rattle.lx_forest.specs.Weights.{weight, own_weight}
+use Rattle.lx_links.specs.declared.sums.Sums.{Sums}
+use Rattle.lx_links.specs.Characters.{counted_in}
+
+abbrev pub items_in : Label → ℕ
+items_in l = cond (is_item l.kind) 1 0
+
+-- those of one node, of all, and of the nodes of these keys
+abbrev pub own_sums : Kind → Fields → Sums
+own_sums kind fields = record { characters = capped (characters_of fields); items = cond (is_item kind) 1 0 }
+
+abbrev pub sums_of : Forest → Sums
+sums_of f = record { characters = weight counted_in f; items = weight items_in f }
+
+abbrev pub sums_at : Forest → List ℕ → Sums
+sums_at f ks = record { characters = sum_by (own_weight counted_in f) ks; items = sum_by (own_weight items_in f) ks }
+
+-- of both together, and what is left without a part
+abbrev pub plus : Sums → Sums → Sums
+plus s more = record { characters = s.characters + more.characters; items = s.items + more.items }
+
+abbrev pub less : Sums → Sums → Sums
+less s gone = record { characters = s.characters - gone.characters; items = s.items - gone.items }
+
+pub record IsPart (gone s : Sums) : Type 0 where
+  pub characters : gone.characters ≤ s.characters
+  pub items : gone.items ≤ s.items
+
+-- no more than fewer than 2 ^ 32 nodes can have
+pub record AreFew (s : Sums) : Type 0 where
+  pub characters : s.characters < 2 ^ 96
+  pub items : s.items < 2 ^ 32
+
+-- the sums of a forest, where it has nodes
+pub record AreCounted (s : Sums) (f : Forest) : Type 0 where
+  pub counts : f ≢ nil → s ≡ sums_of f
