@@ -1,6 +1,7 @@
 pub mod Attributes
 pub mod Beside
 pub mod Changed
+pub mod Copied
 pub mod Kept
 pub mod Laws
 pub mod Least

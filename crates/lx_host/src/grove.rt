@@ -1,5 +1,6 @@
 //! The hosts, by id. It knows no operation, no next id and no table of keys.
 
+use crate::copying::copy_hosts;
 use crate::joints::{Gap, link_in, unlink};
 use crate::linked::{Change, Face, Linked, change_host, write_attribute};
 use crate::op::Attrs;
@@ -67,6 +68,14 @@ impl Grove {
         };
         let mut table = IndexMap::new(alloc);
         table.insert(0, root)?;
+        Ok(Grove { table })
+    }
+
+    /// A grove of equal hosts, with equal ids.
+    pub fn copy(&self, alloc: Global) -> Result<Grove, NoMemory>
+        ensures { IfOk result (λ made. made.hosts ≡ self.now.hosts) }
+    {
+        let table = copy_hosts(alloc, &self.table)?;
         Ok(Grove { table })
     }
 

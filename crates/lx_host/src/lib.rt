@@ -8,6 +8,7 @@
 //! that, and take none.
 #![tactic(auto)]
 
+mod copying;
 mod grove;
 mod joints;
 mod keys;

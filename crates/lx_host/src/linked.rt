@@ -6,11 +6,12 @@ ghost use Rattle.lx_node.specs.Siblings.{is_named};
 ghost use Rattle.lx_host.specs.declared.linked.Linked.{Linked};
 ghost use Rattle.lx_host.specs.Links.{changed, Fits, Differs};
 
-use crate::op::Attrs;
+use crate::op::{Attrs, copy_text};
 use crate::stock::Stock;
 use crate::tag::{Name, Tag};
 use indexmap::IndexMap;
-use lx_node::{Key, Txt};
+use lx_node::{Key, NoMemory, Txt};
+use std::alloc::Global;
 
 /// What a host shows, beside its children: a node's key, an element with its attributes, a text or none, and whether
 /// a line break ends it.
@@ -38,6 +39,29 @@ pub struct Linked {
     pub first: Option<u32>,
     pub last: Option<u32>,
     pub size: u32,
+}
+
+impl Linked {
+    ghost use Rattle.std.specs.Prelude.{IfOk};
+
+    /// An equal host, with equal links. It takes memory for the text and the attributes.
+    pub fn copy(&self, alloc: Global) -> Result<Linked, NoMemory>
+        ensures { IfOk result (λ made. made ≡ self.now) }
+    {
+        Ok(Linked {
+            key: self.key,
+            tag: self.tag,
+            attrs: self.attrs.copy(alloc)?,
+            text: copy_text(alloc, &self.text)?,
+            ending: self.ending,
+            parent: self.parent,
+            prev: self.prev,
+            next: self.next,
+            first: self.first,
+            last: self.last,
+            size: self.size,
+        })
+    }
 }
 
 /// What of one host an edit changes.

@@ -229,7 +229,8 @@ impl Op {
 
 ghost use Rattle.std.specs.Prelude.{◌≡◌, IfOk};
 
-fn copy_text(alloc: Global, text: &Option<Txt>) -> Result<Option<Txt>, NoMemory>
+/// An equal text, where there is one.
+pub(crate) fn copy_text(alloc: Global, text: &Option<Txt>) -> Result<Option<Txt>, NoMemory>
     ensures { IfOk result (λ made. made ≡ text.now) }
 {
     match text {

@@ -7,7 +7,7 @@ use std::marker::Model;
 
 /// The HTML that was written so far, as the list of its Unicode scalar values. After want of memory a page
 /// is only fit to be dropped.
-#[derive(Debug, Drop)]
+#[derive(Drop)]
 pub struct Page {
     written: String,
 }

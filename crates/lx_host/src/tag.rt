@@ -1,5 +1,5 @@
 /// The inner element of a text.
-#[derive(Clone, Copy, Debug, PartialEq, Eq, Hash)]
+#[derive(Clone, Copy, Debug, PartialEq, Eq)]
 pub enum Inner {
     Strong,
     Em,
@@ -7,7 +7,7 @@ pub enum Inner {
 }
 
 /// The outer element of a text.
-#[derive(Clone, Copy, Debug, PartialEq, Eq, Hash)]
+#[derive(Clone, Copy, Debug, PartialEq, Eq)]
 pub enum Outer {
     Code,
     Mark,
@@ -52,7 +52,7 @@ ghost use Rattle.std.specs.Prelude.{◌≡◌};
 ghost use Rattle.lx_host.specs.Words.{inline_word as word_of_inline};
 
 /// The element that a host is. A text's may be two, one in the other.
-#[derive(Clone, Copy, Debug, PartialEq, Eq, Hash)]
+#[derive(Clone, Copy, Debug, PartialEq, Eq)]
 pub enum Tag {
     Div,
     P,
@@ -77,7 +77,7 @@ pub enum Tag {
 }
 
 /// The name of an attribute, in byte order of the words.
-#[derive(Clone, Copy, Debug, PartialEq, Eq, Hash)]
+#[derive(Clone, Copy, Debug)]
 pub enum Name {
     AriaChecked,
     Class,

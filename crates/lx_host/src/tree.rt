@@ -1,3 +1,4 @@
+use crate::copying::copy_keys;
 use crate::grove::Grove;
 use crate::keys::{Shown, add_shown};
 use crate::linked::Face;
@@ -61,6 +62,20 @@ impl HostTree {
             keys,
             stock: Stock::new(alloc),
             next_id: 1,
+        })
+    }
+
+    /// An equal host tree: with equal ids, hosts that aren't placed among them, and an equal next id. What is done to either
+    /// of the two afterwards leaves the other as it was. It takes memory for each host.
+    pub fn copy(&self) -> Result<HostTree, NoMemory>
+        ensures { IfOk result (λ made. made.tree ≡ self.now.tree) }
+    {
+        Ok(HostTree {
+            alloc: self.alloc,
+            grove: self.grove.copy(self.alloc)?,
+            keys: copy_keys(self.alloc, &self.keys)?,
+            stock: Stock::new(self.alloc),
+            next_id: self.next_id,
         })
     }
 
