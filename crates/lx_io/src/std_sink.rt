@@ -76,10 +76,10 @@ mod tests {
     fn counts_a_write_that_took_nothing(rt: HostRuntime) {
         let mut bytes = *b"..";
         let mut sink = StdSink::new(bytes.as_mut_slice());
-        assert_eq!(rt; sink.write(b"abc"), Ok(2));
-        assert_eq!(rt; write_any(&mut sink, b""), Ok(0));
+        assert!(rt; matches!(sink.write(b"abc"), Ok(2)));
+        assert!(rt; matches!(write_any(&mut sink, b""), Ok(0)));
         assert_eq!(rt; sink.faults, 0);
-        assert_eq!(rt; sink.write(b"c"), Err(Failed));
+        assert!(rt; matches!(sink.write(b"c"), Err(Failed)));
         assert_eq!(rt; sink.faults, 1);
         let StdSink {
             inner: _,

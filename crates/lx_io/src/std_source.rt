@@ -92,9 +92,9 @@ mod tests {
     fn counts_the_error_and_reads_on(rt: HostRuntime) {
         let mut source = StdSource::new(FailsFirst { reads: 0 });
         let mut buffer = *b"..";
-        assert_eq!(rt; source.read(&mut buffer), Err(Failed));
+        assert!(rt; matches!(source.read(&mut buffer), Err(Failed)));
         assert_eq!(rt; source.faults, 1);
-        assert_eq!(rt; source.read(&mut buffer), Ok(1));
+        assert!(rt; matches!(source.read(&mut buffer), Ok(1)));
         assert_eq!(rt; source.faults, 1);
         assert_eq!(rt; buffer, *b"a.");
     }
@@ -103,9 +103,9 @@ mod tests {
     fn reads_a_slice_to_its_end(rt: HostRuntime) {
         let mut source = StdSource::new(b"abc".as_slice());
         let mut buffer = *b"..";
-        assert_eq!(rt; source.read(&mut buffer), Ok(2));
-        assert_eq!(rt; source.read(&mut buffer), Ok(1));
+        assert!(rt; matches!(source.read(&mut buffer), Ok(2)));
+        assert!(rt; matches!(source.read(&mut buffer), Ok(1)));
         assert_eq!(rt; buffer, *b"cb");
-        assert_eq!(rt; read_any(&mut source, &mut buffer), Ok(0));
+        assert!(rt; matches!(read_any(&mut source, &mut buffer), Ok(0)));
     }
 }

@@ -9,7 +9,7 @@ use std::alloc::Global;
 
 /// What a node shows beside its children: its element, the attributes in byte order of their names, and a
 /// text where it has one.
-#[derive(Debug, Drop)]
+#[derive(Drop)]
 pub struct Shape {
     pub tag: Tag,
     pub attrs: Attrs,

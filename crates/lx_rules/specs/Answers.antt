@@ -1,14 +1,13 @@
 -- What a rule answers at a view.
-use Rattle.std.specs.Prelude.{ℕ, ◌==◌, ◌&&◌, Bool, true, false, nat_lt, min, is_none, if◌then◌else◌, List, [], ◌∷◌, Option, None, Some}
+use Rattle.std.specs.Prelude.{ℕ, ◌==◌, ◌&&◌, Bool, true, false, nat_lt, is_none, if◌then◌else◌, List, [], ◌∷◌, Option, None, Some}
 use Rattle.std.specs.List.{list_all}
 use Rattle.lx_node.specs.Kinds.{is_text}
-use Rattle.lx_node.specs.Limits.{last_u32}
 use Rattle.lx_node.specs.OfKind.{is_text_of}
 use Rattle.lx_node.specs.Same.{same_text}
 use Rattle.lx_node.specs.declared.kind.Kind.{Kind}
 use Rattle.lx_node.specs.declared.fields.TextFields.{TextFields}
 use Rattle.lx_node.specs.declared.node.View.{View}
-use Rattle.lx_text.specs.Texts.{text_length}
+use Rattle.lx_text.specs.Texts.{length_told}
 use Rattle.lx_step.specs.declared.rule.Condition.{Condition}
 use Rattle.lx_step.specs.declared.rule.Condition.TheVariants.{Text, Contains, Shorter, Format, Parent, Previous, Next, Childless}
 use Rattle.lx_step.specs.declared.rule.Rule.{Rule}
@@ -19,15 +18,11 @@ use Rattle.lx_rules.specs.Types.{is_of_row, is_on, set_of_row}
 
 -- ---- conditions
 
--- the length of a text as it is told, which stands still at the greatest offset
-abbrev pub told_length : List ℕ → ℕ
-told_length text = min (text_length text) last_u32
-
 -- what a condition asks of a text; one on what is around the node asks nothing of it
 abbrev pub text_meets : Condition → TextFields → Bool
 text_meets (Text text) own = same_text own.text text
 text_meets (Contains piece) own = has_piece piece own.text
-text_meets (Shorter limit) own = nat_lt (told_length own.text) limit
+text_meets (Shorter limit) own = nat_lt (length_told own.text) limit
 text_meets (Format format) own = own.format == format
 text_meets condition own = true
 

@@ -7,7 +7,7 @@ use lx_step::{Rule, SelfEdit, TypeRow};
 use std::alloc::Global;
 
 /// A set of types of nodes: bit i stands for row i, from 0 to 14, of the table of kinds.
-#[derive(Clone, Copy, Debug, PartialEq, Eq, Hash)]
+#[derive(Clone, Copy)]
 pub struct KindSet(pub u32);
 
 impl KindSet {

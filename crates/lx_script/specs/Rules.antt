@@ -6,7 +6,7 @@ use Rattle.serde_json.specs.Data.{Data}
 use Rattle.serde_json.specs.Find.{get, as_bool}
 use Rattle.lx_node.specs.Kinds.{is_text}
 use Rattle.lx_node.specs.declared.kind.Kind.{Kind}
-use Rattle.lx_text.specs.Texts.{text_length}
+use Rattle.lx_text.specs.Texts.{length_told}
 use Rattle.lx_step.specs.Patches.{has}
 use Rattle.lx_step.specs.Types.{type_of}
 use Rattle.lx_step.specs.declared.patch.Patch.{Patch}
@@ -62,7 +62,7 @@ most_added = 256
 -- a text that a rule adds to a text
 abbrev pub added_on : Kind → Data → Option (List ℕ)
 added_on kind d =
-    if is_text kind then option_and_then (λ text. if nat_le (text_length text) most_added then Some text else None) (string_of d) else None
+    if is_text kind then option_and_then (λ text. if nat_le (length_told text) most_added then Some text else None) (string_of d) else None
 
 abbrev pub new_node_in : Kind → Data → Option NewNode
 new_node_in kind d = option_map (λ fields. record { kind = kind; fields = fields }) (new_fields kind d)

@@ -17,7 +17,7 @@ use serde_json::{Map, Value};
 use std::alloc::Global;
 
 /// Why an object gives no fields.
-#[derive(Debug, Drop)]
+#[derive(Drop)]
 pub enum FieldFault {
     Memory,
     /// The member of this name has a value that it doesn't take.

@@ -3,7 +3,7 @@ use lx_node::{Cause, Txt};
 use lx_select::Selection;
 
 /// The answer to a line.
-#[derive(Debug, Drop)]
+#[derive(Drop)]
 pub enum Reply {
     /// The line made commit `number`, and these operations bring a view up to date. For a dispatch it is told
     /// whether the command was handled. Where replies tell the view, it is the HTML after the commit.

@@ -12,7 +12,7 @@ use lx_step::Shown;
 use serde_json::Value;
 
 /// A member of nodes that documents and scripts name.
-#[derive(Clone, Copy, Debug, PartialEq, Eq, Hash)]
+#[derive(Clone, Copy)]
 pub(crate) enum Name {
     Direction,
     Format,
@@ -40,7 +40,7 @@ pub(crate) enum Name {
 }
 
 /// What a step does, by the word that tells it from others.
-#[derive(Clone, Copy, Debug, PartialEq, Eq, Hash)]
+#[derive(Clone, Copy)]
 pub(crate) enum Verb {
     Append,
     New,
@@ -61,7 +61,7 @@ pub(crate) enum Verb {
 }
 
 /// What a condition of a rule asks, by the word that tells it from others.
-#[derive(Clone, Copy, Debug, PartialEq, Eq, Hash)]
+#[derive(Clone, Copy)]
 pub(crate) enum ConditionWord {
     Text,
     Contains,
@@ -74,7 +74,7 @@ pub(crate) enum ConditionWord {
 }
 
 /// What an edit of a rule does, by the word that tells it from others.
-#[derive(Clone, Copy, Debug, PartialEq, Eq, Hash)]
+#[derive(Clone, Copy)]
 pub(crate) enum EditWord {
     Set,
     Add,

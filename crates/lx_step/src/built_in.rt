@@ -4,7 +4,7 @@ ghost use Rattle.std.specs.Prelude.{◌≡◌, chars};
 ghost use Rattle.lx_node.specs.Same.{same_text};
 
 /// Which way the history goes.
-#[derive(Clone, Copy, Debug, PartialEq, Eq, Hash)]
+#[derive(Clone, Copy, Debug)]
 pub enum Turn {
     /// Back to the state before the current one.
     Undo,
@@ -13,7 +13,7 @@ pub enum Turn {
 }
 
 /// A command that goes by the selection, as a person types, deletes and formats.
-#[derive(Clone, Copy, Debug, PartialEq, Eq, Hash)]
+#[derive(Clone, Copy, Debug)]
 pub enum CaretCommand {
     InsertText,
     RemoveText,
@@ -27,7 +27,7 @@ pub enum CaretCommand {
 }
 
 /// A command that is built in: it is done without a listener. Its name is that of a row of the table of built-in commands.
-#[derive(Clone, Copy, Debug, PartialEq, Eq, Hash)]
+#[derive(Clone, Copy, Debug)]
 pub enum BuiltIn {
     /// `undo` or `redo`: the history goes to another state.
     Turn(Turn),

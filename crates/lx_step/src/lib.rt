@@ -33,6 +33,3 @@ pub use references::References;
 pub use rule::{Condition, NewNode, Rule, SelfEdit, TypeRow};
 pub use self_edits::SelfEdits;
 pub use step::{Step, Steps};
-
-#[cfg(test)]
-mod tests;

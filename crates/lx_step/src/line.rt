@@ -14,7 +14,7 @@ pub struct Line {
 }
 
 /// What the tags of a line say of how its commit is recorded. Other tags say nothing.
-#[derive(Clone, Copy, Debug, PartialEq, Eq, Hash)]
+#[derive(Clone, Copy, Debug)]
 pub struct Tags {
     /// `historic`: the commit isn't recorded.
     pub historic: bool,
@@ -60,7 +60,7 @@ impl Tags {
 }
 
 /// What a line asks to be shown.
-#[derive(Clone, Copy, Debug, PartialEq, Eq, Hash)]
+#[derive(Clone, Copy, Debug)]
 pub enum Shown {
     /// The document that is committed.
     State,

@@ -18,7 +18,7 @@ pub enum Reference {
     Name(Txt),
 }
 
-/// How a step names a point: a node, an offset in it (in scalar values of a text, or in children of an
+/// How a step names a point: a node, an offset in it (in UTF-16 code units of a text, or in children of an
 /// element), and which of the two the offset counts.
 #[derive(Debug, Drop)]
 pub struct PointRef {

@@ -8,7 +8,7 @@ use std::alloc::Global;
 
 /// A type of nodes, by its row in the table of kinds, from 0 to 14: root, paragraph, heading, quote, list, item, link,
 /// table, row, cell, text, tab, break, rule, embed. Headings of all levels are one type, and so are all lists.
-#[derive(Clone, Copy, Debug, PartialEq, Eq, Hash)]
+#[derive(Clone, Copy, Debug, PartialEq, Eq)]
 pub struct TypeRow(pub u8);
 
 impl TypeRow {
@@ -54,7 +54,7 @@ pub enum Condition {
     Text(Txt),
     /// This is a piece of the text.
     Contains(Txt),
-    /// The text has a length below this, in scalar values.
+    /// The text has a length below this, in UTF-16 code units.
     Shorter(u64),
     /// The format of the text is this one.
     Format(u64),

@@ -8,11 +8,8 @@ use clap::ArgMatches;
 use clap::error::ErrorKind;
 use std::alloc::Global;
 
-/// How the program is called: what is told on standard error where the words are refused.
-pub const USAGE: &str = "usage: lexical [--view] [--delay MS]";
-
 /// What the words ask for.
-#[derive(Clone, Copy, Debug, PartialEq, Eq, Hash)]
+#[derive(Clone, Copy)]
 pub struct Options {
     /// Whether the reply to each commit also tells the view.
     pub view: bool,
@@ -21,7 +18,7 @@ pub struct Options {
 }
 
 /// Why words are not taken.
-#[derive(Clone, Copy, Debug, PartialEq, Eq, Hash)]
+#[derive(Clone, Copy, Debug)]
 pub enum Refused {
     /// They are no words of this program.
     Usage,
