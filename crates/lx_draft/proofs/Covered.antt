@@ -96,7 +96,7 @@ covered-same w v r forest marks fresh next =
     })
     (same_keys w v next (λ q. ap (has q) forest))
 
-covers-then : (f g h : Forest) (m n o : Marked) → Covers f m g n → Covers g n h o → Covers f m h o
+pub covers-then : (f g h : Forest) (m n o : Marked) → Covers f m g n → Covers g n h o → Covers f m h o
 covers-then f g h m n o a b = record {
   touched = λ q e. b.touched q (a.touched q e);
   noted = λ q e. b.noted q (a.noted q e);

@@ -1,5 +1,6 @@
 pub mod Capped
 pub mod Marked
+pub mod TextPlaces
 pub mod Points
 pub mod Measured
 pub mod Kept

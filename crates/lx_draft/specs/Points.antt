@@ -8,10 +8,10 @@ abbrev pub moved_by : PointRule → Point → Point
 moved_by (Put parent index) = rules.put_moves parent index
 moved_by (Take parent index) = rules.take_moves parent index
 moved_by (Splice key from to len) = rules.splice_moves key from to len
-moved_by (Set key len) = rules.set_moves key len
+moved_by (Set key text) = rules.set_moves key text
 moved_by (Split key at new) = rules.split_moves key at new
 moved_by (Join first len second) = rules.join_moves first len second
 moved_by (Children from to size) = rules.children_moves from to size
 moved_by (Unwrap key parent index) = rules.unwrap_moves key parent index
-moved_by (Replace old new len) = rules.replace_moves old new len
+moved_by (Replace old new text) = rules.replace_moves old new text
 moved_by (Move key to) = rules.moved_to key to

@@ -1,8 +1,7 @@
 -- Which selections a forest has a place for.
-use Rattle.std.specs.Prelude.{ℕ, Bool, false, ◌&&◌, nat_le, min, if◌then◌else◌, List, [], ◌∷◌, Option, None, Some}
+use Rattle.std.specs.Prelude.{ℕ, Bool, false, ◌&&◌, nat_le, if◌then◌else◌, List, [], ◌∷◌, Option, None, Some}
 use Rattle.std.specs.Option.{option_or}
 use Rattle.lx_node.specs.Kinds.{is_element, has_characters, is_table, is_cell}
-use Rattle.lx_node.specs.Limits.{last_u32}
 use Rattle.lx_node.specs.declared.kind.Kind.{Kind}
 use Rattle.lx_node.specs.declared.fields.Fields.{Fields}
 use Rattle.lx_node.specs.declared.fields.Fields.TheVariants as fields
@@ -12,21 +11,23 @@ use Rattle.lx_node.specs.declared.cause.PointKind.TheVariants as point
 use Rattle.lx_node.specs.declared.cause.Cause.{Cause}
 use Rattle.lx_node.specs.declared.cause.Cause.TheVariants.{WrongKind, BadPlace, SelectionLost}
 use Rattle.lx_node.specs.declared.cause.Lost.TheVariants as lost
-use Rattle.lx_text.specs.Texts.{text_length}
+use Rattle.lx_text.specs.Texts.{is_offset}
+pub use Rattle.lx_text.specs.Texts.{length_told}
 use Rattle.lx_select.specs.declared.selection.Selection.{Selection}
 use Rattle.lx_select.specs.declared.selection.Selection.TheVariants.{Nothing, Range, Nodes, Cells}
 use Rattle.lx_forest.specs.Forest.{Forest}
 use Rattle.lx_forest.specs.Lookups.{has, kind_of, fields_of, size_of, is_within}
 use Rattle.lx_links.specs.Faults.{unknown}
 
--- a point counts characters in a text or tab, and children in an element
+-- a point counts code units in a text or tab, and children in an element
 abbrev pub counts_in : PointKind → Kind → Bool
 counts_in point.Text kind = has_characters kind
 counts_in point.Element kind = is_element kind
 
--- the length of a text as an offset tells it, which ends at the last number of a u32
-abbrev pub length_told : List ℕ → ℕ
-length_told text = min (text_length text) last_u32
+-- the text in fields, and none in others
+abbrev pub text_of : Option Fields → List ℕ
+text_of (Some (fields.Text text)) = text.text
+text_of other = []
 
 abbrev pub length_of : Option Fields → ℕ
 length_of (Some (fields.Text text)) = length_told text.text
@@ -36,6 +37,11 @@ length_of other = 0
 abbrev pub extent : Forest → Point → PointKind → ℕ
 extent f p point.Text = length_of (fields_of f p.key)
 extent f p point.Element = size_of f p.key
+
+-- whether the offset is one of a place: not behind the end, nor inside a surrogate pair of a text
+abbrev pub is_place : Forest → Point → PointKind → Bool
+is_place f p point.Text = nat_le p.offset (extent f p point.Text) && is_offset p.offset (text_of (fields_of f p.key))
+is_place f p point.Element = nat_le p.offset (extent f p point.Element)
 
 -- ---- why a selection is refused
 
@@ -48,7 +54,7 @@ abbrev pub misfit_point : Forest → Point → Option Cause
 misfit_point f p = unlike (counts_in p.kind) (kind_of f p.key)
 
 abbrev pub outside_point : Forest → Point → Option Cause
-outside_point f p = if nat_le p.offset (extent f p p.kind) then None else Some (BadPlace p.offset)
+outside_point f p = if is_place f p p.kind then None else Some (BadPlace p.offset)
 
 -- the cell isn't below the table
 abbrev pub outside_table : Forest → ℕ → ℕ → Option Cause
@@ -79,13 +85,13 @@ select_fault (Cells table a b) f = cells_fault f table a b
 
 -- ---- what of a selection isn't in the tree any more
 
--- a point lies in the forest: its node is one that it counts in, and it isn't behind the end
+-- a point lies in the forest: its node is one that it counts in, and its offset is one of a place there
 abbrev pub is_counted_in : PointKind → Option Kind → Bool
 is_counted_in kind None = false
 is_counted_in kind (Some found) = counts_in kind found
 
 abbrev pub lies_in : Forest → Point → Bool
-lies_in f p = is_counted_in p.kind (kind_of f p.key) && nat_le p.offset (extent f p p.kind)
+lies_in f p = is_counted_in p.kind (kind_of f p.key) && is_place f p p.kind
 
 abbrev pub lost_point : Forest → Point → Option Cause
 lost_point f p = if lies_in f p then None else Some (SelectionLost (lost.Point p))

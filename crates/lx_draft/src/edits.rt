@@ -3,7 +3,7 @@ ghost use Rattle.lx_node.specs.Trees.{nil};
 ghost use Rattle.lx_marks.specs.Marks.{with_leaf};
 
 use crate::draft::Draft;
-use crate::fields::{let_go, text_length_of};
+use crate::fields::let_go;
 use crate::texts::characters;
 use lx_links::Links;
 use lx_marks::Marks;
@@ -100,15 +100,14 @@ impl Draft {
         ensures written { OnOk result (self.new ≡ steps.fields_written key fields (characters_of fields) (steps.set_points key fields) self.old) }
         ensures failed { OnErr result (self.new.forest ≡ nil) }
     {
-        let length = text_length_of(&fields);
-        self.refield(key, fields, more)?;
-        self.keep_points_within(key, length);
-        Ok(())
+        self.keep_points_within(key, &fields);
+        self.refield(key, fields, more)
     }
 
     /// Replaces the piece of a text from one offset to another. It is refused where there is no such node,
-    /// where it isn't a text, where an offset is past its end or `from` is above `to`, where 100,000 counts
-    /// were taken, and where the new piece would bring what was written above 16,777,216 scalar values.
+    /// where it isn't a text, where an offset is past its end or inside a surrogate pair, where `from` is
+    /// above `to`, where 100,000 counts were taken, and where the new piece would bring what was written
+    /// above 16,777,216 scalar values.
     #[tactic(auto, unfolding(crate::specs::Steps::splice_step))]
     pub fn splice(&mut self, key: Key, from: u32, to: u32, new: &str) -> Result<(), Fault>
         ensures ok { OnOk result (splice_step key from to (chars new.now) self.old ≡ Ok self.new) }
@@ -217,8 +216,8 @@ impl Draft {
     }
 
     /// Selects. It is refused where a node of the selection isn't there, where a point or a cell is of
-    /// the wrong kind, where an offset is past the end, and where a cell isn't below the table. It takes
-    /// no count and marks nothing.
+    /// the wrong kind, where an offset is past the end or inside a surrogate pair, and where a cell isn't
+    /// below the table. It takes no count and marks nothing.
     #[tactic(auto, unfolding(crate::specs::Steps::select_step))]
     pub fn select(&mut self, selection: Selection) -> Result<(), Fault>
         ensures ok { OnOk result (select_step selection self.old ≡ Ok self.new) }

@@ -21,16 +21,6 @@ pub(crate) fn let_go(_fields: Fields, fault: Fault) -> Fault
     fault
 }
 
-/// The length of the text of fields, where they are those of a text or tab.
-pub(crate) fn text_length_of(fields: &Fields) -> Option<u32>
-    ensures { result ≡ steps.text_length_in fields.now }
-{
-    match fields {
-        Fields::Text(text) => Some(lx_text::length_of(&text.text)),
-        _ => None,
-    }
-}
-
 /// Whether the point counts children of the parent.
 fn counts_children_of(point: &Point, parent: Key) -> bool
     ensures { result ≡ steps.counts_children_of parent point.now }
@@ -149,12 +139,12 @@ impl Draft {
         self.set_fields(key, fields)
     }
 
-    /// Keeps the points in a text of this length within it.
-    pub(crate) fn keep_points_within(&mut self, key: Key, length: Option<u32>)
-        ensures { self.new ≡ record self.old { selection = steps.points_within key length self.old.selection } }
+    /// Keeps the points on the key within the text of fields that it gets, if these have one.
+    pub(crate) fn keep_points_within(&mut self, key: Key, fields: &Fields)
+        ensures { self.new ≡ record self.old { selection = steps.set_points key fields.now self.old.selection } }
     {
-        if let Some(length) = length {
-            self.selection.after_set(key, length);
+        if let Fields::Text(text) = fields {
+            self.selection.after_set(key, text.text.as_str());
         }
     }
 

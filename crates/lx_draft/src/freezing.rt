@@ -115,7 +115,7 @@ impl Draft {
         ensures order { OnOk result (IsForest self.new.forest) }
     {
         self.living()?;
-        self.links.drop_detached(self.loose.leaves())?;
+        self.links.drop_loose(self.loose.leaves())?;
         self.keep_selected()
     }
 

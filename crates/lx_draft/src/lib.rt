@@ -24,5 +24,6 @@ pub use freezing::limits_fault;
 pub use laws::drafts_are_covered;
 pub use rounds::{Flags, Round};
 pub use rules::PointRule;
+pub use selecting::is_place;
 pub use state::{Frozen, State};
 pub use texts::with_text;

@@ -4,7 +4,7 @@ use lx_select::Keys;
 use std::marker::Model;
 
 /// A list of elements, each with its flag.
-#[derive(Debug, Drop)]
+#[derive(Drop)]
 pub struct Flags {
     flags: Vec<(Key, bool)>,
 }
@@ -40,7 +40,7 @@ impl Flags {
 }
 
 /// What is to be handled next: leaves, or elements with their flags, or nothing any more.
-#[derive(Debug, Drop)]
+#[derive(Drop)]
 pub enum Round {
     Leaves(Keys),
     Elements(Flags),

@@ -1,9 +1,9 @@
 use crate::draft::Draft;
-use lx_node::{Key, Point};
+use lx_node::{Key, Point, Txt};
 
-/// How points move with an edit, with the numbers of the rule. Offsets count scalar values of a text, or
-/// children of an element.
-#[derive(Clone, Copy, Debug, PartialEq, Eq)]
+/// How points move with an edit, with the numbers and the text of the rule. Offsets count UTF-16 code units of a
+/// text, or children of an element.
+#[derive(Drop)]
 pub enum PointRule {
     /// A child comes to an index of the parent.
     Put {
@@ -22,10 +22,10 @@ pub enum PointRule {
         to: u32,
         len: u32,
     },
-    /// A text is so long now.
+    /// A text is this one now.
     Set {
         key: Key,
-        len: u32,
+        text: Txt,
     },
     /// What is behind an offset of a text is in a new one now.
     Split {
@@ -51,11 +51,11 @@ pub enum PointRule {
         parent: Key,
         index: u32,
     },
-    /// A text gives way to another that is so long.
+    /// A text gives way to this one, of another key.
     Replace {
         old: Key,
         new: Key,
-        len: u32,
+        text: Txt,
     },
     /// Every point on the key becomes this one.
     Move {
@@ -80,14 +80,16 @@ impl Draft {
             PointRule::Splice { key, from, to, len } => {
                 self.selection.after_splice(key, from, to, len)
             }
-            PointRule::Set { key, len } => self.selection.after_set(key, len),
+            PointRule::Set { key, text } => self.selection.after_set(key, text.as_str()),
             PointRule::Split { key, at, new } => self.selection.after_split(key, at, new),
             PointRule::Join { first, len, second } => self.selection.after_join(first, len, second),
             PointRule::Children { from, to, size } => self.selection.after_children(from, to, size),
             PointRule::Unwrap { key, parent, index } => {
                 self.selection.after_unwrap(key, parent, index)
             }
-            PointRule::Replace { old, new, len } => self.selection.after_replace(old, new, len),
+            PointRule::Replace { old, new, text } => {
+                self.selection.after_replace(old, new, text.as_str())
+            }
             PointRule::Move { key, to } => self.selection.move_points(key, to),
         }
     }

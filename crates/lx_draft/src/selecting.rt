@@ -1,13 +1,15 @@
-ghost use Rattle.std.specs.Prelude.{◌≡◌};
+ghost use Rattle.std.specs.Prelude.{◌≡◌, ◌&&◌, nat_le};
 ghost use Rattle.lx_node.specs.Kinds as kinds;
 ghost use Rattle.lx_forest.specs.Lookups as lookups;
+ghost use Rattle.lx_text.specs.Texts.{is_offset};
 ghost use Rattle.lx_draft.specs.Selecting as selecting;
 
 use crate::draft::Draft;
+use lx_links::Links;
 use lx_node::{Cause, Fields, Key, Kind, Lost, Point, PointKind};
 use lx_select::Selection;
 
-/// Whether a point of the kind counts something in nodes of the kind: characters in a text or tab,
+/// Whether a point of the kind counts something in nodes of the kind: code units in a text or tab,
 /// children in an element.
 fn counts_in(point: PointKind, kind: Kind) -> bool
     ensures { result ≡ selecting.counts_in point kind }
@@ -18,9 +20,34 @@ fn counts_in(point: PointKind, kind: Kind) -> bool
     }
 }
 
+/// Whether there is a place at the offset in the text of a text or tab. In any other node there is one at 0 alone.
+#[tactic(auto, using(crate::proofs::TextPlaces::none_place, crate::proofs::TextPlaces::text_place))]
+fn is_in_text(links: &Links, key: Key, offset: u32) -> bool
+    ensures { result ≡ (nat_le offset (selecting.length_of (lookups.fields_of links.now key)) && is_offset offset (selecting.text_of (lookups.fields_of links.now key))) }
+{
+    match links.node(key) {
+        Some(node) => match &node.fields {
+            Fields::Text(text) => lx_text::has_offset(&text.text, offset),
+            _ => offset == 0,
+        },
+        None => offset == 0,
+    }
+}
+
+/// Whether the offset of a point is one of a place in its node: not behind the end, nor inside a surrogate pair of a
+/// text.
+pub fn is_place(links: &Links, point: &Point) -> bool
+    ensures { result ≡ selecting.is_place links.now point.now point.now.kind }
+{
+    match point.kind {
+        PointKind::Text => is_in_text(links, point.key, point.offset),
+        PointKind::Element => point.offset <= links.size(point.key),
+    }
+}
+
 impl Draft {
-    /// Why the selection can't be made, the first cause: a node isn't there, is of the wrong kind, or is
-    /// too short, or a cell isn't below the table.
+    /// Why the selection can't be made, the first cause: a node isn't there, is of the wrong kind, or
+    /// has no place at an offset, or a cell isn't below the table.
     pub(crate) fn select_fault(&self, selection: &Selection) -> Option<Cause>
         ensures { result ≡ selecting.select_fault selection.now self.now.forest }
     {
@@ -71,20 +98,10 @@ impl Draft {
     fn outside_point(&self, point: &Point) -> Option<Cause>
         ensures { result ≡ selecting.outside_point self.now.forest point.now }
     {
-        if point.offset <= self.extent(point) {
+        if is_place(&self.links, point) {
             None
         } else {
             Some(Cause::BadPlace(point.offset as u64))
-        }
-    }
-
-    /// How far a point of the kind may be in the node.
-    fn extent(&self, point: &Point) -> u32
-        ensures { result ≡ selecting.extent self.now.forest point.now point.now.kind }
-    {
-        match point.kind {
-            PointKind::Text => self.text_length(point.key),
-            PointKind::Element => self.links.size(point.key),
         }
     }
 
@@ -224,12 +241,12 @@ impl Draft {
     }
 
     /// Whether a point lies in the forest: its node is there and has characters or children, as the point's kind
-    /// says, and the offset is no further than the last of them.
+    /// says, and the offset is one of a place there.
     pub fn lies(&self, point: &Point) -> bool
         ensures { result ≡ selecting.lies_in self.now.forest point.now }
     {
         match self.links.kind(point.key) {
-            Some(kind) => counts_in(point.kind, kind) && point.offset <= self.extent(point),
+            Some(kind) => counts_in(point.kind, kind) && is_place(&self.links, point),
             None => false,
         }
     }
