@@ -3,6 +3,7 @@ pub mod Climbed
 pub mod Tails
 pub mod Keyed
 pub mod Joined
+pub mod Offsets
 pub mod Paths
 pub mod Covered
 pub mod Counted

@@ -14,7 +14,7 @@ use Rattle.lx_select.specs.Rules.{replace_moves, split_moves, join_moves}
 use Rattle.lx_forest.specs.Lookups.{label_of, kind_of, fields_of, parent_of, children_of, size_of, index_of, ancestors}
 use Rattle.lx_links.specs.Faults.{unknown}
 use Rattle.lx_draft.specs.Working.{Working}
-use Rattle.lx_draft.specs.Selecting.{length_of}
+use Rattle.lx_draft.specs.Selecting.{text_of}
 use Rattle.lx_draft.specs.Faults.{answer, after, text_in, splice_fault}
 use Rattle.lx_draft.specs.Steps.{new_step, set_step, splice_step, take_step, put_step}
 use Rattle.lx_draft.specs.Beside.{before_at, put_before_step, behind_at, put_behind_step}
@@ -22,7 +22,7 @@ use Rattle.lx_edit.specs.declared.around.Found.{Found}
 use Rattle.lx_edit.specs.declared.around.Found.TheVariants.{Nothing, Empty, Alike}
 use Rattle.lx_edit.specs.InTurn.{in_turn}
 use Rattle.lx_edit.specs.Conditions.{length_at, children_fault, replace_fault, wrap_fault, unwrap_fault, split_fault, join_fault}
-use Rattle.lx_edit.specs.Edits.{pointed, moved_before, moved_to_end, sent_from, sent_away, goes_too, removed, remove_step, brought, children_moved, children_step, kept, texts_pointed, replace_step, wrap_step, brought_up, unwrapped, unwrap_step}
+use Rattle.lx_edit.specs.Edits.{pointed, moved_before, moved_behind, moved_to_end, sent_from, sent_away, goes_too, removed, remove_step, brought, children_moved, children_step, kept, texts_pointed, replace_step, wrap_step, brought_up, unwrapped, unwrap_step}
 use Rattle.lx_edit.specs.Texts.{tail_of, tail_made, cut_in_two, cut_at, split_step, keys_from, text_or_none, texts_joined, join_step, simple_at, found_before, found_behind, enough, joined_behind, join_on, joined_before, join_back, emptiness, join_simple, joined_around, join_around_step}
 use Rattle.lx_edit.proofs.Keyed.{cut-next_key}
 
@@ -113,6 +113,11 @@ unfolding moved_before
 moved_before_path path other k may w v r e =
     then path w v (take_step k w) (put_before_step k other) (λ u f. path.take k w u r f) (λ u a f. put_before_path path k other may u v (path.ready w u a) f) e
 
+pub moved_behind_path : {D : Working → Type 0} {R : Working → Working → Type 0} {P : ℕ → Type 0} → IsPath D R P → (other k : ℕ) → P k → Leads D R (moved_behind other k)
+unfolding moved_behind
+moved_behind_path path other k may w v r e =
+    then path w v (take_step k w) (put_behind_step k other) (λ u f. path.take k w u r f) (λ u a f. put_behind_path path k other may u v (path.ready w u a) f) e
+
 pub moved_to_end_path : {D : Working → Type 0} {R : Working → Working → Type 0} {P : ℕ → Type 0} → IsPath D R P → (parent k : ℕ) → P k → Leads D R (moved_to_end parent k)
 unfolding moved_to_end
 moved_to_end_path path parent k may w v r e =
@@ -168,7 +173,7 @@ points_if_path path false moved w r = self path w r
 
 pub texts_pointed_path : {D : Working → Type 0} {R : Working → Working → Type 0} {P : ℕ → Type 0} → IsPath D R P → (k with : ℕ) (w : Working) → D w → R w (texts_pointed k with w)
 unfolding texts_pointed
-texts_pointed_path path k with w r = points_if_path path _ (replace_moves k with (length_of (fields_of w.forest with))) w r
+texts_pointed_path path k with w r = points_if_path path _ (replace_moves k with (text_of (fields_of w.forest with))) w r
 
 -- the children that go are those that the first has when the second was put beside it
 pub replace_path : {D : Working → Type 0} {R : Working → Working → Type 0} {P : ℕ → Type 0} → IsPath D R P → (k with : ℕ) (keep : Bool) (w v : Working) → D w → P with

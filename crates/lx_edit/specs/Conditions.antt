@@ -9,7 +9,8 @@ use Rattle.lx_node.specs.declared.cause.Cause.TheVariants.{BadPlace}
 use Rattle.lx_forest.specs.Forest.{Forest}
 use Rattle.lx_forest.specs.Lookups.{label_of, kind_of, parent_of, next_of, children_of, is_within}
 use Rattle.lx_links.specs.Faults.{unknown, not_below, bound_to, misfit}
-use Rattle.lx_draft.specs.Selecting.{unlike, length_told}
+use Rattle.lx_text.specs.Texts.{length_told, is_offset}
+use Rattle.lx_draft.specs.Selecting.{unlike}
 use Rattle.lx_draft.specs.Faults.{text_in}
 
 -- the kind of what a node stands below
@@ -69,16 +70,23 @@ length_in (Some text) = length_told text.text
 abbrev pub length_at : Forest → ℕ → ℕ
 length_at f k = length_in (text_in (label_of f k))
 
--- the first of these offsets that isn't above the one before it and within a text of the length
-abbrev pub bad_offset : ℕ → ℕ → List ℕ → Option Cause
-bad_offset low length [] = None
-bad_offset low length (o ∷ rest) =
-    if nat_lt low o && nat_lt o length then bad_offset o length rest else Some (BadPlace o)
+abbrev pub text_or_none : Option TextFields → List ℕ
+text_or_none None = []
+text_or_none (Some text) = text.text
+
+-- a place within a text: before its end, and not inside a surrogate pair
+abbrev pub is_inside : ℕ → List ℕ → Bool
+is_inside o text = nat_lt o (length_told text) && is_offset o text
+
+-- the first of these offsets that isn't above the one before it and a place within the text
+abbrev pub bad_offset : ℕ → List ℕ → List ℕ → Option Cause
+bad_offset low text [] = None
+bad_offset low text (o ∷ rest) = if nat_lt low o && is_inside o text then bad_offset o text rest else Some (BadPlace o)
 
 abbrev pub split_fault : ℕ → List ℕ → Forest → Option Cause
 split_fault k offsets f =
     option_or (unknown f k) (option_or (unlike is_text (kind_of f k))
-    (option_or (not_below f k) (bad_offset 0 (length_at f k) offsets)))
+    (option_or (not_below f k) (bad_offset 0 (text_or_none (text_in (label_of f k))) offsets)))
 
 -- the second doesn't come right behind the first
 abbrev pub is_key : Option ℕ → ℕ → Bool

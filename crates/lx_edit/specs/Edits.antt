@@ -10,10 +10,10 @@ use Rattle.lx_select.specs.Rules.{carry_moves, replace_moves, moved_to}
 use Rattle.lx_forest.specs.Forest.{Forest}
 use Rattle.lx_forest.specs.Lookups.{kind_of, fields_of, parent_of, children_of, size_of, index_of, previous_of, next_of, ancestors}
 use Rattle.lx_draft.specs.Working.{Working}
-use Rattle.lx_draft.specs.Selecting.{length_of}
+use Rattle.lx_draft.specs.Selecting.{length_of, text_of}
 use Rattle.lx_draft.specs.Faults.{answer, after}
 use Rattle.lx_draft.specs.Steps.{take_step, put_step}
-use Rattle.lx_draft.specs.Beside.{put_before_step}
+use Rattle.lx_draft.specs.Beside.{put_before_step, put_behind_step}
 use Rattle.lx_edit.specs.InTurn.{in_turn}
 use Rattle.lx_edit.specs.Conditions.{children_fault, replace_fault, wrap_fault, unwrap_fault}
 
@@ -46,9 +46,12 @@ end_in f k (Some kind) =
 
 -- ---- one edit after another
 
--- taken out, and put before another, or at the end of a node's children
+-- taken out, and put before another, right behind another, or at the end of a node's children
 unfoldable pub moved_before : ℕ → ℕ → Working → Result Working Cause
 moved_before other k w = after (take_step k w) (put_before_step k other)
+
+unfoldable pub moved_behind : ℕ → ℕ → Working → Result Working Cause
+moved_behind other k w = after (take_step k w) (put_behind_step k other)
 
 unfoldable pub moved_to_end : ℕ → ℕ → Working → Result Working Cause
 moved_to_end parent k w = after (take_step k w) (λ v. put_step k parent (size_of v.forest parent) v)
@@ -129,7 +132,7 @@ is_text_at (Some kind) = is_text kind
 unfoldable pub texts_pointed : ℕ → ℕ → Working → Working
 texts_pointed k with w =
     if is_text_at (kind_of w.forest k) && is_text_at (kind_of w.forest with)
-    then pointed (replace_moves k with (length_of (fields_of w.forest with))) w
+    then pointed (replace_moves k with (text_of (fields_of w.forest with))) w
     else w
 
 -- the second is put before the first, gets its children if they are to be kept, and the first is removed

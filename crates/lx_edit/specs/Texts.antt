@@ -21,6 +21,7 @@ use Rattle.lx_draft.specs.Steps.{text_replaced, new_step, splice_step, take_step
 use Rattle.lx_draft.specs.Beside.{put_behind_step}
 use Rattle.lx_edit.specs.declared.around.Found.{Found}
 use Rattle.lx_edit.specs.declared.around.Found.TheVariants.{Nothing, Empty, Alike}
+pub use Rattle.lx_edit.specs.Conditions.{text_or_none}
 use Rattle.lx_edit.specs.Conditions.{length_at, split_fault, join_fault}
 use Rattle.lx_edit.specs.Edits.{pointed, remove_step}
 
@@ -60,10 +61,6 @@ keys_from k zero = []
 keys_from k (suc n) = k ∷ keys_from (k + 1) n
 
 -- ---- join
-
-abbrev pub text_or_none : Option TextFields → List ℕ
-text_or_none None = []
-text_or_none (Some text) = text.text
 
 -- the second's text goes behind the first's, with the points there, and the second is taken out
 abbrev pub texts_joined : ℕ → ℕ → Working → Result Working Cause

@@ -16,7 +16,7 @@ use lx_node::{Fault, Key, Mode, TextFields};
 use std::alloc::Global;
 
 /// What a text finds beside it that it is joined with.
-#[derive(Clone, Copy, Debug)]
+#[derive(Clone, Copy)]
 pub enum Found {
     /// Nothing that it is joined with.
     Nothing,

@@ -1,14 +1,15 @@
 //! Why an edit is refused before it begins.
 
-ghost use Rattle.std.specs.Prelude.{◌≡◌, ◌≢◌, true, None, OnOk, IfErr};
+ghost use Rattle.std.specs.Prelude.{◌≡◌, ◌≢◌, true, None, OnOk, IfErr, chars};
 ghost use Rattle.lx_node.specs.Trees.{nil};
 ghost use Rattle.lx_node.specs.Kinds as kinds;
 ghost use Rattle.lx_forest.specs.Lookups as lookups;
+ghost use Rattle.lx_text.specs.Texts.{length_told};
 ghost use Rattle.lx_draft.specs.Selecting.{unlike};
-ghost use Rattle.lx_draft.specs.Faults.{StopsAt};
+ghost use Rattle.lx_draft.specs.Faults.{StopsAt, text_in};
 ghost use Rattle.lx_edit.specs.Conditions as conditions;
 
-use crate::texts::length_at;
+use crate::texts::text_at;
 use lx_draft::Draft;
 use lx_links::{Links, misfit};
 use lx_node::{Cause, Fault, Key, Kind, NoMemory};
@@ -157,18 +158,36 @@ fn no_text(links: &Links, key: Key) -> Option<Cause>
     }
 }
 
-/// The first offset that isn't above the one before it and within a text of the length.
-fn bad_offset(length: u32, offsets: &[u32]) -> Option<Cause>
-    ensures { result ≡ conditions.bad_offset 0 length offsets.now }
+/// The first offset that isn't above the one before it and a place within the text, which has this length in UTF-16
+/// code units. The text is gone through once.
+fn bad_offset(text: &str, length: u32, offsets: &[u32]) -> Option<Cause>
+    requires { length ≡ length_told (chars text.now) }
+    ensures { result ≡ conditions.bad_offset 0 (chars text.now) offsets.now }
 {
     let mut low = 0;
+    let mut rest = text;
     for offset in offsets {
         if *offset <= low || *offset >= length {
             return Some(Cause::BadPlace(*offset as u64));
         }
+        match lx_text::rest_from(rest, *offset - low) {
+            Some(behind) => rest = behind,
+            None => return Some(Cause::BadPlace(*offset as u64)),
+        }
         low = *offset;
     }
     None
+}
+
+/// The same of the text of a node, which is empty for one that isn't a text.
+#[tactic(auto, using(crate::proofs::Tails::no_characters, crate::proofs::Offsets::none_told))]
+fn bad_offset_at(draft: &Draft, key: Key, offsets: &[u32]) -> Option<Cause>
+    ensures { result ≡ conditions.bad_offset 0 (conditions.text_or_none (text_in (lookups.label_of draft.now.forest key))) offsets.now }
+{
+    match text_at(draft, key) {
+        Some(text) => bad_offset(text.text.as_str(), lx_text::length_of(&text.text), offsets),
+        None => bad_offset("", 0, offsets),
+    }
 }
 
 /// Why a text can't be split at these offsets, the first cause, if there is one.
@@ -180,7 +199,7 @@ pub fn split_fault(draft: &Draft, key: Key, offsets: &[u32]) -> Option<Cause>
         .missing(key)
         .or_else(|| no_text(links, key))
         .or_else(|| links.not_below(key))
-        .or_else(|| bad_offset(length_at(draft, key), offsets))
+        .or_else(|| bad_offset_at(draft, key, offsets))
 }
 
 /// The second doesn't come right behind the first.

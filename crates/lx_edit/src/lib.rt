@@ -25,4 +25,4 @@ pub use removing::remove;
 pub use replacing::{replace, wrap};
 pub use split::split_text;
 pub use texts::length_at;
-pub use unwrapping::unwrap;
+pub use unwrapping::{move_before, move_behind, unwrap};

@@ -2,6 +2,7 @@
 
 ghost use Rattle.std.specs.Prelude.{◌≡◌, IfOk};
 ghost use Rattle.lx_forest.specs.Lookups as lookups;
+ghost use Rattle.lx_links.specs.Stands.{Sound};
 ghost use Rattle.lx_draft.specs.Selecting as selecting;
 ghost use Rattle.lx_edit.specs.Edits as edits;
 
@@ -11,7 +12,8 @@ use std::alloc::Global;
 
 /// The keys of a node's children, in order.
 pub fn children_of(alloc: Global, links: &Links, key: Key) -> Result<Vec<Key>, NoMemory>
-    ensures { IfOk result (λ keys. keys.items ≡ lookups.children_of links.now key) }
+    ensures keys { IfOk result (λ keys. keys.items ≡ lookups.children_of links.now key) }
+    ensures sound { Sound links.now }
 {
     let mut keys = Vec::new(alloc);
     for child in links.children(key) {
@@ -31,7 +33,7 @@ pub fn element_point(key: Key, offset: u32) -> Point
     }
 }
 
-/// A point in a text or tab, behind so many of its characters.
+/// A point in a text or tab, at an offset in UTF-16 code units.
 pub fn text_point(key: Key, offset: u32) -> Point
     ensures { result ≡ edits.text_point key offset }
 {

@@ -13,11 +13,11 @@ use std::alloc::Global;
 
 /// Cuts a text at offsets, and answers the keys of the new texts. The text keeps what stands before the first
 /// offset. Each new text has the fields of the cut one and what stands up to the next offset, and comes
-/// right behind the piece before it; points behind an offset go along. Offsets count from the text's start,
-/// in the unit of `lx_text`. It is refused where there is no such node, where it isn't a text, where it
-/// stands below nothing, and for the first offset that isn't above the one before it, above 0 and below the
-/// text's length; where 100,000 counts were taken, and where the new texts would bring what was written above
-/// 16,777,216 scalar values.
+/// right behind the piece before it; points behind an offset go along. Offsets count UTF-16 code units from the
+/// text's start. It is refused where there is no such node, where it isn't a text, where it stands below
+/// nothing, and for the first offset that isn't above the one before it, above 0 and below the text's length, or
+/// that is inside a surrogate pair; where 100,000 counts were taken, and where the new texts would bring what was
+/// written above 16,777,216 scalar values.
 #[tactic(auto, unfolding(crate::specs::Texts::split_step))]
 pub fn split_text(alloc: Global, draft: &mut Draft, key: Key, at: &[u32]) -> Result<Vec<Key>, Fault>
     ensures ok { OnOk result (split_step key at.now draft.old ≡ Ok draft.new) }

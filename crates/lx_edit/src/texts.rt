@@ -25,7 +25,7 @@ pub(crate) fn text_at(draft: &Draft, key: Key) -> Option<&TextFields>
     }
 }
 
-/// The length of a text, in the unit of `lx_text`, and 0 of any other node.
+/// The length of a text, in UTF-16 code units as far as a u32 tells them, and 0 of any other node.
 pub fn length_at(draft: &Draft, key: Key) -> u32
     ensures { result ≡ conditions.length_at draft.now.forest key }
 {

@@ -88,11 +88,22 @@ fn move_each_before(draft: &mut Draft, other: Key, keys: &[Key]) -> Result<(), F
 
 /// Takes a node out, and puts it before another.
 #[tactic(auto, unfolding(crate::specs::Edits::moved_before))]
-fn move_before(draft: &mut Draft, other: Key, key: Key) -> Result<(), Fault>
+pub fn move_before(draft: &mut Draft, other: Key, key: Key) -> Result<(), Fault>
     ensures ok { OnOk result (edits.moved_before other key draft.old ≡ Ok draft.new) }
     ensures err { IfErr result (λ e. TellsStep e (edits.moved_before other key draft.old)) }
     ensures standing { IfErr result (λ e. StillStands e draft.new) }
 {
     draft.take(key)?;
     draft.put_before(key, other)
+}
+
+/// Takes a node out, and puts it right behind another.
+#[tactic(auto, unfolding(crate::specs::Edits::moved_behind))]
+pub fn move_behind(draft: &mut Draft, other: Key, key: Key) -> Result<(), Fault>
+    ensures ok { OnOk result (edits.moved_behind other key draft.old ≡ Ok draft.new) }
+    ensures err { IfErr result (λ e. TellsStep e (edits.moved_behind other key draft.old)) }
+    ensures standing { IfErr result (λ e. StillStands e draft.new) }
+{
+    draft.take(key)?;
+    draft.put_behind(key, other)
 }

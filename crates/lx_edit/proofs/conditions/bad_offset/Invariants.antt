@@ -1,7 +1,9 @@
-use Rattle.std.proofs.Common.{◌≡◌, drop}
-use Rattle.lx_edit.specs.Conditions as conditions
+use Rattle.std.specs.Str.{chars}
+use denote.Shadow.{shadow}
+use denote.Text.{Utf8}
+use Rattle.lx_edit.proofs.Offsets.{ArePassed}
 use Rattle.lx_edit.proofs.conditions.bad_offset.Given as goal
 
--- the first bad offset is among those that are left, above the last one
+-- the rest of the text begins at the last offset that was passed
 abbrev pub invariant-loop-offset : goal.invariant-loop-offset
-invariant-loop-offset l = conditions.bad_offset l.low l.length (drop l.offset-index l.offsets) ≡ conditions.bad_offset 0 l.length l.offsets
+invariant-loop-offset l = record { utf8 : shadow (Utf8 l.rest); passed : ArePassed l.offsets l.offset-index l.low (chars l.text) (chars l.rest) }
