@@ -15,8 +15,10 @@ use Rattle.lx_node.specs.declared.cause.Point.{Point}
 use Rattle.lx_node.specs.declared.cause.PointKind.{PointKind}
 use Rattle.lx_node.specs.declared.fields.TextFields.{TextFields}
 use Rattle.lx_select.specs.Rules.{carry_moves, is_behind, is_counting_children, join_moves, offset_sum, splice_moves, spliced_offset, take_moves}
+use Rattle.lx_text.proofs.Places.{length-append}
+use Rattle.lx_text.proofs.Told.{told-within}
 use Rattle.lx_text.specs.Texts.{text_length}
-use Rattle.std.proofs.Common.{List, None, Option, Some, [], ap, arith, cond, eqb, false, inl, inr, length-append, ltb, refl, subst, sym, true, ℕ, ◌&&◌, ◌++◌, ◌+◌, ◌-◌, ◌∙◌, ◌∷◌, ◌≡◌, ◌≢◌, ◌≤◌, ◌⊎◌}
+use Rattle.std.proofs.Common.{None, Option, Some, [], ap, arith, cond, eqb, false, inl, inr, ltb, refl, subst, sym, true, ℕ, ◌&&◌, ◌++◌, ◌+◌, ◌-◌, ◌∙◌, ◌∷◌, ◌≡◌, ◌≢◌, ◌≤◌, ◌⊎◌}
 use Rattle.std.proofs.lemmas.Bool.Decides.{eqb_tells, nat_tests}
 use Rattle.lx_node.specs.declared.cause.PointKind.TheVariants as point
 
@@ -65,11 +67,7 @@ take_stays parent index x apart = elim apart [
 
 length_within : (o : Option TextFields) → length_in o ≤ text_length (text_or_none o)
 length_within None = omega arith
-length_within (Some t) = omega arith
-
-text_length-append : (a b : List ℕ) → text_length (a ++ b) ≡ text_length a + text_length b
-unfolding text_length
-text_length-append a b = length-append a b
+length_within (Some t) = told-within t.text
 
 sum_within : (a b : ℕ) → a + b ≤ last_u32 → offset_sum a b ≡ a + b
 unfolding offset_sum
@@ -123,7 +121,7 @@ module _ (first second : ℕ) (w v : Working) (h : IsForest w.forest) (j : AreJo
   place_second : (o : ℕ) → text_length (text_at w.forest first ++ text_at w.forest second) ≤ last_u32 → o ≤ length_at w.forest second → offset_sum (length_at w.forest first) o ≡ length_at w.forest first + o
   place_second o fits within =
       sum_within (length_at w.forest first) o
-      (omega (arith, fits, within, text_length-append (text_at w.forest first) (text_at w.forest second), length_within (text_in (label_of w.forest first)), length_within (text_in (label_of w.forest second))))
+      (omega (arith, fits, within, length-append (text_at w.forest first) (text_at w.forest second), length_within (text_in (label_of w.forest first)), length_within (text_in (label_of w.forest second))))
 
   keeps_place : text_length (text_at w.forest first ++ text_at w.forest second) ≤ last_u32 → (x : Point) → is_among x.key (first ∷ second ∷ []) ≡ true → x.offset ≤ length_at w.forest x.key
       → (is_among (moved x).key (first ∷ []) ≡ true) × (place_among v.forest (first ∷ []) (moved x) ≡ place_among w.forest (first ∷ second ∷ []) x)

@@ -34,9 +34,11 @@ use Rattle.lx_select.specs.Rules.{join_moves, splice_moves, take_moves}
 use Rattle.lx_select.specs.Selection.{each_point}
 use Rattle.lx_select.specs.declared.selection.Selection.{Selection}
 use Rattle.lx_select.specs.declared.selection.Selection.TheVariants.{Cells, Nodes, Nothing, Range}
-use Rattle.lx_text.specs.Texts.{spliced_text, text_length}
-use Rattle.std.proofs.Common.{List, None, Ok, Option, Some, [], ap, append-nil, ap₂, arith, cond, drop, inl, inr, is_some, length, length-append, option_map, refl, subst, sym, take, true, ℕ, ◌++◌, ◌∙◌, ◌∷◌, ◌≡◌, ◌≢◌, ◌≤◌}
-use Rattle.std.proofs.Math.Seq.{drop-length, take-length}
+use Rattle.lx_text.proofs.Appended.{spliced-end}
+use Rattle.lx_text.proofs.Places.{length-append}
+use Rattle.lx_text.proofs.Told.{told-all}
+use Rattle.lx_text.specs.Texts.{text_length}
+use Rattle.std.proofs.Common.{List, None, Ok, Option, Some, [], ap, ap₂, arith, cond, inl, inr, is_some, length, option_map, refl, subst, sym, true, ℕ, ◌++◌, ◌∙◌, ◌∷◌, ◌≡◌, ◌≢◌, ◌≤◌}
 use Rattle.std.proofs.lemmas.Bool.Decides.{eqb_tells}
 use Rattle.std.specs.Option.{option_or}
 use Rattle.lx_node.specs.declared.kind.Kind.TheVariants as kinds
@@ -53,19 +55,6 @@ text_there f k from to (Some s) here e = by_text (text_fields s.label.kind s.lab
 
 pub text_spliced : (f : Forest) (k from to : ℕ) → splice_fault k from to f ≡ None → (t : TextFields) × (text_in (label_of f k) ≡ Some t)
 text_spliced f k from to e = text_there f k from to (spot f k) refl e
-
--- of the first of two texts that are no longer than offsets tell, its length is told as it is
-length_told_all : (text more : List ℕ) → text_length (text ++ more) ≤ last_u32 → length_told text ≡ text_length text
-unfolding text_length
-length_told_all text more fits = omega (arith, fits, length-append text more)
-
--- a piece at the end of a text comes behind it
-spliced_end : (end : ℕ) (text more : List ℕ) → end ≡ text_length text → spliced_text end end more text ≡ text ++ more
-unfolding text_length spliced_text
-spliced_end end text more is =
-    ap (λ n. take n text ++ more ++ drop n text) is
-    ∙ ap₂ (λ (a b : List ℕ). a ++ more ++ b) (take-length text) (drop-length text)
-    ∙ append-nil (text ++ more)
 
 -- a text's fields with more behind its own text
 abbrev pub with_behind : TextFields → List ℕ → Fields
@@ -197,8 +186,8 @@ spliced_of first second w s e =
 spliced_fields : (f : Forest) (k : ℕ) (t : TextFields) (more : List ℕ) → text_in (label_of f k) ≡ Some t → text_length (t.text ++ more) ≤ last_u32
     → label_with_piece (label_of f k) (length_at f k) (length_at f k) more ≡ with_behind t more
 spliced_fields f k t more is fits =
-    let end : length_at f k ≡ text_length t.text = ap length_in is ∙ length_told_all t.text more fits in
-    ap (λ o. with_piece o (length_at f k) (length_at f k) more) is ∙ ap (text_replaced t) (spliced_end (length_at f k) t.text more end)
+    let end : length_at f k ≡ text_length t.text = ap length_in is ∙ told-all t.text (omega (arith, fits, length-append t.text more)) in
+    ap (λ o. with_piece o (length_at f k) (length_at f k) more) is ∙ ap (text_replaced t) (spliced-end (length_at f k) more t.text end)
 
 -- what the take left
 record IsTaken (k : ℕ) (u v : Working) : Type 0 where

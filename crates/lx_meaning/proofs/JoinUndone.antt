@@ -8,7 +8,7 @@ use Rattle.lx_draft.specs.Working.{Working}
 use Rattle.lx_edit.proofs.Climbed.{first_part}
 use Rattle.lx_edit.proofs.Covered.{covered_path}
 use Rattle.lx_edit.proofs.Paths.{join_path}
-use Rattle.lx_edit.specs.Conditions.{bad_offset, length_at, length_in, split_fault}
+use Rattle.lx_edit.specs.Conditions.{bad_offset, split_fault}
 use Rattle.lx_edit.specs.InTurn.{in_turn}
 use Rattle.lx_edit.specs.Texts.{cut_at, join_step, keys_from, split_step, text_or_none}
 use Rattle.lx_forest.specs.Forest.{Forest}
@@ -18,7 +18,7 @@ use Rattle.lx_meaning.proofs.JoinCuts.{AreLeft, cuts_leave, keys_from-above, lef
 use Rattle.lx_meaning.proofs.JoinSpots.{children_left, label_like, label_other, parent_other, same_spot_by, text_first}
 use Rattle.lx_meaning.proofs.JoinSteps.{AreJoined, are_joined}
 use Rattle.lx_meaning.proofs.SplitCuts.{label_is, text_label}
-use Rattle.lx_meaning.proofs.SplitLaws.{told-splits}
+use Rattle.lx_meaning.proofs.SplitLaws.{no_offset, told-splits}
 use Rattle.lx_meaning.proofs.SplitPieces.{ends_self}
 use Rattle.lx_meaning.specs.Reading.{text_at, texts_of}
 use Rattle.lx_meaning.specs.Splits.{IsSplit}
@@ -27,9 +27,10 @@ use Rattle.lx_node.specs.Limits.{last_u32}
 use Rattle.lx_node.specs.Siblings.{is_among}
 use Rattle.lx_node.specs.declared.cause.Cause.{Cause}
 use Rattle.lx_node.specs.declared.fields.TextFields.{TextFields}
+use Rattle.lx_text.proofs.Places.{length-append}
 use Rattle.lx_text.specs.Texts.{text_length}
-use Rattle.std.proofs.Common.{Bool, List, None, Ok, Option, Result, Some, [], ap, append-nil, append_assoc, ap₂, arith, false, inl, inr, length, length-append, refl, subst, sym, true, ℕ, ◌++◌, ◌∙◌, ◌∷◌, ◌≡◌, ◌≢◌, ◌≤◌}
-use Rattle.std.proofs.lemmas.Bool.Decides.{eqb_tells, nat_tests}
+use Rattle.std.proofs.Common.{Bool, List, None, Ok, Option, Result, Some, [], ap, append-nil, append_assoc, ap₂, arith, false, inl, inr, length, refl, subst, sym, true, ℕ, ◌++◌, ◌∙◌, ◌∷◌, ◌≡◌, ◌≢◌, ◌≤◌}
+use Rattle.std.proofs.lemmas.Bool.Decides.{eqb_tells}
 use Rattle.std.specs.Option.{option_or}
 
 -- ---- joins in turn
@@ -75,7 +76,6 @@ rejoined_then k n rest v w u h apart j more = record {
 }
 
 fits_first : (a b c : List ℕ) → text_length (a ++ (b ++ c)) ≤ last_u32 → text_length (a ++ b) ≤ last_u32
-unfolding text_length
 fits_first a b c fits = omega (arith, fits, length-append a (b ++ c), length-append b c, length-append a b)
 
 -- all of them, where offsets tell every place of the whole
@@ -138,7 +138,7 @@ module _ (k : ℕ) (offsets new : List ℕ) (t : TextFields) (w v u : Working) (
 -- what allowed the split
 record IsSplitOf (k : ℕ) (offsets : List ℕ) (w v : Working) : Type 0 where
   there : has k w.forest ≡ true
-  within : bad_offset 0 (length_in (text_in (label_of w.forest k))) offsets ≡ None
+  within : bad_offset 0 (text_at w.forest k) offsets ≡ None
   cuts : cut_at k 0 offsets w ≡ Ok v
 
 split_of : (k : ℕ) (offsets : List ℕ) (w v : Working) → split_step k offsets w ≡ Ok v → IsSplitOf k offsets w v
@@ -146,14 +146,14 @@ unfolding split_step
 split_of k offsets w v e =
     let went = first_part (answer (split_fault k offsets w.forest) w) (cut_at k 0 offsets) v e in
     let allowed = answered (split_fault k offsets w.forest) w went.0 went.1 in
-    let a = both_none (unknown w.forest k) (option_or (unlike is_text (kind_of w.forest k)) (option_or (not_below w.forest k) (bad_offset 0 (length_at w.forest k) offsets))) allowed.0 in
-    let b = both_none (unlike is_text (kind_of w.forest k)) (option_or (not_below w.forest k) (bad_offset 0 (length_at w.forest k) offsets)) a.1 in
-    let c = both_none (not_below w.forest k) (bad_offset 0 (length_at w.forest k) offsets) b.1 in
+    let a = both_none (unknown w.forest k) (option_or (unlike is_text (kind_of w.forest k)) (option_or (not_below w.forest k) (bad_offset 0 (text_at w.forest k) offsets))) allowed.0 in
+    let b = both_none (unlike is_text (kind_of w.forest k)) (option_or (not_below w.forest k) (bad_offset 0 (text_at w.forest k) offsets)) a.1 in
+    let c = both_none (not_below w.forest k) (bad_offset 0 (text_at w.forest k) offsets) b.1 in
     record { there = grind (arith, a.0); within = c.1; cuts = ap (cut_at k 0 offsets) allowed.1 ∙ went.2 }
 
 -- an offset is within characters
-text_within : (o : Option TextFields) (offset : ℕ) (rest : List ℕ) → bad_offset 0 (length_in o) (offset ∷ rest) ≡ None → (t : TextFields) × (o ≡ Some t)
-text_within None offset rest e = absurd (grind (arith, nat_tests, e))
+text_within : (o : Option TextFields) (offset : ℕ) (rest : List ℕ) → bad_offset 0 (text_or_none o) (offset ∷ rest) ≡ None → (t : TextFields) × (o ≡ Some t)
+text_within None offset rest e = absurd (no_offset offset rest e)
 text_within (Some t) offset rest e = (t, refl)
 
 same_rest : (k : ℕ) (xs ys : List ℕ) → k ∷ xs ≡ k ∷ ys → xs ≡ ys

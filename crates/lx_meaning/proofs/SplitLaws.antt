@@ -13,7 +13,8 @@ use Rattle.lx_node.specs.declared.fields.TextFields.{TextFields}
 use Rattle.lx_node.specs.declared.cause.Cause.{Cause}
 use Rattle.lx_node.specs.declared.cause.Cause.TheVariants.{WrongKind}
 use Rattle.lx_node.proofs.Siblings.{is_named_tells}
-use Rattle.lx_text.specs.Texts.{text_length, slice_of}
+use Rattle.lx_text.specs.Texts.{text_length, front_of, rest_of, slice_of}
+use Rattle.lx_text.proofs.Told.{offset_start, told-none}
 use Rattle.lx_forest.specs.Forest.{Label}
 use Rattle.lx_forest.specs.Lookups.{has, spot, label_of, kind_of, parent_of, children_of, IsForest, IsHeld}
 use Rattle.lx_forest.proofs.Lookups.{NoRepeats-children_of, has-child}
@@ -26,7 +27,7 @@ use Rattle.lx_draft.specs.Steps.{text_replaced}
 use Rattle.lx_draft.proofs.Gaps.{parent_here}
 use Rattle.lx_draft.proofs.Put.{both_none}
 use Rattle.lx_draft.proofs.Touched.{is_some-kind_of}
-use Rattle.lx_edit.specs.Conditions.{length_at, length_in, bad_offset, split_fault}
+use Rattle.lx_edit.specs.Conditions.{length_at, bad_offset, split_fault}
 use Rattle.lx_edit.specs.Texts.{text_or_none, cut_at, split_step, keys_from}
 use Rattle.lx_meaning.specs.Reading.{text_at, texts_of, read_below, in_place_of, place_among, PlacesAreKept}
 use Rattle.lx_meaning.specs.Splits.{cut_from, IsSplit, SplitsAreTold}
@@ -39,8 +40,8 @@ use Rattle.lx_meaning.proofs.SplitTexts.{whole-is}
 -- ---- what isn't refused
 
 -- no offset is within what has no characters
-no_offset : (o : ℕ) (rest : List ℕ) → bad_offset 0 0 (o ∷ rest) ≢ None
-no_offset o rest none = absurd (grind (arith, none, nat_tests))
+pub no_offset : (o : ℕ) (rest : List ℕ) → bad_offset 0 [] (o ∷ rest) ≢ None
+no_offset o rest none = absurd (grind (arith, none, nat_tests, told-none))
 
 text_kind : (kind : Kind) → is_text kind ≡ true → kind ≡ kinds.Text
 unfolding is_text
@@ -57,7 +58,7 @@ kind_by (Some kind) known e = by_test (is_text kind) refl e where
 
 record IsCutUp (k : ℕ) (list : List ℕ) (w v : Working) : Type 0 where
   kind_is : kind_of w.forest k ≡ Some kinds.Text
-  allowed : bad_offset 0 (length_at w.forest k) list ≡ None
+  allowed : bad_offset 0 (text_at w.forest k) list ≡ None
   cut : cut_at k 0 list w ≡ Ok v
 
 cut_up : (k : ℕ) (list : List ℕ) (w v : Working) → split_step k list w ≡ Ok v → IsCutUp k list w v
@@ -66,9 +67,9 @@ cut_up k list w v e = by_fault (split_fault k list w.forest) refl e where
   by_fault : (o : Option Cause) → split_fault k list w.forest ≡ o → after (answer o w) (cut_at k 0 list) ≡ Ok v → IsCutUp k list w v
   by_fault (Some c) is e = absurd (cc)
   by_fault None is e =
-      let a = both_none (unknown w.forest k) (option_or (unlike is_text (kind_of w.forest k)) (option_or (not_below w.forest k) (bad_offset 0 (length_at w.forest k) list))) is in
-      let b = both_none (unlike is_text (kind_of w.forest k)) (option_or (not_below w.forest k) (bad_offset 0 (length_at w.forest k) list)) a.1 in
-      let c = both_none (not_below w.forest k) (bad_offset 0 (length_at w.forest k) list) b.1 in
+      let a = both_none (unknown w.forest k) (option_or (unlike is_text (kind_of w.forest k)) (option_or (not_below w.forest k) (bad_offset 0 (text_at w.forest k) list))) is in
+      let b = both_none (unlike is_text (kind_of w.forest k)) (option_or (not_below w.forest k) (bad_offset 0 (text_at w.forest k) list)) a.1 in
+      let c = both_none (not_below w.forest k) (bad_offset 0 (text_at w.forest k) list) b.1 in
       record { kind_is = kind_by (kind_of w.forest k) (is_some-kind_of w.forest k ∙ grind (arith, a.0)) b.0; allowed = c.1; cut = e }
 
 -- ---- what is left
@@ -107,7 +108,7 @@ left_by_cuts k list t w v kind here few r go =
 
 -- a node of the kind of texts that doesn't have the fields of one has no characters
 nothing_cut : slice_of 0 (length_told []) [] ≡ []
-unfolding slice_of text_length
+unfolding slice_of front_of rest_of
 nothing_cut = refl
 
 left_same : (k : ℕ) (w : Working) → IsReady w → kind_of w.forest k ≡ Some kinds.Text → text_in (label_of w.forest k) ≡ None → IsLeft k [] [] w w
@@ -128,14 +129,15 @@ left_same k w ready kind none =
 
 left_by : (k : ℕ) (list : List ℕ) (w v : Working) → IsReady w → text_length (text_at w.forest k) ≤ last_u32 → IsCutUp k list w v → IsLeft k list (keys_from w.next_key (length list)) w v
 left_by k list w v ready few c = by_text (text_in (label_of w.forest k)) refl list c.allowed c.cut where
-  by_text : (o : Option TextFields) → text_in (label_of w.forest k) ≡ o → (list : List ℕ) → bad_offset 0 (length_at w.forest k) list ≡ None → cut_at k 0 list w ≡ Ok v → IsLeft k list (keys_from w.next_key (length list)) w v
+  by_text : (o : Option TextFields) → text_in (label_of w.forest k) ≡ o → (list : List ℕ) → bad_offset 0 (text_at w.forest k) list ≡ None → cut_at k 0 list w ≡ Ok v → IsLeft k list (keys_from w.next_key (length list)) w v
   by_text (Some t) here list allowed cut =
       let short : text_length t.text ≤ last_u32 = subst (λ s. text_length (text_or_none s) ≤ last_u32) here few in
-      let good : bad_offset 0 (length_told t.text) list ≡ None = ap (λ n. bad_offset 0 n list) (sym (ap length_in here)) ∙ allowed in
-      let start : t.text ≡ slice_of 0 (length_told t.text) t.text = sym (whole-is t.text short) in
-      left_by_cuts k list t w v c.kind_is here short (parted k 0 list t.text t w v ready here start short good cut) (points_go k 0 list t.text t w v ready here start short good cut)
+      let good : bad_offset 0 t.text list ≡ None = ap (λ s. bad_offset 0 s list) (sym (ap text_or_none here)) ∙ allowed in
+      let whole : t.text ≡ slice_of 0 (length_told t.text) t.text = sym (whole-is t.text short) in
+      let start = offset_start t.text in
+      left_by_cuts k list t w v c.kind_is here short (parted k 0 list t.text t w v ready here whole start short good cut) (points_go k 0 list t.text t w v ready here whole start short good cut)
   by_text None here [] allowed cut = subst (IsLeft k [] [] w) (ends_self w v cut) (left_same k w ready c.kind_is here)
-  by_text None here (o ∷ rest) allowed cut = absurd (no_offset o rest (ap (λ n. bad_offset 0 n (o ∷ rest)) (sym (ap length_in here)) ∙ allowed))
+  by_text None here (o ∷ rest) allowed cut = absurd (no_offset o rest (ap (λ s. bad_offset 0 s (o ∷ rest)) (sym (ap text_or_none here)) ∙ allowed))
 
 left : (k : ℕ) (list pieces : List ℕ) (w v : Working) → IsSplit k list pieces w v → IsLeft k list (keys_from w.next_key (length list)) w v
 left k list pieces w v s = left_by k list w v s.ready s.fits (cut_up k list w v s.split)

@@ -7,7 +7,7 @@ use Rattle.lx_node.specs.declared.kind.Kind.TheVariants as kinds
 use Rattle.lx_node.specs.declared.fields.TextFields.{TextFields}
 use Rattle.lx_node.specs.declared.cause.Cause.{Cause}
 use Rattle.lx_node.specs.Limits.{last_u32}
-use Rattle.lx_text.specs.Texts.{slice_of, text_length}
+use Rattle.lx_text.specs.Texts.{is_offset, slice_of, text_length}
 use Rattle.lx_forest.specs.Forest.{Forest, Label}
 use Rattle.lx_forest.specs.Lookups.{has, spot, label_of, parent_of, children_of}
 use Rattle.lx_forest.proofs.Edits.{is_some-spot}
@@ -132,24 +132,24 @@ module _ (k start o : ℕ) (rest new text : List ℕ) (t : TextFields) (w u v : 
 -- ---- the whole
 
 -- a place that offsets are looked for behind
-pub cut_place : (start o : ℕ) (rest text : List ℕ) → text_length text ≤ last_u32 → bad_offset start (length_told text) (o ∷ rest) ≡ None → IsCutAt start o text
-cut_place start o rest text few none =
-    let a = offsets start o (length_told text) rest none in
-    record { order = omega (arith, a.above); within = omega (arith, a.within); few = few }
+pub cut_place : (start o : ℕ) (rest text : List ℕ) → is_offset start text ≡ true → text_length text ≤ last_u32 → bad_offset start text (o ∷ rest) ≡ None → IsCutAt start o text
+cut_place start o rest text begin few none =
+    let a = offsets start o text rest none in
+    record { order = omega (arith, a.above); first = begin; second = a.place; few = few }
 
 pub ends_self : (w v : Working) → ◌≡◌ {A = Result Working Cause} (Ok w) (Ok v) → w ≡ v
 ends_self w v e = cc
 
-pub parted : (k start : ℕ) (list text : List ℕ) (t : TextFields) (w v : Working) → IsReady w → text_in (label_of w.forest k) ≡ Some t → t.text ≡ slice_of start (length_told text) text → text_length text ≤ last_u32
-    → bad_offset start (length_told text) list ≡ None → cut_at k start list w ≡ Ok v → IsParted k start list (keys_from w.next_key (length list)) text t w v
-parted k start [] text t w v ready here is few none e = subst (IsParted k start [] [] text t w) (ends_self w v e) (not_cut k start text t w ready here is)
-parted k start (o ∷ rest) text t w v ready here is few none e =
+pub parted : (k start : ℕ) (list text : List ℕ) (t : TextFields) (w v : Working) → IsReady w → text_in (label_of w.forest k) ≡ Some t → t.text ≡ slice_of start (length_told text) text
+    → is_offset start text ≡ true → text_length text ≤ last_u32 → bad_offset start text list ≡ None → cut_at k start list w ≡ Ok v → IsParted k start list (keys_from w.next_key (length list)) text t w v
+parted k start [] text t w v ready here is begin few none e = subst (IsParted k start [] [] text t w) (ends_self w v e) (not_cut k start text t w ready here is)
+parted k start (o ∷ rest) text t w v ready here is begin few none e =
     let part = first_part (cut_in_two k (o - start) w) (cut_at w.next_key o rest) v e in
     let u : Working = part.0 in
     let c : IsCut k (o - start) t w u = cut_tells k (o - start) t w u ready here part.1 in
-    let place : IsCutAt start o text = cut_place start o rest text few none in
+    let place : IsCutAt start o text = cut_place start o rest text begin few none in
     let here_now : text_in (label_of u.forest w.next_key) ≡ Some (cut_text (o - start) t) = ap text_in c.cuts_to.new in
     let r : IsParted w.next_key o rest (keys_from u.next_key (length rest)) text (cut_text (o - start) t) u v =
-    parted w.next_key o rest text (cut_text (o - start) t) u v c.ready here_now (piece-back start o text t.text place is) few (offsets start o (length_told text) rest none).others part.2 in
+    parted w.next_key o rest text (cut_text (o - start) t) u v c.ready here_now (piece-back start o text t.text place is) place.second few (offsets start o text rest none).others part.2 in
     one_more k start o rest (keys_from (w.next_key + 1) (length rest)) text t w u v ready here is place c
     (subst (λ m. IsParted w.next_key o rest (keys_from m (length rest)) text (cut_text (o - start) t) u v) c.next r)

@@ -7,7 +7,7 @@ use Rattle.lx_node.specs.Siblings.{is_among}
 use Rattle.lx_node.specs.declared.fields.TextFields.{TextFields}
 use Rattle.lx_node.specs.declared.cause.Point.{Point}
 use Rattle.lx_node.specs.declared.cause.PointKind.TheVariants as point
-use Rattle.lx_text.specs.Texts.{text_length, slice_of}
+use Rattle.lx_text.specs.Texts.{is_offset, text_length, slice_of}
 use Rattle.lx_select.specs.declared.selection.Selection.{Selection}
 use Rattle.lx_select.specs.declared.selection.Selection.TheVariants.{Nothing, Range, Nodes, Cells}
 use Rattle.lx_select.specs.Selection.{each_point}
@@ -24,7 +24,7 @@ use Rattle.lx_edit.proofs.Climbed.{first_part}
 use Rattle.lx_meaning.specs.Reading.{place_among}
 use Rattle.lx_meaning.proofs.SplitCuts.{IsCut, cut_tells, points_cut, stays_there, not_new, text_there, parent_there, not_above, far_from, far_from_new}
 use Rattle.lx_meaning.proofs.SplitPieces.{IsParted, cut_text, cut_place, first_label, ends_self, parted}
-use Rattle.lx_meaning.proofs.SplitTexts.{IsCutAt, told, piece-length, piece-back, offsets}
+use Rattle.lx_meaning.proofs.SplitTexts.{IsCutAt, piece-length, piece-back, rest-told, offsets}
 
 -- ---- points of a selection
 
@@ -151,7 +151,7 @@ module _ (k start o : ℕ) (rest new text : List ℕ) (t : TextFields) (w u v : 
 
   -- the text's length, and what the first piece and the rest have of it
   length_before : length_at w.forest k ≡ length_told text - start
-  length_before = ap length_in here ∙ ap length_told is ∙ piece-length start (length_told text) text (record { order = omega (arith, place.order, place.within, told text place.few); within = omega (arith, told text place.few); few = place.few })
+  length_before = ap length_in here ∙ ap length_told is ∙ rest-told start text place.first place.few
 
   length_first : length_at v.forest k ≡ o - start
   length_first = ap (λ l. length_in (text_in l)) (first_label k start o rest new text t w u v ready here is place c r) ∙ piece-length start o text place
@@ -159,7 +159,7 @@ module _ (k start o : ℕ) (rest new text : List ℕ) (t : TextFields) (w u v : 
   length_rest : length_at u.forest n ≡ length_told text - o
   length_rest =
       ap (λ l. length_in (text_in l)) c.cuts_to.new ∙ ap length_told (piece-back start o text t.text place is)
-      ∙ piece-length o (length_told text) text (record { order = omega (arith, place.within, told text place.few); within = omega (arith, told text place.few); few = place.few })
+      ∙ rest-told o text place.second place.few
 
   -- up to the offset a point stays in the first piece
   in_front : (x : Point) → x.key ≡ k → x.offset ≤ o - start → go.moved (one x) ≡ x
@@ -220,20 +220,20 @@ less_than_next k w ready there = elim (cases_lt k w.next_key) [
   | inr over ↦ absurd (grind (arith, there, ready.free k over))
 ]
 
-pub points_go : (k start : ℕ) (list text : List ℕ) (t : TextFields) (w v : Working) → IsReady w → text_in (label_of w.forest k) ≡ Some t → t.text ≡ slice_of start (length_told text) text → text_length text ≤ last_u32
-    → bad_offset start (length_told text) list ≡ None → cut_at k start list w ≡ Ok v → PointsGo k (keys_from w.next_key (length list)) w v
-points_go k start [] text t w v ready here is few none e = subst (PointsGo k [] w) (ends_self w v e) (none_go k w)
-points_go k start (o ∷ rest) text t w v ready here is few none e =
+pub points_go : (k start : ℕ) (list text : List ℕ) (t : TextFields) (w v : Working) → IsReady w → text_in (label_of w.forest k) ≡ Some t → t.text ≡ slice_of start (length_told text) text
+    → is_offset start text ≡ true → text_length text ≤ last_u32 → bad_offset start text list ≡ None → cut_at k start list w ≡ Ok v → PointsGo k (keys_from w.next_key (length list)) w v
+points_go k start [] text t w v ready here is begin few none e = subst (PointsGo k [] w) (ends_self w v e) (none_go k w)
+points_go k start (o ∷ rest) text t w v ready here is begin few none e =
     let part = first_part (cut_in_two k (o - start) w) (cut_at w.next_key o rest) v e in
     let u : Working = part.0 in
     let c : IsCut k (o - start) t w u = cut_tells k (o - start) t w u ready here part.1 in
-    let place : IsCutAt start o text = cut_place start o rest text few none in
+    let place : IsCutAt start o text = cut_place start o rest text begin few none in
     let here_now : text_in (label_of u.forest w.next_key) ≡ Some (cut_text (o - start) t) = ap text_in c.cuts_to.new in
     let is_now : (cut_text (o - start) t).text ≡ slice_of o (length_told text) text = piece-back start o text t.text place is in
-    let none_now : bad_offset o (length_told text) rest ≡ None = (offsets start o (length_told text) rest none).others in
+    let none_now : bad_offset o text rest ≡ None = (offsets start o text rest none).others in
     let r : IsParted w.next_key o rest (keys_from u.next_key (length rest)) text (cut_text (o - start) t) u v =
-    parted w.next_key o rest text (cut_text (o - start) t) u v c.ready here_now is_now few none_now part.2 in
-    let go : PointsGo w.next_key (keys_from u.next_key (length rest)) u v = points_go w.next_key o rest text (cut_text (o - start) t) u v c.ready here_now is_now few none_now part.2 in
+    parted w.next_key o rest text (cut_text (o - start) t) u v c.ready here_now is_now place.second few none_now part.2 in
+    let go : PointsGo w.next_key (keys_from u.next_key (length rest)) u v = points_go w.next_key o rest text (cut_text (o - start) t) u v c.ready here_now is_now place.second few none_now part.2 in
     let new : List ℕ = keys_from (w.next_key + 1) (length rest) in
     let absent : is_among k (w.next_key ∷ new) ≡ false = below_keys k w.next_key (suc (length rest)) (less_than_next k w ready (text_there ready c)) in
     one_goes k start o rest new text t w u v ready here is place c

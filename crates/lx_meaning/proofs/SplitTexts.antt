@@ -1,87 +1,81 @@
 -- A text that is cut at offsets: what each piece has of it.
-use Rattle.std.proofs.Common.{◌≡◌, ◌∙◌, ℕ, ◌-◌, ◌<◌, ◌≤◌, List, [], ◌∷◌, ◌++◌, length, take, drop, None, refl, sym, ap, arith, append-nil, length-drop}
+use Rattle.std.proofs.Common.{◌≡◌, ◌∙◌, ℕ, ◌+◌, ◌-◌, ◌<◌, ◌≤◌, true, List, [], ◌∷◌, ◌++◌, None, sym, ap, arith, append-nil}
 use Rattle.std.proofs.lemmas.Bool.Decides.{nat_tests}
-use Rattle.std.proofs.lemmas.List.{length-take-le, take-append-drop, drop-drop}
 use Rattle.lx_node.specs.Limits.{last_u32}
-use Rattle.lx_text.specs.Texts.{text_length, slice_of, spliced_text}
-use Rattle.lx_text.proofs.Told.{slice-whole, slice-back}
-use Rattle.lx_draft.specs.Selecting.{length_told}
+use Rattle.lx_text.specs.Texts.{text_length, front_of, rest_of, is_offset, length_told, slice_of, spliced_text}
+use Rattle.lx_text.proofs.Places.{rest-end}
+use Rattle.lx_text.proofs.Told as told
 use Rattle.lx_edit.specs.Conditions.{bad_offset}
 
 -- ---- lengths
 
--- the length of a text that offsets can tell
-pub told : (text : List ℕ) → text_length text ≤ last_u32 → length_told text ≡ text_length text
-told text few = grind (arith, few)
-
 -- a place in a text, behind another
 pub record IsCutAt (start o : ℕ) (text : List ℕ) : Type 0 where
   pub order : start ≤ o
-  pub within : o ≤ text_length text
+  pub first : is_offset start text ≡ true
+  pub second : is_offset o text ≡ true
   pub few : text_length text ≤ last_u32
 
 -- the rest of a text is what is behind a place
-pub rest-is : (start : ℕ) (text : List ℕ) → text_length text ≤ last_u32 → slice_of start (length_told text) text ≡ drop start text
-rest-is start text few = ap (λ n. slice_of start n text) (told text few) ∙ slice-back start text
+pub rest-is : (start : ℕ) (text : List ℕ) → is_offset start text ≡ true → text_length text ≤ last_u32 → slice_of start (length_told text) text ≡ rest_of start text
+rest-is start text here few = ap (λ n. slice_of start n text) (told.told-all text few) ∙ told.slice-back start text here
 
-rest-length : (start : ℕ) (text : List ℕ) → text_length text ≤ last_u32 → length_told (drop start text) ≡ text_length text - start
-unfolding text_length
-rest-length start text few = grind (arith, few, length-drop start text)
+rest-few : (start : ℕ) (text : List ℕ) → is_offset start text ≡ true → text_length text ≤ last_u32 → text_length (rest_of start text) ≤ last_u32
+rest-few start text here few = omega (arith, told.rest-length start text here, few)
 
 pub piece-length : (start o : ℕ) (text : List ℕ) → IsCutAt start o text → length_told (slice_of start o text) ≡ o - start
-unfolding slice_of text_length
 piece-length start o text c =
-    let n : length (take (o - start) (drop start text)) ≡ o - start = length-take-le (o - start) (drop start text) (omega (arith, c.order, c.within, length-drop start text)) in
-    grind (arith, n, c.order, c.within, c.few)
+    let all : text_length (slice_of start o text) + start ≡ o = told.piece-length start o text (record { in_order = c.order; first = c.first; second = c.second }) in
+    told.told-all (slice_of start o text) (omega (arith, all, told.offset_within o text c.second, c.few)) ∙ omega (arith, all)
+
+-- the rest is a piece, up to the end
+to_end : (start : ℕ) (text : List ℕ) → is_offset start text ≡ true → text_length text ≤ last_u32 → IsCutAt start (length_told text) text
+to_end start text here few =
+    record { order = omega (arith, told.told-all text few, told.offset_within start text here); first = here; second = told.told-offset text; few = few }
+
+pub rest-told : (start : ℕ) (text : List ℕ) → is_offset start text ≡ true → text_length text ≤ last_u32 → length_told (slice_of start (length_told text) text) ≡ length_told text - start
+rest-told start text here few = piece-length start (length_told text) text (to_end start text here few)
 
 -- ---- a rest that is cut
 
-drop-all : (text : List ℕ) → drop (length text) text ≡ []
-drop-all text = no_length (drop (length text) text) (omega (arith, length-drop (length text) text)) where
-  no_length : (xs : List ℕ) → length xs ≡ 0 → xs ≡ []
-  no_length [] e = refl
-  no_length (x ∷ xs) e = absurd (omega arith)
+further : (start o : ℕ) (text : List ℕ) → IsCutAt start o text → is_offset (o - start) (rest_of start text) ≡ true
+further start o text c = told.offset-further start o text c.first c.order ∙ c.second
 
-front : (start o : ℕ) (text : List ℕ) → IsCutAt start o text → spliced_text (o - start) (length_told (drop start text)) [] (drop start text) ≡ slice_of start o text
-unfolding spliced_text slice_of text_length
+front : (start o : ℕ) (text : List ℕ) → IsCutAt start o text → spliced_text (o - start) (length_told (rest_of start text)) [] (rest_of start text) ≡ slice_of start o text
+unfolding spliced_text slice_of
 front start o text c =
-    let all : drop (length_told (drop start text)) (drop start text) ≡ [] = ap (λ n. drop n (drop start text)) (told (drop start text) (omega (arith, c.few, length-drop start text))) ∙ drop-all (drop start text) in
-    ap (λ cs. take (o - start) (drop start text) ++ [] ++ cs) all ∙ append-nil (take (o - start) (drop start text) ++ []) ∙ append-nil (take (o - start) (drop start text))
+    let rest : List ℕ = rest_of start text in
+    let none : rest_of (length_told rest) rest ≡ [] = rest-end (length_told rest) rest (omega (arith, told.told-all rest (rest-few start text c.first c.few))) in
+    ap (λ cs. (front_of (o - start) rest ++ []) ++ cs) none ∙ append-nil _ ∙ append-nil _
 
-back : (start o : ℕ) (text : List ℕ) → IsCutAt start o text → slice_of (o - start) (length_told (drop start text)) (drop start text) ≡ slice_of o (length_told text) text
-unfolding text_length
+back : (start o : ℕ) (text : List ℕ) → IsCutAt start o text → slice_of (o - start) (length_told (rest_of start text)) (rest_of start text) ≡ slice_of o (length_told text) text
 back start o text c =
-    rest-is (o - start) (drop start text) (omega (arith, c.few, length-drop start text))
-    ∙ drop-drop (o - start) start text
-    ∙ ap (λ n. drop n text) (omega (arith, c.order))
-    ∙ sym (rest-is o text c.few)
+    rest-is (o - start) (rest_of start text) (further start o text c) (rest-few start text c.first c.few)
+    ∙ told.rest-further start o text c.first c.order ∙ sym (rest-is o text c.second c.few)
 
 -- what is left of a rest that is cut, and what is cut off
 pub piece-front : (start o : ℕ) (text piece : List ℕ) → IsCutAt start o text → piece ≡ slice_of start (length_told text) text → spliced_text (o - start) (length_told piece) [] piece ≡ slice_of start o text
-piece-front start o text piece c is = ap (λ t. spliced_text (o - start) (length_told t) [] t) (is ∙ rest-is start text c.few) ∙ front start o text c
+piece-front start o text piece c is = ap (λ t. spliced_text (o - start) (length_told t) [] t) (is ∙ rest-is start text c.first c.few) ∙ front start o text c
 
 pub piece-back : (start o : ℕ) (text piece : List ℕ) → IsCutAt start o text → piece ≡ slice_of start (length_told text) text → slice_of (o - start) (length_told piece) piece ≡ slice_of o (length_told text) text
-piece-back start o text piece c is = ap (λ t. slice_of (o - start) (length_told t) t) (is ∙ rest-is start text c.few) ∙ back start o text c
+piece-back start o text piece c is = ap (λ t. slice_of (o - start) (length_told t) t) (is ∙ rest-is start text c.first c.few) ∙ back start o text c
 
 -- both are the rest
 pub piece-parts : (start o : ℕ) (text : List ℕ) → IsCutAt start o text → slice_of start o text ++ slice_of o (length_told text) text ≡ slice_of start (length_told text) text
-unfolding slice_of text_length
 piece-parts start o text c =
-    ap (λ cs. take (o - start) (drop start text) ++ cs) (rest-is o text c.few ∙ sym (ap (λ n. drop n text) (omega (arith, c.order))) ∙ sym (drop-drop (o - start) start text))
-    ∙ take-append-drop (o - start) (drop start text)
-    ∙ sym (rest-is start text c.few)
+    ap (λ cs. slice_of start o text ++ cs) (rest-is o text c.second c.few) ∙ sym (told.rest-piece start o text c.first c.order) ∙ sym (rest-is start text c.first c.few)
 
 -- nothing of a text is before its start
 pub whole-is : (text : List ℕ) → text_length text ≤ last_u32 → slice_of 0 (length_told text) text ≡ text
-whole-is text few = ap (λ n. slice_of 0 n text) (told text few) ∙ slice-whole text
+whole-is text few = ap (λ n. slice_of 0 n text) (told.told-all text few) ∙ told.slice-whole text
 
 -- ---- offsets
 
 -- the first of offsets that nothing refuses
-pub record AreOffsets (low o length : ℕ) (rest : List ℕ) : Type 0 where
+pub record AreOffsets (low o : ℕ) (text rest : List ℕ) : Type 0 where
   pub above : low < o
-  pub within : o < length
-  pub others : bad_offset o length rest ≡ None
+  pub place : is_offset o text ≡ true
+  pub others : bad_offset o text rest ≡ None
 
-pub offsets : (low o length : ℕ) (rest : List ℕ) → bad_offset low length (o ∷ rest) ≡ None → AreOffsets low o length rest
-offsets low o length rest e = record { above = grind (arith, nat_tests, e); within = grind (arith, nat_tests, e); others = grind (arith, e) }
+pub offsets : (low o : ℕ) (text rest : List ℕ) → bad_offset low text (o ∷ rest) ≡ None → AreOffsets low o text rest
+offsets low o text rest e = record { above = grind (arith, nat_tests, e); place = grind (arith, nat_tests, e); others = grind (arith, e) }
