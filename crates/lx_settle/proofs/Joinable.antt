@@ -1,14 +1,14 @@
 -- The join step is refused only where no count is left, or too much would be written.
-use Rattle.std.proofs.Common.{◌≡◌, ◌∙◌, ℕ, zero, suc, ◌≤◌, Bool, true, false, cond, List, length, Option, None, Some, Result, Ok, refl, sym, ap, arith, inl, inr}
-use Rattle.std.specs.Prelude.{is_some, min, nat_le}
+use Rattle.std.proofs.Common.{◌≡◌, ◌∙◌, ℕ, zero, suc, Bool, true, false, cond, List, length, Option, None, Some, Result, Ok, refl, sym, ap, arith, inl, inr}
+use Rattle.std.specs.Prelude.{is_some}
 use Rattle.std.specs.Option.{option_or}
 use Rattle.lx_node.specs.Kinds.{is_text}
-use Rattle.lx_node.specs.Limits.{last_u32}
+use Rattle.std.proofs.lemmas.Bool.Decides.{nat_tests}
 use Rattle.lx_node.specs.declared.fields.Fields.{Fields}
 use Rattle.lx_node.specs.declared.fields.TextFields.{TextFields}
 use Rattle.lx_node.specs.declared.cause.Cause.{Cause}
-use Rattle.lx_node.specs.declared.cause.Cause.TheVariants.{BadPlace}
-use Rattle.lx_text.specs.Texts.{text_length, is_offset, slice_fault}
+use Rattle.lx_text.specs.Texts.{is_offset, slice_fault}
+use Rattle.lx_text.proofs.Told.{told-offset}
 use Rattle.lx_select.specs.Rules.{join_moves}
 use Rattle.lx_forest.specs.Forest.{Forest}
 use Rattle.lx_forest.specs.Lookups.{has, label_of, kind_of, parent_of, previous_of, next_of, is_attached}
@@ -35,12 +35,10 @@ use Rattle.lx_settle.proofs.Exhausted.{Exhausts, exhausts_ok, exhausts_then, exh
 
 -- ---- the end of a text
 
-no_fault_by : (n m : ℕ) → n ≤ m → option_or (cond (nat_le n m) None (Some (BadPlace n))) (option_or (cond (nat_le n m) None (Some (BadPlace n))) (cond (nat_le n n) None (Some (BadPlace n)))) ≡ None
-no_fault_by n m e = grind (arith, e)
-
 end_of : (text : List ℕ) → slice_fault text (length_told text) (length_told text) ≡ None
-unfolding is_offset text_length
-end_of text = no_fault_by (min (length text) last_u32) (length text) (omega arith)
+end_of text =
+    let here : is_offset (length_told text) text ≡ true = told-offset text in
+    grind (arith, nat_tests, here)
 
 pub end_none : (f : Forest) (k : ℕ) (t : TextFields) → text_in (label_of f k) ≡ Some t → splice_fault k (length_at f k) (length_at f k) f ≡ None
 end_none f k t is = tail_fault f k t (length_at f k) is ∙ ap (λ o. slice_fault t.text (length_in o) (length_told t.text)) is ∙ end_of t.text

@@ -1,5 +1,5 @@
 -- Fields that are written anew, and a text that grows, are others than before.
-use Rattle.std.proofs.Common.{◌≡◌, ◌∙◌, ℕ, suc, ◌+◌, Bool, true, false, cond, eqb, not, List, [], ◌∷◌, length, Option, None, Some, option_map, Ok, refl, sym, ap, arith}
+use Rattle.std.proofs.Common.{◌≡◌, ◌∙◌, ℕ, ◌+◌, ◌<◌, Bool, true, false, cond, eqb, not, List, [], ◌∷◌, length, Option, None, Some, option_map, Ok, refl, sym, ap, arith}
 use Rattle.std.specs.List.{list_all}
 use Rattle.std.specs.Option.{option_or}
 use Rattle.std.proofs.lemmas.Bool.Decides.{eqb_tells}
@@ -16,6 +16,7 @@ use Rattle.lx_node.specs.declared.fields.Fields.TheVariants as fields
 use Rattle.lx_node.specs.declared.node.View.{View}
 use Rattle.lx_node.proofs.Same.{same_fields-Decides}
 use Rattle.lx_text.specs.Texts.{text_length, spliced_text, slice_fault}
+use Rattle.lx_text.proofs.Places.{length-some}
 use Rattle.lx_text.proofs.Told.{splice-length}
 use Rattle.lx_step.specs.Patches.{has, with_member, element_with_member, with_extra, with_members, patched}
 use Rattle.lx_step.specs.declared.member.Member.{Member}
@@ -131,11 +132,11 @@ set_changes ms k w v x seen e same =
 -- ---- add
 
 longer : (from to : ℕ) (new text : List ℕ) → from ≡ to → has_text new ≡ true → slice_fault text from to ≡ None → spliced_text from to new text ≡ text → ⊥
-unfolding text_length
 longer from to [] text is e fault same = absurd (cc)
-longer from to (c ∷ new) text is e fault same = more (length new) (length text) from to is (ap (λ t. length t + to) (sym same) ∙ splice-length from to (c ∷ new) text fault) where
-  more : (n m a b : ℕ) → a ≡ b → m + b ≡ m + suc n + a → ⊥
-  more n m a b is e = omega (arith, is, e)
+longer from to (c ∷ new) text is e fault same =
+    more (text_length (c ∷ new)) (text_length text) from to is (length-some c new) (ap (λ t. text_length t + to) (sym same) ∙ splice-length from to (c ∷ new) text fault) where
+      more : (n m a b : ℕ) → a ≡ b → 0 < n → m + b ≡ m + n + a → ⊥
+      more n m a b is some e = omega (arith, is, some, e)
 
 piece_in : (o : Option TextFields) (k : Kind) (n : ℕ) → piece_fault k o n n ≡ None → (t : TextFields) × (o ≡ Some t) × (slice_fault t.text n n ≡ None)
 piece_in None k n e = absurd (cc)
