@@ -1,11 +1,14 @@
 mod Ahead
 pub mod Blocked
 mod Cuts
-mod Gathered
+mod Downward
+pub mod Gathered
 mod InlineFirst
 pub mod Labelled
-mod Previous
-mod Steps
-mod Stretches
-mod Until
+pub mod Passing
+pub mod Paths
+pub mod Previous
+pub mod Steps
+pub mod Stretches
+pub mod Until
 pub mod Up

@@ -25,6 +25,10 @@ is_at test f k = passes test (kind_of f k)
 abbrev pub block_of : Forest → ℕ → Option ℕ
 block_of f k = find (is_at is_text_block f) (k ∷ ancestors f k)
 
+-- the cell of a node: itself, or the nearest above it
+abbrev pub cell_of : Forest → ℕ → Option ℕ
+cell_of f k = find (is_at is_cell f) (k ∷ ancestors f k)
+
 -- the frame of a node: the nearest cell above it
 abbrev pub frame_of : Forest → ℕ → Option ℕ
 frame_of f k = find (is_at is_cell f) (ancestors f k)

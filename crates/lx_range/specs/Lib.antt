@@ -3,4 +3,5 @@ pub mod Lines
 pub mod Making
 pub mod Places
 pub mod Ranges
+pub mod Starts
 pub mod Walks

@@ -28,9 +28,9 @@ pub fn block(links: &Links, key: Key) -> Option<Key>
     Some(at)
 }
 
-/// The nearest cell: a node itself, or above it.
-fn cell_from(links: &Links, key: Key) -> Option<Key>
-    ensures { result ≡ find (blocks.is_at kinds.is_cell links.now) (key ∷ lookups.ancestors links.now key) }
+/// The cell of a node: itself, or the nearest above it.
+pub fn cell_from(links: &Links, key: Key) -> Option<Key>
+    ensures { result ≡ blocks.cell_of links.now key }
 {
     let mut at = key;
     while !is_cell_at(links, at) {

@@ -1,17 +1,21 @@
 //! What commands share that go by the selection: the block, the frame and the lines of a node, the order of points, the
-//! nodes between two of them, the range that a command needs, and the caret. All but the caret is read from a draft, and
-//! nothing is changed. Points count children in an element, and the characters of `lx_text` in a text or tab.
+//! nodes between two of them, where what a node has begins, the range that a command needs, and the caret. All but the
+//! caret is read from a draft, and nothing is changed. Points count children in an element, and the characters of `lx_text`
+//! in a text or tab.
 #![tactic(auto)]
 
 mod blocks;
+mod children;
 mod kinds;
 mod lines;
 mod making;
 mod places;
 mod ranges;
+mod starts;
 mod walks;
 
-pub use blocks::{block, frame, is_line, leading, same_node};
+pub use blocks::{block, cell_from, frame, is_line, leading, same_node};
+pub use children::children_from;
 pub use kinds::{
     has_characters_at, is_element_at, is_inline_at, is_item_at, is_link_at, is_rule_or_table_at,
     is_text_at,
@@ -23,4 +27,5 @@ pub use ranges::{
     Ranged, in_order, is_collapsed, is_normal_at, no_range, normal_at, place_caret, range_of,
     shown_range,
 };
+pub use starts::start_within;
 pub use walks::{covered, first_behind, last_before, outermost, previous_in_tree};

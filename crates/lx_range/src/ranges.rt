@@ -19,7 +19,7 @@ use lx_node::{Cause, Fault, Key, Mode, Point, SelectionKind, TextFields};
 use lx_select::Selection;
 
 /// A range of two points. Text that is typed there gets the format, whose bits are those of a text's format.
-#[derive(Clone, Copy, Debug)]
+#[derive(Clone, Copy)]
 pub struct Ranged {
     pub anchor: Point,
     pub focus: Point,
