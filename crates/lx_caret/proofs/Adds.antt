@@ -1,5 +1,5 @@
 -- A node that is added at a point of the tree is in it, and leaves a selection in the tree; so does what is typed there.
-use Rattle.std.proofs.Common.{◌≡◌, ◌∙◌, ℕ, ◌+◌, ◌-◌, ◌≤◌, min, Bool, true, false, cond, eqb, leb, ◌&&◌, List, [], ◌∷◌, length, Option, None, Some, Result, Ok, refl, sym, ap, ap₂, subst, arith}
+use Rattle.std.proofs.Common.{◌≡◌, ◌∙◌, ℕ, ◌+◌, ◌-◌, ◌≤◌, Bool, true, false, cond, eqb, leb, ◌&&◌, List, [], ◌∷◌, length, Option, None, Some, Result, Ok, refl, sym, ap, ap₂, subst, arith}
 use Rattle.std.specs.Prelude.{is_some, option_map}
 use Rattle.std.specs.Option.{option_or}
 use Rattle.std.proofs.lemmas.Bool.Decides.{eqb_tells, nat_tests}
@@ -14,8 +14,10 @@ use Rattle.lx_node.specs.declared.cause.Cause.{Cause}
 use Rattle.lx_node.specs.declared.cause.Point.{Point}
 use Rattle.lx_node.specs.declared.cause.PointKind.{PointKind}
 use Rattle.lx_node.specs.declared.cause.PointKind.TheVariants as point
-use Rattle.lx_text.specs.Texts.{text_length, spliced_text, slice_fault}
-use Rattle.lx_text.proofs.Told.{piece_of, splice-length}
+use Rattle.lx_node.specs.Limits.{last_u32}
+use Rattle.lx_node.specs.Units.{units_of, units}
+use Rattle.lx_text.specs.Texts.{text_length, front_of, within, is_offset, spliced_text, slice_fault}
+use Rattle.lx_text.proofs.Told.{piece_of}
 use Rattle.lx_select.specs.declared.selection.Selection.{Selection}
 use Rattle.lx_select.specs.declared.selection.Selection.TheVariants.{Nothing, Range, Nodes, Cells}
 use Rattle.lx_select.specs.Rules.{offset_sum}
@@ -25,7 +27,7 @@ use Rattle.lx_forest.specs.Edits.{with_fields}
 use Rattle.lx_forest.proofs.Lookups.{label_of-with_new, kind_of-with_fields}
 use Rattle.lx_forest.proofs.Walks.{is_attached-up}
 use Rattle.lx_draft.specs.Working.{Working}
-use Rattle.lx_draft.specs.Selecting.{lies_in, is_counted_in, length_of, length_told}
+use Rattle.lx_draft.specs.Selecting.{lies_in, is_counted_in, length_told}
 use Rattle.lx_draft.specs.Faults.{answer, after, over_limits, splice_fault}
 use Rattle.lx_draft.specs.Steps.{made, new_step, with_piece, fields_written, splice_points, label_with_piece, text_replaced, splice_step}
 use Rattle.lx_draft.specs.Beside.{before_at, put_before_step, put_behind_step}
@@ -39,8 +41,9 @@ use Rattle.lx_caret.specs.Lying.{EachPoint, LeavesLying}
 use Rattle.lx_caret.specs.Adding.{kind_around, no_room, is_inside, opened, put_by, newest, add_step}
 use Rattle.lx_caret.specs.Removing.{remove_text_step}
 use Rattle.lx_caret.specs.Inserting.{is_of_format, typed_fields, style_in, typed_into, typed_new, typed, insert_text_step, behind_at as place_at, place_behind, broken, insert_line_break_step, tab_fields, tabbed, insert_tab_step}
-use Rattle.lx_caret.proofs.Lies.{both, full, least, IsText, text_at, fields_now, index_within, piece_within}
-use Rattle.lx_caret.proofs.Fit.{after_tells, Fit, Stays, Staying, stays_then, stays_if, caret_fits, stays_new, stays_splice, stays_put, spliced}
+use Rattle.lx_caret.proofs.Offsets.{IsPlace, place_of, end_place, new_end_place}
+use Rattle.lx_caret.proofs.Lies.{both, least, is_place_in, place_in, IsText, text_at, fields_now, index_within}
+use Rattle.lx_caret.proofs.Fit.{after_tells, Fit, Stays, Staying, stays_then, stays_if, caret_fits, stays_new, stays_splice, stays_put, spliced, spliced_few}
 use Rattle.lx_caret.proofs.Moves.{was_put, IsBesideIn, stays_before, stays_behind, put_before_in, put_behind_in, stands}
 use Rattle.lx_caret.proofs.Parents.{parents_are}
 use Rattle.lx_caret.proofs.Splits.{stays_split}
@@ -134,10 +137,11 @@ added p kind x w v fit place e = by_fault (no_room kind (kind_around w.forest p.
 
 -- ---- the caret in it
 
--- a point in a text that was added, up to its length
-pub added_text : (w v : Working) (kind : Kind) (t : TextFields) (o : ℕ) → IsAdded w v kind (fields.Text t) → has_characters kind ≡ true → leb o (length_told t.text) ≡ true → lies v.forest (text_point (newest v) o) ≡ true
-added_text w v kind t o a counts within =
-    ap₂ ◌&&◌ a.attached (ap₂ (λ k x. is_counted_in point.Text k && leb o (length_of x)) a.kind_is a.fields_are ∙ ap₂ ◌&&◌ counts within)
+-- a point at a place of a text that was added
+pub added_text : (w v : Working) (kind : Kind) (t : TextFields) (o : ℕ) → IsAdded w v kind (fields.Text t) → has_characters kind ≡ true
+    → IsPlace o t.text → lies v.forest (text_point (newest v) o) ≡ true
+added_text w v kind t o a counts place =
+    ap₂ ◌&&◌ a.attached (ap₂ (λ k x. is_counted_in point.Text k && is_place_in o x) a.kind_is a.fields_are ∙ ap₂ ◌&&◌ counts (place_in o t.text place))
 
 pub added_element : (w v : Working) (kind : Kind) (x : Fields) → IsAdded w v kind x → is_element kind ≡ true → lies v.forest (element_point (newest v) 0) ≡ true
 added_element w v kind x a element =
@@ -152,18 +156,17 @@ behind_lies f k p h held up place =
 
 -- ---- typed
 
-sum_within : (o new old now : ℕ) → o ≤ old → now + o ≡ old + new + o → leb (min (o + min new 4294967295) 4294967295) (min now 4294967295) ≡ true
-sum_within o new old now order e = grind (arith, nat_tests, order, e)
-
-typed_point : (f : Forest) (k o : ℕ) (text : List ℕ) (t : TextFields) → IsText f k t → slice_fault t.text o o ≡ None → is_attached f k ≡ true → (g : Forest) → g ≡ with_fields k (text_replaced t (spliced_text o o text t.text)) f → is_attached g k ≡ true
+typed_point : (f : Forest) (k o : ℕ) (text : List ℕ) (t : TextFields) → IsText f k t → slice_fault t.text o o ≡ None
+    → text_length (spliced_text o o text t.text) ≤ last_u32 → (g : Forest)
+    → g ≡ with_fields k (text_replaced t (spliced_text o o text t.text)) f → is_attached g k ≡ true
     → lies g (text_point k (offset_sum o (length_told text))) ≡ true
-unfolding offset_sum has_characters
-typed_point f k o text t is piece place g same there =
+unfolding has_characters
+typed_point f k o text t is piece few g same there =
     let x : Fields = text_replaced t (spliced_text o o text t.text) in
     let kind_is : kind_of g k ≡ Some kinds.Text = ap (λ h. kind_of h k) same ∙ kind_of-with_fields k x f k ∙ is.kind_is in
     let fields_are : fields_of g k ≡ Some x = ap (λ h. fields_of h k) same ∙ fields_now k x (fields.Text t) f is.fields_are in
-    ap₂ ◌&&◌ there (ap₂ (λ kind y. is_counted_in point.Text kind && leb (offset_sum o (length_told text)) (length_of y)) kind_is fields_are
-    ∙ sum_within o (text_length text) (text_length t.text) (text_length (spliced_text o o text t.text)) (piece_within o o t.text (piece_of o o t.text piece)) (splice-length o o text t.text piece))
+    ap₂ ◌&&◌ there (ap₂ (λ kind y. is_counted_in point.Text kind && is_place_in (offset_sum o (length_told text)) y) kind_is fields_are
+    ∙ place_in (offset_sum o (length_told text)) (spliced_text o o text t.text) (new_end_place o o text t.text (piece_of o o t.text piece) few))
 
 splice_point : (k o : ℕ) (text : List ℕ) (w v : Working) → Fit w → is_attached w.forest k ≡ true → splice_step k o o text w ≡ Ok v → lies v.forest (text_point k (offset_sum o (length_told text))) ≡ true
 unfolding splice_step
@@ -171,11 +174,12 @@ splice_point k o text w v fit place e =
     let x : Fields = label_with_piece (label_of w.forest k) o o text in
     let after_it : Working = fields_written k x (length text) (splice_points k o o text) w in
     let told = answered (option_or (splice_fault k o o w.forest) (over_limits (length text) w)) after_it v e in
-    let s = spliced w.forest k o o (both_none (splice_fault k o o w.forest) (over_limits (length text) w) told.0).0 in
+    let none = both_none (splice_fault k o o w.forest) (over_limits (length text) w) told.0 in
+    let s = spliced w.forest k o o none.0 in
     let same : x ≡ text_replaced s.text (spliced_text o o text s.text.text) = ap (λ t. with_piece t o o text) s.text_is in
     let stays = stays_splice k o o text w v fit e in
     let forest : v.forest ≡ with_fields k (text_replaced s.text (spliced_text o o text s.text.text)) w.forest = ap (λ u. u.forest) (sym told.1) ∙ ap (λ y. with_fields k y w.forest) same in
-    typed_point w.forest k o text s.text (text_at w.forest k s.text s.text_is) s.piece place v.forest forest (stays.attached k place)
+    typed_point w.forest k o text s.text (text_at w.forest k s.text s.text_is) s.piece (spliced_few k o o text w s fit.short none.1) v.forest forest (stays.attached k place)
 
 typed_into_fits : (text : List ℕ) (p : Point) (w v : Working) → Fit w → is_attached w.forest p.key ≡ true → typed_into text p w ≡ Ok v → Fit v
 unfolding typed_into
@@ -189,7 +193,7 @@ typed_new_fits text format p w v fit place e =
     let x : Fields = typed_fields text format (style_in (normal_at w.forest p.key)) in
     let first = after_tells (add_step p kinds.Text x w) (λ u. Ok (caret_at (text_point (newest u) (length_told text)) u)) v e in
     let a = added p kinds.Text x w first.0 fit place first.1.0 in
-    caret_fits first.0 v (text_point (newest first.0) (length_told text)) a.stays.fit (added_text w first.0 kinds.Text _ (length_told text) a refl (full (length_told text))) first.1.1
+    caret_fits first.0 v (text_point (newest first.0) (length_told text)) a.stays.fit (added_text w first.0 kinds.Text _ (length_told text) a refl (end_place text)) first.1.1
 
 typed_fits : (text : List ℕ) (p : Point) (format : ℕ) (w v : Working) → Fit w → is_attached w.forest p.key ≡ true → typed text p format w ≡ Ok v → Fit v
 unfolding typed
@@ -205,16 +209,16 @@ broken_fits p format w v fit place e =
     let a = added p kinds.Break fields.Bare w first.0 fit place first.1.0 in
     caret_fits first.0 v (place_behind first.0.forest (newest first.0)) a.stays.fit (behind_lies first.0.forest (newest first.0) a.parent a.stays.fit.ready.in_order a.stays.fit.held a.up a.attached) first.1.1
 
-tab_length : leb 1 (length_told (9 ∷ [])) ≡ true
-unfolding text_length
-tab_length = refl
+tab_end : IsPlace 1 (9 ∷ [])
+unfolding is_offset within text_length front_of units units_of
+tab_end = place_of 1 (9 ∷ []) refl (omega arith)
 
 tabbed_fits : (p : Point) (format : ℕ) (w v : Working) → Fit w → is_attached w.forest p.key ≡ true → tabbed p format w ≡ Ok v → Fit v
 unfolding tabbed has_characters
 tabbed_fits p format w v fit place e =
     let first = after_tells (add_step p kinds.Tab (tab_fields format) w) (λ u. Ok (caret_at (text_point (newest u) 1) u)) v e in
     let a = added p kinds.Tab (tab_fields format) w first.0 fit place first.1.0 in
-    caret_fits first.0 v (text_point (newest first.0) 1) a.stays.fit (added_text w first.0 kinds.Tab _ 1 a refl tab_length) first.1.1
+    caret_fits first.0 v (text_point (newest first.0) 1) a.stays.fit (added_text w first.0 kinds.Tab _ 1 a refl tab_end) first.1.1
 
 -- ---- the commands
 
@@ -229,9 +233,9 @@ at_anchor_fits step w v fit each e = by_selection w.selection fit.lying e where
 
 pub lies-insert_text : (text : List ℕ) → LeavesLying (insert_text_step text)
 unfolding insert_text_step
-lies-insert_text text w v ready held e =
+lies-insert_text text w v ready held short e =
     let first = after_tells (remove_text_step w) (λ u. cond (has_no_text text) (Ok u) (at_anchor (typed text) u)) v e in
-    let fit = remove_text_fits w first.0 ready held first.1.0 in
+    let fit = remove_text_fits w first.0 ready held short first.1.0 in
     (by_test first.0 fit (has_no_text text) first.1.1).lying where
       by_test : (u : Working) → Fit u → (b : Bool) → cond b (Ok u) (at_anchor (typed text) u) ≡ Ok v → Fit v
       by_test u fit true e = let is : u ≡ v = cc in subst Fit is fit
@@ -239,14 +243,14 @@ lies-insert_text text w v ready held e =
 
 pub lies-insert_line_break : LeavesLying insert_line_break_step
 unfolding insert_line_break_step
-lies-insert_line_break w v ready held e =
+lies-insert_line_break w v ready held short e =
     let first = after_tells (remove_text_step w) (at_anchor broken) v e in
-    let fit = remove_text_fits w first.0 ready held first.1.0 in
+    let fit = remove_text_fits w first.0 ready held short first.1.0 in
     (at_anchor_fits broken first.0 v fit (λ p format place so. broken_fits p format first.0 v fit place so) first.1.1).lying
 
 pub lies-insert_tab : LeavesLying insert_tab_step
 unfolding insert_tab_step
-lies-insert_tab w v ready held e =
+lies-insert_tab w v ready held short e =
     let first = after_tells (remove_text_step w) (at_anchor tabbed) v e in
-    let fit = remove_text_fits w first.0 ready held first.1.0 in
+    let fit = remove_text_fits w first.0 ready held short first.1.0 in
     (at_anchor_fits tabbed first.0 v fit (λ p format place so. tabbed_fits p format first.0 v fit place so) first.1.1).lying

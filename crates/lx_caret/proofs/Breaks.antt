@@ -14,7 +14,7 @@ use Rattle.lx_node.specs.declared.cause.PointKind.{PointKind}
 use Rattle.lx_node.specs.declared.cause.PointKind.TheVariants as point
 use Rattle.lx_node.proofs.Subtrees.{count-alone-le}
 use Rattle.lx_forest.specs.Forest.{Forest, Label}
-use Rattle.lx_forest.specs.Lookups.{key_of, has, label_of, kind_of, index_of, children_of, size_of, ancestors, is_attached, IsForest}
+use Rattle.lx_forest.specs.Lookups.{key_of, has, label_of, kind_of, fields_of, index_of, children_of, size_of, ancestors, is_attached, IsForest}
 use Rattle.lx_forest.proofs.Up.{attached_above}
 use Rattle.lx_forest.proofs.Within.{is_within-ancestors}
 use Rattle.lx_draft.specs.Working.{Working}
@@ -27,13 +27,13 @@ use Rattle.lx_edit.specs.InTurn.{in_turn}
 use Rattle.lx_edit.specs.Edits.{text_point, element_point, moved_to_end}
 use Rattle.lx_edit.specs.Texts.{split_step}
 use Rattle.lx_range.specs.Blocks.{passes, is_at, block_of}
-use Rattle.lx_range.specs.Ranges.{lies, at_anchor, caret_at, characters_at}
+use Rattle.lx_range.specs.Ranges.{lies, at_anchor, caret_at}
 use Rattle.lx_caret.specs.Lying.{LeavesLying}
 use Rattle.lx_caret.specs.Adding.{add_step, is_inside, newest}
 use Rattle.lx_caret.specs.Removing.{remove_text_step}
 use Rattle.lx_range.specs.Making.{new_like}
 use Rattle.lx_caret.specs.Paragraphs.{place_of, before_point, holders, holders_in, cut_open, parted_at, link_parted, Parted, parted_up, Block, next_of_kind, new_next, start_of_first, moved_on, block_cut, paragraph_added, empty_item, paragraph_at, Broken, insert_paragraph_step, draft_left}
-use Rattle.lx_caret.proofs.Lies.{least}
+use Rattle.lx_caret.proofs.Lies.{least, start_in}
 use Rattle.lx_caret.proofs.Fit.{after_tells, Fit, Stays, Staying, stays_self, stays_then, stays_ok, stays_if, caret_fits, stays_new}
 use Rattle.lx_caret.proofs.Moves.{stays_behind, put_behind_in, stays_moved, moved_attached, stays_each_moved}
 use Rattle.lx_caret.proofs.Splits.{stays_split}
@@ -129,7 +129,7 @@ start_lies f block (k ∷ ks) so first = by_test (is_at has_characters f k) refl
   text (Some kind) e = e
 
   by_test : (b : Bool) → is_at has_characters f k ≡ b → lies f (cond b (text_point k 0) (element_point block 0)) ≡ true
-  by_test true is = ap₂ ◌&&◌ (first k ks refl) (ap₂ ◌&&◌ (text (kind_of f k) is) (least (characters_at f k)))
+  by_test true is = ap₂ ◌&&◌ (first k ks refl) (ap₂ ◌&&◌ (text (kind_of f k) is) (start_in (fields_of f k)))
   by_test false is = so
 
 moved_first : (parent : ℕ) (moved : List ℕ) (w v : Working) → Fit w → is_attached w.forest parent ≡ true → in_turn (moved_to_end parent) moved w ≡ Ok v → (k : ℕ) (ks : List ℕ) → moved ≡ k ∷ ks → is_attached v.forest k ≡ true
@@ -215,7 +215,7 @@ broken_fits w b fit e =
 
 pub lies-insert_paragraph : LeavesLying (λ w. draft_left (insert_paragraph_step w))
 unfolding insert_paragraph_step
-lies-insert_paragraph w v ready held e =
+lies-insert_paragraph w v ready held short e =
     let told = left_tells (insert_paragraph_step w) v e in
     let first = after_tells (remove_text_step w) (λ u. after (at_anchor (λ p format. paragraph_at (empty_item u) (block_of u.forest p.key) p) u) (λ x. Ok (record { draft = x; item = empty_item u }))) told.0 told.1.0 in
-    (subst Fit told.1.1 (broken_fits first.0 told.0 (remove_text_fits w first.0 ready held first.1.0) first.1.1)).lying
+    (subst Fit told.1.1 (broken_fits first.0 told.0 (remove_text_fits w first.0 ready held short first.1.0) first.1.1)).lying

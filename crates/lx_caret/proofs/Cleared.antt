@@ -38,7 +38,7 @@ use Rattle.lx_range.specs.declared.ranges.Ranged.{Ranged}
 use Rattle.lx_range.specs.Blocks.{same_node, block_of, frame_of, leading}
 use Rattle.lx_range.specs.Places.{from_child, behind_place, nodes_behind, until, covered, stands_below, outermost, comes_first}
 use Rattle.lx_range.specs.Ranges.{lies, is_fit, range_in, range_of, is_collapsed, start_of, end_of, caret_at, normal_at}
-use Rattle.lx_caret.specs.Lying.{EachPoint, IsLying, LeavesLying}
+use Rattle.lx_caret.specs.Lying.{EachPoint, IsLying, TextsAreShort, LeavesLying}
 use Rattle.lx_caret.specs.Removing.{cut_step, start_part, start_cut, end_cut, removed_below, removed_empty, are_apart, merge_blocks, merge_step, remove_between, removed_in, remove_text_step}
 use Rattle.lx_caret.proofs.Apart.{behind_apart}
 use Rattle.lx_caret.proofs.Lies.{both}
@@ -287,15 +287,15 @@ removed_in_fits r w v fit is e = by_test (is_collapsed r) e where
   by_test false e = remove_between_fits (start_of w.forest r) (end_of w.forest r) w v fit (start_lies (comes_first w.forest r.anchor r.focus)) (end_lies (comes_first w.forest r.anchor r.focus)) e
 
 -- a draft on which nothing else is known goes on with a range
-pub fit_of : (w : Working) (r : Ranged) → IsReady w → IsHeld may_hold w.forest → IsRange w r → Fit w
-fit_of w r ready held is = record { ready = ready; held = held; lying = is.lying }
+pub fit_of : (w : Working) (r : Ranged) → IsReady w → IsHeld may_hold w.forest → TextsAreShort w → IsRange w r → Fit w
+fit_of w r ready held short is = record { ready = ready; held = held; short = short; lying = is.lying }
 
-pub remove_text_fits : (w v : Working) → IsReady w → IsHeld may_hold w.forest → remove_text_step w ≡ Ok v → Fit v
+pub remove_text_fits : (w v : Working) → IsReady w → IsHeld may_hold w.forest → TextsAreShort w → remove_text_step w ≡ Ok v → Fit v
 unfolding remove_text_step
-remove_text_fits w v ready held e =
+remove_text_fits w v ready held short e =
     let first = after_tells (range_of w) (λ r. removed_in r w) v e in
     let is = range_lies w first.0 first.1.0 in
-    removed_in_fits first.0 w v (fit_of w first.0 ready held is) is first.1.1
+    removed_in_fits first.0 w v (fit_of w first.0 ready held short is) is first.1.1
 
 pub lies-remove_text : LeavesLying remove_text_step
-lies-remove_text w v ready held e = (remove_text_fits w v ready held e).lying
+lies-remove_text w v ready held short e = (remove_text_fits w v ready held short e).lying

@@ -205,10 +205,10 @@ deleted_fits back reach p (Some block) w v fit so e = by_test (has_more back w.f
 
 lies-delete : (back : Bool) (reach : Reach) → LeavesLying (delete_step back reach)
 unfolding delete_step
-lies-delete back reach w v ready held e =
+lies-delete back reach w v ready held short e =
     let first = after_tells (range_of w) (λ r. cond (is_collapsed r) (deleted_in back reach r.anchor (block_of w.forest r.anchor.key) w) (removed_in r w)) v e in
     let is = range_lies w first.0 first.1.0 in
-    let fit = fit_of w first.0 ready held is in
+    let fit = fit_of w first.0 ready held short is in
     (by_test first.0 (is_collapsed first.0) fit is first.1.1).lying where
       by_test : (r : Ranged) (b : Bool) → Fit w → IsRange w r → cond b (deleted_in back reach r.anchor (block_of w.forest r.anchor.key) w) (removed_in r w) ≡ Ok v → Fit v
       by_test r true fit is e = deleted_fits back reach r.anchor (block_of w.forest r.anchor.key) w v fit is.anchor e
@@ -216,8 +216,8 @@ lies-delete back reach w v ready held e =
 
 pub lies-delete_character : (back : Bool) → LeavesLying (delete_character_step back)
 unfolding delete_character_step
-lies-delete_character back w v ready held e = lies-delete back (cluster_reach back) w v ready held e
+lies-delete_character back w v ready held short e = lies-delete back (cluster_reach back) w v ready held short e
 
 pub lies-delete_word : (back : Bool) → LeavesLying (delete_word_step back)
 unfolding delete_word_step
-lies-delete_word back w v ready held e = lies-delete back (word_reach back) w v ready held e
+lies-delete_word back w v ready held short e = lies-delete back (word_reach back) w v ready held short e

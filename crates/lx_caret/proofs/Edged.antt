@@ -13,12 +13,13 @@ use Rattle.lx_node.specs.declared.cause.SelectionKind.TheVariants as kinds
 use Rattle.lx_node.specs.declared.cause.Point.{Point}
 use Rattle.lx_node.specs.declared.cause.PointKind.{PointKind}
 use Rattle.lx_node.specs.declared.cause.PointKind.TheVariants as point
+use Rattle.lx_text.specs.Texts.{is_offset}
 use Rattle.lx_select.specs.declared.selection.Selection.{Selection}
 use Rattle.lx_select.specs.declared.selection.Selection.TheVariants.{Nothing, Range, Nodes, Cells}
 use Rattle.lx_forest.specs.Forest.{Forest}
-use Rattle.lx_forest.specs.Lookups.{kind_of, is_attached}
+use Rattle.lx_forest.specs.Lookups.{kind_of, fields_of, is_attached}
 use Rattle.lx_draft.specs.Working.{Working}
-use Rattle.lx_draft.specs.Selecting.{is_counted_in, extent, lies_in}
+use Rattle.lx_draft.specs.Selecting.{is_counted_in, is_place, text_of, lies_in}
 use Rattle.lx_range.specs.declared.ranges.Ranged.{Ranged}
 use Rattle.lx_range.specs.Blocks.{is_at}
 use Rattle.lx_range.specs.Places.{comes_first, covered}
@@ -107,14 +108,17 @@ both false b e = cc
 end_within : (f : Forest) (s e : Point) → s.kind ≡ point.Text → lies_in f s ≡ true → lies_in f e ≡ true → s.key ≡ e.key → e.offset ≤ characters_at f s.key
 end_within f s e text in_s in_e same = by_kind e.kind in_e where
   counted : is_counted_in point.Text (kind_of f s.key) ≡ true
-  counted = (both (is_counted_in point.Text (kind_of f s.key)) (nat_le s.offset (extent f s point.Text)) (let P : PointKind → Type 0 = λ k. (is_counted_in k (kind_of f s.key) && nat_le s.offset (extent f s k)) ≡ true in subst P text in_s)).0
+  counted = (both (is_counted_in point.Text (kind_of f s.key)) (is_place f s point.Text)
+      (let P : PointKind → Type 0 = λ k. (is_counted_in k (kind_of f s.key) && is_place f s k) ≡ true in subst P text in_s)).0
 
-  by_kind : (k : PointKind) → (is_counted_in k (kind_of f e.key) && nat_le e.offset (extent f e k)) ≡ true → e.offset ≤ characters_at f s.key
+  by_kind : (k : PointKind) → (is_counted_in k (kind_of f e.key) && is_place f e k) ≡ true → e.offset ≤ characters_at f s.key
   by_kind point.Text h =
-      let le : e.offset ≤ characters_at f e.key = grind (arith, nat_tests, (both (is_counted_in point.Text (kind_of f e.key)) (nat_le e.offset (characters_at f e.key)) h).1) in
+      let place = (both (is_counted_in point.Text (kind_of f e.key)) (is_place f e point.Text) h).1 in
+      let within = both (nat_le e.offset (characters_at f e.key)) (is_offset e.offset (text_of (fields_of f e.key))) place in
+      let le : e.offset ≤ characters_at f e.key = grind (arith, nat_tests, within.0) in
       omega (arith, le, ap (characters_at f) same)
   by_kind point.Element h =
-      absurd (no_element (kind_of f e.key) (ap (λ k. is_counted_in point.Text (kind_of f k)) (sym same) ∙ counted) (both (is_counted_in point.Element (kind_of f e.key)) (nat_le e.offset (extent f e point.Element)) h).0)
+      absurd (no_element (kind_of f e.key) (ap (λ k. is_counted_in point.Text (kind_of f k)) (sym same) ∙ counted) (both (is_counted_in point.Element (kind_of f e.key)) (is_place f e point.Element) h).0)
 
 start_inside : (f : Forest) (s e : Point) → lies_in f s ≡ true → lies_in f e ≡ true → s.kind ≡ point.Text → s.offset < start_part f s e → s.offset < characters_at f s.key
 start_inside f s e in_s in_e text lt = elim (eqb_tells s.key e.key) [

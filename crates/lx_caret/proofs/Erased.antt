@@ -1,7 +1,6 @@
 -- Where a caret is in its text.
-use Rattle.std.proofs.Common.{◌≡◌, ◌∙◌, ℕ, ◌≤◌, Bool, true, false, ◌&&◌, List, Option, None, Some, option_map, Result, Ok, Err, refl, sym, ap, subst, arith, inl, inr}
+use Rattle.std.proofs.Common.{◌≡◌, ◌∙◌, ℕ, Bool, true, false, ◌&&◌, Option, None, Some, option_map, Result, Ok, Err, refl, sym, ap, inl, inr}
 use Rattle.std.proofs.lemmas.Bool.{cases_Bool, and_parts}
-use Rattle.std.proofs.lemmas.Bool.Decides.{nat_tests}
 use Rattle.std.specs.Prelude.{nat_le}
 use Rattle.lx_node.specs.OfKind.{is_normal}
 use Rattle.lx_node.specs.declared.kind.Kind.{Kind}
@@ -15,19 +14,21 @@ use Rattle.lx_node.specs.declared.cause.SelectionKind.TheVariants as kinds
 use Rattle.lx_node.specs.declared.cause.Point.{Point}
 use Rattle.lx_node.specs.declared.cause.PointKind.{PointKind}
 use Rattle.lx_node.specs.declared.cause.PointKind.TheVariants as point
-use Rattle.lx_text.specs.Texts.{text_length, is_offset}
+use Rattle.lx_text.specs.Texts.{is_offset}
+use Rattle.lx_text.proofs.Told.{offset_start}
 use Rattle.lx_select.specs.declared.selection.Selection.{Selection}
 use Rattle.lx_select.specs.declared.selection.Selection.TheVariants.{Nothing, Range, Nodes, Cells}
 use Rattle.lx_forest.specs.Forest.{Forest, Label}
 use Rattle.lx_forest.specs.Lookups.{label_of, kind_of, fields_of, is_attached}
 use Rattle.lx_draft.specs.Working.{Working}
-use Rattle.lx_draft.specs.Selecting.{length_of, length_told, extent, is_counted_in, lies_in}
+use Rattle.lx_draft.specs.Selecting.{text_of, length_of, is_place, is_counted_in, lies_in}
 use Rattle.lx_draft.specs.Faults.{text_fields, text_in}
 use Rattle.lx_range.specs.declared.ranges.Ranged.{Ranged}
 use Rattle.lx_range.specs.Blocks.{same_node, frame_of}
 use Rattle.lx_range.specs.Ranges.{range_in, range_of, is_fit, lies, if_normal, normal_at, characters_at}
-use Rattle.lx_caret.specs.Deleting.{Reach, erased, erase_step, has_more}
+use Rattle.lx_caret.specs.Deleting.{Reach, erased, erase_step, has_more, edge}
 use Rattle.lx_caret.specs.Stretches.{erased_to}
+use Rattle.lx_caret.proofs.Lies.{end_offset}
 
 -- ---- the caret of a range
 
@@ -56,18 +57,21 @@ lies_attached f p e = (and_parts (is_attached f p.key) (lies_in f p) e).0
 
 -- ---- an offset of a text
 
-more_in : (back : Bool) (f : Forest) (p : Point) (kind : PointKind) → nat_le p.offset (extent f p kind) ≡ true → has_more back f p kind ≡ true → p.offset ≤ characters_at f p.key
-more_in back f p point.Element within more = absurd (cc)
-more_in back f p point.Text within more = grind (arith, nat_tests, within)
+more_in : (back : Bool) (f : Forest) (p : Point) (kind : PointKind) → is_place f p kind ≡ true → has_more back f p kind ≡ true
+    → is_offset p.offset (text_of (fields_of f p.key)) ≡ true
+more_in back f p point.Element place more = absurd (cc)
+more_in back f p point.Text place more = (and_parts (nat_le p.offset (characters_at f p.key)) (is_offset p.offset (text_of (fields_of f p.key))) place).1
 
--- a point with characters on a side is within them
-pub more_within : (back : Bool) (f : Forest) (p : Point) → lies f p ≡ true → has_more back f p p.kind ≡ true → p.offset ≤ characters_at f p.key
-more_within back f p e more =
-    more_in back f p p.kind (and_parts (is_counted_in p.kind (kind_of f p.key)) (nat_le p.offset (extent f p p.kind)) (and_parts (is_attached f p.key) (lies_in f p) e).1).1 more
+-- a point with characters on a side is at an offset of its text
+pub more_place : (back : Bool) (f : Forest) (p : Point) → lies f p ≡ true → has_more back f p p.kind ≡ true
+    → is_offset p.offset (text_of (fields_of f p.key)) ≡ true
+more_place back f p e more =
+    more_in back f p p.kind (and_parts (is_counted_in p.kind (kind_of f p.key)) (is_place f p p.kind) (and_parts (is_attached f p.key) (lies_in f p) e).1).1 more
 
-told_offset : (text : List ℕ) (at : ℕ) → at ≤ length_told text → is_offset at text ≡ true
-unfolding is_offset text_length
-told_offset text at e = grind (arith, nat_tests, e)
+-- and so is an edge
+pub edge_place : (back : Bool) (x : Option Fields) → is_offset (edge back (length_of x)) (text_of x) ≡ true
+edge_place true x = end_offset x
+edge_place false x = offset_start (text_of x)
 
 normal_is : (o : Option TextFields) (text : TextFields) → if_normal o ≡ Some text → o ≡ Some text
 normal_is None text e = cc
@@ -84,11 +88,12 @@ text_at : (l : Option Label) (text : TextFields) → text_in l ≡ Some text →
 text_at None text e = cc
 text_at (Some l) text e = ap (λ x. Some x) (fields_are l.kind l.fields text e)
 
--- what is within the characters of a normal text is an offset of it
-pub offset_of : (f : Forest) (k at : ℕ) (text : TextFields) → normal_at f k ≡ Some text → at ≤ characters_at f k → is_offset at text.text ≡ true
-offset_of f k at text normal within =
+-- an offset of the text of a normal one
+pub offset_of : (f : Forest) (k at : ℕ) (text : TextFields) → normal_at f k ≡ Some text → is_offset at (text_of (fields_of f k)) ≡ true
+    → is_offset at text.text ≡ true
+offset_of f k at text normal e =
     let is : fields_of f k ≡ Some (fields.Text text) = text_at (label_of f k) text (normal_is (text_in (label_of f k)) text normal) in
-    told_offset text.text at (subst (λ n. at ≤ n) (ap length_of is) within)
+    ap (λ x. is_offset at (text_of x)) (sym is) ∙ e
 
 -- ---- up to the end of a stretch
 

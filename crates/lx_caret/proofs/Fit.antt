@@ -1,5 +1,5 @@
 -- Drafts whose selection lies in the root's tree, and steps that leave one and take nothing out of that tree.
-use Rattle.std.proofs.Common.{◌≡◌, ◌∙◌, ℕ, ◌≤◌, Bool, true, false, cond, eqb, ltb, ◌&&◌, ◌||◌, List, length, Option, None, Some, Result, Ok, Err, refl, sym, ap, ap₂, subst, arith}
+use Rattle.std.proofs.Common.{◌≡◌, ◌∙◌, ℕ, ◌+◌, ◌*◌, ◌≤◌, Bool, true, false, cond, eqb, ◌&&◌, ◌||◌, List, length, Option, None, Some, Result, Ok, Err, refl, sym, ap, ap₂, subst, arith}
 use Rattle.std.specs.Prelude.{option_map, is_some, slice_get}
 use Rattle.std.specs.Option.{option_or}
 use Rattle.std.proofs.lemmas.Bool.Decides.{nat_tests}
@@ -14,7 +14,8 @@ use Rattle.lx_node.specs.declared.fields.TextFields.{TextFields}
 use Rattle.lx_node.specs.declared.cause.Cause.{Cause}
 use Rattle.lx_node.specs.declared.cause.Cause.TheVariants.{WrongKind}
 use Rattle.lx_node.specs.declared.cause.Point.{Point}
-use Rattle.lx_text.specs.Texts.{spliced_text, slice_fault}
+use Rattle.lx_node.specs.Limits.{last_u32, most_characters}
+use Rattle.lx_text.specs.Texts.{text_length, within, spliced_text, slice_fault}
 use Rattle.lx_select.specs.declared.selection.Selection.{Selection}
 use Rattle.lx_select.specs.declared.selection.Selection.TheVariants.{Nothing, Range, Nodes, Cells}
 use Rattle.lx_select.specs.Selection.{each_point}
@@ -24,11 +25,12 @@ use Rattle.lx_forest.specs.Lookups.{has, spot, label_of, kind_of, fields_of, chi
 use Rattle.lx_forest.specs.Edits.{with_new, with_fields, put_in, CanPut}
 use Rattle.lx_forest.proofs.Edits.{is_some-spot}
 use Rattle.lx_forest.proofs.Held.{IsHeld-with_new, IsHeld-with_fields, IsHeld-put_in}
+use Rattle.lx_forest.proofs.Lookups.{label_of-put_in}
 use Rattle.lx_forest.proofs.Within.{is_within-with_fields, is_attached-with_new, is_attached-put_in}
 use Rattle.lx_links.specs.Faults.{unknown, misfit, bound_to, wrong_fields, set_fault}
 use Rattle.lx_draft.specs.Working.{Working}
 use Rattle.lx_draft.specs.Covering.{IsReady, KindsStay}
-use Rattle.lx_draft.specs.Selecting.{lies_in, length_told}
+use Rattle.lx_draft.specs.Selecting.{text_of, lies_in, length_told}
 use Rattle.lx_draft.specs.Faults.{answer, after, over_counts, over_limits, put_fault, beyond, text_in, text_fields, piece_fault, label_fault, splice_fault}
 use Rattle.lx_draft.specs.Steps.{made, with_piece, new_step, fields_written, set_points, set_step, splice_points, label_with_piece, text_replaced, splice_step, node_placed, put_step}
 use Rattle.lx_draft.proofs.Covered.{answered}
@@ -36,8 +38,9 @@ use Rattle.lx_draft.proofs.CoveredSteps.{covered-new, covered-set, covered-splic
 use Rattle.lx_draft.proofs.Put.{both_none, can_put}
 use Rattle.lx_edit.specs.Edits.{pointed}
 use Rattle.lx_range.specs.Ranges.{lies}
-use Rattle.lx_caret.specs.Lying.{EachPoint, IsLying}
+use Rattle.lx_caret.specs.Lying.{EachPoint, IsLying, TextsAreShort}
 use Rattle.lx_caret.proofs.Lies.{both, text_at, lies_new, lies_spliced, lies_set, lies_put}
+use Rattle.lx_caret.proofs.Short.{u32-tells, written-allowed, fields-short, splice-short, same-short, made-short, written-short}
 
 -- ---- points one by one
 
@@ -73,10 +76,12 @@ after_tells (Err cause) next v e = absurd (cc)
 
 -- ---- drafts
 
--- a draft on which a command goes on: in order, each node holds what it may, and the selection lies in the tree
+-- a draft on which a command goes on: in order, each node holds what it may, its texts are short, and the selection lies in
+-- the tree
 pub record Fit (w : Working) : Type 0 where
   pub ready : IsReady w
   pub held : IsHeld may_hold w.forest
+  pub short : TextsAreShort w
   pub lying : IsLying w
 
 -- such a draft that still has what the other one had
@@ -122,6 +127,7 @@ stays_pointed moved w fit each = record {
   fit = record {
     ready = record { in_order = fit.ready.in_order; free = fit.ready.free };
     held = fit.held;
+    short = fit.short;
     lying = each_moved (λ x. lies w.forest x ≡ true) (λ x. lies w.forest x ≡ true) moved w.selection each fit.lying;
   };
   attached = λ q e. e;
@@ -148,6 +154,7 @@ stays_new kind fields w v fit e =
       fit = record {
         ready = all.ready;
         held = IsHeld-with_new may_hold w.forest fit.ready.in_order fit.held l free;
+        short = made-short kind fields w fit.ready fit.short;
         lying = each_still (λ x. lies w.forest x ≡ true) (λ x. lies (with_new l w.forest) x ≡ true) w.selection (λ x so.
             let parts = both (is_attached w.forest x.key) (lies_in w.forest x) so in
             ap₂ ◌&&◌ (is_attached-with_new l w.forest x.key fit.ready.in_order free ∙ parts.0) (lies_new l w.forest x.key x.offset x.kind fit.ready.in_order free parts.1)) fit.lying;
@@ -189,6 +196,27 @@ key_of_splice k from to len x = by_test (eqb x.key k) where
   by_test true = refl
   by_test false = refl
 
+-- the text that a splice leaves is short, as it is with all that is written
+pub spliced_short : (k from to : ℕ) (new : List ℕ) (w : Working) (s : IsSpliced w.forest k from to) → TextsAreShort w
+    → text_length (spliced_text from to new s.text.text) ≤ 2 * (most_characters + (w.written + length new))
+spliced_short k from to new w s short =
+    let own : text_length s.text.text ≤ 2 * (most_characters + w.written) =
+    subst (λ x. text_length (text_of x) ≤ 2 * (most_characters + w.written)) (text_at w.forest k s.text s.text_is).fields_are (short.each k) in
+    splice-short w.written from to new s.text.text s.piece own
+
+pub spliced_few : (k from to : ℕ) (new : List ℕ) (w : Working) (s : IsSpliced w.forest k from to) → TextsAreShort w
+    → over_limits (length new) w ≡ None → text_length (spliced_text from to new s.text.text) ≤ last_u32
+spliced_few k from to new w s short none =
+    u32-tells (text_length (spliced_text from to new s.text.text)) (w.written + length new)
+    (spliced_short k from to new w s short) (written-allowed (length new) w none)
+
+pub splice_written : (k from to : ℕ) (new : List ℕ) (w : Working) (s : IsSpliced w.forest k from to) (x : Fields)
+    → x ≡ text_replaced s.text (spliced_text from to new s.text.text) → TextsAreShort w
+    → TextsAreShort (fields_written k x (length new) (splice_points k from to new) w)
+splice_written k from to new w s x is short =
+    written-short k x (length new) (splice_points k from to new) w
+    (subst (λ y. text_length (text_of (Some y)) ≤ 2 * (most_characters + (w.written + length new))) (sym is) (spliced_short k from to new w s short)) short
+
 pub stays_splice : (k from to : ℕ) (new : List ℕ) → Staying (splice_step k from to new)
 unfolding splice_step
 stays_splice k from to new w v fit e =
@@ -196,16 +224,19 @@ stays_splice k from to new w v fit e =
     let after_it : Working = fields_written k x (length new) (splice_points k from to new) w in
     let told = answered (option_or (splice_fault k from to w.forest) (over_limits (length new) w)) after_it v e in
     let all = covered-splice k from to new w after_it fit.ready (ap (λ o. answer o after_it) told.0) in
-    let s = spliced w.forest k from to (both_none (splice_fault k from to w.forest) (over_limits (length new) w) told.0).0 in
+    let none = both_none (splice_fault k from to w.forest) (over_limits (length new) w) told.0 in
+    let s = spliced w.forest k from to none.0 in
     let same : x ≡ text_replaced s.text (spliced_text from to new s.text.text) = ap (λ t. with_piece t from to new) s.text_is in
     subst (Stays w) told.1 (record {
       fit = record {
         ready = all.ready;
         held = IsHeld-with_fields may_hold w.forest fit.ready.in_order fit.held k x;
+        short = splice_written k from to new w s x same fit.short;
         lying = each_moved (λ p. lies w.forest p ≡ true) (λ p. lies (with_fields k x w.forest) p ≡ true) (splice_moves k from to (length_told new)) w.selection (λ p so.
             let parts = both (is_attached w.forest p.key) (lies_in w.forest p) so in
             ap₂ ◌&&◌ (ap (is_attached (with_fields k x w.forest)) (key_of_splice k from to (length_told new) p) ∙ is_within-with_fields k x w.forest 0 p.key ∙ parts.0)
-            (ap (λ y. lies_in (with_fields k y w.forest) (splice_moves k from to (length_told new) p)) same ∙ lies_spliced w.forest k from to new s.text p.key p.offset p.kind (text_at w.forest k s.text s.text_is) s.piece parts.1)) fit.lying;
+            (ap (λ y. lies_in (with_fields k y w.forest) (splice_moves k from to (length_told new) p)) same
+            ∙ lies_spliced w.forest k from to new s.text p.key p.offset p.kind (text_at w.forest k s.text s.text_is) s.piece (spliced_few k from to new w s fit.short none.1) parts.1)) fit.lying;
       };
       attached = λ q so. is_within-with_fields k x w.forest 0 q ∙ so;
       kept = all.kinds;
@@ -219,10 +250,10 @@ kind_there f k none = by_label (label_of f k) refl where
   by_label None is = let bad : false ≡ true = sym (ap is_some is) ∙ known_label f k none in absurd (cc)
   by_label (Some l) is = (l, is)
 
-key_of_set : (k len : ℕ) (x : Point) → (set_moves k len x).key ≡ x.key
+key_of_set : (k : ℕ) (text : List ℕ) (x : Point) → (set_moves k text x).key ≡ x.key
 unfolding set_moves
-key_of_set k len x = by_test (eqb x.key k && ltb len x.offset) where
-  by_test : (b : Bool) → (cond b (record x { offset = len }) x).key ≡ x.key
+key_of_set k text x = by_test (eqb x.key k) where
+  by_test : (b : Bool) → (cond b (record x { offset = within text x.offset }) x).key ≡ x.key
   by_test true = refl
   by_test false = refl
 
@@ -249,9 +280,10 @@ stays_set k u w v fit e =
       fit = record {
         ready = all.ready;
         held = IsHeld-with_fields may_hold w.forest fit.ready.in_order fit.held k x;
-        lying = each_moved (λ p. lies w.forest p ≡ true) (λ p. lies (with_fields k x w.forest) p ≡ true) (set_moves k (length_told u.text)) w.selection (λ p so.
+        short = written-short k x (characters_of x) (set_points k x) w (fields-short w.written x) fit.short;
+        lying = each_moved (λ p. lies w.forest p ≡ true) (λ p. lies (with_fields k x w.forest) p ≡ true) (set_moves k u.text) w.selection (λ p so.
             let parts = both (is_attached w.forest p.key) (lies_in w.forest p) so in
-            ap₂ ◌&&◌ (ap (is_attached (with_fields k x w.forest)) (key_of_set k (length_told u.text) p) ∙ is_within-with_fields k x w.forest 0 p.key ∙ parts.0)
+            ap₂ ◌&&◌ (ap (is_attached (with_fields k x w.forest)) (key_of_set k u.text p) ∙ is_within-with_fields k x w.forest 0 p.key ∙ parts.0)
             (lies_set w.forest k there.0.kind there.0.fields u p.key p.offset p.kind kind_is fields_is right parts.1)) fit.lying;
       };
       attached = λ q so. is_within-with_fields k x w.forest 0 q ∙ so;
@@ -311,6 +343,7 @@ stays_put k p index w v fit e =
       fit = record {
         ready = all.ready;
         held = IsHeld-put_in may_hold w.forest fit.ready.in_order fit.held p before k is.may is.fits;
+        short = same-short w.forest g w.written (λ q. label_of-put_in p before k w.forest q fit.ready.in_order is.may) fit.short;
         lying = each_moved (λ x. lies w.forest x ≡ true) (λ x. lies g x ≡ true) (put_moves p index) w.selection (λ x so.
             let parts = both (is_attached w.forest x.key) (lies_in w.forest x) so in
             ap₂ ◌&&◌ (ap (is_attached g) (key_of_put p index x) ∙ attached_put w.forest k p before x.key fit.ready.in_order is.may parts.0)

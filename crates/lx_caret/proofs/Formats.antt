@@ -42,6 +42,7 @@ format_fits format w v fit e =
     let now : Fit (selection_format format w) = record {
       ready = record { in_order = fit.ready.in_order; free = fit.ready.free };
       held = fit.held;
+      short = fit.short;
       lying = each_formatted _ format w.selection fit.lying;
     } in
     subst Fit is now
@@ -87,7 +88,7 @@ formatted_fits bit (p ∷ ps) format w v fit e =
 
 pub lies-format_text : (bit : ℕ) → LeavesLying (format_text_step bit)
 unfolding format_text_step
-lies-format_text bit w v ready held e =
+lies-format_text bit w v ready held short e =
     let first = after_tells (range_of w) (λ r. formatted bit (pieces w.forest (start_of w.forest r) (end_of w.forest r)) r.format w) v e in
     let is = range_lies w first.0 first.1.0 in
-    (formatted_fits bit (pieces w.forest (start_of w.forest first.0) (end_of w.forest first.0)) first.0.format w v (fit_of w first.0 ready held is) first.1.1).lying
+    (formatted_fits bit (pieces w.forest (start_of w.forest first.0) (end_of w.forest first.0)) first.0.format w v (fit_of w first.0 ready held short is) first.1.1).lying

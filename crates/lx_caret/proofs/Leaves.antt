@@ -1,4 +1,4 @@
--- Down first children from the root to a leaf, and down last ones.
+-- Down last children from the root to a leaf.
 use Rattle.std.proofs.Common.{◌≡◌, ◌≢◌, ◌∙◌, ℕ, ◌+◌, ◌<◌, ◌^◌, eqb, Bool, true, false, cond, List, [], ◌∷◌, ◌++◌, length, Option, None, Some, refl, sym, ap, arith, append-nil, inl, inr}
 use Rattle.std.specs.Prelude.{find, is_some}
 use Rattle.lx_node.specs.Trees.{nil}
@@ -23,49 +23,9 @@ use Rattle.lx_links.specs.Stands.{Sound}
 use Rattle.lx_links.proofs.Up.{not_within}
 use Rattle.lx_links.proofs.Placed.{parent_of-child}
 
--- a node without children
-abbrev pub is_leaf : Forest → ℕ → Bool
-is_leaf f q = eqb (size_of f q) 0
-
-none_first : (xs : List ℕ) → first_of xs ≡ None → xs ≡ []
-none_first [] e = refl
-none_first (x ∷ xs) e = cc
-
 -- what is as attached as the root is attached
 attached_there : (f : Forest) (q : ℕ) → Sound f → f ≢ nil → is_attached f q ≡ is_attached f 0 → is_attached f q ≡ true
 attached_there f q s living same = same ∙ is_attached-root f (s.in_order living)
-
-not_empty : (f : Forest) (q c : ℕ) → first_child f q ≡ Some c → is_leaf f q ≡ false
-not_empty f q c e = by_children (children_of f q) e where
-  by_children : (xs : List ℕ) → first_of xs ≡ Some c → eqb (length xs) 0 ≡ false
-  by_children [] e = cc
-  by_children (x ∷ xs) e = elim (eqb_tells (length (x ∷ xs)) 0) [ inl none ↦ absurd (omega (arith, none.1)) | inr some ↦ some.0 ]
-
--- ---- first
-
-first_up : (f : Forest) (q c : ℕ) → Sound f → first_child f q ≡ Some c → parent_of f c ≡ Some q
-first_up f q c s e = parent_of-child f c q s (first_of-among (children_of f q) c e)
-
-first_from : (f : Forest) (q c : ℕ) → Sound f → f ≢ nil → is_attached f q ≡ is_attached f 0 → first_child f q ≡ Some c → from f q ≡ q ∷ from f c
-first_from f q c s living same e = from-child f q c (s.in_order living) (attached_there f q s living same) e
-
-pub first_attached : (f : Forest) (q c : ℕ) → Sound f → f ≢ nil → is_attached f q ≡ is_attached f 0 → first_child f q ≡ Some c → is_attached f c ≡ is_attached f 0
-first_attached f q c s living same e = is_attached-up f c q (s.in_order living) (first_up f q c s e) ∙ same
-
-pub first_on : (f : Forest) (q c : ℕ) → Sound f → f ≢ nil → is_attached f q ≡ is_attached f 0 → first_child f q ≡ Some c → find (is_leaf f) (from f c) ≡ find (is_leaf f) (from f q)
-first_on f q c s living same e =
-    sym (ap (find (is_leaf f)) (first_from f q c s living same e) ∙ ap (λ b. cond b (Some q) (find (is_leaf f) (from f c))) (not_empty f q c e))
-
-pub first_fewer : (f : Forest) (q c : ℕ) → Sound f → f ≢ nil → is_attached f q ≡ is_attached f 0 → first_child f q ≡ Some c → length (from f c) < length (from f q)
-first_fewer f q c s living same e = omega (arith, ap length (first_from f q c s living same e))
-
-pub first_found : (f : Forest) (q : ℕ) → Sound f → f ≢ nil → is_attached f q ≡ is_attached f 0 → first_child f q ≡ None → find (is_leaf f) (from f q) ≡ find (is_leaf f) (from f 0) → Some q ≡ find (is_leaf f) (keys_within f 0)
-first_found f q s living same e way =
-    let none : children_of f q ≡ [] = none_first (children_of f q) e in
-    let here : find (is_leaf f) (from f q) ≡ Some q =
-    ap (find (is_leaf f)) (from-leaf f q (s.in_order living) (attached_there f q s living same) none)
-    ∙ ap (λ b. cond b (Some q) (find (is_leaf f) (behind f q))) (ap (λ (xs : List ℕ). eqb (length xs) 0) none) in
-    sym here ∙ way ∙ ap (find (is_leaf f)) (from-root f (s.in_order living))
 
 -- ---- last
 
@@ -141,12 +101,3 @@ last_found f q s living same e way =
     let none : children_of f q ≡ [] = none_last (children_of f q) e in
     let there : is_some (spot f q) ≡ true = is_some-spot f q ∙ attached_has f q (attached_there f q s living same) in
     sym (last_alone f q (spot f q) (s.in_order living) refl none there) ∙ way
-
--- ---- places
-
--- behind a node there is a place that an offset can tell
-pub index_fits : (f : Forest) (k i : ℕ) → Sound f → index_of f k ≡ Some i → i + 1 < 2 ^ 32
-index_fits f k i s at = by_parent (parent_of f k) at where
-  by_parent : (o : Option ℕ) → index_in (children_below f o) k ≡ Some i → i + 1 < 2 ^ 32
-  by_parent None e = cc
-  by_parent (Some p) e = omega (arith, index_in-lt (children_of f p) k i e, size_of-le f p, s.small)

@@ -9,6 +9,7 @@ pub mod Covered
 mod Covering
 pub mod Deletes
 mod Edged
+pub mod EmptyItems
 mod Erased
 pub mod Fit
 pub mod Formats
@@ -24,8 +25,9 @@ pub mod Made
 mod MovedIn
 pub mod Moves
 mod Nexts
+pub mod Offsets
 pub mod Parents
-mod Parted
+pub mod Parted
 pub mod Paths
 pub mod PathsOfDeleting
 pub mod PathsOfFormatting
@@ -36,4 +38,5 @@ pub mod Rows
 mod RowsOfDeleting
 mod RowsOfFormatting
 pub mod Selected
+pub mod Short
 pub mod Splits

@@ -17,8 +17,9 @@ use Rattle.lx_node.specs.declared.cause.PointKind.{PointKind}
 use Rattle.lx_node.specs.declared.cause.PointKind.TheVariants as point
 use Rattle.lx_node.proofs.Siblings.{length-names_without, names_without-absent_list, length-names_with}
 use Rattle.lx_node.proofs.Positions as positions
-use Rattle.lx_text.specs.Texts.{text_length, spliced_text, slice_fault}
-use Rattle.lx_text.proofs.Told.{IsPiece, piece_of, splice-length}
+use Rattle.lx_node.specs.Limits.{last_u32}
+use Rattle.lx_text.specs.Texts.{text_length, within, is_offset, spliced_text, slice_fault}
+use Rattle.lx_text.proofs.Told.{offset_start, told-offset, told-small, piece_of}
 use Rattle.lx_select.specs.Rules.{is_counting_children, is_behind, take_moves, put_moves, offset_sum, spliced_offset, splice_moves, set_moves}
 use Rattle.lx_forest.specs.Forest.{Forest, Label}
 use Rattle.lx_forest.specs.Lookups.{has, spot, label_of, kind_of, fields_of, parent_of, children_of, children_below, size_of, siblings, index_of, is_within, is_attached, IsForest}
@@ -27,8 +28,9 @@ use Rattle.lx_forest.proofs.Edits.{is_some-spot}
 use Rattle.lx_forest.proofs.Lookups.{is_among-children_of, NoRepeats-children_of, label_of-with_new, children_of-with_new, kind_of-with_fields, fields_of-with_fields, children_of-with_fields, label_of-take_out, children_of-take_out, label_of-put_in, children_of-put_in}
 use Rattle.lx_forest.proofs.Within.{is_attached-take_out, is_attached-put_in, is_within-take_out, is_within-self}
 use Rattle.lx_draft.specs.Faults.{text_fields, text_in}
-use Rattle.lx_draft.specs.Selecting.{lies_in, is_counted_in, extent, length_of, length_told}
+use Rattle.lx_draft.specs.Selecting.{lies_in, is_counted_in, is_place, text_of, length_of, length_told}
 use Rattle.lx_draft.specs.Steps.{text_replaced}
+use Rattle.lx_caret.proofs.Offsets.{IsPlace, spliced_place, within_place}
 
 pub both : (a b : Bool) → (a && b) ≡ true → (a ≡ true) × (b ≡ true)
 both true true e = (refl, refl)
@@ -42,6 +44,31 @@ full n = grind arith
 pub least : (n : ℕ) → leb 0 n ≡ true
 least n = grind arith
 
+-- whether an offset is one of a place in the text of fields
+abbrev pub is_place_in : ℕ → Option Fields → Bool
+is_place_in o x = leb o (length_of x) && is_offset o (text_of x)
+
+pub place_in : (o : ℕ) (text : List ℕ) → IsPlace o text → (leb o (length_told text) && is_offset o text) ≡ true
+place_in o text p = let within : leb o (length_told text) ≡ true = grind (arith, nat_tests, p.told) in ap₂ ◌&&◌ within p.place
+
+-- the start and the end are
+pub start_in : (x : Option Fields) → is_place_in 0 x ≡ true
+start_in x = ap₂ ◌&&◌ (least (length_of x)) (offset_start (text_of x))
+
+pub end_offset : (x : Option Fields) → is_offset (length_of x) (text_of x) ≡ true
+end_offset (Some (fields.Text text)) = told-offset text.text
+end_offset None = offset_start []
+end_offset (Some x) = offset_start []
+
+pub end_in : (x : Option Fields) → is_place_in (length_of x) x ≡ true
+end_in x = ap₂ ◌&&◌ (full (length_of x)) (end_offset x)
+
+-- a u32 tells each place
+pub place_small : (o : ℕ) (x : Option Fields) → leb o (length_of x) ≡ true → o ≤ last_u32
+place_small o (Some (fields.Text text)) e = let within : o ≤ length_told text.text = grind (arith, nat_tests, e) in omega (arith, within, told-small text.text)
+place_small o None e = grind (arith, nat_tests, e)
+place_small o (Some x) e = grind (arith, nat_tests, e)
+
 abbrev pub spot_point : ℕ → ℕ → PointKind → Point
 spot_point q o kind = record { key = q; offset = o; kind = kind }
 
@@ -50,7 +77,7 @@ abbrev fits_label : PointKind → Option Label → Bool
 fits_label kind l = is_counted_in kind (option_map (λ x. x.kind) l)
 
 abbrev text_lies : ℕ → Option Label → Bool
-text_lies o l = fits_label point.Text l && leb o (length_of (option_map (λ x. x.fields) l))
+text_lies o l = fits_label point.Text l && is_place_in o (option_map (λ x. x.fields) l)
 
 -- a node that looks the same has the same points
 pub lies_same : (f g : Forest) (q o : ℕ) (kind : PointKind) → label_of g q ≡ label_of f q → size_of g q ≡ size_of f q → lies_in g (spot_point q o kind) ≡ lies_in f (spot_point q o kind)
@@ -62,7 +89,7 @@ pub there : (f : Forest) (x : Point) → lies_in f x ≡ true → has x.key f �
 there f x e = by_spot (spot f x.key) refl where
   by_spot : (s : Option (Spot Label)) → spot f x.key ≡ s → has x.key f ≡ true
   by_spot None is =
-      let bad : false ≡ true = sym (ap (λ s. is_counted_in x.kind (option_map (λ l. l.kind) (option_map (λ s. s.label) s)) && leb x.offset (extent f x x.kind)) is) ∙ e in
+      let bad : false ≡ true = sym (ap (λ s. is_counted_in x.kind (option_map (λ l. l.kind) (option_map (λ s. s.label) s)) && is_place f x x.kind) is) ∙ e in
       absurd (cc)
   by_spot (Some s) is = sym (is_some-spot f x.key) ∙ ap is_some is
 
@@ -96,7 +123,7 @@ fields_now k fields old f e =
 
 -- points elsewhere stay
 lies_elsewhere : (k : ℕ) (fields : Fields) (f : Forest) (q o : ℕ) (kind : PointKind) → eqb q k ≡ false → lies_in (with_fields k fields f) (spot_point q o kind) ≡ lies_in f (spot_point q o kind)
-lies_elsewhere k fields f q o point.Text other = ap₂ (λ kind x. is_counted_in point.Text kind && leb o (length_of x)) (kind_of-with_fields k fields f q) (fields_still k fields f q other)
+lies_elsewhere k fields f q o point.Text other = ap₂ (λ kind x. is_counted_in point.Text kind && is_place_in o x) (kind_of-with_fields k fields f q) (fields_still k fields f q other)
 lies_elsewhere k fields f q o point.Element other = lies_element k fields f q o
 
 -- a text at a key
@@ -108,16 +135,16 @@ record IsTextOf (kind : Kind) (x : Fields) (t : TextFields) : Type 0 where
   pub kind_is : kind ≡ kinds.Text
   pub fields_are : x ≡ fields.Text t
 
-text_of : (kind : Kind) (x : Fields) (t : TextFields) → text_fields kind x ≡ Some t → IsTextOf kind x t
-text_of kinds.Text (fields.Text u) t e = let same : u ≡ t = cc in record { kind_is = refl; fields_are = ap (λ s. fields.Text s) same }
-text_of kind x t e = absurd (cc)
+text_tells : (kind : Kind) (x : Fields) (t : TextFields) → text_fields kind x ≡ Some t → IsTextOf kind x t
+text_tells kinds.Text (fields.Text u) t e = let same : u ≡ t = cc in record { kind_is = refl; fields_are = ap (λ s. fields.Text s) same }
+text_tells kind x t e = absurd (cc)
 
 pub text_at : (f : Forest) (k : ℕ) (t : TextFields) → text_in (label_of f k) ≡ Some t → IsText f k t
 text_at f k t e = by_label (label_of f k) refl e where
   by_label : (l : Option Label) → label_of f k ≡ l → text_in l ≡ Some t → IsText f k t
   by_label None is e = absurd (cc)
   by_label (Some l) is e =
-      let tells = text_of l.kind l.fields t e in
+      let tells = text_tells l.kind l.fields t e in
       record {
         kind_is = ap (option_map (λ x. x.kind)) is ∙ ap (λ x. Some x) tells.kind_is;
         fields_are = ap (option_map (λ x. x.fields)) is ∙ ap (λ x. Some x) tells.fields_are;
@@ -130,19 +157,34 @@ no_element f k kind o is leaf e =
     let bad : false ≡ true = sym leaf ∙ sym (ap (is_counted_in point.Element) is) ∙ first in
     cc
 
-spliced_within : (from to n length now o : ℕ) → from ≤ to → to ≤ length → now + to ≡ length + n + from → leb o (min length 4294967295) ≡ true → leb (spliced_offset from to (min n 4294967295) o) (min now 4294967295) ≡ true
-unfolding spliced_offset offset_sum
-spliced_within from to n length now o order within is e = grind (arith, nat_tests, order, within, is, e)
+-- what a point in a text tells of it
+pub record IsIn (f : Forest) (k o : ℕ) : Type 0 where
+  pub counted : is_counted_in point.Text (kind_of f k) ≡ true
+  pub within : leb o (length_of (fields_of f k)) ≡ true
+  pub place : is_offset o (text_of (fields_of f k)) ≡ true
 
-pub piece_within : (from to : ℕ) (text : List ℕ) → IsPiece from to text → to ≤ text_length text
-unfolding text_length
-piece_within from to text p = p.within
+pub point_in : (f : Forest) (k o : ℕ) → lies_in f (spot_point k o point.Text) ≡ true → IsIn f k o
+point_in f k o e =
+    let parts = both (is_counted_in point.Text (kind_of f k)) (is_place_in o (fields_of f k)) e in
+    let place = both (leb o (length_of (fields_of f k))) (is_offset o (text_of (fields_of f k))) parts.1 in
+    record { counted = parts.0; within = place.0; place = place.1 }
+
+-- a point in a node lies in it where the fields are written, if it is at a place of the new text
+lies_now : (f : Forest) (k : ℕ) (t : TextFields) (old : Fields) (q o : ℕ) → q ≡ k → fields_of f k ≡ Some old
+    → is_counted_in point.Text (kind_of f k) ≡ true → IsPlace o t.text
+    → lies_in (with_fields k (fields.Text t) f) (spot_point q o point.Text) ≡ true
+lies_now f k t old q o same is counted place =
+    ap (λ n. lies_in (with_fields k (fields.Text t) f) (spot_point n o point.Text)) same
+    ∙ ap₂ (λ kind x. is_counted_in point.Text kind && is_place_in o x) (kind_of-with_fields k (fields.Text t) f k) (fields_now k (fields.Text t) old f is)
+    ∙ ap₂ ◌&&◌ counted (place_in o t.text place)
 
 -- a point in the forest is in it after a piece of a text was replaced
-pub lies_spliced : (f : Forest) (k from to : ℕ) (new : List ℕ) (t : TextFields) (q o : ℕ) (kind : PointKind) → IsText f k t → slice_fault t.text from to ≡ None → lies_in f (spot_point q o kind) ≡ true
+pub lies_spliced : (f : Forest) (k from to : ℕ) (new : List ℕ) (t : TextFields) (q o : ℕ) (kind : PointKind) → IsText f k t
+    → slice_fault t.text from to ≡ None
+    → text_length (spliced_text from to new t.text) ≤ last_u32 → lies_in f (spot_point q o kind) ≡ true
     → lies_in (with_fields k (text_replaced t (spliced_text from to new t.text)) f) (splice_moves k from to (length_told new) (spot_point q o kind)) ≡ true
 unfolding splice_moves is_element
-lies_spliced f k from to new t q o kind is piece e = by_key (eqb q k) refl kind e where
+lies_spliced f k from to new t q o kind is piece few e = by_key (eqb q k) refl kind e where
   g : Forest
   g = with_fields k (text_replaced t (spliced_text from to new t.text)) f
 
@@ -154,13 +196,10 @@ lies_spliced f k from to new t q o kind is piece e = by_key (eqb q k) refl kind 
       absurd (no_element f k kinds.Text o is.kind_is refl (ap (λ n. lies_in f (spot_point n o point.Element)) (sym same) ∙ e))
   by_key true own point.Text e =
       let same : q ≡ k = grind (arith, own, eqb_tells q k) in
-      let at : lies_in f (spot_point k o point.Text) ≡ true = ap (λ n. lies_in f (spot_point n o point.Text)) (sym same) ∙ e in
-      let parts = both (is_counted_in point.Text (kind_of f k)) (leb o (length_of (fields_of f k))) at in
-      let old : leb o (min (text_length t.text) 4294967295) ≡ true = ap (λ x. leb o (length_of x)) (sym is.fields_are) ∙ parts.1 in
-      let p : IsPiece from to t.text = piece_of from to t.text piece in
-      ap (λ n. lies_in g (spot_point n (spliced_offset from to (length_told new) o) point.Text)) same
-      ∙ ap₂ (λ kind x. is_counted_in point.Text kind && leb (spliced_offset from to (length_told new) o) (length_of x)) (kind_of-with_fields k (text_replaced t (spliced_text from to new t.text)) f k) (fields_now k (text_replaced t (spliced_text from to new t.text)) (fields.Text t) f is.fields_are)
-      ∙ ap₂ ◌&&◌ parts.0 (spliced_within from to (text_length new) (text_length t.text) (text_length (spliced_text from to new t.text)) o p.in_order (piece_within from to t.text p) (splice-length from to new t.text piece) old)
+      let at = point_in f k o (ap (λ n. lies_in f (spot_point n o point.Text)) (sym same) ∙ e) in
+      let place : is_offset o t.text ≡ true = ap (λ x. is_offset o (text_of x)) (sym is.fields_are) ∙ at.place in
+      lies_now f k (record t { text = spliced_text from to new t.text }) (fields.Text t) q (spliced_offset from to (length_told new) o) same is.fields_are at.counted
+      (spliced_place from to new t.text (piece_of from to t.text piece) few o place)
 
 -- ---- a text set
 
@@ -174,39 +213,21 @@ text_kinds kinds.Rule u e = refl
 text_kinds kinds.Embed u e = refl
 text_kinds kind u e = let bad : false ≡ true = (both (is_possible kind) (fits_kind kind (fields.Text u)) e).1 in absurd (cc)
 
-cut_off : (length o : ℕ) (behind : Bool) → ltb length o ≡ behind → leb (cond behind length o) length ≡ true
-cut_off length o true is = grind (arith, nat_tests)
-cut_off length o false is = grind (arith, nat_tests, is)
-
 -- a point in the forest is in it after the fields of a text were set
 pub lies_set : (f : Forest) (k : ℕ) (now : Kind) (old : Fields) (u : TextFields) (q o : ℕ) (kind : PointKind) → kind_of f k ≡ Some now → fields_of f k ≡ Some old → is_of_kind now (fields.Text u) ≡ true → lies_in f (spot_point q o kind) ≡ true
-    → lies_in (with_fields k (fields.Text u) f) (set_moves k (length_told u.text) (spot_point q o kind)) ≡ true
+    → lies_in (with_fields k (fields.Text u) f) (set_moves k u.text (spot_point q o kind)) ≡ true
 unfolding set_moves
-lies_set f k now old u q o kind is fields_is fit e = by_key (eqb q k) refl (ltb (length_told u.text) o) refl kind e where
-  g : Forest
-  g = with_fields k (fields.Text u) f
-
-  by_key : (same : Bool) → eqb q k ≡ same → (behind : Bool) → ltb (length_told u.text) o ≡ behind → (kind : PointKind) → lies_in f (spot_point q o kind) ≡ true
-      → lies_in g (cond (same && behind) (spot_point q (length_told u.text) kind) (spot_point q o kind)) ≡ true
-  by_key false other behind order kind e = lies_elsewhere k (fields.Text u) f q o kind other ∙ e
-  by_key true own behind order point.Element e =
+lies_set f k now old u q o kind is fields_is fit e = by_key (eqb q k) refl kind e where
+  by_key : (same : Bool) → eqb q k ≡ same → (kind : PointKind) → lies_in f (spot_point q o kind) ≡ true
+      → lies_in (with_fields k (fields.Text u) f) (cond same (spot_point q (within u.text o) kind) (spot_point q o kind)) ≡ true
+  by_key false other kind e = lies_elsewhere k (fields.Text u) f q o kind other ∙ e
+  by_key true own point.Element e =
       let same : q ≡ k = grind (arith, own, eqb_tells q k) in
       absurd (no_element f k now o is (text_kinds now u fit) (ap (λ n. lies_in f (spot_point n o point.Element)) (sym same) ∙ e))
-  by_key true own behind order point.Text e =
+  by_key true own point.Text e =
       let same : q ≡ k = grind (arith, own, eqb_tells q k) in
-      let at : lies_in f (spot_point k o point.Text) ≡ true = ap (λ n. lies_in f (spot_point n o point.Text)) (sym same) ∙ e in
-      let parts = both (is_counted_in point.Text (kind_of f k)) (leb o (length_of (fields_of f k))) at in
-      at_own behind order same parts.0 where
-        at_own : (behind : Bool) → ltb (length_told u.text) o ≡ behind → q ≡ k → is_counted_in point.Text (kind_of f k) ≡ true
-            → lies_in g (cond behind (spot_point q (length_told u.text) point.Text) (spot_point q o point.Text)) ≡ true
-        at_own true order same counted =
-            ap (λ n. lies_in g (spot_point n (length_told u.text) point.Text)) same
-            ∙ ap₂ (λ kind x. is_counted_in point.Text kind && leb (length_told u.text) (length_of x)) (kind_of-with_fields k (fields.Text u) f k) (fields_now k (fields.Text u) old f fields_is)
-            ∙ ap₂ ◌&&◌ counted (cut_off (length_told u.text) o true order)
-        at_own false order same counted =
-            ap (λ n. lies_in g (spot_point n o point.Text)) same
-            ∙ ap₂ (λ kind x. is_counted_in point.Text kind && leb o (length_of x)) (kind_of-with_fields k (fields.Text u) f k) (fields_now k (fields.Text u) old f fields_is)
-            ∙ ap₂ ◌&&◌ counted (cut_off (length_told u.text) o false order)
+      let at = point_in f k o (ap (λ n. lies_in f (spot_point n o point.Text)) (sym same) ∙ e) in
+      lies_now f k u old q (within u.text o) same fields_is at.counted (within_place o u.text (place_small o (fields_of f k) at.within))
 
 -- ---- taken
 

@@ -14,7 +14,7 @@ use Rattle.lx_forest.specs.Lookups.{has, label_of, parent_of, children_of, child
 use Rattle.lx_forest.specs.Edits.{take_out, put_in, CanPut}
 use Rattle.lx_forest.proofs.Edits.{parent_of-root}
 use Rattle.lx_forest.proofs.Held.{IsHeld-take_out, IsHeld-put_in}
-use Rattle.lx_forest.proofs.Lookups.{is_among-children_of, label_of-put_in, parent_of-put_in}
+use Rattle.lx_forest.proofs.Lookups.{is_among-children_of, label_of-take_out, label_of-put_in, parent_of-put_in}
 use Rattle.lx_forest.proofs.Walks.{cases_option, is_attached-up}
 use Rattle.lx_forest.proofs.Within.{is_within-self, is_within-take_out, is_attached-take_out, is_attached-put_in}
 use Rattle.lx_forest.proofs.Order.{IsForest-take_out}
@@ -35,6 +35,7 @@ use Rattle.lx_caret.specs.Lying.{EachPoint}
 use Rattle.lx_caret.specs.Deleting.{moved_in}
 use Rattle.lx_caret.proofs.Lies.{both, lies_taken, lies_put, attached_moved, size_grown}
 use Rattle.lx_caret.proofs.Fit.{each_moved, after_tells, Fit, Stays, Staying, stays_self, stays_then, stays_ok, stays_after, stays_put, puts, key_of_put}
+use Rattle.lx_caret.proofs.Short.{same-short}
 
 -- ---- where a put node stands
 
@@ -167,6 +168,7 @@ placed_after w v k p index p0 i0 fit place there up at took e =
       fit = record {
         ready = all.ready;
         held = IsHeld-put_in may_hold (take_out k w.forest) gone (IsHeld-take_out may_hold w.forest h fit.held k) p before k is.may is.fits;
+        short = same-short w.forest g w.written (λ q. label_of-put_in p before k (take_out k w.forest) q gone is.may ∙ label_of-take_out k w.forest q h) fit.short;
         lying = subst (λ s. EachPoint (λ x. lies g x ≡ true) (each_point (put_moves p index) s)) (sym points) each;
       };
       attached = λ q so. attached_moved w.forest k p q before h gone (not_root w.forest k p0 h up) there is.may place so;

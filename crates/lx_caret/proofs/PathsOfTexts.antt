@@ -23,7 +23,8 @@ use Rattle.lx_range.specs.Ranges.{range_of, is_collapsed, start_of, end_of, care
 use Rattle.lx_caret.specs.Adding.{add_step, newest}
 use Rattle.lx_caret.specs.Removing.{cut_step, start_part, start_cut, end_cut, removed_below, removed_empty, are_apart, merge_step, remove_between, removed_in, remove_text_step}
 use Rattle.lx_caret.specs.Inserting.{is_of_format, style_in, typed_fields, typed_into, typed_new, typed, insert_text_step, place_behind, broken, insert_line_break_step, tab_fields, tabbed, insert_tab_step}
-use Rattle.lx_caret.proofs.Paths.{IsWay, stays, either, chained, by_read, placed, anchored, add_path}
+use Rattle.lx_range.proofs.Paths.{IsWay, stays, either, chained, by_read, placed, anchored}
+use Rattle.lx_caret.proofs.Paths.{add_path}
 
 module _ {D : Working → Type 0} {R : Working → Working → Type 0} (way : IsWay D R) where
   -- ---- removing

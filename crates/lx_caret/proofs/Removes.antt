@@ -19,6 +19,7 @@ use Rattle.lx_forest.specs.Forest.{Forest}
 use Rattle.lx_forest.specs.Lookups.{ancestors, kind_of, fields_of, parent_of, children_of, size_of, siblings, index_of, previous_of, next_of, is_within, is_attached, IsForest, IsHeld}
 use Rattle.lx_forest.specs.Edits.{take_out}
 use Rattle.lx_forest.proofs.Held.{IsHeld-take_out}
+use Rattle.lx_forest.proofs.Lookups.{label_of-take_out}
 use Rattle.lx_forest.proofs.Siblings.{NoRepeats-siblings, parent_of-next, parent_of-previous}
 use Rattle.lx_forest.proofs.Walks.{is_attached-up}
 use Rattle.lx_forest.proofs.Within.{is_within-up, is_within-parent, is_within-leaf, is_within-take_out}
@@ -33,11 +34,12 @@ use Rattle.lx_draft.proofs.CoveredSteps.{covered-take}
 use Rattle.lx_draft.proofs.Put.{both_none}
 use Rattle.lx_edit.specs.Edits.{start_in, end_in, beside, place_for, text_point, element_point, sent_from, sent_away, goes_too, may_not_be_left, removed, remove_step}
 use Rattle.lx_range.specs.Ranges.{lies}
-use Rattle.lx_caret.specs.Lying.{EachPoint, IsLying}
-use Rattle.lx_caret.proofs.Lies.{both, full, least, index_within, lies_taken, attached_taken}
+use Rattle.lx_caret.specs.Lying.{EachPoint, IsLying, AreShort}
+use Rattle.lx_caret.proofs.Lies.{both, full, least, start_in as start_of_text, end_in as end_of_text, index_within, lies_taken, attached_taken}
 use Rattle.lx_caret.proofs.Fit.{each_moved, each_still, each_both, each_all, after_tells, Fit}
 use Rattle.lx_caret.proofs.Moves.{stands, taken_below, not_root, key_of_take}
 use Rattle.lx_caret.proofs.Parents.{parents_are}
+use Rattle.lx_caret.proofs.Short.{same-short}
 
 -- ---- nodes that points avoid
 
@@ -110,7 +112,7 @@ end_lies D f k s None is there outside avoids = tt
 end_lies D f k s (Some kind) is there outside avoids = by_kind (has_characters kind) (is_element kind) refl refl where
   by_kind : (t e : Bool) → has_characters kind ≡ t → is_element kind ≡ e → IfBeside D f k (cond t (Some (text_point s (length_of (fields_of f s)))) (cond e (Some (element_point s (size_of f s))) None))
   by_kind true e text element = record {
-    lies_there = ap₂ ◌&&◌ there (ap₂ ◌&&◌ (ap (is_counted_in point.Text) is ∙ text) (full _));
+    lies_there = ap₂ ◌&&◌ there (ap₂ ◌&&◌ (ap (is_counted_in point.Text) is ∙ text) (end_of_text (fields_of f s)));
     outside = outside;
     avoids = avoids;
   }
@@ -126,7 +128,7 @@ start_lies D f k s None is there outside avoids = tt
 start_lies D f k s (Some kind) is there outside avoids = by_kind (has_characters kind) (is_element kind) refl refl where
   by_kind : (t e : Bool) → has_characters kind ≡ t → is_element kind ≡ e → IfBeside D f k (cond t (Some (text_point s 0)) (cond e (Some (element_point s 0)) None))
   by_kind true e text element = record {
-    lies_there = ap₂ ◌&&◌ there (ap₂ ◌&&◌ (ap (is_counted_in point.Text) is ∙ text) (least _));
+    lies_there = ap₂ ◌&&◌ there (ap₂ ◌&&◌ (ap (is_counted_in point.Text) is ∙ text) (start_of_text (fields_of f s)));
     outside = outside;
     avoids = avoids;
   }
@@ -249,14 +251,17 @@ kept_then D u v w a b = record { fit = b.fit; avoiding = b.avoiding; kinds = rec
 pub kept_ok : (D : ℕ → Bool) (w u v : Working) → Kept D w u → ◌≡◌ {A = Result Working Cause} (Ok u) (Ok v) → Kept D w v
 kept_ok D w u v a e = let is : u ≡ v = cc in subst (Kept D w) is a
 
-kept_taken : (D : ℕ → Bool) (k : ℕ) (w s : Working) → Fit w → s.forest ≡ w.forest → AreCovered s (node_taken k s) → EachPoint (LiesAvoiding D (take_out k w.forest)) (node_taken k s).selection → Kept D w (node_taken k s)
-kept_taken D k w s fit same all each =
+kept_taken : (D : ℕ → Bool) (k : ℕ) (w s : Working) → Fit w → s.forest ≡ w.forest → s.written ≡ w.written → AreCovered s (node_taken k s)
+    → EachPoint (LiesAvoiding D (take_out k w.forest)) (node_taken k s).selection → Kept D w (node_taken k s)
+kept_taken D k w s fit same wrote all each =
     let g : Forest = take_out k w.forest in
     let g_is : g ≡ take_out k s.forest = ap (take_out k) (sym same) in
+    let short : AreShort g w.written = same-short w.forest g w.written (λ q. label_of-take_out k w.forest q fit.ready.in_order) fit.short in
     record {
       fit = record {
         ready = all.ready;
         held = subst (IsHeld may_hold) g_is (IsHeld-take_out may_hold w.forest fit.ready.in_order fit.held k);
+        short = subst (AreShort (take_out k s.forest)) (sym wrote) (subst (λ f. AreShort f w.written) g_is short);
         lying = subst (λ f. EachPoint (λ x. lies f x ≡ true) (node_taken k s).selection) g_is (each_still (LiesAvoiding D g) (λ x. lies g x ≡ true) (node_taken k s).selection (λ x e. e.0) each);
       };
       avoiding = subst (λ f. EachPoint (λ x. Avoids D f x.key) (node_taken k s).selection) g_is (each_still (LiesAvoiding D g) (λ x. Avoids D g x.key) (node_taken k s).selection (λ x e. e.1) each);
@@ -272,7 +277,7 @@ take_keeps D k w v fit avoiding clear e = by_place (parent_of w.forest k) (index
       let s : Working = sent_from k (Some p) (Some i) w in
       let told = answered (option_or (detach_fault k s.forest) (over_counts s)) (node_taken k s) v e in
       let all = covered-take k s (node_taken k s) (ready_from k (Some p) (Some i) w fit.ready) (ap (λ o. answer o (node_taken k s)) told.0) in
-      subst (Kept D w) told.1 (kept_taken D k w s fit refl all (sent_taken D k p i w fit avoiding up at clear))
+      subst (Kept D w) told.1 (kept_taken D k w s fit refl refl all (sent_taken D k p i w fit avoiding up at clear))
   by_place (Some p) None up at e = let s = stands w.forest k p fit.ready.in_order up in let bad : Some s.0 ≡ None = sym s.1 ∙ at in absurd (cc)
   by_place None i up at e =
       let told = answered (option_or (detach_fault k w.forest) (over_counts w)) (node_taken k w) v e in

@@ -61,8 +61,8 @@ token_gone = refl
 abbrev family : Forest
 family = line (97 ∷ 128104 ∷ 8205 ∷ 128105 ∷ 8205 ∷ 128103 ∷ [])
 
--- it is deleted as one character
-family_gone : shown (delete_character_step true (started family (caret 2 6) 3)) ≡ seen (line (codes "a")) (caret 2 1)
+-- it is deleted as one character, of eight code units
+family_gone : shown (delete_character_step true (started family (caret 2 9) 3)) ≡ seen (line (codes "a")) (caret 2 1)
 unfolding commands unicode_segmentation
 family_gone = refl
 

@@ -8,7 +8,7 @@ use Rattle.lx_node.specs.declared.cause.Point.{Point}
 use Rattle.lx_node.specs.declared.cause.PointKind.TheVariants as point
 use Rattle.lx_select.specs.declared.selection.Selection.TheVariants.{Range}
 use Rattle.lx_forest.specs.Forest.{Forest}
-use Rattle.lx_forest.specs.Lookups.{kind_of, parent_of, index_of, size_of, preorder, is_attached, IsForest, IsHeld}
+use Rattle.lx_forest.specs.Lookups.{kind_of, fields_of, parent_of, index_of, size_of, preorder, is_attached, IsForest, IsHeld}
 use Rattle.lx_forest.proofs.Order.{is_attached-root}
 use Rattle.lx_forest.proofs.Walks.{is_attached-up, is_among-preorder_of}
 use Rattle.lx_draft.specs.Selecting.{is_counted_in, select_fault}
@@ -19,7 +19,7 @@ use Rattle.lx_range.specs.Blocks.{passes, is_at}
 use Rattle.lx_range.specs.Ranges.{lies, characters_at}
 use Rattle.lx_caret.specs.Lying.{IsLying, LeavesLying}
 use Rattle.lx_caret.specs.SelectAll.{first_leaf, last_leaf, place_at, start_at, end_at, select_all_step}
-use Rattle.lx_caret.proofs.Lies.{full, least, index_within}
+use Rattle.lx_caret.proofs.Lies.{least, start_in, end_in, index_within}
 use Rattle.lx_caret.proofs.Moves.{stands}
 use Rattle.lx_caret.proofs.Parents.{parents_are, element_counts, text_counts, above_attached}
 
@@ -61,7 +61,7 @@ module _ (f : Forest) (h : IsForest f) (held : IsHeld may_hold f) where
   start_lies None place = root_place
   start_lies (Some k) place = by_kind (is_at is_text f k) (is_at is_element f k) refl refl where
     by_kind : (t e : Bool) → is_at is_text f k ≡ t → is_at is_element f k ≡ e → lies f (cond t (text_point k 0) (cond e (element_point k 0) (place_at 0 k (parent_of f k) (index_of f k)))) ≡ true
-    by_kind true e text element = ap₂ ◌&&◌ (place k refl) (ap₂ ◌&&◌ (text_counts (kind_of f k) text) (least (characters_at f k)))
+    by_kind true e text element = ap₂ ◌&&◌ (place k refl) (ap₂ ◌&&◌ (text_counts (kind_of f k) text) (start_in (fields_of f k)))
     by_kind false true text element = ap₂ ◌&&◌ (place k refl) (ap₂ ◌&&◌ (element_counts (kind_of f k) element) (least (size_of f k)))
     by_kind false false text element = leaf_place k 0 (omega arith) (place k refl) element
 
@@ -69,7 +69,7 @@ module _ (f : Forest) (h : IsForest f) (held : IsHeld may_hold f) where
   end_lies None place = root_place
   end_lies (Some k) place = by_kind (is_at is_text f k) (is_at is_element f k) refl refl where
     by_kind : (t e : Bool) → is_at is_text f k ≡ t → is_at is_element f k ≡ e → lies f (cond t (text_point k (characters_at f k)) (cond e (element_point k 0) (place_at 1 k (parent_of f k) (index_of f k)))) ≡ true
-    by_kind true e text element = ap₂ ◌&&◌ (place k refl) (ap₂ ◌&&◌ (text_counts (kind_of f k) text) (full (characters_at f k)))
+    by_kind true e text element = ap₂ ◌&&◌ (place k refl) (ap₂ ◌&&◌ (text_counts (kind_of f k) text) (end_in (fields_of f k)))
     by_kind false true text element = ap₂ ◌&&◌ (place k refl) (ap₂ ◌&&◌ (element_counts (kind_of f k) element) (least (size_of f k)))
     by_kind false false text element = leaf_place k 1 (omega arith) (place k refl) element
 
@@ -81,7 +81,7 @@ module _ (f : Forest) (h : IsForest f) (held : IsHeld may_hold f) where
 
 pub lies-select_all : LeavesLying select_all_step
 unfolding select_all_step select_step
-lies-select_all w v ready held e =
+lies-select_all w v ready held short e =
     let f : Forest = w.forest in
     let a : Point = start_at f (first_leaf f 0) in
     let b : Point = end_at f (last_leaf f 0) in

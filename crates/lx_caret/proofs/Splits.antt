@@ -1,5 +1,5 @@
 -- A text that is split leaves a selection in the tree: its points go along with what is cut off.
-use Rattle.std.proofs.Common.{◌≡◌, ◌∙◌, ℕ, ◌+◌, ◌-◌, ◌≤◌, min, Bool, true, false, cond, eqb, leb, ltb, ◌&&◌, ◌||◌, List, [], ◌∷◌, length, Option, None, Some, Result, Ok, refl, sym, ap, ap₂, subst, arith}
+use Rattle.std.proofs.Common.{◌≡◌, ◌∙◌, ℕ, ◌+◌, ◌-◌, ◌≤◌, Bool, true, false, cond, eqb, leb, ltb, ◌&&◌, ◌||◌, List, [], ◌∷◌, length, Option, None, Some, Result, Ok, refl, sym, ap, ap₂, subst, arith}
 use Rattle.std.specs.Prelude.{option_map, slice_get}
 use Rattle.std.specs.Option.{option_or}
 use Rattle.std.proofs.lemmas.Bool.Decides.{eqb_tells, nat_tests}
@@ -12,19 +12,19 @@ use Rattle.lx_node.specs.declared.cause.Cause.{Cause}
 use Rattle.lx_node.specs.declared.cause.Point.{Point}
 use Rattle.lx_node.specs.declared.cause.PointKind.{PointKind}
 use Rattle.lx_node.specs.declared.cause.PointKind.TheVariants as point
-use Rattle.lx_text.specs.Texts.{text_length, slice_of, spliced_text, slice_fault}
-use Rattle.lx_text.proofs.Told.{slice-length}
+use Rattle.lx_text.specs.Texts.{is_offset, slice_of, spliced_text, slice_fault}
+use Rattle.lx_text.proofs.Told.{piece_of}
 use Rattle.lx_select.specs.Rules.{put_moves, splice_moves, split_moves}
 use Rattle.lx_forest.specs.Forest.{Forest, Label}
-use Rattle.lx_forest.specs.Lookups.{has, label_of, kind_of, fields_of, parent_of, index_of, children_of, is_within, is_attached, IsForest, IsHeld}
+use Rattle.lx_forest.specs.Lookups.{has, label_of, fields_of, parent_of, index_of, children_of, is_within, is_attached, IsForest, IsHeld}
 use Rattle.lx_forest.specs.Edits.{with_new, with_fields, put_in, CanPut}
 use Rattle.lx_forest.proofs.Held.{IsHeld-with_new, IsHeld-with_fields, IsHeld-put_in}
-use Rattle.lx_forest.proofs.Lookups.{label_of-with_new}
+use Rattle.lx_forest.proofs.Lookups.{label_of-with_new, label_of-put_in}
 use Rattle.lx_forest.proofs.Walks.{is_attached-up}
 use Rattle.lx_forest.proofs.Within.{is_within-self, is_within-with_fields, is_attached-with_new, is_attached-put_in}
 use Rattle.lx_draft.specs.Working.{Working}
 use Rattle.lx_draft.specs.Covering.{IsReady, KindsStay}
-use Rattle.lx_draft.specs.Selecting.{lies_in, is_counted_in, length_of, length_told}
+use Rattle.lx_draft.specs.Selecting.{lies_in, is_counted_in, text_of, length_of, length_told}
 use Rattle.lx_draft.specs.Faults.{answer, after, over_counts, over_limits, put_fault, splice_fault}
 use Rattle.lx_draft.specs.Steps.{made, with_piece, new_step, fields_written, splice_points, label_with_piece, text_replaced, splice_step, node_placed, put_step}
 use Rattle.lx_draft.specs.Beside.{behind_at, put_behind_step}
@@ -35,9 +35,11 @@ use Rattle.lx_edit.specs.Conditions.{length_at, length_in, split_fault}
 use Rattle.lx_edit.specs.Edits.{pointed}
 use Rattle.lx_edit.specs.Texts.{tail_in, tail_of, tail_made, cut_in_two, cut_at, split_step}
 use Rattle.lx_range.specs.Ranges.{lies}
-use Rattle.lx_caret.specs.Lying.{EachPoint}
-use Rattle.lx_caret.proofs.Lies.{both, spot_point, IsText, text_at, no_element, lies_new, lies_spliced, lies_put}
-use Rattle.lx_caret.proofs.Fit.{each_moved, after_tells, Fit, Stays, Staying, stays_self, stays_ok, stays_after, stays_allowed, spliced, key_of_splice, puts, key_of_put, attached_put}
+use Rattle.lx_caret.specs.Lying.{EachPoint, TextsAreShort}
+use Rattle.lx_caret.proofs.Offsets.{tail_place}
+use Rattle.lx_caret.proofs.Lies.{both, spot_point, IsText, text_at, no_element, is_place_in, place_in, place_small, point_in, lies_new, lies_spliced, lies_put}
+use Rattle.lx_caret.proofs.Fit.{each_moved, after_tells, Fit, Stays, Staying, stays_self, stays_ok, stays_after, stays_allowed, spliced, spliced_few, splice_written, key_of_splice, puts, key_of_put, attached_put}
+use Rattle.lx_caret.proofs.Short.{same-short, made-short}
 
 -- in the tree, or on the new node that comes beside one in the tree
 abbrev IsNear : Forest → ℕ → ℕ → ℕ → Type 0
@@ -50,23 +52,18 @@ HalfLies f n k x = (lies_in f x ≡ true) × IsNear f n k x.key
 record Halfway (n k : ℕ) (w b : Working) : Type 0 where
   pub ready : IsReady b
   pub held : IsHeld may_hold b.forest
+  pub short : TextsAreShort b
   pub half : EachPoint (HalfLies b.forest n k) b.selection
   pub attached : (q : ℕ) → is_attached w.forest q ≡ true → is_attached b.forest q ≡ true
   pub kept : KindsStay w.forest b.forest
 
 -- ---- the tail
 
-cut_length : (o offset told slice : ℕ) → leb o told ≡ true → slice + offset ≡ told → told ≤ 4294967295 → leb (o - offset) (min slice 4294967295) ≡ true
-cut_length o offset told slice e is few = grind (arith, nat_tests, e, is, few)
-
-told_few : (text : List ℕ) → length_told text ≤ 4294967295
-told_few text = omega arith
-
 tail_point : (f : Forest) (n k offset : ℕ) (t : TextFields) (q o : ℕ) (kind : PointKind) → IsForest f → has n f ≡ false → IsText f k t → slice_fault t.text offset (length_told t.text) ≡ None
     → lies f (spot_point q o kind) ≡ true
     → HalfLies (with_new (record { key = n; kind = kinds.Text; fields = text_replaced t (slice_of offset (length_told t.text) t.text) }) f) n k (split_moves k offset n (spot_point q o kind))
 unfolding split_moves has_characters is_element
-tail_point f n k offset t q o kind h free is piece e = by_place (eqb q k) refl (ltb offset o) kind parts where
+tail_point f n k offset t q o kind h free is piece e = by_place (eqb q k) refl (ltb offset o) refl kind parts where
   parts : (is_attached f q ≡ true) × (lies_in f (spot_point q o kind) ≡ true)
   parts = both (is_attached f q) (lies_in f (spot_point q o kind)) e
 
@@ -82,23 +79,27 @@ tail_point f n k offset t q o kind h free is piece e = by_place (eqb q k) refl (
   stays : (kind : PointKind) → is_attached f q ≡ true → lies_in f (spot_point q o kind) ≡ true → HalfLies g n k (spot_point q o kind)
   stays kind place e = (lies_new l f q o kind h free e, ap (λ b. b || (eqb q n && is_attached g k)) (is_attached-with_new l f q h free ∙ place))
 
-  by_place : (same : Bool) → eqb q k ≡ same → (behind : Bool) → (kind : PointKind) → (is_attached f q ≡ true) × (lies_in f (spot_point q o kind) ≡ true)
+  by_place : (same : Bool) → eqb q k ≡ same → (behind : Bool) → ltb offset o ≡ behind → (kind : PointKind)
+      → (is_attached f q ≡ true) × (lies_in f (spot_point q o kind) ≡ true)
       → HalfLies g n k (cond (same && behind) (spot_point n (o - offset) kind) (spot_point q o kind))
-  by_place false other behind kind parts = stays kind parts.0 parts.1
-  by_place true own false kind parts = stays kind parts.0 parts.1
-  by_place true own true point.Element parts =
+  by_place false other behind order kind parts = stays kind parts.0 parts.1
+  by_place true own false order kind parts = stays kind parts.0 parts.1
+  by_place true own true order point.Element parts =
       let same : q ≡ k = grind (arith, own, eqb_tells q k) in
       absurd (no_element f k kinds.Text o is.kind_is refl (ap (λ m. lies_in f (spot_point m o point.Element)) (sym same) ∙ parts.1))
-  by_place true own true point.Text parts =
+  by_place true own true order point.Text parts =
       let same : q ≡ k = grind (arith, own, eqb_tells q k) in
-      let at : lies_in f (spot_point k o point.Text) ≡ true = ap (λ m. lies_in f (spot_point m o point.Text)) (sym same) ∙ parts.1 in
-      let old : leb o (length_told t.text) ≡ true = ap (λ y. leb o (length_of y)) (sym is.fields_are) ∙ (both (is_counted_in point.Text (kind_of f k)) (leb o (length_of (fields_of f k))) at).1 in
+      let at = point_in f k o (ap (λ m. lies_in f (spot_point m o point.Text)) (sym same) ∙ parts.1) in
+      let old : is_offset o t.text ≡ true = ap (λ y. is_offset o (text_of y)) (sym is.fields_are) ∙ at.place in
+      let within : o ≤ length_told t.text = grind (arith, nat_tests, ap (λ y. leb o (length_of y)) (sym is.fields_are) ∙ at.within) in
+      let behind : offset ≤ o = grind (arith, nat_tests, order) in
+      let first : is_offset offset t.text ≡ true = (piece_of offset (length_told t.text) t.text piece).first in
       let self : eqb n n ≡ true = grind (arith, eqb_tells n n) in
       let label : label_of g n ≡ Some l = label_of-with_new l f n h free ∙ ap (λ b. cond b (Some l) (label_of f n)) self in
       let attached_k : is_attached g k ≡ true = is_attached-with_new l f k h free ∙ ap (is_attached f) (sym same) ∙ parts.0 in
       let near : IsNear g n k n = grind (arith, self, attached_k) in (
-        ap (λ y. is_counted_in point.Text (option_map (λ z. z.kind) y) && leb (o - offset) (length_of (option_map (λ z. z.fields) y))) label
-            ∙ cut_length o offset (length_told t.text) (text_length (slice_of offset (length_told t.text) t.text)) old (slice-length offset (length_told t.text) t.text piece) (told_few t.text),
+        ap (λ y. is_counted_in point.Text (option_map (λ z. z.kind) y) && is_place_in (o - offset) (option_map (λ z. z.fields) y)) label
+            ∙ place_in (o - offset) (slice_of offset (length_told t.text) t.text) (tail_place o offset (length_told t.text) t.text first old behind within (place_small o (fields_of f k) at.within)),
         near,
       )
 
@@ -125,6 +126,7 @@ tail_done k offset w a b fit none first second =
     let result : Halfway n k w (pointed moved (made kinds.Text x w)) = record {
       ready = record { in_order = all.ready.in_order; free = all.ready.free };
       held = IsHeld-with_new may_hold f h fit.held l free;
+      short = made-short kinds.Text x w fit.ready fit.short;
       half = each_moved (λ p. lies f p ≡ true) (HalfLies (with_new l f) n k) moved w.selection
           (λ p so. subst (λ y. HalfLies (with_new (record { key = n; kind = kinds.Text; fields = y }) f) n k (moved p)) (sym x_is)
           (tail_point f n k offset s.text p.key p.offset p.kind h free (text_at f k s.text s.text_is) piece so)) fit.lying;
@@ -154,16 +156,18 @@ half_splice n k from to new w b c half e =
     let after_it : Working = fields_written k x (length new) (splice_points k from to new) b in
     let told = answered (option_or (splice_fault k from to f) (over_limits (length new) b)) after_it c e in
     let all = covered-splice k from to new b after_it half.ready (ap (λ o. answer o after_it) told.0) in
-    let s = spliced f k from to (both_none (splice_fault k from to f) (over_limits (length new) b) told.0).0 in
+    let none = both_none (splice_fault k from to f) (over_limits (length new) b) told.0 in
+    let s = spliced f k from to none.0 in
     let same : x ≡ text_replaced s.text (spliced_text from to new s.text.text) = ap (λ t. with_piece t from to new) s.text_is in
     let moved : Point → Point = splice_moves k from to (length_told new) in
     let still : (q : ℕ) → is_attached g q ≡ is_attached f q = λ q. is_within-with_fields k x f 0 q in
     subst (Halfway n k w) told.1 (record {
       ready = all.ready;
       held = IsHeld-with_fields may_hold f half.ready.in_order half.held k x;
+      short = splice_written k from to new b s x same half.short;
       half = each_moved (HalfLies f n k) (HalfLies g n k) moved b.selection
           (λ p so. (
-            ap (λ y. lies_in (with_fields k y f) (moved p)) same ∙ lies_spliced f k from to new s.text p.key p.offset p.kind (text_at f k s.text s.text_is) s.piece so.0,
+            ap (λ y. lies_in (with_fields k y f) (moved p)) same ∙ lies_spliced f k from to new s.text p.key p.offset p.kind (text_at f k s.text s.text_is) s.piece (spliced_few k from to new b s half.short none.1) so.0,
             ap (λ q. is_attached g q || (eqb q n && is_attached g k)) (key_of_splice k from to (length_told new) p) ∙ ap₂ (λ y z. y || (eqb p.key n && z)) (still p.key) (still k) ∙ so.1,
           )) half.half;
       attached = λ q so. still q ∙ half.attached q so;
@@ -196,6 +200,7 @@ half_put n k p index w c d half up e =
       fit = record {
         ready = all.ready;
         held = IsHeld-put_in may_hold f h half.held p before n is.may is.fits;
+        short = same-short f g c.written (λ q. label_of-put_in p before n f q h is.may) half.short;
         lying = each_moved (HalfLies f n k) (λ x. lies g x ≡ true) (put_moves p index) c.selection (λ x so.
             ap₂ ◌&&◌ (ap (is_attached g) (key_of_put p index x) ∙ near_put f n k p before x.key h is.may up so.1)
             (lies_put f n p index x.key x.offset x.kind before h is.may so.0)) half.half;

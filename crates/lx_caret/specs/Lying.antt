@@ -1,13 +1,17 @@
 -- Selections that lie in the root's tree, and commands that leave such.
-use Rattle.std.specs.Prelude.{◌≡◌, true, Result, Ok}
+use Rattle.std.specs.Prelude.{◌≡◌, ◌≤◌, ◌+◌, ◌*◌, ℕ, true, Result, Ok}
 use Rattle.lx_node.specs.Kinds.{may_hold}
+use Rattle.lx_node.specs.Limits.{most_characters}
 use Rattle.lx_node.specs.declared.cause.Cause.{Cause}
 use Rattle.lx_node.specs.declared.cause.Point.{Point}
+use Rattle.lx_text.specs.Texts.{text_length}
 use Rattle.lx_select.specs.declared.selection.Selection.{Selection}
 use Rattle.lx_select.specs.declared.selection.Selection.TheVariants.{Range}
-use Rattle.lx_forest.specs.Lookups.{IsHeld}
+use Rattle.lx_forest.specs.Forest.{Forest}
+use Rattle.lx_forest.specs.Lookups.{fields_of, IsHeld}
 use Rattle.lx_draft.specs.Working.{Working}
 use Rattle.lx_draft.specs.Covering.{IsReady}
+use Rattle.lx_draft.specs.Selecting.{text_of}
 use Rattle.lx_range.specs.Ranges.{lies}
 
 -- each point of a range is such
@@ -19,7 +23,16 @@ EachPoint P other = Unit {0}
 abbrev pub IsLying : Working → Type 0
 IsLying w = EachPoint (λ p. lies w.forest p ≡ true) w.selection
 
+-- No text is longer than one can be that is made of the scalar values of a committed state and of so many written since. A
+-- scalar value has at most two code units, so a u32 tells the length of each text while what may be written is bounded.
+pub record AreShort (f : Forest) (written : ℕ) : Type 0 where
+  pub each : (q : ℕ) → text_length (text_of (fields_of f q)) ≤ 2 * (most_characters + written)
+
+-- the texts of a draft are
+abbrev pub TextsAreShort : Working → Type 0
+TextsAreShort w = AreShort w.forest w.written
+
 -- A command that isn't refused leaves a selection that lies in the tree, whatever was selected before. Every draft is ready
--- for it: it is in order, and its nodes hold what they may.
+-- for it: it is in order, and its nodes hold what they may. Its texts are short where it started from a committed state.
 abbrev pub LeavesLying : (Working → Result Working Cause) → Type 0
-LeavesLying command = (w v : Working) → IsReady w → IsHeld may_hold w.forest → command w ≡ Ok v → IsLying v
+LeavesLying command = (w v : Working) → IsReady w → IsHeld may_hold w.forest → TextsAreShort w → command w ≡ Ok v → IsLying v

@@ -1,38 +1,24 @@
 -- The whole content selected.
-use Rattle.std.specs.Prelude.{ℕ, ◌+◌, ◌==◌, if◌then◌else◌, find, Option, None, Some, Result}
+use Rattle.std.specs.Prelude.{ℕ, if◌then◌else◌, Option, None, Some, Result}
 use Rattle.lx_node.specs.Kinds.{is_element, is_text}
 use Rattle.lx_node.specs.Siblings.{last_of}
 use Rattle.lx_node.specs.declared.cause.Cause.{Cause}
 use Rattle.lx_node.specs.declared.cause.Point.{Point}
 use Rattle.lx_select.specs.declared.selection.Selection.TheVariants.{Range}
 use Rattle.lx_forest.specs.Forest.{Forest}
-use Rattle.lx_forest.specs.Lookups.{parent_of, index_of, size_of, keys_within}
+use Rattle.lx_forest.specs.Lookups.{parent_of, index_of, keys_within}
 use Rattle.lx_draft.specs.Working.{Working}
 use Rattle.lx_draft.specs.Steps.{select_step}
 use Rattle.lx_edit.specs.Edits.{text_point, element_point}
 use Rattle.lx_range.specs.Blocks.{is_at}
 use Rattle.lx_range.specs.Ranges.{characters_at}
+pub use Rattle.lx_range.specs.Starts.{first_leaf, place_at, start_at}
 
--- down first children from a node, and down last children: the first below it without children, and the last below it
-abbrev pub first_leaf : Forest → ℕ → Option ℕ
-first_leaf f k = find (λ q. size_of f q == 0) (keys_within f k)
-
+-- down last children from a node: the last below it
 abbrev pub last_leaf : Forest → ℕ → Option ℕ
 last_leaf f k = last_of (keys_within f k)
 
--- the place before a node in its parent, so many behind
-abbrev pub place_at : ℕ → ℕ → Option ℕ → Option ℕ → Point
-place_at more k (Some p) (Some index) = element_point p (index + more)
-place_at more k _ _ = element_point k 0
-
--- a text begins and ends with its characters, an empty element at 0, another leaf in its parent
-abbrev pub start_at : Forest → Option ℕ → Point
-start_at f None = element_point 0 0
-start_at f (Some k) =
-    if is_at is_text f k then text_point k 0
-    else if is_at is_element f k then element_point k 0
-    else place_at 0 k (parent_of f k) (index_of f k)
-
+-- a text ends with its characters, an empty element at 0, another leaf in its parent
 abbrev pub end_at : Forest → Option ℕ → Point
 end_at f None = element_point 0 0
 end_at f (Some k) =

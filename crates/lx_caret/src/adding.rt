@@ -16,7 +16,7 @@ use lx_range::is_normal_at;
 use std::alloc::Global;
 
 /// The kind of what a node goes into at a point: an element itself, or what a text stands below.
-fn kind_around(links: &Links, point: &Point) -> Option<Kind>
+pub fn kind_around(links: &Links, point: &Point) -> Option<Kind>
     ensures { result ≡ adding.kind_around links.now point.now.key point.now.kind }
 {
     match point.kind {
@@ -29,7 +29,7 @@ fn kind_around(links: &Links, point: &Point) -> Option<Kind>
 }
 
 /// What may not hold a node of the kind refuses it.
-fn no_room(inner: Kind, outer: Option<Kind>) -> Option<Cause>
+pub fn no_room(inner: Kind, outer: Option<Kind>) -> Option<Cause>
     ensures { result ≡ adding.no_room inner outer }
 {
     let outer = outer?;
@@ -51,7 +51,7 @@ pub(crate) fn is_inside(draft: &Draft, point: &Point) -> bool
 }
 
 /// Splits a normal text that holds the point strictly inside. A text that isn't normal is never cut.
-fn open(alloc: Global, draft: &mut Draft, point: &Point) -> Result<(), Fault>
+pub fn open(alloc: Global, draft: &mut Draft, point: &Point) -> Result<(), Fault>
     ensures ok { OnOk result (adding.opened point.now draft.old ≡ Ok draft.new) }
     ensures err { IfErr result (λ e. TellsStep e (adding.opened point.now draft.old)) }
     ensures standing { IfErr result (λ e. StillStands e draft.new) }
@@ -63,7 +63,7 @@ fn open(alloc: Global, draft: &mut Draft, point: &Point) -> Result<(), Fault>
 }
 
 /// Puts a node at a point: before a text at offset 0, else behind it; in an element at the offset.
-fn put_by(draft: &mut Draft, key: Key, point: &Point) -> Result<(), Fault>
+pub fn put_by(draft: &mut Draft, key: Key, point: &Point) -> Result<(), Fault>
     ensures ok { OnOk result (adding.put_by key point.now point.now.kind draft.old ≡ Ok draft.new) }
     ensures err { IfErr result (λ e. TellsStep e (adding.put_by key point.now point.now.kind draft.old)) }
     ensures standing { IfErr result (λ e. StillStands e draft.new) }

@@ -1,13 +1,16 @@
 //! The caret commands. Each that isn't refused leaves a selection that lies in the root's tree: each point of a range is on
-//! the root or a node below it, and no further than its last character or child.
+//! the root or a node below it, at a place of its text or between its children. That is claimed of a draft whose texts are short
+//! (`TextsAreShort`), as an update of a committed state begins with them.
 
-ghost use Rattle.std.specs.Prelude.{◌≡◌, Ok, OnOk, IfOk, IfErr, chars};
+ghost use Rattle.std.specs.Prelude.{◌≡◌, true, Ok, OnOk, IfOk, IfErr, IfSome, chars};
+ghost use Rattle.lx_node.specs.Kinds.{is_item};
 ghost use Rattle.lx_draft.specs.Faults.{TellsStep};
 ghost use Rattle.lx_edit.specs.Standing.{StillStands};
+ghost use Rattle.lx_range.specs.Blocks.{is_at};
 ghost use Rattle.lx_caret.specs.Deleting.{delete_character_step, delete_word_step};
 ghost use Rattle.lx_caret.specs.Formatting.{format_text_step};
 ghost use Rattle.lx_caret.specs.Inserting.{insert_text_step, insert_line_break_step, insert_tab_step};
-ghost use Rattle.lx_caret.specs.Lying.{IsLying};
+ghost use Rattle.lx_caret.specs.Lying.{IsLying, TextsAreShort};
 ghost use Rattle.lx_caret.specs.Paragraphs.{insert_paragraph_step};
 ghost use Rattle.lx_caret.specs.Removing.{remove_text_step};
 ghost use Rattle.lx_caret.specs.SelectAll.{select_all_step};
@@ -27,13 +30,13 @@ use std::alloc::Global;
 /// in a normal text of the selection's format, the text goes into that. Otherwise it goes into a new text of that format, and
 /// of the style of the normal text there. The new one goes between the parts of a normal text that holds the anchor strictly
 /// inside; a text that isn't normal is never cut, and the new one goes before it at offset 0, and else behind it. An empty text
-/// only removes. Offsets count the characters of `lx_text`.
+/// only removes. Offsets are those of `lx_text`, in UTF-16 code units.
 ///
 /// It is refused as `remove_text` is; with `WrongKind` and the kind of what may not hold a text; and with `StepLimit` and
 /// `TooLarge` as the edits of a draft are.
 pub fn insert_text(alloc: Global, draft: &mut Draft, text: &str) -> Result<(), Fault>
     ensures ok { OnOk result (insert_text_step (chars text.now) draft.old ≡ Ok draft.new) }
-    ensures lying { OnOk result (IsLying draft.new) }
+    ensures lying { OnOk result (TextsAreShort draft.old → IsLying draft.new) }
     ensures err { IfErr result (λ e. TellsStep e (insert_text_step (chars text.now) draft.old)) }
     ensures standing { IfErr result (λ e. StillStands e draft.new) }
 {
@@ -46,14 +49,14 @@ pub fn insert_text(alloc: Global, draft: &mut Draft, text: &str) -> Result<(), F
 /// one loses what the range covers of it. One that isn't normal, and a tab, is never cut: it goes whole if the range covers
 /// anything of it. The nodes wholly between the points go, each as by `remove`, so that what may not be left empty goes with
 /// them. Then the inline children with which the block of the second point begins go to the end of the first point's block,
-/// where both are still in the tree and neither holds the other, and the second block goes if it is empty then. Offsets count
-/// the characters of `lx_text`.
+/// where both are still in the tree and neither holds the other, and the second block goes if it is empty then. Offsets are
+/// those of `lx_text`, in UTF-16 code units.
 ///
 /// It is refused with `NoSelection`, and what the selection is, where that isn't a range whose points lie in the root's tree
 /// and in one table cell or in none; and with `StepLimit` as the edits of a draft are. `Memory` says that none was left.
 pub fn remove_text(alloc: Global, draft: &mut Draft) -> Result<(), Fault>
     ensures ok { OnOk result (remove_text_step draft.old ≡ Ok draft.new) }
-    ensures lying { OnOk result (IsLying draft.new) }
+    ensures lying { OnOk result (TextsAreShort draft.old → IsLying draft.new) }
     ensures err { IfErr result (λ e. TellsStep e (remove_text_step draft.old)) }
     ensures standing { IfErr result (λ e. StillStands e draft.new) }
 {
@@ -86,7 +89,8 @@ pub fn remove_text(alloc: Global, draft: &mut Draft) -> Result<(), Fault>
 /// A draft on which it was refused is only fit to be dropped.
 pub fn insert_paragraph(alloc: Global, draft: &mut Draft) -> Result<Option<Key>, Fault>
     ensures ok { IfOk result (λ item. insert_paragraph_step draft.old ≡ Ok (record { draft = draft.new; item = item })) }
-    ensures lying { OnOk result (IsLying draft.new) }
+    ensures item { IfOk result (λ item. IfSome item (λ key. is_at is_item draft.new.forest key ≡ true)) }
+    ensures lying { OnOk result (TextsAreShort draft.old → IsLying draft.new) }
     ensures err { IfErr result (λ e. TellsStep e (insert_paragraph_step draft.old)) }
     ensures standing { IfErr result (λ e. StillStands e draft.new) }
 {
@@ -102,7 +106,7 @@ pub fn insert_paragraph(alloc: Global, draft: &mut Draft) -> Result<Option<Key>,
 /// `TooLarge` as the edits of a draft are.
 pub fn insert_line_break(alloc: Global, draft: &mut Draft) -> Result<(), Fault>
     ensures ok { OnOk result (insert_line_break_step draft.old ≡ Ok draft.new) }
-    ensures lying { OnOk result (IsLying draft.new) }
+    ensures lying { OnOk result (TextsAreShort draft.old → IsLying draft.new) }
     ensures err { IfErr result (λ e. TellsStep e (insert_line_break_step draft.old)) }
     ensures standing { IfErr result (λ e. StillStands e draft.new) }
 {
@@ -117,7 +121,7 @@ pub fn insert_line_break(alloc: Global, draft: &mut Draft) -> Result<(), Fault>
 /// `TooLarge` as the edits of a draft are.
 pub fn insert_tab(alloc: Global, draft: &mut Draft) -> Result<(), Fault>
     ensures ok { OnOk result (insert_tab_step draft.old ≡ Ok draft.new) }
-    ensures lying { OnOk result (IsLying draft.new) }
+    ensures lying { OnOk result (TextsAreShort draft.old → IsLying draft.new) }
     ensures err { IfErr result (λ e. TellsStep e (insert_tab_step draft.old)) }
     ensures standing { IfErr result (λ e. StillStands e draft.new) }
 {
@@ -146,7 +150,7 @@ pub fn insert_tab(alloc: Global, draft: &mut Draft) -> Result<(), Fault>
 #[tactic(auto, unfolding(crate::specs::Deleting::delete_character_step))]
 pub fn delete_character(alloc: Global, draft: &mut Draft, back: bool) -> Result<(), Fault>
     ensures ok { OnOk result (delete_character_step back draft.old ≡ Ok draft.new) }
-    ensures lying { OnOk result (IsLying draft.new) }
+    ensures lying { OnOk result (TextsAreShort draft.old → IsLying draft.new) }
     ensures err { IfErr result (λ e. TellsStep e (delete_character_step back draft.old)) }
     ensures standing { IfErr result (λ e. StillStands e draft.new) }
 {
@@ -161,7 +165,7 @@ pub fn delete_character(alloc: Global, draft: &mut Draft, back: bool) -> Result<
 #[tactic(auto, unfolding(crate::specs::Deleting::delete_word_step))]
 pub fn delete_word(alloc: Global, draft: &mut Draft, back: bool) -> Result<(), Fault>
     ensures ok { OnOk result (delete_word_step back draft.old ≡ Ok draft.new) }
-    ensures lying { OnOk result (IsLying draft.new) }
+    ensures lying { OnOk result (TextsAreShort draft.old → IsLying draft.new) }
     ensures err { IfErr result (λ e. TellsStep e (delete_word_step back draft.old)) }
     ensures standing { IfErr result (λ e. StillStands e draft.new) }
 {
@@ -184,7 +188,7 @@ pub fn delete_word(alloc: Global, draft: &mut Draft, back: bool) -> Result<(), F
 /// taken, and where what was written would come above 16,777,216 scalar values.
 pub fn format_text(alloc: Global, draft: &mut Draft, bit: u16) -> Result<(), Fault>
     ensures ok { OnOk result (format_text_step bit draft.old ≡ Ok draft.new) }
-    ensures lying { OnOk result (IsLying draft.new) }
+    ensures lying { OnOk result (TextsAreShort draft.old → IsLying draft.new) }
     ensures err { IfErr result (λ e. TellsStep e (format_text_step bit draft.old)) }
     ensures standing { IfErr result (λ e. StillStands e draft.new) }
 {
@@ -195,10 +199,10 @@ pub fn format_text(alloc: Global, draft: &mut Draft, bit: u16) -> Result<(), Fau
 /// Selects the whole content, by a range of format 0 from the start of the first leaf, down first children from the root,
 /// to the end of the last one, down last children. A text begins before its characters and ends behind them. An element
 /// without children has both at 0, and a leaf of another kind before and behind it in its parent. Offsets of texts are
-/// those of `lx_text`. It is refused as `Draft::select` is.
+/// those of `lx_text`, in UTF-16 code units. It is refused as `Draft::select` is.
 pub fn select_all(draft: &mut Draft) -> Result<(), Fault>
     ensures ok { OnOk result (select_all_step draft.old ≡ Ok draft.new) }
-    ensures lying { OnOk result (IsLying draft.new) }
+    ensures lying { OnOk result (TextsAreShort draft.old → IsLying draft.new) }
     ensures err { IfErr result (λ e. TellsStep e (select_all_step draft.old)) }
     ensures standing { IfErr result (λ e. StillStands e draft.new) }
 {

@@ -3,6 +3,7 @@
 ghost use Rattle.std.specs.Prelude.{◌≡◌, ◌≤◌, ◌&&◌, not, true, false, if◌then◌else◌, [], Ok, Some, option_map, OnOk, IfErr, IfSome, chars};
 ghost use Rattle.lx_node.specs.Siblings.{is_named};
 ghost use Rattle.lx_text.specs.Texts.{is_offset};
+ghost use Rattle.lx_draft.specs.Selecting.{text_of};
 ghost use Rattle.lx_forest.specs.Lookups as lookups;
 ghost use Rattle.lx_links.specs.Stands.{Sound};
 ghost use Rattle.lx_draft.specs.Faults.{TellsStep};
@@ -28,7 +29,7 @@ use lx_text::{cluster_after, cluster_before, word_after, word_before};
 use std::alloc::Global;
 
 /// What is deleted at once.
-#[derive(Clone, Copy, Debug)]
+#[derive(Clone, Copy)]
 pub(crate) enum Stretch {
     /// The characters that a reader takes for one.
     Cluster,
@@ -160,7 +161,7 @@ fn reach(stretch: Stretch, back: bool, text: &str, at: u32) -> u32
 
 /// The other end of what is deleted from an offset of a normal text, and nothing for any other node.
 fn end_in(draft: &Draft, stretch: Stretch, back: bool, key: Key, at: u32) -> Option<u32>
-    requires { at ≤ ranges.characters_at draft.now.forest key }
+    requires { is_offset at (text_of (lookups.fields_of draft.now.forest key)) ≡ true }
     ensures { result ≡ option_map (λ text. reach_of stretch back text.text at) (ranges.normal_at draft.now.forest key) }
 {
     match normal_at(draft, key) {
@@ -171,7 +172,7 @@ fn end_in(draft: &Draft, stretch: Stretch, back: bool, key: Key, at: u32) -> Opt
 
 /// Cuts what the stretch goes over out of a normal text; another text goes whole.
 fn erase(draft: &mut Draft, stretch: Stretch, back: bool, key: Key, at: u32) -> Result<(), Fault>
-    requires { at ≤ ranges.characters_at draft.old.forest key }
+    requires { is_offset at (text_of (lookups.fields_of draft.old.forest key)) ≡ true }
     ensures ok { OnOk result (deleting.erase_step back (reach_of stretch back) key at draft.old ≡ Ok draft.new) }
     ensures err { IfErr result (λ e. TellsStep e (deleting.erase_step back (reach_of stretch back) key at draft.old)) }
     ensures standing { IfErr result (λ e. StillStands e draft.new) }

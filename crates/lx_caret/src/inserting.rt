@@ -22,7 +22,7 @@ use std::alloc::Global;
 
 /// The range that is selected after what it covered was removed, for a step at its anchor. It is refused with `NoSelection`
 /// where no range is selected any more.
-pub(crate) fn anchored(draft: &Draft) -> Result<Ranged, Fault>
+pub fn anchored(draft: &Draft) -> Result<Ranged, Fault>
     ensures ok { IfOk result (λ range. (step : PointIn → ℕ → Working → Result Working CauseOf) → ranges.at_anchor step draft.now ≡ step range.anchor range.format draft.now) }
     ensures err { IfErr result (λ e. (step : PointIn → ℕ → Working → Result Working CauseOf) → TellsStep e (ranges.at_anchor step draft.now)) }
     ensures standing { IfErr result (λ e. StillStands e draft.now) }
@@ -148,7 +148,7 @@ pub(crate) fn put_text(alloc: Global, draft: &mut Draft, text: &str) -> Result<(
 }
 
 /// The place behind a node in its parent.
-fn place_behind(links: &Links, key: Key) -> Point
+pub fn place_behind(links: &Links, key: Key) -> Point
     ensures { result ≡ inserting.place_behind links.now key }
 {
     match (links.parent(key), links.index_of(key)) {

@@ -11,14 +11,14 @@ ghost use Rattle.lx_caret.specs.Paragraphs.{insert_paragraph_step};
 
 use crate::adding::{add, is_inside};
 use crate::following::make_next;
-use crate::parting::{children_from, part_up};
+use crate::parting::part_up;
 use crate::ready::ready;
 use crate::removing::remove_selected;
 use lx_draft::Draft;
 use lx_edit::{admitted, element_point, move_each, split_text, text_point};
 use lx_links::Links;
 use lx_node::{Cause, Fault, Fields, Key, Kind, Point};
-use lx_range::{block, has_characters_at, is_item_at, place_caret, shown_range};
+use lx_range::{block, children_from, has_characters_at, is_item_at, place_caret, shown_range};
 use std::alloc::Global;
 
 /// Removes what is selected, and cuts the block at the caret in two.
@@ -120,7 +120,7 @@ fn cut_block(alloc: Global, draft: &mut Draft, block: Key, point: &Point) -> Res
 }
 
 /// Splits a text that holds a point strictly inside.
-fn cut_text(alloc: Global, draft: &mut Draft, point: &Point) -> Result<(), Fault>
+pub fn cut_text(alloc: Global, draft: &mut Draft, point: &Point) -> Result<(), Fault>
     ensures ok { OnOk result (paragraphs.cut_open point.now draft.old ≡ Ok draft.new) }
     ensures err { IfErr result (λ e. TellsStep e (paragraphs.cut_open point.now draft.old)) }
     ensures standing { IfErr result (λ e. StillStands e draft.new) }

@@ -1,6 +1,6 @@
 //! Links that are split with the block around them: each that has children on both sides of the caret.
 
-ghost use Rattle.std.specs.Prelude.{◌≡◌, ◌&&◌, ◌∷◌, true, nat_lt, Some, OnOk, IfOk, IfErr, drop};
+ghost use Rattle.std.specs.Prelude.{◌≡◌, ◌&&◌, ◌∷◌, true, nat_lt, Some, OnOk, IfOk, IfErr};
 ghost use Rattle.lx_node.specs.Kinds as kinds;
 ghost use Rattle.lx_forest.specs.Lookups as lookups;
 ghost use Rattle.lx_draft.specs.Faults.{TellsStep};
@@ -13,11 +13,11 @@ use lx_draft::Draft;
 use lx_edit::move_each;
 use lx_links::Links;
 use lx_node::{Fault, Key, NoMemory, Point, PointKind};
-use lx_range::{is_link_at, make_like};
+use lx_range::{children_from, is_link_at, make_like};
 use std::alloc::Global;
 
 /// How many children of its parent stand before an offset of a node: the node itself does so where it isn't 0.
-#[tactic(auto, using(crate::proofs::Holders::index_fits))]
+#[tactic(auto, using(lx_range::proofs::Passing::index_fits))]
 fn place_above(links: &Links, key: Key, offset: u32) -> u32
     ensures { result ≡ paragraphs.place_of (lookups.index_of links.now key) offset }
 {
@@ -67,24 +67,6 @@ fn holders(alloc: Global, links: &Links, block: Key, point: &Point) -> Result<Ve
         },
         PointKind::Element => way_up(alloc, links, point.key, block),
     }
-}
-
-/// The children of a node from an index on. Those before are passed from the nearer end, and aren't copied.
-pub(crate) fn children_from(
-    alloc: Global,
-    links: &Links,
-    key: Key,
-    index: u32,
-) -> Result<Vec<Key>, NoMemory>
-    ensures { IfOk result (λ keys. keys.items ≡ drop index (lookups.children_of links.now key)) }
-{
-    let mut keys = Vec::new(alloc);
-    let mut at = links.child_at(key, index);
-    while let Some(child) = at {
-        keys.push(child)?;
-        at = links.next(child);
-    }
-    Ok(keys)
 }
 
 /// Whether a place is among the children of a node, with some on both sides.
@@ -151,12 +133,7 @@ fn part_each(alloc: Global, draft: &mut Draft, keys: &[Key], index: u32) -> Resu
 }
 
 /// Parts what holds a point, up to the block, and answers how many of the block's children stand before it.
-pub(crate) fn part_up(
-    alloc: Global,
-    draft: &mut Draft,
-    block: Key,
-    point: &Point,
-) -> Result<u32, Fault>
+pub fn part_up(alloc: Global, draft: &mut Draft, block: Key, point: &Point) -> Result<u32, Fault>
     ensures ok { IfOk result (λ place. paragraphs.parted_up (paragraphs.holders_in draft.old.forest block point.now) (paragraphs.before_point draft.old.forest point.now point.now.kind) draft.old ≡ Ok (record { draft = draft.new; index = place })) }
     ensures err { IfErr result (λ e. TellsStep e (paragraphs.parted_up (paragraphs.holders_in draft.old.forest block point.now) (paragraphs.before_point draft.old.forest point.now point.now.kind) draft.old)) }
     ensures standing { IfErr result (λ e. StillStands e draft.new) }

@@ -19,7 +19,7 @@ use lx_range::{covered, has_characters_at, is_normal_at};
 use std::alloc::Global;
 
 /// The part of a text or tab from one offset to another.
-#[derive(Clone, Copy, Debug)]
+#[derive(Clone, Copy)]
 pub(crate) struct Piece {
     pub(crate) key: Key,
     pub(crate) from: u32,

@@ -93,7 +93,7 @@ fn remove_below(draft: &mut Draft, key: Key) -> Result<(), Fault>
 
 /// Removes a node if it is empty.
 #[tactic(auto, unfolding(crate::specs::Removing::removed_empty))]
-pub(crate) fn remove_empty(draft: &mut Draft, key: Key) -> Result<(), Fault>
+pub fn remove_empty(draft: &mut Draft, key: Key) -> Result<(), Fault>
     ensures ok { OnOk result (removing.removed_empty key draft.old ≡ Ok draft.new) }
     ensures err { IfErr result (λ e. TellsStep e (removing.removed_empty key draft.old)) }
     ensures standing { IfErr result (λ e. StillStands e draft.new) }

@@ -12,20 +12,8 @@ use lx_draft::Draft;
 use lx_edit::{admitted, element_point, text_point};
 use lx_links::Links;
 use lx_node::{Fault, Key, Point};
-use lx_range::{is_element_at, is_text_at};
+use lx_range::{is_element_at, is_text_at, start_within};
 use lx_select::Selection;
-
-/// The first node without children, down first children from the root.
-fn first_leaf(links: &Links) -> Key
-    requires { links.now ≢ nil }
-    ensures { Some result ≡ selecting.first_leaf links.now 0 }
-{
-    let mut at = Key::root();
-    while let Some(child) = links.first(at) {
-        at = child;
-    }
-    at
-}
 
 /// The last node, down last children from the root.
 fn last_leaf(links: &Links) -> Key
@@ -39,38 +27,14 @@ fn last_leaf(links: &Links) -> Key
     at
 }
 
-/// The place before a node in its parent.
-fn place_before(links: &Links, key: Key) -> Point
-    ensures { result ≡ selecting.place_at 0 key (lookups.parent_of links.now key) (lookups.index_of links.now key) }
-{
-    match (links.parent(key), links.index_of(key)) {
-        (Some(parent), Some(index)) => element_point(parent, index),
-        _ => element_point(key, 0),
-    }
-}
-
 /// The place behind a node in its parent.
-#[tactic(auto, using(crate::proofs::Leaves::index_fits))]
+#[tactic(auto, using(lx_range::proofs::Passing::index_fits))]
 fn place_behind(links: &Links, key: Key) -> Point
     ensures { result ≡ selecting.place_at 1 key (lookups.parent_of links.now key) (lookups.index_of links.now key) }
 {
     match (links.parent(key), links.index_of(key)) {
         (Some(parent), Some(index)) => element_point(parent, index + 1),
         _ => element_point(key, 0),
-    }
-}
-
-/// Where a leaf begins: with its characters, at the start of an empty element, or before any other in its parent.
-fn start_at(draft: &Draft, key: Key) -> Point
-    ensures { result ≡ selecting.start_at draft.now.forest (Some key) }
-{
-    let links = draft.links();
-    if is_text_at(links, key) {
-        text_point(key, 0)
-    } else if is_element_at(links, key) {
-        element_point(key, 0)
-    } else {
-        place_before(links, key)
     }
 }
 
@@ -96,7 +60,7 @@ pub(crate) fn select_content(draft: &mut Draft) -> Result<(), Fault>
     ensures standing { IfErr result (λ e. StillStands e draft.new) }
 {
     admitted(draft, None)?;
-    let anchor = start_at(draft, first_leaf(draft.links()));
+    let anchor = start_within(draft, Key::root());
     let focus = end_at(draft, last_leaf(draft.links()));
     draft.select(Selection::Range {
         anchor,

@@ -5,4 +5,6 @@ use Rattle.lx_caret.proofs.commands.delete_word.Goals as goal
 
 pub returns-clause-lying : goal.returns-clause-lying
 unfolding delete_word_step
-returns-clause-lying c = still_lies c.delete.result (lies-delete_word c.args.back c.args.draft.now c.delete.new.draft c.in_ok-ready.ensures.ready c.ready.ensures.held) c.delete.ensures.ok
+returns-clause-lying c =
+    still_lies c.delete.result
+    (λ e short. lies-delete_word c.args.back c.args.draft.now c.delete.new.draft c.in_ok-ready.ensures.ready c.ready.ensures.held short e) c.delete.ensures.ok

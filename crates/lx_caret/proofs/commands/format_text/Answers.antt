@@ -3,4 +3,6 @@ use Rattle.lx_caret.proofs.Formats.{lies-format_text}
 use Rattle.lx_caret.proofs.commands.format_text.Goals as goal
 
 pub returns-clause-lying : goal.returns-clause-lying
-returns-clause-lying c = still_lies c.format_selected.result (lies-format_text c.args.bit c.args.draft.now c.format_selected.new.draft c.in_ok-ready.ensures.ready c.ready.ensures.held) c.format_selected.ensures.ok
+returns-clause-lying c =
+    still_lies c.format_selected.result
+    (λ e short. lies-format_text c.args.bit c.args.draft.now c.format_selected.new.draft c.in_ok-ready.ensures.ready c.ready.ensures.held short e) c.format_selected.ensures.ok

@@ -3,4 +3,6 @@ use Rattle.lx_caret.proofs.Adds.{lies-insert_tab}
 use Rattle.lx_caret.proofs.commands.insert_tab.Goals as goal
 
 pub returns-clause-lying : goal.returns-clause-lying
-returns-clause-lying c = still_lies c.put_tab.result (lies-insert_tab c.args.draft.now c.put_tab.new.draft c.in_ok-ready.ensures.ready c.ready.ensures.held) c.put_tab.ensures.ok
+returns-clause-lying c =
+    still_lies c.put_tab.result
+    (λ e short. lies-insert_tab c.args.draft.now c.put_tab.new.draft c.in_ok-ready.ensures.ready c.ready.ensures.held short e) c.put_tab.ensures.ok
