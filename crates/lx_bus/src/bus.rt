@@ -105,9 +105,10 @@ impl Bus {
     }
 
     /// The listeners of the name, in the order in which they are offered a command: from priority 4, critical,
-    /// to 0, editor.
+    /// to 0, editor, which is those above the built-in command and then those behind it.
     pub fn order<'a>(&'a self, name: &'a str) -> Offers<'a>
         ensures order { result ≡ offers (chars name.now) self.now }
+        ensures parts { result ≡ above (chars name.now) self.now ++ behind (chars name.now) self.now }
         ensures sound { All IsSoundListener result }
     {
         self.offers(name, 0, 4)
