@@ -1,4 +1,5 @@
 pub mod Beside
+pub mod Beyond
 pub mod Bounded
 pub mod CaretPaths
 pub mod Composed

@@ -1,6 +1,7 @@
 //! What a step selects.
 
-ghost use Rattle.std.specs.Prelude.{◌≡◌, ◌++◌, ◌∷◌, [], None, Ok, Some, OnOk, IfOk, IfErr};
+ghost use Rattle.std.specs.Prelude.{◌≡◌, ◌++◌, ◌∷◌, ◌<◌, [], None, Ok, Some, OnOk, IfOk, IfErr};
+ghost use Rattle.lx_node.specs.Limits.{last_u32};
 ghost use Rattle.lx_forest.specs.Lookups as lookups;
 ghost use Rattle.lx_draft.specs.Faults.{TellsStep};
 ghost use Rattle.lx_draft.specs.Selecting as selecting;
@@ -9,7 +10,7 @@ ghost use Rattle.lx_run.specs.Scripts.{scripted, script_select_step};
 
 use crate::names::Names;
 use crate::resolving::resolve;
-use lx_draft::Draft;
+use lx_draft::{Draft, is_place};
 use lx_links::Links;
 use lx_node::{Cause, Fault, Fields, Key, Kind, NoMemory, Point, PointKind};
 use lx_select::{Keys, Selection};
@@ -197,7 +198,7 @@ fn misfit_point(links: &Links, key: Key, point: PointKind) -> Option<Cause>
     }
 }
 
-/// Whether a point of the kind counts something in nodes of the kind: characters in a text or tab, children
+/// Whether a point of the kind counts something in nodes of the kind: code units in a text or tab, children
 /// in an element.
 fn counts_in(point: PointKind, kind: Kind) -> bool
     ensures { result ≡ selecting.counts_in point kind }
@@ -208,40 +209,44 @@ fn counts_in(point: PointKind, kind: Kind) -> bool
     }
 }
 
-/// The point, if it isn't behind the node's end.
+/// The point, if it is at a place of the node.
 fn point_at(links: &Links, key: Key, point: &PointRef) -> Result<Point, Cause>
     ensures ok { IfOk result (λ made. made ≡ scripts.point_at key point.now) }
     ensures within { OnOk result (selecting.outside_point links.now (scripts.point_at key point.now) ≡ None) }
     ensures err { IfErr result (λ cause. selecting.outside_point links.now (scripts.point_at key point.now) ≡ Some cause) }
 {
-    if point.offset > extent(links, key, point.kind) as u64 {
-        return Err(Cause::BadPlace(point.offset));
-    }
-    Ok(Point {
-        key,
-        offset: point.offset as u32,
-        kind: point.kind,
-    })
-}
-
-/// How far a point of the kind may be in the node.
-fn extent(links: &Links, key: Key, point: PointKind) -> u32
-    ensures { result ≡ selecting.extent links.now (record { key = key; offset = 0; kind = point }) point }
-{
-    match point {
-        PointKind::Text => length_of(links, key),
-        PointKind::Element => links.size(key),
+    match u32::try_from(point.offset) {
+        Ok(offset) => placed(
+            links,
+            Point {
+                key,
+                offset,
+                kind: point.kind,
+            },
+        ),
+        Err(_) => Err(beyond(links, key, point)),
     }
 }
 
-fn length_of(links: &Links, key: Key) -> u32
-    ensures { result ≡ selecting.length_of (lookups.fields_of links.now key) }
+/// What refuses a point whose offset a u32 doesn't tell. No text has such a place, and no node so many children.
+fn beyond(links: &Links, key: Key, point: &PointRef) -> Cause
+    requires { last_u32 < point.now.offset }
+    ensures { selecting.outside_point links.now (scripts.point_at key point.now) ≡ Some result }
 {
-    match links.node(key) {
-        Some(node) => match &node.fields {
-            Fields::Text(text) => lx_text::length_of(&text.text),
-            _ => 0,
-        },
-        None => 0,
+    let children = links.size(key);
+    prove!(u64::from(children) < point.offset);
+    Cause::BadPlace(point.offset)
+}
+
+/// The same of a point whose offset a u32 tells.
+fn placed(links: &Links, point: Point) -> Result<Point, Cause>
+    ensures ok { IfOk result (λ made. made ≡ point) }
+    ensures within { OnOk result (selecting.outside_point links.now point ≡ None) }
+    ensures err { IfErr result (λ cause. selecting.outside_point links.now point ≡ Some cause) }
+{
+    if is_place(links, &point) {
+        Ok(point)
+    } else {
+        Err(Cause::BadPlace(u64::from(point.offset)))
     }
 }

@@ -1,7 +1,9 @@
 //! Where a step splits a text.
 
-ghost use Rattle.std.specs.Prelude.{◌≡◌, ◌++◌, ◌∷◌, [], Ok, OnOk, IfOk, IfErr, length};
-ghost use Rattle.lx_draft.specs.Faults.{TellsStep, TellsFault};
+ghost use Rattle.std.specs.Prelude.{◌≡◌, ◌++◌, ◌∷◌, [], Ok, OnOk, IfOk, IfErr, chars, length};
+ghost use Rattle.lx_forest.specs.Lookups as lookups;
+ghost use Rattle.lx_draft.specs.Faults.{TellsStep, TellsFault, text_in};
+ghost use Rattle.lx_text.specs.Texts.{length_told};
 ghost use Rattle.lx_edit.specs.Conditions as conditions;
 ghost use Rattle.lx_edit.specs.Texts.{split_step, keys_from};
 
@@ -34,35 +36,56 @@ fn narrowed(alloc: Global, draft: &Draft, key: Key, offsets: &[u64]) -> Result<V
     ensures same { IfOk result (λ small. small.items ≡ offsets.now) }
     ensures err { IfErr result (λ e. TellsFault e (conditions.split_fault key offsets.now draft.now.forest)) }
 {
-    if let Some(cause) = split_fault(draft, key, &[]) {
-        return Err(Fault::Cause(cause));
-    }
-    narrowed_within(alloc, length_at(draft, key), offsets)
-}
-
-/// The length of a text, and 0 of any other node.
-fn length_at(draft: &Draft, key: Key) -> u32
-    ensures { result ≡ conditions.length_at draft.now.forest key }
-{
-    match draft.text_at(key) {
-        Ok(text) => lx_text::length_of(&text.text),
-        Err(_) => 0,
+    match split_fault(draft, key, &[]) {
+        Some(cause) => Err(Fault::Cause(cause)),
+        None => narrowed_at(alloc, draft, key, offsets),
     }
 }
 
-/// The offsets, where each is above the one before it and within a text of the length.
-fn narrowed_within(alloc: Global, length: u32, offsets: &[u64]) -> Result<Vec<u32>, Fault>
+/// The offsets, where each is above the one before it and a place within the text of a node, which is empty for one
+/// that isn't a text.
+#[tactic(auto, using(lx_edit::proofs::Tails::no_characters, lx_edit::proofs::Offsets::none_told))]
+fn narrowed_at(alloc: Global, draft: &Draft, key: Key, offsets: &[u64]) -> Result<Vec<u32>, Fault>
     ensures same { IfOk result (λ small. small.items ≡ offsets.now) }
-    ensures err { IfErr result (λ e. TellsFault e (conditions.bad_offset 0 length offsets.now)) }
+    ensures err { IfErr result (λ e. TellsFault e (conditions.bad_offset 0 (conditions.text_or_none (text_in (lookups.label_of draft.now.forest key))) offsets.now)) }
+{
+    let Ok(text) = draft.text_at(key) else {
+        return narrowed_within(alloc, "", 0, offsets);
+    };
+    narrowed_within(
+        alloc,
+        text.text.as_str(),
+        lx_text::length_of(&text.text),
+        offsets,
+    )
+}
+
+/// The offsets, where each is above the one before it and a place within the text, which has this length in UTF-16 code
+/// units. The text is gone through once.
+fn narrowed_within(
+    alloc: Global,
+    text: &str,
+    length: u32,
+    offsets: &[u64],
+) -> Result<Vec<u32>, Fault>
+    requires { length ≡ length_told (chars text.now) }
+    ensures same { IfOk result (λ small. small.items ≡ offsets.now) }
+    ensures err { IfErr result (λ e. TellsFault e (conditions.bad_offset 0 (chars text.now) offsets.now)) }
 {
     let mut small = Vec::new(alloc);
     let mut low = 0;
+    let mut rest = text;
     for offset in offsets {
-        if *offset <= low || *offset >= length as u64 {
+        if *offset <= low as u64 || *offset >= length as u64 {
             return Err(Fault::Cause(Cause::BadPlace(*offset)));
         }
-        low = *offset;
-        keep_offset(&mut small, *offset as u32)?;
+        let next = *offset as u32;
+        match lx_text::rest_from(rest, next - low) {
+            Some(behind) => rest = behind,
+            None => return Err(Fault::Cause(Cause::BadPlace(*offset))),
+        }
+        low = next;
+        keep_offset(&mut small, next)?;
     }
     Ok(small)
 }

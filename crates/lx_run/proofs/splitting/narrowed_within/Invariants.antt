@@ -1,10 +1,14 @@
-use Rattle.std.proofs.Common.{◌≡◌, drop, take}
-use Rattle.lx_edit.specs.Conditions.{bad_offset}
+use Rattle.std.proofs.Common.{◌≡◌, take}
+use Rattle.std.specs.Str.{chars}
+use denote.Shadow.{shadow}
+use denote.Text.{Utf8}
+use Rattle.lx_edit.proofs.Offsets.{ArePassed}
 use Rattle.lx_run.proofs.splitting.narrowed_within.Given as goal
 
--- the first bad offset is among those that are left, above the last one
+-- the offsets so far were passed and kept, and the rest of the text begins at the last one
 abbrev pub invariant-loop-offset : goal.invariant-loop-offset
 invariant-loop-offset l = record {
-  bad : bad_offset l.low l.length (drop l.offset-index l.offsets) ≡ bad_offset 0 l.length l.offsets;
-  same : l.small.items ≡ take l.offset-index l.offsets;
+  utf8 : shadow (Utf8 l.rest);
+  passed : ArePassed l.offsets l.offset-index l.low (chars l.text) (chars l.rest);
+  small : l.small.items ≡ take l.offset-index l.offsets;
 }
