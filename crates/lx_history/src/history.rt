@@ -1,4 +1,4 @@
-ghost use Rattle.std.specs.Prelude.{◌≡◌, ◌<◌, ◌≤◌, Some, None, OnOk, IfOk, MatchBool, length};
+ghost use Rattle.std.specs.Prelude.{◌≡◌, ◌+◌, ◌<◌, ◌≤◌, Some, None, OnOk, IfOk, MatchBool, length};
 ghost use Rattle.std.specs.Option.{option_copied};
 ghost use Rattle.std.specs.VecDeque.{deque_len, deque_capacity};
 ghost use Rattle.lx_history.specs.History.{with_entry};
@@ -12,7 +12,7 @@ use std::collections::VecDeque;
 use std::marker::Model;
 
 /// The states of an editor to which it can go back and forth. Of both lists the newest entry comes first. There are at
-/// most 500 entries, and none where no state is current. Times are numbers of milliseconds from any one moment on.
+/// most 500 entries in all, and none where no state is current. Times are numbers of milliseconds from any one moment on.
 #[derive(Drop)]
 pub struct History {
     /// For how long after a commit typing goes on.
@@ -116,10 +116,10 @@ impl History {
         }
     }
 
-    /// How many entries there are to go back to, and how many to go forth to.
+    /// How many entries there are to go back to, and how many to go forth to: at most 500 together.
     pub fn depths(&self) -> (u32, u32)
         ensures told { (result.0 ≡ length self.now.history.undo) × (result.1 ≡ length self.now.history.redo) }
-        ensures few { (result.0 ≤ 500) × (result.1 ≤ 500) }
+        ensures few { result.0 + result.1 ≤ 500 }
     {
         (self.undo.len() as u32, self.redo.len() as u32)
     }

@@ -1,5 +1,5 @@
 /// What a commit does to the history, where the state that it led to becomes current unless it is discarded.
-#[derive(Clone, Copy, Debug, PartialEq, Eq, Hash)]
+#[derive(Clone, Copy)]
 pub enum Action {
     /// The state that was current becomes the newest entry, and there is nothing to go forth to any more.
     Push,
@@ -10,7 +10,7 @@ pub enum Action {
 }
 
 /// What kind of typing a commit was. Typing of one kind that goes on in time is one entry.
-#[derive(Clone, Copy, Debug, PartialEq, Eq, Hash)]
+#[derive(Clone, Copy)]
 pub enum Change {
     /// No typing of a single character.
     Other,
