@@ -1,10 +1,10 @@
 -- Which operations a commit may tell: those that turn the view of the old tree into the view of the new one, keep the
 -- hosts of kept nodes, and touch no other hosts than those of marked nodes, and of children of those that stay.
-use Rattle.std.specs.Prelude.{◌≡◌, ◌≢◌, ℕ, ◌+◌, ◌*◌, ◌==◌, ◌&&◌, ◌++◌, if◌then◌else◌, Bool, true, false, List, [], ◌∷◌, length, filter, Option, None, Some}
+use Rattle.std.specs.Prelude.{◌≡◌, ◌≢◌, ◌↔◌, ℕ, ◌+◌, ◌*◌, ◌==◌, ◌&&◌, ◌++◌, if◌then◌else◌, Bool, true, false, List, [], ◌∷◌, length, filter, Option, None, Some}
 use Rattle.std.specs.List.{AllByRecursion}
 use Rattle.lx_node.specs.Trees.{Trees, nil, tree}
 use Rattle.lx_node.specs.NamedTrees.{total}
-use Rattle.lx_node.specs.Siblings.{is_among}
+use Rattle.lx_node.specs.Siblings.{is_among, NoRepeats}
 use Rattle.lx_host.specs.declared.tag.Tag.{Tag}
 use Rattle.lx_host.specs.declared.tag.Tag.TheVariants.{Div, P, H1, H2, H3, H4, H5, H6, Blockquote, Ul, Ol, Li, A, Table, Tr, Th, Td, Br, Hr, Inline}
 use Rattle.lx_host.specs.declared.tag.Inner.{Inner}
@@ -38,6 +38,11 @@ pub data IsKept (old new : Forest) : ℕ → Type 0 where
   kept_below : (key parent : ℕ) (tag : Tag) → IsKept old new parent
       → places_of key None old ≡ (Some parent, tag) ∷ [] → places_of key None new ≡ (Some parent, tag) ∷ []
       → IsKept old new key
+
+-- These keys are those of the nodes of the new tree that aren't kept, each once.
+pub record AreUnkept (old new : Forest) (keys : List ℕ) : Type 0 where
+  pub each : (key : ℕ) → (is_among key keys ≡ true) ↔ ((has key new ≡ true) × (IsKept old new key → ⊥))
+  pub once : NoRepeats keys
 
 -- ---- marked nodes
 

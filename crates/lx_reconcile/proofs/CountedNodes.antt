@@ -26,7 +26,7 @@ use Rattle.lx_reconcile.specs.Counting.{IsInTree, unkept_in}
 use Rattle.lx_reconcile.proofs.Attached.{tree_order}
 use Rattle.lx_reconcile.proofs.Children.{label_from, is_read, tree_read, total_read, child_left, first_place, next_place}
 use Rattle.lx_reconcile.proofs.Kept.{places_at, places_of-spot}
-use Rattle.lx_reconcile.proofs.UnkeptNodes.{same_tag, unkept-joined, unkept-total}
+use Rattle.lx_reconcile.proofs.UnkeptNodes.{same_tag, same_parent, unkept-joined, unkept-total}
 
 -- ---- a node as it was
 
@@ -50,15 +50,6 @@ unseen f key e = from_spot (spot f key) e where
   from_spot : (o : Option (Spot Label)) → None ≡ option_map node_of (option_map (linked (siblings f key) key) o) → o ≡ None
   from_spot None e = refl
   from_spot (Some x) e = absurd (cc)
-
-same_parent : (o p : Option ℕ) → is_parent o p ≡ true → o ≡ p
-same_parent None None e = refl
-same_parent None (Some p) e = absurd (cc)
-same_parent (Some q) None e = absurd (cc)
-same_parent (Some q) (Some p) e = elim (eqb_tells q p) [
-  | inl same ↦ ap (λ x. Some x) same.1
-  | inr other ↦ absurd (let no = other.0 in cc)
-]
 
 -- where a node stands in the root's tree
 module _ (f : Forest) (parent : Option ℕ) (q : ℕ) (s : Sound f) (above : IsInTree f parent q) where

@@ -36,6 +36,7 @@ pub mod Steps
 pub mod Texts
 pub mod Touched
 pub mod Turns
+pub mod UnkeptKeys
 pub mod UnkeptNodes
 pub mod Walked
 pub mod Whole

@@ -73,6 +73,15 @@ other_tag a b other = elim (eqb_tells (tag_number a) (tag_number b)) [
   | inr e ↦ e.0
 ]
 
+pub same_parent : (o p : Option ℕ) → is_parent o p ≡ true → o ≡ p
+same_parent None None e = refl
+same_parent None (Some p) e = absurd (cc)
+same_parent (Some q) None e = absurd (cc)
+same_parent (Some q) (Some p) e = elim (eqb_tells q p) [
+  | inl same ↦ ap (λ x. Some x) same.1
+  | inr other ↦ absurd (let no = other.0 in cc)
+]
+
 -- ---- whether a child is kept, where its parent is
 
 abbrev pub kept_here : Forest → Option ℕ → Label → Bool

@@ -10,7 +10,7 @@ use std::alloc::Global;
 use std::marker::Model;
 
 /// The operations of one commit, in their order. Nothing but `operations` makes one.
-#[derive(Debug, Drop)]
+#[derive(Drop)]
 pub struct Batch {
     ops: Ops,
     reads: u64,

@@ -1,10 +1,10 @@
 //! How many nodes of one tree aren't kept from another one.
 
-ghost use Rattle.std.specs.Prelude.{◌≡◌, ◌==◌, ◌&&◌, ◌+◌, true, None, Some, Ok};
+ghost use Rattle.std.specs.Prelude.{◌≡◌, ◌==◌, ◌&&◌, ◌+◌, ℕ, List, length, true, None, Some, Ok, IfOk};
 ghost use Rattle.lx_forest.specs.Lookups.{alone, trees_of, children_of, first_child, next_of, has, is_attached};
 ghost use Rattle.lx_links.specs.Stands.{Sound};
 ghost use Rattle.lx_plain.specs.Allowed as allowed;
-ghost use Rattle.lx_plain.specs.Allowed.{is_parent, is_only, places_of, tag_number};
+ghost use Rattle.lx_plain.specs.Allowed.{AreUnkept, is_parent, is_only, places_of, tag_number};
 ghost use Rattle.lx_plain.specs.Render as shown;
 ghost use Rattle.lx_reconcile.specs.Counting.{IsInTree, unkept_in};
 
@@ -41,6 +41,7 @@ fn is_kept<S, L: Look<S>>(
     now: &Node,
 ) -> bool
     requires in_tree { kept ≡ true → IsInTree (L.whole before.old) parent key }
+    ensures sound { kept ≡ true → Sound (L.whole before.old) }
     ensures kept { result ≡ (kept && is_only parent (shown.tag_of now.now.kind now.now.fields) (places_of key None (alone 0 (L.whole before.old)))) }
     ensures in_tree { result ≡ true → is_attached (L.whole before.old) key ≡ true }
     ensures same { L.whole before.new ≡ L.whole before.old }
@@ -68,6 +69,8 @@ fn count_child<B, A, O: Look<B>, N: Look<A>>(
     requires in_tree { kept ≡ true → IsInTree (O.whole before.old) parent key }
     ensures count { result.0 ≡ unkept_in kept (alone 0 (O.whole before.old)) parent (alone key (N.whole after.old)) }
     ensures next { result.1 ≡ next_of (N.whole after.old) key }
+    ensures sound_before { kept ≡ true → Sound (O.whole before.old) }
+    ensures sound_after { Sound (N.whole after.old) }
     ensures before { O.whole before.new ≡ O.whole before.old }
     ensures after { N.whole after.new ≡ N.whole after.old }
 {
@@ -118,6 +121,7 @@ pub fn unkept<'a, R: Records<'a>>(before: &mut R, after: &mut R) -> Result<u32, 
     requires rooted_before { has 0 (R.forest before.old) ≡ true }
     requires rooted_after { has 0 (R.forest after.old) ≡ true }
     ensures count { result ≡ Ok (allowed.unkept (alone 0 (R.forest before.old)) None (alone 0 (R.forest after.old))) }
+    ensures told { IfOk result (λ n. (keys : List ℕ) × AreUnkept (alone 0 (R.forest before.old)) (alone 0 (R.forest after.old)) keys × (length keys ≡ n)) }
     ensures before { R.forest before.new ≡ R.forest before.old }
     ensures after { R.forest after.new ≡ R.forest after.old }
 {

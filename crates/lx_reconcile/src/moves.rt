@@ -1,7 +1,7 @@
 use lx_node::Key;
 
 /// What is done with a child of an element whose children change.
-#[derive(Clone, Copy, Debug, PartialEq, Eq)]
+#[derive(Clone, Copy)]
 pub enum Move {
     /// It is among the children before and after, and stays where it is.
     Stay(Key),
