@@ -114,10 +114,10 @@ impl Editor {
         &self.history
     }
 
-    /// How many entries there are to go back to, and to go forth to, at most 500 each.
+    /// How many entries there are to go back to, and to go forth to, at most 500 together.
     pub fn depths(&self) -> (u32, u32)
         ensures told { (result.0 ≡ length self.now.history.undo) × (result.1 ≡ length self.now.history.redo) }
-        ensures few { (result.0 ≤ 500) × (result.1 ≤ 500) }
+        ensures few { result.0 + result.1 ≤ 500 }
     {
         self.history.depths()
     }
