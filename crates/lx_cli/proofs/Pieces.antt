@@ -36,18 +36,21 @@ AreUnanswered-longer why editor s t waits xs m n le p =
 
 -- one read that gave bytes, not all of whose lines are answered
 pub IsUnanswered-one : (why : Unanswered) (may_come count within : ℕ) (into : List ℕ) (a b : Moment)
-    → 0 < count → count ≤ length into → count ≤ may_come + 1 → within ≤ count
+    → 0 < count → count ≤ length into → count ≤ may_come + 1 → within ≤ count → within ≤ may_come
     → Consumes a.source.left b.source.left (take count into) → b.source.faults ≡ a.source.faults → IsCounted a.source.reads b.source.reads 1
     → AreUnanswered why (ended (a.session.pending.items ++ take within into)) a.session.editor a.sink b.sink
     → IsUnanswered why may_come (take count into) a b
-IsUnanswered-one why may_come count within into a b some fits most le consumes faults reads unanswered = record {
+IsUnanswered-one why may_come count within into a b some fits most le short consumes faults reads unanswered = record {
   within = rw (length-take count into) (omega arith);
   source = record {
     consumes = consumes;
     faults = faults;
     reads = IsCounted-within a.source.reads b.source.reads 1 (length (take count into)) (rw (length-take count into) (omega arith)) reads;
   };
-  unanswered = AreUnanswered-longer why a.session.editor a.sink b.sink a.session.pending.items into within count le unanswered;
+  unanswered =
+      AreUnanswered-longer why a.session.editor a.sink b.sink a.session.pending.items (take count into) within may_come short
+      (subst (λ (bytes : List ℕ). AreUnanswered why (ended (a.session.pending.items ++ bytes)) a.session.editor a.sink b.sink)
+      (sym (take-take within count into le)) unanswered);
 }
 
 pub GoesOn-none : (may_come : ℕ) (a : Moment) → IsUnended a.session.pending.items → ReadsOn may_come [] a a
@@ -70,7 +73,10 @@ pub IsUnanswered-behind : (why : Unanswered) (a b c : Moment) (all left : ℕ) (
 IsUnanswered-behind why a b c all left xs ys e p q = record {
   within = omega (arith, length-append xs ys, q.within);
   source = AreRead-append a.source b.source c.source xs ys p.source q.source;
-  unanswered = AreUnanswered-taken why a.session b.session a.sink b.sink c.sink xs ys p.taken q.unanswered;
+  unanswered =
+      subst (λ (bytes : List ℕ). AreUnanswered why (ended (a.session.pending.items ++ bytes)) a.session.editor a.sink c.sink)
+      (sym (take-append-add xs ys left) ∙ ap (λ n. take n (xs ++ ys)) e)
+      (AreUnanswered-taken why a.session b.session a.sink b.sink c.sink xs (take left ys) p.taken q.unanswered);
 }
 
 pub Stops-behind : (stop : Stop) (a b c : Moment) (all left : ℕ) (xs ys : List ℕ) → length xs + left ≡ all

@@ -39,10 +39,10 @@ pub IsRun-none : (words : List (List ℕ)) (q : SourceSeen) (s : SinkSeen) → I
 unfolding Ends
 IsRun-none words q s = record {
   ends = record {
-    taken = inr refl;
-    lines = ended [];
+    taken = inr (refl, refl);
+    lines = ended (take input_limit []);
     may = inl refl;
-    front = IsFrontOfReplies-none (begun_with words) (ended []);
+    front = IsFrontOfReplies-none (begun_with words) (ended (take input_limit []));
     faultless = record { source = refl; sink = refl };
   };
   consumes = Consumes-none q.left;
@@ -60,7 +60,8 @@ IsRun-usage words q s refused = record {
     refused = refused;
     read = refl;
     written = refl;
-    faultless = record { source = refl; sink = refl };
+    source = refl;
+    sink = refl;
   };
   consumes = Consumes-none q.left;
   appends = Appends-none s.taken;
@@ -169,7 +170,7 @@ module _ (words : List (List ℕ)) (is_taken : are_taken words ≡ true) where
 
   ran_unanswered : (why : Unanswered) (q r : SourceSeen) (s t : SinkSeen) (read : List ℕ) (lines : List (List ℕ))
       → length read ≤ input_limit + 1 → Consumes q.left r.left read → r.faults ≡ q.faults → IsCounted q.reads r.reads (length read + 1)
-      → (lines ≡ ended read) ⊎ (IsAtEnd r.left × (lines ≡ lines_of read))
+      → (lines ≡ ended (take input_limit read)) ⊎ (IsAtEnd r.left × (length read ≤ input_limit) × (lines ≡ lines_of read))
       → AreUnanswered why lines (begun_with words) s t → Ran (unanswered_status why) read q r s t
   unfolding Ends
   ran_unanswered unanswered.WriteFault q r s t read lines bounded consumes faults reads may p = (
@@ -201,10 +202,11 @@ module _ (words : List (List ℕ)) (is_taken : are_taken words ≡ true) where
   pub Ran-unanswered : (why : Unanswered) (a b : Moment) (read : List ℕ) → IsNew (asked_for words) a.session → IsUnanswered why input_limit read a b
       → Ran (unanswered_status why) read a.source b.source a.sink b.sink
   Ran-unanswered why a b read new p =
-      let lines : AreUnanswered why (ended read) (begun_with words) a.sink b.sink =
-      subst (λ (editor : Editor). AreUnanswered why (ended read) editor a.sink b.sink) new.editor
-      (subst (λ (waits : List ℕ). AreUnanswered why (ended (waits ++ read)) a.session.editor a.sink b.sink) new.pending p.unanswered) in
-      ran_unanswered why a.source b.source a.sink b.sink read (ended read) p.within p.source.consumes p.source.faults
+      let may = take input_limit read in
+      let lines : AreUnanswered why (ended may) (begun_with words) a.sink b.sink =
+      subst (λ (editor : Editor). AreUnanswered why (ended may) editor a.sink b.sink) new.editor
+      (subst (λ (waits : List ℕ). AreUnanswered why (ended (waits ++ may)) a.session.editor a.sink b.sink) new.pending p.unanswered) in
+      ran_unanswered why a.source b.source a.sink b.sink read (ended may) p.within p.source.consumes p.source.faults
       (IsCounted-within a.source.reads b.source.reads (length read) (length read + 1) (omega arith) p.source.reads)
       (inl refl) lines
 
@@ -218,7 +220,7 @@ module _ (words : List (List ℕ)) (is_taken : are_taken words ≡ true) where
       subst (λ (waits : List ℕ). AreUnanswered why (last_line waits) b.session.editor b.sink t)
       (waiting_new a.session b.session a.sink b.sink read new p.taken) q in
       ran_unanswered why a.source b.source a.sink t read (lines_of read) (omega (arith, p.within)) p.source.consumes p.source.faults p.source.reads
-      (inr (p.source.at_end, refl))
+      (inr (p.source.at_end, p.within, refl))
       (AreUnanswered-append why (begun_with words) b.session.editor a.sink b.sink t (ended read) (last_line (unended read)) lines last)
 
   stopped : (why : Stop) (a b : Moment) → IsNew (asked_for words) a.session → why ≢ stop.End → HasStopped why input_limit a b

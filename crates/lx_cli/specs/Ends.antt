@@ -14,7 +14,7 @@ number_of_status InputTooLong = 6
 -- what is said of a run that isn't done: how the program is called, where its words weren't taken
 abbrev pub message_of : Status → Option (List ℕ)
 message_of Done = None
-message_of Usage = Some (codes "usage: lexical [--view] [--delay MS]")
+message_of Usage = Some (codes "lexical: usage")
 message_of ReadFault = Some (codes "lexical: read fault")
 message_of WriteFault = Some (codes "lexical: write fault")
 message_of Memory = Some (codes "lexical: memory")

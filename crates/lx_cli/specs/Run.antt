@@ -63,10 +63,12 @@ pub record IsFrontOfReplies (editor : Editor) (lines : List (List ℕ)) (written
   pub follows : Follows editor answered replies
   pub begun : written ++ later_bytes ≡ replies
 
--- The lines that may be answered: those that ended in what was read, and what stands behind the last line end only where
--- the input was read to its end.
+-- The lines that may be answered: those that ended in what was read, without the byte past the limit, and what stands
+-- behind the last line end only where the input was read to its end and is within the limit.
 abbrev pub MayAnswer : Seen → List (List ℕ) → Type 0
-MayAnswer run lines = (lines ≡ ended run.read) ⊎ (IsAtEnd run.source_after.left × (lines ≡ lines_of run.read))
+MayAnswer run lines =
+    (lines ≡ ended (take input_limit run.read))
+    ⊎ (IsAtEnd run.source_after.left × (length run.read ≤ input_limit) × (lines ≡ lines_of run.read))
 
 -- The input was read to its end, and all of its lines are answered.
 pub record IsDone (run : Seen) : Type 0 where
@@ -76,12 +78,13 @@ pub record IsDone (run : Seen) : Type 0 where
   pub follows : Follows (begun_with run.words) (lines_of run.read) run.written
   pub faultless : IsFaultless run
 
--- The words aren't taken, and nothing was read or written.
+-- The words aren't taken, and nothing was read or written: neither the source nor the sink was called.
 pub record IsUsage (run : Seen) : Type 0 where
   pub refused : are_taken run.words ≡ false
   pub read : run.read ≡ []
   pub written : run.written ≡ []
-  pub faultless : IsFaultless run
+  pub source : run.source_after ≡ run.source_before
+  pub sink : run.sink_after ≡ run.sink_before
 
 -- A read failed, and the lines that had ended are answered.
 pub record IsReadFault (run : Seen) : Type 0 where
@@ -100,10 +103,10 @@ pub record IsWriteFault (run : Seen) : Type 0 where
   pub source : run.source_after.faults ≡ run.source_before.faults
   pub sink : HasRisen run.sink_before.faults run.sink_after.faults
 
--- Memory was wanting, and a front of the replies to lines that may be answered is written: nothing, where it was wanting
--- before the words were read.
+-- Memory was wanting, and a front of the replies to lines that may be answered is written. Where the words may not be
+-- taken, it was wanting before they were looked at, and nothing was read or written.
 pub record IsOutOfMemory (run : Seen) : Type 0 where
-  pub taken : (are_taken run.words ≡ true) ⊎ (run.written ≡ [])
+  pub taken : (are_taken run.words ≡ true) ⊎ ((run.read ≡ []) × (run.written ≡ []))
   pub lines : List (List ℕ)
   pub may : MayAnswer run lines
   pub front : IsFrontOfReplies (begun_with run.words) lines run.written

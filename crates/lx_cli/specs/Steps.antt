@@ -144,12 +144,12 @@ pub record IsBrokenOff (may_come : ℕ) (bytes : List ℕ) (old new : Moment) : 
   pub source : AreBrokenOff bytes old.source new.source
   pub taken : AreTaken bytes old.session new.session old.sink new.sink
 
--- These bytes were read, and not all of the lines that they ended are answered.
+-- These bytes were read, and not all of the lines are answered that those which may come ended.
 pub record IsUnanswered (why : Unanswered) (may_come : ℕ) (bytes : List ℕ) (old new : Moment) : Type 0 where
   pub within : length bytes ≤ may_come + 1
   pub source : AreRead bytes old.source new.source
   pub unanswered :
-      AreUnanswered why (ended (old.session.pending.items ++ bytes)) old.session.editor old.sink new.sink
+      AreUnanswered why (ended (old.session.pending.items ++ take may_come bytes)) old.session.editor old.sink new.sink
 
 -- One byte more than may come was read, and those before it are taken.
 pub record IsPastLimit (may_come : ℕ) (bytes : List ℕ) (old new : Moment) : Type 0 where

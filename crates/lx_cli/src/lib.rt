@@ -6,8 +6,6 @@ mod program;
 mod reading;
 mod session;
 mod status;
-#[cfg(test)]
-mod tests;
 mod writing;
 
 pub use program::run;

@@ -15,7 +15,7 @@ const INPUT_LIMIT: usize = 16_777_216;
 const BUFFER_LENGTH: usize = 65_536;
 
 /// Why no more is read.
-#[derive(Clone, Copy, Debug, PartialEq, Eq, Hash)]
+#[derive(Clone, Copy)]
 pub(crate) enum Stop {
     /// The input ended.
     End,

@@ -10,7 +10,7 @@ use std::alloc::Global;
 const LINE_END: u8 = b'\n';
 
 /// Why a line was not answered.
-#[derive(Clone, Copy, Debug, PartialEq, Eq, Hash)]
+#[derive(Clone, Copy)]
 pub(crate) enum Unanswered {
     /// A write failed. A front of the reply was written.
     WriteFault,

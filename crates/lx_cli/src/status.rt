@@ -1,7 +1,5 @@
-use lx_words::USAGE;
-
 /// How a run of the program ended.
-#[derive(Clone, Copy, Debug, PartialEq, Eq, Hash)]
+#[derive(Clone, Copy, Debug)]
 pub enum Status {
     /// The input was read to its end, and every reply was written.
     Done,
@@ -35,13 +33,13 @@ impl Status {
         }
     }
 
-    /// What is said on standard error of a run that isn't done: where the words aren't taken, how the program is called.
+    /// What is said on standard error of a run that isn't done.
     pub fn message(self) -> Option<&'static str>
         ensures { option_copied result ≡ message_of self }
     {
         match self {
             Status::Done => None,
-            Status::Usage => Some(USAGE),
+            Status::Usage => Some("lexical: usage"),
             Status::ReadFault => Some("lexical: read fault"),
             Status::WriteFault => Some("lexical: write fault"),
             Status::Memory => Some("lexical: memory"),

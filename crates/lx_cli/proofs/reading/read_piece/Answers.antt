@@ -21,7 +21,7 @@ unanswered : (g : Over) (c : After-take_piece g) (why : Unanswered)
 unanswered g c why told =
     let cut = length-take c.min-room.result c.args.buffer.now in
     IsUnanswered-one why _ c.in-Ok.count c.min-within.result c.read.new.into _ _
-    (omega arith) (omega (arith, cut, c.in-Ok.ensures.within)) (omega (arith, cut, c.in-Ok.ensures.within)) (omega arith)
+    (omega arith) (omega (arith, cut, c.in-Ok.ensures.within)) (omega (arith, cut, c.in-Ok.ensures.within)) (omega arith) (omega arith)
     c.in-Ok.ensures.front c.in-Ok.ensures.cause c.read.ensures.counted told
 
 pub returns-in-Err-clause-stopped : goal.returns-in-Err-clause-stopped
