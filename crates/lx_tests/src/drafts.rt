@@ -10,7 +10,7 @@ use std::test::Fail;
 
 /// Puts a paragraph, 1, below the root, with the text 2.
 #[tactic(auto, using(lx_run::proofs::Composed::element_suits, lx_run::proofs::Composed::text_suits))]
-fn fill(alloc: Global, draft: &mut Draft) -> Result<(), Fault> {
+pub(crate) fn fill(alloc: Global, draft: &mut Draft) -> Result<(), Fault> {
     let paragraph = draft.new_node(Kind::Paragraph, Fields::plain_element(alloc))?;
     let text = draft.new_node(Kind::Text, Fields::plain_text(alloc, "words")?)?;
     draft.put(text, paragraph, 0)?;

@@ -1,5 +1,5 @@
-//! Tests of drafts, and of how one list of children becomes another: what no clause can say, as that a call succeeds where
-//! memory is ample.
+//! Tests of drafts, of how one list of children becomes another, and of nodes that aren't kept: what no clause can say, as
+//! that a call succeeds where memory is ample.
 //!
 //! They stand here since a crate with tests is proved twice. Those of the layers below stand in `lx_tests_trees` and
 //! `lx_tests_lines`. What steps make of a state is shown by the program `lx_scripts`, and replies to lines by the program
@@ -10,3 +10,5 @@
 mod drafts;
 #[cfg(test)]
 mod moves;
+#[cfg(test)]
+mod unkept;

@@ -1,12 +1,8 @@
-//! Tests of lines in and replies out: what no clause can say, as that a call succeeds where memory is ample, and values
-//! that come from outside.
+//! Tests of lines in and replies out that the stored sessions of `lx_rows` can't show: copies of what a line holds, and
+//! replies that no line has yet.
 #![tactic(auto)]
 
 #[cfg(test)]
-mod documents;
-#[cfg(test)]
-mod grammar;
-#[cfg(test)]
-mod refused_lines;
+mod copies;
 #[cfg(test)]
 mod replies;

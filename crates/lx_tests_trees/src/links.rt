@@ -353,3 +353,19 @@ fn failed_links_have_no_nodes(rt: HostRuntime) -> Result<(), Fail> {
     assert_eq!(rt; text.as_str(), "false true 0 true");
     Ok(())
 }
+
+/// How many items and nodes there are, before and after an item is taken out with all below it and dropped.
+fn dropped(alloc: Global) -> Result<String, Fail> {
+    let mut links = listed(alloc)?;
+    let before = (links.items(), links.len());
+    links.detach(Key(2))?;
+    links.drop_detached()?;
+    Ok(format!(in alloc; "{before:?} {:?}", (links.items(), links.len()))?)
+}
+
+#[test]
+fn what_stands_nowhere_is_dropped(rt: HostRuntime) -> Result<(), Fail> {
+    let text = dropped(rt.alloc())?;
+    assert_eq!(rt; text.as_str(), "(1, 5) (0, 2)");
+    Ok(())
+}

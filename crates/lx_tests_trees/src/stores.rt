@@ -170,7 +170,7 @@ impl Edit<Node> for Renamed {
     }
 }
 
-/// Whether an edit of a page that a fork shares leaves the fork as it was, and one of a page that none shares
+/// Whether an edit of an item that a fork shares leaves the fork as it was, and one of an item that none shares
 /// copies nothing.
 fn edits_stay_apart(alloc: Global) -> Result<bool, NoMemory> {
     let mut count = Copies::new();
@@ -178,10 +178,10 @@ fn edits_stay_apart(alloc: Global) -> Result<bool, NoMemory> {
     let fork = store.fork(&mut count)?;
     let found = store.change(Key(33), Renamed(Txt::new(alloc, "new")?), &mut count)?;
     let copied = count.total();
-    let again = store.change(Key(34), Renamed(Txt::new(alloc, "new")?), &mut count)?;
+    let again = store.change(Key(33), Renamed(Txt::new(alloc, "newer")?), &mut count)?;
     let absent = store.change(Key(96), Renamed(Txt::new(alloc, "new")?), &mut count)?;
-    let edited = has(&store, 0, 32, "old") && has(&store, 33, 34, "new");
-    let rest = has(&store, 35, 95, "old") && has(&store, 96, 96, "none");
+    let edited = has(&store, 0, 32, "old") && has(&store, 33, 33, "newer");
+    let rest = has(&store, 34, 95, "old") && has(&store, 96, 96, "none");
     let kept = has(&fork, 0, 95, "old") && store.len() == 96;
     Ok(found && again && !absent && edited && rest && kept && count.total() == copied)
 }

@@ -1,0 +1,115 @@
+use lx_marks::Marks;
+use lx_node::{Key, NoMemory};
+use std::alloc::Global;
+use std::test::Fail;
+
+/// Marks of leaves, and of elements with their flags, in this order.
+fn marks(alloc: Global, leaves: &[u32], elements: &[(u32, bool)]) -> Result<Marks, NoMemory> {
+    let mut marks = Marks::new(alloc)?;
+    for key in leaves {
+        marks.mark_leaf(Key(*key))?;
+    }
+    for (key, flag) in elements {
+        marks.mark_element(Key(*key), *flag)?;
+    }
+    Ok(marks)
+}
+
+/// The leaves by place, and the elements, each with a sign where it is marked itself.
+fn shown(alloc: Global, marks: &Marks) -> Result<String, Fail> {
+    let mut text = String::new(alloc);
+    for i in 0..6 {
+        if let Some(key) = marks.leaf_at(i) {
+            write!(text, "{} ", key.number())?;
+        }
+    }
+    write!(text, "and ")?;
+    for i in 0..6 {
+        if let Some((key, flag)) = marks.element_at(i) {
+            write!(text, "{}{} ", key.number(), if flag { "!" } else { "" })?;
+        }
+    }
+    Ok(text)
+}
+
+fn marked_twice(alloc: Global) -> Result<String, Fail> {
+    let elements = [(3, false), (0, true), (3, true), (0, false), (9, false)];
+    let marks = marks(alloc, &[7, 0, 4_294_967_295, 7], &elements)?;
+    shown(alloc, &marks)
+}
+
+fn absorbed(alloc: Global) -> Result<String, Fail> {
+    let mut own = marks(alloc, &[1, 2], &[(1, false), (2, true), (3, false)])?;
+    let other = marks(alloc, &[3, 2, 4], &[(4, true), (2, false), (1, true)])?;
+    own.absorb(&other)?;
+    shown(alloc, &own)
+}
+
+fn copied(alloc: Global) -> Result<String, Fail> {
+    let own = marks(alloc, &[2, 1], &[(2, true), (3, false)])?;
+    let copy = own.copy()?;
+    shown(alloc, &copy)
+}
+
+/// What is taken from marks of each kind, and what is left.
+fn taken(alloc: Global) -> Result<String, Fail> {
+    let mut marks = marks(alloc, &[7, 8], &[(3, true)])?;
+    let leaves = marks.take_leaves()?;
+    let before = marks.is_empty();
+    let elements = marks.take_elements()?;
+    let after = marks.is_empty();
+    Ok(format!(in alloc; "{leaves:?} {before} {elements:?} {after}")?)
+}
+
+/// For each of some keys, whether it is a leaf's, and the flag of an element.
+fn looked_up(alloc: Global) -> Result<String, Fail> {
+    let marks = marks(alloc, &[7], &[(3, true), (9, false)])?;
+    let mut text = String::new(alloc);
+    for key in [7, 3, 9, 4] {
+        let is_leaf = marks.has_leaf(Key(key));
+        let flag = marks.element(Key(key));
+        write!(text, "{key} {is_leaf} {flag:?}, ")?;
+    }
+    Ok(text)
+}
+
+#[test]
+fn a_key_stands_where_it_was_first_marked(rt: HostRuntime) -> Result<(), Fail> {
+    let text = marked_twice(rt.alloc())?;
+    assert_eq!(rt; text.as_str(), "7 0 4294967295 and 3! 0! 9 ");
+    Ok(())
+}
+
+#[test]
+fn what_is_absorbed_comes_behind(rt: HostRuntime) -> Result<(), Fail> {
+    let text = absorbed(rt.alloc())?;
+    assert_eq!(rt; text.as_str(), "1 2 3 4 and 1! 2! 3 4! ");
+    Ok(())
+}
+
+#[test]
+fn a_copy_has_the_same_marks(rt: HostRuntime) -> Result<(), Fail> {
+    let text = copied(rt.alloc())?;
+    assert_eq!(rt; text.as_str(), "2 1 and 2! 3 ");
+    Ok(())
+}
+
+#[test]
+fn what_is_taken_is_gone(rt: HostRuntime) -> Result<(), Fail> {
+    let text = taken(rt.alloc())?;
+    assert_eq!(rt;
+        text.as_str(),
+        "[Key(7), Key(8)] false [(Key(3), true)] true"
+    );
+    Ok(())
+}
+
+#[test]
+fn keys_are_looked_up(rt: HostRuntime) -> Result<(), Fail> {
+    let text = looked_up(rt.alloc())?;
+    assert_eq!(rt;
+        text.as_str(),
+        "7 true None, 3 false Some(true), 9 false Some(false), 4 false None, "
+    );
+    Ok(())
+}

@@ -1,0 +1,224 @@
+use lx_node::{Key, Point, PointKind, SelectionKind};
+use lx_select::{Keys, Selection};
+use std::alloc::Global;
+use std::test::Fail;
+
+const TEXT: PointKind = PointKind::Text;
+
+const ELEMENT: PointKind = PointKind::Element;
+
+/// A point's key, offset and kind.
+type Place = (u32, u32, PointKind);
+
+/// A call with what it takes, where keys are numbers.
+#[derive(Clone, Copy, Debug)]
+enum Edit {
+    Put(u32, u32),
+    Take(u32, u32),
+    Splice(u32, u32, u32, u32),
+    Set(u32, &'static str),
+    Split(u32, u32, u32),
+    Join(u32, u32, u32),
+    Children(u32, u32, u32),
+    Unwrap(u32, u32, u32),
+    Replace(u32, u32, &'static str),
+    MovePoints(u32, Place),
+}
+
+/// Edits, with the anchor and the focus of a range before and after each.
+const MOVES: [(Edit, [Place; 2], [Place; 2]); 19] = [
+    // Put: at the index a point stays, and above it grows, up to the last number.
+    (
+        Edit::Put(1, 2),
+        [(1, 2, ELEMENT), (1, 3, ELEMENT)],
+        [(1, 2, ELEMENT), (1, 4, ELEMENT)],
+    ),
+    (
+        Edit::Put(1, 2),
+        [(1, 3, TEXT), (2, 3, ELEMENT)],
+        [(1, 3, TEXT), (2, 3, ELEMENT)],
+    ),
+    (
+        Edit::Put(1, 0),
+        [(1, u32::MAX, ELEMENT), (1, 0, ELEMENT)],
+        [(1, u32::MAX, ELEMENT), (1, 0, ELEMENT)],
+    ),
+    // Take: at the index a point stays, and above it falls.
+    (
+        Edit::Take(1, 2),
+        [(1, 2, ELEMENT), (1, 3, ELEMENT)],
+        [(1, 2, ELEMENT), (1, 2, ELEMENT)],
+    ),
+    (
+        Edit::Take(1, 2),
+        [(1, 3, TEXT), (2, 3, ELEMENT)],
+        [(1, 3, TEXT), (2, 3, ELEMENT)],
+    ),
+    // Splice: at `from`, between, at `to` and behind; on another key; and up to the last number.
+    (
+        Edit::Splice(1, 4, 7, 2),
+        [(1, 4, TEXT), (1, 5, TEXT)],
+        [(1, 4, TEXT), (1, 6, TEXT)],
+    ),
+    (
+        Edit::Splice(1, 4, 7, 2),
+        [(1, 7, TEXT), (1, 9, TEXT)],
+        [(1, 6, TEXT), (1, 8, TEXT)],
+    ),
+    (
+        Edit::Splice(1, 4, 7, u32::MAX),
+        [(1, 5, TEXT), (1, 9, TEXT)],
+        [(1, u32::MAX, TEXT), (1, u32::MAX, TEXT)],
+    ),
+    (
+        Edit::Splice(1, 4, 4, 2),
+        [(1, 4, TEXT), (2, 9, TEXT)],
+        [(1, 4, TEXT), (2, 9, TEXT)],
+    ),
+    // Set: at the length a point stays, and past it gets the length; inside a pair it gets the pair's start.
+    (
+        Edit::Set(1, "a😀bc"),
+        [(1, 5, TEXT), (1, 6, TEXT)],
+        [(1, 5, TEXT), (1, 5, TEXT)],
+    ),
+    (
+        Edit::Set(1, "a😀bc"),
+        [(1, 2, TEXT), (1, 3, TEXT)],
+        [(1, 1, TEXT), (1, 3, TEXT)],
+    ),
+    // Split: at the cut a point stays, and past it goes to the new key.
+    (
+        Edit::Split(1, 4, 9),
+        [(1, 4, TEXT), (1, 5, TEXT)],
+        [(1, 4, TEXT), (9, 1, TEXT)],
+    ),
+    // Join: a point on the second goes to the first, up to the last number.
+    (
+        Edit::Join(1, 4, 2),
+        [(1, 3, TEXT), (2, 3, TEXT)],
+        [(1, 3, TEXT), (1, 7, TEXT)],
+    ),
+    (
+        Edit::Join(1, 4, 2),
+        [(2, 0, TEXT), (2, u32::MAX, TEXT)],
+        [(1, 4, TEXT), (1, u32::MAX, TEXT)],
+    ),
+    (
+        Edit::Children(2, 1, 3),
+        [(1, 2, ELEMENT), (2, 2, ELEMENT)],
+        [(1, 2, ELEMENT), (1, 5, ELEMENT)],
+    ),
+    (
+        Edit::Unwrap(2, 1, 3),
+        [(1, 4, ELEMENT), (2, 1, ELEMENT)],
+        [(1, 4, ELEMENT), (1, 4, ELEMENT)],
+    ),
+    (
+        Edit::Replace(1, 9, "abc😀"),
+        [(1, 3, TEXT), (1, 8, TEXT)],
+        [(9, 3, TEXT), (9, 5, TEXT)],
+    ),
+    (
+        Edit::Replace(1, 9, "abc😀"),
+        [(1, 4, TEXT), (2, 4, TEXT)],
+        [(9, 3, TEXT), (2, 4, TEXT)],
+    ),
+    (
+        Edit::MovePoints(1, (7, 2, ELEMENT)),
+        [(1, 3, TEXT), (2, 3, TEXT)],
+        [(7, 2, ELEMENT), (2, 3, TEXT)],
+    ),
+];
+
+fn point((key, offset, kind): Place) -> Point {
+    Point {
+        key: Key(key),
+        offset,
+        kind,
+    }
+}
+
+fn range([anchor, focus]: [Place; 2]) -> Selection {
+    Selection::Range {
+        anchor: point(anchor),
+        focus: point(focus),
+        format: 3,
+    }
+}
+
+fn make(edit: Edit, selection: &mut Selection) {
+    match edit {
+        Edit::Put(parent, index) => selection.after_put(Key(parent), index),
+        Edit::Take(parent, index) => selection.after_take(Key(parent), index),
+        Edit::Splice(key, from, to, len) => selection.after_splice(Key(key), from, to, len),
+        Edit::Set(key, text) => selection.after_set(Key(key), text),
+        Edit::Split(key, at, new) => selection.after_split(Key(key), at, Key(new)),
+        Edit::Join(first, len, second) => selection.after_join(Key(first), len, Key(second)),
+        Edit::Children(from, to, size) => selection.after_children(Key(from), Key(to), size),
+        Edit::Unwrap(key, parent, index) => selection.after_unwrap(Key(key), Key(parent), index),
+        Edit::Replace(old, new, text) => selection.after_replace(Key(old), Key(new), text),
+        Edit::MovePoints(key, to) => selection.move_points(Key(key), point(to)),
+    }
+}
+
+/// A selection of each kind. All keys are those of the edits.
+fn selections(alloc: Global) -> Result<[Selection; 4], Fail> {
+    let keys = Keys::of([Key(1), Key(2)].to_vec(alloc)?);
+    Ok([
+        Selection::Nothing,
+        range([(1, 0, TEXT), (2, 0, TEXT)]),
+        Selection::Nodes(keys),
+        Selection::Cells {
+            table: Key(1),
+            anchor: Key(1),
+            focus: Key(2),
+        },
+    ])
+}
+
+#[test]
+fn an_edit_moves_the_points_of_a_range(rt: HostRuntime) {
+    for (edit, before, after) in MOVES {
+        let mut selection = range(before);
+        make(edit, &mut selection);
+        assert!(rt;
+            selection.is_equal(&range(after)),
+            "{edit:?}: {selection:?}"
+        );
+    }
+}
+
+#[test]
+fn an_edit_leaves_other_selections(rt: HostRuntime) -> Result<(), Fail> {
+    for selection in &selections(rt.alloc())? {
+        if matches!(selection.kind(), SelectionKind::Range) {
+            continue;
+        }
+        let mut moved = selection.copy(rt.alloc())?;
+        for (edit, _, _) in MOVES {
+            make(edit, &mut moved);
+            assert!(rt; moved.is_equal(selection), "{edit:?}: {moved:?}");
+        }
+    }
+    Ok(())
+}
+
+#[test]
+fn a_copy_is_equal_to_its_source_alone(rt: HostRuntime) -> Result<(), Fail> {
+    let selections = selections(rt.alloc())?;
+    for (i, selection) in selections.iter().enumerate() {
+        let copy = selection.copy(rt.alloc())?;
+        for (j, other) in selections.iter().enumerate() {
+            assert_eq!(rt; copy.is_equal(other), i == j, "{copy:?} and {other:?}");
+        }
+    }
+    Ok(())
+}
+
+#[test]
+fn keys_are_kept_in_order(rt: HostRuntime) -> Result<(), Fail> {
+    let keys = Keys::of([Key(2), Key(1)].to_vec(rt.alloc())?);
+    assert_eq!(rt; keys.items(), [Key(2), Key(1)].as_slice());
+    assert_eq!(rt; keys.into_vec().as_slice(), [Key(2), Key(1)].as_slice());
+    Ok(())
+}
