@@ -1,4 +1,5 @@
 pub mod CodeUnits
+pub mod Cuts
 pub mod NamedTrees
 pub mod Positions
 pub mod Preorder

@@ -1,8 +1,10 @@
 -- The tests of equality tell equality.
-use Rattle.std.proofs.Common.{◌≡◌, ℕ, List, [], ◌∷◌, Bool, Option, None, Some, refl, ap}
+use Rattle.std.proofs.Common.{◌≡◌, ◌∙◌, ℕ, List, [], ◌∷◌, Bool, Option, None, Some, refl, sym, ap, encode_utf8_all}
+use Rattle.std.specs.Str.{bytes_eq, chars}
+use Rattle.std.proofs.lemmas.Slice.Eq.{bytes_eq-Decides}
 use Rattle.std.specs.Prelude.{IsTrue, ◌↔◌}
 use Rattle.std.specs.Bool.{Decides, beq}
-use Rattle.std.proofs.lemmas.Bool.Decides.{Decides-eqb, Decides-and, Decides-like, Decides-at}
+use Rattle.std.proofs.lemmas.Bool.Decides.{Decides-eqb, Decides-and, Decides-like, Decides-at, same_from_decides}
 use Rattle.std.specs.Option.{option_eq}
 use Rattle.std.specs.Cmp.{booleans_Decides}
 use Rattle.lx_node.specs.declared.fields.Mode.{Mode}
@@ -132,3 +134,10 @@ same_fields-Decides _ _ = (λ e. cc, λ e. cc)
 -- over the answer of a call
 pub fields_told : (a b : Fields) (r : Bool) → r ≡ same_fields a b → IsTrue r ↔ (a ≡ b)
 fields_told a b r e = Decides-at r _ e (same_fields-Decides a b)
+
+-- two texts have equal bytes exactly where they have equal characters
+pub same_bytes : (cs ds bs es : List ℕ) → bs ≡ encode_utf8_all cs → chars bs ≡ cs → es ≡ encode_utf8_all ds → chars es ≡ ds → bytes_eq bs es ≡ same_text cs ds
+same_bytes cs ds bs es b c e d =
+    same_from_decides _ _
+    (Decides-like _ (λ h. sym c ∙ ap chars h ∙ d) (λ h. b ∙ ap encode_utf8_all h ∙ sym e) (bytes_eq-Decides bs es))
+    (same_text-Decides cs ds)

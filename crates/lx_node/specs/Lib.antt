@@ -1,5 +1,6 @@
 pub mod Causes
 pub mod Counted
+pub mod Cuts
 pub mod Kinds
 pub mod Limits
 pub mod NamedTrees

@@ -1,9 +1,10 @@
 //! How much there is in a text. Neither number is above the number of the text's bytes, so that both fit.
 
-ghost use Rattle.std.specs.Prelude.{◌≡◌, ◌<◌, ◌^◌, ◌++◌, ◌∷◌, [], chars};
+ghost use Rattle.std.specs.Prelude.{◌≡◌, ◌<◌, ◌^◌, ◌++◌, ◌∷◌, [], List, ℕ, chars};
 ghost use Rattle.lx_node.specs.Strings.{capped};
 ghost use Rattle.lx_node.specs.Units.{units};
 ghost use Rattle.lx_node.specs.Counted.{AreCounted};
+ghost use Rattle.lx_node.specs.Cuts.{Cuts, IsCut};
 
 /// How many characters, Unicode scalar values, a text has, and how many UTF-16 code units.
 #[derive(Clone, Copy)]
@@ -13,8 +14,6 @@ pub(crate) struct Counts {
 }
 
 impl Counts {
-    ghost use Rattle.std.specs.Prelude.{List, ℕ};
-
     /// Those of the text without characters.
     pub(crate) fn none() -> Counts
         ensures { AreCounted result [] }
@@ -71,6 +70,24 @@ pub(crate) fn count(text: &str) -> Counts
         counts = counts.with(one(character));
     }
     counts
+}
+
+/// What there is in a piece of a string: so many bytes stand before it, and so many are in it.
+pub(crate) fn count_piece(text: &str, front: usize, piece: usize) -> Counts
+    requires { IsCut front piece (chars text.now) }
+    ensures { (before within behind : List ℕ) → Cuts front piece before within behind (chars text.now) → AreCounted result within }
+{
+    count(piece_of(text, front, piece))
+}
+
+/// The piece itself.
+pub(crate) fn piece_of(text: &str, front: usize, piece: usize) -> &str
+    requires { IsCut front piece (chars text.now) }
+    ensures { (before within behind : List ℕ) → Cuts front piece before within behind (chars text.now) → chars result.now ≡ within }
+{
+    let (_, rest) = text.split_at(front);
+    let (piece, _) = rest.split_at(piece);
+    piece
 }
 
 /// How many UTF-16 code units a string has. From 18,446,744,073,709,551,615 on it stands still.

@@ -1,4 +1,4 @@
-use crate::counts::{Counts, count};
+use crate::counts::{Counts, count, count_piece, piece_of};
 use crate::memory::NoMemory;
 use std::alloc::Global;
 use std::fmt::{self, Debug};
@@ -121,42 +121,29 @@ impl Txt {
         })
     }
 
-    /// This text with another one behind it. It takes memory for the bytes of both, and counts what the other one
-    /// has alone.
-    pub fn followed_by(&self, alloc: Global, more: &str) -> Result<Txt, NoMemory>
-        ensures { IfOk result (λ made. made ≡ self.now ++ chars more.now) }
+    ghost use Rattle.std.specs.Prelude.{List, ℕ, OnOk, OnErr};
+    ghost use Rattle.lx_node.specs.Cuts.{Cuts, IsCut};
+
+    /// Puts `new` in the place of a piece, in place: so many bytes stand before the piece, and so many are in it. What
+    /// stands behind it is moved, and the piece and what is new alone are counted. It takes memory where there is no room
+    /// for what is more. Where none was left the text is as it was.
+    pub fn splice(&mut self, front: usize, piece: usize, new: &str) -> Result<(), NoMemory>
+        requires { IsCut front piece self.old }
+        ensures spliced { OnOk result ((before within behind : List ℕ) → Cuts front piece before within behind self.old → self.new ≡ before ++ chars new.now ++ behind) }
+        ensures unchanged { OnErr result (self.new ≡ self.old) }
     {
-        let mut text = String::with_capacity(alloc, self.as_str().len() + more.len())?;
-        text.push_str(self.as_str())?;
-        text.push_str(more)?;
-        Ok(Txt {
-            text,
-            counts: self.counts.with(count(more)),
-        })
+        let gone = count_piece(self.text.as_str(), front, piece);
+        self.text.replace_range(front..front + piece, new)?;
+        self.counts = self.counts.spliced(gone, count(new));
+        Ok(())
     }
 
-    /// This text with `new` in the place of a piece: `front`, `piece` and `rest`, one behind another, are the text. It
-    /// takes memory for the bytes of the new text, which it copies, and counts the piece and what is new alone.
-    pub fn spliced(
-        &self,
-        alloc: Global,
-        front: &str,
-        piece: &str,
-        rest: &str,
-        new: &str,
-    ) -> Result<Txt, NoMemory>
-        requires { self.now ≡ chars front.now ++ chars piece.now ++ chars rest.now }
-        ensures { IfOk result (λ made. made ≡ chars front.now ++ chars new.now ++ chars rest.now) }
+    /// Whether a piece is this text: so many bytes stand before the piece, and so many are in it.
+    pub fn has_piece(&self, front: usize, piece: usize, text: &str) -> bool
+        requires { IsCut front piece self.now }
+        ensures { (before within behind : List ℕ) → Cuts front piece before within behind self.now → result ≡ same_text within (chars text.now) }
     {
-        let kept = self.as_str().len().saturating_sub(piece.len());
-        let mut text = String::with_capacity(alloc, kept.saturating_add(new.len()))?;
-        text.push_str(front)?;
-        text.push_str(new)?;
-        text.push_str(rest)?;
-        Ok(Txt {
-            text,
-            counts: self.counts.spliced(count(piece), count(new)),
-        })
+        piece_of(self.as_str(), front, piece) == text
     }
 
     ghost use Rattle.lx_node.specs.OfKind.{is_tab_text};
