@@ -1,9 +1,10 @@
--- A text with something new at its end.
-use Rattle.std.proofs.Common.{◌≡◌, ◌∙◌, ℕ, ◌^◌, ◌<◌, ◌≤◌, min, Bool, true, false, eqb, List, ◌++◌, length, None, refl, sym, ap, arith, append-nil}
+-- The end of a text, where nothing is looked for.
+use Rattle.std.proofs.Common.{◌≡◌, ◌∙◌, ℕ, ◌^◌, ◌<◌, ◌≤◌, min, Bool, true, false, eqb, List, [], ◌-◌, ◌++◌, length, None, refl, sym, ap, arith, append-nil, encode_utf8_all}
 use Rattle.std.proofs.lemmas.Bool.Decides.{nat_tests, eqb_tells}
 use Rattle.lx_node.specs.Strings.{capped}
-use Rattle.lx_text.specs.Texts.{text_length, rest_of, is_offset, length_told, spliced_text, slice_fault}
-use Rattle.lx_text.proofs.Places.{rest-end, plain-offset}
+use Rattle.lx_node.specs.Cuts.{Cuts}
+use Rattle.lx_text.specs.Texts.{text_length, front_of, rest_of, is_offset, length_told, slice_of, spliced_text, slice_fault}
+use Rattle.lx_text.proofs.Places.{front-none, rest-end, plain-offset}
 use Rattle.lx_text.proofs.Told.{front-end, offset_end, offset_within, told-all}
 
 -- an offset that is the number of code units, as far as a machine counts them, is the text's length
@@ -21,6 +22,26 @@ unfolding spliced_text
 spliced-end at new text e =
     ap (λ cs. (cs ++ new) ++ rest_of at text) (front-end at text (omega (arith, e)))
     ∙ ap (λ cs. (text ++ new) ++ cs) (rest-end at text (omega (arith, e))) ∙ append-nil (text ++ new)
+
+none_behind : (text rest : List ℕ) → rest ≡ [] → text ++ [] ++ rest ≡ text
+none_behind text rest e = ap (λ cs. (text ++ []) ++ cs) e ∙ append-nil (text ++ []) ∙ append-nil text
+
+-- nothing stands behind the end
+pub cut-end : (at bytes : ℕ) (text : List ℕ) → at ≡ text_length text → bytes ≡ length (encode_utf8_all text)
+    → Cuts bytes 0 (front_of at text) (slice_of at at text) (rest_of at text) text
+unfolding slice_of
+cut-end at bytes text e n =
+    let front : front_of at text ≡ text = front-end at text (omega (arith, e)) in
+    let rest : rest_of at text ≡ [] = rest-end at text (omega (arith, e)) in
+    let piece : front_of (at - at) (rest_of at text) ≡ [] = ap (front_of (at - at)) rest ∙ front-none (at - at) in
+    record {
+      whole =
+          sym
+          (ap (λ cs. cs ++ front_of (at - at) (rest_of at text) ++ rest_of at text) front ∙ ap (λ cs. text ++ cs ++ rest_of at text) piece
+          ∙ none_behind text (rest_of at text) rest);
+      front_is = ap (λ cs. length (encode_utf8_all cs)) front ∙ sym n;
+      piece_is = ap (λ cs. length (encode_utf8_all cs)) piece;
+    }
 
 pub no_fault_at_end : (at : ℕ) (text : List ℕ) → at ≡ text_length text → slice_fault text at at ≡ None
 no_fault_at_end at text e =

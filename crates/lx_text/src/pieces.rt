@@ -1,10 +1,10 @@
-ghost use Rattle.std.specs.Prelude.{◌≡◌, None, Some, IfOk, IfErr, chars, min};
+ghost use Rattle.std.specs.Prelude.{◌≡◌, None, IfOk, IfErr, chars, min};
 ghost use Rattle.lx_node.specs.declared.cause.Cause.TheVariants.{BadPlace};
 ghost use Rattle.lx_node.specs.declared.cause.Fault.TheVariants as fault;
 ghost use Rattle.lx_node.specs.Strings.{capped};
-ghost use Rattle.lx_text.specs.Texts.{text_length, length_told, slice_of, spliced_text, slice_fault, TellsFirst};
+ghost use Rattle.lx_text.specs.Texts.{text_length, length_told, slice_of, slice_fault, TellsFirst};
 
-use crate::offsets::{pieces, pieces_of, within};
+use crate::offsets::{pieces, within};
 use lx_node::{Cause, Fault, Txt};
 use std::alloc::Global;
 
@@ -52,33 +52,6 @@ pub fn slice(alloc: Global, text: &str, from: u32, to: u32) -> Result<Txt, Fault
 {
     match pieces(text, from, to) {
         Ok((_, piece, _)) => Ok(Txt::new(alloc, piece)?),
-        Err(offset) => Err(bad_place(offset)),
-    }
-}
-
-/// The text with `new` in the place of the piece between two offsets. They count as those of `slice`, and it is refused
-/// as `slice` is. `Memory` says that none was left for the text. At the end of the text, where typing and joins put what
-/// is new, and in a text of ASCII, nothing is looked for; anywhere the piece and what is new alone are counted.
-pub fn splice(alloc: Global, text: &Txt, from: u32, to: u32, new: &str) -> Result<Txt, Fault>
-    ensures changed { IfOk result (λ whole. whole ≡ spliced_text from to (chars new.now) text.now) }
-    ensures allowed { IfOk result (λ _. slice_fault text.now from to ≡ None) }
-    ensures refused { IfErr result (TellsFirst (slice_fault text.now from to)) }
-{
-    if from == to && u64::from(from) == text.units() {
-        return Ok(text.followed_by(alloc, new)?);
-    }
-    splice_within(alloc, text, from, to, new)
-}
-
-/// The same, wherever the two offsets are.
-#[tactic(auto, unfolding(crate::specs::Texts::spliced_text))]
-fn splice_within(alloc: Global, text: &Txt, from: u32, to: u32, new: &str) -> Result<Txt, Fault>
-    ensures changed { IfOk result (λ whole. whole ≡ spliced_text from to (chars new.now) text.now) }
-    ensures allowed { IfOk result (λ _. slice_fault text.now from to ≡ None) }
-    ensures refused { IfErr result (TellsFirst (slice_fault text.now from to)) }
-{
-    match pieces_of(text, from, to) {
-        Ok((before, piece, behind)) => Ok(text.spliced(alloc, before, piece, behind, new)?),
         Err(offset) => Err(bad_place(offset)),
     }
 }
