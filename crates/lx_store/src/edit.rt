@@ -1,4 +1,6 @@
-ghost use Rattle.std.specs.Prelude.{◌≡◌};
+ghost use Rattle.std.specs.Prelude.{◌≡◌, OnOk, OnErr};
+
+use lx_node::NoMemory;
 
 /// An edit of an item, made where the item stands.
 pub trait Edit<V>: Sized + Drop {
@@ -8,8 +10,9 @@ pub trait Edit<V>: Sized + Drop {
     /// The item after the edit.
     ghost edited: { Self → V → V };
 
-    /// Makes the edit.
-    fn edit(self, item: &mut V)
+    /// Makes the edit. Where memory was wanting the item is as it was.
+    fn edit(self, item: &mut V) -> Result<(), NoMemory>
         requires { fits self item.old }
-        ensures { item.new ≡ edited self item.old };
+        ensures edited { OnOk result (item.new ≡ edited self item.old) }
+        ensures unchanged { OnErr result (item.new ≡ item.old) };
 }

@@ -169,11 +169,11 @@ fn change<V: Item, E: Edit<V>>(
         Some(own) => edit.edit(own),
         None => {
             let mut twin = shared.twin(alloc, count)?;
-            edit.edit(&mut twin);
+            edit.edit(&mut twin)?;
             *shared = Rc::new(alloc, twin)?;
+            Ok(())
         }
     }
-    Ok(())
 }
 
 // The item, or its twin where others hold it too. Where memory was wanting, it is handed back.
