@@ -112,15 +112,22 @@ set_at : (n old new : Sums) (f : Forest) (k : ℕ) (fields : Fields) (s : Spot L
     → old ≡ own_sums s.label.kind s.label.fields → new ≡ own_sums s.label.kind fields → plus n new ≡ plus (sums_of (with_fields k fields f)) old
 set_at n old new f k fields s h e c o w = rw (c, o, w) (same_sums _ _ (set_weight counted_in f k fields s h e) (set_weight items_in f k fields s h e))
 
+-- at a node that the forest tells
+pub node_counts : (n old new : Sums) (f : Forest) (k : ℕ) (fields : Fields) (node : Node)
+    → IsForest f → n ≡ sums_of f → Some node ≡ option_map node_of (record_at f k)
+    → old ≡ own_sums node.kind node.fields → new ≡ own_sums node.kind fields → plus n new ≡ plus (sums_of (with_fields k fields f)) old
+node_counts n old new f k fields node h e told before after =
+    let there = spot_seen f k node told in
+    set_at n old new f k fields there.0 h there.1.0 e
+    (before ∙ ap (λ kind. own_sums kind node.fields) there.1.1.0 ∙ ap (own_sums there.0.label.kind) there.1.1.1)
+    (after ∙ ap (λ kind. own_sums kind fields) there.1.1.0)
+
 -- over the answer of the look-up, at a node of links that stand for a forest
 pub set_counts : (n old new : Sums) (held : Option Nodes) (s : Standing held) (m : Nodes) (f : Forest) (k : ℕ) (fields : Fields) (o : Option (Bor Node)) (node : Bor Node)
     → forest_in held s ≡ f → Holds m f → AreCounted n (forest_in held s) → option_copied o ≡ option_map node_of (record_at f k) → o ≡ Some node
     → old ≡ own_sums node.now.kind node.now.fields → new ≡ own_sums node.now.kind fields → plus n new ≡ plus (sums_of (with_fields k fields f)) old
 set_counts n old new held s m f k fields o node e h i seen at before after =
-    let there = spot_seen f k node.now (sym (ap option_copied at) ∙ seen) in
-    set_at n old new f k fields there.0 h.stands.in_order there.1.0 (counted_by n held s m f e h i)
-    (before ∙ ap (λ kind. own_sums kind node.now.fields) there.1.1.0 ∙ ap (own_sums there.0.label.kind) there.1.1.1)
-    (after ∙ ap (λ kind. own_sums kind fields) there.1.1.0)
+    node_counts n old new f k fields node.now h.stands.in_order (counted_by n held s m f e h i) (sym (ap option_copied at) ∙ seen) before after
 
 pub take_counts : (n : Sums) (k : ℕ) (f : Forest) → n ≡ sums_of f → n ≡ sums_of (take_out k f)
 take_counts n k f e = e ∙ same_sums _ _ (sym (weight-take_out counted_in k f)) (sym (weight-take_out items_in k f))

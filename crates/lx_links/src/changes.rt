@@ -38,7 +38,7 @@ impl Edit<Node> for Change {
 
     ghost edited = { λ change node. node_after change true node };
 
-    fn edit(self, node: &mut Node) {
+    fn edit(self, node: &mut Node) -> Result<(), NoMemory> {
         match self {
             Change::Content(fields) => node.fields = fields,
             Change::Next(next) => node.next = next,
@@ -71,6 +71,7 @@ impl Edit<Node> for Change {
                 node.size += 1;
             }
         }
+        Ok(())
     }
 }
 

@@ -4,6 +4,7 @@ use crate::changes::{Change, change_node, put_node};
 use crate::joints::{Gap, link_in, unlink};
 use crate::links::Links;
 use crate::nodes::{bad_place, lone_node, unknown};
+use crate::splices::{TextSplice, node_sums, splice_node};
 use crate::sums::Sums;
 use lx_node::{Cause, Fault, Fields, Key, Kind, NoMemory};
 
@@ -17,6 +18,11 @@ impl Links {
     ghost use Rattle.lx_forest.specs.Lookups as lookups;
     ghost use Rattle.lx_forest.specs.Edits.{with_new, with_fields, take_out, put_in};
     ghost use Rattle.lx_links.specs.Faults.{RefusesEdit, set_fault, detach_fault, place_fault};
+    ghost use Rattle.std.specs.Prelude.{◌++◌, ℕ, List, Some, chars};
+    ghost use Rattle.lx_node.specs.Cuts.{Cuts};
+    ghost use Rattle.lx_node.specs.declared.fields.Fields.TheVariants as fields;
+    ghost use Rattle.lx_node.specs.declared.fields.TextFields.{TextFields};
+    ghost use Rattle.lx_links.specs.Splices.{MaySplice};
 
     /// Adds a node without children that stands below nothing.
     pub fn insert_new(&mut self, key: Key, kind: Kind, fields: Fields) -> Result<(), NoMemory>
@@ -60,6 +66,36 @@ impl Links {
         change_node(&mut store, Some(key), Change::Content(fields))?;
         self.held = Some(store);
         self.sums = self.sums.plus(new).less(old);
+        Ok(())
+    }
+
+    /// Puts `new` in the place of a piece of a text where that stands: so many bytes are before the piece, and so many are
+    /// in it. Where no other links hold the node, its text isn't copied.
+    pub fn splice(
+        &mut self,
+        key: Key,
+        front: usize,
+        piece: usize,
+        new: &str,
+    ) -> Result<(), NoMemory>
+        requires { MaySplice key front piece self.old }
+        ensures spliced { OnOk result ((text : TextFields) (before within behind : List ℕ) → lookups.fields_of self.old key ≡ Some (fields.Text text) → Cuts front piece before within behind text.text → self.new ≡ with_fields key (fields.Text (record text { text = before ++ chars new.now ++ behind })) self.old) }
+        ensures living { OnOk result (self.old ≢ nil) }
+        ensures failed { OnErr result (self.new ≡ nil) }
+    {
+        let Some(mut store) = self.held.take() else {
+            return Err(NoMemory);
+        };
+        let old = node_sums(&store, key);
+        let splice = TextSplice {
+            front,
+            piece,
+            text: new,
+        };
+        splice_node(&mut store, key, splice)?;
+        let more = node_sums(&store, key);
+        self.held = Some(store);
+        self.sums = self.sums.plus(more).less(old);
         Ok(())
     }
 

@@ -13,6 +13,7 @@ mod order;
 mod preorder;
 mod reads;
 mod records;
+mod splices;
 mod sums;
 mod sweep;
 mod views;
