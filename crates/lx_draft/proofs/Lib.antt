@@ -16,4 +16,6 @@ pub mod Touched
 pub mod Drafted
 pub mod Depths
 pub mod Raised
+pub mod Respelled
 pub mod Elements
+pub mod Same

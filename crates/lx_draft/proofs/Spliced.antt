@@ -1,12 +1,6 @@
--- A text in which a piece is replaced: why that is refused, and that it still has fields of its kind.
-use Rattle.std.proofs.Common.{◌≡◌, ℕ, true, cond, List, Option, None, Some, refl, ◌∙◌, arith}
+-- A text in which a piece is replaced: why that is refused.
+use Rattle.std.proofs.Common.{◌≡◌, ℕ, cond, Option, None, Some, refl, ◌∙◌, arith}
 use Rattle.std.specs.Prelude.{option_map, is_some}
-use Rattle.lx_node.specs.OfKind.{IsOfKind, is_of_kind, fits_kind, is_text_of, are_text_fields}
-use Rattle.lx_node.specs.Kinds.{is_possible}
-use Rattle.lx_node.specs.declared.kind.Kind.{Kind}
-use Rattle.lx_node.specs.declared.kind.Kind.TheVariants as kind
-use Rattle.lx_node.specs.declared.fields.Fields.{Fields}
-use Rattle.lx_node.specs.declared.fields.Fields.TheVariants as fields
 use Rattle.lx_node.specs.declared.fields.TextFields.{TextFields}
 use Rattle.lx_node.specs.declared.cause.Cause.TheVariants.{UnknownNode, WrongKind}
 use Rattle.lx_node.specs.declared.cause.Named.TheVariants.{Key}
@@ -20,9 +14,8 @@ use Rattle.lx_node.specs.Spots.{Spot}
 use Rattle.lx_forest.specs.Records.{record_at}
 use Rattle.lx_links.specs.Stands.{node_of}
 use Rattle.lx_forest.proofs.Edits.{is_some-spot}
-use Rattle.lx_links.specs.Faults.{unknown, set_fault}
+use Rattle.lx_links.specs.Faults.{unknown}
 use Rattle.lx_draft.specs.Faults.{text_fields, text_in, splice_fault, TellsFault}
-use Rattle.lx_draft.specs.Steps.{text_replaced}
 
 -- ---- by the node
 
@@ -58,19 +51,6 @@ fault_by f k (Some l) t from to e here = rw (known_with_label f k l e, e, here) 
 -- of a text only the piece can be refused
 pub fault_of_text : (f : Forest) (k : ℕ) (t : TextFields) (from to : ℕ) → text_in (label_of f k) ≡ Some t → splice_fault k from to f ≡ slice_fault t.text from to
 fault_of_text f k t from to here = fault_by f k (label_of f k) t from to refl here
-
--- fields that are a text's are of its kind with any other text too
-suited_text : (k : Kind) (x : Fields) (t : TextFields) (text : List ℕ) → text_fields k x ≡ Some t → IsOfKind kind.Text (fields.Text t) → is_of_kind k (text_replaced t text) ≡ true
-unfolding is_of_kind fits_kind is_text_of are_text_fields is_possible
-suited_text kind.Text (fields.Text u) t text here h = grind (arith, here, h)
-suited_text k x t text here h = absurd (grind (arith, here))
-
-set_by : (f : Forest) (k : ℕ) (o : Option Label) (t : TextFields) (text : List ℕ) → label_of f k ≡ o → text_in o ≡ Some t → IsOfKind kind.Text (fields.Text t) → set_fault k (text_replaced t text) f ≡ None
-set_by f k None t text e here h = absurd (grind (arith, here))
-set_by f k (Some l) t text e here h = rw (known_with_label f k l e, e, suited_text l.kind l.fields t text here h) refl
-
-pub set_of_text : (f : Forest) (k : ℕ) (t : TextFields) (text : List ℕ) → text_in (label_of f k) ≡ Some t → IsOfKind kind.Text (fields.Text t) → set_fault k (text_replaced t text) f ≡ None
-set_of_text f k t text here h = set_by f k (label_of f k) t text refl here h
 
 -- what an error of the text's own call tells
 pub piece_refused : (f : Forest) (k : ℕ) (t : TextFields) (from to : ℕ) (fault : Fault) → text_in (label_of f k) ≡ Some t → TellsFirst (slice_fault t.text from to) fault → TellsFault fault (splice_fault k from to f)

@@ -11,4 +11,5 @@ pub mod Rounds
 pub mod Covering
 pub mod Laws
 pub mod Raised
+pub mod Respelling
 pub mod Drafted

@@ -116,19 +116,18 @@ impl Draft {
         ensures living { OnOk result (self.old.forest ≢ nil) }
     {
         self.living()?;
-        let fields = match self.spliced(key, from, to, new) {
-            Ok(fields) => fields,
-            Err(Fault::Cause(cause)) => return Err(Fault::Cause(cause)),
-            Err(Fault::Memory) => return Err(self.fail()),
+        let piece = match self.piece_at(key, from, to) {
+            Ok(piece) => piece,
+            Err(cause) => return Err(Fault::Cause(cause)),
         };
         match self.admit(characters(new)) {
             Ok(more) => {
-                self.refield(key, fields, more)?;
+                self.respell(key, piece, new, more)?;
                 self.selection
                     .after_splice(key, from, to, lx_text::length(new));
                 Ok(())
             }
-            Err(cause) => Err(let_go(fields, Fault::Cause(cause))),
+            Err(cause) => Err(Fault::Cause(cause)),
         }
     }
 

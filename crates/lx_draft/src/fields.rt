@@ -123,7 +123,9 @@ impl Draft {
         }
     }
 
-    /// Writes fields that take so many scalar values, and marks the node if they differ.
+    /// Writes fields that take so many scalar values, and marks the node if they differ. Where they don't, the node stays
+    /// as it is, and is shared with those who share it.
+    #[tactic(auto, using(crate::proofs::Same::written_again))]
     pub(crate) fn refield(&mut self, key: Key, fields: Fields, more: u32) -> Result<(), NoMemory>
         requires order { IsForest self.old.forest }
         requires fault { set_fault key fields self.old.forest ≡ None }
@@ -133,9 +135,10 @@ impl Draft {
         ensures failed { OnErr result (self.new.forest ≡ nil) }
     {
         self.note_edit(more);
-        if self.differ(key, &fields) {
-            self.mark_key(key)?;
+        if !self.differ(key, &fields) {
+            return Ok(());
         }
+        self.mark_key(key)?;
         self.set_fields(key, fields)
     }
 

@@ -1,0 +1,15 @@
+-- A piece of a node's text, and where it stands.
+use Rattle.std.specs.Prelude.{ℕ, ◌≡◌, Some}
+use Rattle.lx_node.specs.Cuts.{Cuts}
+use Rattle.lx_node.specs.declared.fields.TextFields.{TextFields}
+use Rattle.lx_text.specs.Texts.{front_of, rest_of, slice_of}
+use Rattle.lx_forest.specs.Forest.{Forest}
+use Rattle.lx_forest.specs.Lookups.{label_of}
+use Rattle.lx_draft.specs.Faults.{text_in}
+use Rattle.lx_draft.specs.declared.texts.Piece.{Piece}
+
+-- the node is a text, and no tab, and between the two offsets its bytes are cut
+pub record IsPlaced (key : ℕ) (piece : Piece) (f : Forest) : Type 0 where
+  pub text : TextFields
+  pub text_is : text_in (label_of f key) ≡ Some text
+  pub cut : Cuts piece.front piece.bytes (front_of piece.from text.text) (slice_of piece.from piece.to text.text) (rest_of piece.to text.text) text.text
