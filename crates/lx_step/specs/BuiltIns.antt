@@ -3,9 +3,11 @@ use Rattle.std.specs.Prelude.{ℕ, List, [], ◌∷◌, chars, codes, if◌then�
 use Rattle.std.specs.Option.{option_or}
 use Rattle.lx_node.specs.Same.{same_text}
 use Rattle.lx_step.specs.declared.built_in.BuiltIn.{BuiltIn}
-use Rattle.lx_step.specs.declared.built_in.BuiltIn.TheVariants.{Turn as turn, Caret as caret}
+use Rattle.lx_step.specs.declared.built_in.BuiltIn.TheVariants.{Turn as turn, Caret as caret, List as list}
 use Rattle.lx_step.specs.declared.built_in.CaretCommand.{CaretCommand}
 use Rattle.lx_step.specs.declared.built_in.CaretCommand.TheVariants.{InsertText, RemoveText, InsertParagraph, InsertLineBreak, InsertTab, DeleteCharacter, DeleteWord, FormatText, SelectAll}
+use Rattle.lx_step.specs.declared.built_in.ListCommand.{ListCommand}
+use Rattle.lx_step.specs.declared.built_in.ListCommand.TheVariants.{MakeList, RemoveList, Indent, Outdent, ToggleChecked}
 use Rattle.lx_step.specs.declared.built_in.Turn.{Turn}
 use Rattle.lx_step.specs.declared.built_in.Turn.TheVariants.{Undo, Redo}
 
@@ -14,7 +16,7 @@ abbrev pub row_of : {A : Type 0} → List (List ℕ × A) → List ℕ → Optio
 row_of [] name = None
 row_of (row ∷ rows) name = if same_text row.0 name then Some row.1 else row_of rows name
 
--- the commands of the history, and those of the caret
+-- the commands of the history, those of the caret, and those of lists
 abbrev pub turns : List (List ℕ × Turn)
 turns = (chars (codes "undo"), Undo) ∷ (chars (codes "redo"), Redo) ∷ []
 
@@ -31,6 +33,17 @@ caret_commands =
     ∷ (chars (codes "select-all"), SelectAll)
     ∷ []
 
+abbrev pub list_commands : List (List ℕ × ListCommand)
+list_commands =
+    (chars (codes "make-list"), MakeList)
+    ∷ (chars (codes "remove-list"), RemoveList)
+    ∷ (chars (codes "indent"), Indent)
+    ∷ (chars (codes "outdent"), Outdent)
+    ∷ (chars (codes "toggle-checked"), ToggleChecked)
+    ∷ []
+
 -- the command of a name
 abbrev pub built_in : List ℕ → Option BuiltIn
-built_in name = option_or (option_map turn (row_of turns name)) (option_map caret (row_of caret_commands name))
+built_in name =
+    option_or (option_map turn (row_of turns name))
+    (option_or (option_map caret (row_of caret_commands name)) (option_map list (row_of list_commands name)))

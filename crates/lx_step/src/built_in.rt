@@ -26,13 +26,25 @@ pub enum CaretCommand {
     SelectAll,
 }
 
+/// A command of lists, which goes by the selection.
+#[derive(Clone, Copy, Debug, PartialEq, Eq, Hash)]
+pub enum ListCommand {
+    MakeList,
+    RemoveList,
+    Indent,
+    Outdent,
+    ToggleChecked,
+}
+
 /// A command that is built in: it is done without a listener. Its name is that of a row of the table of built-in commands.
 #[derive(Clone, Copy, Debug)]
 pub enum BuiltIn {
     /// `undo` or `redo`: the history goes to another state.
     Turn(Turn),
-    /// Any other name of the table: the draft is edited at its selection.
+    /// A name of a caret command: the draft is edited at its selection.
     Caret(CaretCommand),
+    /// A name of a command of lists: the lines that are selected are edited.
+    List(ListCommand),
 }
 
 impl BuiltIn {
@@ -45,8 +57,11 @@ impl BuiltIn {
         if let Some(turn) = Turn::named(name) {
             return Some(BuiltIn::Turn(turn));
         }
-        match CaretCommand::named(name) {
-            Some(command) => Some(BuiltIn::Caret(command)),
+        if let Some(command) = CaretCommand::named(name) {
+            return Some(BuiltIn::Caret(command));
+        }
+        match ListCommand::named(name) {
+            Some(command) => Some(BuiltIn::List(command)),
             None => None,
         }
     }
@@ -100,6 +115,31 @@ impl CaretCommand {
         }
         if is_word("select-all", name) {
             return Some(CaretCommand::SelectAll);
+        }
+        None
+    }
+}
+
+impl ListCommand {
+    ghost use Rattle.lx_step.specs.BuiltIns.{row_of, list_commands};
+
+    fn named(name: &str) -> Option<ListCommand>
+        ensures { result ≡ row_of list_commands (chars name.now) }
+    {
+        if is_word("make-list", name) {
+            return Some(ListCommand::MakeList);
+        }
+        if is_word("remove-list", name) {
+            return Some(ListCommand::RemoveList);
+        }
+        if is_word("indent", name) {
+            return Some(ListCommand::Indent);
+        }
+        if is_word("outdent", name) {
+            return Some(ListCommand::Outdent);
+        }
+        if is_word("toggle-checked", name) {
+            return Some(ListCommand::ToggleChecked);
         }
         None
     }
