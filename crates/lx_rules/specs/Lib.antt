@@ -1,3 +1,4 @@
+pub mod BuiltIn
 pub mod AnyRules
 pub mod Answers
 pub mod Idle

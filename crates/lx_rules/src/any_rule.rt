@@ -1,5 +1,6 @@
 ghost use Rattle.lx_rules.specs.AnyRules.{any_rows, any_acts};
 
+use crate::built_in::ListMerge;
 use crate::transform::{KindSet, Transform};
 use lx_node::{NoMemory, View};
 use lx_step::{Rule, SelfEdit};
@@ -8,6 +9,8 @@ use std::alloc::Global;
 /// Any rule that an editor has.
 #[derive(Debug, Drop)]
 pub enum AnyRule {
+    /// A list takes in the list behind it.
+    Merge(ListMerge),
     /// One that a script registered.
     Script(Rule),
 }
@@ -19,12 +22,14 @@ impl Transform for AnyRule {
 
     fn on(&self) -> KindSet {
         match self {
+            AnyRule::Merge(rule) => Transform::on(rule),
             AnyRule::Script(rule) => Transform::on(rule),
         }
     }
 
     fn acts(&self, alloc: Global, view: &View) -> Result<Vec<SelfEdit>, NoMemory> {
         match self {
+            AnyRule::Merge(rule) => rule.acts(alloc, view),
             AnyRule::Script(rule) => rule.acts(alloc, view),
         }
     }

@@ -3,6 +3,7 @@
 #![tactic(auto)]
 
 mod any_rule;
+mod built_in;
 mod conditions;
 mod idling;
 mod same_parts;
@@ -12,5 +13,6 @@ mod transform;
 mod types;
 
 pub use any_rule::AnyRule;
+pub use built_in::ListMerge;
 pub use idling::idle;
 pub use transform::{KindSet, Transform};

@@ -1,0 +1,32 @@
+//! Rules that every editor has.
+
+ghost use Rattle.lx_rules.specs.BuiltIn.{list_rows, list_merge};
+
+use crate::transform::{KindSet, Transform};
+use crate::types::is_kind;
+use lx_node::{Kind, ListType, NoMemory, View};
+use lx_step::{SelfEdit, TypeRow};
+use std::alloc::Global;
+
+/// A list takes in the list behind it, where both are of one type.
+#[derive(Clone, Copy, Debug)]
+pub struct ListMerge;
+
+impl Transform for ListMerge {
+    ghost rows = { list_rows };
+
+    ghost answers = { list_merge };
+
+    fn on(&self) -> KindSet {
+        KindSet::of_row(TypeRow::of(Kind::List(ListType::Bullet)))
+    }
+
+    #[tactic(auto, unfolding(crate::specs::BuiltIn::list_merge))]
+    fn acts(&self, alloc: Global, view: &View) -> Result<Vec<SelfEdit>, NoMemory> {
+        let mut edits = Vec::new(alloc);
+        if is_kind(view.next, view.kind) {
+            edits.push(SelfEdit::MergeNext)?;
+        }
+        Ok(edits)
+    }
+}
