@@ -1,0 +1,13 @@
+pub mod Above
+pub mod Alike
+pub mod Covered
+pub mod Itemless
+pub mod Kept
+pub mod Made
+pub mod Numbered
+pub mod Numbers
+pub mod Paths
+pub mod Renumbered
+pub mod Small
+pub mod Swept
+pub mod Within

@@ -1,0 +1,96 @@
+//! Items are checked.
+
+ghost use Rattle.std.specs.Prelude.{◌≡◌, Ok, OnOk, IfErr};
+ghost use Rattle.lx_node.specs.Kinds as kinds;
+ghost use Rattle.lx_forest.specs.Lookups as lookups;
+ghost use Rattle.lx_draft.specs.Selecting.{unlike};
+ghost use Rattle.lx_draft.specs.Faults.{TellsStep};
+ghost use Rattle.lx_edit.specs.Standing.{StillStands};
+ghost use Rattle.lx_list.specs.Checking as checking;
+ghost use Rattle.lx_list.specs.Checking.{set_checked_step, toggle_checked_step};
+
+use crate::changing::check_item;
+use lx_draft::Draft;
+use lx_edit::admitted;
+use lx_links::Links;
+use lx_node::{Cause, Extra, Fault, Fields, Key, SelectionKind};
+use lx_range::{block, is_item_at, no_range, range_of};
+use std::alloc::Global;
+
+/// The node isn't there, or it is no item.
+fn item_fault(links: &Links, key: Key) -> Option<Cause>
+    ensures { result ≡ checking.item_fault links.now key }
+{
+    match links.missing(key) {
+        Some(cause) => Some(cause),
+        None => no_item(links, key),
+    }
+}
+
+/// The node is of another kind.
+fn no_item(links: &Links, key: Key) -> Option<Cause>
+    ensures { result ≡ unlike kinds.is_item (lookups.kind_of links.now key) }
+{
+    let kind = links.kind(key)?;
+    if is_item_at(links, key) {
+        None
+    } else {
+        Some(Cause::WrongKind(kind))
+    }
+}
+
+/// Gives an item a check mark, set or not. It is refused where there is no such node and where it is no item, as
+/// `UnknownNode` and as `WrongKind` with its kind; and as `Draft::set` is, where 100,000 counts were taken, and where what
+/// was written would come above 16,777,216 scalar values.
+#[tactic(auto, unfolding(crate::specs::Checking::set_checked_step))]
+pub fn set_checked(alloc: Global, draft: &mut Draft, item: Key, checked: bool) -> Result<(), Fault>
+    ensures ok { OnOk result (set_checked_step item checked draft.old ≡ Ok draft.new) }
+    ensures err { IfErr result (λ e. TellsStep e (set_checked_step item checked draft.old)) }
+    ensures standing { IfErr result (λ e. StillStands e draft.new) }
+{
+    let fault = item_fault(draft.links(), item);
+    admitted(draft, fault)?;
+    check_item(alloc, draft, item, Some(checked))
+}
+
+/// Whether an item's check mark is set.
+fn is_checked(links: &Links, item: Key) -> bool
+    ensures { result ≡ checking.is_checked (lookups.fields_of links.now item) }
+{
+    match links.node(item) {
+        Some(node) => match &node.fields {
+            Fields::Element(element) => {
+                matches!(
+                    &element.extra,
+                    Extra::Item {
+                        checked: Some(true),
+                        ..
+                    }
+                )
+            }
+            _ => false,
+        },
+        None => false,
+    }
+}
+
+/// Sets the check mark of the item that is the anchor's block, or clears it where it is set. A block without one gets it.
+///
+/// It is refused with `NoSelection` where the selection is no range, where a point of it doesn't lie in the root's tree,
+/// where one lies in another cell than the other, and where the anchor is in no block; and otherwise as `set_checked` is of
+/// that block.
+#[tactic(auto, unfolding(crate::specs::Checking::toggle_checked_step))]
+pub fn toggle_checked(alloc: Global, draft: &mut Draft) -> Result<(), Fault>
+    ensures ok { OnOk result (toggle_checked_step draft.old ≡ Ok draft.new) }
+    ensures err { IfErr result (λ e. TellsStep e (toggle_checked_step draft.old)) }
+    ensures standing { IfErr result (λ e. StillStands e draft.new) }
+{
+    let range = range_of(draft)?;
+    match block(draft.links(), range.anchor.key) {
+        Some(block) => {
+            let checked = !is_checked(draft.links(), block);
+            set_checked(alloc, draft, block, checked)
+        }
+        None => Err(no_range(SelectionKind::Range)),
+    }
+}

@@ -1,0 +1,131 @@
+//! Lines go one level deeper.
+
+ghost use Rattle.std.specs.Prelude.{◌≡◌, true, Ok, OnOk, IfErr};
+ghost use Rattle.lx_node.specs.Kinds as kinds;
+ghost use Rattle.lx_forest.specs.Lookups as lookups;
+ghost use Rattle.lx_draft.specs.Faults.{TellsStep};
+ghost use Rattle.lx_edit.specs.Standing.{StillStands};
+ghost use Rattle.lx_range.specs.Blocks as blocks;
+ghost use Rattle.lx_list.specs.Indenting as indenting;
+
+use crate::changing::deepen;
+use crate::making::{item_fields, like};
+use crate::nesting::nested_in;
+use crate::ready::ready;
+use lx_draft::Draft;
+use lx_edit::{move_children, move_to_end, remove};
+use lx_node::{Fault, Key, Kind};
+use lx_range::is_item_at;
+use std::alloc::Global;
+
+/// Puts a new item in the place of one, and that one into a list in it that is like its own.
+#[tactic(auto, using(crate::proofs::Made::item_suits, crate::proofs::Made::no_root))]
+fn wrap(alloc: Global, draft: &mut Draft, item: Key, list: Key) -> Result<(), Fault>
+    requires { blocks.is_at kinds.is_list draft.old.forest list ≡ true }
+    ensures ok { OnOk result (indenting.wrapped_like item (lookups.label_of draft.old.forest list) draft.old ≡ Ok draft.new) }
+    ensures err { IfErr result (λ e. TellsStep e (indenting.wrapped_like item (lookups.label_of draft.old.forest list) draft.old)) }
+    ensures standing { IfErr result (λ e. StillStands e draft.new) }
+{
+    let (kind, fields) = like(alloc, draft.links(), list)?;
+    let outer = draft.new_node(Kind::Item, item_fields(alloc, None))?;
+    let inner = draft.new_node(kind, fields)?;
+    draft.put_before(outer, item)?;
+    draft.put(inner, outer, 0)?;
+    move_to_end(draft, inner, item)
+}
+
+/// The same, where the item is in a list.
+#[tactic(auto, using(crate::proofs::Above::list_above))]
+fn wrap_in(alloc: Global, draft: &mut Draft, item: Key) -> Result<(), Fault>
+    requires { blocks.is_at kinds.is_item draft.old.forest item ≡ true }
+    ensures ok { OnOk result (indenting.wrapped_in item (lookups.parent_of draft.old.forest item) draft.old ≡ Ok draft.new) }
+    ensures err { IfErr result (λ e. TellsStep e (indenting.wrapped_in item (lookups.parent_of draft.old.forest item) draft.old)) }
+    ensures standing { IfErr result (λ e. StillStands e draft.new) }
+{
+    match draft.links().parent(item) {
+        Some(list) => wrap(alloc, draft, item, list),
+        None => Ok(()),
+    }
+}
+
+/// Moves the items of a further list behind those of a list, and removes what holds the further one.
+fn take_from(alloc: Global, draft: &mut Draft, list: Key, further: Key) -> Result<(), Fault>
+    ensures ok { OnOk result (indenting.taken_from list further (lookups.parent_of draft.old.forest further) draft.old ≡ Ok draft.new) }
+    ensures err { IfErr result (λ e. TellsStep e (indenting.taken_from list further (lookups.parent_of draft.old.forest further) draft.old)) }
+    ensures standing { IfErr result (λ e. StillStands e draft.new) }
+{
+    match draft.links().parent(further) {
+        Some(holder) => {
+            move_children(alloc, draft, further, list)?;
+            remove(draft, holder)
+        }
+        None => Ok(()),
+    }
+}
+
+/// Moves an item to the end of a list, and the items of a further list behind it.
+#[tactic(auto, unfolding(crate::specs::Indenting::moved_between))]
+fn move_between(
+    alloc: Global,
+    draft: &mut Draft,
+    list: Key,
+    further: Key,
+    item: Key,
+) -> Result<(), Fault>
+    ensures ok { OnOk result (indenting.moved_between list further item draft.old ≡ Ok draft.new) }
+    ensures err { IfErr result (λ e. TellsStep e (indenting.moved_between list further item draft.old)) }
+    ensures standing { IfErr result (λ e. StillStands e draft.new) }
+{
+    move_to_end(draft, list, item)?;
+    take_from(alloc, draft, list, further)
+}
+
+/// Moves an item to the front of a list.
+#[tactic(auto, unfolding(crate::specs::Indenting::moved_to_front))]
+fn move_to_front(draft: &mut Draft, list: Key, item: Key) -> Result<(), Fault>
+    ensures ok { OnOk result (indenting.moved_to_front list item draft.old ≡ Ok draft.new) }
+    ensures err { IfErr result (λ e. TellsStep e (indenting.moved_to_front list item draft.old)) }
+    ensures standing { IfErr result (λ e. StillStands e draft.new) }
+{
+    draft.take(item)?;
+    draft.put(item, list, 0)
+}
+
+/// Moves an item into the lists that are nested before it and behind it, or else into a new one.
+fn nest(
+    alloc: Global,
+    draft: &mut Draft,
+    before: Option<Key>,
+    behind: Option<Key>,
+    item: Key,
+) -> Result<(), Fault>
+    requires { blocks.is_at kinds.is_item draft.old.forest item ≡ true }
+    ensures ok { OnOk result (indenting.nested_by before behind item draft.old ≡ Ok draft.new) }
+    ensures err { IfErr result (λ e. TellsStep e (indenting.nested_by before behind item draft.old)) }
+    ensures standing { IfErr result (λ e. StillStands e draft.new) }
+{
+    match (before, behind) {
+        (Some(list), Some(further)) => move_between(alloc, draft, list, further, item),
+        (Some(list), None) => move_to_end(draft, list, item),
+        (None, Some(list)) => move_to_front(draft, list, item),
+        (None, None) => wrap_in(alloc, draft, item),
+    }
+}
+
+/// Nests an item, and indents any other line by one more.
+#[tactic(auto, unfolding(crate::specs::Indenting::indented))]
+pub(crate) fn indent_line(alloc: Global, draft: &mut Draft, line: Key) -> Result<(), Fault>
+    ensures ok { OnOk result (indenting.indented line draft.old ≡ Ok draft.new) }
+    ensures err { IfErr result (λ e. TellsStep e (indenting.indented line draft.old)) }
+    ensures standing { IfErr result (λ e. StillStands e draft.new) }
+{
+    ready(draft)?;
+    let links = draft.links();
+    if is_item_at(links, line) {
+        let before = nested_in(links, links.previous(line));
+        let behind = nested_in(links, links.next(line));
+        nest(alloc, draft, before, behind, line)
+    } else {
+        deepen(alloc, draft, line)
+    }
+}

@@ -1,0 +1,141 @@
+//! Items get their numbers.
+
+ghost use Rattle.std.specs.Prelude.{◌≡◌, ◌+◌, ◌<◌, ◌^◌, ◌++◌, ◌∷◌, [], length, if◌then◌else◌, Ok, OnOk, IfOk, IfErr, filter};
+ghost use Rattle.lx_node.specs.Kinds as kinds;
+ghost use Rattle.lx_forest.specs.Lookups as lookups;
+ghost use Rattle.lx_links.specs.Stands.{Sound};
+ghost use Rattle.lx_draft.specs.Faults.{TellsStep};
+ghost use Rattle.lx_edit.specs.InTurn.{in_turn};
+ghost use Rattle.lx_edit.specs.Standing.{StillStands};
+ghost use Rattle.lx_range.specs.Blocks as blocks;
+ghost use Rattle.lx_list.specs.Numbering as numbering;
+ghost use Rattle.lx_list.specs.Numbering.{number_step};
+ghost use Rattle.lx_list.specs.Laws.{IsRenumbered};
+
+use crate::changing::number_item;
+use crate::kinds::is_list_at;
+use crate::nesting::is_nesting;
+use crate::ready::ready;
+use lx_draft::Draft;
+use lx_edit::children_of;
+use lx_links::Links;
+use lx_node::{Extra, Fault, Fields, Key, NoMemory};
+use std::alloc::Global;
+
+/// The number that comes after an item.
+fn following(number: u32, nests: bool) -> u32
+    requires { number + 1 < 2 ^ 32 }
+    ensures { result ≡ (if nests then number else number + 1) }
+{
+    if nests { number } else { number + 1 }
+}
+
+/// The number with which a list begins.
+fn start_of(links: &Links, list: Key) -> u32
+    ensures start { result ≡ numbering.start_at (lookups.fields_of links.now list) }
+    ensures sound { Sound links.now }
+{
+    match links.node(list) {
+        Some(node) => match &node.fields {
+            Fields::Element(element) => match &element.extra {
+                Extra::List { start } => *start,
+                _ => 1,
+            },
+            _ => 1,
+        },
+        None => 1,
+    }
+}
+
+/// Gives items their numbers, from this one on.
+fn number_items(alloc: Global, draft: &mut Draft, items: &[Key], first: u32) -> Result<(), Fault>
+    requires few { first + length items.now < 2 ^ 32 }
+    ensures ok { OnOk result (numbering.numbered_from first items.now draft.old ≡ Ok draft.new) }
+    ensures err { IfErr result (λ e. TellsStep e (numbering.numbered_from first items.now draft.old)) }
+    ensures standing { IfErr result (λ e. StillStands e draft.new) }
+{
+    let mut number = first;
+    for item in items {
+        let nests = is_nesting(draft.links(), *item);
+        match number_item(alloc, draft, *item, number) {
+            Ok(()) => {}
+            Err(fault) => return Err(fault),
+        }
+        number = following(number, nests);
+    }
+    Ok(())
+}
+
+/// Keeps the key of a list.
+fn keep_list(lists: &mut Vec<Key>, links: &Links, key: Key) -> Result<(), NoMemory>
+    ensures { OnOk result (lists.new.items ≡ lists.old.items ++ filter (blocks.is_at kinds.is_list links.now) (key ∷ [])) }
+{
+    if is_list_at(links, key) {
+        lists.push(key)?;
+    }
+    Ok(())
+}
+
+/// The lists of the root's tree, in preorder.
+fn lists_of(alloc: Global, links: &Links) -> Result<Vec<Key>, NoMemory>
+    ensures { IfOk result (λ keys. keys.items ≡ filter (blocks.is_at kinds.is_list links.now) (lookups.preorder links.now)) }
+{
+    let mut lists = Vec::new(alloc);
+    if links.has_failed() {
+        return Ok(lists);
+    }
+    let mut at = Some((Key::root(), 0));
+    while let Some((key, depth)) = at {
+        keep_list(&mut lists, links, key)?;
+        at = links.next_in_tree(key, depth);
+    }
+    Ok(lists)
+}
+
+/// Gives the items of a list their numbers.
+fn number_list(alloc: Global, draft: &mut Draft, list: Key) -> Result<(), Fault>
+    ensures ok { OnOk result (numbering.list_numbered list draft.old ≡ Ok draft.new) }
+    ensures err { IfErr result (λ e. TellsStep e (numbering.list_numbered list draft.old)) }
+    ensures standing { IfErr result (λ e. StillStands e draft.new) }
+{
+    let first = start_of(draft.links(), list);
+    let items = children_of(alloc, draft.links(), list)?;
+    number_items(alloc, draft, &items, first)
+}
+
+/// Gives the items of lists their numbers.
+#[tactic(auto, using(lx_edit::proofs::Turns::turns_done))]
+fn number_lists(alloc: Global, draft: &mut Draft, lists: &[Key]) -> Result<(), Fault>
+    ensures ok { OnOk result (in_turn numbering.list_numbered lists.now draft.old ≡ Ok draft.new) }
+    ensures err { IfErr result (λ e. TellsStep e (in_turn numbering.list_numbered lists.now draft.old)) }
+    ensures standing { IfErr result (λ e. StillStands e draft.new) }
+{
+    for list in lists {
+        match number_list(alloc, draft, *list) {
+            Ok(()) => {}
+            Err(fault) => return Err(fault),
+        }
+    }
+    Ok(())
+}
+
+/// Gives each item in the root's tree its number: that with which its list begins, and one more for each item before it
+/// whose first child isn't a list. Each item takes a count, and its fields are written, also where it has its number. Where
+/// there are no items it does nothing, and no node is looked at.
+///
+/// It is refused with `StepLimit` where 100,000 counts were taken, and with `TooLarge` where what was written would come
+/// above 16,777,216 scalar values. A draft on which it was refused is only fit to be dropped.
+#[tactic(auto, unfolding(crate::specs::Numbering::number_step), using(crate::proofs::Renumbered::renumbered, crate::proofs::Itemless::number_itemless))]
+pub fn number(alloc: Global, draft: &mut Draft) -> Result<(), Fault>
+    ensures ok { OnOk result (number_step draft.old ≡ Ok draft.new) }
+    ensures numbered { OnOk result (IsRenumbered draft.old.forest draft.new.forest) }
+    ensures err { IfErr result (λ e. TellsStep e (number_step draft.old)) }
+    ensures standing { IfErr result (λ e. StillStands e draft.new) }
+{
+    ready(draft)?;
+    if draft.links().items() == 0 {
+        return Ok(());
+    }
+    let lists = lists_of(alloc, draft.links())?;
+    number_lists(alloc, draft, &lists)
+}

@@ -1,0 +1,163 @@
+//! Lines go one level up.
+
+ghost use Rattle.std.specs.Prelude.{◌≡◌, ◌&&◌, true, Ok, OnOk, IfErr};
+ghost use Rattle.lx_node.specs.Kinds as kinds;
+ghost use Rattle.lx_node.specs.Siblings.{is_named};
+ghost use Rattle.lx_forest.specs.Lookups as lookups;
+ghost use Rattle.lx_draft.specs.Faults.{TellsStep};
+ghost use Rattle.lx_edit.specs.Standing.{StillStands};
+ghost use Rattle.lx_range.specs.Blocks as blocks;
+ghost use Rattle.lx_list.specs.Outdenting as outdenting;
+
+use crate::changing::lift;
+use crate::making::{item_fields, items_behind, like};
+use crate::ready::ready;
+use lx_draft::Draft;
+use lx_edit::{move_before, move_behind, move_each, remove};
+use lx_links::Links;
+use lx_node::{Fault, Fields, Key, Kind};
+use lx_range::is_item_at;
+use std::alloc::Global;
+
+/// Puts a new item behind an outer one, with a list in it that takes items, and a node between the two.
+#[tactic(auto, using(crate::proofs::Made::item_suits, crate::proofs::Made::no_root))]
+fn part_with(
+    alloc: Global,
+    draft: &mut Draft,
+    item: Key,
+    behind: &[Key],
+    outer: Key,
+    list: Key,
+) -> Result<(), Fault>
+    requires { blocks.is_at kinds.is_list draft.old.forest list ≡ true }
+    ensures ok { OnOk result (outdenting.parted_like item behind.now outer (lookups.label_of draft.old.forest list) draft.old ≡ Ok draft.new) }
+    ensures err { IfErr result (λ e. TellsStep e (outdenting.parted_like item behind.now outer (lookups.label_of draft.old.forest list) draft.old)) }
+    ensures standing { IfErr result (λ e. StillStands e draft.new) }
+{
+    let (kind, fields) = like(alloc, draft.links(), list)?;
+    let new = draft.new_node(Kind::Item, item_fields(alloc, None))?;
+    let inner = draft.new_node(kind, fields)?;
+    draft.put(inner, new, 0)?;
+    move_each(draft, inner, behind)?;
+    draft.put_behind(new, outer)?;
+    move_behind(draft, outer, item)
+}
+
+/// Moves an item behind the outer one, and between the two and what was behind it in its list.
+#[tactic(auto, unfolding(crate::specs::Outdenting::parted))]
+fn part(alloc: Global, draft: &mut Draft, item: Key, list: Key, outer: Key) -> Result<(), Fault>
+    requires { blocks.is_at kinds.is_list draft.old.forest list ≡ true }
+    ensures ok { OnOk result (outdenting.parted item list outer draft.old ≡ Ok draft.new) }
+    ensures err { IfErr result (λ e. TellsStep e (outdenting.parted item list outer draft.old)) }
+    ensures standing { IfErr result (λ e. StillStands e draft.new) }
+{
+    let behind = items_behind(alloc, draft.links(), list, item)?;
+    part_with(alloc, draft, item, &behind, outer, list)
+}
+
+/// Whether a node is another's first child.
+fn is_first(links: &Links, parent: Key, key: Key) -> bool
+    ensures { result ≡ is_named (lookups.first_child links.now parent) key }
+{
+    match links.first(parent) {
+        Some(first) => first == key,
+        None => false,
+    }
+}
+
+/// Moves an item out of its list: before the outer item, or behind it.
+#[tactic(auto, unfolding(crate::specs::Outdenting::moved_out))]
+fn move_out(alloc: Global, draft: &mut Draft, item: Key, list: Key, outer: Key) -> Result<(), Fault>
+    requires { blocks.is_at kinds.is_list draft.old.forest list ≡ true }
+    ensures ok { OnOk result (outdenting.moved_out item list outer draft.old ≡ Ok draft.new) }
+    ensures err { IfErr result (λ e. TellsStep e (outdenting.moved_out item list outer draft.old)) }
+    ensures standing { IfErr result (λ e. StillStands e draft.new) }
+{
+    let links = draft.links();
+    if is_first(links, list, item) && is_first(links, outer, list) {
+        move_before(draft, outer, item)
+    } else if links.next(item).is_none() {
+        move_behind(draft, outer, item)
+    } else {
+        part(alloc, draft, item, list, outer)
+    }
+}
+
+/// Removes a list in which nothing is left.
+fn remove_if_empty(draft: &mut Draft, list: Key) -> Result<(), Fault>
+    ensures ok { OnOk result (outdenting.gone_if_empty list draft.old ≡ Ok draft.new) }
+    ensures err { IfErr result (λ e. TellsStep e (outdenting.gone_if_empty list draft.old)) }
+    ensures standing { IfErr result (λ e. StillStands e draft.new) }
+{
+    if draft.links().size(list) == 0 {
+        remove(draft, list)
+    } else {
+        Ok(())
+    }
+}
+
+/// Moves an item out of a list in an outer item. The list goes too where nothing is left in it.
+#[tactic(auto, unfolding(crate::specs::Outdenting::out_of))]
+pub(crate) fn take_out_of(
+    alloc: Global,
+    draft: &mut Draft,
+    item: Key,
+    list: Key,
+    outer: Key,
+) -> Result<(), Fault>
+    requires { blocks.is_at kinds.is_list draft.old.forest list ≡ true }
+    ensures ok { OnOk result (outdenting.out_of item list outer draft.old ≡ Ok draft.new) }
+    ensures err { IfErr result (λ e. TellsStep e (outdenting.out_of item list outer draft.old)) }
+    ensures standing { IfErr result (λ e. StillStands e draft.new) }
+{
+    move_out(alloc, draft, item, list, outer)?;
+    remove_if_empty(draft, list)
+}
+
+/// The same, where the list is in an item.
+fn take_out_from(alloc: Global, draft: &mut Draft, item: Key, list: Key) -> Result<(), Fault>
+    requires { blocks.is_at kinds.is_list draft.old.forest list ≡ true }
+    ensures ok { OnOk result (outdenting.out_from item list (lookups.parent_of draft.old.forest list) draft.old ≡ Ok draft.new) }
+    ensures err { IfErr result (λ e. TellsStep e (outdenting.out_from item list (lookups.parent_of draft.old.forest list) draft.old)) }
+    ensures standing { IfErr result (λ e. StillStands e draft.new) }
+{
+    match draft.links().parent(list) {
+        Some(outer) => {
+            if is_item_at(draft.links(), outer) {
+                take_out_of(alloc, draft, item, list, outer)
+            } else {
+                Ok(())
+            }
+        }
+        None => Ok(()),
+    }
+}
+
+/// The same, where the item is in a list.
+#[tactic(auto, using(crate::proofs::Above::list_above))]
+fn take_out(alloc: Global, draft: &mut Draft, item: Key) -> Result<(), Fault>
+    requires { blocks.is_at kinds.is_item draft.old.forest item ≡ true }
+    ensures ok { OnOk result (outdenting.out_by item (lookups.parent_of draft.old.forest item) draft.old ≡ Ok draft.new) }
+    ensures err { IfErr result (λ e. TellsStep e (outdenting.out_by item (lookups.parent_of draft.old.forest item) draft.old)) }
+    ensures standing { IfErr result (λ e. StillStands e draft.new) }
+{
+    match draft.links().parent(item) {
+        Some(list) => take_out_from(alloc, draft, item, list),
+        None => Ok(()),
+    }
+}
+
+/// Moves an item out of its list, and indents any other line by one less.
+#[tactic(auto, unfolding(crate::specs::Outdenting::outdented))]
+pub(crate) fn outdent_line(alloc: Global, draft: &mut Draft, line: Key) -> Result<(), Fault>
+    ensures ok { OnOk result (outdenting.outdented line draft.old ≡ Ok draft.new) }
+    ensures err { IfErr result (λ e. TellsStep e (outdenting.outdented line draft.old)) }
+    ensures standing { IfErr result (λ e. StillStands e draft.new) }
+{
+    ready(draft)?;
+    if is_item_at(draft.links(), line) {
+        take_out(alloc, draft, line)
+    } else {
+        lift(alloc, draft, line)
+    }
+}
