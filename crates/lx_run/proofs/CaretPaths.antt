@@ -1,5 +1,5 @@
 -- What holds of each step of a draft, and of one after another, holds of what caret commands do with what is sent.
-use Rattle.std.proofs.Common.{◌≡◌, ℕ, List, Option, None, Some, Result, Ok, Err, refl, subst}
+use Rattle.std.proofs.Common.{◌≡◌, ℕ, List, Option, None, Some, Result, Ok, Err, refl}
 use Rattle.lx_node.specs.declared.cause.Cause.{Cause}
 use Rattle.lx_step.specs.BuiltIns.{row_of}
 use Rattle.lx_step.specs.declared.built_in.CaretCommand.{CaretCommand}
@@ -8,7 +8,7 @@ use Rattle.lx_step.specs.declared.command.Payload.{Payload}
 use Rattle.lx_step.specs.declared.command.Payload.TheVariants as payload
 use Rattle.lx_draft.specs.Working.{Working}
 use Rattle.lx_draft.specs.Faults.{after}
-use Rattle.lx_edit.proofs.Paths.{Leads}
+use Rattle.lx_edit.proofs.Paths.{Leads, self, from_, ok}
 use Rattle.lx_caret.specs.Deleting.{delete_character_step, delete_word_step}
 use Rattle.lx_caret.specs.Formatting.{format_text_step}
 use Rattle.lx_caret.specs.Inserting.{insert_text_step}
@@ -17,13 +17,14 @@ use Rattle.lx_caret.proofs.PathsOfTexts.{remove_text_path, insert_text_path, ins
 use Rattle.lx_caret.proofs.PathsOfParagraphs.{insert_paragraph_path}
 use Rattle.lx_caret.proofs.PathsOfDeleting.{delete_character_path, delete_word_path}
 use Rattle.lx_caret.proofs.PathsOfFormatting.{format_text_path, select_all_path}
-use Rattle.lx_run.specs.Carets.{with_none, with_text, meant, with_word, ways, formats, unless_item, paragraph_step, plain_step, caret_step}
+use Rattle.lx_list.proofs.Paths.{paragraph_in_item_path}
+use Rattle.lx_run.specs.Carets.{with_none, with_text, meant, with_word, ways, formats, ended_at, paragraph_step, plain_step, caret_step}
 use Rattle.lx_run.specs.Scripts.{on_draft}
 use Rattle.lx_run.proofs.Paths.{IsScriptPath, Reaches, on_draft_path}
 
 -- ---- what is sent
 
-with_none_path : (D : Working → Type 0) (R : Working → Working → Type 0) (command : Working → Result Working Cause) → Leads D R command → (sent : Payload) → Leads D R (with_none command sent)
+pub with_none_path : (D : Working → Type 0) (R : Working → Working → Type 0) (command : Working → Result Working Cause) → Leads D R command → (sent : Payload) → Leads D R (with_none command sent)
 with_none_path D R command leads payload.Nothing w v d e = leads w v d e
 with_none_path D R command leads _ w v d e = absurd (cc)
 
@@ -35,22 +36,22 @@ meant_path : {A : Type 0} (D : Working → Type 0) (R : Working → Working → 
 meant_path D R command leads None w v d e = absurd (cc)
 meant_path D R command leads (Some a) w v d e = leads a w v d e
 
-with_word_path : {A : Type 0} (D : Working → Type 0) (R : Working → Working → Type 0) (table : List (List ℕ × A)) (command : A → Working → Result Working Cause) → ((a : A) → Leads D R (command a)) → (sent : Payload) → Leads D R (with_word table command sent)
+pub with_word_path : {A : Type 0} (D : Working → Type 0) (R : Working → Working → Type 0) (table : List (List ℕ × A)) (command : A → Working → Result Working Cause) → ((a : A) → Leads D R (command a)) → (sent : Payload) → Leads D R (with_word table command sent)
 with_word_path D R table command leads sent w v d e =
     with_text_path D R (λ text. meant command (row_of table text)) (λ text. meant_path D R command leads (row_of table text)) sent w v d e
 
 -- ---- the commands
 
-not_item : (item : Option ℕ) (u v : Working) → unless_item item u ≡ Ok v → u ≡ v
-not_item None u v e = cc
-not_item (Some item) u v e = absurd (cc)
+ended_path : (D : Working → Type 0) (R : Working → Working → Type 0) → IsScriptPath D R → (item : Option ℕ) → Leads D R (ended_at item)
+ended_path D R scripts None w v d e = ok R w w v (self scripts.path w d) e
+ended_path D R scripts (Some item) w v d e = paragraph_in_item_path scripts.path item w v d e
 
-cut_path : (R : Working → Working → Type 0) (w v : Working) (r : Result Broken Cause) → ((u : Working) → draft_left r ≡ Ok u → R w u) → after r (λ broken. unless_item broken.item broken.draft) ≡ Ok v → R w v
-cut_path R w v (Ok broken) each e = subst (R w) (not_item broken.item broken.draft v e) (each broken.draft refl)
-cut_path R w v (Err cause) each e = absurd (cc)
+cut_path : (D : Working → Type 0) (R : Working → Working → Type 0) → IsScriptPath D R → (w v : Working) (r : Result Broken Cause) → ((u : Working) → draft_left r ≡ Ok u → R w u) → after r (λ broken. ended_at broken.item broken.draft) ≡ Ok v → R w v
+cut_path D R scripts w v (Ok broken) each e = from_ scripts.path w broken.draft v (ended_at broken.item) (each broken.draft refl) (ended_path D R scripts broken.item) e
+cut_path D R scripts w v (Err cause) each e = absurd (cc)
 
 paragraph_path : (D : Working → Type 0) (R : Working → Working → Type 0) → IsScriptPath D R → Leads D R paragraph_step
-paragraph_path D R scripts w v d e = cut_path R w v (insert_paragraph_step w) (λ u f. insert_paragraph_path scripts.path w u d f) e
+paragraph_path D R scripts w v d e = cut_path D R scripts w v (insert_paragraph_step w) (λ u f. insert_paragraph_path scripts.path w u d f) e
 
 plain_path : (D : Working → Type 0) (R : Working → Working → Type 0) → IsScriptPath D R → (command : CaretCommand) → Leads D R (plain_step command)
 plain_path D R scripts RemoveText w v d e = remove_text_path scripts.path w v d e

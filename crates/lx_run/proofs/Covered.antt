@@ -1,6 +1,7 @@
 -- Marks tell whatever a line changes.
 use Rattle.std.proofs.Common.{◌≡◌, Ok, subst}
 use Rattle.lx_step.specs.declared.built_in.CaretCommand.{CaretCommand}
+use Rattle.lx_step.specs.declared.built_in.ListCommand.{ListCommand}
 use Rattle.lx_step.specs.declared.command.Payload.{Payload}
 use Rattle.lx_step.specs.declared.step.Step.{Step}
 use Rattle.lx_draft.specs.Covering.{IsReady, AreCovered}
@@ -9,8 +10,10 @@ use Rattle.lx_edit.proofs.Covered.{covered_path}
 use Rattle.lx_edit.proofs.Paths.{self}
 use Rattle.lx_run.specs.Running.{Running, on_script, take_count}
 use Rattle.lx_run.specs.Carets.{caret_step}
+use Rattle.lx_run.specs.Lists.{list_step}
 use Rattle.lx_run.specs.Scripts.{on_draft, effect_of}
 use Rattle.lx_run.proofs.CaretPaths.{caret_reaches}
+use Rattle.lx_run.proofs.ListPaths.{list_reaches}
 use Rattle.lx_run.proofs.Paced.{count_taken, left_as}
 use Rattle.lx_run.proofs.Paths.{IsScriptPath, effect_path}
 use Rattle.lx_run.proofs.Stays.{IsKept, IsOfScripts}
@@ -41,6 +44,11 @@ covered_does command sent m n ready e =
     left_as (AreCoveredRunning m n) (on_draft (caret_step command sent)) m n
     (λ t f is. subst (λ (x : Running). AreCoveredRunning m x) is (caret_reaches covered_scripts command sent m.script t ready f)) e
 
+covered_lists : (command : ListCommand) (sent : Payload) (m n : Running) → IsReadyRunning m → on_script (on_draft (list_step command sent)) m ≡ Ok n → AreCoveredRunning m n
+covered_lists command sent m n ready e =
+    left_as (AreCoveredRunning m n) (on_draft (list_step command sent)) m n
+    (λ t f is. subst (λ (x : Running). AreCoveredRunning m x) is (list_reaches covered_scripts command sent m.script t ready f)) e
+
 pub covered : IsKept IsReadyRunning AreCoveredRunning
 covered = record {
   ready = λ m n c. c.ready;
@@ -49,6 +57,7 @@ covered = record {
   counted = λ m n ready e. covered_count m n ready e;
   plain = λ s m n ready e. covered_plain s m n ready e;
   does = λ command sent m n ready e. covered_does command sent m n ready e;
+  lists = λ command sent m n ready e. covered_lists command sent m n ready e;
   later = λ m n steps sent ready e. covered_count m n ready e;
 }
 

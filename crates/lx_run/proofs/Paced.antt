@@ -4,6 +4,7 @@ use Rattle.lx_node.specs.Limits.{most_counts}
 use Rattle.lx_node.specs.declared.cause.Cause.{Cause}
 use Rattle.lx_step.specs.BuiltIns.{built_in}
 use Rattle.lx_step.specs.declared.built_in.CaretCommand.{CaretCommand}
+use Rattle.lx_step.specs.declared.built_in.ListCommand.{ListCommand}
 use Rattle.lx_step.specs.declared.command.Payload.{Payload}
 use Rattle.lx_step.specs.declared.listener.Listener.{Listener}
 use Rattle.lx_step.specs.declared.step.Step.{Step}
@@ -13,8 +14,10 @@ use Rattle.lx_draft.specs.Faults.{after}
 use Rattle.lx_draft.specs.Steps.{count_step}
 use Rattle.lx_run.specs.Scripts.{Scripted, scripted, on_draft, effect_of}
 use Rattle.lx_run.specs.Carets.{caret_step}
+use Rattle.lx_run.specs.Lists.{list_step}
 use Rattle.lx_run.specs.Running.{Running, running, on_script, take_count, queued, done_if, payload_for, effect_in, step_in, dispatched}
 use Rattle.lx_run.proofs.CaretPaths.{caret_reaches}
+use Rattle.lx_run.proofs.ListPaths.{list_reaches}
 use Rattle.lx_run.proofs.Bounded.{KeepsMost, count_within, within_scripts}
 use Rattle.lx_run.proofs.Counted.{count-counted, counted_scripts}
 use Rattle.lx_run.proofs.Paths.{effect_path}
@@ -92,6 +95,14 @@ paced_does command sent m n e = left_as (IsPaced m n) (on_draft (caret_step comm
     let within : KeepsMost m.script.draft t.draft = caret_reaches within_scripts command sent m.script t tt f in
     record { counted = omega (arith, more, at); queued = omega (arith, more, at, same); most = λ few. omega (arith, within few, at) }) e
 
+paced_lists : (command : ListCommand) (sent : Payload) (m n : Running) → on_script (on_draft (list_step command sent)) m ≡ Ok n → IsPaced m n
+paced_lists command sent m n e = left_as (IsPaced m n) (on_draft (list_step command sent)) m n (λ t f is.
+    let more : m.script.draft.counted ≤ t.draft.counted = list_reaches counted_scripts command sent m.script t tt f in
+    let at : t.draft.counted ≡ n.script.draft.counted = ap (λ (x : Running). x.script.draft.counted) is in
+    let same : length m.queue ≡ length n.queue = ap (λ (x : Running). length x.queue) is in
+    let within : KeepsMost m.script.draft t.draft = list_reaches within_scripts command sent m.script t tt f in
+    record { counted = omega (arith, more, at); queued = omega (arith, more, at, same); most = λ few. omega (arith, within few, at) }) e
+
 abbrev pub AnyRunning : Running → Type 0
 AnyRunning m = Unit {0}
 
@@ -103,6 +114,7 @@ paced = record {
   counted = λ m n r e. paced_count m n e;
   plain = λ s m n r e. paced_plain s m n e;
   does = λ command sent m n r e. paced_does command sent m n e;
+  lists = λ command sent m n r e. paced_lists command sent m n e;
   later = λ m n steps sent r e. paced_later m n steps sent e;
 }
 

@@ -1,8 +1,7 @@
 -- What the caret commands do with what they are given.
 use Rattle.std.specs.Prelude.{ℕ, Bool, true, false, List, [], ◌∷◌, chars, codes, Option, None, Some, Result, Ok, Err}
 use Rattle.lx_node.specs.declared.cause.Cause.{Cause}
-use Rattle.lx_node.specs.declared.cause.Cause.TheVariants.{BadCommand, WrongKind}
-use Rattle.lx_node.specs.declared.kind.Kind.TheVariants.{Item}
+use Rattle.lx_node.specs.declared.cause.Cause.TheVariants.{BadCommand}
 use Rattle.lx_step.specs.BuiltIns.{row_of}
 use Rattle.lx_step.specs.declared.built_in.CaretCommand.{CaretCommand}
 use Rattle.lx_step.specs.declared.built_in.CaretCommand.TheVariants.{InsertText, RemoveText, InsertParagraph, InsertLineBreak, InsertTab, DeleteCharacter, DeleteWord, FormatText, SelectAll}
@@ -16,6 +15,7 @@ use Rattle.lx_caret.specs.Paragraphs.{insert_paragraph_step}
 use Rattle.lx_caret.specs.Deleting.{delete_character_step, delete_word_step}
 use Rattle.lx_caret.specs.Formatting.{format_text_step}
 use Rattle.lx_caret.specs.SelectAll.{select_all_step}
+use Rattle.lx_list.specs.Ending.{paragraph_in_item_step}
 
 -- ---- what a command is given: nothing, a text, or a word; anything else is no payload of it
 
@@ -58,13 +58,13 @@ formats =
 
 -- ---- the commands
 
--- an item without children isn't cut in two
-abbrev pub unless_item : Option ℕ → Working → Result Working Cause
-unless_item None w = Ok w
-unless_item (Some item) w = Err (WrongKind Item)
+-- an item without children isn't cut in two: it ends its list
+abbrev pub ended_at : Option ℕ → Working → Result Working Cause
+ended_at None w = Ok w
+ended_at (Some item) w = paragraph_in_item_step item w
 
 abbrev pub paragraph_step : Working → Result Working Cause
-paragraph_step w = after (insert_paragraph_step w) (λ broken. unless_item broken.item broken.draft)
+paragraph_step w = after (insert_paragraph_step w) (λ broken. ended_at broken.item broken.draft)
 
 -- those that take no payload
 abbrev pub plain_step : CaretCommand → Working → Result Working Cause

@@ -1,5 +1,6 @@
 pub mod Appending
 pub mod Carets
+pub mod Lists
 pub mod Naming
 pub mod Scripts
 pub mod Stepping

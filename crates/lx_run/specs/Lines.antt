@@ -63,6 +63,7 @@ abbrev pub turn_of : Option BuiltIn → Option Turn
 turn_of None = None
 turn_of (Some (built_in.Turn turn)) = Some turn
 turn_of (Some (built_in.Caret command)) = None
+turn_of (Some (built_in.List command)) = None
 
 -- no edit was taken, the selection is the one that is committed, and nothing is queued
 abbrev pub is_untouched : Selection → Running → Bool

@@ -5,7 +5,7 @@ use Rattle.lx_node.specs.declared.cause.Cause.TheVariants.{BadCommand, DispatchD
 use Rattle.lx_step.specs.BuiltIns.{built_in}
 use Rattle.lx_step.specs.Spelled.{steps_of}
 use Rattle.lx_step.specs.declared.built_in.BuiltIn.{BuiltIn}
-use Rattle.lx_step.specs.declared.built_in.BuiltIn.TheVariants.{Turn, Caret}
+use Rattle.lx_step.specs.declared.built_in.BuiltIn.TheVariants.{Turn, Caret, List as list}
 use Rattle.lx_step.specs.declared.command.Command.{Command}
 use Rattle.lx_step.specs.declared.command.Payload.{Payload}
 use Rattle.lx_step.specs.declared.command.Payload.TheVariants as payload
@@ -17,6 +17,7 @@ use Rattle.lx_draft.specs.Faults.{after}
 use Rattle.lx_draft.specs.Steps.{count_step}
 use Rattle.lx_run.specs.Carets.{caret_step}
 use Rattle.lx_run.specs.Holding.{holds}
+use Rattle.lx_run.specs.Lists.{list_step}
 use Rattle.lx_run.specs.Scripts.{Scripted, on_draft, effect_of}
 
 -- steps that are queued, with the payload that "@payload" stands for in them
@@ -58,6 +59,7 @@ is_nothing other = false
 abbrev pub done_by : BuiltIn → Payload → Running → Result Running Cause
 done_by (Turn turn) sent m = if is_nothing sent then Err HistoryInside else Err BadCommand
 done_by (Caret command) sent m = on_script (on_draft (caret_step command sent)) m
+done_by (list command) sent m = on_script (on_draft (list_step command sent)) m
 
 -- what the built-in command of a name does, if there is one
 abbrev pub done_if : Option BuiltIn → Payload → Running → Result Running Cause

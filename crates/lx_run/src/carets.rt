@@ -14,11 +14,12 @@ ghost use Rattle.lx_run.specs.Carets.{caret_step};
 
 use crate::dispatching::is_nothing;
 use lx_draft::Draft;
-use lx_node::{Cause, Fault, Kind, Txt};
+use lx_list::paragraph_in_item;
+use lx_node::{Cause, Fault, Txt};
 use lx_step::{CaretCommand, Payload};
 use std::alloc::Global;
 
-fn is_word(word: &str, text: &Txt) -> bool
+pub(crate) fn is_word(word: &str, text: &Txt) -> bool
     ensures { result ≡ same_text (chars word.now) text.now }
 {
     text.is(word)
@@ -75,7 +76,7 @@ fn further_format_of(text: &Txt) -> Option<u16>
     None
 }
 
-fn bad_command() -> Fault
+pub(crate) fn bad_command() -> Fault
     ensures { result ≡ fault.Cause BadCommand }
 {
     Fault::Cause(Cause::BadCommand)
@@ -134,14 +135,14 @@ fn insert_text(alloc: Global, draft: &mut Draft, sent: &Payload) -> Result<(), F
     }
 }
 
-/// Cuts a block in two. It is refused in an item without children.
+/// Cuts a block in two. An item without children ends its list.
 fn insert_paragraph(alloc: Global, draft: &mut Draft) -> Result<(), Fault>
     ensures ok { OnOk result (carets.paragraph_step draft.old ≡ Ok draft.new) }
     ensures err { IfErr result (λ e. TellsStep e (carets.paragraph_step draft.old)) }
 {
     match lx_caret::insert_paragraph(alloc, draft) {
         Ok(None) => Ok(()),
-        Ok(Some(_)) => Err(Fault::Cause(Cause::WrongKind(Kind::Item))),
+        Ok(Some(item)) => paragraph_in_item(alloc, draft, item),
         Err(fault) => Err(fault),
     }
 }

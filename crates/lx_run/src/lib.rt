@@ -7,6 +7,7 @@ mod dispatching;
 mod ending;
 mod holding;
 mod lines;
+mod lists;
 mod names;
 mod putting;
 mod queue;

@@ -9,16 +9,18 @@ ghost use Rattle.lx_run.specs.Holding as holding;
 ghost use Rattle.lx_run.specs.Lines.{at_first, is_untouched};
 ghost use Rattle.lx_run.specs.Running.{on_script, take_count, queued, queued_first};
 ghost use Rattle.lx_run.specs.Carets.{caret_step};
+ghost use Rattle.lx_run.specs.Lists.{list_step};
 ghost use Rattle.lx_run.specs.Scripts.{on_draft, effect_of};
 
 use crate::carets::do_caret;
 use crate::holding::holds;
+use crate::lists::do_list;
 use crate::names::Names;
 use crate::script::take_effect;
 use lx_draft::Draft;
 use lx_node::{Cause, Fault, NoMemory};
 use lx_select::Selection;
-use lx_step::{CaretCommand, Payload, Step, Steps, When};
+use lx_step::{CaretCommand, ListCommand, Payload, Step, Steps, When};
 use std::alloc::Global;
 use std::collections::VecDeque;
 use std::marker::Model;
@@ -130,6 +132,14 @@ impl<'a> Running<'a> {
         ensures err { IfErr result (λ e. TellsStep e (on_script (on_draft (caret_step command sent.now)) self.old)) }
     {
         do_caret(self.alloc, &mut self.draft, command, sent)
+    }
+
+    /// What a command of lists does behind its count, with what is sent.
+    pub(crate) fn do_list(&mut self, command: ListCommand, sent: &Payload) -> Result<(), Fault>
+        ensures ok { OnOk result (on_script (on_draft (list_step command sent.now)) self.old ≡ Ok self.new) }
+        ensures err { IfErr result (λ e. TellsStep e (on_script (on_draft (list_step command sent.now)) self.old)) }
+    {
+        do_list(self.alloc, &mut self.draft, command, sent)
     }
 
     /// Queues steps behind all that are queued.
