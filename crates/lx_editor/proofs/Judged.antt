@@ -23,18 +23,18 @@ use Rattle.lx_editor.specs.Dispatched.{unless_refused, IsMadeOfAnswer}
 use Rattle.lx_editor.specs.Editor.{Editor}
 use Rattle.lx_editor.specs.Follows.{html_told, view_told, reply_of}
 use Rattle.lx_editor.specs.Turned.{IsTurned, IsTurnedBy}
-use Rattle.lx_editor.specs.Updated.{Left, rested_by, IsNothingNew, IsCommitted, IsTaken, IsMadeOf}
+use Rattle.lx_editor.specs.Updated.{Left, Settled, rested_by, IsNothingNew, IsCommitted, IsTaken, IsMadeOf}
 use Rattle.lx_editor.specs.Registered.{with_one_more}
 use Rattle.lx_editor.specs.Judged.{MayCommit, MayTurn, IsWeighed, IsJudged, IsTurnJudged, IsAnswerJudged, IsForCause, MayConclude, IsConcluded, is_refused, is_idle}
 
 -- what is judged may be concluded
-pub may_conclude : (r : Result Left (Cause × Option ℕ)) (e : Editor) (verdict : Verdict) → IsJudged r e verdict → MayConclude e verdict
+pub may_conclude : (r : Result Settled (Cause × Option ℕ)) (e : Editor) (verdict : Verdict) → IsJudged r e verdict → MayConclude e verdict
 may_conclude r e (Refused cause step) judged = tt
 may_conclude r e Idle judged = tt
 may_conclude (Err refused) e (Commit frozen batch) judged = absurd (cc)
-may_conclude (Ok left) e (Commit frozen batch) judged = subst (λ l. MayCommit e l batch) (sym judged.0) judged.1
+may_conclude (Ok settled) e (Commit frozen batch) judged = subst (λ l. MayCommit e l batch) (sym judged.1.0) judged.1.1
 may_conclude (Err refused) e (Turned turn state batch) judged = absurd (cc)
-may_conclude (Ok left) e (Turned turn state batch) judged = absurd judged
+may_conclude (Ok settled) e (Turned turn state batch) judged = absurd judged.1
 
 pub may_conclude_turn : (turn : Turn) (e : Editor) (verdict : Verdict) → IsTurnJudged turn e verdict → MayConclude e verdict
 may_conclude_turn turn e (Refused cause step) judged = tt
@@ -48,14 +48,14 @@ may_conclude_answer (Ok (ending.Left w was_handled)) e verdict handled judged = 
 may_conclude_answer (Ok (ending.Turned turn)) e verdict handled judged = may_conclude_turn turn e verdict judged.0
 
 -- a refusal is judged as what it tells
-pub refusal_judged : (e : Refusal) (left : Result Left (Cause × Option ℕ)) (editor : Editor) (cause : Cause) (step : Option ℕ) → e ≡ refusal.Cause cause step → TellsRefusal e left → IsJudged left editor (Refused cause step)
+pub refusal_judged : (e : Refusal) (left : Result Settled (Cause × Option ℕ)) (editor : Editor) (cause : Cause) (step : Option ℕ) → e ≡ refusal.Cause cause step → TellsRefusal e left → IsJudged left editor (Refused cause step)
 refusal_judged e left editor cause step is told =
     let refused : left ≡ Err (cause, step) = subst (λ x. TellsRefusal x left) is told in
     subst (λ r. IsJudged r editor (Refused cause step)) (sym refused) refl
 
 -- a dispatch that is refused is judged so, and wasn't handled
 pub answer_refused : (run : Result Ended (Cause × Option ℕ)) (e : Refusal) (editor : Editor) (verdict : Verdict) → TellsRefusal e run → IsForCause e
-    → ((left : Result Left (Cause × Option ℕ)) (d : Editor) → TellsRefusal e left → IsJudged left d verdict) → IsAnswerJudged (answer_drafted run) editor verdict false
+    → ((left : Result Settled (Cause × Option ℕ)) (d : Editor) → TellsRefusal e left → IsJudged left d verdict) → IsAnswerJudged (answer_drafted run) editor verdict false
 answer_refused run (refusal.Cause cause step) editor verdict told for_cause judged =
     subst (λ r. IsAnswerJudged (answer_drafted r) editor verdict false) (sym told) (judged (Err (cause, step)) editor refl, refl)
 answer_refused run refusal.Memory editor verdict told for_cause judged = absurd for_cause
@@ -77,8 +77,8 @@ module _ (how : Recording) where
   taken left e Idle outcome new weighed (is, same) = subst (λ o. IsTaken e how left o new) (sym is) (weighed.1, same ∙ same_rules e left.rules weighed.0)
 
   -- what is concluded is what was judged
-  pub concluded : (r : Result Left (Cause × Option ℕ)) (e : Editor) (verdict : Verdict) (outcome : Outcome) (new : Editor) → IsJudged r e verdict → IsConcluded e how verdict outcome new → IsMadeOf r e how outcome new
-  concluded (Ok left) e verdict outcome new judged done = taken left e verdict outcome new judged done
+  pub concluded : (r : Result Settled (Cause × Option ℕ)) (e : Editor) (verdict : Verdict) (outcome : Outcome) (new : Editor) → IsJudged r e verdict → IsConcluded e how verdict outcome new → IsMadeOf r e how outcome new
+  concluded (Ok settled) e verdict outcome new judged done = (judged.0, taken settled.left e verdict outcome new judged.1 done)
   concluded (Err refused) e verdict outcome new judged done =
       let refusal : IsConcluded e how (Refused refused.0 refused.1) outcome new = subst (λ v. IsConcluded e how v outcome new) judged done in refusal
 
@@ -115,7 +115,7 @@ module _ (how : Recording) (old : Editor) (rule : Rule) where
   abbrev pub mid : Editor
   mid = with_one_more rule old
 
-  pub may_conclude_rule : (r : Result Left (Cause × Option ℕ)) (verdict : Verdict) (e : Editor) → IsJudged r mid verdict → e ≡ with_unless_refused rule old verdict → MayConclude e verdict
+  pub may_conclude_rule : (r : Result Settled (Cause × Option ℕ)) (verdict : Verdict) (e : Editor) → IsJudged r mid verdict → e ≡ with_unless_refused rule old verdict → MayConclude e verdict
   may_conclude_rule r (Refused cause step) e judged is = tt
   may_conclude_rule r Idle e judged is = tt
   may_conclude_rule r (Commit frozen batch) e judged is = subst (λ x. MayConclude x (Commit frozen batch)) (sym is) (may_conclude r mid (Commit frozen batch) judged)
@@ -132,8 +132,8 @@ module _ (how : Recording) (old : Editor) (rule : Rule) where
   committed_before left number ops new c = record {
     anew = λ n. c.anew (as_mid left n);
     ids = c.ids;
-    rested = c.rested;
     joined = c.joined;
+    numbered = c.numbered;
     allowed = c.allowed;
     reads = c.reads;
     few = c.few;
@@ -151,13 +151,13 @@ module _ (how : Recording) (old : Editor) (rule : Rule) where
   rule_taken left Idle outcome new weighed (is, same) =
       subst (λ o. IsTaken old how left o new) (sym is) (nothing_new left weighed.1, same ∙ ap (λ rs. record old { rules = rs }) (sym weighed.0))
 
-  rule_judged : (r : Result Left (Cause × Option ℕ)) (verdict : Verdict) (outcome : Outcome) (new : Editor) → IsJudged r mid verdict → IsConcluded (with_unless_refused rule old verdict) how verdict outcome new → IsMadeOf r old how outcome new
-  rule_judged (Ok left) verdict outcome new judged done = rule_taken left verdict outcome new judged done
+  rule_judged : (r : Result Settled (Cause × Option ℕ)) (verdict : Verdict) (outcome : Outcome) (new : Editor) → IsJudged r mid verdict → IsConcluded (with_unless_refused rule old verdict) how verdict outcome new → IsMadeOf r old how outcome new
+  rule_judged (Ok settled) verdict outcome new judged done = (judged.0, rule_taken settled.left verdict outcome new judged.1 done)
   rule_judged (Err refused) verdict outcome new judged done =
       let refusal : IsConcluded old how (Refused refused.0 refused.1) outcome new = subst (λ v. IsConcluded (with_unless_refused rule old v) how v outcome new) judged done in refusal
 
   -- what is concluded of a rule is what was judged
-  pub rule_concluded : (r : Result Left (Cause × Option ℕ)) (verdict : Verdict) (e : Editor) (outcome : Outcome) (new : Editor) → IsJudged r mid verdict → e ≡ with_unless_refused rule old verdict
+  pub rule_concluded : (r : Result Settled (Cause × Option ℕ)) (verdict : Verdict) (e : Editor) (outcome : Outcome) (new : Editor) → IsJudged r mid verdict → e ≡ with_unless_refused rule old verdict
       → IsConcluded e how verdict outcome new → IsMadeOf r old how outcome new
   rule_concluded r verdict e outcome new judged is done = rule_judged r verdict outcome new judged (subst (λ x. IsConcluded x how verdict outcome new) is done)
 

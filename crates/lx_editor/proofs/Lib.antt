@@ -8,4 +8,5 @@ pub mod Shown
 pub mod Limits
 pub mod Kept
 pub mod Turned
+pub mod Renumbered
 pub mod Selected

@@ -75,4 +75,5 @@ state_rises f g s t k m state other more = record {
   selected = state.selected;
   kept = state.kept;
   joined = state.joined;
+  numbered = state.numbered;
 }

@@ -212,6 +212,7 @@ module _ (e : Editor) (turn : Turn) (moment : ℕ) (state : State) (batch : Told
     reads = batch.reads;
     few = may.few;
     joined = may.stands.joined;
+    numbered = may.stands.numbered;
     number = refl;
     made = refl;
   }

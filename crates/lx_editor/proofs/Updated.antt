@@ -1,8 +1,9 @@
 -- What an update has made of an editor, from what its steps left of the draft.
-use Rattle.std.proofs.Common.{◌≡◌, ◌∙◌, ◌+◌, ◌<◌, ◌≤◌, ℕ, Bool, true, List, [], ◌∷◌, None, Some, Ok, refl, sym, ap, subst, arith}
+use Rattle.std.proofs.Common.{◌≡◌, ◌∙◌, ◌+◌, ◌<◌, ◌≤◌, ℕ, Bool, true, false, List, [], ◌∷◌, Option, None, Some, Result, Ok, refl, sym, ap, subst, arith}
 use Rattle.std.proofs.lemmas.Bool.Decides.{eqb_tells}
 use Rattle.lx_node.specs.Trees.{nil, tree}
-use Rattle.lx_node.specs.Kinds.{is_text_block}
+use Rattle.lx_node.specs.Kinds.{is_text_block, is_list}
+use Rattle.lx_node.specs.declared.cause.Cause.{Cause}
 use Rattle.lx_node.specs.Strings.{capped, characters_of, characters_of_element, characters_of_extra}
 use Rattle.lx_node.specs.declared.kind.Kind.TheVariants.{Root}
 use Rattle.std.proofs.lemmas.List.Elements.{All-nil}
@@ -46,18 +47,25 @@ use Rattle.lx_settle.specs.Laws.{IsAlone, AreMarked}
 use Rattle.lx_settle.specs.Rested.{IsRested}
 use Rattle.lx_settle.specs.Settling.{settle_step}
 use Rattle.lx_settle.proofs.Ends.{settling_ends}
+use Rattle.lx_range.specs.Blocks.{is_at}
+use Rattle.lx_list.specs.Laws.{IsRenumbered}
+use Rattle.lx_list.specs.Numbered.{IsNumbered}
+use Rattle.lx_list.specs.Numbering.{number_step}
+use Rattle.lx_list.proofs.Covered.{covered-lists}
+use Rattle.lx_list.proofs.Swept.{numbered_swept}
 use Rattle.lx_settle.proofs.Rest.{there as attached_there}
 use Rattle.lx_editor.specs.Editor.{Editor}
 use Rattle.lx_editor.specs.Standing.{IsState, HasKinds, IsEntry, EachEntry, IsValid}
-use Rattle.lx_editor.specs.Updated.{at_commit, answers_of, rested_by, begun, left_by, Left, state_with, recorded, IsNothingNew, hosts_fault, most_reads, IsCommitted}
+use Rattle.lx_editor.specs.Updated.{at_commit, answers_of, numbered_by, rested_by, IsAtRest, Settled, begun, left_by, Left, state_with, recorded, IsNothingNew, hosts_fault, most_reads, IsCommitted}
 use Rattle.lx_editor.specs.declared.recording.Recording.{Recording}
 use Rattle.lx_editor.specs.Registered.{marked_for, left_with, left_for}
 use Rattle.serde_json.specs.Data.{Data}
 use Rattle.lx_json.specs.Importing.{imported}
 use Rattle.lx_editor.specs.Loaded.{left_by_load}
-use Rattle.lx_editor.specs.Judged.{MayGiveWay, IsLeft, HasGrown, IsFresh, IsLeftOfImport}
+use Rattle.lx_editor.specs.Judged.{MayGiveWay, IsLeft, LeavesAtRest, IsSettledOf, HasGrown, IsFresh, IsLeftOfImport}
 use Rattle.lx_editor.proofs.Kept.{kinds, new_kinds, entries_kept}
 use Rattle.lx_editor.proofs.Limits.{first_none, second_none}
+use Rattle.lx_editor.proofs.Renumbered.{marked_on, rested_on, joined_on}
 use Rattle.lx_editor.proofs.Selected.{kept_again}
 use Rattle.lx_editor.proofs.Loaded.{all_touched, only_root, new_or_root, shown_by}
 
@@ -111,10 +119,33 @@ kept_frozen w f s marks next_key frozen =
     let left : Working = record (swept w) { forest = f; selection = s; marks = marks; next_key = next_key } in
     subst (λ (v : Working). kept_selection v.forest v.selection ≡ v.selection) (answered (freeze_fault (swept w)) (swept w) left frozen).1 (kept_again (drop_detached w.forest) w.selection)
 
--- what the draft leaves that came to rest
-pub rest_left : (rules : List AnyRule) (w v : Working) (f : Forest) (selection : Selection) (marks : Marked) (next_key : ℕ) → settle_step (answers_of rules) w ≡ Ok v → Freezes v f selection marks next_key
-    → rested_by rules w ≡ Ok (record { tree = f; selection = selection; marks = marks; next_key = next_key; rules = rules })
-rest_left rules w v f selection marks next_key settled frozen = ap (λ r. at_commit rules (after r freeze_step)) settled ∙ ap (at_commit rules) frozen
+-- what the draft leaves that came to rest, and whose items got their numbers
+numbered_left : (rules : List AnyRule) (w v x : Working) (f : Forest) (selection : Selection) (marks : Marked) (next_key : ℕ) → settle_step (answers_of rules) w ≡ Ok v → number_step v ≡ Ok x
+    → Freezes x f selection marks next_key
+    → rested_by rules w ≡ Ok (record { left = record { tree = f; selection = selection; marks = marks; next_key = next_key; rules = rules }; marks = v.marks })
+numbered_left rules w v x f selection marks next_key settled numbered frozen =
+    ap (numbered_by rules) settled ∙ ap (λ r. at_commit rules v.marks (after r freeze_step)) numbered ∙ ap (at_commit rules v.marks) frozen
+
+pub rest_left : (rules : List AnyRule) (w v x : Working) (f : Forest) (selection : Selection) (marks : Marked) (next_key : ℕ) → settle_step (answers_of rules) w ≡ Ok v → number_step v ≡ Ok x
+    → Freezes x f selection marks next_key → LeavesAtRest w (record { tree = f; selection = selection; marks = marks; next_key = next_key; rules = rules })
+rest_left rules w v x f selection marks next_key settled numbered frozen = (v.marks, numbered_left rules w v x f selection marks next_key settled numbered frozen)
+
+settled_is : (r : Result Settled (Cause × Option ℕ)) (a b : Settled) → r ≡ Ok a → r ≡ Ok b → a ≡ b
+settled_is r a b e g = ok_is (sym e ∙ g) where
+  ok_is : ◌≡◌ {A = Result Settled (Cause × Option ℕ)} (Ok a) (Ok b) → a ≡ b
+  ok_is h = cc
+
+-- it is at rest
+rest_settled : (rules : List AnyRule) (w v x : Working) (f : Forest) (selection : Selection) (marks : Marked) (next_key : ℕ) → settle_step (answers_of rules) w ≡ Ok v → number_step v ≡ Ok x
+    → Freezes x f selection marks next_key → IsForest x.forest → IsRenumbered v.forest x.forest → IsRested (answers_of rules) v.forest v.marks
+    → IsSettledOf w (record { tree = f; selection = selection; marks = marks; next_key = next_key; rules = rules })
+rest_settled rules w v x f selection marks next_key settled numbered frozen order renumbered rested left is =
+    let answers = answers_of rules in
+    let own : Settled = record { left = record { tree = f; selection = selection; marks = marks; next_key = next_key; rules = rules }; marks = v.marks } in
+    let parts = frozen_parts x f selection marks next_key frozen in
+    let later : IsRested answers x.forest v.marks = rested_on answers v.forest x.forest v.marks renumbered rested in
+    let at_rest : IsAtRest own = subst (λ g. IsRested answers g v.marks) parts.0 (settling_ends.rested_swept answers x.forest v.marks order later) in
+    subst IsAtRest (settled_is (rested_by rules w) own left (numbered_left rules w v x f selection marks next_key settled numbered frozen) is) at_rest
 
 -- its marks cover the trees before and after
 left_covered : (u v : Working) (f : Forest) (selection : Selection) (marks : Marked) (next_key : ℕ) → u.marks ≡ unmarked → AreMarked u v → Freezes v f selection marks next_key → AreCovered u.forest f (marking marks)
@@ -142,11 +173,10 @@ has-swept : (f : Forest) (q : ℕ) → has q (drop_detached f) ≡ true → has 
 unfolding drop_detached
 has-swept f q there = attached_there f q there
 
--- What is joined and at rest, and is frozen, may be left.
-left_frozen : (rules : List AnyRule) (v : Working) (f : Forest) (selection : Selection) (marks : Marked) (next_key : ℕ) → IsForest v.forest → IsJoined v.forest → IsRested (answers_of rules) v.forest v.marks
+-- What is joined and numbered, and is frozen, may be left.
+left_frozen : (rules : List AnyRule) (v : Working) (f : Forest) (selection : Selection) (marks : Marked) (next_key : ℕ) → IsForest v.forest → IsJoined v.forest → IsNumbered v.forest
     → Freezes v f selection marks next_key → MayStart f next_key → IsLeft (record { tree = f; selection = selection; marks = marks; next_key = next_key; rules = rules })
-left_frozen rules v f selection marks next_key order joined rested frozen start =
-    let answers = answers_of rules in
+left_frozen rules v f selection marks next_key order joined numbered frozen start =
     let parts = frozen_parts v f selection marks next_key frozen in
     let against = nothing_against v f selection marks next_key frozen in
     record {
@@ -158,8 +188,8 @@ left_frozen rules v f selection marks next_key order joined rested frozen start 
         selected = against.0;
         kept = kept_frozen v f selection marks next_key frozen;
         joined = subst IsJoined parts.0 (settling_ends.joined_swept v.forest order joined);
+        numbered = subst IsNumbered parts.0 (numbered_swept v.forest order numbered);
       };
-      rested = subst (λ g. IsRested answers g marks) parts.0 (subst (IsRested answers (drop_detached v.forest)) parts.1 (settling_ends.rested_swept answers v.forest v.marks order rested));
     }
 
 -- what is left has grown from the tree that the draft began with
@@ -171,43 +201,53 @@ left_grown rules u v f selection marks next_key m covers frozen = record {
   each = λ q there. m.keys.each q (has-swept v.forest q (ap (has q) (frozen_parts v f selection marks next_key frozen).0 ∙ there));
 }
 
--- What came to rest of a draft and is frozen may be left, its marks cover it, and it has grown.
-pub left_stands : (rules : List AnyRule) (u w v : Working) (f : Forest) (selection : Selection) (marks : Marked) (next_key : ℕ) → IsFresh u → drafts.AreCovered u w → settle_step (answers_of rules) w ≡ Ok v
-    → Freezes v f selection marks next_key → MayStart f next_key → IsLeft (record { tree = f; selection = selection; marks = marks; next_key = next_key; rules = rules }) × AreCovered u.forest f (marking marks)
+-- What came to rest of a draft, with its items numbered, and is frozen may be left, its marks cover it, and it has grown.
+pub left_stands : (rules : List AnyRule) (u w v x : Working) (f : Forest) (selection : Selection) (marks : Marked) (next_key : ℕ) → IsFresh u → drafts.AreCovered u w → settle_step (answers_of rules) w ≡ Ok v
+    → number_step v ≡ Ok x → IsRenumbered v.forest x.forest → Freezes x f selection marks next_key → MayStart f next_key
+    → IsLeft (record { tree = f; selection = selection; marks = marks; next_key = next_key; rules = rules }) × AreCovered u.forest f (marking marks)
     × HasGrown u.forest u.next_key (record { tree = f; selection = selection; marks = marks; next_key = next_key; rules = rules })
-left_stands rules u w v f selection marks next_key fresh c settled frozen start =
+    × IsSettledOf w (record { tree = f; selection = selection; marks = marks; next_key = next_key; rules = rules })
+left_stands rules u w v x f selection marks next_key fresh c settled numbered renumbered frozen start =
     let answers = answers_of rules in
-    let m : AreMarked u v = settling_ends.covers answers u w v c settled in
+    let before : AreMarked u v = settling_ends.covers answers u w v c settled in
+    let m : AreMarked u x = marked_on u v x before (covered-lists.number v x before.ready numbered) in
     let all : IsAlone u.forest = all_attached u.forest fresh.state.in_order fresh.state.alone in
     let joined : IsJoined v.forest = settling_ends.joins answers u w v (ready_start u fresh) all fresh.state.joined fresh.fresh c settled in
     let rested : IsRested answers v.forest v.marks = settling_ends.rests answers u w v (fresh.marks ∙ sym fresh.fresh) c settled in
-    let covers : AreCovered u.forest f (marking marks) = left_covered u v f selection marks next_key fresh.marks m frozen in
-    (left_frozen rules v f selection marks next_key m.ready.in_order joined rested frozen start, covers, left_grown rules u v f selection marks next_key m covers frozen)
+    let covers : AreCovered u.forest f (marking marks) = left_covered u x f selection marks next_key fresh.marks m frozen in (
+      left_frozen rules x f selection marks next_key m.ready.in_order (joined_on v.forest x.forest renumbered joined) renumbered.numbered frozen start,
+      covers,
+      left_grown rules u x f selection marks next_key m covers frozen,
+      rest_settled rules w v x f selection marks next_key settled numbered frozen m.ready.in_order renumbered rested,
+    )
 
--- What came to rest of an import and is frozen may be left, and is shown where a tree gave way to it.
-pub import_stands : (rules : List AnyRule) (w v : Working) (f : Forest) (selection : Selection) (marks : Marked) (next_key : ℕ) → settle_step (answers_of rules) w ≡ Ok v
-    → Freezes v f selection marks next_key → MayStart f next_key → IsLeftOfImport w (record { tree = f; selection = selection; marks = marks; next_key = next_key; rules = rules })
-import_stands rules w v f selection marks next_key settled frozen start next im =
+-- What came to rest of an import, with its items numbered, and is frozen may be left, and is shown where a tree gave way to it.
+pub import_stands : (rules : List AnyRule) (w v x : Working) (f : Forest) (selection : Selection) (marks : Marked) (next_key : ℕ) → settle_step (answers_of rules) w ≡ Ok v → number_step v ≡ Ok x
+    → IsRenumbered v.forest x.forest → Freezes x f selection marks next_key → MayStart f next_key
+    → IsLeftOfImport w (record { tree = f; selection = selection; marks = marks; next_key = next_key; rules = rules })
+import_stands rules w v x f selection marks next_key settled numbered renumbered frozen start next im =
     let answers = answers_of rules in
     let left : Left = record { tree = f; selection = selection; marks = marks; next_key = next_key; rules = rules } in
     let u : Working = started w.forest Nothing w.next_key in
-    let m : AreMarked w v = settling_ends.covers answers w w v (covered-self w im.covered.ready) settled in
-    let order : IsForest v.forest = m.ready.in_order in
+    let before : AreMarked w v = settling_ends.covers answers w w v (covered-self w im.covered.ready) settled in
+    let m : AreMarked w x = marked_on w v x before (covered-lists.number v x before.ready numbered) in
+    let order : IsForest x.forest = m.ready.in_order in
     let joined : IsJoined v.forest = settling_ends.joins_marked answers u w v refl im.covered (λ q there. im.all_marked q (attached_there w.forest q there)) settled in
     let rested : IsRested answers v.forest v.marks = settling_ends.rests answers u w v refl im.covered settled in
-    let parts = frozen_parts v f selection marks next_key frozen in
-    let tree_order : IsForest f = subst IsForest parts.0 (IsForest-drop_detached v.forest order) in
-    let still : (q : ℕ) → has q f ≡ true → has q v.forest ≡ true = λ q there. has-swept v.forest q (ap (has q) parts.0 ∙ there) in
-    let touched : (q : ℕ) → has q f ≡ true → is_touched marks q ≡ true = λ q there. ap (λ n. is_touched n q) (sym parts.1) ∙ all_touched w v next im m q (still q there) in (
-      left_frozen rules v f selection marks next_key order joined rested frozen start,
+    let parts = frozen_parts x f selection marks next_key frozen in
+    let tree_order : IsForest f = subst IsForest parts.0 (IsForest-drop_detached x.forest order) in
+    let still : (q : ℕ) → has q f ≡ true → has q x.forest ≡ true = λ q there. has-swept x.forest q (ap (has q) parts.0 ∙ there) in
+    let touched : (q : ℕ) → has q f ≡ true → is_touched marks q ≡ true = λ q there. ap (λ n. is_touched n q) (sym parts.1) ∙ all_touched w x next im m q (still q there) in (
+      left_frozen rules x f selection marks next_key order (joined_on v.forest x.forest renumbered joined) renumbered.numbered frozen start,
       touched 0 (has-root f tree_order),
+      rest_settled rules w v x f selection marks next_key settled numbered frozen order renumbered rested,
       λ old way.
-          let shown = shown_by left old way.in_order tree_order touched (λ q was is. only_root w v next im m old way q was (still q is)) in (
+          let shown = shown_by left old way.in_order tree_order touched (λ q was is. only_root w x next im m old way q was (still q is)) in (
             shown,
             record {
-              next_key = omega (arith, im.rises, m.keys.next, next_frozen v f selection marks next_key frozen);
+              next_key = omega (arith, im.rises, m.keys.next, next_frozen x f selection marks next_key frozen);
               kinds = shown.covered.kinds;
-              each = λ q there. new_or_root w v next im m old way q (still q there);
+              each = λ q there. new_or_root w x next im m old way q (still q there);
             },
           ),
     )
@@ -272,12 +312,12 @@ module _ (e : Editor) (how : Recording) (left : Left) (view : HostTree) (history
     };
   }
 
-  pub committed : (reads : ℕ) → IsRested (answers_of left.rules) left.tree left.marks → IsJoined left.tree → (IsNothingNew e left → ⊥) → hosts_fault e.tree left.tree e.view ≡ None → reads ≤ most_reads e.tree left.tree (is_noted left.marks) → IsCommitted e how left (e.commits + 1) ops (made reads)
-  committed reads rested joined anew ids few = record {
+  pub committed : (reads : ℕ) → IsJoined left.tree → IsNumbered left.tree → (IsNothingNew e left → ⊥) → hosts_fault e.tree left.tree e.view ≡ None → reads ≤ most_reads e.tree left.tree (is_noted left.marks) → IsCommitted e how left (e.commits + 1) ops (made reads)
+  committed reads joined numbered anew ids few = record {
     anew = anew;
     ids = ids;
-    rested = rested;
     joined = joined;
+    numbered = numbered;
     allowed = reached;
     reads = reads;
     few = few;
@@ -331,6 +371,14 @@ root_joined = record {
   apart = λ q n here next. ap (λ o. are_alike o (simple_at root_alone n)) (no_text q);
 }
 
+-- the root is no list
+no_list : (q : ℕ) → is_at is_list root_alone q ≡ false
+unfolding is_list
+no_list q = grind (arith, eqb_tells 0 q, eqb_tells q 0)
+
+root_numbered : IsNumbered root_alone
+root_numbered = record { each = λ list there is i item at. absurd (let other : is_at is_list root_alone list ≡ false = no_list list in cc) }
+
 root_in_order : IsForest root_alone
 root_in_order = record { once = λ q. once_at q; rising = refl; root = refl }
 
@@ -349,6 +397,7 @@ new_valid f selection view history delay rules listeners tells_view alone none s
     selected = subst (λ s. selection_lost s f ≡ None) (sym none) refl;
     kept = subst (λ s. kept_selection f s ≡ s) (sym none) refl;
     joined = subst IsJoined (sym alone) root_joined;
+    numbered = subst IsNumbered (sym alone) root_numbered;
   };
   shown = subst (Shows view) (sym alone) (subst (λ v. Shows v root_alone) (sym shown) refl);
   none = λ zero. refl;

@@ -1,10 +1,11 @@
 -- What an editor is.
-use Rattle.std.specs.Prelude.{ℕ, Bool, List, [], Option, None}
+use Rattle.std.specs.Prelude.{ℕ, Bool, List, [], ◌∷◌, Option, None}
 use Rattle.lx_host.specs.Hosts.{HostTree, new_tree}
 use Rattle.lx_select.specs.declared.selection.Selection.{Selection}
 use Rattle.lx_select.specs.declared.selection.Selection.TheVariants.{Nothing}
 use Rattle.lx_forest.specs.Forest.{Forest, root_alone}
 use Rattle.lx_rules.specs.declared.any_rule.AnyRule.{AnyRule}
+use Rattle.lx_rules.specs.AnyRules.{merge_rule}
 use Rattle.lx_reconcile.specs.Told.{Told}
 use Rattle.lx_step.specs.declared.listener.Listener.{Listener}
 use Rattle.lx_history.specs.History.{History, new_history}
@@ -25,6 +26,10 @@ pub record Editor : Type 0 where
   pub listeners : List Listener
   pub tells_view : Bool
 
+-- the rules that every editor has before any is registered
+abbrev pub built_in : List AnyRule
+built_in = merge_rule ∷ []
+
 -- a new one, whose replies to commits tell the view or not, and whose history has this delay, in milliseconds
 abbrev pub new_editor : Bool → ℕ → Editor
 new_editor tells_view delay = record {
@@ -36,7 +41,7 @@ new_editor tells_view delay = record {
   last = None;
   history = new_history delay;
   moment = 0;
-  rules = [];
+  rules = built_in;
   listeners = [];
   tells_view = tells_view;
 }

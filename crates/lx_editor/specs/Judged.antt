@@ -17,7 +17,6 @@ use Rattle.lx_run.specs.declared.ending.Ending.{Ending}
 use Rattle.lx_run.specs.declared.ending.Ending.TheVariants as ending
 use Rattle.lx_run.specs.declared.refusal.Refusal.{Refusal}
 use Rattle.lx_run.specs.declared.refusal.Refusal.TheVariants as refusal
-use Rattle.lx_settle.specs.Rested.{IsRested}
 use Rattle.lx_editor.specs.declared.outcome.Outcome.{Outcome}
 use Rattle.lx_editor.specs.declared.outcome.Outcome.TheVariants as made
 use Rattle.lx_editor.specs.declared.outcome.Verdict.{Verdict}
@@ -26,14 +25,21 @@ use Rattle.lx_editor.specs.declared.recording.Recording.{Recording}
 use Rattle.lx_editor.specs.Editor.{Editor}
 use Rattle.lx_editor.specs.Standing.{IsState}
 use Rattle.lx_editor.specs.Turned.{is_in_either, IsTurned, IsUnshowableEntry}
-use Rattle.lx_editor.specs.Updated.{Left, left_of, answers_of, rested_by, IsNothingNew, IsUnshowable, hosts_fault, most_reads, IsCommitted}
+use Rattle.lx_editor.specs.Updated.{Left, Settled, left_of, rested_by, IsAtRest, IsNothingNew, IsUnshowable, hosts_fault, most_reads, IsCommitted}
 
 -- ---- what is left
 
--- What may be left for a commit: a state again, which is at rest under its rules.
+-- What may be left for a commit: a state again.
 pub record IsLeft (left : Left) : Type 0 where
   pub state : IsState left.tree left.selection left.next_key
-  pub rested : IsRested (answers_of left.rules) left.tree left.marks
+
+-- what a draft leaves under its rules, with what was marked as it had come to rest
+abbrev pub LeavesAtRest : Working → Left → Type 0
+LeavesAtRest w left = (settled : Marked) × (rested_by left.rules w ≡ Ok (record { left = left; marks = settled }))
+
+-- all that it leaves is at rest
+abbrev pub IsSettledOf : Working → Left → Type 0
+IsSettledOf w left = (settled : Settled) → rested_by left.rules w ≡ Ok settled → IsAtRest settled
 
 -- a draft as an update begins with it: a state of which nothing is marked
 pub record IsFresh (u : Working) : Type 0 where
@@ -51,7 +57,8 @@ pub record HasGrown (old : Forest) (next : ℕ) (left : Left) : Type 0 where
 -- What may be left of a draft that was fresh, and that its marks cover: they cover the two trees then.
 abbrev pub IsLeftOf : Working → Left → Type 0
 IsLeftOf w left =
-    (u : Working) → IsFresh u → drafts.AreCovered u w → IsLeft left × AreCovered u.forest left.tree (marking left.marks) × HasGrown u.forest u.next_key left
+    (u : Working) → IsFresh u → drafts.AreCovered u w
+    → IsLeft left × AreCovered u.forest left.tree (marking left.marks) × HasGrown u.forest u.next_key left × IsSettledOf w left
 
 -- ---- what is left of a document
 
@@ -85,7 +92,7 @@ pub record MayGiveWay (old : Forest) (next : ℕ) : Type 0 where
 -- one's root are gone.
 abbrev pub IsLeftOfImport : Working → Left → Type 0
 IsLeftOfImport w left =
-    (next : ℕ) → IsImported next w → IsLeft left × (is_touched left.marks 0 ≡ true)
+    (next : ℕ) → IsImported next w → IsLeft left × (is_touched left.marks 0 ≡ true) × IsSettledOf w left
     × ((old : Forest) → MayGiveWay old next → IsShownBy old left (with_leaves (children_of old 0) left.marks) × HasGrown old next left)
 
 -- ---- what it comes to
@@ -107,10 +114,10 @@ IsWeighed old left (Turned turn state batch) = ⊥
 IsWeighed old left (Refused cause step) = IsUnshowable old left cause step old
 IsWeighed old left Idle = (left.rules ≡ old.rules) × IsNothingNew old left
 
--- it is refused, or what is left is weighed
-abbrev pub IsJudged : Result Left (Cause × Option ℕ) → Editor → Verdict → Type 0
+-- it is refused, or what is left is at rest, and is weighed
+abbrev pub IsJudged : Result Settled (Cause × Option ℕ) → Editor → Verdict → Type 0
 IsJudged (Err refused) old verdict = verdict ≡ Refused refused.0 refused.1
-IsJudged (Ok left) old verdict = IsWeighed old left verdict
+IsJudged (Ok settled) old verdict = IsAtRest settled × IsWeighed old settled.left verdict
 
 -- ---- what an undo or a redo comes to
 

@@ -8,11 +8,11 @@ use Rattle.lx_editor.specs.declared.outcome.Outcome.{Outcome}
 use Rattle.lx_editor.specs.declared.outcome.Outcome.TheVariants.{Idle}
 use Rattle.lx_editor.specs.Editor.{Editor}
 use Rattle.lx_editor.specs.Registered.{left_with}
-use Rattle.lx_editor.specs.Updated.{Left, IsMadeOf}
+use Rattle.lx_editor.specs.Updated.{Settled, IsMadeOf}
 
 -- What is left for a commit of the draft that a document makes, whose new nodes get the editor's next keys; or why it makes
 -- none.
-unfoldable pub left_by_load : Editor → Data → Result Left (Cause × Option ℕ)
+unfoldable pub left_by_load : Editor → Data → Result Settled (Cause × Option ℕ)
 left_by_load old document = left_with old.rules (imported document old.next_key)
 
 -- The outcome that a load may have, and the editor that it may leave. A document is always something new, since every node

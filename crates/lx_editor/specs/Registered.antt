@@ -1,5 +1,5 @@
 -- What registering a rule makes of an editor.
-use Rattle.std.specs.Prelude.{ℕ, true, false, nat_lt, ◌++◌, if◌then◌else◌, List, [], ◌∷◌, length, filter, Option, None, Result, Ok, Err}
+use Rattle.std.specs.Prelude.{ℕ, ◌+◌, true, false, nat_lt, ◌++◌, if◌then◌else◌, List, [], ◌∷◌, length, filter, Option, None, Result, Ok, Err}
 use Rattle.lx_node.specs.declared.cause.Cause.{Cause}
 use Rattle.lx_node.specs.declared.cause.Cause.TheVariants.{TooManyRules}
 use Rattle.lx_step.specs.declared.line.Tags.{Tags}
@@ -14,12 +14,12 @@ use Rattle.lx_rules.specs.Types.{is_of_row}
 use Rattle.lx_rules.specs.declared.any_rule.AnyRule.{AnyRule}
 use Rattle.lx_rules.specs.declared.any_rule.AnyRule.TheVariants.{Script}
 use Rattle.lx_editor.specs.declared.outcome.Outcome.{Outcome}
-use Rattle.lx_editor.specs.Editor.{Editor}
-use Rattle.lx_editor.specs.Updated.{Left, rested_by, begun, recording, IsMadeOf}
+use Rattle.lx_editor.specs.Editor.{built_in, Editor}
+use Rattle.lx_editor.specs.Updated.{Settled, rested_by, begun, recording, IsMadeOf}
 
--- the most rules that an editor has
+-- the most rules that an editor has: 256 that were registered, and those that are built in
 abbrev pub most_rules : ℕ
-most_rules = 256
+most_rules = 256 + length built_in
 
 -- the keys of the nodes of a type in the root's tree, in preorder
 abbrev pub of_type : TypeRow → Forest → List ℕ
@@ -30,11 +30,11 @@ abbrev pub marked_for : TypeRow → Working → Result Working Cause
 marked_for row w = in_turn mark_uncounted_step (of_type row w.forest) w
 
 -- what is left for a commit where they were marked
-abbrev pub left_with : List AnyRule → Result Working Cause → Result Left (Cause × Option ℕ)
+abbrev pub left_with : List AnyRule → Result Working Cause → Result Settled (Cause × Option ℕ)
 left_with rules (Ok w) = rested_by rules w
 left_with rules (Err cause) = Err (cause, None)
 
-unfoldable pub left_for : List AnyRule → TypeRow → Working → Result Left (Cause × Option ℕ)
+unfoldable pub left_for : List AnyRule → TypeRow → Working → Result Settled (Cause × Option ℕ)
 left_for rules row w = left_with rules (marked_for row w)
 
 -- the rules with one more behind them
@@ -45,7 +45,7 @@ abbrev pub with_one_more : Rule → Editor → Editor
 with_one_more rule e = record e { rules = with_rule e.rules rule }
 
 -- What is left for a commit where a rule is registered: the nodes of its type are marked. The 257th is refused.
-abbrev pub left_by_rule : Editor → Rule → Result Left (Cause × Option ℕ)
+abbrev pub left_by_rule : Editor → Rule → Result Settled (Cause × Option ℕ)
 left_by_rule old rule =
     if nat_lt (length old.rules) most_rules then left_for (with_rule old.rules rule) rule.on (begun old) else Err (TooManyRules, None)
 

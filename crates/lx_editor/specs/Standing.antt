@@ -11,6 +11,7 @@ use Rattle.lx_draft.specs.Freezing.{limits_fault, kept_selection}
 use Rattle.lx_draft.specs.Selecting.{selection_lost}
 use Rattle.lx_history.specs.History.{History}
 use Rattle.lx_settle.specs.Joined.{IsJoined}
+use Rattle.lx_list.specs.Numbered.{IsNumbered}
 use Rattle.lx_editor.specs.declared.editor.Editor.TheInside.{Inside}
 use Rattle.lx_editor.specs.Editor.{Editor}
 
@@ -30,8 +31,8 @@ editor_of a = record {
 }
 
 -- A state that may be committed: one tree, with no detached one beside it, from which an update may start with this next
--- key, which is within the limits, in which the selection lies, each point of a range and each selected node, and whose texts
--- are joined.
+-- key, which is within the limits, in which the selection lies, each point of a range and each selected node, whose texts
+-- are joined, and whose items are numbered.
 pub record IsState (f : Forest) (selection : Selection) (next_key : ℕ) : Type 0 where
   pub in_order : IsForest f
   pub alone : roots f ≡ 0 ∷ []
@@ -40,6 +41,7 @@ pub record IsState (f : Forest) (selection : Selection) (next_key : ℕ) : Type 
   pub selected : selection_lost selection f ≡ None
   pub kept : kept_selection f selection ≡ selection
   pub joined : IsJoined f
+  pub numbered : IsNumbered f
 
 -- ---- what the history keeps
 

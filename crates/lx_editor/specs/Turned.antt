@@ -9,6 +9,7 @@ use Rattle.lx_plain.specs.Allowed.{AreAllowed}
 use Rattle.lx_draft.specs.declared.state.State.{State}
 use Rattle.lx_history.specs.History.{entry_of, turned, cleared}
 use Rattle.lx_settle.specs.Joined.{IsJoined}
+use Rattle.lx_list.specs.Numbered.{IsNumbered}
 use Rattle.lx_editor.specs.declared.outcome.Outcome.{Outcome}
 use Rattle.lx_editor.specs.declared.outcome.Outcome.TheVariants.{Committed, Refused, Idle}
 use Rattle.lx_editor.specs.Editor.{Editor}
@@ -20,7 +21,7 @@ is_in_either old new q = has q old || has q new
 
 -- The history has gone to an entry, whose tree and selection are committed as they were recorded, whatever was written since.
 -- No rule is asked, no key is given back, and the operations lead from the committed tree to the entry's, whose texts are
--- joined. Of the new editor only the view's ids and the number of reads are left open.
+-- joined and whose items are numbered. Of the new editor only the view's ids and the number of reads are left open.
 pub record IsTurned (turn : Turn) (moment : ℕ) (old : Editor) (commit : ℕ) (ops : List Op) (new : Editor) : Type 0 where
   pub entry : State
   pub next : entry_of turn old.history ≡ Some entry
@@ -31,6 +32,7 @@ pub record IsTurned (turn : Turn) (moment : ℕ) (old : Editor) (commit : ℕ) (
   pub reads : ℕ
   pub few : reads ≤ most_reads old.tree entry.links (is_in_either old.tree entry.links)
   pub joined : IsJoined entry.links
+  pub numbered : IsNumbered entry.links
   pub number : commit ≡ old.commits + 1
   pub made : new ≡ record {
     tree = entry.links;

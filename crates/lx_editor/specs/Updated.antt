@@ -29,6 +29,8 @@ use Rattle.lx_settle.specs.Acting.{all_asked}
 use Rattle.lx_settle.specs.Joined.{IsJoined}
 use Rattle.lx_settle.specs.Rested.{IsRested}
 use Rattle.lx_settle.specs.Settling.{settle_step}
+use Rattle.lx_list.specs.Numbered.{IsNumbered}
+use Rattle.lx_list.specs.Numbering.{number_step}
 use Rattle.lx_editor.specs.declared.recording.Recording.{Recording}
 use Rattle.lx_editor.specs.declared.outcome.Outcome.{Outcome}
 use Rattle.lx_editor.specs.declared.outcome.Outcome.TheVariants.{Committed, Refused, Idle}
@@ -52,22 +54,36 @@ abbrev pub left_of : List AnyRule → Frozen → Left
 left_of rules frozen =
     record { tree = frozen.state.links; selection = frozen.state.selection; marks = frozen.marks; next_key = frozen.next_key; rules = rules }
 
+-- the same with what was marked when it had come to rest, before items got other numbers
+pub record Settled : Type 0 where
+  pub left : Left
+  pub marks : Marked
+
 -- what is committed, or a refusal of the commit, which no step is refused for
-abbrev pub at_commit : List AnyRule → Result Working Cause → Result Left (Cause × Option ℕ)
-at_commit rules (Ok w) = Ok (left_in rules w)
-at_commit rules (Err cause) = Err (cause, None)
+abbrev pub at_commit : List AnyRule → Marked → Result Working Cause → Result Settled (Cause × Option ℕ)
+at_commit rules settled (Ok w) = Ok (record { left = left_in rules w; marks = settled })
+at_commit rules settled (Err cause) = Err (cause, None)
 
 -- what rules answer
 abbrev pub answers_of : List AnyRule → List Answers
 answers_of rules = all_asked any_rows any_acts rules
 
--- what a draft leaves for a commit: it comes to rest under the rules, and is frozen
-abbrev pub rested_by : List AnyRule → Working → Result Left (Cause × Option ℕ)
-rested_by rules w = at_commit rules (after (settle_step (answers_of rules) w) freeze_step)
+-- what a draft leaves that has come to rest: its items get their numbers, and it is frozen
+abbrev pub numbered_by : List AnyRule → Result Working Cause → Result Settled (Cause × Option ℕ)
+numbered_by rules (Ok v) = at_commit rules v.marks (after (number_step v) freeze_step)
+numbered_by rules (Err cause) = Err (cause, None)
+
+-- what a draft leaves for a commit: it comes to rest under the rules first
+abbrev pub rested_by : List AnyRule → Working → Result Settled (Cause × Option ℕ)
+rested_by rules w = numbered_by rules (settle_step (answers_of rules) w)
+
+-- It is at rest for its rules and for what was marked as it had come to rest.
+abbrev pub IsAtRest : Settled → Type 0
+IsAtRest settled = IsRested (answers_of settled.left.rules) settled.left.tree settled.marks
 
 -- What steps leave of a draft for a commit, where these listeners are offered what they dispatch; or why they are refused, and
 -- at which step.
-unfoldable pub left_by : List AnyRule → List Listener → List Step → Working → Result Left (Cause × Option ℕ)
+unfoldable pub left_by : List AnyRule → List Listener → List Step → Working → Result Settled (Cause × Option ℕ)
 left_by rules listeners steps w = and_then (drafted (steps_run listeners steps w)) (rested_by rules)
 
 -- the draft that an update begins with
@@ -108,14 +124,14 @@ TellsHosts fault.Memory found = Unit {0}
 abbrev pub most_reads : Forest → Forest → (ℕ → Bool) → ℕ
 most_reads old new noted = 8 * (marked_children (staying noted new) old + marked_children noted new + unkept old None new + 1)
 
--- It is something new, the view has ids for it, and it is committed: it is at rest under its rules, its texts are joined, the
+-- It is something new, the view has ids for it, and it is committed: its texts are joined, its items are numbered, the
 -- operations are allowed between the two trees, and they were found by no more reads than that. The history has it as these
 -- tags and this moment say. Of the new editor only the view's ids and the number of reads are left open.
 pub record IsCommitted (old : Editor) (how : Recording) (left : Left) (commit : ℕ) (ops : List Op) (new : Editor) : Type 0 where
   pub anew : IsNothingNew old left → ⊥
   pub ids : hosts_fault old.tree left.tree old.view ≡ None
-  pub rested : IsRested (answers_of left.rules) left.tree left.marks
   pub joined : IsJoined left.tree
+  pub numbered : IsNumbered left.tree
   pub allowed : AreAllowed old.tree left.tree (is_touched left.marks) old.view ops new.view
   pub reads : ℕ
   pub few : reads ≤ most_reads old.tree left.tree (is_noted left.marks)
@@ -147,10 +163,10 @@ IsTaken old how left (Committed commit ops) new = IsCommitted old how left commi
 IsTaken old how left (Refused cause step) new = IsUnshowable old left cause step new
 IsTaken old how left Idle new = IsNothingNew old left × (new ≡ record old { rules = left.rules })
 
--- It is refused, and nothing changes; or what is left is taken.
-abbrev pub IsMadeOf : Result Left (Cause × Option ℕ) → Editor → Recording → Outcome → Editor → Type 0
+-- It is refused, and nothing changes; or what is left is at rest, and is taken.
+abbrev pub IsMadeOf : Result Settled (Cause × Option ℕ) → Editor → Recording → Outcome → Editor → Type 0
 IsMadeOf (Err refused) old how outcome new = (outcome ≡ Refused refused.0 refused.1) × (new ≡ old)
-IsMadeOf (Ok left) old how outcome new = IsTaken old how left outcome new
+IsMadeOf (Ok settled) old how outcome new = IsAtRest settled × IsTaken old how settled.left outcome new
 
 unfoldable pub IsUpdated : Editor → List Step → Recording → Outcome → Editor → Type 0
 IsUpdated old steps how outcome new = IsMadeOf (left_by old.rules old.listeners steps (begun old)) old how outcome new

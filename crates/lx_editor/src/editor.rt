@@ -3,6 +3,7 @@ ghost use Rattle.lx_node.specs.Limits.{last_u32};
 use crate::outcome::{Outcome, Verdict};
 use crate::reconciling::follow;
 use crate::recording::Recording;
+use crate::registering::built_in_rules;
 use lx_bus::Bus;
 use lx_draft::{Frozen, State};
 use lx_history::History;
@@ -60,8 +61,8 @@ impl Editor {
     ghost use Rattle.lx_editor.specs.Updated.{IsUpdated, IsCommitted, left_of, recording};
     ghost use Rattle.lx_editor.specs.Judged.{MayCommit, MayConclude, IsConcluded};
 
-    /// A new editor: the root alone, nothing selected, no commit, no rule, no listener, nothing recorded, and a view that
-    /// shows it. Its replies to commits tell the view, as HTML, where `tells_view` is true. Typing goes on in one entry of
+    /// A new editor: the root alone, nothing selected, no commit, no rule but the one that is built in, no listener, nothing
+    /// recorded, and a view that shows it. Its replies to commits tell the view, as HTML, where `tells_view` is true. Typing goes on in one entry of
     /// the history while less than `delay` milliseconds lie between two commits.
     pub fn new(alloc: Global, tells_view: bool, delay: u64) -> Result<Editor, NoMemory>
         ensures { IfOk result (λ made. made ≡ new_editor tells_view delay) }
@@ -74,14 +75,15 @@ impl Editor {
             last: None,
             history: History::new(alloc, delay)?,
             moment: 0,
-            rules: Vec::new(alloc),
+            rules: built_in_rules(alloc)?,
             bus: Bus::new(alloc)?,
             tells_view,
         })
     }
 
     /// The state that is committed: one tree, in which the selection lies. Its texts are joined: no simple text is
-    /// empty, and no two that stand beside each other have one format and style.
+    /// empty, and no two that stand beside each other have one format and style. Its items are numbered: each has the
+    /// number with which its list begins, and one more for each item before it whose first child isn't a list.
     pub fn state(&self) -> &State
         ensures tree { result.now.links ≡ self.now.tree }
         ensures selection { result.now.selection ≡ self.now.selection }

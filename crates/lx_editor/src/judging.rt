@@ -14,7 +14,7 @@ ghost use Rattle.lx_editor.specs.Judged.{IsLeft, HasGrown, IsFresh, IsJudged, Is
 ghost use Rattle.lx_plain.specs.Allowed.{AreCovered};
 ghost use Rattle.lx_reconcile.specs.Allowing.{marking};
 ghost use Rattle.lx_editor.specs.Registered.{left_for, left_with};
-ghost use Rattle.lx_editor.specs.Updated.{Left, left_of, left_by, begun, rested_by};
+ghost use Rattle.lx_editor.specs.Updated.{Settled, left_of, left_by, begun, rested_by};
 
 use crate::editor::Editor;
 use crate::leaving::rest;
@@ -29,7 +29,7 @@ use std::alloc::Global;
 
 /// The verdict that a refusal is.
 pub(crate) fn verdict_of(refusal: Refusal) -> Result<Verdict, NoMemory>
-    ensures judged { (left : Result Left (CauseOf × Option ℕ)) (e : EditorOf) → TellsRefusal refusal left → IfOk result (IsJudged left e) }
+    ensures judged { (left : Result Settled (CauseOf × Option ℕ)) (e : EditorOf) → TellsRefusal refusal left → IfOk result (IsJudged left e) }
     ensures for_cause { OnOk result (IsForCause refusal) }
     ensures refused { IfOk result (λ verdict. is_refused verdict ≡ true) }
 {

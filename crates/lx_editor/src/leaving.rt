@@ -1,26 +1,33 @@
 //! What a draft leaves for a commit.
 
-ghost use Rattle.std.specs.Prelude.{◌≡◌, Ok, IfOk, IfErr};
+ghost use Rattle.std.specs.Prelude.{IfOk, IfErr};
 ghost use Rattle.lx_run.specs.Refusals.{TellsRefusal};
 ghost use Rattle.lx_editor.specs.Updated.{left_of, rested_by};
-ghost use Rattle.lx_editor.specs.Judged.{IsLeftOf, IsLeftOfImport};
+ghost use Rattle.lx_editor.specs.Judged.{IsLeftOf, IsLeftOfImport, LeavesAtRest};
 
 use lx_draft::{Draft, Frozen};
+use lx_list::number;
 use lx_node::Fault;
 use lx_rules::AnyRule;
 use lx_run::Refusal;
 use lx_settle::settle;
 use std::alloc::Global;
 
-/// What a draft leaves for a commit: it comes to rest under the rules, and is frozen. No step is refused for it.
+/// What a draft leaves for a commit: it comes to rest under the rules, its items get their numbers, and it is frozen. No step
+/// is refused for it.
 pub(crate) fn rest(alloc: Global, draft: Draft, rules: &[AnyRule]) -> Result<Frozen, Refusal>
-    ensures left { IfOk result (λ frozen. rested_by rules.now draft ≡ Ok (left_of rules.now frozen)) }
+    ensures left { IfOk result (λ frozen. LeavesAtRest draft (left_of rules.now frozen)) }
     ensures stands { IfOk result (λ frozen. IsLeftOf draft (left_of rules.now frozen)) }
     ensures imported { IfOk result (λ frozen. IsLeftOfImport draft (left_of rules.now frozen)) }
     ensures refused { IfErr result (λ e. TellsRefusal e (rested_by rules.now draft)) }
 {
     let mut draft = draft;
     match settle(alloc, &mut draft, rules) {
+        Ok(()) => {}
+        Err(Fault::Cause(cause)) => return Err(Refusal::Cause { cause, step: None }),
+        Err(Fault::Memory) => return Err(Refusal::Memory),
+    }
+    match number(alloc, &mut draft) {
         Ok(()) => {}
         Err(Fault::Cause(cause)) => return Err(Refusal::Cause { cause, step: None }),
         Err(Fault::Memory) => return Err(Refusal::Memory),

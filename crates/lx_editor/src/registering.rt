@@ -1,7 +1,8 @@
 //! Rules: how one comes to stand behind the others.
 
 ghost use Rattle.lx_node.specs.Limits.{last_u32};
-ghost use Rattle.std.specs.Prelude.{◌≡◌};
+ghost use Rattle.std.specs.Prelude.{◌≡◌, IfOk};
+ghost use Rattle.lx_editor.specs.Editor.{built_in};
 ghost use Rattle.lx_editor.specs.Registered.{merging};
 ghost use Rattle.lx_editor.specs.Updated.{recording};
 
@@ -9,12 +10,21 @@ use crate::editor::Editor;
 use crate::outcome::{Outcome, Verdict};
 use crate::recording::Recording;
 use lx_node::{Cause, NoMemory};
-use lx_rules::AnyRule;
+use lx_rules::{AnyRule, ListMerge};
 use lx_step::{Rule, Tags};
 use std::alloc::Global;
 
-/// The most rules that an editor has.
-const MOST_RULES: usize = 256;
+/// The most rules that an editor has: 256 that were registered, and the one that is built in.
+const MOST_RULES: usize = 257;
+
+/// The rules that an editor has from the beginning.
+pub(crate) fn built_in_rules(alloc: Global) -> Result<Vec<AnyRule>, NoMemory>
+    ensures { IfOk result (λ rules. rules.items ≡ built_in) }
+{
+    let mut rules = Vec::new(alloc);
+    rules.push(AnyRule::Merge(ListMerge))?;
+    Ok(rules)
+}
 
 /// What is made of the state goes into the history's current entry.
 fn merged_at(moment: u64) -> Recording
@@ -29,7 +39,7 @@ fn merged_at(moment: u64) -> Recording
 }
 
 impl Editor {
-    ghost use Rattle.std.specs.Prelude.{◌+◌, ◌<◌, ◌≤◌, if◌then◌else◌, IfOk, OnOk, OnErr};
+    ghost use Rattle.std.specs.Prelude.{◌+◌, ◌<◌, ◌≤◌, if◌then◌else◌, OnOk, OnErr};
     ghost use Rattle.lx_step.specs.declared.rule.Rule.{Rule as RuleOf};
     ghost use Rattle.lx_editor.specs.Editor.{Editor as EditorOf};
     ghost use Rattle.lx_editor.specs.Registered.{IsRegistered, left_by_rule, with_one_more};

@@ -106,7 +106,7 @@ impl Editor {
     }
 
     /// What is recorded: the states to go back to and forth to, and the current one. Each of them is one tree, in which
-    /// its selection lies and whose texts are joined.
+    /// its selection lies, whose texts are joined and whose items are numbered.
     pub fn history(&self) -> &History
         ensures history { result.now.history ≡ self.now.history }
         ensures entries { EachEntry (IsEntry self.now.next_key) self.now.history }

@@ -43,5 +43,5 @@ returns-clause-committed c =
     let may : MayCommit e left c.args.batch = subst (λ (d : Editor). MayCommit d (left_of d.rules c.args.frozen) c.args.batch) (sym c.self.view_is) c.requires.may in
     let leads : Leads e.view ops view = subst (λ ops. Leads e.view ops view) c.in_ok-ops.ensures c.in_ok-follow.ensures.leads in
     let new : Editor = made e c.args.how left view history is ops may.allowed leads reads in
-    let done = committed e c.args.how left view history is ops may.allowed leads reads may.stands.rested may.stands.state.joined may.anew may.ids may.few in
+    let done = committed e c.args.how left view history is ops may.allowed leads reads may.stands.state.joined may.stands.state.numbered may.anew may.ids may.few in
     subst (λ (d : Editor). IsCommitted d c.args.how (left_of d.rules c.args.frozen) (d.commits + 1) ops new) c.self.view_is done

@@ -1,9 +1,9 @@
-use Rattle.std.proofs.Common.{◌≡◌, ◌∙◌, List, Ok, sym, ap, subst}
+use Rattle.std.proofs.Common.{◌≡◌, ◌∙◌, List, sym, ap, subst}
 use Rattle.lx_rules.specs.declared.any_rule.AnyRule.{AnyRule}
 use Rattle.lx_editor.specs.Editor.{Editor}
 use Rattle.lx_editor.specs.Standing.{IsValid}
-use Rattle.lx_editor.specs.Updated.{left_of, rested_by}
-use Rattle.lx_editor.specs.Judged.{IsLeft, HasGrown, IsJudged}
+use Rattle.lx_editor.specs.Updated.{left_of}
+use Rattle.lx_editor.specs.Judged.{IsLeft, HasGrown, IsJudged, LeavesAtRest, IsSettledOf}
 use Rattle.lx_editor.proofs.Updated.{fresh_begun}
 use Rattle.lx_editor.proofs.Told.{told}
 use Rattle.lx_editor.proofs.editor.Editor.judge_draft.Goals as goal
@@ -24,7 +24,13 @@ pub returns-in-Ok : goal.returns-in-Ok
 returns-in-Ok c =
     let e : Editor = c.args.self.now in
     let same : c.as_slice.result.now ≡ e.rules = c.as_slice.ensures.value ∙ ap (λ (d : Editor). d.rules) c.self.view_is in
-    let rested : rested_by e.rules c.args.draft ≡ Ok (left_of e.rules c.in-Ok.frozen) =
-    subst (λ (rules : List AnyRule). rested_by rules c.args.draft ≡ Ok (left_of rules c.in-Ok.frozen)) same c.in-Ok.ensures.left
+    let valid : IsValid e = subst IsValid c.self.view_is c.self.invariant in
+    let leaves : LeavesAtRest c.args.draft (left_of e.rules c.in-Ok.frozen) = subst (λ (rules : List AnyRule). LeavesAtRest c.args.draft (left_of rules c.in-Ok.frozen)) same c.in-Ok.ensures.left in
+    let settles : IsSettledOf c.args.draft (left_of e.rules c.in-Ok.frozen) =
+    subst (λ (rules : List AnyRule). IsSettledOf c.args.draft (left_of rules c.in-Ok.frozen)) same (c.in-Ok.ensures.stands _ (fresh_begun e valid) c.requires.covered).3
     in
-    record { judged = told c.weigh.result _ _ c.weigh.ensures.weighed (λ verdict weighed. subst (λ r. IsJudged r e verdict) (sym rested) weighed) }
+    record {
+      judged =
+          told c.weigh.result _ _ c.weigh.ensures.weighed
+          (λ verdict weighed. subst (λ r. IsJudged r e verdict) (sym leaves.1) (settles (record { left = left_of e.rules c.in-Ok.frozen; marks = leaves.0 }) leaves.1, weighed));
+    }

@@ -8,7 +8,7 @@ use Rattle.lx_editor.specs.Editor.{Editor}
 use Rattle.lx_editor.specs.Standing.{IsValid}
 use Rattle.lx_editor.specs.Loaded.{left_by_load}
 use Rattle.lx_editor.specs.Updated.{left_of, rested_by}
-use Rattle.lx_editor.specs.Judged.{IsJudged, IsLeftOfImport}
+use Rattle.lx_editor.specs.Judged.{IsJudged, IsLeftOfImport, LeavesAtRest, IsSettledOf}
 use Rattle.lx_editor.proofs.Updated.{first_key, may_give_way, load_left}
 use Rattle.lx_editor.proofs.Told.{told}
 use Rattle.lx_editor.proofs.editor.Editor.judge_load.Goals as goal
@@ -44,14 +44,21 @@ weigh_load-requires c =
     let import : IsImported now.next_key draft = subst (λ (e : Editor). IsImported e.next_key draft) c.self.view_is c.in-Ok.ensures.made in
     let at = same (goal.at.weigh_load-requires c).After-as_slice in
     let stands = subst (λ (rules : List AnyRule). IsLeftOfImport draft (left_of rules c.in-Ok-rest.frozen)) at c.in-Ok-rest.ensures.imported now.next_key import in
-    let place = stands.2 now.tree (may_give_way now valid) in
+    let place = stands.3 now.tree (may_give_way now valid) in
     record { left = stands.0; shown = place.0; grown = place.1; anew = stands.1 }
 
 pub returns-in-Ok-rest-clause-judged : goal.returns-in-Ok-rest-clause-judged
 returns-in-Ok-rest-clause-judged c =
     let at = (goal.at.returns-in-Ok-rest-clause-judged c).After-as_slice in
-    let is = left at ∙ c.in-Ok-rest.ensures.left ∙ ap (λ (rules : List AnyRule). Ok (left_of rules c.in-Ok-rest.frozen)) (same at) in
-    told c.weigh_load.result _ _ c.weigh_load.ensures.weighed (λ verdict weighed. subst (λ r. IsJudged r c.args.self.now verdict) (sym is) weighed)
+    let now : Editor = c.args.self.now in
+    let draft = c.in-Ok.draft in
+    let import : IsImported now.next_key draft = subst (λ (e : Editor). IsImported e.next_key draft) c.self.view_is c.in-Ok.ensures.made in
+    let leaves : LeavesAtRest draft (left_of now.rules c.in-Ok-rest.frozen) = subst (λ (rules : List AnyRule). LeavesAtRest draft (left_of rules c.in-Ok-rest.frozen)) (same at) c.in-Ok-rest.ensures.left in
+    let settles : IsSettledOf draft (left_of now.rules c.in-Ok-rest.frozen) =
+    subst (λ (rules : List AnyRule). IsSettledOf draft (left_of rules c.in-Ok-rest.frozen)) (same at) (c.in-Ok-rest.ensures.imported now.next_key import).2 in
+    let is = left at ∙ ap (λ (rules : List AnyRule). rested_by rules draft) (same at) ∙ leaves.1 in
+    told c.weigh_load.result _ _ c.weigh_load.ensures.weighed
+    (λ verdict weighed. subst (λ r. IsJudged r now verdict) (sym is) (settles (record { left = left_of now.rules c.in-Ok-rest.frozen; marks = leaves.0 }) leaves.1, weighed))
 
 pub returns-in-Err-rest-clause-judged : goal.returns-in-Err-rest-clause-judged
 returns-in-Err-rest-clause-judged c =
