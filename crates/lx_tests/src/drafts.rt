@@ -181,6 +181,31 @@ fn points_move_by_a_rule(rt: HostRuntime) -> Result<(), Fail> {
     Ok(())
 }
 
+/// What stands on either side of the first paragraph, 1, once the second one, 3, which was put before it, has gone behind it.
+fn told_neighbours(alloc: Global, draft: &mut Draft) -> Result<String, Fail> {
+    fill(alloc, draft)?;
+    fill(alloc, draft)?;
+    lx_edit::move_behind(draft, Key(1), Key(3))?;
+    let links = draft.links();
+    Ok(format!(in alloc; "{:?} {:?}", links.previous(Key(1)), links.next(Key(1)))?)
+}
+
+fn neighbours(alloc: Global, state: &State) -> Result<String, Fail>
+    requires { MayStart state.now.links 1 }
+{
+    let mut draft = Draft::start(alloc, state, 1)?;
+    told_neighbours(alloc, &mut draft)
+}
+
+#[test]
+fn a_node_goes_behind_another(rt: HostRuntime) -> Result<(), Fail> {
+    let alloc = rt.alloc();
+    let state = State::new(alloc)?;
+    let text = neighbours(alloc, &state)?;
+    assert_eq!(rt; text.as_str(), "None Some(Key(3))");
+    Ok(())
+}
+
 /// How many nodes a copy of a state has.
 fn copied(alloc: Global, state: &State) -> Result<u32, Fail> {
     let copy = state.copy(alloc)?;

@@ -3,32 +3,52 @@ use lx_node::{Key, NoMemory};
 use std::alloc::Global;
 use std::test::Fail;
 
-/// Marks of leaves, and of elements with their flags, in this order.
-fn marks(alloc: Global, leaves: &[u32], elements: &[(u32, bool)]) -> Result<Marks, NoMemory> {
-    let mut marks = Marks::new(alloc)?;
+fn mark_leaves(marks: &mut Marks, leaves: &[u32]) -> Result<(), NoMemory> {
     for key in leaves {
         marks.mark_leaf(Key(*key))?;
     }
+    Ok(())
+}
+
+fn mark_elements(marks: &mut Marks, elements: &[(u32, bool)]) -> Result<(), NoMemory> {
     for (key, flag) in elements {
         marks.mark_element(Key(*key), *flag)?;
     }
+    Ok(())
+}
+
+/// Marks of leaves, and of elements with their flags, in this order.
+fn marks(alloc: Global, leaves: &[u32], elements: &[(u32, bool)]) -> Result<Marks, NoMemory> {
+    let mut marks = Marks::new(alloc)?;
+    mark_leaves(&mut marks, leaves)?;
+    mark_elements(&mut marks, elements)?;
     Ok(marks)
 }
 
-/// The leaves by place, and the elements, each with a sign where it is marked itself.
-fn shown(alloc: Global, marks: &Marks) -> Result<String, Fail> {
-    let mut text = String::new(alloc);
+fn show_leaves(text: &mut String, marks: &Marks) -> Result<(), Fail> {
     for i in 0..6 {
         if let Some(key) = marks.leaf_at(i) {
             write!(text, "{} ", key.number())?;
         }
     }
-    write!(text, "and ")?;
+    Ok(())
+}
+
+fn show_elements(text: &mut String, marks: &Marks) -> Result<(), Fail> {
     for i in 0..6 {
         if let Some((key, flag)) = marks.element_at(i) {
             write!(text, "{}{} ", key.number(), if flag { "!" } else { "" })?;
         }
     }
+    Ok(())
+}
+
+/// The leaves by place, and the elements, each with a sign where it is marked itself.
+fn shown(alloc: Global, marks: &Marks) -> Result<String, Fail> {
+    let mut text = String::new(alloc);
+    show_leaves(&mut text, marks)?;
+    text.push_str("and ")?;
+    show_elements(&mut text, marks)?;
     Ok(text)
 }
 

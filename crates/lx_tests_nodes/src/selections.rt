@@ -1,4 +1,4 @@
-use lx_node::{Key, Point, PointKind, SelectionKind};
+use lx_node::{Key, Point, PointKind};
 use lx_select::{Keys, Selection};
 use std::alloc::Global;
 use std::test::Fail;
@@ -161,64 +161,82 @@ fn make(edit: Edit, selection: &mut Selection) {
     }
 }
 
-/// A selection of each kind. All keys are those of the edits.
-fn selections(alloc: Global) -> Result<[Selection; 4], Fail> {
+fn nodes(alloc: Global) -> Result<Selection, Fail> {
     let keys = Keys::of([Key(1), Key(2)].to_vec(alloc)?);
-    Ok([
-        Selection::Nothing,
-        range([(1, 0, TEXT), (2, 0, TEXT)]),
-        Selection::Nodes(keys),
-        Selection::Cells {
+    Ok(Selection::Nodes(keys))
+}
+
+/// A selection of each kind, by number. All keys are those of the edits.
+fn selection(alloc: Global, index: u32) -> Result<Selection, Fail> {
+    match index {
+        0 => Ok(Selection::Nothing),
+        1 => Ok(range([(1, 0, TEXT), (2, 0, TEXT)])),
+        2 => nodes(alloc),
+        _ => Ok(Selection::Cells {
             table: Key(1),
             anchor: Key(1),
             focus: Key(2),
-        },
-    ])
+        }),
+    }
 }
 
 #[test]
 fn an_edit_moves_the_points_of_a_range(rt: HostRuntime) {
-    for (edit, before, after) in MOVES {
-        let mut selection = range(before);
-        make(edit, &mut selection);
-        assert!(rt;
-            selection.is_equal(&range(after)),
-            "{edit:?}: {selection:?}"
-        );
+    for (edit, before, after) in &MOVES {
+        let mut selection = range(*before);
+        make(*edit, &mut selection);
+        assert!(rt; selection.is_equal(&range(*after)), "{edit:?}");
     }
+}
+
+/// Whether an edit leaves a selection as it was.
+fn is_left(alloc: Global, index: u32, edit: Edit) -> Result<bool, Fail> {
+    let before = selection(alloc, index)?;
+    let mut after = before.copy(alloc)?;
+    make(edit, &mut after);
+    Ok(after.is_equal(&before))
 }
 
 #[test]
 fn an_edit_leaves_other_selections(rt: HostRuntime) -> Result<(), Fail> {
-    for selection in &selections(rt.alloc())? {
-        if matches!(selection.kind(), SelectionKind::Range) {
-            continue;
-        }
-        let mut moved = selection.copy(rt.alloc())?;
-        for (edit, _, _) in MOVES {
-            make(edit, &mut moved);
-            assert!(rt; moved.is_equal(selection), "{edit:?}: {moved:?}");
+    for index in [0, 2, 3] {
+        for (edit, _, _) in &MOVES {
+            let left = is_left(rt.alloc(), index, *edit)?;
+            assert!(rt; left, "{edit:?} at {index}");
         }
     }
     Ok(())
+}
+
+/// Whether the copy of one selection is equal to another.
+fn is_copy(alloc: Global, source: u32, other: u32) -> Result<bool, Fail> {
+    let source = selection(alloc, source)?;
+    let other = selection(alloc, other)?;
+    Ok(source.copy(alloc)?.is_equal(&other))
 }
 
 #[test]
 fn a_copy_is_equal_to_its_source_alone(rt: HostRuntime) -> Result<(), Fail> {
-    let selections = selections(rt.alloc())?;
-    for (i, selection) in selections.iter().enumerate() {
-        let copy = selection.copy(rt.alloc())?;
-        for (j, other) in selections.iter().enumerate() {
-            assert_eq!(rt; copy.is_equal(other), i == j, "{copy:?} and {other:?}");
+    for source in 0..4 {
+        for other in 0..4 {
+            let equal = is_copy(rt.alloc(), source, other)?;
+            assert_eq!(rt; equal, source == other, "{source} and {other}");
         }
     }
     Ok(())
 }
 
+/// Keys as they are kept, and as they are given back.
+fn keys_kept(alloc: Global) -> Result<String, Fail> {
+    let keys = Keys::of([Key(2), Key(1)].to_vec(alloc)?);
+    let kept = format!(in alloc; "{:?}", keys.items())?;
+    let back = keys.into_vec();
+    Ok(format!(in alloc; "{} {:?}", kept.as_str(), back.as_slice())?)
+}
+
 #[test]
 fn keys_are_kept_in_order(rt: HostRuntime) -> Result<(), Fail> {
-    let keys = Keys::of([Key(2), Key(1)].to_vec(rt.alloc())?);
-    assert_eq!(rt; keys.items(), [Key(2), Key(1)].as_slice());
-    assert_eq!(rt; keys.into_vec().as_slice(), [Key(2), Key(1)].as_slice());
+    let text = keys_kept(rt.alloc())?;
+    assert_eq!(rt; text.as_str(), "[Key(2), Key(1)] [Key(2), Key(1)]");
     Ok(())
 }

@@ -1,5 +1,5 @@
 use lx_node::{Cause, Fault, Txt};
-use lx_text::{has_offset, length, length_of, slice, splice, within};
+use lx_text::{has_offset, length, length_of, piece_at, slice, splice, within};
 use std::alloc::Global;
 use std::test::Fail;
 
@@ -14,9 +14,15 @@ fn refused(answer: Result<Txt, Fault>) -> Option<u64> {
     }
 }
 
+/// The length of a text, as it is and as one that was counted.
+fn lengths(alloc: Global, text: &str) -> Result<(u32, u32), Fail> {
+    let counted = Txt::new(alloc, text)?;
+    Ok((length(text), length_of(&counted)))
+}
+
 #[test]
 fn lengths_count_code_units(rt: HostRuntime) -> Result<(), Fail> {
-    for (text, want) in [
+    for (text, wanted) in &[
         ("", 0),
         ("a", 1),
         ("é", 1),
@@ -24,115 +30,129 @@ fn lengths_count_code_units(rt: HostRuntime) -> Result<(), Fail> {
         ("e\u{301}", 2),
         (TEXT, 11),
     ] {
-        assert_eq!(rt; length(text), want, "{text}");
-        assert_eq!(rt; length_of(&Txt::new(rt.alloc(), text)?), want, "{text}");
+        let found = lengths(rt.alloc(), text)?;
+        assert_eq!(rt; found, (*wanted, *wanted), "{text}");
     }
     Ok(())
 }
 
 #[test]
 fn pieces_stand_between_offsets(rt: HostRuntime) -> Result<(), Fail> {
-    let cases = [
-        (0, 0, ""),
-        (0, 11, TEXT),
-        (11, 11, ""),
-        (0, 1, "a"),
-        (1, 5, "é€😀"),
-        (3, 5, "😀"),
-        (5, 5, ""),
-        (7, 11, "𝄞ßa"),
-    ];
-    for (from, to, want) in cases {
-        let piece = slice(rt.alloc(), TEXT, from, to)?;
-        assert_eq!(rt; piece.as_str(), want, "{from}..{to}");
+    for (text, from, to, wanted) in &[
+        (TEXT, 0, 0, ""),
+        (TEXT, 0, 11, TEXT),
+        (TEXT, 11, 11, ""),
+        (TEXT, 0, 1, "a"),
+        (TEXT, 1, 5, "é€😀"),
+        (TEXT, 3, 5, "😀"),
+        (TEXT, 5, 5, ""),
+        (TEXT, 7, 11, "𝄞ßa"),
+        ("", 0, 0, ""),
+    ] {
+        let piece = slice(rt.alloc(), text, *from, *to)?;
+        assert_eq!(rt; piece.as_str(), *wanted, "{from}..{to}");
     }
-    assert_eq!(rt; slice(rt.alloc(), "", 0, 0)?.as_str(), "");
     Ok(())
 }
 
+/// A text with a piece in the place of what stood between two offsets.
+fn spliced(alloc: Global, text: &str, from: u32, to: u32, new: &str) -> Result<Txt, Fault> {
+    let text = Txt::new(alloc, text)?;
+    splice(alloc, &text, from, to, new)
+}
+
+/// Texts that aren't ASCII alone, and one that is, where an offset is its byte.
 #[test]
 fn splices_put_one_piece_for_another(rt: HostRuntime) -> Result<(), Fail> {
-    let cases = [
-        (0, 0, "𝄞", "𝄞aé€😀\tz𝄞ßa"),
-        (11, 11, "end", "aé€😀\tz𝄞ßaend"),
-        (0, 11, "", ""),
-        (1, 5, "b", "ab\tz𝄞ßa"),
-        (3, 5, "", "aé€\tz𝄞ßa"),
-        (3, 3, "ü", "aé€ü😀\tz𝄞ßa"),
-    ];
-    let text = Txt::new(rt.alloc(), TEXT)?;
-    for (from, to, new, want) in cases {
-        let whole = splice(rt.alloc(), &text, from, to, new)?;
-        assert_eq!(rt; whole.as_str(), want, "{from}..{to}");
-    }
-    let none = Txt::empty(rt.alloc());
-    assert_eq!(rt; splice(rt.alloc(), &none, 0, 0, "é")?.as_str(), "é");
-    Ok(())
-}
-
-#[test]
-fn an_offset_of_ascii_is_its_byte(rt: HostRuntime) -> Result<(), Fail> {
-    let alloc = rt.alloc();
-    let text = Txt::new(alloc, "a word")?;
-    for (from, to, new, want) in [
-        (0, 1, "the", "the word"),
-        (2, 2, "𝄞é", "a 𝄞éword"),
-        (2, 6, "", "a "),
-        (0, 6, "é", "é"),
+    for (text, from, to, new, wanted) in &[
+        (TEXT, 0, 0, "𝄞", "𝄞aé€😀\tz𝄞ßa"),
+        (TEXT, 11, 11, "end", "aé€😀\tz𝄞ßaend"),
+        (TEXT, 0, 11, "", ""),
+        (TEXT, 1, 5, "b", "ab\tz𝄞ßa"),
+        (TEXT, 3, 5, "", "aé€\tz𝄞ßa"),
+        (TEXT, 3, 3, "ü", "aé€ü😀\tz𝄞ßa"),
+        ("", 0, 0, "é", "é"),
+        ("a word", 0, 1, "the", "the word"),
+        ("a word", 2, 2, "𝄞é", "a 𝄞éword"),
+        ("a word", 2, 6, "", "a "),
+        ("a word", 0, 6, "é", "é"),
     ] {
-        let whole = splice(alloc, &text, from, to, new)?;
-        assert_eq!(rt; whole.as_str(), want, "{from}..{to}");
-        assert_eq!(rt; length_of(&whole), length(want), "{from}..{to}");
-    }
-    for (from, to, want) in [(7, 7, 7), (3, 7, 7), (4, 3, 4), (9, 8, 9)] {
-        assert_eq!(rt;
-            refused(splice(alloc, &text, from, to, "")),
-            Some(want),
-            "{from}..{to}"
-        );
+        let whole = spliced(rt.alloc(), text, *from, *to, new)?;
+        assert_eq!(rt; whole.as_str(), *wanted, "{from}..{to}");
     }
     Ok(())
 }
 
+/// A text whose piece is replaced where it stands, with its characters and its code units, and whether the piece was the
+/// new one already. Nothing where there is no such piece.
+fn respelled(alloc: Global, text: &str, at: (u32, u32), new: &str) -> Result<String, Fail> {
+    let mut text = Txt::new(alloc, text)?;
+    let Ok((front, piece)) = piece_at(&text, at.0, at.1) else {
+        return Ok(String::new(alloc));
+    };
+    let same = text.has_piece(front, piece, new);
+    text.splice(front, piece, new)?;
+    let (characters, units) = (text.characters(), text.units());
+    Ok(format!(in alloc; "{} {characters} {units} {same}", text.as_str())?)
+}
+
 #[test]
-fn wrong_offsets_are_refused(rt: HostRuntime) -> Result<(), Fail> {
-    let alloc: Global = rt.alloc();
-    let cases = [
-        (12, 12, 12),
-        (12, 0, 12),
-        (0, 12, 12),
-        (11, 13, 13),
-        (14, 13, 14),
-        (6, 5, 6),
-        (11, 0, 11),
-        // Inside a pair: each is looked at before their order.
-        (4, 4, 4),
-        (0, 4, 4),
-        (8, 11, 8),
-        (5, 4, 4),
-        (u32::MAX, u32::MAX, 4_294_967_295),
-        (19, 19, 19),
-    ];
-    let text = Txt::new(alloc, TEXT)?;
-    for (from, to, want) in cases {
-        assert_eq!(rt;
-            refused(slice(alloc, TEXT, from, to)),
-            Some(want),
-            "{from}..{to}"
-        );
-        assert_eq!(rt;
-            refused(splice(alloc, &text, from, to, "new")),
-            Some(want),
-            "{from}..{to}"
-        );
+fn pieces_are_replaced_where_they_stand(rt: HostRuntime) -> Result<(), Fail> {
+    for (from, to, new, wanted) in &[
+        (3, 3, "\u{301}a", "é𝄞\u{301}a 4 5 false"),
+        (1, 3, "𝄞", "é𝄞 2 3 true"),
+        (1, 3, "b", "éb 2 2 false"),
+        (0, 3, "", " 0 0 false"),
+        (0, 2, "b", ""),
+    ] {
+        let text = respelled(rt.alloc(), "é𝄞", (*from, *to), new)?;
+        assert_eq!(rt; text.as_str(), *wanted, "{from}..{to}");
     }
     Ok(())
+}
+
+/// The offsets that a slice and a splice of a text are refused for.
+fn refusals(alloc: Global, text: &str, from: u32, to: u32) -> (Option<u64>, Option<u64>) {
+    let sliced = refused(slice(alloc, text, from, to));
+    (sliced, refused(spliced(alloc, text, from, to, "new")))
+}
+
+#[test]
+fn wrong_offsets_are_refused(rt: HostRuntime) {
+    for (text, from, to, wanted) in &[
+        (TEXT, 12, 12, 12),
+        (TEXT, 12, 0, 12),
+        (TEXT, 0, 12, 12),
+        (TEXT, 11, 13, 13),
+        (TEXT, 14, 13, 14),
+        (TEXT, 6, 5, 6),
+        (TEXT, 11, 0, 11),
+        // Inside a pair: each is looked at before their order.
+        (TEXT, 4, 4, 4),
+        (TEXT, 0, 4, 4),
+        (TEXT, 8, 11, 8),
+        (TEXT, 5, 4, 4),
+        (TEXT, u32::MAX, u32::MAX, 4_294_967_295),
+        (TEXT, 19, 19, 19),
+        ("a word", 7, 7, 7),
+        ("a word", 3, 7, 7),
+        ("a word", 4, 3, 4),
+        ("a word", 9, 8, 9),
+    ] {
+        let found = refusals(rt.alloc(), text, *from, *to);
+        assert_eq!(rt; found, (Some(*wanted), Some(*wanted)), "{from}..{to}");
+    }
+}
+
+/// The place for an offset, and whether the text has that offset.
+fn place(alloc: Global, at: u32) -> Result<(u32, bool), Fail> {
+    let text = Txt::new(alloc, TEXT)?;
+    Ok((within(TEXT, at), has_offset(&text, at)))
 }
 
 #[test]
 fn places_are_outside_of_pairs(rt: HostRuntime) -> Result<(), Fail> {
-    let text = Txt::new(rt.alloc(), TEXT)?;
-    let cases = [
+    for (at, wanted) in &[
         (0, 0),
         (3, 3),
         (4, 3),
@@ -141,10 +161,9 @@ fn places_are_outside_of_pairs(rt: HostRuntime) -> Result<(), Fail> {
         (11, 11),
         (12, 11),
         (u32::MAX, 11),
-    ];
-    for (at, want) in cases {
-        assert_eq!(rt; within(TEXT, at), want, "{at}");
-        assert_eq!(rt; has_offset(&text, at), at == want, "{at}");
+    ] {
+        let found = place(rt.alloc(), *at)?;
+        assert_eq!(rt; found, (*wanted, *at == *wanted), "{at}");
     }
     Ok(())
 }

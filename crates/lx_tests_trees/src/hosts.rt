@@ -51,16 +51,33 @@ fn step(alloc: Global, tree: &mut HostTree, op: Op) -> Result<(), NoMemory> {
     Ok(())
 }
 
-/// A root with a paragraph, host 1, that has a text, host 2, and a rule that isn't placed, host 3.
+/// What makes a root with a paragraph, host 1, that has a text, host 2, and a rule that isn't placed, host 3.
+fn part(alloc: Global, index: usize) -> Result<Op, NoMemory> {
+    let span = Tag::Inline(None, Inner::Span);
+    match index {
+        0 => Ok(create(alloc, 1, Tag::P, None)),
+        1 => {
+            let words = Txt::new(alloc, "Hi")?;
+            Ok(create(alloc, 2, span, Some(words)))
+        }
+        2 => Ok(place(1, 2, None)),
+        3 => Ok(place(0, 1, None)),
+        _ => Ok(create(alloc, 3, Tag::Hr, None)),
+    }
+}
+
+fn add_parts(alloc: Global, tree: &mut HostTree) -> Result<(), NoMemory> {
+    for index in 0..5 {
+        let op = part(alloc, index)?;
+        step(alloc, tree, op)?;
+    }
+    Ok(())
+}
+
+/// The root with those parts.
 fn small(alloc: Global) -> Result<HostTree, NoMemory> {
     let mut tree = HostTree::new(alloc)?;
-    let words = Txt::new(alloc, "Hi")?;
-    let span = Tag::Inline(None, Inner::Span);
-    step(alloc, &mut tree, create(alloc, 1, Tag::P, None))?;
-    step(alloc, &mut tree, create(alloc, 2, span, Some(words)))?;
-    step(alloc, &mut tree, place(1, 2, None))?;
-    step(alloc, &mut tree, place(0, 1, None))?;
-    step(alloc, &mut tree, create(alloc, 3, Tag::Hr, None))?;
+    add_parts(alloc, &mut tree)?;
     Ok(tree)
 }
 
@@ -83,12 +100,18 @@ fn change(alloc: Global, index: usize) -> Result<Op, NoMemory> {
     }
 }
 
+fn make_changes(alloc: Global, tree: &mut HostTree, changes: usize) -> Result<(), NoMemory> {
+    for index in 0..changes {
+        let op = change(alloc, index)?;
+        step(alloc, tree, op)?;
+    }
+    Ok(())
+}
+
 /// The HTML after so many of the changes.
 fn changed(alloc: Global, changes: usize) -> Result<Txt, NoMemory> {
     let mut tree = small(alloc)?;
-    for index in 0..changes {
-        step(alloc, &mut tree, change(alloc, index)?)?;
-    }
+    make_changes(alloc, &mut tree, changes)?;
     tree.print_html()
 }
 
@@ -127,78 +150,152 @@ fn hosts_are_changed(rt: HostRuntime) -> Result<(), Fail> {
     Ok(())
 }
 
+/// Whether a tree fits this, before its paragraph is dropped and after.
+fn fits_twice(alloc: Global, tree: &mut HostTree, op: &Op) -> Result<(bool, bool), NoMemory> {
+    let before = tree.fits(op);
+    step(alloc, tree, Op::Drop { id: 1 })?;
+    Ok((before, tree.fits(op)))
+}
+
 /// Whether the small tree fits this, before its paragraph is dropped and after.
-fn offered(alloc: Global, op: Op) -> Result<(bool, bool), NoMemory> {
+fn offered(alloc: Global, op: &Op) -> Result<(bool, bool), NoMemory> {
     let mut tree = small(alloc)?;
-    let before = tree.fits(&op);
-    step(alloc, &mut tree, Op::Drop { id: 1 })?;
-    Ok((before, tree.fits(&op)))
+    fits_twice(alloc, &mut tree, op)
+}
+
+/// Changes that are offered, by number.
+fn offer(alloc: Global, index: usize) -> Result<Op, NoMemory> {
+    match index {
+        0 => Ok(Op::Drop { id: 0 }),
+        1 => Ok(Op::Drop { id: 1 }),
+        2 => Ok(Op::Drop { id: 3 }),
+        3 => Ok(ending(0, true)),
+        4 => Ok(ending(2, true)),
+        5 => Ok(ending(4, true)),
+        6 => text(alloc, 2, ""),
+        _ => attr(alloc, 9, Name::Dir, None),
+    }
+}
+
+fn fits_offer(alloc: Global, index: usize) -> Result<(bool, bool), NoMemory> {
+    let op = offer(alloc, index)?;
+    offered(alloc, &op)
 }
 
 #[test]
 fn changes_fit_hosts_that_are_there(rt: HostRuntime) -> Result<(), Fail> {
-    let alloc = rt.alloc();
-    let written = text(alloc, 2, "")?;
-    let given = attr(alloc, 9, Name::Dir, None)?;
-    assert_eq!(rt; offered(alloc, Op::Drop { id: 0 })?, (false, false));
-    assert_eq!(rt; offered(alloc, Op::Drop { id: 1 })?, (true, false));
-    assert_eq!(rt; offered(alloc, Op::Drop { id: 3 })?, (true, true));
-    assert_eq!(rt; offered(alloc, ending(0, true))?, (true, true));
-    assert_eq!(rt; offered(alloc, ending(2, true))?, (true, false));
-    assert_eq!(rt; offered(alloc, ending(4, true))?, (false, false));
-    assert_eq!(rt; offered(alloc, written)?, (true, false));
-    assert_eq!(rt; offered(alloc, given)?, (false, false));
+    for (index, wanted) in [
+        (false, false),
+        (true, false),
+        (true, true),
+        (true, true),
+        (true, false),
+        (false, false),
+        (true, false),
+        (false, false),
+    ]
+    .iter()
+    .enumerate()
+    {
+        let found = fits_offer(rt.alloc(), index)?;
+        assert_eq!(rt; found, *wanted, "change {index}");
+    }
     Ok(())
+}
+
+fn fits_new(alloc: Global, id: u32) -> Result<bool, NoMemory> {
+    let op = create(alloc, id, Tag::P, None);
+    let (fits, _) = offered(alloc, &op)?;
+    Ok(fits)
 }
 
 #[test]
-fn hosts_are_made_and_placed_where_they_may_be(rt: HostRuntime) -> Result<(), Fail> {
-    let alloc = rt.alloc();
-    for (op, fits) in [
-        (create(alloc, 3, Tag::P, None), false),
-        (create(alloc, 4, Tag::P, None), true),
-        (place(1, 1, None), false),
-        (place(2, 1, None), false),
-        (place(1, 0, None), false),
-        (place(0, 3, Some(2)), false),
-        (place(0, 3, Some(1)), true),
-        (place(0, 2, None), true),
-        (place(9, 3, None), false),
-    ] {
-        let (before, _) = offered(alloc, op)?;
-        assert_eq!(rt; before, fits);
+fn hosts_are_made_under_the_next_id(rt: HostRuntime) -> Result<(), Fail> {
+    for (id, wanted) in &[(3, false), (4, true)] {
+        let found = fits_new(rt.alloc(), *id)?;
+        assert_eq!(rt; found, *wanted, "{id}");
     }
     Ok(())
 }
 
-/// The small tree, with a second paragraph, host 4, before the first one, and a host that shows the root too, host 5.
+fn fits_place(
+    alloc: Global,
+    parent: u32,
+    child: u32,
+    before: Option<u32>,
+) -> Result<bool, NoMemory> {
+    let op = place(parent, child, before);
+    let (fits, _) = offered(alloc, &op)?;
+    Ok(fits)
+}
+
+#[test]
+fn hosts_are_placed_where_they_may_be(rt: HostRuntime) -> Result<(), Fail> {
+    for (parent, child, before, wanted) in &[
+        (1, 1, None, false),
+        (2, 1, None, false),
+        (1, 0, None, false),
+        (0, 3, Some(2), false),
+        (0, 3, Some(1), true),
+        (0, 2, None, true),
+        (9, 3, None, false),
+    ] {
+        let found = fits_place(rt.alloc(), *parent, *child, *before)?;
+        assert_eq!(rt; found, *wanted, "{child} in {parent}");
+    }
+    Ok(())
+}
+
+/// What adds a second paragraph, host 4, before the first one, and a host that shows the root too, host 5.
+fn addition(alloc: Global, index: usize) -> Op {
+    match index {
+        0 => create(alloc, 4, Tag::P, None),
+        1 => place(0, 4, Some(1)),
+        2 => Op::Create {
+            id: 5,
+            key: Key::root(),
+            tag: Tag::Hr,
+            attrs: Attrs::of(Vec::new(alloc)),
+            text: None,
+            ending: false,
+        },
+        _ => place(1, 5, None),
+    }
+}
+
+fn widen(alloc: Global, tree: &mut HostTree) -> Result<(), NoMemory> {
+    for index in 0..4 {
+        step(alloc, tree, addition(alloc, index))?;
+    }
+    Ok(())
+}
+
 fn wider(alloc: Global) -> Result<HostTree, NoMemory> {
     let mut tree = small(alloc)?;
-    step(alloc, &mut tree, create(alloc, 4, Tag::P, None))?;
-    step(alloc, &mut tree, place(0, 4, Some(1)))?;
-    let root_again = Op::Create {
-        id: 5,
-        key: Key::root(),
-        tag: Tag::Hr,
-        attrs: Attrs::of(Vec::new(alloc)),
-        text: None,
-        ending: false,
-    };
-    step(alloc, &mut tree, root_again)?;
-    step(alloc, &mut tree, place(1, 5, None))?;
+    widen(alloc, &mut tree)?;
     Ok(tree)
 }
 
-/// For each of some numbers, the first child of that host, what stands behind it, and the host that shows that key.
+/// The first child of a host, what stands behind it, and the host that shows the key of that number.
+fn tell_host(text: &mut String, tree: &HostTree, id: u32) -> Result<(), Fail> {
+    let first = tree.first_child(id);
+    let next = tree.next_sibling(id);
+    let shown = tree.host_of(Key(id));
+    Ok(write!(text, ", {id} {first:?} {next:?} {shown:?}")?)
+}
+
+fn tell_hosts(text: &mut String, tree: &HostTree) -> Result<(), Fail> {
+    for id in [0, 1, 2, 3, 4, 9] {
+        tell_host(text, tree, id)?;
+    }
+    Ok(())
+}
+
+/// The next id, and what is told of some hosts.
 fn looked_up(alloc: Global) -> Result<String, Fail> {
     let tree = wider(alloc)?;
     let mut text = format!(in alloc; "{}", tree.next_id())?;
-    for id in [0, 1, 2, 3, 4, 9] {
-        let first = tree.first_child(id);
-        let next = tree.next_sibling(id);
-        let shown = tree.host_of(Key(id));
-        write!(text, ", {id} {first:?} {next:?} {shown:?}")?;
-    }
+    tell_hosts(&mut text, &tree)?;
     Ok(text)
 }
 
@@ -213,26 +310,42 @@ fn hosts_are_looked_up(rt: HostRuntime) -> Result<(), Fail> {
     Ok(())
 }
 
+fn write(alloc: Global, attrs: &mut Attrs, name: Name, value: &str) -> Result<(), NoMemory> {
+    let value = Txt::new(alloc, value)?;
+    attrs.write(name, Some(value))
+}
+
+fn write_over(alloc: Global, attrs: &mut Attrs) -> Result<(), NoMemory> {
+    write(alloc, attrs, Name::Dir, "rtl")?;
+    write(alloc, attrs, Name::Class, "wide")?;
+    write(alloc, attrs, Name::Dir, "ltr")?;
+    attrs.write(Name::Class, None)
+}
+
 /// An attribute that was written over and one that was taken away again.
 fn written(alloc: Global) -> Result<Attrs, NoMemory> {
     let mut attrs = Attrs::of(Vec::new(alloc));
-    attrs.write(Name::Dir, Some(Txt::new(alloc, "rtl")?))?;
-    attrs.write(Name::Class, Some(Txt::new(alloc, "wide")?))?;
-    attrs.write(Name::Dir, Some(Txt::new(alloc, "ltr")?))?;
-    attrs.write(Name::Class, None)?;
+    write_over(alloc, &mut attrs)?;
     Ok(attrs)
 }
 
-/// The operation that creates a host with these attributes, and one that drops it.
-fn two_operations(alloc: Global) -> Result<Ops, NoMemory> {
-    let create = Op::Create {
+/// The operation that creates a host with these attributes.
+fn creation(alloc: Global) -> Result<Op, NoMemory> {
+    let attrs = written(alloc)?;
+    let text = Txt::new(alloc, "é")?;
+    Ok(Op::Create {
         id: 1,
         key: Key(2),
         tag: Tag::P,
-        attrs: written(alloc)?,
-        text: Some(Txt::new(alloc, "é")?),
+        attrs,
+        text: Some(text),
         ending: true,
-    };
+    })
+}
+
+/// That operation, and one that drops the host.
+fn two_operations(alloc: Global) -> Result<Ops, NoMemory> {
+    let create = creation(alloc)?;
     Ok(Ops::of(vec![in alloc; create, Op::Drop { id: 1 }]?))
 }
 
@@ -244,13 +357,25 @@ fn copies(alloc: Global, ops: &[Op]) -> Result<Vec<Op>, NoMemory> {
     Ok(made)
 }
 
+fn told(alloc: Global, ops: &[Op]) -> Result<String, Fail> {
+    Ok(format!(in alloc; "{ops:?}")?)
+}
+
+fn told_copy(alloc: Global, ops: &Ops) -> Result<String, Fail> {
+    let copy = ops.copy(alloc)?.into_vec();
+    told(alloc, copy.as_slice())
+}
+
+fn told_copies(alloc: Global, ops: &Ops) -> Result<String, Fail> {
+    let copies = copies(alloc, ops.items())?;
+    told(alloc, copies.as_slice())
+}
+
 /// The copies of operations, made at once and one by one, as the derived text says them.
 fn copied(alloc: Global) -> Result<(String, String), Fail> {
     let ops = two_operations(alloc)?;
-    let whole = ops.copy(alloc)?.into_vec();
-    let single = copies(alloc, ops.items())?;
-    let told = format!(in alloc; "{:?}", whole.as_slice())?;
-    Ok((told, format!(in alloc; "{:?}", single.as_slice())?))
+    let whole = told_copy(alloc, &ops)?;
+    Ok((whole, told_copies(alloc, &ops)?))
 }
 
 const TWO_OPERATIONS: &str =

@@ -10,16 +10,7 @@ use std::test::Fail;
 /// A new node, which stands nowhere, under a key. It gives up where that can't be.
 fn insert(links: &mut Links, key: u32, kind: Kind, fields: Fields) -> Result<(), NoMemory> {
     let key = Key(key);
-    if kind == Kind::Root {
-        return Err(NoMemory);
-    }
-    if !fields.is_of_kind(kind) {
-        return Err(NoMemory);
-    }
-    if links.len() > 100 {
-        return Err(NoMemory);
-    }
-    if links.has(key) {
+    if kind == Kind::Root || !fields.is_of_kind(kind) || links.len() > 100 || links.has(key) {
         return Err(NoMemory);
     }
     links.insert_new(key, kind, fields)
@@ -52,41 +43,58 @@ fn told_cause(alloc: Global, cause: &Cause) -> Result<String, Fail> {
     }
 }
 
+fn add_quoted(alloc: Global, links: &mut Links) -> Result<(), NoMemory> {
+    let text = Fields::plain_text(alloc, "three")?;
+    insert(links, 3, Kind::Text, text)?;
+    plain(alloc, links, 1, Kind::Paragraph)?;
+    plain(alloc, links, 2, Kind::Quote)?;
+    insert(links, 4, Kind::Rule, Fields::Bare)
+}
+
+fn place_quoted(links: &mut Links) -> Result<(), Fault> {
+    place(links, 0, None, 2)?;
+    place(links, 2, None, 1)?;
+    place(links, 1, None, 3)
+}
+
 /// A quote, 2, that holds the paragraph 1, in which stands the text 3; and a rule, 4, that stands nowhere.
 fn quoted(alloc: Global) -> Result<Links, Fault> {
     let mut links = Links::new(alloc)?;
-    plain(alloc, &mut links, 1, Kind::Paragraph)?;
-    plain(alloc, &mut links, 2, Kind::Quote)?;
-    insert(
-        &mut links,
-        3,
-        Kind::Text,
-        Fields::plain_text(alloc, "three")?,
-    )?;
-    insert(&mut links, 4, Kind::Rule, Fields::Bare)?;
-    place(&mut links, 0, None, 2)?;
-    place(&mut links, 2, None, 1)?;
-    place(&mut links, 1, None, 3)?;
+    add_quoted(alloc, &mut links)?;
+    place_quoted(&mut links)?;
     Ok(links)
 }
 
-/// The answer to an attempt at the links.
-fn attempt(alloc: Global, index: usize) -> Result<String, Fail> {
-    let mut links = quoted(alloc)?;
-    let answer = match index {
-        0 => place(&mut links, 2, None, 1),
-        1 => place(&mut links, 1, None, 2),
-        2 => place(&mut links, 1, None, 4),
-        3 => place(&mut links, 0, Some(3), 4),
-        4 => place(&mut links, 0, None, 9),
-        5 => place(&mut links, 8, Some(7), 9),
-        6 => place(&mut links, 0, Some(2), 4),
+fn try_place(links: &mut Links, index: usize) -> Result<(), Fault> {
+    match index {
+        0 => place(links, 2, None, 1),
+        1 => place(links, 1, None, 2),
+        2 => place(links, 1, None, 4),
+        3 => place(links, 0, Some(3), 4),
+        4 => place(links, 0, None, 9),
+        5 => place(links, 8, Some(7), 9),
+        _ => place(links, 0, Some(2), 4),
+    }
+}
+
+fn try_other(alloc: Global, links: &mut Links, index: usize) -> Result<(), Fault> {
+    match index {
         7 => links.detach(Key(4)),
         8 => links.detach(Key(9)),
         9 => links.detach(Key(1)),
         10 => links.set(Key(3), Fields::Bare),
         11 => links.set(Key(9), Fields::Bare),
         _ => links.set(Key(3), Fields::plain_text(alloc, "other")?),
+    }
+}
+
+/// The answer to an attempt at the links.
+fn attempt(alloc: Global, index: usize) -> Result<String, Fail> {
+    let mut links = quoted(alloc)?;
+    let answer = if index < 7 {
+        try_place(&mut links, index)
+    } else {
+        try_other(alloc, &mut links, index)
     };
     told(alloc, answer)
 }
@@ -145,25 +153,40 @@ fn a_fork_stays_as_it_was(rt: HostRuntime) -> Result<(), Fail> {
     Ok(())
 }
 
-/// A list, 1, with an item, 2, that has a break, 4, before a list, 3.
-fn listed(alloc: Global) -> Result<Links, Fault> {
-    let mut links = Links::new(alloc)?;
-    let list = Kind::List(ListType::Bullet);
+fn add_list(alloc: Global, links: &mut Links, key: u32) -> Result<(), NoMemory> {
+    let fields = ElementFields::with(alloc, Extra::List { start: 1 });
+    let kind = Kind::List(ListType::Bullet);
+    insert(links, key, kind, Fields::Element(fields))
+}
+
+fn add_item(alloc: Global, links: &mut Links, key: u32) -> Result<(), NoMemory> {
     let item = Extra::Item {
         value: 3,
         checked: None,
     };
-    for key in [1, 3] {
-        let fields = ElementFields::with(alloc, Extra::List { start: 1 });
-        insert(&mut links, key, list, Fields::Element(fields))?;
-    }
     let fields = ElementFields::with(alloc, item);
-    insert(&mut links, 2, Kind::Item, Fields::Element(fields))?;
-    insert(&mut links, 4, Kind::Break, Fields::Bare)?;
-    place(&mut links, 1, None, 2)?;
-    place(&mut links, 2, None, 3)?;
-    place(&mut links, 2, Some(3), 4)?;
-    place(&mut links, 0, None, 1)?;
+    insert(links, key, Kind::Item, Fields::Element(fields))
+}
+
+fn add_listed(alloc: Global, links: &mut Links) -> Result<(), NoMemory> {
+    add_list(alloc, links, 1)?;
+    add_item(alloc, links, 2)?;
+    add_list(alloc, links, 3)?;
+    insert(links, 4, Kind::Break, Fields::Bare)
+}
+
+fn place_listed(links: &mut Links) -> Result<(), Fault> {
+    place(links, 1, None, 2)?;
+    place(links, 2, None, 3)?;
+    place(links, 2, Some(3), 4)?;
+    place(links, 0, None, 1)
+}
+
+/// A list, 1, with an item, 2, that has a break, 4, before a list, 3.
+fn listed(alloc: Global) -> Result<Links, Fault> {
+    let mut links = Links::new(alloc)?;
+    add_listed(alloc, &mut links)?;
+    place_listed(&mut links)?;
     Ok(links)
 }
 
@@ -228,18 +251,31 @@ fn keys_are_ordered_as_in_the_tree(rt: HostRuntime) -> Result<(), Fail> {
     Ok(())
 }
 
-/// The item's children from both ends, and by index.
-fn children_of_the_item(alloc: Global) -> Result<String, Fail> {
-    let links = listed(alloc)?;
-    let mut children = links.children(Key(2));
+/// Children from both ends.
+fn told_ends(alloc: Global, links: &Links, parent: Key) -> Result<String, Fail> {
+    let mut children = links.children(parent);
     let last = children.next_back();
     let first = children.next();
     let none = children.next_back();
-    let by_index = [0, 1, 2].map(|index| links.child_at(Key(2), index));
-    Ok(format!(in alloc;
-        "{first:?} {last:?} {none:?} {by_index:?} {:?}",
-        links.index_of(Key(3))
-    )?)
+    Ok(format!(in alloc; "{first:?} {last:?} {none:?}")?)
+}
+
+/// Children by index.
+fn told_places(alloc: Global, links: &Links, parent: Key) -> Result<String, Fail> {
+    let mut text = String::new(alloc);
+    for index in [0, 1, 2] {
+        write!(text, " {:?}", links.child_at(parent, index))?;
+    }
+    Ok(text)
+}
+
+/// The item's children from both ends and by index, and the index of the second one.
+fn children_of_the_item(alloc: Global) -> Result<String, Fail> {
+    let links = listed(alloc)?;
+    let ends = told_ends(alloc, &links, Key(2))?;
+    let places = told_places(alloc, &links, Key(2))?;
+    let index = links.index_of(Key(3));
+    Ok(format!(in alloc; "{}{} {index:?}", ends.as_str(), places.as_str())?)
 }
 
 #[test]
@@ -247,7 +283,7 @@ fn children_are_read_from_both_ends_and_by_index(rt: HostRuntime) -> Result<(), 
     let text = children_of_the_item(rt.alloc())?;
     assert_eq!(rt;
         text.as_str(),
-        "Some(Key(4)) Some(Key(3)) None [Some(Key(4)), Some(Key(3)), None] Some(1)"
+        "Some(Key(4)) Some(Key(3)) None Some(Key(4)) Some(Key(3)) None Some(1)"
     );
     Ok(())
 }
@@ -278,18 +314,25 @@ fn the_tree_is_walked_in_order(rt: HostRuntime) -> Result<(), Fail> {
     Ok(())
 }
 
-/// What else is read of the break and of the item.
+/// What else is read of the break, 4.
+fn read_leaf(alloc: Global, links: &Links, leaf: Key) -> Result<String, Fail> {
+    let kind = links.kind(leaf);
+    let around = (links.parent(leaf), links.previous(leaf), links.next(leaf));
+    Ok(format!(in alloc; "{kind:?} {around:?}")?)
+}
+
+/// What else is read of the item, 2.
+fn read_item(alloc: Global, links: &Links, item: Key) -> Result<String, Fail> {
+    let within = (links.is_within(item, Key(4)), links.is_within(Key(4), item));
+    let shallow = (links.is_shallow(item, 1), links.is_shallow(item, 0));
+    Ok(format!(in alloc; "{} {within:?} {shallow:?}", links.size(item))?)
+}
+
 fn read(alloc: Global) -> Result<String, Fail> {
     let links = listed(alloc)?;
-    let (item, leaf) = (Key(2), Key(4));
-    let around = (links.parent(leaf), links.previous(leaf), links.next(leaf));
-    let within = (links.is_within(item, leaf), links.is_within(leaf, item));
-    let shallow = (links.is_shallow(item, 1), links.is_shallow(item, 0));
-    Ok(format!(in alloc;
-        "{:?} {around:?} {} {within:?} {shallow:?}",
-        links.kind(leaf),
-        links.size(item)
-    )?)
+    let leaf = read_leaf(alloc, &links, Key(4))?;
+    let item = read_item(alloc, &links, Key(2))?;
+    Ok(format!(in alloc; "{} {}", leaf.as_str(), item.as_str())?)
 }
 
 #[test]
@@ -318,23 +361,24 @@ fn reads_are_counted(rt: HostRuntime) -> Result<(), Fail> {
     Ok(())
 }
 
+fn add_strings(alloc: Global, links: &mut Links) -> Result<(), NoMemory> {
+    let text = Fields::plain_text(alloc, "é😀")?;
+    insert(links, 1, Kind::Text, text)?;
+    let source = Txt::new(alloc, "a")?;
+    insert(links, 2, Kind::Embed, Fields::Embed(source))
+}
+
 /// The scalar values in all strings, also of nodes that stand nowhere.
-fn characters(alloc: Global) -> Result<String, Fail> {
+fn characters(alloc: Global) -> Result<u64, Fail> {
     let mut links = Links::new(alloc)?;
-    insert(&mut links, 1, Kind::Text, Fields::plain_text(alloc, "é😀")?)?;
-    insert(
-        &mut links,
-        2,
-        Kind::Embed,
-        Fields::Embed(Txt::new(alloc, "a")?),
-    )?;
-    Ok(format!(in alloc; "{}", links.characters())?)
+    add_strings(alloc, &mut links)?;
+    Ok(links.characters())
 }
 
 #[test]
 fn characters_are_scalar_values_of_all_strings(rt: HostRuntime) -> Result<(), Fail> {
-    let text = characters(rt.alloc())?;
-    assert_eq!(rt; text.as_str(), "3");
+    let found = characters(rt.alloc())?;
+    assert_eq!(rt; found, 3);
     Ok(())
 }
 
@@ -354,13 +398,19 @@ fn failed_links_have_no_nodes(rt: HostRuntime) -> Result<(), Fail> {
     Ok(())
 }
 
+/// Takes a node out with all below it, and drops it.
+fn drop_below(links: &mut Links, key: Key) -> Result<(), Fault> {
+    links.detach(key)?;
+    Ok(links.drop_detached()?)
+}
+
 /// How many items and nodes there are, before and after an item is taken out with all below it and dropped.
 fn dropped(alloc: Global) -> Result<String, Fail> {
     let mut links = listed(alloc)?;
     let before = (links.items(), links.len());
-    links.detach(Key(2))?;
-    links.drop_detached()?;
-    Ok(format!(in alloc; "{before:?} {:?}", (links.items(), links.len()))?)
+    drop_below(&mut links, Key(2))?;
+    let after = (links.items(), links.len());
+    Ok(format!(in alloc; "{before:?} {after:?}")?)
 }
 
 #[test]

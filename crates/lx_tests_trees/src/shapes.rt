@@ -111,12 +111,17 @@ fn shows_list(
 
 #[test]
 fn lists_are_shown(rt: HostRuntime) -> Result<(), Fail> {
-    let alloc = rt.alloc();
-    let start = [(Name::Start, "5")];
-    assert!(rt; shows_list(alloc, ListType::Number, 5, Tag::Ol, &start)?);
-    assert!(rt; shows_list(alloc, ListType::Number, 1, Tag::Ol, &[])?);
-    assert!(rt; shows_list(alloc, ListType::Bullet, 5, Tag::Ul, &[])?);
-    assert!(rt; shows_list(alloc, ListType::Check, 1, Tag::Ul, &[])?);
+    let started: &[(Name, &str)] = &[(Name::Start, "5")];
+    let plain: &[(Name, &str)] = &[];
+    for (numbering, start, tag, attributes) in &[
+        (ListType::Number, 5, Tag::Ol, started),
+        (ListType::Number, 1, Tag::Ol, plain),
+        (ListType::Bullet, 5, Tag::Ul, plain),
+        (ListType::Check, 1, Tag::Ul, plain),
+    ] {
+        let shown = shows_list(rt.alloc(), *numbering, *start, *tag, attributes)?;
+        assert!(rt; shown, "{numbering:?} from {start}");
+    }
     Ok(())
 }
 
@@ -129,81 +134,117 @@ fn shows_item(
     shows_element(alloc, Kind::Item, extra, Tag::Li, attributes)
 }
 
+/// Whether an item with a box is shown so.
+fn shows_box(alloc: Global, checked: bool, told: &str) -> Result<bool, NoMemory> {
+    let attributes = [
+        (Name::AriaChecked, told),
+        (Name::Role, "checkbox"),
+        (Name::Value, "2"),
+    ];
+    shows_item(alloc, Some(checked), &attributes)
+}
+
 #[test]
 fn items_are_shown(rt: HostRuntime) -> Result<(), Fail> {
-    let alloc = rt.alloc();
-    let checked = [
-        (Name::AriaChecked, "true"),
-        (Name::Role, "checkbox"),
-        (Name::Value, "2"),
-    ];
-    let unchecked = [
-        (Name::AriaChecked, "false"),
-        (Name::Role, "checkbox"),
-        (Name::Value, "2"),
-    ];
-    assert!(rt; shows_item(alloc, None, &[(Name::Value, "2")])?);
-    assert!(rt; shows_item(alloc, Some(true), &checked)?);
-    assert!(rt; shows_item(alloc, Some(false), &unchecked)?);
+    let shown = shows_item(rt.alloc(), None, &[(Name::Value, "2")])?;
+    assert!(rt; shown);
     Ok(())
 }
 
 #[test]
-fn links_are_shown(rt: HostRuntime) -> Result<(), Fail> {
-    let alloc = rt.alloc();
-    let extra = Extra::Link {
-        rel: Some(Txt::new(alloc, "noreferrer")?),
+fn items_with_boxes_are_shown(rt: HostRuntime) -> Result<(), Fail> {
+    for (checked, told) in &[(true, "true"), (false, "false")] {
+        let shown = shows_box(rt.alloc(), *checked, told)?;
+        assert!(rt; shown, "{told}");
+    }
+    Ok(())
+}
+
+/// A link with two of its texts.
+fn site(alloc: Global) -> Result<Extra, NoMemory> {
+    let rel = Txt::new(alloc, "noreferrer")?;
+    let title = Txt::new(alloc, "A site")?;
+    let url = Txt::new(alloc, "https://lexical.dev")?;
+    Ok(Extra::Link {
+        rel: Some(rel),
         target: None,
-        title: Some(Txt::new(alloc, "A site")?),
-        url: Txt::new(alloc, "https://lexical.dev")?,
-    };
+        title: Some(title),
+        url,
+    })
+}
+
+fn shows_site(alloc: Global) -> Result<bool, NoMemory> {
+    let extra = site(alloc)?;
     let attributes = [
         (Name::Href, "https://lexical.dev"),
         (Name::Rel, "noreferrer"),
         (Name::Title, "A site"),
     ];
-    assert!(rt; shows_element(alloc, Kind::Link, extra, Tag::A, &attributes)?);
+    shows_element(alloc, Kind::Link, extra, Tag::A, &attributes)
+}
+
+#[test]
+fn links_are_shown(rt: HostRuntime) -> Result<(), Fail> {
+    let shown = shows_site(rt.alloc())?;
+    assert!(rt; shown);
     Ok(())
 }
 
 /// A cell that spans others and heads its row and column.
 fn wide(alloc: Global) -> Result<Extra, NoMemory> {
+    let background = Txt::new(alloc, "#ff0000")?;
     Ok(Extra::Cell {
         header: 3,
         row_span: 3,
         col_span: 2,
-        background: Some(Txt::new(alloc, "#ff0000")?),
+        background: Some(background),
     })
 }
 
-#[test]
-fn cells_are_shown(rt: HostRuntime) -> Result<(), Fail> {
-    let alloc = rt.alloc();
-    let plain = Extra::Cell {
-        header: 0,
-        row_span: 1,
-        col_span: 1,
-        background: None,
-    };
+fn shows_wide(alloc: Global) -> Result<bool, NoMemory> {
+    let extra = wide(alloc)?;
     let attributes = [
         (Name::ColSpan, "2"),
         (Name::DataBg, "#ff0000"),
         (Name::RowSpan, "3"),
     ];
-    let wide = wide(alloc)?;
-    assert!(rt; shows_element(alloc, Kind::Cell, plain, Tag::Td, &[])?);
-    assert!(rt; shows_element(alloc, Kind::Cell, wide, Tag::Th, &attributes)?);
+    shows_element(alloc, Kind::Cell, extra, Tag::Th, &attributes)
+}
+
+fn shows_plain_cell(alloc: Global) -> Result<bool, NoMemory> {
+    let extra = Extra::Cell {
+        header: 0,
+        row_span: 1,
+        col_span: 1,
+        background: None,
+    };
+    shows_element(alloc, Kind::Cell, extra, Tag::Td, &[])
+}
+
+#[test]
+fn plain_cells_are_shown(rt: HostRuntime) -> Result<(), Fail> {
+    let shown = shows_plain_cell(rt.alloc())?;
+    assert!(rt; shown);
+    Ok(())
+}
+
+#[test]
+fn wide_cells_are_shown(rt: HostRuntime) -> Result<(), Fail> {
+    let shown = shows_wide(rt.alloc())?;
+    assert!(rt; shown);
     Ok(())
 }
 
 /// The fields of a text with this format and style.
 fn text(alloc: Global, text: &str, format: u16, style: &str) -> Result<Fields, NoMemory> {
+    let text = Txt::new(alloc, text)?;
+    let style = Txt::new(alloc, style)?;
     Ok(Fields::Text(TextFields {
-        text: Txt::new(alloc, text)?,
+        text,
         format,
         detail: 0,
         mode: Mode::Normal,
-        style: Txt::new(alloc, style)?,
+        style,
     }))
 }
 
@@ -243,32 +284,51 @@ fn formats_are_shown(rt: HostRuntime) -> Result<(), Fail> {
     Ok(())
 }
 
-#[test]
-fn texts_and_tabs_are_shown(rt: HostRuntime) -> Result<(), Fail> {
-    let alloc = rt.alloc();
-    let span = Tag::Inline(None, Inner::Span);
-    let plain = [(Name::DataLexicalText, "true")];
-    let colored = [(Name::DataLexicalText, "true"), (Name::Style, "color: red")];
+const SPAN: Tag = Tag::Inline(None, Inner::Span);
+
+fn shows_tab(alloc: Global) -> Result<bool, NoMemory> {
     let tab = text(alloc, "\t", 0, "")?;
-    let styled = text(alloc, "Hi", 0, "color: red")?;
-    assert!(rt; shows(alloc, Kind::Tab, tab, span, &plain, Some("\t"))?);
-    assert!(rt; shows(alloc, Kind::Text, styled, span, &colored, Some("Hi"))?);
-    Ok(())
+    let attributes = [(Name::DataLexicalText, "true")];
+    shows(alloc, Kind::Tab, tab, SPAN, &attributes, Some("\t"))
 }
 
-#[test]
-fn other_leaves_are_shown(rt: HostRuntime) -> Result<(), Fail> {
-    let alloc = rt.alloc();
-    let span = Tag::Inline(None, Inner::Span);
-    let decorated = [(Name::DataLexicalDecorator, "true")];
-    let pictured = [
+fn shows_style(alloc: Global) -> Result<bool, NoMemory> {
+    let styled = text(alloc, "Hi", 0, "color: red")?;
+    let attributes = [(Name::DataLexicalText, "true"), (Name::Style, "color: red")];
+    shows(alloc, Kind::Text, styled, SPAN, &attributes, Some("Hi"))
+}
+
+fn shows_embed(alloc: Global) -> Result<bool, NoMemory> {
+    let source = Fields::Embed(Txt::new(alloc, "a.png")?);
+    let attributes = [
         (Name::DataLexicalDecorator, "true"),
         (Name::DataSrc, "a.png"),
     ];
-    let source = Fields::Embed(Txt::new(alloc, "a.png")?);
-    assert!(rt; shows(alloc, Kind::Break, Fields::Bare, Tag::Br, &[], None)?);
-    assert!(rt; shows(alloc, Kind::Rule, Fields::Bare, Tag::Hr, &decorated, None)?);
-    assert!(rt; shows(alloc, Kind::Embed, source, span, &pictured, None)?);
+    shows(alloc, Kind::Embed, source, SPAN, &attributes, None)
+}
+
+fn shows_rule(alloc: Global) -> Result<bool, NoMemory> {
+    let attributes = [(Name::DataLexicalDecorator, "true")];
+    shows(alloc, Kind::Rule, Fields::Bare, Tag::Hr, &attributes, None)
+}
+
+/// Whether a leaf, by number, is shown as it should be.
+fn shows_leaf(alloc: Global, index: u32) -> Result<bool, NoMemory> {
+    match index {
+        0 => shows_tab(alloc),
+        1 => shows_style(alloc),
+        2 => shows_embed(alloc),
+        3 => shows_rule(alloc),
+        _ => shows(alloc, Kind::Break, Fields::Bare, Tag::Br, &[], None),
+    }
+}
+
+#[test]
+fn leaves_are_shown(rt: HostRuntime) -> Result<(), Fail> {
+    for index in 0..5 {
+        let shown = shows_leaf(rt.alloc(), index)?;
+        assert!(rt; shown, "leaf {index}");
+    }
     Ok(())
 }
 

@@ -44,11 +44,27 @@ fn told(alloc: Global, store: &Store<Node>) -> Result<String, Fail> {
     Ok(text)
 }
 
+/// Puts an embed, and lets go what was under the key.
+fn add(
+    alloc: Global,
+    store: &mut Store<Node>,
+    key: u32,
+    name: &str,
+    count: &mut Copies,
+) -> Result<(), NoMemory> {
+    put(alloc, store, key, name, count)?;
+    Ok(())
+}
+
+fn add_three(alloc: Global, store: &mut Store<Node>, count: &mut Copies) -> Result<(), NoMemory> {
+    add(alloc, store, 7, "seven", count)?;
+    add(alloc, store, 0, "zero", count)?;
+    add(alloc, store, u32::MAX, "last", count)
+}
+
 fn three(alloc: Global, count: &mut Copies) -> Result<Store<Node>, NoMemory> {
     let mut store = Store::new(alloc)?;
-    for (key, name) in [(7, "seven"), (0, "zero"), (u32::MAX, "last")] {
-        drop(put(alloc, &mut store, key, name, count)?);
-    }
+    add_three(alloc, &mut store, count)?;
     Ok(store)
 }
 
@@ -58,8 +74,8 @@ fn fork_written(
     fork: &mut Store<Node>,
     count: &mut Copies,
 ) -> Result<String, NoMemory> {
+    add(alloc, fork, 33, "more", count)?;
     let old = put(alloc, fork, 7, "new", count)?;
-    drop(put(alloc, fork, 33, "more", count)?);
     Ok(String::from_str(alloc, source(old.as_ref()))?)
 }
 
@@ -74,6 +90,25 @@ fn taken(
     Ok(String::from_str(alloc, source(node.as_ref()))?)
 }
 
+/// The sources under 0 and 1 of a store, which are taken.
+fn both_taken(alloc: Global, store: &mut Store<Node>, count: &mut Copies) -> Result<String, Fail> {
+    let zero = taken(alloc, store, 0, count)?;
+    let one = taken(alloc, store, 1, count)?;
+    Ok(format!(in alloc; "{} {}", zero.as_str(), one.as_str())?)
+}
+
+/// What a write to the fork and two to the store give back.
+fn both_written(
+    alloc: Global,
+    store: &mut Store<Node>,
+    fork: &mut Store<Node>,
+    count: &mut Copies,
+) -> Result<String, Fail> {
+    let old = fork_written(alloc, fork, count)?;
+    let taken = both_taken(alloc, store, count)?;
+    Ok(format!(in alloc; "{} {}", old.as_str(), taken.as_str())?)
+}
+
 /// The store and its fork.
 fn both_told(alloc: Global, store: &Store<Node>, fork: &Store<Node>) -> Result<String, Fail> {
     let ours = told(alloc, store)?;
@@ -81,22 +116,24 @@ fn both_told(alloc: Global, store: &Store<Node>, fork: &Store<Node>) -> Result<S
     Ok(format!(in alloc; "{}; {}", ours.as_str(), theirs.as_str())?)
 }
 
+/// A store and its fork after those writes, with what these gave back.
+fn told_writes(
+    alloc: Global,
+    store: &mut Store<Node>,
+    fork: &mut Store<Node>,
+    count: &mut Copies,
+) -> Result<String, Fail> {
+    let given = both_written(alloc, store, fork, count)?;
+    let both = both_told(alloc, store, fork)?;
+    Ok(format!(in alloc; "{}; {}", both.as_str(), given.as_str())?)
+}
+
 /// The store and its fork, after a write to each.
 fn written_apart(alloc: Global) -> Result<String, Fail> {
     let mut count = Copies::new();
     let mut store = three(alloc, &mut count)?;
     let mut fork = store.fork(&mut count)?;
-    let old = fork_written(alloc, &mut fork, &mut count)?;
-    let zero = taken(alloc, &mut store, 0, &mut count)?;
-    let one = taken(alloc, &mut store, 1, &mut count)?;
-    let both = both_told(alloc, &store, &fork)?;
-    Ok(format!(in alloc;
-        "{}; {} {} {}",
-        both.as_str(),
-        old.as_str(),
-        zero.as_str(),
-        one.as_str()
-    )?)
+    told_writes(alloc, &mut store, &mut fork, &mut count)
 }
 
 #[test]
@@ -121,12 +158,17 @@ fn keys_ascend(rt: HostRuntime) -> Result<(), Fail> {
     Ok(())
 }
 
+fn fill(alloc: Global, store: &mut Store<Node>, count: &mut Copies) -> Result<(), NoMemory> {
+    for key in 0..96 {
+        add(alloc, store, key, "old", count)?;
+    }
+    Ok(())
+}
+
 /// A store with an old embed under each key from 0 to 95.
 fn filled(alloc: Global, count: &mut Copies) -> Result<Store<Node>, NoMemory> {
     let mut store = Store::new(alloc)?;
-    for key in 0..96 {
-        drop(put(alloc, &mut store, key, "old", count)?);
-    }
+    fill(alloc, &mut store, count)?;
     Ok(store)
 }
 
@@ -140,18 +182,31 @@ fn has(store: &Store<Node>, first: u32, last: u32, name: &str) -> bool {
     true
 }
 
+/// Whether an embed under one key has the source, and each other one from 0 to 95 is old.
+fn differs_at(store: &Store<Node>, key: u32, name: &str) -> bool {
+    let before = key == 0 || has(store, 0, key - 1, "old");
+    before && has(store, key, key, name) && (key >= 95 || has(store, key + 1, 95, "old"))
+}
+
+fn write_both(
+    alloc: Global,
+    store: &mut Store<Node>,
+    fork: &mut Store<Node>,
+    count: &mut Copies,
+) -> Result<(), NoMemory> {
+    add(alloc, fork, 33, "new", count)?;
+    store.take(Key(64), count)?;
+    Ok(())
+}
+
 /// Whether a write to a fork and one to the store leave the other as it was, where they share pages.
 fn writes_stay_apart(alloc: Global) -> Result<bool, NoMemory> {
     let mut count = Copies::new();
     let mut store = filled(alloc, &mut count)?;
     let mut fork = store.fork(&mut count)?;
-    drop(put(alloc, &mut fork, 33, "new", &mut count)?);
-    drop(store.take(Key(64), &mut count)?);
-    let forked = has(&fork, 0, 32, "old") && has(&fork, 33, 33, "new") && has(&fork, 34, 95, "old");
-    let kept = has(&store, 0, 63, "old")
-        && has(&store, 64, 64, "none")
-        && has(&store, 65, 95, "old");
-    Ok(forked && kept && fork.len() == 96 && store.len() == 95)
+    write_both(alloc, &mut store, &mut fork, &mut count)?;
+    let apart = differs_at(&fork, 33, "new") && differs_at(&store, 64, "none");
+    Ok(apart && fork.len() == 96 && store.len() == 95)
 }
 
 /// An edit that gives an embed another source.
@@ -165,9 +220,36 @@ impl Edit<Node> for Renamed {
 
     ghost edited = { λ edit node. record node { fields = Embed edit.0 } };
 
-    fn edit(self, node: &mut Node) {
+    fn edit(self, node: &mut Node) -> Result<(), NoMemory> {
         node.fields = Fields::Embed(self.0);
+        Ok(())
     }
+}
+
+/// Whether there is an embed under a key, to which this gives another source.
+fn rename(
+    alloc: Global,
+    store: &mut Store<Node>,
+    key: u32,
+    name: &str,
+    count: &mut Copies,
+) -> Result<bool, NoMemory> {
+    let name = Txt::new(alloc, name)?;
+    store.change(Key(key), Renamed(name), count)
+}
+
+/// Edits a shared item, then the same one, which is shared no more, and one that isn't there. It tells whether each
+/// was found and whether the latter two copied nothing.
+fn rename_twice(
+    alloc: Global,
+    store: &mut Store<Node>,
+    count: &mut Copies,
+) -> Result<bool, NoMemory> {
+    let found = rename(alloc, store, 33, "new", count)?;
+    let copied = count.total();
+    let again = rename(alloc, store, 33, "newer", count)?;
+    let absent = rename(alloc, store, 96, "new", count)?;
+    Ok(found && again && !absent && count.total() == copied)
 }
 
 /// Whether an edit of an item that a fork shares leaves the fork as it was, and one of an item that none shares
@@ -176,14 +258,9 @@ fn edits_stay_apart(alloc: Global) -> Result<bool, NoMemory> {
     let mut count = Copies::new();
     let mut store = filled(alloc, &mut count)?;
     let fork = store.fork(&mut count)?;
-    let found = store.change(Key(33), Renamed(Txt::new(alloc, "new")?), &mut count)?;
-    let copied = count.total();
-    let again = store.change(Key(33), Renamed(Txt::new(alloc, "newer")?), &mut count)?;
-    let absent = store.change(Key(96), Renamed(Txt::new(alloc, "new")?), &mut count)?;
-    let edited = has(&store, 0, 32, "old") && has(&store, 33, 33, "newer");
-    let rest = has(&store, 34, 95, "old") && has(&store, 96, 96, "none");
-    let kept = has(&fork, 0, 95, "old") && store.len() == 96;
-    Ok(found && again && !absent && edited && rest && kept && count.total() == copied)
+    let told = rename_twice(alloc, &mut store, &mut count)?;
+    let edited = differs_at(&store, 33, "newer") && has(&store, 96, 96, "none");
+    Ok(told && edited && has(&fork, 0, 95, "old") && store.len() == 96)
 }
 
 #[test]
