@@ -2,21 +2,12 @@
 use Rattle.std.proofs.Common.{◌≡◌, ◌∙◌, ℕ, ◌+◌, ◌-◌, ◌<◌, ◌≤◌, List, [], ◌∷◌, ◌++◌, length, take, drop, refl, sym, ap, subst, encode_utf8_all, encode_utf8, IsUtf8, arith, append_assoc, append-nil, length-append as lengths}
 use Rattle.std.specs.Str.{chars, IsCharBoundary}
 use Rattle.std.proofs.lemmas.Bool.Decides.{nat_tests}
-use Rattle.std.proofs.lemmas.Str.{chars-nil, chars_past_char, IsUtf8-past_char, IsUtf8-take, encodes-append, chars_from_encodes, IsCharBoundary-at_seam}
+use Rattle.std.proofs.lemmas.Str.{chars-nil, chars_past_char, IsUtf8-past_char, IsUtf8-take, encodes-append, encodes-chars, chars-append, chars_from_encodes, IsCharBoundary-at_seam}
 use Rattle.std.proofs.Math.Seq.{take-append_seam, drop-append_seam}
-use Rattle.lx_node.specs.Units.{units_of}
+use Rattle.lx_node.specs.Units.{units_of, units}
 use Rattle.lx_text.specs.Texts.{text_length, front_of, rest_of}
-use Rattle.lx_text.specs.Passing.{IsStopped}
-use Rattle.lx_text.proofs.Places.{length-none, length-append, length-one, front-passed, rest-passed, front-stopped, rest-stopped, front-none, rest-none, within_is}
-
--- what was passed of a text up to an offset, and the bytes and code units that are left
-pub record IsPassed (text : List ℕ) (offset left : ℕ) (rest : List ℕ) : Type 0 where
-  pub front : List ℕ
-  pub utf8 : IsUtf8 rest
-  pub bytes : encode_utf8_all front ++ rest ≡ text
-  pub front_is : front_of offset (chars text) ≡ front ++ front_of left (chars rest)
-  pub rest_is : rest_of offset (chars text) ≡ rest_of left (chars rest)
-  pub length_is : text_length front + left ≡ offset
+use Rattle.lx_text.specs.Passing.{IsPassed, IsStopped}
+use Rattle.lx_text.proofs.Places.{length-none, length-append, length-one, front-behind, rest-behind, front-passed, rest-passed, front-stopped, rest-stopped, front-none, rest-none, within_is}
 
 pub passed_none : (text : List ℕ) (offset : ℕ) → IsUtf8 text → IsPassed text offset offset text
 passed_none text offset utf8 = record {
@@ -47,6 +38,37 @@ passed_more text rest more offset left c p next fits =
       rest_is = p.rest_is ∙ ap (rest_of left) first ∙ rest-passed left c (chars more) fits;
       length_is = omega (arith, p.length_is, fits, length-append p.front (c ∷ []), length-one c);
     }
+
+-- a whole block, at one time
+encode_block : (cs block behind : List ℕ) → IsUtf8 block → encode_utf8_all (cs ++ chars block) ++ behind ≡ encode_utf8_all cs ++ (block ++ behind)
+encode_block cs block behind utf8 =
+    ap (λ bs. bs ++ behind) (encodes-append cs (chars block) ∙ ap (λ bs. encode_utf8_all cs ++ bs) (encodes-chars block utf8))
+    ∙ append_assoc (encode_utf8_all cs) block behind
+
+pub passed_block : (text rest block behind : List ℕ) (offset left : ℕ) → IsPassed text offset left rest → IsUtf8 block → IsUtf8 behind → rest ≡ block ++ behind → text_length (chars block) ≤ left → IsPassed text offset (left - text_length (chars block)) behind
+passed_block text rest block behind offset left p utf8 after next fits =
+    let first : chars rest ≡ chars block ++ chars behind = ap chars next ∙ chars-append block behind utf8 in
+    let less = left - text_length (chars block) in
+    let left_is : left ≡ text_length (chars block) + less = omega (arith, fits) in
+    record {
+      front = p.front ++ chars block;
+      utf8 = after;
+      bytes = encode_block p.front block behind utf8 ∙ ap (λ bs. encode_utf8_all p.front ++ bs) (sym next) ∙ p.bytes;
+      front_is =
+          p.front_is ∙ ap (λ cs. p.front ++ front_of left cs) first ∙ ap (λ n. p.front ++ front_of n (chars block ++ chars behind)) left_is
+          ∙ ap (λ cs. p.front ++ cs) (front-behind less (chars block) (chars behind))
+          ∙ sym (append_assoc p.front (chars block) (front_of less (chars behind)));
+      rest_is =
+          p.rest_is ∙ ap (rest_of left) first ∙ ap (λ n. rest_of n (chars block ++ chars behind)) left_is
+          ∙ rest-behind less (chars block) (chars behind);
+      length_is = omega (arith, p.length_is, fits, length-append p.front (chars block));
+    }
+
+-- as many code units as were counted
+pub passed_counted : (text rest block behind : List ℕ) (offset left n : ℕ) → IsPassed text offset left rest → IsUtf8 block → IsUtf8 behind → rest ≡ block ++ behind → n ≡ units (chars block) → n ≤ left → IsPassed text offset (left - n) behind
+unfolding text_length
+passed_counted text rest block behind offset left n p utf8 after next is fits =
+    subst (λ m. IsPassed text offset (left - m) behind) (sym is) (passed_block text rest block behind offset left p utf8 after next (omega (arith, is, fits)))
 
 stopped_by : (text rest : List ℕ) (offset left : ℕ) → IsPassed text offset left rest → front_of left (chars rest) ≡ [] → rest_of left (chars rest) ≡ chars rest → IsStopped text offset left (length rest)
 stopped_by text rest offset left p none all =

@@ -6,4 +6,5 @@ pub mod Faults
 pub mod Places
 pub mod Told
 mod Segmented
+mod UnitSums
 mod Utf16

@@ -1,3 +1,4 @@
+pub mod Blocks
 pub mod Clusters
 pub mod Laws
 pub mod Passing

@@ -1,7 +1,17 @@
 -- How far a text was gone through up to an offset. No definition of other crates needs this.
 use Rattle.std.specs.Prelude.{ℕ, ◌+◌, ◌≡◌, ◌++◌, List, length, encode_utf8_all}
 use Rattle.std.specs.Str.{chars, IsUtf8}
-use Rattle.lx_text.specs.Texts.{front_of, rest_of, within}
+use Rattle.lx_text.specs.Texts.{text_length, front_of, rest_of, within}
+
+-- What was passed of a text up to an offset: these characters. The bytes behind them are left, and so many code units are
+-- left of the offset.
+pub record IsPassed (text : List ℕ) (offset left : ℕ) (rest : List ℕ) : Type 0 where
+  pub front : List ℕ
+  pub utf8 : IsUtf8 rest
+  pub bytes : encode_utf8_all front ++ rest ≡ text
+  pub front_is : front_of offset (chars text) ≡ front ++ front_of left (chars rest)
+  pub rest_is : rest_of offset (chars text) ≡ rest_of left (chars rest)
+  pub length_is : text_length front + left ≡ offset
 
 -- The last place at the offset or before it: these characters stand before it, and so many bytes behind it. The offset is so
 -- much further.

@@ -2,6 +2,7 @@
 //! contracts: what offsets count can change here alone.
 #![tactic(auto)]
 
+mod blocks;
 mod bytes;
 mod clusters;
 mod laws;

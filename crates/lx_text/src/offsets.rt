@@ -5,6 +5,7 @@ ghost use Rattle.lx_text.specs.Texts as texts;
 ghost use Rattle.lx_text.specs.Texts.{is_offset, slice_fault};
 ghost use Rattle.lx_text.specs.Passing.{IsStopped};
 
+use crate::blocks::passed_blocks;
 use lx_node::Txt;
 
 /// The text up to a place that so many bytes stand behind, and the text from there on, with how much further the offset
@@ -21,15 +22,15 @@ fn stopped(text: &str, offset: u32, left: u32, rest: usize) -> (&str, &str, u32)
 }
 
 /// The text up to the last place at an offset or before it, the text from there on, and how far the offset is behind
-/// that place: 0 where it is one itself.
+/// that place: 0 where it is one itself. It goes by blocks, and then by the characters of the one that the offset is in.
 fn parted_within(text: &str, offset: u32) -> (&str, &str, u32)
     ensures front { chars result.0.now ≡ texts.front_of offset (chars text.now) }
     ensures rest { chars result.1.now ≡ texts.rest_of offset (chars text.now) }
     ensures within { texts.within (chars text.now) offset + result.2 ≡ offset }
 {
-    let mut left = offset;
-    let mut rest = text.len();
-    let mut characters = text.chars();
+    let (behind, mut left) = passed_blocks(text, offset);
+    let mut rest = behind.len();
+    let mut characters = behind.chars();
     while let Some(character) = characters.next() {
         let units = character.len_utf16() as u32;
         if left < units {

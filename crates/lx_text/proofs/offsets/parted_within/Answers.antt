@@ -1,12 +1,12 @@
 use Rattle.std.proofs.Common.{◌-◌, sym, ap, subst, length}
 use Rattle.std.specs.Str.Iter.{chars_rest}
-use Rattle.lx_text.specs.Passing.{IsStopped}
-use Rattle.lx_text.proofs.Cut.{IsPassed, passed_none, passed_more, stopped_before, stopped_at_end, units_told, fits_told, long_told}
+use Rattle.lx_text.specs.Passing.{IsPassed, IsStopped}
+use Rattle.lx_text.proofs.Cut.{passed_more, stopped_before, stopped_at_end, units_told, fits_told, long_told}
 use Rattle.lx_text.proofs.offsets.parted_within.Goals as goal
 
 pub loop-character-init : goal.loop-character-init
 loop-character-init c = (
-  subst (λ rest. IsPassed c.args.text.now c.args.offset c.args.offset rest) (sym c.chars-characters.ensures.rest) (passed_none c.args.text.now c.args.offset c.utf8.text),
+  subst (λ rest. IsPassed c.args.text.now c.args.offset c.passed_blocks-left.result.1 rest) (sym c.chars-characters.ensures.rest) c.passed_blocks-left.ensures,
   sym c.chars-characters.ensures.len,
 )
 
