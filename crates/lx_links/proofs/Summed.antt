@@ -1,4 +1,5 @@
--- The sums that links keep: the scalar values in the strings of all nodes, and how many items there are.
+-- The sums that links keep: the scalar values in the strings of all nodes, how many items there are, and the scalar values in
+-- their strings.
 use Rattle.std.proofs.Common.{ℕ, ◌≡◌, ◌+◌, ◌-◌, ◌^◌, ◌<◌, ◌≤◌, min, Option, None, Some, option_map, Bor, refl, sym, ap, ◌∙◌, arith, inl, inr, cond, subst, eqb, true}
 use Rattle.std.specs.Option.{option_copied}
 use Rattle.std.proofs.lemmas.Bool.{cases_Bool}
@@ -21,12 +22,15 @@ use Rattle.lx_forest.proofs.Walks.{cases_option}
 use Rattle.lx_forest.proofs.Weights.{weight-with_new, weight-with_fields, weight-take_out, weight-put_in, weight-drop_detached, weight-le}
 use Rattle.lx_links.specs.declared.sums.Sums.{Sums}
 use Rattle.lx_links.specs.Characters.{characters_in, counted_in}
-use Rattle.lx_links.specs.Sums.{items_in, own_sums, sums_of, plus, less, IsPart, AreFew, AreCounted}
+use Rattle.lx_links.specs.Sums.{item_characters_in, item_counted_in, items_in, own_sums, sums_of, plus, less, IsPart, AreFew, AreCounted}
 use Rattle.lx_links.specs.Stands.{Nodes, Standing, Holds, node_of, forest_in}
 use Rattle.lx_links.proofs.Stood.{fails, is_now, held_living}
 
-pub same_sums : (s t : Sums) → s.characters ≡ t.characters → s.items ≡ t.items → s ≡ t
-same_sums s t e g = ap (λ n. record s { characters = n }) e ∙ ap (λ n. record t { items = n }) g
+pub same_sums : (s t : Sums) → s.characters ≡ t.characters → s.items ≡ t.items → s.item_characters ≡ t.item_characters → s ≡ t
+same_sums s t e g h =
+    ap (λ n. record s { characters = n }) e
+    ∙ ap (λ n. record s { characters = t.characters; items = n }) g
+    ∙ ap (λ n. record t { item_characters = n }) h
 
 capped-le : (n : ℕ) → capped n ≤ 2 ^ 64 - 1
 unfolding capped
@@ -42,19 +46,40 @@ counted_weight nil = refl
 counted_weight (tree l below rest) =
     capped-sum (characters_of l.fields) (weight counted_in below) (weight characters_in below) (weight counted_in rest) (weight characters_in rest) 0 (counted_weight below) (counted_weight rest)
 
+item_counted : (l : Label) → capped (item_counted_in l) ≡ capped (item_characters_in l)
+unfolding capped
+item_counted l = elim (cases_Bool (is_item l.kind)) [ inl item ↦ rw item (omega arith) | inr other ↦ rw other refl ]
+
+capped-parts : (a b c d e g : ℕ) → capped a ≡ capped b → capped c ≡ capped d → capped e ≡ capped g → capped (a + c + e) ≡ capped (b + d + g)
+unfolding capped
+capped-parts a b c d e g h i j = omega (arith, h, i, j)
+
+pub counted_item_weight : (f : Forest) → capped (weight item_counted_in f) ≡ capped (weight item_characters_in f)
+counted_item_weight nil = refl
+counted_item_weight (tree l below rest) =
+    capped-parts (item_counted_in l) (item_characters_in l) (weight item_counted_in below) (weight item_characters_in below) (weight item_counted_in rest) (weight item_characters_in rest) (item_counted l) (counted_item_weight below) (counted_item_weight rest)
+
 -- ---- they are few
 
 few_items : (kind : Kind) → cond (is_item kind) 1 0 ≤ 1
 few_items kind = elim (cases_Bool (is_item kind)) [ inl item ↦ rw item (omega arith) | inr other ↦ rw other (omega arith) ]
 
+few_item_characters : (kind : Kind) (fields : Fields) → cond (is_item kind) (capped (characters_of fields)) 0 ≤ 2 ^ 64 - 1
+few_item_characters kind fields = elim (cases_Bool (is_item kind)) [ inl item ↦ rw item (capped-le (characters_of fields)) | inr other ↦ rw other (omega arith) ]
+
 pub few_own : (kind : Kind) (fields : Fields) (s : Sums) → s ≡ own_sums kind fields → AreFew s
 few_own kind fields s e =
-    rw e (record { characters = omega (arith, capped-le (characters_of fields)); items = omega (arith, few_items kind) })
+    rw e (record {
+      characters = omega (arith, capped-le (characters_of fields));
+      items = omega (arith, few_items kind);
+      item_characters = omega (arith, few_item_characters kind fields);
+    })
 
 few_sums : (f : Forest) → total f < 2 ^ 32 → AreFew (sums_of f)
 few_sums f small = record {
   characters = omega (arith, small, weight-le counted_in (2 ^ 64 - 1) f (λ l. capped-le (characters_of l.fields)));
   items = omega (arith, small, weight-le items_in 1 f (λ l. few_items l.kind));
+  item_characters = omega (arith, small, weight-le item_counted_in (2 ^ 64 - 1) f (λ l. few_item_characters l.kind l.fields));
 }
 
 -- the detached nodes have no more than all
@@ -62,6 +87,7 @@ pub few_gone : (f : Forest) (s : Sums) → total f < 2 ^ 32 → s ≡ sums_of (w
 few_gone f s small e = rw e (record {
   characters = omega (arith, (few_sums f small).characters, weight-drop_detached counted_in f);
   items = omega (arith, (few_sums f small).items, weight-drop_detached items_in f);
+  item_characters = omega (arith, (few_sums f small).item_characters, weight-drop_detached item_counted_in f);
 })
 
 -- ---- what links keep of them
@@ -82,14 +108,14 @@ counted_few n held s m f e h i = rw (counted_by n held s m f e h i) (few_sums f 
 
 -- ---- after each edit
 
-pub root_counts : record { characters = 0; items = 0 } ≡ sums_of root_alone
+pub root_counts : record { characters = 0; items = 0; item_characters = 0 } ≡ sums_of root_alone
 unfolding capped characters_of characters_of_element characters_of_extra is_item
 root_counts = refl
 
 pub new_counts : (n more : Sums) (f : Forest) (l : Label) → n ≡ sums_of f → more ≡ own_sums l.kind l.fields
     → plus n more ≡ sums_of (with_new l f)
 new_counts n more f l e g =
-    rw (e, g) (same_sums _ _ (omega (arith, weight-with_new counted_in l f)) (omega (arith, weight-with_new items_in l f)))
+    rw (e, g) (same_sums _ _ (omega (arith, weight-with_new counted_in l f)) (omega (arith, weight-with_new items_in l f)) (omega (arith, weight-with_new item_counted_in l f)))
 
 label_there : (f : Forest) (k : ℕ) (s : Spot Label) (fields : Fields) → spot f k ≡ Some s
     → fields_at k fields s.label ≡ record s.label { fields = fields }
@@ -110,7 +136,7 @@ spot_seen f k n e = elim (cases_option (spot f k)) [
 
 set_at : (n old new : Sums) (f : Forest) (k : ℕ) (fields : Fields) (s : Spot Label) → IsForest f → spot f k ≡ Some s → n ≡ sums_of f
     → old ≡ own_sums s.label.kind s.label.fields → new ≡ own_sums s.label.kind fields → plus n new ≡ plus (sums_of (with_fields k fields f)) old
-set_at n old new f k fields s h e c o w = rw (c, o, w) (same_sums _ _ (set_weight counted_in f k fields s h e) (set_weight items_in f k fields s h e))
+set_at n old new f k fields s h e c o w = rw (c, o, w) (same_sums _ _ (set_weight counted_in f k fields s h e) (set_weight items_in f k fields s h e) (set_weight item_counted_in f k fields s h e))
 
 -- at a node that the forest tells
 pub node_counts : (n old new : Sums) (f : Forest) (k : ℕ) (fields : Fields) (node : Node)
@@ -130,24 +156,24 @@ set_counts n old new held s m f k fields o node e h i seen at before after =
     node_counts n old new f k fields node.now h.stands.in_order (counted_by n held s m f e h i) (sym (ap option_copied at) ∙ seen) before after
 
 pub take_counts : (n : Sums) (k : ℕ) (f : Forest) → n ≡ sums_of f → n ≡ sums_of (take_out k f)
-take_counts n k f e = e ∙ same_sums _ _ (sym (weight-take_out counted_in k f)) (sym (weight-take_out items_in k f))
+take_counts n k f e = e ∙ same_sums _ _ (sym (weight-take_out counted_in k f)) (sym (weight-take_out items_in k f)) (sym (weight-take_out item_counted_in k f))
 
 pub put_counts : (n : Sums) (p k : ℕ) (before : Option ℕ) (f : Forest) → IsForest f → CanPut p k f → n ≡ sums_of f
     → n ≡ sums_of (put_in p before k f)
 put_counts n p k before f h c e =
-    e ∙ same_sums _ _ (sym (weight-put_in counted_in p before k f h c.parent c.outside)) (sym (weight-put_in items_in p before k f h c.parent c.outside))
+    e ∙ same_sums _ _ (sym (weight-put_in counted_in p before k f h c.parent c.outside)) (sym (weight-put_in items_in p before k f h c.parent c.outside)) (sym (weight-put_in item_counted_in p before k f h c.parent c.outside))
 
 pub drop_counts : (n gone : Sums) (f : Forest) → n ≡ sums_of f → gone ≡ sums_of (without 0 f) → n ≡ plus (sums_of (drop_detached f)) gone
 drop_counts n gone f e g =
-    rw (e, g) (same_sums _ _ (sym (weight-drop_detached counted_in f)) (sym (weight-drop_detached items_in f)))
+    rw (e, g) (same_sums _ _ (sym (weight-drop_detached counted_in f)) (sym (weight-drop_detached items_in f)) (sym (weight-drop_detached item_counted_in f)))
 
 -- a part is taken away
 
 pub is_part : (n gone rest : Sums) → n ≡ plus rest gone → IsPart gone n
-is_part n gone rest e = rw e (record { characters = omega arith; items = omega arith })
+is_part n gone rest e = rw e (record { characters = omega arith; items = omega arith; item_characters = omega arith })
 
 pub less_part : (n gone rest : Sums) → n ≡ plus rest gone → less n gone ≡ rest
-less_part n gone rest e = rw e (same_sums _ _ (omega arith) (omega arith))
+less_part n gone rest e = rw e (same_sums _ _ (omega arith) (omega arith) (omega arith))
 
 -- ---- what is told of them
 
@@ -162,3 +188,11 @@ characters_told s told f e t = capped_is s.characters told (weight counted_in f)
 pub no_characters : (f : Forest) → f ≡ nil → 0 ≡ capped (weight characters_in f)
 unfolding capped
 no_characters f e = sym (ap (λ g. capped (weight characters_in g)) e)
+
+pub item_characters_told : (s : Sums) (told : ℕ) (f : Forest) → s ≡ sums_of f → told ≡ min s.item_characters (2 ^ 64 - 1)
+    → told ≡ capped (weight item_characters_in f)
+item_characters_told s told f e t = capped_is s.item_characters told (weight item_counted_in f) (ap (λ (s : Sums). s.item_characters) e) t ∙ counted_item_weight f
+
+pub no_item_characters : (f : Forest) → f ≡ nil → 0 ≡ capped (weight item_characters_in f)
+unfolding capped
+no_item_characters f e = sym (ap (λ g. capped (weight item_characters_in g)) e)

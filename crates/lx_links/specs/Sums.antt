@@ -1,4 +1,5 @@
--- What the nodes of a forest hold together: the scalar values in their strings, as a machine counts those of each, and items.
+-- What the nodes of a forest hold together: the scalar values in their strings, as a machine counts those of each, how many
+-- of them are items, and the scalar values in the strings of these.
 use Rattle.std.specs.Prelude.{ℕ, ◌+◌, ◌-◌, ◌<◌, ◌≤◌, ◌^◌, ◌≡◌, ◌≢◌, List, cond, sum_by}
 use Rattle.lx_node.specs.Trees.{nil}
 use Rattle.lx_node.specs.Kinds.{is_item}
@@ -13,31 +14,56 @@ use Rattle.lx_links.specs.Characters.{counted_in}
 abbrev pub items_in : Label → ℕ
 items_in l = cond (is_item l.kind) 1 0
 
+-- how many scalar values are in the strings of an item, and what a machine counts of them
+abbrev pub item_characters_in : Label → ℕ
+item_characters_in l = cond (is_item l.kind) (characters_of l.fields) 0
+
+abbrev pub item_counted_in : Label → ℕ
+item_counted_in l = cond (is_item l.kind) (capped (characters_of l.fields)) 0
+
 -- those of one node, of all, and of the nodes of these keys
 abbrev pub own_sums : Kind → Fields → Sums
-own_sums kind fields = record { characters = capped (characters_of fields); items = cond (is_item kind) 1 0 }
+own_sums kind fields = record {
+  characters = capped (characters_of fields);
+  items = cond (is_item kind) 1 0;
+  item_characters = cond (is_item kind) (capped (characters_of fields)) 0;
+}
 
 abbrev pub sums_of : Forest → Sums
-sums_of f = record { characters = weight counted_in f; items = weight items_in f }
+sums_of f = record { characters = weight counted_in f; items = weight items_in f; item_characters = weight item_counted_in f }
 
 abbrev pub sums_at : Forest → List ℕ → Sums
-sums_at f ks = record { characters = sum_by (own_weight counted_in f) ks; items = sum_by (own_weight items_in f) ks }
+sums_at f ks = record {
+  characters = sum_by (own_weight counted_in f) ks;
+  items = sum_by (own_weight items_in f) ks;
+  item_characters = sum_by (own_weight item_counted_in f) ks;
+}
 
 -- of both together, and what is left without a part
 abbrev pub plus : Sums → Sums → Sums
-plus s more = record { characters = s.characters + more.characters; items = s.items + more.items }
+plus s more = record {
+  characters = s.characters + more.characters;
+  items = s.items + more.items;
+  item_characters = s.item_characters + more.item_characters;
+}
 
 abbrev pub less : Sums → Sums → Sums
-less s gone = record { characters = s.characters - gone.characters; items = s.items - gone.items }
+less s gone = record {
+  characters = s.characters - gone.characters;
+  items = s.items - gone.items;
+  item_characters = s.item_characters - gone.item_characters;
+}
 
 pub record IsPart (gone s : Sums) : Type 0 where
   pub characters : gone.characters ≤ s.characters
   pub items : gone.items ≤ s.items
+  pub item_characters : gone.item_characters ≤ s.item_characters
 
 -- no more than fewer than 2 ^ 32 nodes can have
 pub record AreFew (s : Sums) : Type 0 where
   pub characters : s.characters < 2 ^ 96
   pub items : s.items < 2 ^ 32
+  pub item_characters : s.item_characters < 2 ^ 96
 
 -- the sums of a forest, where it has nodes
 pub record AreCounted (s : Sums) (f : Forest) : Type 0 where

@@ -58,6 +58,7 @@ impl Links {
             sums: Sums {
                 characters: 0,
                 items: 0,
+                item_characters: 0,
             },
         })
     }

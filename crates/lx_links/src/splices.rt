@@ -59,6 +59,7 @@ pub fn node_sums(store: &Store<Node>, key: Key) -> Sums
         None => Sums {
             characters: 0,
             items: 0,
+            item_characters: 0,
         },
     }
 }

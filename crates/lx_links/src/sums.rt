@@ -4,11 +4,12 @@ ghost use Rattle.lx_links.specs.Sums.{AreFew, IsPart, own_sums, plus, less};
 use lx_node::{Fields, Kind};
 
 /// What nodes hold together: the scalar values in their strings, for each node what `characters` answers,
-/// and how many of them are items.
+/// how many of them are items, and the scalar values in the strings of these.
 #[derive(Clone, Copy)]
 pub struct Sums {
     pub(crate) characters: u128,
     pub(crate) items: u64,
+    pub(crate) item_characters: u128,
 }
 
 impl Sums {
@@ -17,10 +18,18 @@ impl Sums {
     pub fn of(kind: Kind, fields: &Fields) -> Sums
         ensures { result ≡ own_sums kind fields.now }
     {
-        let items = if matches!(kind, Kind::Item) { 1 } else { 0 };
-        Sums {
-            characters: fields.characters() as u128,
-            items,
+        let characters = fields.characters() as u128;
+        match kind {
+            Kind::Item => Sums {
+                characters,
+                items: 1,
+                item_characters: characters,
+            },
+            _ => Sums {
+                characters,
+                items: 0,
+                item_characters: 0,
+            },
         }
     }
 
@@ -33,6 +42,7 @@ impl Sums {
         Sums {
             characters: self.characters + more.characters,
             items: self.items + more.items,
+            item_characters: self.item_characters + more.item_characters,
         }
     }
 
@@ -44,6 +54,7 @@ impl Sums {
         Sums {
             characters: self.characters - gone.characters,
             items: self.items - gone.items,
+            item_characters: self.item_characters - gone.item_characters,
         }
     }
 }
