@@ -19,3 +19,5 @@ pub mod Raised
 pub mod Respelled
 pub mod Elements
 pub mod Same
+pub mod Again
+pub mod Rewritten

@@ -12,4 +12,5 @@ pub mod Covering
 pub mod Laws
 pub mod Raised
 pub mod Respelling
+pub mod Rewriting
 pub mod Drafted

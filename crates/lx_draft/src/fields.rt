@@ -68,7 +68,7 @@ impl Draft {
 
     /// The scalar values in the strings of fields, if the update may write them and take another count.
     #[tactic(auto, using(crate::proofs::Capped::admitted_capped, crate::proofs::Capped::refused_capped))]
-    fn admit_fields(&self, fields: &Fields) -> Result<u32, Cause>
+    pub(crate) fn admit_fields(&self, fields: &Fields) -> Result<u32, Cause>
         ensures ok { IfOk result (λ n. IsAdmitted n (characters_of fields.now) self.now) }
         ensures err { IfErr result (λ cause. over_limits (characters_of fields.now) self.now ≡ Some cause) }
     {

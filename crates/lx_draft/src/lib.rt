@@ -12,6 +12,7 @@ mod freezing;
 mod laws;
 mod marking;
 mod places;
+mod rewriting;
 mod rounds;
 mod rules;
 mod selecting;

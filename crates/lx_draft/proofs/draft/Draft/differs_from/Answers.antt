@@ -1,4 +1,4 @@
-use Rattle.std.proofs.Common.{◌≡◌, ◌∙◌, sym, ap, chars}
+use Rattle.std.proofs.Common.{◌∙◌, sym, ap, chars}
 use Rattle.std.specs.Prelude.{not}
 use Rattle.lx_draft.proofs.Respelled.{placed_cut, differ_by_piece}
 use Rattle.lx_draft.proofs.draft.Draft.differs_from.Goals as goal

@@ -1,4 +1,4 @@
-use Rattle.std.proofs.Common.{◌≡◌, ◌∙◌, sym, subst, inl, inr, chars}
+use Rattle.std.proofs.Common.{◌≡◌, sym, subst, inl, inr, chars}
 use Rattle.std.specs.Prelude.{OnOk}
 use Rattle.lx_forest.specs.Forest.{Forest}
 use Rattle.lx_forest.specs.Lookups.{label_of, IsForest}
