@@ -1,6 +1,6 @@
 -- Where a forest has no items, numbering does nothing.
-use Rattle.std.proofs.Common.{◌≡◌, ◌∙◌, ℕ, true, false, List, [], ◌∷◌, Option, None, Some, Ok, refl, sym, ap, ap₂, arith, inl, inr}
-use Rattle.std.specs.Prelude.{option_map, filter}
+use Rattle.std.proofs.Common.{◌≡◌, ◌∙◌, ℕ, Bool, true, false, List, [], ◌∷◌, Option, None, Some, Ok, refl, sym, ap, ap₂, arith, inl, inr}
+use Rattle.std.specs.Prelude.{option_map, is_some, filter}
 use Rattle.std.specs.Option.{option_or}
 use Rattle.std.proofs.lemmas.Bool.Decides.{eqb_tells}
 use Rattle.lx_node.specs.Trees.{nil, tree}
@@ -44,11 +44,29 @@ unweighed of r (tree l below rest) q s none e =
 no_item : (l : Label) → items_in l ≡ 0 → is_item l.kind ≡ true → false ≡ true
 no_item l none is = absurd (grind (arith, none, is))
 
-spot_known : (f : Forest) (k : ℕ) → has k f ≡ true → (s : Spot Label) × (spot f k ≡ Some s)
+pub spot_known : (f : Forest) (k : ℕ) → has k f ≡ true → (s : Spot Label) × (spot f k ≡ Some s)
 spot_known f k there = by_spot (spot f k) refl where
   by_spot : (o : Option (Spot Label)) → spot f k ≡ o → (s : Spot Label) × (spot f k ≡ Some s)
   by_spot None is = absurd (grind (arith, there, is, is_some-spot f k))
   by_spot (Some s) is = (s, is)
+
+-- what is an item or a list is there
+pub there_at : (test : Kind → Bool) (f : Forest) (q : ℕ) → is_at test f q ≡ true → has q f ≡ true
+there_at test f q is = by_spot (spot f q) refl where
+  by_spot : (o : Option (Spot Label)) → spot f q ≡ o → has q f ≡ true
+  by_spot None e =
+      let none : false ≡ true = sym (ap (λ (o : Option (Spot Label)). passes test (option_map (λ (l : Label). l.kind) (option_map (λ (s : Spot Label). s.label) o))) e) ∙ is in absurd (cc)
+  by_spot (Some s) e = sym (is_some-spot f q) ∙ ap is_some e
+
+-- a child of a list is an item
+pub item_below : (f : Forest) (list q : ℕ) → IsHeld may_hold f → is_at is_list f list ≡ true → parent_of f q ≡ Some list → is_at is_item f q ≡ true
+item_below f list q held is_a_list up =
+    let kind : Option (Spot Label) → Option Kind = λ o. option_map (λ (l : Label). l.kind) (option_map (λ (s : Spot Label). s.label) o) in
+    let outer = spot_known f list (has-parent_of f q list up) in
+    let inner = spot_known f q (has-child f q list up) in
+    let is : is_list outer.0.label.kind ≡ true = sym (ap (λ o. passes is_list (kind o)) outer.1) ∙ is_a_list in
+    let may : may_hold outer.0.label.kind inner.0.label.kind ≡ true = sym (ap₂ (λ o p. holds may_hold (kind o) (kind p)) outer.1 inner.1) ∙ held.each q list up in
+    ap (λ o. passes is_item (kind o)) inner.1 ∙ held_below outer.0.label.kind inner.0.label.kind is may
 
 -- a child of a list would be an item
 no_child : (f : Forest) (list q : ℕ) → IsHeld may_hold f → weight items_in f ≡ 0 → is_at is_list f list ≡ true → parent_of f q ≡ Some list → false ≡ true

@@ -1,5 +1,6 @@
 pub mod Above
 pub mod Alike
+pub mod Counted
 pub mod Covered
 pub mod Itemless
 pub mod Kept
@@ -8,6 +9,9 @@ pub mod Numbered
 pub mod Numbers
 pub mod Paths
 pub mod Renumbered
+pub mod Rewritten
 pub mod Small
+pub mod Stands
+pub mod Sums
 pub mod Swept
 pub mod Within

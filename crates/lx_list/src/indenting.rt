@@ -8,7 +8,7 @@ ghost use Rattle.lx_edit.specs.Standing.{StillStands};
 ghost use Rattle.lx_range.specs.Blocks as blocks;
 ghost use Rattle.lx_list.specs.Indenting as indenting;
 
-use crate::changing::deepen;
+use crate::changing::{Change, change_fields};
 use crate::making::{item_fields, like};
 use crate::nesting::nested_in;
 use crate::ready::ready;
@@ -126,6 +126,6 @@ pub(crate) fn indent_line(alloc: Global, draft: &mut Draft, line: Key) -> Result
         let behind = nested_in(links, links.next(line));
         nest(alloc, draft, before, behind, line)
     } else {
-        deepen(alloc, draft, line)
+        change_fields(alloc, draft, line, Change::Deeper)
     }
 }

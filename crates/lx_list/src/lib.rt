@@ -24,6 +24,7 @@ mod numbering;
 mod outdenting;
 mod ready;
 mod retyping;
+mod standing;
 
 pub use checking::{set_checked, toggle_checked};
 pub use commands::{indent, make_list, outdent, remove_list};

@@ -1,9 +1,12 @@
 //! Items get their numbers.
 
-ghost use Rattle.std.specs.Prelude.{◌≡◌, ◌+◌, ◌<◌, ◌^◌, ◌++◌, ◌∷◌, [], length, if◌then◌else◌, Ok, OnOk, IfOk, IfErr, filter};
+ghost use Rattle.std.specs.Prelude.{◌≡◌, ◌+◌, ◌<◌, ◌^◌, ◌++◌, ◌∷◌, [], length, if◌then◌else◌, false, IsTrue, Ok, OnOk, IfOk, IfErr, filter};
 ghost use Rattle.lx_node.specs.Kinds as kinds;
 ghost use Rattle.lx_forest.specs.Lookups as lookups;
+ghost use Rattle.lx_forest.specs.Lookups.{IsHeld};
+ghost use Rattle.lx_forest.specs.Suited.{IsSuited};
 ghost use Rattle.lx_links.specs.Stands.{Sound};
+ghost use Rattle.lx_draft.specs.Covering.{IsReady};
 ghost use Rattle.lx_draft.specs.Faults.{TellsStep};
 ghost use Rattle.lx_edit.specs.InTurn.{in_turn};
 ghost use Rattle.lx_edit.specs.Standing.{StillStands};
@@ -11,11 +14,13 @@ ghost use Rattle.lx_range.specs.Blocks as blocks;
 ghost use Rattle.lx_list.specs.Numbering as numbering;
 ghost use Rattle.lx_list.specs.Numbering.{number_step};
 ghost use Rattle.lx_list.specs.Laws.{IsRenumbered};
+ghost use Rattle.lx_list.specs.Began.{BeganNumbered};
 
 use crate::changing::number_item;
 use crate::kinds::is_list_at;
 use crate::nesting::is_nesting;
 use crate::ready::ready;
+use crate::standing::stand_still;
 use lx_draft::Draft;
 use lx_edit::children_of;
 use lx_links::Links;
@@ -119,14 +124,36 @@ fn number_lists(alloc: Global, draft: &mut Draft, lists: &[Key]) -> Result<(), F
     Ok(())
 }
 
+/// Takes the counts of all items at once, and what they write, where the lists stand as they did when the draft began: each
+/// item has its number then. It answers whether it did. Where it didn't, some list may not be numbered, or a limit would be
+/// passed on the way.
+#[tactic(auto, using(crate::proofs::Rewritten::number_rewritten))]
+fn number_standing(draft: &mut Draft) -> bool
+    requires since { BeganNumbered draft.old }
+    requires ready { IsReady draft.old }
+    requires held { IsHeld kinds.may_hold draft.old.forest }
+    requires suited { IsSuited draft.old.forest }
+    ensures done { IsTrue result → number_step draft.old ≡ Ok draft.new }
+    ensures same { result ≡ false → draft.new ≡ draft.old }
+{
+    if !stand_still(draft) {
+        return false;
+    }
+    let items = draft.links().items();
+    let characters = draft.links().item_characters();
+    draft.rewrite(items, characters)
+}
+
 /// Gives each item in the root's tree its number: that with which its list begins, and one more for each item before it
 /// whose first child isn't a list. Each item takes a count, and its fields are written, also where it has its number. Where
-/// there are no items it does nothing, and no node is looked at.
+/// there are no items it does nothing, and no node is looked at; where no list and no item is marked itself, only the keys
+/// that are marked are. So it relies on where the draft began: with a forest that was numbered.
 ///
 /// It is refused with `StepLimit` where 100,000 counts were taken, and with `TooLarge` where what was written would come
 /// above 16,777,216 scalar values. A draft on which it was refused is only fit to be dropped.
 #[tactic(auto, unfolding(crate::specs::Numbering::number_step), using(crate::proofs::Renumbered::renumbered, crate::proofs::Itemless::number_itemless))]
 pub fn number(alloc: Global, draft: &mut Draft) -> Result<(), Fault>
+    requires since { BeganNumbered draft.old }
     ensures ok { OnOk result (number_step draft.old ≡ Ok draft.new) }
     ensures numbered { OnOk result (IsRenumbered draft.old.forest draft.new.forest) }
     ensures err { IfErr result (λ e. TellsStep e (number_step draft.old)) }
@@ -134,6 +161,9 @@ pub fn number(alloc: Global, draft: &mut Draft) -> Result<(), Fault>
 {
     ready(draft)?;
     if draft.links().items() == 0 {
+        return Ok(());
+    }
+    if number_standing(draft) {
         return Ok(());
     }
     let lists = lists_of(alloc, draft.links())?;

@@ -9,7 +9,7 @@ ghost use Rattle.lx_edit.specs.Standing.{StillStands};
 ghost use Rattle.lx_range.specs.Blocks as blocks;
 ghost use Rattle.lx_list.specs.Outdenting as outdenting;
 
-use crate::changing::lift;
+use crate::changing::{Change, change_fields};
 use crate::making::{item_fields, items_behind, like};
 use crate::ready::ready;
 use lx_draft::Draft;
@@ -158,6 +158,6 @@ pub(crate) fn outdent_line(alloc: Global, draft: &mut Draft, line: Key) -> Resul
     if is_item_at(draft.links(), line) {
         take_out(alloc, draft, line)
     } else {
-        lift(alloc, draft, line)
+        change_fields(alloc, draft, line, Change::Shallower)
     }
 }

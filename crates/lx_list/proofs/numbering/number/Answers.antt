@@ -1,0 +1,8 @@
+use Rattle.lx_list.proofs.Renumbered.{renumbered}
+use Rattle.lx_list.proofs.numbering.number.Goals as goal
+
+pub returns-then-number_standing-clause-numbered :
+    goal.returns-then-number_standing-clause-numbered
+returns-then-number_standing-clause-numbered c =
+    renumbered c.args.draft.now c.number_standing.new.draft c.in_ok-ready.ensures.ready.in_order c.in_ok-ready.ensures.held c.in_ok-ready.ensures.suited
+    (c.number_standing.ensures.done c.if-number_standing.true)
