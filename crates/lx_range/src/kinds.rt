@@ -52,7 +52,7 @@ pub fn is_text_at(links: &Links, key: Key) -> bool
     }
 }
 
-/// Whether it is a text or a tab, of which points count the characters.
+/// Whether it is a text or a tab, in which points count code units.
 pub fn has_characters_at(links: &Links, key: Key) -> bool
     ensures { result ≡ blocks.is_at kinds.has_characters links.now key }
 {

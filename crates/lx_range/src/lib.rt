@@ -1,7 +1,7 @@
 //! What commands share that go by the selection: the block, the frame and the lines of a node, the order of points, the
 //! nodes between two of them, where what a node has begins, the range that a command needs, and the caret. All but the
-//! caret is read from a draft, and nothing is changed. Points count children in an element, and the characters of `lx_text`
-//! in a text or tab.
+//! caret is read from a draft, and nothing is changed. Points count children in an element, and UTF-16 code units in a
+//! text or tab.
 #![tactic(auto)]
 
 mod blocks;
