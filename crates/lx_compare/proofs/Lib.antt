@@ -1,0 +1,4 @@
+mod Covering
+mod Raised
+mod SameNode
+mod Walked
