@@ -1,0 +1,16 @@
+pub mod Apart
+pub mod Counting
+pub mod Covered
+pub mod EmptyCells
+pub mod Few
+pub mod Filled
+pub mod Gaps
+pub mod Heights
+pub mod Indices
+pub mod Kept
+pub mod Near
+pub mod Paths
+pub mod Room
+pub mod Standing
+pub mod Suits
+pub mod Without

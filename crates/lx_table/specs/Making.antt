@@ -1,0 +1,93 @@
+-- New cells, and a new table.
+use Rattle.std.specs.Prelude.{ℕ, ◌+◌, ◌==◌, Bool, true, false, if◌then◌else◌, ◌∷◌, find, Option, None, Some, option_and_then, Result, Ok}
+use Rattle.lx_node.specs.declared.kind.Kind.{Kind}
+use Rattle.lx_node.specs.declared.kind.Kind.TheVariants.{Root, Paragraph, Table, Row, Cell}
+use Rattle.lx_node.specs.declared.fields.Fields.{Fields}
+use Rattle.lx_node.specs.declared.fields.Fields.TheVariants as fields
+use Rattle.lx_node.specs.declared.fields.Extra.TheVariants as extra
+use Rattle.lx_node.specs.declared.cause.Cause.{Cause}
+use Rattle.lx_node.specs.declared.cause.Cause.TheVariants.{WrongKind}
+use Rattle.lx_node.specs.Plain.{plain_element, element_with}
+use Rattle.lx_forest.specs.Forest.{Forest}
+use Rattle.lx_forest.specs.Lookups.{kind_of, parent_of, first_child, ancestors}
+use Rattle.lx_draft.specs.Working.{Working}
+use Rattle.lx_draft.specs.Faults.{answer, after}
+use Rattle.lx_draft.specs.Steps.{new_step, put_step}
+use Rattle.lx_draft.specs.Beside.{put_behind_step}
+use Rattle.lx_edit.specs.InTurn.{in_turn}
+use Rattle.lx_edit.specs.Texts.{keys_from}
+use Rattle.lx_range.specs.Blocks.{passes}
+use Rattle.lx_table.specs.Places.{focus_of, caret_in_step}
+
+-- ---- cells
+
+abbrev pub cell_fields : ℕ → Fields
+cell_fields header = fields.Element (element_with (extra.Cell header 1 1 None))
+
+-- a new cell with a new paragraph in it comes to an index of a row
+unfoldable pub cell_made : ℕ → ℕ → ℕ → Working → Result Working Cause
+cell_made header row index w =
+    after (new_step Cell (cell_fields header) w) (λ v.
+    after (new_step Paragraph plain_element v) (λ u.
+    after (put_step v.next_key w.next_key 0 u) (put_step w.next_key row index)))
+
+-- so many, from an index on
+abbrev pub cells_made : ℕ → ℕ → ℕ → ℕ → Working → Result Working Cause
+cells_made header row index n w = in_turn (cell_made header row) (keys_from index n) w
+
+-- ---- insert-table
+
+-- the first row's cells have headers of rows, and the first column's headers of columns
+abbrev pub headers_at : Bool → ℕ → ℕ → ℕ
+headers_at false row column = 0
+headers_at true row column = (if row == 0 then 1 else 0) + (if column == 0 then 2 else 0)
+
+abbrev pub cell_made_at : Bool → ℕ → ℕ → ℕ → Working → Result Working Cause
+cell_made_at headers row key column w = cell_made (headers_at headers row column) key column w
+
+-- a new row with so many cells comes behind the rows of a table
+unfoldable pub row_made : Bool → ℕ → ℕ → ℕ → Working → Result Working Cause
+row_made headers columns table row w =
+    after (new_step Row plain_element w) (λ v.
+    after (in_turn (cell_made_at headers row w.next_key) (keys_from 0 columns) v) (put_step w.next_key table row))
+
+abbrev pub holds_tables : Kind → Bool
+holds_tables Root = true
+holds_tables Cell = true
+holds_tables other = false
+
+-- whether a node stands in the root or in a cell
+abbrev pub stands_beside_tables : Forest → ℕ → Bool
+stands_beside_tables f k = passes holds_tables (option_and_then (kind_of f) (parent_of f k))
+
+-- behind which node a table comes: the nearest of a node and those above it that stands in the root or in a cell
+abbrev pub neighbour_of : Forest → ℕ → Option ℕ
+neighbour_of f k = find (stands_beside_tables f) (k ∷ ancestors f k)
+
+-- the first cell of a table
+abbrev pub first_cell : Forest → ℕ → Option ℕ
+first_cell f table = option_and_then (first_child f) (first_child f table)
+
+abbrev pub caret_in_cell : Option ℕ → Working → Result Working Cause
+caret_in_cell None w = Ok w
+caret_in_cell (Some cell) w = caret_in_step cell w
+
+-- a new table comes behind a node
+unfoldable pub table_made : ℕ → ℕ → Bool → ℕ → Working → Result Working Cause
+table_made rows columns headers place w =
+    after (new_step Table plain_element w) (λ v.
+    after (in_turn (row_made headers columns w.next_key) (keys_from 0 rows) v) (λ u.
+    after (put_behind_step w.next_key place u) (λ put. caret_in_cell (first_cell put.forest w.next_key) put)))
+
+-- where nothing stands in the root or in a cell there is no place
+abbrev pub place_fault : Option Kind → Option Cause
+place_fault None = None
+place_fault (Some kind) = Some (WrongKind kind)
+
+abbrev pub table_behind : ℕ → ℕ → Bool → ℕ → Option ℕ → Working → Result Working Cause
+table_behind rows columns headers focus None w = answer (place_fault (kind_of w.forest focus)) w
+table_behind rows columns headers focus (Some place) w = table_made rows columns headers place w
+
+unfoldable pub insert_table_step : ℕ → ℕ → Bool → Working → Result Working Cause
+insert_table_step rows columns headers w =
+    after (focus_of w) (λ k. table_behind rows columns headers k (neighbour_of w.forest k) w)

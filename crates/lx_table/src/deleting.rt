@@ -1,0 +1,319 @@
+//! A row deleted.
+
+ghost use Rattle.std.specs.Prelude.{◌≡◌, ◌≤◌, ◌-◌, ◌+◌, ◌<◌, ◌^◌, [], All, filter, Ok, OnOk, IfOk, IfErr};
+ghost use Rattle.std.specs.List.{list_all, slice_get};
+ghost use Rattle.lx_draft.specs.Faults.{TellsStep};
+ghost use Rattle.lx_edit.specs.InTurn.{in_turn};
+ghost use Rattle.lx_edit.specs.Standing.{StillStands};
+ghost use Rattle.lx_node.specs.NamedTrees.{total};
+ghost use Rattle.lx_forest.specs.Lookups as lookups;
+ghost use Rattle.lx_links.specs.Stands.{Sound};
+ghost use Rattle.lx_table.specs.Grid as grid;
+ghost use Rattle.lx_table.specs.Places as places;
+ghost use Rattle.lx_table.specs.Shrinking as spec;
+ghost use Rattle.lx_table.specs.Spots.{most_cells, IsSmall};
+
+use crate::caret::{set_caret, set_caret_at};
+use crate::filling::spots_over;
+use crate::places::{Place, place_of};
+use crate::reading::own_index;
+use crate::rows::crossing;
+use crate::spans::{set_heights, set_spans};
+use crate::spots::{Spot, keep_if, spot_at};
+use lx_draft::Draft;
+use lx_edit::{children_of, element_point, remove, replace};
+use lx_links::Links;
+use lx_node::{Fault, Fields, Key, Kind, NoMemory};
+use std::alloc::Global;
+
+/// Puts a new paragraph in the place of a table, and the caret into it.
+#[tactic(auto, unfolding(crate::specs::Shrinking::table_replaced), using(crate::proofs::Suits::paragraph_suits))]
+pub(crate) fn replace_table(alloc: Global, draft: &mut Draft, table: Key) -> Result<(), Fault>
+    ensures ok { OnOk result (spec.table_replaced table draft.old ≡ Ok draft.new) }
+    ensures err { IfErr result (λ e. TellsStep e (spec.table_replaced table draft.old)) }
+    ensures standing { IfErr result (λ e. StillStands e draft.new) }
+{
+    let paragraph = draft.new_node(Kind::Paragraph, Fields::plain_element(alloc))?;
+    replace(alloc, draft, table, paragraph, false)?;
+    set_caret(draft, &element_point(paragraph, 0))
+}
+
+fn is_in_row_alone(spot: &Spot, row: u32) -> bool
+    ensures { result ≡ spec.is_in_row_alone row spot.now }
+{
+    spot.row == row && spot.height == 1
+}
+
+/// Whether each cell stands in a row and in no other.
+fn are_in_row_alone(spots: &[Spot], row: u32) -> bool
+    ensures { result ≡ list_all (spec.is_in_row_alone row) spots.now }
+{
+    for spot in spots {
+        if !is_in_row_alone(spot, row) {
+            return false;
+        }
+    }
+    true
+}
+
+/// Takes a row from a cell.
+fn lower(alloc: Global, draft: &mut Draft, spot: &Spot) -> Result<(), Fault>
+    ensures ok { OnOk result (spec.lower spot.now draft.old ≡ Ok draft.new) }
+    ensures err { IfErr result (λ e. TellsStep e (spec.lower spot.now draft.old)) }
+    ensures standing { IfErr result (λ e. StillStands e draft.new) }
+{
+    set_spans(
+        alloc,
+        draft,
+        spot.cell,
+        spot.height.saturating_sub(1),
+        spot.width,
+    )
+}
+
+/// Takes a row from each cell.
+#[tactic(auto, using(lx_edit::proofs::Turns::turns_done))]
+fn lower_each(alloc: Global, draft: &mut Draft, spots: &[Spot]) -> Result<(), Fault>
+    ensures ok { OnOk result (in_turn spec.lower spots.now draft.old ≡ Ok draft.new) }
+    ensures err { IfErr result (λ e. TellsStep e (in_turn spec.lower spots.now draft.old)) }
+    ensures standing { IfErr result (λ e. StillStands e draft.new) }
+{
+    for spot in spots {
+        match lower(alloc, draft, spot) {
+            Ok(()) => {}
+            Err(fault) => return Err(fault),
+        }
+    }
+    Ok(())
+}
+
+/// Whether a cell starts in a row and goes on below.
+fn goes_below(spot: &Spot, row: u32) -> bool
+    ensures { result ≡ spec.goes_below row spot.now }
+{
+    spot.row == row && 1 < spot.height
+}
+
+/// The cells that start in a row and go on below.
+fn going_below(alloc: Global, spots: &[Spot], row: u32) -> Result<Vec<Spot>, NoMemory>
+    ensures { IfOk result (λ found. found.items ≡ filter (spec.goes_below row) spots.now) }
+{
+    let mut found = Vec::new(alloc);
+    for spot in spots {
+        keep_if(&mut found, spot, goes_below(spot, row))?;
+    }
+    Ok(found)
+}
+
+/// Moves a cell into the next row, before the first own cell there of a greater column.
+#[tactic(auto, unfolding(crate::specs::Shrinking::moved_down))]
+fn move_down(
+    alloc: Global,
+    draft: &mut Draft,
+    spots: &[Spot],
+    next: Key,
+    spot: &Spot,
+) -> Result<(), Fault>
+    requires { IsSmall spot.now }
+    ensures ok { OnOk result (spec.moved_down spots.now next spot.now draft.old ≡ Ok draft.new) }
+    ensures err { IfErr result (λ e. TellsStep e (spec.moved_down spots.now next spot.now draft.old)) }
+    ensures standing { IfErr result (λ e. StillStands e draft.new) }
+{
+    lower(alloc, draft, spot)?;
+    draft.take(spot.cell)?;
+    let index = own_index(draft.links(), spots, next, spot.row + 1, spot.column + 1);
+    draft.put(spot.cell, next, index)
+}
+
+/// Moves cells into the next row.
+#[tactic(auto, using(lx_edit::proofs::Turns::turns_done))]
+fn move_each_down(
+    alloc: Global,
+    draft: &mut Draft,
+    spots: &[Spot],
+    next: Key,
+    moved: &[Spot],
+) -> Result<(), Fault>
+    requires { All IsSmall moved.now }
+    ensures ok { OnOk result (in_turn (spec.moved_down spots.now next) moved.now draft.old ≡ Ok draft.new) }
+    ensures err { IfErr result (λ e. TellsStep e (in_turn (spec.moved_down spots.now next) moved.now draft.old)) }
+    ensures standing { IfErr result (λ e. StillStands e draft.new) }
+{
+    for spot in moved {
+        match move_down(alloc, draft, spots, next, spot) {
+            Ok(()) => {}
+            Err(fault) => return Err(fault),
+        }
+    }
+    Ok(())
+}
+
+/// Moves the cells that start in a row and go on below into the next one, where there is one.
+fn move_all_down(
+    alloc: Global,
+    draft: &mut Draft,
+    spots: &[Spot],
+    row: u32,
+    next: Option<Key>,
+) -> Result<(), Fault>
+    requires { All IsSmall spots.now }
+    ensures ok { OnOk result (spec.all_moved_down spots.now row next draft.old ≡ Ok draft.new) }
+    ensures err { IfErr result (λ e. TellsStep e (spec.all_moved_down spots.now row next draft.old)) }
+    ensures standing { IfErr result (λ e. StillStands e draft.new) }
+{
+    match next {
+        Some(next) => {
+            let moved = going_below(alloc, spots, row)?;
+            move_each_down(alloc, draft, spots, next, &moved)
+        }
+        None => Ok(()),
+    }
+}
+
+/// A list without what stands at an index.
+#[tactic(auto, using(crate::proofs::Without::all_left))]
+fn take_out(keys: &mut Vec<Key>, index: u32)
+    ensures { keys.new.items ≡ spec.without_at index keys.old.items }
+{
+    let at = index as usize;
+    if at < keys.len() {
+        let _gone = keys.remove(at);
+    }
+}
+
+/// The rows of a table without the one at an index.
+fn rows_without(alloc: Global, links: &Links, table: Key, index: u32) -> Result<Vec<Key>, NoMemory>
+    ensures keys { IfOk result (λ keys. keys.items ≡ spec.without_at index (lookups.children_of links.now table)) }
+    ensures sound { Sound links.now }
+{
+    let mut keys = children_of(alloc, links, table)?;
+    take_out(&mut keys, index);
+    Ok(keys)
+}
+
+/// The spots of a table that has these rows alone, which are rows of a table.
+#[tactic(auto, using(crate::proofs::Without::few_rows_without))]
+fn spots_without_row(
+    alloc: Global,
+    links: &Links,
+    table: Key,
+    row: u32,
+    keys: &[Key],
+) -> Result<Vec<Spot>, NoMemory>
+    requires sound { Sound links.now }
+    requires few { total links.now ≤ most_cells }
+    requires keys { keys.now ≡ spec.without_at row (lookups.children_of links.now table) }
+    ensures { IfOk result (λ spots. spots.items ≡ grid.spots_over links.now [] keys.now) }
+{
+    spots_over(alloc, links, &[], keys)
+}
+
+/// The first of a list.
+pub(crate) fn first_spot(spots: &[Spot]) -> Option<Spot>
+    ensures { result ≡ spec.first_spot spots.now }
+{
+    match spots.first() {
+        Some(spot) => Some(*spot),
+        None => None,
+    }
+}
+
+/// Puts the caret into the cell that covers a place, or else into the first cell.
+fn set_caret_near(draft: &mut Draft, left: &[Spot], row: u32, column: u32) -> Result<(), Fault>
+    ensures ok { OnOk result (spec.caret_near left.now row column draft.old ≡ Ok draft.new) }
+    ensures err { IfErr result (λ e. TellsStep e (spec.caret_near left.now row column draft.old)) }
+    ensures standing { IfErr result (λ e. StillStands e draft.new) }
+{
+    let spot = spot_at(left, row, column).or(first_spot(left));
+    set_caret_at(draft, &spot)
+}
+
+/// Puts the caret where a cell's place is in a table without a row.
+fn set_caret_without_row(
+    alloc: Global,
+    draft: &mut Draft,
+    table: Key,
+    row: u32,
+    column: u32,
+) -> Result<(), Fault>
+    ensures ok { OnOk result (spec.caret_without_row (spec.without_at row (lookups.children_of draft.old.forest table)) row column draft.old ≡ Ok draft.new) }
+    ensures err { IfErr result (λ e. TellsStep e (spec.caret_without_row (spec.without_at row (lookups.children_of draft.old.forest table)) row column draft.old)) }
+    ensures standing { IfErr result (λ e. StillStands e draft.new) }
+{
+    let keys = rows_without(alloc, draft.links(), table, row)?;
+    let left = spots_without_row(alloc, draft.links(), table, row, &keys)?;
+    let last = keys.len().saturating_sub(1);
+    let near = (row as usize).min(last) as u32;
+    set_caret_near(draft, &left, near, column)
+}
+
+/// Removes the row at an index, where there is one.
+fn remove_row(draft: &mut Draft, row: Option<Key>) -> Result<(), Fault>
+    ensures ok { OnOk result (spec.row_removed row draft.old ≡ Ok draft.new) }
+    ensures err { IfErr result (λ e. TellsStep e (spec.row_removed row draft.old)) }
+    ensures standing { IfErr result (λ e. StillStands e draft.new) }
+{
+    match row {
+        Some(key) => remove(draft, key),
+        None => Ok(()),
+    }
+}
+
+/// Takes a row out, whose other cells stay: those that come from above or go on below lose it.
+#[tactic(auto, unfolding(crate::specs::Shrinking::row_taken))]
+fn take_row(
+    alloc: Global,
+    draft: &mut Draft,
+    table: Key,
+    spots: &[Spot],
+    row: u32,
+    column: u32,
+) -> Result<(), Fault>
+    requires small { All IsSmall spots.now }
+    requires within { row + 1 < 2 ^ 32 }
+    ensures ok { OnOk result (spec.row_taken table spots.now row column draft.old ≡ Ok draft.new) }
+    ensures err { IfErr result (λ e. TellsStep e (spec.row_taken table spots.now row column draft.old)) }
+    ensures standing { IfErr result (λ e. StillStands e draft.new) }
+{
+    let above = crossing(alloc, spots, row)?;
+    lower_each(alloc, draft, &above)?;
+    let next = draft.links().child_at(table, row + 1);
+    move_all_down(alloc, draft, spots, row, next)?;
+    set_caret_without_row(alloc, draft, table, row, column)?;
+    let key = draft.links().child_at(table, row);
+    remove_row(draft, key)
+}
+
+/// Deletes the row of a cell.
+fn delete_row_of(alloc: Global, draft: &mut Draft, place: &Place) -> Result<(), Fault>
+    requires small { places.IsSmallPlace place.now }
+    ensures ok { OnOk result (spec.row_deleted (places.place_seen place.now) draft.old ≡ Ok draft.new) }
+    ensures err { IfErr result (λ e. TellsStep e (spec.row_deleted (places.place_seen place.now) draft.old)) }
+    ensures standing { IfErr result (λ e. StillStands e draft.new) }
+{
+    let spot = &place.spot;
+    if are_in_row_alone(&place.spots, spot.row) {
+        replace_table(alloc, draft, place.table)
+    } else {
+        take_row(
+            alloc,
+            draft,
+            place.table,
+            &place.spots,
+            spot.row,
+            spot.column,
+        )
+    }
+}
+
+/// Deletes the row of the caret's cell.
+#[tactic(auto, unfolding(crate::specs::Shrinking::delete_row_step))]
+pub(crate) fn delete_row_at(alloc: Global, draft: &mut Draft) -> Result<(), Fault>
+    ensures ok { OnOk result (spec.delete_row_step draft.old ≡ Ok draft.new) }
+    ensures err { IfErr result (λ e. TellsStep e (spec.delete_row_step draft.old)) }
+    ensures standing { IfErr result (λ e. StillStands e draft.new) }
+{
+    let place = place_of(alloc, draft)?;
+    set_heights(alloc, draft, &place.spots)?;
+    delete_row_of(alloc, draft, &place)
+}

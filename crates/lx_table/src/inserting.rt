@@ -1,0 +1,223 @@
+//! A table inserted.
+
+ghost use Rattle.std.specs.Prelude.{◌≡◌, ◌≤◌, if◌then◌else◌, Ok, OnOk, IfErr};
+ghost use Rattle.lx_draft.specs.Faults.{TellsStep};
+ghost use Rattle.lx_edit.specs.InTurn.{in_turn};
+ghost use Rattle.lx_edit.specs.Standing.{StillStands};
+ghost use Rattle.lx_edit.specs.Texts.{keys_from};
+ghost use Rattle.lx_forest.specs.Lookups as lookups;
+ghost use Rattle.lx_table.specs.Making as spec;
+
+use crate::caret::set_caret_in;
+use crate::cells::make_cell;
+use crate::places::focus_of;
+use lx_draft::Draft;
+use lx_edit::admitted;
+use lx_links::Links;
+use lx_node::{Cause, Fault, Fields, Key, Kind};
+use std::alloc::Global;
+
+/// A bit of a header, if it is set.
+fn bit_if(is_set: bool, bit: u8) -> u8
+    ensures bit { result ≡ (if is_set then bit else 0) }
+    ensures within { result ≤ bit }
+{
+    if is_set { bit } else { 0 }
+}
+
+/// The header of a cell of a new table: of a row in the first row, and of a column in the first column.
+fn header_in(headers: bool, row: u32, column: u32) -> u8
+    ensures header { result ≡ spec.headers_at headers row column }
+    ensures within { result ≤ 3 }
+{
+    if headers {
+        bit_if(row == 0, 1) + bit_if(column == 0, 2)
+    } else {
+        0
+    }
+}
+
+/// Makes a cell of a new row at a column.
+fn make_cell_at(
+    alloc: Global,
+    draft: &mut Draft,
+    headers: bool,
+    row: u32,
+    key: Key,
+    column: u32,
+) -> Result<(), Fault>
+    ensures ok { OnOk result (spec.cell_made_at headers row key column draft.old ≡ Ok draft.new) }
+    ensures err { IfErr result (λ e. TellsStep e (spec.cell_made_at headers row key column draft.old)) }
+    ensures standing { IfErr result (λ e. StillStands e draft.new) }
+{
+    let header = header_in(headers, row, column);
+    make_cell(alloc, draft, header, key, column)
+}
+
+/// Fills a new row with so many cells.
+fn make_row_cells(
+    alloc: Global,
+    draft: &mut Draft,
+    headers: bool,
+    row: u32,
+    key: Key,
+    columns: u32,
+) -> Result<(), Fault>
+    ensures ok { OnOk result (in_turn (spec.cell_made_at headers row key) (keys_from 0 columns) draft.old ≡ Ok draft.new) }
+    ensures err { IfErr result (λ e. TellsStep e (in_turn (spec.cell_made_at headers row key) (keys_from 0 columns) draft.old)) }
+    ensures standing { IfErr result (λ e. StillStands e draft.new) }
+{
+    for column in 0..columns {
+        match make_cell_at(alloc, draft, headers, row, key, column) {
+            Ok(()) => {}
+            Err(fault) => return Err(fault),
+        }
+    }
+    Ok(())
+}
+
+/// Makes a row with so many cells, and puts it behind the rows of a new table.
+#[tactic(auto, unfolding(crate::specs::Making::row_made), using(crate::proofs::Suits::row_suits))]
+fn make_row(
+    alloc: Global,
+    draft: &mut Draft,
+    headers: bool,
+    columns: u32,
+    table: Key,
+    row: u32,
+) -> Result<(), Fault>
+    ensures ok { OnOk result (spec.row_made headers columns table row draft.old ≡ Ok draft.new) }
+    ensures err { IfErr result (λ e. TellsStep e (spec.row_made headers columns table row draft.old)) }
+    ensures standing { IfErr result (λ e. StillStands e draft.new) }
+{
+    let key = draft.new_node(Kind::Row, Fields::plain_element(alloc))?;
+    make_row_cells(alloc, draft, headers, row, key, columns)?;
+    draft.put(key, table, row)
+}
+
+/// Makes so many rows.
+fn make_rows(
+    alloc: Global,
+    draft: &mut Draft,
+    headers: bool,
+    columns: u32,
+    table: Key,
+    rows: u32,
+) -> Result<(), Fault>
+    ensures ok { OnOk result (in_turn (spec.row_made headers columns table) (keys_from 0 rows) draft.old ≡ Ok draft.new) }
+    ensures err { IfErr result (λ e. TellsStep e (in_turn (spec.row_made headers columns table) (keys_from 0 rows) draft.old)) }
+    ensures standing { IfErr result (λ e. StillStands e draft.new) }
+{
+    for row in 0..rows {
+        match make_row(alloc, draft, headers, columns, table, row) {
+            Ok(()) => {}
+            Err(fault) => return Err(fault),
+        }
+    }
+    Ok(())
+}
+
+/// Whether it is the kind of the root or of cells.
+fn holds_tables(kind: Kind) -> bool
+    ensures { result ≡ spec.holds_tables kind }
+{
+    matches!(kind, Kind::Root | Kind::Cell)
+}
+
+/// Whether a node stands in the root or in a cell.
+fn stands_beside_tables(links: &Links, key: Key) -> bool
+    ensures { result ≡ spec.stands_beside_tables links.now key }
+{
+    match links.parent(key) {
+        Some(parent) => match links.kind(parent) {
+            Some(kind) => holds_tables(kind),
+            None => false,
+        },
+        None => false,
+    }
+}
+
+/// Behind which node a table comes: the nearest of a node and those above it that stands in the root or in a cell.
+fn neighbour_of(links: &Links, key: Key) -> Option<Key>
+    ensures { result ≡ spec.neighbour_of links.now key }
+{
+    let mut at = key;
+    while !stands_beside_tables(links, at) {
+        match links.parent(at) {
+            Some(parent) => at = parent,
+            None => return None,
+        }
+    }
+    Some(at)
+}
+
+/// The first cell of a table.
+fn first_cell(links: &Links, table: Key) -> Option<Key>
+    ensures { result ≡ spec.first_cell links.now table }
+{
+    links.first(links.first(table)?)
+}
+
+/// Puts the caret into a cell, where there is one.
+fn set_caret_in_cell(draft: &mut Draft, cell: Option<Key>) -> Result<(), Fault>
+    ensures ok { OnOk result (spec.caret_in_cell cell draft.old ≡ Ok draft.new) }
+    ensures err { IfErr result (λ e. TellsStep e (spec.caret_in_cell cell draft.old)) }
+    ensures standing { IfErr result (λ e. StillStands e draft.new) }
+{
+    match cell {
+        Some(cell) => set_caret_in(draft, cell),
+        None => Ok(()),
+    }
+}
+
+/// Makes a table, puts it behind a node, and the caret into its first cell.
+#[tactic(auto, unfolding(crate::specs::Making::table_made), using(crate::proofs::Suits::table_suits))]
+fn make_table(
+    alloc: Global,
+    draft: &mut Draft,
+    rows: u32,
+    columns: u32,
+    headers: bool,
+    place: Key,
+) -> Result<(), Fault>
+    ensures ok { OnOk result (spec.table_made rows columns headers place draft.old ≡ Ok draft.new) }
+    ensures err { IfErr result (λ e. TellsStep e (spec.table_made rows columns headers place draft.old)) }
+    ensures standing { IfErr result (λ e. StillStands e draft.new) }
+{
+    let table = draft.new_node(Kind::Table, Fields::plain_element(alloc))?;
+    make_rows(alloc, draft, headers, columns, table, rows)?;
+    draft.put_behind(table, place)?;
+    let cell = first_cell(draft.links(), table);
+    set_caret_in_cell(draft, cell)
+}
+
+/// Nothing that holds the focus stands in the root or in a cell.
+fn no_place(links: &Links, focus: Key) -> Option<Cause>
+    ensures { result ≡ spec.place_fault (lookups.kind_of links.now focus) }
+{
+    Some(Cause::WrongKind(links.kind(focus)?))
+}
+
+/// Inserts a table behind the node of the focus, or the nearest above it, that stands in the root or in a cell.
+#[tactic(auto, unfolding(crate::specs::Making::insert_table_step))]
+pub(crate) fn insert_table_at(
+    alloc: Global,
+    draft: &mut Draft,
+    rows: u16,
+    columns: u16,
+    headers: bool,
+) -> Result<(), Fault>
+    ensures ok { OnOk result (spec.insert_table_step rows columns headers draft.old ≡ Ok draft.new) }
+    ensures err { IfErr result (λ e. TellsStep e (spec.insert_table_step rows columns headers draft.old)) }
+    ensures standing { IfErr result (λ e. StillStands e draft.new) }
+{
+    let focus = focus_of(draft)?;
+    match neighbour_of(draft.links(), focus) {
+        Some(place) => make_table(alloc, draft, rows as u32, columns as u32, headers, place),
+        None => {
+            let fault = no_place(draft.links(), focus);
+            admitted(draft, fault)?;
+            Ok(())
+        }
+    }
+}

@@ -1,0 +1,36 @@
+//! Tables: where their cells stand, and commands that change rows, columns and cells at the selection. A cell may span several
+//! rows and columns, and rows may be ragged. Each command is made of the edits of a draft and of those in `lx_edit`, and is
+//! refused only for a cause that its step names. A draft on which one was refused is only fit to be dropped.
+//!
+//! * `grid` tells where each cell of a table stands.
+//! * `insert_table` goes by the focus of a range, or of cells that are selected.
+//! * `insert_row`, `insert_column`, `delete_row`, `delete_column` and `unmerge` go by the cell of that focus.
+//! * `merge_cells` goes by the cells that are selected.
+#![tactic(auto)]
+
+mod caret;
+mod cells;
+mod columns;
+mod commands;
+mod deleting;
+mod filling;
+mod grids;
+mod inserting;
+mod laws;
+mod merging;
+mod narrowing;
+mod places;
+mod reading;
+mod rectangles;
+mod rows;
+mod spans;
+mod spots;
+mod unmerging;
+
+pub use commands::{
+    delete_column, delete_row, insert_column, insert_row, insert_table, merge_cells, unmerge,
+};
+pub use filling::grid;
+pub use grids::Grid;
+pub use laws::{grids_are_told, heights_keep_grids, tables_are_covered};
+pub use spots::Spot;

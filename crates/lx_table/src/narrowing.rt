@@ -1,0 +1,206 @@
+//! A column deleted.
+
+ghost use Rattle.std.specs.Prelude.{◌≡◌, ◌≤◌, ◌-◌, ◌+◌, ◌<◌, ◌^◌, filter, map, Ok, OnOk, IfOk, IfErr};
+ghost use Rattle.lx_draft.specs.Faults.{TellsStep};
+ghost use Rattle.lx_edit.specs.InTurn.{in_turn};
+ghost use Rattle.lx_edit.specs.Edits.{remove_step};
+ghost use Rattle.lx_edit.specs.Standing.{StillStands};
+ghost use Rattle.lx_node.specs.NamedTrees.{total};
+ghost use Rattle.lx_forest.specs.Lookups as lookups;
+ghost use Rattle.lx_table.specs.Grid as grid;
+ghost use Rattle.lx_table.specs.Places as places;
+ghost use Rattle.lx_table.specs.Shrinking as spec;
+ghost use Rattle.lx_table.specs.Spots.{most_cells};
+
+use crate::caret::set_caret_at;
+use crate::deleting::{first_spot, replace_table};
+use crate::filling::spots_over;
+use crate::places::{Place, place_of};
+use crate::spans::{set_heights, set_spans};
+use crate::spots::{Spot, end_column, keep_if, spot_at, stands_in_column};
+use lx_draft::Draft;
+use lx_edit::{children_of, remove};
+use lx_links::Links;
+use lx_node::{Fault, Key, NoMemory};
+use std::alloc::Global;
+
+/// Whether a cell stands in a column and in others too.
+fn is_wide_at(spot: &Spot, column: u32) -> bool
+    ensures { result ≡ spec.is_wide_at column spot.now }
+{
+    stands_in_column(spot, column) && spot.width != 1
+}
+
+/// Whether a cell stands in a column and in no other.
+fn is_narrow_at(spot: &Spot, column: u32) -> bool
+    ensures { result ≡ spec.is_narrow_at column spot.now }
+{
+    stands_in_column(spot, column) && spot.width == 1
+}
+
+/// The cells that stand in a column and in others too.
+fn wide_at(alloc: Global, spots: &[Spot], column: u32) -> Result<Vec<Spot>, NoMemory>
+    ensures { IfOk result (λ found. found.items ≡ filter (spec.is_wide_at column) spots.now) }
+{
+    let mut found = Vec::new(alloc);
+    for spot in spots {
+        keep_if(&mut found, spot, is_wide_at(spot, column))?;
+    }
+    Ok(found)
+}
+
+/// The cells that stand in a column and in no other.
+fn narrow_at(alloc: Global, spots: &[Spot], column: u32) -> Result<Vec<Spot>, NoMemory>
+    ensures { IfOk result (λ found. found.items ≡ filter (spec.is_narrow_at column) spots.now) }
+{
+    let mut found = Vec::new(alloc);
+    for spot in spots {
+        keep_if(&mut found, spot, is_narrow_at(spot, column))?;
+    }
+    Ok(found)
+}
+
+/// The keys of cells.
+fn cells_of(alloc: Global, spots: &[Spot]) -> Result<Vec<Key>, NoMemory>
+    ensures { IfOk result (λ keys. keys.items ≡ map spec.cell_in spots.now) }
+{
+    Ok(spots.iter().map(|spot| spot.cell).collect(alloc)?)
+}
+
+/// The keys of the cells that stand in a column and in no other.
+fn narrow_cells(alloc: Global, spots: &[Spot], column: u32) -> Result<Vec<Key>, NoMemory>
+    ensures { IfOk result (λ found. found.items ≡ spec.narrow_cells column spots.now) }
+{
+    let found = narrow_at(alloc, spots, column)?;
+    cells_of(alloc, &found)
+}
+
+/// Takes a column from a cell.
+fn narrow(alloc: Global, draft: &mut Draft, spot: &Spot) -> Result<(), Fault>
+    ensures ok { OnOk result (spec.narrower spot.now draft.old ≡ Ok draft.new) }
+    ensures err { IfErr result (λ e. TellsStep e (spec.narrower spot.now draft.old)) }
+    ensures standing { IfErr result (λ e. StillStands e draft.new) }
+{
+    set_spans(
+        alloc,
+        draft,
+        spot.cell,
+        spot.height,
+        spot.width.saturating_sub(1),
+    )
+}
+
+/// Takes a column from each cell.
+#[tactic(auto, using(lx_edit::proofs::Turns::turns_done))]
+fn narrow_each(alloc: Global, draft: &mut Draft, spots: &[Spot]) -> Result<(), Fault>
+    ensures ok { OnOk result (in_turn spec.narrower spots.now draft.old ≡ Ok draft.new) }
+    ensures err { IfErr result (λ e. TellsStep e (in_turn spec.narrower spots.now draft.old)) }
+    ensures standing { IfErr result (λ e. StillStands e draft.new) }
+{
+    for spot in spots {
+        match narrow(alloc, draft, spot) {
+            Ok(()) => {}
+            Err(fault) => return Err(fault),
+        }
+    }
+    Ok(())
+}
+
+/// Puts the caret into the cell that covers a place, or else the one that covers the place before it, or else the first cell.
+fn set_caret_beside(draft: &mut Draft, left: &[Spot], row: u32, column: u32) -> Result<(), Fault>
+    ensures ok { OnOk result (spec.caret_beside left.now row column draft.old ≡ Ok draft.new) }
+    ensures err { IfErr result (λ e. TellsStep e (spec.caret_beside left.now row column draft.old)) }
+    ensures standing { IfErr result (λ e. StillStands e draft.new) }
+{
+    let before = spot_at(left, row, column.saturating_sub(1));
+    let near = before.or(first_spot(left));
+    let spot = spot_at(left, row, column).or(near);
+    set_caret_at(draft, &spot)
+}
+
+/// The spots of a table without these cells.
+#[tactic(auto, using(crate::proofs::Few::few_rows))]
+fn spots_without(
+    alloc: Global,
+    links: &Links,
+    gone: &[Key],
+    table: Key,
+) -> Result<Vec<Spot>, NoMemory>
+    requires { total links.now ≤ most_cells }
+    ensures { IfOk result (λ left. left.items ≡ grid.spots_over links.now gone.now (lookups.children_of links.now table)) }
+{
+    let keys = children_of(alloc, links, table)?;
+    spots_over(alloc, links, gone, &keys)
+}
+
+/// Removes cells, one after another.
+#[tactic(auto, using(lx_edit::proofs::Turns::turns_done))]
+fn remove_each(draft: &mut Draft, cells: &[Key]) -> Result<(), Fault>
+    ensures ok { OnOk result (in_turn remove_step cells.now draft.old ≡ Ok draft.new) }
+    ensures err { IfErr result (λ e. TellsStep e (in_turn remove_step cells.now draft.old)) }
+    ensures standing { IfErr result (λ e. StillStands e draft.new) }
+{
+    for cell in cells {
+        match remove(draft, *cell) {
+            Ok(()) => {}
+            Err(fault) => return Err(fault),
+        }
+    }
+    Ok(())
+}
+
+/// Takes a column out: its cells lose it, and those that stand in no other are removed.
+#[tactic(auto, unfolding(crate::specs::Shrinking::column_taken))]
+fn take_column(
+    alloc: Global,
+    draft: &mut Draft,
+    table: Key,
+    spots: &[Spot],
+    row: u32,
+    column: u32,
+) -> Result<(), Fault>
+    ensures ok { OnOk result (spec.column_taken table spots.now row column draft.old ≡ Ok draft.new) }
+    ensures err { IfErr result (λ e. TellsStep e (spec.column_taken table spots.now row column draft.old)) }
+    ensures standing { IfErr result (λ e. StillStands e draft.new) }
+{
+    let wide = wide_at(alloc, spots, column)?;
+    narrow_each(alloc, draft, &wide)?;
+    let gone = narrow_cells(alloc, spots, column)?;
+    let left = spots_without(alloc, draft.links(), &gone, table)?;
+    set_caret_beside(draft, &left, row, column)?;
+    remove_each(draft, &gone)
+}
+
+/// Deletes the column of a cell.
+fn delete_column_of(alloc: Global, draft: &mut Draft, place: &Place) -> Result<(), Fault>
+    requires small { places.IsSmallPlace place.now }
+    ensures ok { OnOk result (spec.column_deleted (places.place_seen place.now) draft.old ≡ Ok draft.new) }
+    ensures err { IfErr result (λ e. TellsStep e (spec.column_deleted (places.place_seen place.now) draft.old)) }
+    ensures standing { IfErr result (λ e. StillStands e draft.new) }
+{
+    let spot = &place.spot;
+    if end_column(&place.spots) == 1 {
+        replace_table(alloc, draft, place.table)
+    } else {
+        take_column(
+            alloc,
+            draft,
+            place.table,
+            &place.spots,
+            spot.row,
+            spot.column,
+        )
+    }
+}
+
+/// Deletes the column of the caret's cell.
+#[tactic(auto, unfolding(crate::specs::Shrinking::delete_column_step))]
+pub(crate) fn delete_column_at(alloc: Global, draft: &mut Draft) -> Result<(), Fault>
+    ensures ok { OnOk result (spec.delete_column_step draft.old ≡ Ok draft.new) }
+    ensures err { IfErr result (λ e. TellsStep e (spec.delete_column_step draft.old)) }
+    ensures standing { IfErr result (λ e. StillStands e draft.new) }
+{
+    let place = place_of(alloc, draft)?;
+    set_heights(alloc, draft, &place.spots)?;
+    delete_column_of(alloc, draft, &place)
+}

@@ -1,0 +1,115 @@
+//! The cell by which a command goes.
+
+ghost use Rattle.std.specs.Prelude.{◌≡◌, ◌≢◌, ◌≤◌, Ok, Some, OnOk, IfOk, IfErr, IfSome, option_map};
+ghost use Rattle.lx_node.specs.Trees.{nil};
+ghost use Rattle.lx_node.specs.NamedTrees.{total};
+ghost use Rattle.lx_draft.specs.Faults.{TellsStep};
+ghost use Rattle.lx_edit.specs.Standing.{StillStands};
+ghost use Rattle.lx_table.specs.Places as spec;
+ghost use Rattle.lx_table.specs.Spots.{most_cells};
+
+use crate::filling::spots_of;
+use crate::spots::{Spot, spot_of};
+use lx_draft::Draft;
+use lx_edit::admitted;
+use lx_links::Links;
+use lx_node::{Fault, Key, NoMemory, SelectionKind};
+use lx_range::{cell_from, no_range, range_of};
+use lx_select::Selection;
+use std::alloc::Global;
+
+/// A table, where its cells stand, and one of these spots.
+#[derive(Drop)]
+pub(crate) struct Place {
+    pub table: Key,
+    pub spots: Vec<Spot>,
+    pub spot: Spot,
+}
+
+/// Whether the keys of cells that are selected are in the root's tree.
+pub(crate) fn are_attached(links: &Links, table: Key, anchor: Key, focus: Key) -> bool
+    ensures { result ≡ spec.are_attached links.now table anchor focus }
+{
+    links.is_attached(table) && (links.is_attached(anchor) && links.is_attached(focus))
+}
+
+/// The focus of a range or of cells. It is refused with `NoSelection` and what the selection is, where that is neither. So it
+/// is where a point or key of it isn't in the root's tree, and where one point is in another cell than the other.
+#[tactic(auto, unfolding(crate::specs::Places::focus_of))]
+pub(crate) fn focus_of(draft: &Draft) -> Result<Key, Fault>
+    ensures ok { IfOk result (λ key. spec.focus_of draft.now ≡ Ok key) }
+    ensures living { OnOk result (draft.now.forest ≢ nil) }
+    ensures err { IfErr result (λ e. TellsStep e (spec.focus_of draft.now)) }
+    ensures standing { IfErr result (λ e. StillStands e draft.now) }
+{
+    admitted(draft, None)?;
+    match draft.selection() {
+        Selection::Cells {
+            table,
+            anchor,
+            focus,
+        } => {
+            if are_attached(draft.links(), *table, *anchor, *focus) {
+                Ok(*focus)
+            } else {
+                Err(no_range(SelectionKind::Cells))
+            }
+        }
+        _ => {
+            let range = range_of(draft)?;
+            Ok(range.focus.key)
+        }
+    }
+}
+
+/// The table of a cell's row.
+fn table_above(links: &Links, cell: Key) -> Option<Key>
+    ensures { result ≡ spec.table_above links.now cell }
+{
+    links.parent(links.parent(cell)?)
+}
+
+/// The place of a cell in a table.
+fn place_in(alloc: Global, links: &Links, table: Key, cell: Key) -> Result<Option<Place>, NoMemory>
+    requires { total links.now ≤ most_cells }
+    ensures place { IfOk result (λ place. option_map spec.place_seen place ≡ spec.place_below links.now cell (Some table)) }
+    ensures small { IfOk result (λ place. IfSome place spec.IsSmallPlace) }
+{
+    let spots = spots_of(alloc, links, table)?;
+    match spot_of(&spots, cell) {
+        Some(spot) => Ok(Some(Place { table, spots, spot })),
+        None => Ok(None),
+    }
+}
+
+/// The place of a cell, where there is one.
+fn place_of_cell(alloc: Global, links: &Links, cell: Option<Key>) -> Result<Option<Place>, NoMemory>
+    requires { total links.now ≤ most_cells }
+    ensures place { IfOk result (λ place. option_map spec.place_seen place ≡ spec.place_of_cell links.now cell) }
+    ensures small { IfOk result (λ place. IfSome place spec.IsSmallPlace) }
+{
+    let Some(cell) = cell else {
+        return Ok(None);
+    };
+    match table_above(links, cell) {
+        Some(table) => place_in(alloc, links, table, cell),
+        None => Ok(None),
+    }
+}
+
+/// The cell by which a command goes: the focus itself, or the nearest above it. Where there is none it is refused with
+/// `NoSelection` and what the selection is.
+#[tactic(auto, unfolding(crate::specs::Places::place_of))]
+pub(crate) fn place_of(alloc: Global, draft: &Draft) -> Result<Place, Fault>
+    ensures ok { IfOk result (λ place. spec.place_of draft.now ≡ Ok (spec.place_seen place)) }
+    ensures small { IfOk result spec.IsSmallPlace }
+    ensures err { IfErr result (λ e. TellsStep e (spec.place_of draft.now)) }
+    ensures standing { IfErr result (λ e. StillStands e draft.now) }
+{
+    let focus = focus_of(draft)?;
+    let links = draft.links();
+    match place_of_cell(alloc, links, cell_from(links, focus))? {
+        Some(place) => Ok(place),
+        None => Err(no_range(draft.selection().kind())),
+    }
+}
