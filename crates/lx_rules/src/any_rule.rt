@@ -1,6 +1,6 @@
 ghost use Rattle.lx_rules.specs.AnyRules.{any_rows, any_acts};
 
-use crate::built_in::ListMerge;
+use crate::built_in::{CellParagraph, ListMerge};
 use crate::transform::{KindSet, Transform};
 use lx_node::{NoMemory, View};
 use lx_step::{Rule, SelfEdit};
@@ -11,6 +11,8 @@ use std::alloc::Global;
 pub enum AnyRule {
     /// A list takes in the list behind it.
     Merge(ListMerge),
+    /// A cell without children gets a paragraph.
+    Fill(CellParagraph),
     /// One that a script registered.
     Script(Rule),
 }
@@ -23,6 +25,7 @@ impl Transform for AnyRule {
     fn on(&self) -> KindSet {
         match self {
             AnyRule::Merge(rule) => Transform::on(rule),
+            AnyRule::Fill(rule) => Transform::on(rule),
             AnyRule::Script(rule) => Transform::on(rule),
         }
     }
@@ -30,6 +33,7 @@ impl Transform for AnyRule {
     fn acts(&self, alloc: Global, view: &View) -> Result<Vec<SelfEdit>, NoMemory> {
         match self {
             AnyRule::Merge(rule) => rule.acts(alloc, view),
+            AnyRule::Fill(rule) => rule.acts(alloc, view),
             AnyRule::Script(rule) => rule.acts(alloc, view),
         }
     }

@@ -1,11 +1,11 @@
 //! Rules that every editor has.
 
-ghost use Rattle.lx_rules.specs.BuiltIn.{list_rows, list_merge};
+ghost use Rattle.lx_rules.specs.BuiltIn.{list_rows, list_merge, cell_rows, cell_paragraph};
 
 use crate::transform::{KindSet, Transform};
 use crate::types::is_kind;
-use lx_node::{Kind, ListType, NoMemory, View};
-use lx_step::{SelfEdit, TypeRow};
+use lx_node::{Fields, Kind, ListType, NoMemory, View};
+use lx_step::{NewNode, SelfEdit, TypeRow};
 use std::alloc::Global;
 
 /// A list takes in the list behind it, where both are of one type.
@@ -26,6 +26,33 @@ impl Transform for ListMerge {
         let mut edits = Vec::new(alloc);
         if is_kind(view.next, view.kind) {
             edits.push(SelfEdit::MergeNext)?;
+        }
+        Ok(edits)
+    }
+}
+
+/// A cell without children gets a paragraph, so that there is a place for the caret.
+#[derive(Clone, Copy, Debug)]
+pub struct CellParagraph;
+
+impl Transform for CellParagraph {
+    ghost rows = { cell_rows };
+
+    ghost answers = { cell_paragraph };
+
+    fn on(&self) -> KindSet {
+        KindSet::of_row(TypeRow::of(Kind::Cell))
+    }
+
+    #[tactic(auto, unfolding(crate::specs::BuiltIn::cell_paragraph))]
+    fn acts(&self, alloc: Global, view: &View) -> Result<Vec<SelfEdit>, NoMemory> {
+        let mut edits = Vec::new(alloc);
+        if view.children.items().is_empty() {
+            let paragraph = NewNode {
+                kind: Kind::Paragraph,
+                fields: Fields::plain_element(alloc),
+            };
+            edits.push(SelfEdit::Child(paragraph))?;
         }
         Ok(edits)
     }

@@ -13,6 +13,6 @@ mod transform;
 mod types;
 
 pub use any_rule::AnyRule;
-pub use built_in::ListMerge;
+pub use built_in::{CellParagraph, ListMerge};
 pub use idling::idle;
 pub use transform::{KindSet, Transform};

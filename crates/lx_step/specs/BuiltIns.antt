@@ -3,11 +3,13 @@ use Rattle.std.specs.Prelude.{ℕ, List, [], ◌∷◌, chars, codes, if◌then�
 use Rattle.std.specs.Option.{option_or}
 use Rattle.lx_node.specs.Same.{same_text}
 use Rattle.lx_step.specs.declared.built_in.BuiltIn.{BuiltIn}
-use Rattle.lx_step.specs.declared.built_in.BuiltIn.TheVariants.{Turn as turn, Caret as caret, List as list}
+use Rattle.lx_step.specs.declared.built_in.BuiltIn.TheVariants.{Turn as turn, Caret as caret, List as list, Table as table}
 use Rattle.lx_step.specs.declared.built_in.CaretCommand.{CaretCommand}
 use Rattle.lx_step.specs.declared.built_in.CaretCommand.TheVariants.{InsertText, RemoveText, InsertParagraph, InsertLineBreak, InsertTab, DeleteCharacter, DeleteWord, FormatText, SelectAll}
 use Rattle.lx_step.specs.declared.built_in.ListCommand.{ListCommand}
 use Rattle.lx_step.specs.declared.built_in.ListCommand.TheVariants.{MakeList, RemoveList, Indent, Outdent, ToggleChecked}
+use Rattle.lx_step.specs.declared.built_in.TableCommand.{TableCommand}
+use Rattle.lx_step.specs.declared.built_in.TableCommand.TheVariants.{InsertTable, InsertRow, InsertColumn, DeleteRow, DeleteColumn, MergeCells, Unmerge}
 use Rattle.lx_step.specs.declared.built_in.Turn.{Turn}
 use Rattle.lx_step.specs.declared.built_in.Turn.TheVariants.{Undo, Redo}
 
@@ -16,7 +18,7 @@ abbrev pub row_of : {A : Type 0} → List (List ℕ × A) → List ℕ → Optio
 row_of [] name = None
 row_of (row ∷ rows) name = if same_text row.0 name then Some row.1 else row_of rows name
 
--- the commands of the history, those of the caret, and those of lists
+-- the commands of the history, those of the caret, those of lists, and those of tables
 abbrev pub turns : List (List ℕ × Turn)
 turns = (chars (codes "undo"), Undo) ∷ (chars (codes "redo"), Redo) ∷ []
 
@@ -42,8 +44,20 @@ list_commands =
     ∷ (chars (codes "toggle-checked"), ToggleChecked)
     ∷ []
 
+abbrev pub table_commands : List (List ℕ × TableCommand)
+table_commands =
+    (chars (codes "insert-table"), InsertTable)
+    ∷ (chars (codes "insert-row"), InsertRow)
+    ∷ (chars (codes "insert-column"), InsertColumn)
+    ∷ (chars (codes "delete-row"), DeleteRow)
+    ∷ (chars (codes "delete-column"), DeleteColumn)
+    ∷ (chars (codes "merge-cells"), MergeCells)
+    ∷ (chars (codes "unmerge"), Unmerge)
+    ∷ []
+
 -- the command of a name
 abbrev pub built_in : List ℕ → Option BuiltIn
 built_in name =
     option_or (option_map turn (row_of turns name))
-    (option_or (option_map caret (row_of caret_commands name)) (option_map list (row_of list_commands name)))
+    (option_or (option_map caret (row_of caret_commands name))
+    (option_or (option_map list (row_of list_commands name)) (option_map table (row_of table_commands name))))

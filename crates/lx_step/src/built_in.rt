@@ -36,6 +36,18 @@ pub enum ListCommand {
     ToggleChecked,
 }
 
+/// A command of tables, which goes by the selection.
+#[derive(Clone, Copy, Debug)]
+pub enum TableCommand {
+    InsertTable,
+    InsertRow,
+    InsertColumn,
+    DeleteRow,
+    DeleteColumn,
+    MergeCells,
+    Unmerge,
+}
+
 /// A command that is built in: it is done without a listener. Its name is that of a row of the table of built-in commands.
 #[derive(Clone, Copy, Debug)]
 pub enum BuiltIn {
@@ -45,6 +57,8 @@ pub enum BuiltIn {
     Caret(CaretCommand),
     /// A name of a command of lists: the lines that are selected are edited.
     List(ListCommand),
+    /// A name of a command of tables: the table of the caret's cell is edited, or a new one is made.
+    Table(TableCommand),
 }
 
 impl BuiltIn {
@@ -60,8 +74,11 @@ impl BuiltIn {
         if let Some(command) = CaretCommand::named(name) {
             return Some(BuiltIn::Caret(command));
         }
-        match ListCommand::named(name) {
-            Some(command) => Some(BuiltIn::List(command)),
+        if let Some(command) = ListCommand::named(name) {
+            return Some(BuiltIn::List(command));
+        }
+        match TableCommand::named(name) {
+            Some(command) => Some(BuiltIn::Table(command)),
             None => None,
         }
     }
@@ -140,6 +157,37 @@ impl ListCommand {
         }
         if is_word("toggle-checked", name) {
             return Some(ListCommand::ToggleChecked);
+        }
+        None
+    }
+}
+
+impl TableCommand {
+    ghost use Rattle.lx_step.specs.BuiltIns.{row_of, table_commands};
+
+    fn named(name: &str) -> Option<TableCommand>
+        ensures { result ≡ row_of table_commands (chars name.now) }
+    {
+        if is_word("insert-table", name) {
+            return Some(TableCommand::InsertTable);
+        }
+        if is_word("insert-row", name) {
+            return Some(TableCommand::InsertRow);
+        }
+        if is_word("insert-column", name) {
+            return Some(TableCommand::InsertColumn);
+        }
+        if is_word("delete-row", name) {
+            return Some(TableCommand::DeleteRow);
+        }
+        if is_word("delete-column", name) {
+            return Some(TableCommand::DeleteColumn);
+        }
+        if is_word("merge-cells", name) {
+            return Some(TableCommand::MergeCells);
+        }
+        if is_word("unmerge", name) {
+            return Some(TableCommand::Unmerge);
         }
         None
     }

@@ -19,7 +19,7 @@ mod rule;
 mod self_edits;
 mod step;
 
-pub use built_in::{BuiltIn, CaretCommand, ListCommand, Turn};
+pub use built_in::{BuiltIn, CaretCommand, ListCommand, TableCommand, Turn};
 pub use command::{Command, Payload};
 pub use conditions::Conditions;
 pub use line::{Form, Line, Shown, Tags};
