@@ -54,7 +54,14 @@ range_of d =
     (option_zip (option_zip (required point_of (codes "anchor") d) (required point_of (codes "focus") d)) (optional (number_within 0 65535) (codes "format") d))
     else None
 
--- null, or a selection of nodes or a range: cells aren't selected by steps yet
+-- {"anchor":REF,"focus":REF,"table":REF}
+abbrev pub cells_of : Data → Option SelectionRef
+cells_of d =
+    if has_only (codes "anchor" ∷ codes "focus" ∷ codes "table" ∷ []) d then option_map (λ p. selection.Cells p.0.0 p.0.1 p.1)
+    (option_zip (option_zip (required reference_of (codes "table") d) (required reference_of (codes "anchor") d)) (required reference_of (codes "focus") d))
+    else None
+
+-- null, or a selection of nodes, of cells or of a range
 unfoldable pub selection_of : Data → Option SelectionRef
 selection_of null = Some selection.Nothing
-selection_of d = option_or (nodes_of d) (range_of d)
+selection_of d = option_or (nodes_of d) (option_or (cells_of d) (range_of d))

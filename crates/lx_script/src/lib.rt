@@ -36,4 +36,4 @@ pub use fields::{FieldFault, fields_of};
 pub use read::read_line;
 pub use reply::Reply;
 pub use types::{kind_of_type, kind_told};
-pub use write::{write_reply, write_state};
+pub use write::{write_commit, write_reply, write_state};

@@ -161,7 +161,27 @@ fn range_of(alloc: Global, value: &Value) -> Result<Option<SelectionRef>, NoMemo
     }
 }
 
-/// What is to be selected: no cells, which no step can select yet.
+/// Cells of a table.
+fn cells_of(alloc: Global, value: &Value) -> Result<Option<SelectionRef>, NoMemory>
+    ensures { IfOk result (λ made. made ≡ references.cells_of (view value.now)) }
+{
+    if !has_only(&["anchor", "focus", "table"], value) {
+        return Ok(None);
+    }
+    let table = member_reference(alloc, "table", value)?;
+    let anchor = member_reference(alloc, "anchor", value)?;
+    let focus = member_reference(alloc, "focus", value)?;
+    match table.zip(anchor).zip(focus) {
+        Some(((table, anchor), focus)) => Ok(Some(SelectionRef::Cells {
+            table,
+            anchor,
+            focus,
+        })),
+        None => Ok(None),
+    }
+}
+
+/// What is to be selected: nothing, nodes, cells or a range.
 #[tactic(auto, unfolding(crate::specs::References::selection_of))]
 pub(crate) fn selection_of(alloc: Global, value: &Value) -> Result<Option<SelectionRef>, NoMemory>
     ensures { IfOk result (λ made. made ≡ references.selection_of (view value.now)) }
@@ -171,6 +191,9 @@ pub(crate) fn selection_of(alloc: Global, value: &Value) -> Result<Option<Select
     }
     if let Some(nodes) = nodes_of(alloc, value)? {
         return Ok(Some(nodes));
+    }
+    if let Some(cells) = cells_of(alloc, value)? {
+        return Ok(Some(cells));
     }
     range_of(alloc, value)
 }

@@ -4,6 +4,7 @@ ghost use Rattle.std.specs.Prelude.{◌≡◌, false, IfOk};
 ghost use Rattle.serde_json.specs.View.{view};
 ghost use Rattle.serde_json.specs.Written.{has_float};
 ghost use Rattle.lx_script.specs.Replies.{reply_data, reply_text, commit_data, refusal_data, idle_data, registered_data, cleared_data, history_data, state_data, state_text, view_data, shown_selection_data};
+ghost use Rattle.lx_script.specs.declared.reply.Reply.TheVariants.{Committed};
 
 use crate::causes::{cause_name, detail_value};
 use crate::ops::ops_value;
@@ -20,6 +21,20 @@ pub fn write_reply(alloc: Global, reply: &Reply) -> Result<Vec<u8>, NoMemory>
     ensures { IfOk result (λ bytes. bytes.items ≡ reply_text reply.now) }
 {
     let value = reply_value(alloc, reply)?;
+    Ok(value.to_vec(alloc)?)
+}
+
+/// The bytes of the reply that tells a commit, as of `Reply::Committed`. The operations aren't copied.
+pub fn write_commit(
+    alloc: Global,
+    number: u32,
+    ops: &[Op],
+    handled: Option<bool>,
+    view: &Option<Txt>,
+) -> Result<Vec<u8>, NoMemory>
+    ensures { IfOk result (λ bytes. bytes.items ≡ reply_text (Committed number ops.now handled view.now)) }
+{
+    let value = commit_value(alloc, number, ops, handled, view)?;
     Ok(value.to_vec(alloc)?)
 }
 
