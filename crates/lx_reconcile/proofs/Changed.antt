@@ -5,13 +5,15 @@ use Rattle.std.proofs.Common.{◌≡◌, ◌≢◌, ◌∙◌, ℕ, Bool, true, 
 use Rattle.lx_node.specs.Trees.{Trees, nil, tree}
 use Rattle.lx_node.specs.declared.kind.Kind.{Kind}
 use Rattle.lx_node.specs.declared.fields.Fields.{Fields}
+use Rattle.lx_node.specs.declared.fields.Fields.TheVariants as fields
+use Rattle.lx_node.specs.declared.fields.TextFields.{TextFields}
 use Rattle.lx_host.specs.declared.tag.Tag.{Tag}
 use Rattle.lx_host.specs.declared.tag.Name.{Name}
 use Rattle.lx_host.specs.declared.op.Op.{Op}
 use Rattle.lx_host.specs.declared.op.Op.TheVariants.{Text, Attr, Break}
 use Rattle.lx_host.specs.Words.{with_attribute}
 use Rattle.lx_host.specs.Hosts.{Face, Host, with_ending}
-use Rattle.lx_plain.specs.Render.{attributes_of, text_of}
+use Rattle.lx_plain.specs.Render.{attributes_of, text_attributes, text_of}
 use Rattle.lx_reconcile.specs.Reconciled.{LeadsAt, IsAt}
 use Rattle.lx_reconcile.specs.Changing.{write_op, all_written, AreAnew, Writes, IsWriteAt, is_text, is_attr, is_break, Changes, shown_face}
 use Rattle.lx_reconcile.proofs.Due.{each_append}
@@ -132,3 +134,13 @@ face_written host k l f g attrs news old new start mid end a b c d writes text k
     (subst (λ y. Changes host (dressed key tag old ending attrs) (dressed key tag y ending news) start end) d
     (changes_then host (dressed key tag old ending attrs) (dressed key tag old ending news) (dressed key tag new ending news) start mid end
     (changes_attributes host key tag old ending attrs news start mid writes) (text key tag news ending)))))
+
+-- of two texts that show the same attributes, only the text is written
+pub face_alike : (host : ℕ) (k l : Kind) (f g : Fields) (t u : TextFields) (start end : List Op) → f ≡ fields.Text t → g ≡ fields.Text u → text_attributes t ≡ text_attributes u
+    → ((key : ℕ) (tag : Tag) (attrs : List (Name × List ℕ)) (ending : Bool) → Changes host (record { key = key; tag = tag; attrs = attrs; text = Some t.text; ending = ending }) (record { key = key; tag = tag; attrs = attrs; text = Some u.text; ending = ending }) start end)
+    → (key : ℕ) (tag : Tag) (ending : Bool) → Changes host (shown_face key tag k f ending) (shown_face key tag l g ending) start end
+face_alike host k l f g t u start end a b same text key tag ending =
+    subst (λ x. Changes host (shown_face key tag k x ending) (shown_face key tag l g ending) start end) (sym a)
+    (subst (λ y. Changes host (shown_face key tag k (fields.Text t) ending) (shown_face key tag l y ending) start end) (sym b)
+    (subst (λ xs. Changes host (dressed key tag (Some t.text) ending (text_attributes t)) (dressed key tag (Some u.text) ending xs) start end) same
+    (text key tag (text_attributes t) ending)))

@@ -1,6 +1,6 @@
 //! The operations that change what a host shows of a node itself: its attributes, its text and its ending.
 
-ghost use Rattle.std.specs.Prelude.{◌≡◌, ◌↔◌, ◌++◌, ◌∷◌, ◌+◌, ◌≤◌, [], ℕ, Bool, List, true, drop, OnOk, None, Some};
+ghost use Rattle.std.specs.Prelude.{◌≡◌, ◌↔◌, ◌++◌, ◌∷◌, ◌+◌, ◌≤◌, [], ℕ, Bool, List, true, drop, IsTrue, OnOk, None, Some};
 ghost use Rattle.lx_host.specs.declared.op.Op.TheVariants.{Attr};
 ghost use Rattle.lx_host.specs.declared.tag.Tag.{Tag};
 ghost use Rattle.lx_host.specs.Words.{names_rise};
@@ -13,7 +13,7 @@ ghost use Rattle.lx_reconcile.specs.Changing.{next_order, Writes, Changes, shown
 use crate::creation::read_kind;
 use crate::looks::Look;
 use lx_host::{Name, Op};
-use lx_node::{NoMemory, Node, Txt};
+use lx_node::{Fields, NoMemory, Node, TextFields, Txt};
 use lx_render::{describe, needs_break};
 use std::alloc::Global;
 use std::cmp::Ordering;
@@ -144,6 +144,33 @@ fn push_text(
     }
 }
 
+/// Adds the operation that makes a host's text another, where they differ. Nothing is copied where they don't.
+fn push_other_text(
+    alloc: Global,
+    host: u32,
+    old: &Txt,
+    new: &Txt,
+    ops: &mut Vec<Op>,
+) -> Result<(), NoMemory>
+    ensures { OnOk result ((key : ℕ) (tag : Tag) (attrs : List (Name × List ℕ)) (ending : Bool) → Changes host (record { key = key; tag = tag; attrs = attrs; text = Some old.now; ending = ending }) (record { key = key; tag = tag; attrs = attrs; text = Some new.now; ending = ending }) ops.old.items ops.new.items) }
+{
+    if old.is_equal(new) {
+        return Ok(());
+    }
+    ops.push(Op::Text {
+        id: host,
+        text: new.copy(alloc)?,
+    })?;
+    Ok(())
+}
+
+/// Whether two texts show the same attributes: they have one format and one style.
+fn show_alike(old: &TextFields, new: &TextFields) -> bool
+    ensures { IsTrue result → shown.text_attributes old.now ≡ shown.text_attributes new.now }
+{
+    old.format == new.format && old.style.is_equal(&new.style)
+}
+
 /// Whether a node has the kind and the fields that it had.
 fn is_same(was: &Node, now: &Node) -> bool
     ensures { result ≡ true ↔ (was.now.kind ≡ now.now.kind) × (was.now.fields ≡ now.now.fields) }
@@ -152,7 +179,8 @@ fn is_same(was: &Node, now: &Node) -> bool
 }
 
 /// Adds the operations that make the host of a node, which shows its attributes and text as they were, show them as
-/// they are. A text stays one. Where neither the kind nor the fields differ it makes no description.
+/// they are. A text stays one. Where neither the kind nor the fields differ, or only what a text says, it makes no
+/// description.
 pub(crate) fn push_face(
     alloc: Global,
     host: u32,
@@ -166,6 +194,11 @@ pub(crate) fn push_face(
 {
     if is_same(was, now) {
         return Ok(());
+    }
+    if let (Fields::Text(old), Fields::Text(new)) = (&was.fields, &now.fields)
+        && show_alike(old, new)
+    {
+        return push_other_text(alloc, host, &old.text, &new.text, ops);
     }
     let old = describe(alloc, was)?;
     let new = describe(alloc, now)?;
