@@ -1,9 +1,6 @@
 -- Marks tell whatever a line changes.
-use Rattle.std.proofs.Common.{◌≡◌, Ok, subst}
-use Rattle.lx_step.specs.declared.built_in.CaretCommand.{CaretCommand}
-use Rattle.lx_step.specs.declared.built_in.ListCommand.{ListCommand}
-use Rattle.lx_step.specs.declared.command.Payload.{Payload}
-use Rattle.lx_step.specs.declared.step.Step.{Step}
+use Rattle.std.proofs.Common.{◌≡◌, Result, Ok, subst}
+use Rattle.lx_node.specs.declared.cause.Cause.{Cause}
 use Rattle.lx_draft.specs.Covering.{IsReady, AreCovered}
 use Rattle.lx_draft.proofs.CoveredSteps.{covered-count, covered-mark, covered-select}
 use Rattle.lx_edit.proofs.Covered.{covered_path}
@@ -11,12 +8,14 @@ use Rattle.lx_edit.proofs.Paths.{self}
 use Rattle.lx_run.specs.Running.{Running, on_script, take_count}
 use Rattle.lx_run.specs.Carets.{caret_step}
 use Rattle.lx_run.specs.Lists.{list_step}
-use Rattle.lx_run.specs.Scripts.{on_draft, effect_of}
+use Rattle.lx_run.specs.Scripts.{Scripted, on_draft, effect_of}
+use Rattle.lx_run.specs.Tables.{table_step}
 use Rattle.lx_run.proofs.CaretPaths.{caret_reaches}
 use Rattle.lx_run.proofs.ListPaths.{list_reaches}
 use Rattle.lx_run.proofs.Paced.{count_taken, left_as}
-use Rattle.lx_run.proofs.Paths.{IsScriptPath, effect_path}
+use Rattle.lx_run.proofs.Paths.{IsScriptPath, Reaches, effect_path}
 use Rattle.lx_run.proofs.Stays.{IsKept, IsOfScripts}
+use Rattle.lx_run.proofs.TablePaths.{table_reaches}
 
 covered_scripts : IsScriptPath IsReady AreCovered
 covered_scripts = record {
@@ -35,19 +34,9 @@ AreCoveredRunning m n = AreCovered m.script.draft n.script.draft
 covered_count : (m n : Running) → IsReadyRunning m → take_count m ≡ Ok n → AreCoveredRunning m n
 covered_count m n ready e = covered-count m.script.draft n.script.draft ready (count_taken m n e).draft
 
-covered_plain : (s : Step) (m n : Running) → IsReadyRunning m → on_script (effect_of s) m ≡ Ok n → AreCoveredRunning m n
-covered_plain s m n ready e =
-    left_as (AreCoveredRunning m n) (effect_of s) m n (λ t f is. subst (λ (x : Running). AreCoveredRunning m x) is (effect_path covered_scripts s m.script t ready f)) e
-
-covered_does : (command : CaretCommand) (sent : Payload) (m n : Running) → IsReadyRunning m → on_script (on_draft (caret_step command sent)) m ≡ Ok n → AreCoveredRunning m n
-covered_does command sent m n ready e =
-    left_as (AreCoveredRunning m n) (on_draft (caret_step command sent)) m n
-    (λ t f is. subst (λ (x : Running). AreCoveredRunning m x) is (caret_reaches covered_scripts command sent m.script t ready f)) e
-
-covered_lists : (command : ListCommand) (sent : Payload) (m n : Running) → IsReadyRunning m → on_script (on_draft (list_step command sent)) m ≡ Ok n → AreCoveredRunning m n
-covered_lists command sent m n ready e =
-    left_as (AreCoveredRunning m n) (on_draft (list_step command sent)) m n
-    (λ t f is. subst (λ (x : Running). AreCoveredRunning m x) is (list_reaches covered_scripts command sent m.script t ready f)) e
+covered_on : (edit : Scripted → Result Scripted Cause) (m n : Running) → Reaches IsReady AreCovered edit → IsReadyRunning m → on_script edit m ≡ Ok n → AreCoveredRunning m n
+covered_on edit m n reaches ready e =
+    left_as (AreCoveredRunning m n) edit m n (λ t f is. subst (λ (x : Running). AreCoveredRunning m x) is (reaches m.script t ready f)) e
 
 pub covered : IsKept IsReadyRunning AreCoveredRunning
 covered = record {
@@ -55,9 +44,10 @@ covered = record {
   same = λ m ready. self covered_path m.script.draft ready;
   on = λ m n o a b. covered_path.composed m.script.draft n.script.draft o.script.draft a b;
   counted = λ m n ready e. covered_count m n ready e;
-  plain = λ s m n ready e. covered_plain s m n ready e;
-  does = λ command sent m n ready e. covered_does command sent m n ready e;
-  lists = λ command sent m n ready e. covered_lists command sent m n ready e;
+  plain = λ s m n ready e. covered_on (effect_of s) m n (effect_path covered_scripts s) ready e;
+  does = λ command sent m n ready e. covered_on (on_draft (caret_step command sent)) m n (caret_reaches covered_scripts command sent) ready e;
+  lists = λ command sent m n ready e. covered_on (on_draft (list_step command sent)) m n (list_reaches covered_scripts command sent) ready e;
+  tables = λ command sent m n ready e. covered_on (on_draft (table_step command sent)) m n (table_reaches covered_scripts command sent) ready e;
   later = λ m n steps sent ready e. covered_count m n ready e;
 }
 

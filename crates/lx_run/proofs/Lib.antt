@@ -15,4 +15,5 @@ pub mod Paced
 pub mod Paths
 pub mod Runs
 pub mod Stays
+pub mod TablePaths
 pub mod Words

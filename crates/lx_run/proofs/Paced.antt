@@ -3,8 +3,6 @@ use Rattle.std.proofs.Common.{◌≡◌, ◌∙◌, ◌+◌, ◌≤◌, ℕ, Lis
 use Rattle.lx_node.specs.Limits.{most_counts}
 use Rattle.lx_node.specs.declared.cause.Cause.{Cause}
 use Rattle.lx_step.specs.BuiltIns.{built_in}
-use Rattle.lx_step.specs.declared.built_in.CaretCommand.{CaretCommand}
-use Rattle.lx_step.specs.declared.built_in.ListCommand.{ListCommand}
 use Rattle.lx_step.specs.declared.command.Payload.{Payload}
 use Rattle.lx_step.specs.declared.listener.Listener.{Listener}
 use Rattle.lx_step.specs.declared.step.Step.{Step}
@@ -12,16 +10,19 @@ use Rattle.lx_step.specs.declared.step.Step.TheVariants as step
 use Rattle.lx_draft.specs.Working.{Working}
 use Rattle.lx_draft.specs.Faults.{after}
 use Rattle.lx_draft.specs.Steps.{count_step}
+use Rattle.lx_edit.proofs.Counted.{Any, KeepsCounts}
 use Rattle.lx_run.specs.Scripts.{Scripted, scripted, on_draft, effect_of}
 use Rattle.lx_run.specs.Carets.{caret_step}
 use Rattle.lx_run.specs.Lists.{list_step}
 use Rattle.lx_run.specs.Running.{Running, running, on_script, take_count, queued, done_if, payload_for, effect_in, step_in, dispatched}
+use Rattle.lx_run.specs.Tables.{table_step}
 use Rattle.lx_run.proofs.CaretPaths.{caret_reaches}
 use Rattle.lx_run.proofs.ListPaths.{list_reaches}
 use Rattle.lx_run.proofs.Bounded.{KeepsMost, count_within, within_scripts}
 use Rattle.lx_run.proofs.Counted.{count-counted, counted_scripts}
-use Rattle.lx_run.proofs.Paths.{effect_path}
+use Rattle.lx_run.proofs.Paths.{Reaches, effect_path}
 use Rattle.lx_run.proofs.Stays.{Makes, makes_told, makes_on, makes_from, makes_then, IsKept, done_keeps, dispatched_keeps}
+use Rattle.lx_run.proofs.TablePaths.{table_reaches}
 
 -- what is queued takes counts
 pub record IsPaced (m n : Running) : Type 0 where
@@ -79,29 +80,16 @@ paced_later m n steps sent e =
     let more : length (queued steps sent n).queue ≡ length n.queue + 1 = length_one_more n.queue (record { steps = steps; sent = sent }) in
     record { counted = omega (arith, once); queued = omega (arith, once, same, more); most = count_within m.script.draft n.script.draft c.draft }
 
+paced_on : (edit : Scripted → Result Scripted Cause) (m n : Running) → Reaches Any KeepsCounts edit → Reaches Any KeepsMost edit → on_script edit m ≡ Ok n → IsPaced m n
+paced_on edit m n counted within e = left_as (IsPaced m n) edit m n (λ t f is.
+    let more : m.script.draft.counted ≤ t.draft.counted = counted m.script t tt f in
+    let at : t.draft.counted ≡ n.script.draft.counted = ap (λ (x : Running). x.script.draft.counted) is in
+    let same : length m.queue ≡ length n.queue = ap (λ (x : Running). length x.queue) is in
+    let most : KeepsMost m.script.draft t.draft = within m.script t tt f in
+    record { counted = omega (arith, more, at); queued = omega (arith, more, at, same); most = λ few. omega (arith, most few, at) }) e
+
 paced_plain : (s : Step) (m n : Running) → on_script (effect_of s) m ≡ Ok n → IsPaced m n
-paced_plain s m n e = left_as (IsPaced m n) (effect_of s) m n (λ t f is.
-    let more : m.script.draft.counted ≤ t.draft.counted = effect_path counted_scripts s m.script t tt f in
-    let at : t.draft.counted ≡ n.script.draft.counted = ap (λ (x : Running). x.script.draft.counted) is in
-    let same : length m.queue ≡ length n.queue = ap (λ (x : Running). length x.queue) is in
-    let within : KeepsMost m.script.draft t.draft = effect_path within_scripts s m.script t tt f in
-    record { counted = omega (arith, more, at); queued = omega (arith, more, at, same); most = λ few. omega (arith, within few, at) }) e
-
-paced_does : (command : CaretCommand) (sent : Payload) (m n : Running) → on_script (on_draft (caret_step command sent)) m ≡ Ok n → IsPaced m n
-paced_does command sent m n e = left_as (IsPaced m n) (on_draft (caret_step command sent)) m n (λ t f is.
-    let more : m.script.draft.counted ≤ t.draft.counted = caret_reaches counted_scripts command sent m.script t tt f in
-    let at : t.draft.counted ≡ n.script.draft.counted = ap (λ (x : Running). x.script.draft.counted) is in
-    let same : length m.queue ≡ length n.queue = ap (λ (x : Running). length x.queue) is in
-    let within : KeepsMost m.script.draft t.draft = caret_reaches within_scripts command sent m.script t tt f in
-    record { counted = omega (arith, more, at); queued = omega (arith, more, at, same); most = λ few. omega (arith, within few, at) }) e
-
-paced_lists : (command : ListCommand) (sent : Payload) (m n : Running) → on_script (on_draft (list_step command sent)) m ≡ Ok n → IsPaced m n
-paced_lists command sent m n e = left_as (IsPaced m n) (on_draft (list_step command sent)) m n (λ t f is.
-    let more : m.script.draft.counted ≤ t.draft.counted = list_reaches counted_scripts command sent m.script t tt f in
-    let at : t.draft.counted ≡ n.script.draft.counted = ap (λ (x : Running). x.script.draft.counted) is in
-    let same : length m.queue ≡ length n.queue = ap (λ (x : Running). length x.queue) is in
-    let within : KeepsMost m.script.draft t.draft = list_reaches within_scripts command sent m.script t tt f in
-    record { counted = omega (arith, more, at); queued = omega (arith, more, at, same); most = λ few. omega (arith, within few, at) }) e
+paced_plain s m n e = paced_on (effect_of s) m n (effect_path counted_scripts s) (effect_path within_scripts s) e
 
 abbrev pub AnyRunning : Running → Type 0
 AnyRunning m = Unit {0}
@@ -113,8 +101,9 @@ paced = record {
   on = λ m n o p q. record { counted = omega (arith, p.counted, q.counted); queued = omega (arith, p.queued, q.queued, p.counted, q.counted); most = λ few. q.most (p.most few) };
   counted = λ m n r e. paced_count m n e;
   plain = λ s m n r e. paced_plain s m n e;
-  does = λ command sent m n r e. paced_does command sent m n e;
-  lists = λ command sent m n r e. paced_lists command sent m n e;
+  does = λ command sent m n r e. paced_on (on_draft (caret_step command sent)) m n (caret_reaches counted_scripts command sent) (caret_reaches within_scripts command sent) e;
+  lists = λ command sent m n r e. paced_on (on_draft (list_step command sent)) m n (list_reaches counted_scripts command sent) (list_reaches within_scripts command sent) e;
+  tables = λ command sent m n r e. paced_on (on_draft (table_step command sent)) m n (table_reaches counted_scripts command sent) (table_reaches within_scripts command sent) e;
   later = λ m n steps sent r e. paced_later m n steps sent e;
 }
 

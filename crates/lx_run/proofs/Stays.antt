@@ -6,9 +6,10 @@ use Rattle.lx_node.specs.declared.cause.Cause.TheVariants.{BadCommand, HistoryIn
 use Rattle.lx_step.specs.BuiltIns.{built_in}
 use Rattle.lx_step.specs.Spelled.{steps_of}
 use Rattle.lx_step.specs.declared.built_in.BuiltIn.{BuiltIn}
-use Rattle.lx_step.specs.declared.built_in.BuiltIn.TheVariants.{Turn, Caret, List as list}
+use Rattle.lx_step.specs.declared.built_in.BuiltIn.TheVariants.{Turn, Caret, List as list, Table}
 use Rattle.lx_step.specs.declared.built_in.CaretCommand.{CaretCommand}
 use Rattle.lx_step.specs.declared.built_in.ListCommand.{ListCommand}
+use Rattle.lx_step.specs.declared.built_in.TableCommand.{TableCommand}
 use Rattle.lx_step.specs.declared.command.Payload.{Payload}
 use Rattle.lx_step.specs.declared.listener.Listener.{Listener}
 use Rattle.lx_step.specs.declared.step.Step.{Step}
@@ -19,6 +20,7 @@ use Rattle.lx_run.specs.Carets.{caret_step}
 use Rattle.lx_run.specs.Lists.{list_step}
 use Rattle.lx_run.specs.Holding.{holds}
 use Rattle.lx_run.specs.Scripts.{on_draft, effect_of}
+use Rattle.lx_run.specs.Tables.{table_step}
 use Rattle.lx_run.specs.Running.{Running, Queued, Dispatching, running, on_script, take_count, queued, is_nothing, done_by, done_if, payload_for, effect_in, step_in, steps_in, answered, offer, offered, unless_handled, built_in_or, dispatched, most_nested, in_turn, emptied}
 
 -- what is made, if it is, is so
@@ -51,6 +53,7 @@ pub record IsKept (D : Running → Type 0) (R : Running → Running → Type 0) 
   pub plain : (s : Step) (m n : Running) → D m → on_script (effect_of s) m ≡ Ok n → R m n
   pub does : (command : CaretCommand) (sent : Payload) (m n : Running) → D m → on_script (on_draft (caret_step command sent)) m ≡ Ok n → R m n
   pub lists : (command : ListCommand) (sent : Payload) (m n : Running) → D m → on_script (on_draft (list_step command sent)) m ≡ Ok n → R m n
+  pub tables : (command : TableCommand) (sent : Payload) (m n : Running) → D m → on_script (on_draft (table_step command sent)) m ≡ Ok n → R m n
   pub later : (m n : Running) (steps : List Step) (sent : Payload) → D m → take_count m ≡ Ok n → R m (queued steps sent n)
 
 abbrev pub Keeps : (Running → Type 0) → (Running → Running → Type 0) → Dispatching → Type 0
@@ -75,6 +78,7 @@ built_in_keeps : (D : Running → Type 0) (R : Running → Running → Type 0) �
 built_in_keeps D R kept (Turn turn) sent m ready = refused_either (R m) (is_nothing sent) HistoryInside BadCommand
 built_in_keeps D R kept (Caret command) sent m ready = makes_told (R m) (on_script (on_draft (caret_step command sent)) m) (λ n e. kept.does command sent m n ready e)
 built_in_keeps D R kept (list command) sent m ready = makes_told (R m) (on_script (on_draft (list_step command sent)) m) (λ n e. kept.lists command sent m n ready e)
+built_in_keeps D R kept (Table command) sent m ready = makes_told (R m) (on_script (on_draft (table_step command sent)) m) (λ n e. kept.tables command sent m n ready e)
 
 pub done_keeps : (D : Running → Type 0) (R : Running → Running → Type 0) → IsKept D R → (o : Option BuiltIn) (sent : Payload) (m : Running) → D m → Makes (R m) (done_if o sent m)
 done_keeps D R kept None sent m ready = tt

@@ -64,6 +64,7 @@ turn_of None = None
 turn_of (Some (built_in.Turn turn)) = Some turn
 turn_of (Some (built_in.Caret command)) = None
 turn_of (Some (built_in.List command)) = None
+turn_of (Some (built_in.Table command)) = None
 
 -- no edit was taken, the selection is the one that is committed, and nothing is queued
 abbrev pub is_untouched : Selection → Running → Bool

@@ -5,7 +5,7 @@ use Rattle.lx_node.specs.declared.cause.Cause.TheVariants.{BadCommand, DispatchD
 use Rattle.lx_step.specs.BuiltIns.{built_in}
 use Rattle.lx_step.specs.Spelled.{steps_of}
 use Rattle.lx_step.specs.declared.built_in.BuiltIn.{BuiltIn}
-use Rattle.lx_step.specs.declared.built_in.BuiltIn.TheVariants.{Turn, Caret, List as list}
+use Rattle.lx_step.specs.declared.built_in.BuiltIn.TheVariants.{Turn, Caret, List as list, Table}
 use Rattle.lx_step.specs.declared.command.Command.{Command}
 use Rattle.lx_step.specs.declared.command.Payload.{Payload}
 use Rattle.lx_step.specs.declared.command.Payload.TheVariants as payload
@@ -19,6 +19,7 @@ use Rattle.lx_run.specs.Carets.{caret_step}
 use Rattle.lx_run.specs.Holding.{holds}
 use Rattle.lx_run.specs.Lists.{list_step}
 use Rattle.lx_run.specs.Scripts.{Scripted, on_draft, effect_of}
+use Rattle.lx_run.specs.Tables.{table_step}
 
 -- steps that are queued, with the payload that "@payload" stands for in them
 pub record Queued : Type 0 where
@@ -60,6 +61,7 @@ abbrev pub done_by : BuiltIn → Payload → Running → Result Running Cause
 done_by (Turn turn) sent m = if is_nothing sent then Err HistoryInside else Err BadCommand
 done_by (Caret command) sent m = on_script (on_draft (caret_step command sent)) m
 done_by (list command) sent m = on_script (on_draft (list_step command sent)) m
+done_by (Table command) sent m = on_script (on_draft (table_step command sent)) m
 
 -- what the built-in command of a name does, if there is one
 abbrev pub done_if : Option BuiltIn → Payload → Running → Result Running Cause

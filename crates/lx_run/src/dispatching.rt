@@ -41,6 +41,7 @@ fn do_built_in(running: &mut Running<'_>, command: BuiltIn, sent: &Payload) -> R
         BuiltIn::Turn(_) => Err(Fault::Cause(Cause::BadCommand)),
         BuiltIn::Caret(command) => running.do_caret(command, sent),
         BuiltIn::List(command) => running.do_list(command, sent),
+        BuiltIn::Table(command) => running.do_table(command, sent),
     }
 }
 

@@ -19,6 +19,7 @@ mod selecting;
 mod setting;
 mod splitting;
 mod stepping;
+mod tables;
 mod turning;
 
 pub use ending::Ending;

@@ -10,6 +10,7 @@ ghost use Rattle.lx_run.specs.Lines.{at_first, is_untouched};
 ghost use Rattle.lx_run.specs.Running.{on_script, take_count, queued, queued_first};
 ghost use Rattle.lx_run.specs.Carets.{caret_step};
 ghost use Rattle.lx_run.specs.Lists.{list_step};
+ghost use Rattle.lx_run.specs.Tables.{table_step};
 ghost use Rattle.lx_run.specs.Scripts.{on_draft, effect_of};
 
 use crate::carets::do_caret;
@@ -17,10 +18,11 @@ use crate::holding::holds;
 use crate::lists::do_list;
 use crate::names::Names;
 use crate::script::take_effect;
+use crate::tables::do_table;
 use lx_draft::Draft;
 use lx_node::{Cause, Fault, NoMemory};
 use lx_select::Selection;
-use lx_step::{CaretCommand, ListCommand, Payload, Step, Steps, When};
+use lx_step::{CaretCommand, ListCommand, Payload, Step, Steps, TableCommand, When};
 use std::alloc::Global;
 use std::collections::VecDeque;
 use std::marker::Model;
@@ -140,6 +142,14 @@ impl<'a> Running<'a> {
         ensures err { IfErr result (λ e. TellsStep e (on_script (on_draft (list_step command sent.now)) self.old)) }
     {
         do_list(self.alloc, &mut self.draft, command, sent)
+    }
+
+    /// What a command of tables does behind its count, with what is sent.
+    pub(crate) fn do_table(&mut self, command: TableCommand, sent: &Payload) -> Result<(), Fault>
+        ensures ok { OnOk result (on_script (on_draft (table_step command sent.now)) self.old ≡ Ok self.new) }
+        ensures err { IfErr result (λ e. TellsStep e (on_script (on_draft (table_step command sent.now)) self.old)) }
+    {
+        do_table(self.alloc, &mut self.draft, command, sent)
     }
 
     /// Queues steps behind all that are queued.
