@@ -1,14 +1,12 @@
--- The keys of a type that a walk through the tree gathers, and the keys that one marks.
+-- The keys of a type that a walk through the tree gathers.
 use Rattle.std.proofs.Common.{◌≡◌, ◌∙◌, ℕ, ◌++◌, Bool, true, false, if◌then◌else◌, List, [], ◌∷◌, Option, None, Some, IfSome, IfNone, filter, refl, sym, ap, append_assoc}
 use Rattle.lx_step.specs.declared.rule.TypeRow.{TypeRow}
 use Rattle.lx_forest.specs.Forest.{Forest}
-use Rattle.lx_marks.specs.Marks.{Marked, with_leaf}
-use Rattle.lx_forest.specs.Lookups.{depth, from, kind_of, preorder, IsForest}
+use Rattle.lx_forest.specs.Lookups.{depth, from, kind_of, IsForest}
 use Rattle.lx_forest.proofs.Walks.{from-root, depth-root}
 use Rattle.lx_draft.proofs.Measured.{left_from, IsAt}
 use Rattle.lx_rules.specs.Types.{is_of_row}
 use Rattle.lx_editor.specs.Registered.{of_type}
-use Rattle.lx_editor.specs.Judged.{with_leaves}
 
 abbrev pub is_there : TypeRow → Forest → ℕ → Bool
 is_there row f q = is_of_row row.0 (kind_of f q)
@@ -44,26 +42,5 @@ gathered_more row f b at o keys more q d g is test made next last deep = record 
       ∙ ap (λ ks. keys ++ filter (is_there row f) ks) (sym (step_left o f q next last))
       ∙ ap (λ x. keys ++ filter (is_there row f) (left_from f x)) (sym is)
       ∙ g.all;
-  here = step_at o f deep;
-}
-
--- ---- marks of all keys of the tree
-
--- what was marked and what is left to mark make all of it
-pub record IsWalked (f : Forest) (m whole : Marked) (at : Option (ℕ × ℕ)) : Type 0 where
-  pub all : with_leaves (left_from f at) m ≡ whole
-  pub here : IsAt f at
-
-pub walked_none : (f : Forest) (m : Marked) → IsForest f → IsWalked f m (with_leaves (preorder f) m) (Some (0, 0))
-walked_none f m order = record { all = ap (λ ks. with_leaves ks m) (from-root f order); here = depth-root f order }
-
-pub walked_more : (f : Forest) (m n whole : Marked) (at o : Option (ℕ × ℕ)) (q d : ℕ) → IsWalked f m whole at → at ≡ Some (q, d) → n ≡ with_leaf q m
-    → IfSome o (λ next. from f q ≡ q ∷ from f next.0) → IfNone o (from f q ≡ q ∷ []) → IfSome o (λ next. depth f next.0 ≡ Some next.1) → IsWalked f n whole o
-walked_more f m n whole at o q d w is marked next last deep = record {
-  all =
-      ap (λ x. with_leaves (left_from f o) x) marked
-      ∙ ap (λ ks. with_leaves ks m) (sym (step_left o f q next last))
-      ∙ ap (λ x. with_leaves (left_from f x) m) (sym is)
-      ∙ w.all;
   here = step_at o f deep;
 }

@@ -10,3 +10,4 @@ pub mod Kept
 pub mod Turned
 pub mod Renumbered
 pub mod Selected
+pub mod Began

@@ -1,120 +1,73 @@
--- Undo and redo: marks of every node of both trees cover the two, whatever they are.
-use Rattle.std.proofs.Common.{◌≡◌, ◌∙◌, ◌+◌, ◌*◌, ◌||◌, ◌&&◌, ℕ, eqb, Bool, true, false, List, [], ◌∷◌, Option, None, Some, refl, sym, ap, subst, arith}
+-- Undo and redo: operations for marks of what differs are operations for marks of every node of both trees.
+use Rattle.std.proofs.Common.{◌≡◌, ◌∙◌, ◌+◌, ◌≤◌, ◌&&◌, ℕ, Bool, true, false, cond, length, List, [], ◌∷◌, Option, None, Some, refl, sym, ap, subst, arith}
 use Rattle.std.specs.List.{AllByRecursion}
 use Rattle.std.specs.Prelude.{MatchBool}
-use Rattle.std.proofs.lemmas.Bool.Decides.{eqb_tells}
-use Rattle.lx_node.specs.Siblings.{is_among}
+use Rattle.lx_node.specs.Trees.{nil, tree}
 use Rattle.lx_node.specs.declared.kind.Kind.{Kind}
 use Rattle.lx_host.specs.declared.op.Op.{Op}
 use Rattle.lx_host.specs.Hosts.{HostTree, Leads}
-use Rattle.lx_marks.specs.Marks.{Marked, unmarked, is_touched, is_noted, with_leaf}
-use Rattle.lx_marks.proofs.Told.{touched-leaf, noted-leaf}
+use Rattle.lx_marks.specs.Marks.{Marked, is_touched, is_noted}
+use Rattle.lx_compare.specs.Differing.{KeepsKinds, AreKnown}
 use Rattle.lx_step.specs.declared.built_in.Turn.{Turn}
 use Rattle.lx_step.specs.declared.built_in.Turn.TheVariants.{Undo, Redo}
 use Rattle.lx_forest.specs.Forest.{Forest}
-use Rattle.lx_forest.specs.Lookups.{has, roots, preorder, IsForest}
-use Rattle.lx_forest.proofs.Lookups.{has-parent_of, has-child}
-use Rattle.lx_forest.proofs.Walks.{is_among-preorder_of}
-use Rattle.lx_plain.specs.Allowed.{MayChange, new_host, of_touched, of_child, IsDue, AreCovered, AreAllowed, subject_of, marked_children, staying, unkept}
+use Rattle.lx_forest.specs.Lookups.{has, roots}
+use Rattle.lx_plain.specs.Allowed.{MayChange, new_host, of_touched, of_child, IsDue, AreAllowed, subject_of, marked_children, staying, unkept}
 use Rattle.lx_draft.specs.declared.state.State.{State}
 use Rattle.lx_history.specs.History.{History, first, entry_of, undone_to, redone_to, undone, redone, turned}
 use Rattle.lx_reconcile.specs.Allowing.{marking, IsAllowed}
 use Rattle.lx_reconcile.specs.Told.{Told}
-use Rattle.lx_reconcile.proofs.StartEnd.{one_tree}
 use Rattle.lx_editor.specs.Editor.{Editor}
 use Rattle.lx_editor.specs.Standing.{HasKinds, IsEntry, IsValid}
 use Rattle.lx_editor.specs.Turned.{is_in_either, IsTurned}
 use Rattle.lx_editor.specs.Updated.{most_reads, state_with}
-use Rattle.lx_editor.specs.Judged.{with_leaves, all_marked, MayTurn}
+use Rattle.lx_editor.specs.Judged.{all_marked, MayTurn}
 use Rattle.lx_editor.proofs.Kept.{turned_each, entry_each}
-use Rattle.lx_editor.proofs.Shown.{same_children}
 use Rattle.lx_editor.proofs.Updated.{same_end}
 
--- ---- marks of all nodes
+-- ---- marks of nodes of the two trees
 
-either_way : (a b : Bool) → (a || (b || false)) ≡ (b || a)
-either_way true true = refl
-either_way true false = refl
-either_way false true = refl
-either_way false false = refl
+-- keys keep their kinds where each has one kind
+pub keeps_kinds : (kinds : ℕ → Kind) (old new : Forest) → HasKinds kinds old → HasKinds kinds new → KeepsKinds old new
+keeps_kinds kinds old new before after q was is = before q was ∙ sym (after q is)
 
-same_key : (q k : ℕ) → eqb q k ≡ eqb k q
-same_key q k = grind (arith, eqb_tells q k, eqb_tells k q)
+-- more marked nodes have more children
+more_of : (a b : Bool) (n : ℕ) → (a ≡ true → b ≡ true) → cond a n 0 ≤ cond b n 0
+more_of true b n more = rw (more refl) (omega arith)
+more_of false b n more = omega arith
 
--- the leaves are marked too
-touched-with_leaves : (ks : List ℕ) (m : Marked) (q : ℕ) → is_touched (with_leaves ks m) q ≡ (is_among q ks || is_touched m q)
-touched-with_leaves [] m q = refl
-touched-with_leaves (k ∷ ks) m q = grind (arith, touched-with_leaves ks (with_leaf k m) q, touched-leaf k m q, same_key q k)
+more_children : (noted other : ℕ → Bool) (f : Forest) → ((q : ℕ) → noted q ≡ true → other q ≡ true) → marked_children noted f ≤ marked_children other f
+more_children noted other nil more = omega arith
+more_children noted other (tree l b t) more =
+    omega (arith, more_of (noted l.key) (other l.key) (length (roots b)) (more l.key), more_children noted other b more, more_children noted other t more)
 
-noted-with_leaves : (ks : List ℕ) (m : Marked) (q : ℕ) → is_noted (with_leaves ks m) q ≡ (is_among q ks || is_noted m q)
-noted-with_leaves [] m q = refl
-noted-with_leaves (k ∷ ks) m q = grind (arith, noted-with_leaves ks (with_leaf k m) q, noted-leaf k m q, same_key q k)
+more_stay : (a b c : Bool) → (a ≡ true → b ≡ true) → (a && c) ≡ true → (b && c) ≡ true
+more_stay true b c more e = ap (λ x. x && c) (more refl) ∙ e
+more_stay false b c more e = absurd (cc)
 
--- a tree that stands alone has all its nodes in preorder
-among_tree : (f : Forest) (q : ℕ) → IsForest f → roots f ≡ 0 ∷ [] → is_among q (preorder f) ≡ has q f
-among_tree f q order only = is_among-preorder_of f q ∙ ap (has q) (one_tree f order only)
-
-module _ (old new : Forest) (old_order : IsForest old) (new_order : IsForest new) (old_alone : roots old ≡ 0 ∷ []) (new_alone : roots new ≡ 0 ∷ []) (marks : Marked)
-    (all : marks ≡ with_leaves (preorder new) (with_leaves (preorder old) unmarked)) where
-  touched : (q : ℕ) → is_touched marks q ≡ is_in_either old new q
-  touched q =
-      ap (λ m. is_touched m q) all
-      ∙ touched-with_leaves (preorder new) (with_leaves (preorder old) unmarked) q
-      ∙ ap (λ b. is_among q (preorder new) || b) (touched-with_leaves (preorder old) unmarked q)
-      ∙ ap (λ b. b || (is_among q (preorder old) || false)) (among_tree new q new_order new_alone)
-      ∙ ap (λ b. has q new || (b || false)) (among_tree old q old_order old_alone)
-      ∙ either_way (has q new) (has q old)
-
-  noted : (q : ℕ) → is_noted marks q ≡ is_in_either old new q
-  noted q =
-      ap (λ m. is_noted m q) all
-      ∙ noted-with_leaves (preorder new) (with_leaves (preorder old) unmarked) q
-      ∙ ap (λ b. is_among q (preorder new) || b) (noted-with_leaves (preorder old) unmarked q)
-      ∙ ap (λ b. b || (is_among q (preorder old) || false)) (among_tree new q new_order new_alone)
-      ∙ ap (λ b. has q new || (b || false)) (among_tree old q old_order old_alone)
-      ∙ either_way (has q new) (has q old)
-
-  in_old : (q : ℕ) → has q old ≡ true → is_touched marks q ≡ true
-  in_old q there = touched q ∙ ap (λ b. b || has q new) there
-
-  in_new : (q : ℕ) → has q new ≡ true → is_in_either old new q ≡ true
-  in_new q there = either (has q old) (has q new) there where
-    either : (a b : Bool) → b ≡ true → (a || b) ≡ true
-    either true b e = refl
-    either false b e = e
-
-  -- they cover the two trees, where no key has two kinds
-  pub all_covered : (kinds : ℕ → Kind) → HasKinds kinds old → HasKinds kinds new → AreCovered old new (marking marks)
-  all_covered kinds before after = record {
-    kinds = λ q was is. before q was ∙ sym (after q is);
-    alike = λ q was is plain. absurd (let e = in_old q was in cc);
-    made = λ q out is. touched q ∙ in_new q is;
-    gone = λ q p up stays out. in_old q (has-child old q p up);
-    noted = λ q e. noted q ∙ sym (touched q) ∙ e;
-    above = λ q p up e. noted p ∙ in_new p (has-parent_of new q p up);
-  }
-
-  -- ---- what is allowed for them
-
+module _ (old new : Forest) (marks : Marked) (known : AreKnown old new marks) where
   may_change : (v : HostTree) (id : ℕ) → MayChange old new (is_touched marks) v id → MayChange old new (is_in_either old new) v id
   may_change v _ (new_host id out) = new_host id out
-  may_change v _ (of_touched id key among e) = of_touched id key among (sym (touched key) ∙ e)
-  may_change v _ (of_child id key parent among up stays e) = of_child id key parent among up stays (sym (touched parent) ∙ e)
+  may_change v _ (of_touched id key among e) = of_touched id key among (known.touched key e)
+  may_change v _ (of_child id key parent among up stays e) = of_child id key parent among up stays (known.touched parent e)
 
-  all_due : (v : HostTree) (ops : List Op) → AllByRecursion (IsDue old new (is_touched marks) v) ops → AllByRecursion (IsDue old new (is_in_either old new) v) ops
-  all_due v [] due = tt
-  all_due v (op ∷ ops) due = (record { subject = may_change v (subject_of op) due.0.subject; place = due.0.place; drop = due.0.drop }, all_due v ops due.1)
+  known_due : (v : HostTree) (ops : List Op) → AllByRecursion (IsDue old new (is_touched marks) v) ops → AllByRecursion (IsDue old new (is_in_either old new) v) ops
+  known_due v [] due = tt
+  known_due v (op ∷ ops) due = (record { subject = may_change v (subject_of op) due.0.subject; place = due.0.place; drop = due.0.drop }, known_due v ops due.1)
 
-  pub all_allowed : (v : HostTree) (ops : List Op) → IsAllowed old new (marking marks) v ops → IsAllowed old new (all_marked old new) v ops
-  all_allowed v ops (w, a) = (w, record { leads = a.leads; shows = a.shows; keeps = a.keeps; due = all_due v ops a.due; writes = a.writes })
+  -- what is allowed for them is allowed where all nodes of both trees are marked
+  pub known_allowed : (v : HostTree) (ops : List Op) → IsAllowed old new (marking marks) v ops → IsAllowed old new (all_marked old new) v ops
+  known_allowed v ops (w, a) = (w, record { leads = a.leads; shows = a.shows; keeps = a.keeps; due = known_due v ops a.due; writes = a.writes })
 
-  pub all_read : most_reads old new (is_noted marks) ≡ most_reads old new (is_in_either old new)
-  all_read =
-      let stays : (q : ℕ) → staying (is_noted marks) new q ≡ staying (is_in_either old new) new q = λ q. ap (λ b. b && has q new) (noted q) in
-      let before = same_children (staying (is_noted marks) new) (staying (is_in_either old new) new) old (λ q there. stays q) in
-      let after = same_children (is_noted marks) (is_in_either old new) new (λ q there. noted q) in
-      ap (λ n. 8 * (n + marked_children (is_noted marks) new + unkept old None new + 1)) before
-      ∙ ap (λ n. 8 * (marked_children (staying (is_in_either old new) new) old + n + unkept old None new + 1)) after
+  -- and few reads for them are few for all
+  pub known_few : (n : ℕ) → n ≤ most_reads old new (is_noted marks) → n ≤ most_reads old new (is_in_either old new)
+  known_few n few =
+      omega (
+        arith,
+        few,
+        more_children (staying (is_noted marks) new) (staying (is_in_either old new) new) old (λ q. more_stay (is_noted marks q) (is_in_either old new q) (has q new) (known.noted q)),
+        more_children (is_noted marks) (is_in_either old new) new known.noted,
+      )
 
 -- ---- an undo or a redo
 

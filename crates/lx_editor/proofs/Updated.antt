@@ -376,10 +376,10 @@ no_list : (q : ℕ) → is_at is_list root_alone q ≡ false
 unfolding is_list
 no_list q = grind (arith, eqb_tells 0 q, eqb_tells q 0)
 
-root_numbered : IsNumbered root_alone
+pub root_numbered : IsNumbered root_alone
 root_numbered = record { each = λ list there is i item at. absurd (let other : is_at is_list root_alone list ≡ false = no_list list in cc) }
 
-root_in_order : IsForest root_alone
+pub root_in_order : IsForest root_alone
 root_in_order = record { once = λ q. once_at q; rising = refl; root = refl }
 
 root_kinds : HasKinds (λ q. Root) root_alone

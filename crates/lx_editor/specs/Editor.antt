@@ -5,7 +5,7 @@ use Rattle.lx_select.specs.declared.selection.Selection.{Selection}
 use Rattle.lx_select.specs.declared.selection.Selection.TheVariants.{Nothing}
 use Rattle.lx_forest.specs.Forest.{Forest, root_alone}
 use Rattle.lx_rules.specs.declared.any_rule.AnyRule.{AnyRule}
-use Rattle.lx_rules.specs.AnyRules.{merge_rule}
+use Rattle.lx_rules.specs.AnyRules.{merge_rule, cell_rule}
 use Rattle.lx_reconcile.specs.Told.{Told}
 use Rattle.lx_step.specs.declared.listener.Listener.{Listener}
 use Rattle.lx_history.specs.History.{History, new_history}
@@ -28,7 +28,7 @@ pub record Editor : Type 0 where
 
 -- the rules that every editor has before any is registered
 abbrev pub built_in : List AnyRule
-built_in = merge_rule ∷ []
+built_in = merge_rule ∷ cell_rule ∷ []
 
 -- a new one, whose replies to commits tell the view or not, and whose history has this delay, in milliseconds
 abbrev pub new_editor : Bool → ℕ → Editor

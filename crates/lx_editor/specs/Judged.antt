@@ -6,6 +6,7 @@ use Rattle.lx_step.specs.declared.built_in.Turn.{Turn}
 use Rattle.lx_forest.specs.Forest.{Forest}
 use Rattle.lx_forest.specs.Lookups.{has, kind_of, parent_of, children_of, roots, IsForest}
 use Rattle.lx_json.specs.Importing.{IsImported}
+use Rattle.lx_list.specs.Began.{BeganNumbered}
 use Rattle.lx_draft.specs.declared.state.State.{State}
 use Rattle.lx_draft.specs.Working.{Working}
 use Rattle.lx_draft.specs.Covering as drafts
@@ -46,6 +47,11 @@ pub record IsFresh (u : Working) : Type 0 where
   pub state : IsState u.forest u.selection u.next_key
   pub marks : u.marks ≡ unmarked
   pub fresh : u.fresh ≡ unmarked
+
+-- A draft that may come to rest: it is ready, and it began with items that have their numbers.
+pub record MayRest (w : Working) : Type 0 where
+  pub ready : drafts.IsReady w
+  pub began : BeganNumbered w
 
 -- It has grown from a tree with this next key: the next key doesn't fall, nodes that stay keep their kinds, and each node that
 -- is new has a key that was still to be given.

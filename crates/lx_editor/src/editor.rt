@@ -61,9 +61,9 @@ impl Editor {
     ghost use Rattle.lx_editor.specs.Updated.{IsUpdated, IsCommitted, left_of, recording};
     ghost use Rattle.lx_editor.specs.Judged.{MayCommit, MayConclude, IsConcluded};
 
-    /// A new editor: the root alone, nothing selected, no commit, no rule but the one that is built in, no listener, nothing
-    /// recorded, and a view that shows it. Its replies to commits tell the view, as HTML, where `tells_view` is true. Typing goes on in one entry of
-    /// the history while less than `delay` milliseconds lie between two commits.
+    /// A new editor: the root alone, nothing selected, no commit, no rule but the two that are built in, no listener,
+    /// nothing recorded, and a view that shows it. Its replies to commits tell the view, as HTML, where `tells_view` is true.
+    /// Typing goes on in one entry of the history while less than `delay` milliseconds lie between two commits.
     pub fn new(alloc: Global, tells_view: bool, delay: u64) -> Result<Editor, NoMemory>
         ensures { IfOk result (λ made. made ≡ new_editor tells_view delay) }
     {

@@ -3,7 +3,7 @@
 ghost use Rattle.std.specs.Prelude.{IfOk, IfErr};
 ghost use Rattle.lx_run.specs.Refusals.{TellsRefusal};
 ghost use Rattle.lx_editor.specs.Updated.{left_of, rested_by};
-ghost use Rattle.lx_editor.specs.Judged.{IsLeftOf, IsLeftOfImport, LeavesAtRest};
+ghost use Rattle.lx_editor.specs.Judged.{IsLeftOf, IsLeftOfImport, LeavesAtRest, MayRest};
 
 use lx_draft::{Draft, Frozen};
 use lx_list::number;
@@ -16,6 +16,7 @@ use std::alloc::Global;
 /// What a draft leaves for a commit: it comes to rest under the rules, its items get their numbers, and it is frozen. No step
 /// is refused for it.
 pub(crate) fn rest(alloc: Global, draft: Draft, rules: &[AnyRule]) -> Result<Frozen, Refusal>
+    requires may { MayRest draft }
     ensures left { IfOk result (λ frozen. LeavesAtRest draft (left_of rules.now frozen)) }
     ensures stands { IfOk result (λ frozen. IsLeftOf draft (left_of rules.now frozen)) }
     ensures imported { IfOk result (λ frozen. IsLeftOfImport draft (left_of rules.now frozen)) }

@@ -9,7 +9,7 @@ use crate::recording::Recording;
 use lx_draft::State;
 use lx_node::{NoMemory, Txt};
 use lx_reconcile::{Batch, fresh};
-use lx_script::{Reply, write_reply};
+use lx_script::{Reply, write_commit, write_reply};
 use lx_step::{Form, Line, Step, Tags};
 use std::alloc::Global;
 
@@ -144,15 +144,7 @@ impl Editor {
         requires order { IsForest state.now.links }
         ensures { IfOk result (λ reply. reply.items ≡ reply_text (Committed (self.now.commits + 1) batch.now.ops handled (html_told self.now.tells_view state.now.links))) }
     {
-        let number = self.next_commit();
-        let ops = batch.copy_ops(alloc)?;
         let view = view_of(alloc, state, self.tells_view)?;
-        let told = Reply::Committed {
-            number,
-            ops,
-            handled,
-            view,
-        };
-        write_reply(alloc, &told)
+        write_commit(alloc, self.next_commit(), batch.ops(), handled, &view)
     }
 }

@@ -1,9 +1,7 @@
-//! The marks with which a rule is registered, and those of an undo and a redo.
+//! The marks with which a rule is registered.
 
 ghost use Rattle.std.specs.Prelude.{◌≡◌, Ok, OnOk, IfOk, IfErr};
-ghost use Rattle.lx_forest.specs.Lookups.{kind_of, preorder, IsForest};
-ghost use Rattle.lx_marks.specs.Marks.{unmarked};
-ghost use Rattle.lx_editor.specs.Judged.{with_leaves};
+ghost use Rattle.lx_forest.specs.Lookups.{kind_of};
 ghost use Rattle.lx_draft.specs.Covering.{IsReady, AreCovered};
 ghost use Rattle.lx_draft.specs.Faults.{TellsStep};
 ghost use Rattle.lx_draft.specs.Steps.{mark_uncounted_step};
@@ -13,7 +11,6 @@ ghost use Rattle.lx_editor.specs.Registered.{of_type, marked_for};
 
 use lx_draft::Draft;
 use lx_links::Links;
-use lx_marks::Marks;
 use lx_node::{Fault, Key, NoMemory};
 use lx_step::TypeRow;
 use std::alloc::Global;
@@ -68,29 +65,4 @@ fn is_of_type(links: &Links, key: Key, on: TypeRow) -> bool
         Some(kind) => on == TypeRow::of(kind),
         None => false,
     }
-}
-
-/// Marks of all nodes of both trees, with which the one takes the place of the other.
-pub(crate) fn all_marks(alloc: Global, old: &Links, new: &Links) -> Result<Marks, NoMemory>
-    requires old { IsForest old.now }
-    requires new { IsForest new.now }
-    ensures { IfOk result (λ marks. marks ≡ with_leaves (preorder new.now) (with_leaves (preorder old.now) unmarked)) }
-{
-    let mut marks = Marks::new(alloc)?;
-    mark_tree(&mut marks, old)?;
-    mark_tree(&mut marks, new)?;
-    Ok(marks)
-}
-
-/// Marks all nodes of the root's tree, in preorder.
-fn mark_tree(marks: &mut Marks, links: &Links) -> Result<(), NoMemory>
-    requires order { IsForest links.now }
-    ensures { OnOk result (marks.new ≡ with_leaves (preorder links.now) marks.old) }
-{
-    let mut at = Some((Key::root(), 0));
-    while let Some((key, depth)) = at {
-        marks.mark_leaf(key)?;
-        at = links.next_in_tree(key, depth);
-    }
-    Ok(())
 }

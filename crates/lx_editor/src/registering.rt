@@ -10,12 +10,12 @@ use crate::editor::Editor;
 use crate::outcome::{Outcome, Verdict};
 use crate::recording::Recording;
 use lx_node::{Cause, NoMemory};
-use lx_rules::{AnyRule, ListMerge};
+use lx_rules::{AnyRule, CellParagraph, ListMerge};
 use lx_step::{Rule, Tags};
 use std::alloc::Global;
 
-/// The most rules that an editor has: 256 that were registered, and the one that is built in.
-const MOST_RULES: usize = 257;
+/// The most rules that an editor has: 256 that were registered, and the two that are built in.
+const MOST_RULES: usize = 258;
 
 /// The rules that an editor has from the beginning.
 pub(crate) fn built_in_rules(alloc: Global) -> Result<Vec<AnyRule>, NoMemory>
@@ -23,6 +23,7 @@ pub(crate) fn built_in_rules(alloc: Global) -> Result<Vec<AnyRule>, NoMemory>
 {
     let mut rules = Vec::new(alloc);
     rules.push(AnyRule::Merge(ListMerge))?;
+    rules.push(AnyRule::Fill(CellParagraph))?;
     Ok(rules)
 }
 

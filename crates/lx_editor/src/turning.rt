@@ -3,10 +3,10 @@
 ghost use Rattle.lx_node.specs.Limits.{last_u32};
 
 use crate::editor::Editor;
-use crate::marking::all_marks;
 use crate::outcome::{Outcome, Verdict};
 use crate::reconciling::{follow, reconcile};
 use crate::recording::Recording;
+use lx_compare::differences;
 use lx_draft::State;
 use lx_history::History;
 use lx_node::{Fault, NoMemory};
@@ -71,7 +71,7 @@ impl Editor {
             return Ok(Verdict::Idle);
         };
         let state = entry.copy(alloc)?;
-        let marks = all_marks(alloc, &self.state.links, &state.links)?;
+        let marks = differences(alloc, &self.state.links, &state.links)?;
         match reconcile(alloc, &self.state.links, &state.links, &marks, &self.view) {
             Ok(batch) => Ok(Verdict::Turned { turn, state, batch }),
             Err(Fault::Cause(cause)) => Ok(Verdict::Refused { cause, step: None }),

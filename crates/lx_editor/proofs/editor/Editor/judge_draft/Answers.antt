@@ -2,11 +2,18 @@ use Rattle.std.proofs.Common.{◌≡◌, ◌∙◌, List, sym, ap, subst}
 use Rattle.lx_rules.specs.declared.any_rule.AnyRule.{AnyRule}
 use Rattle.lx_editor.specs.Editor.{Editor}
 use Rattle.lx_editor.specs.Standing.{IsValid}
-use Rattle.lx_editor.specs.Updated.{left_of}
+use Rattle.lx_editor.specs.Updated.{begun, left_of}
 use Rattle.lx_editor.specs.Judged.{IsLeft, HasGrown, IsJudged, LeavesAtRest, IsSettledOf}
+use Rattle.lx_editor.proofs.Began.{fresh_rests}
 use Rattle.lx_editor.proofs.Updated.{fresh_begun}
 use Rattle.lx_editor.proofs.Told.{told}
 use Rattle.lx_editor.proofs.editor.Editor.judge_draft.Goals as goal
+
+pub rest-requires : goal.rest-requires
+rest-requires c =
+    let e : Editor = c.args.self.now in
+    let valid : IsValid e = subst IsValid c.self.view_is c.self.invariant in
+    record { may = fresh_rests (begun e) c.args.draft (fresh_begun e valid) c.requires.covered }
 
 pub weigh-requires : goal.weigh-requires
 weigh-requires c =

@@ -9,6 +9,7 @@ use Rattle.lx_editor.specs.Standing.{IsValid}
 use Rattle.lx_editor.specs.Loaded.{left_by_load}
 use Rattle.lx_editor.specs.Updated.{left_of, rested_by}
 use Rattle.lx_editor.specs.Judged.{IsJudged, IsLeftOfImport, LeavesAtRest, IsSettledOf}
+use Rattle.lx_editor.proofs.Began.{import_rests}
 use Rattle.lx_editor.proofs.Updated.{first_key, may_give_way, load_left}
 use Rattle.lx_editor.proofs.Told.{told}
 use Rattle.lx_editor.proofs.editor.Editor.judge_load.Goals as goal
@@ -35,6 +36,12 @@ returns-in-Err-clause-judged c =
     let d = view c.args.document.now in
     c.verdict_of_fault.ensures.judged now.rules (imported d now.next_key) now
     (subst (λ (e : Editor). TellsStep c.in-Err.fault (imported d e.next_key)) c.self.view_is c.in-Err.ensures.err)
+
+pub rest-requires : goal.rest-requires
+rest-requires c =
+    let now : Editor = c.args.self.now in
+    let import : IsImported now.next_key c.in-Ok.draft = subst (λ (e : Editor). IsImported e.next_key c.in-Ok.draft) c.self.view_is c.in-Ok.ensures.made in
+    record { may = import_rests now.next_key c.in-Ok.draft import }
 
 pub weigh_load-requires : goal.weigh_load-requires
 weigh_load-requires c =

@@ -5,7 +5,7 @@ use Rattle.lx_history.specs.History.{entry_of}
 use Rattle.lx_editor.specs.Editor.{Editor}
 use Rattle.lx_editor.specs.Standing.{editor_of, HasKinds, IsEntry}
 use Rattle.lx_editor.specs.Judged.{MayTurn}
-use Rattle.lx_editor.proofs.Turned.{entry_kept, next_copied, all_covered, all_allowed, all_read}
+use Rattle.lx_editor.proofs.Turned.{entry_kept, next_copied, keeps_kinds, known_allowed, known_few}
 use Rattle.lx_editor.proofs.editor.Editor.judge_turn.Goals as goal
 use Rattle.lx_editor.proofs.editor.Editor.judge_turn.Goals.{After-copy}
 
@@ -19,8 +19,11 @@ kept : (c : After-copy) (state : State) → state.links ≡ c.in-Some.entry.now.
     → IsEntry (editor_of c.self.inside).next_key state × HasKinds c.self.invariant.kept.kinds state.links
 kept c state links selection = entry_kept (editor_of c.self.inside) c.self.invariant c.args.turn state (next c state links selection)
 
-pub all_marks-requires-clause-new : goal.all_marks-requires-clause-new
-all_marks-requires-clause-new c = (kept (goal.at.all_marks-requires-clause-new c).After-copy _ c.in_ok-state.ensures.links c.in_ok-state.ensures.selection).0.in_order
+pub differences-requires-clause-new_order : goal.differences-requires-clause-new_order
+differences-requires-clause-new_order c = (kept (goal.at.differences-requires-clause-new_order c).After-copy _ c.in_ok-state.ensures.links c.in_ok-state.ensures.selection).0.in_order
+
+pub differences-requires-clause-new_alone : goal.differences-requires-clause-new_alone
+differences-requires-clause-new_alone c = (kept (goal.at.differences-requires-clause-new_alone c).After-copy _ c.in_ok-state.ensures.links c.in_ok-state.ensures.selection).0.alone
 
 pub reconcile-requires-clause-new : goal.reconcile-requires-clause-new
 reconcile-requires-clause-new c = (kept (goal.at.reconcile-requires-clause-new c).After-copy _ c.in_ok-state.ensures.links c.in_ok-state.ensures.selection).0.in_order
@@ -36,20 +39,19 @@ reconcile-requires-clause-covered c =
     let valid = c.self.invariant in
     let copy = c.in_ok-state.ensures in
     let entry = kept (goal.at.reconcile-requires-clause-covered c).After-copy _ copy.links copy.selection in
-    all_covered _ _ valid.state.in_order entry.0.in_order valid.state.alone entry.0.alone _ c.in_ok-marks.ensures valid.kept.kinds valid.kept.now entry.1
+    c.in_ok-marks.ensures.covered (keeps_kinds valid.kept.kinds _ _ valid.kept.now entry.1)
 
 pub returns-in-Ok : goal.returns-in-Ok
 returns-in-Ok c =
     let at = (goal.at.returns-in-Ok c).After-copy in
     let copy = c.in_ok-state.ensures in
-    let old = c.self.invariant.state in
     let new = (kept at _ copy.links copy.selection).0 in
     let batch = c.in-Ok.batch in
     let may : MayTurn (editor_of c.self.inside) c.args.turn c.in_ok-state.state batch = record {
       next = next at _ copy.links copy.selection;
       stands = new;
       ids = c.in-Ok.ensures.ids;
-      allowed = all_allowed _ _ old.in_order new.in_order old.alone new.alone _ c.in_ok-marks.ensures _ batch.ops c.in-Ok.ensures.allowed;
-      few = subst (λ n. batch.reads ≤ n) (all_read _ _ old.in_order new.in_order old.alone new.alone _ c.in_ok-marks.ensures) c.in-Ok.ensures.few;
+      allowed = known_allowed _ _ _ c.in_ok-marks.ensures.known _ batch.ops c.in-Ok.ensures.allowed;
+      few = known_few _ _ _ c.in_ok-marks.ensures.known batch.reads c.in-Ok.ensures.few;
     } in
     (refl, subst (λ (e : Editor). MayTurn e c.args.turn c.in_ok-state.state batch) c.self.view_is may)
