@@ -30,6 +30,7 @@ const LISTENER: &str = r#"{"listener":{"on":"k","priority":3,"handled":true,
         {"children":1,"into":2},
         {"select":null},
         {"select":{"keys":[1,"t"]}},
+        {"select":{"anchor":"t","focus":2,"table":1}},
         {"select":{"anchor":[1,0,"text"],"focus":["t",1,"element"],"format":3}},
         {"do":"insert-paragraph"},
         {"do":"insert-text","payload":"@payload"},
@@ -43,7 +44,7 @@ fn is_copied(alloc: Global, listener: &Listener) -> Result<bool, NoMemory> {
     let copy = listener.copy(alloc)?;
     let told = format!(in alloc; "{listener:?}")?;
     let again = format!(in alloc; "{copy:?}")?;
-    Ok(copy.steps.items().len() == 26 && told.as_str() == again.as_str())
+    Ok(copy.steps.items().len() == 27 && told.as_str() == again.as_str())
 }
 
 #[test]

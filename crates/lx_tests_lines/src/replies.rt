@@ -1,7 +1,7 @@
 //! The bytes of replies that no line has yet.
 
 use lx_host::{Name, Op, Ops};
-use lx_node::{Cause, Key, Lost, NoMemory, Point, PointKind, SelectionKind, Txt};
+use lx_node::{Key, NoMemory, Point, PointKind, Txt};
 use lx_script::{Reply, write_reply};
 use lx_select::{Keys, Selection};
 use std::alloc::Global;
@@ -10,37 +10,6 @@ use std::test::Fail;
 fn is_written(alloc: Global, reply: &Reply, wanted: &str) -> Result<bool, NoMemory> {
     let bytes = write_reply(alloc, reply)?;
     Ok(bytes.as_slice() == wanted.as_bytes())
-}
-
-/// A cause that no line has, and what is written of it.
-fn cause(index: usize) -> (Cause, &'static str) {
-    match index {
-        0 => (
-            Cause::NoSelection(SelectionKind::Range),
-            r#"{"refused":{"cause":"NoSelection","code":6,"detail":"range","step":3}}"#,
-        ),
-        1 => (
-            Cause::NoSelection(SelectionKind::Cells),
-            r#"{"refused":{"cause":"NoSelection","code":6,"detail":"cells","step":3}}"#,
-        ),
-        _ => (
-            Cause::SelectionLost(Lost::Key(Key(7))),
-            r#"{"refused":{"cause":"SelectionLost","code":7,"detail":7,"step":3}}"#,
-        ),
-    }
-}
-
-#[test]
-fn causes_are_written(rt: HostRuntime) -> Result<(), Fail> {
-    for index in 0..3 {
-        let (cause, wanted) = cause(index);
-        let reply = Reply::Refused {
-            cause,
-            step: Some(3),
-        };
-        assert!(rt; is_written(rt.alloc(), &reply, wanted)?, "{wanted}");
-    }
-    Ok(())
 }
 
 fn point(key: u32, offset: u32) -> Point {
@@ -62,24 +31,16 @@ fn selection(alloc: Global, index: usize) -> (Selection, &'static str) {
             },
             r#"{"selection":{"anchor":[2,0,"element"],"focus":[1,4294967295,"element"],"format":255,"kind":"range"}}"#,
         ),
-        1 => (
+        _ => (
             Selection::Nodes(Keys::of(Vec::new(alloc))),
             r#"{"selection":{"keys":[],"kind":"nodes"}}"#,
-        ),
-        _ => (
-            Selection::Cells {
-                table: Key(3),
-                anchor: Key(5),
-                focus: Key(10),
-            },
-            r#"{"selection":{"anchor":5,"focus":10,"kind":"cells","table":3}}"#,
         ),
     }
 }
 
 #[test]
 fn selections_are_written(rt: HostRuntime) -> Result<(), Fail> {
-    for index in 0..3 {
+    for index in 0..2 {
         let (selection, wanted) = selection(rt.alloc(), index);
         let reply = Reply::Selection(selection);
         assert!(rt; is_written(rt.alloc(), &reply, wanted)?, "{wanted}");
