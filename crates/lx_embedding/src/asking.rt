@@ -5,6 +5,7 @@ ghost use Rattle.std.specs.Prelude.{◌<◌, ◌≤◌, ◌+◌};
 use anyhow::Result;
 use lx_editor::{Editor, answer_line};
 use lx_step::Shown;
+use lx_value::Room;
 use std::alloc::Global;
 
 /// The view as HTML, and how many nodes the state has.
@@ -49,7 +50,9 @@ pub(crate) fn line(alloc: Global, editor: &mut Editor) -> Result<String>
     requires { editor.old.commits < 1000 }
     ensures { editor.new.commits ≤ editor.old.commits + 1 }
 {
-    text(alloc, answer_line(alloc, editor, br#"{"show":"history"}"#)?)
+    let mut room = Room::new(alloc)?;
+    let reply = answer_line(alloc, editor, br#"{"show":"history"}"#, &mut room)?;
+    text(alloc, reply)
 }
 
 fn text(alloc: Global, bytes: Vec<u8>) -> Result<String> {
