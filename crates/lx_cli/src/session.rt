@@ -3,12 +3,11 @@ use crate::writing::write_all;
 use lx_editor::{Editor, answer_line};
 use lx_io::{Failed, Sink};
 use lx_node::NoMemory;
-use lx_value::Room;
 use lx_words::Options;
 use std::alloc::Global;
 
 /// The byte that ends a line, and a reply.
-pub(crate) const LINE_END: u8 = b'\n';
+const LINE_END: u8 = b'\n';
 
 /// Why a line was not answered.
 #[derive(Clone, Copy)]
@@ -34,14 +33,12 @@ impl Unanswered {
     }
 }
 
-/// What is kept between two bytes of the input: the editor, the bytes that no line end has ended yet, and the room that
-/// lines are read in.
+/// What is kept between two bytes of the input: the editor, and the bytes that no line end has ended yet.
 #[derive(Drop)]
 pub(crate) struct Session {
     alloc: Global,
     editor: Editor,
     pending: Vec<u8>,
-    room: Room,
 }
 
 impl Session {
@@ -55,16 +52,11 @@ impl Session {
     pub(crate) fn new(alloc: Global, options: Options) -> Result<Session, NoMemory>
         ensures { IfOk result (IsNew options) }
     {
-        let room = match Room::new(alloc) {
-            Ok(room) => room,
-            Err(_) => return Err(NoMemory),
-        };
         match Editor::new(alloc, options.view, options.delay as u64) {
             Ok(editor) => Ok(Session {
                 alloc,
                 editor,
                 pending: Vec::new(alloc),
-                room,
             }),
             Err(no_memory) => Err(no_memory),
         }
@@ -78,8 +70,7 @@ impl Session {
             (sink_seen K.taken K.faults K.writes sink.new) }
         ensures emptied { OnOk result (self.new.pending.items ≡ []) }
     {
-        let answer = answer_line(self.alloc, &mut self.editor, &self.pending, &mut self.room);
-        let mut reply = match answer {
+        let mut reply = match answer_line(self.alloc, &mut self.editor, &self.pending) {
             Ok(reply) => reply,
             Err(NoMemory) => return Err(Unanswered::Memory),
         };

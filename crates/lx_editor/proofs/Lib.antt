@@ -11,4 +11,3 @@ pub mod Turned
 pub mod Renumbered
 pub mod Selected
 pub mod Began
-pub mod Waiting

@@ -1,5 +1,4 @@
 pub mod Editor
-pub mod Gathering
 pub mod Updated
 pub mod Turned
 pub mod Dispatched

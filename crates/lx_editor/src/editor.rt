@@ -1,7 +1,6 @@
 ghost use Rattle.lx_node.specs.Limits.{last_u32};
 
 use crate::outcome::{Outcome, Verdict};
-use crate::pending::{Pending, forget};
 use crate::reconciling::follow;
 use crate::recording::Recording;
 use crate::registering::built_in_rules;
@@ -17,15 +16,13 @@ use lx_step::{Shown, Step, Tags};
 use std::alloc::Global;
 use std::marker::Model;
 
-/// An editor: the state that is committed, the next key, what is pending, the number of commits, the view, which always
-/// shows the state's tree, the operations of the last commit, the history, the moment of the last line, the rules and
-/// listeners that are registered, and whether its replies to commits tell the view.
+/// An editor: the state that is committed, the next key, the number of commits, the view, which always shows
+/// the state's tree, the operations of the last commit, the history, the moment of the last line, the rules and listeners
+/// that are registered, and whether its replies to commits tell the view.
 #[derive(Drop)]
 pub struct Editor {
     pub(crate) state: State,
     pub(crate) next_key: u32,
-    /// Updates that wait for a line which commits them, if there are any.
-    pub(crate) pending: Option<Pending>,
     pub(crate) commits: u32,
     pub(crate) view: HostTree,
     pub(crate) last: Option<Batch>,
@@ -61,8 +58,7 @@ impl Editor {
     ghost use Rattle.lx_plain.specs.Allowed.{Shows};
     ghost use Rattle.lx_editor.specs.Editor.{new_editor};
     ghost use Rattle.lx_editor.specs.Standing.{IsState};
-    ghost use Rattle.lx_editor.specs.Gathering.{recording, with_nothing_pending};
-    ghost use Rattle.lx_editor.specs.Updated.{IsUpdated, IsCommitted, left_of};
+    ghost use Rattle.lx_editor.specs.Updated.{IsUpdated, IsCommitted, left_of, recording};
     ghost use Rattle.lx_editor.specs.Judged.{MayCommit, MayConclude, IsConcluded};
 
     /// A new editor: the root alone, nothing selected, no commit, no rule but the two that are built in, no listener,
@@ -82,8 +78,6 @@ impl Editor {
             rules: built_in_rules(alloc)?,
             bus: Bus::new(alloc)?,
             tells_view,
-            // It comes last, so that no call that fails has one to drop.
-            pending: None,
         })
     }
 
@@ -106,14 +100,6 @@ impl Editor {
         &self.view
     }
 
-    /// The number of the last commit, and 0 before the first. Each call that can commit needs it to be below
-    /// 4,294,967,295.
-    pub fn commits(&self) -> u32
-        ensures { result ≡ self.now.commits }
-    {
-        self.commits
-    }
-
     /// The operations of the last commit, and by how many reads they were found. There are none exactly where
     /// nothing was committed yet.
     pub fn last_batch(&self) -> Option<&Batch>
@@ -128,8 +114,7 @@ impl Editor {
     /// outcome tells the step that was refused, or none where what was queued was refused, where the rules didn't come
     /// to rest, or where what is left is beyond a limit or has lost its selection. Steps that mark nothing and leave the
     /// selection equal commit nothing. A commit is recorded in the history as the tags and the moment say, which is in
-    /// milliseconds. Updates that wait are taken in: the steps run behind theirs, and what all of them leave is committed,
-    /// or dropped. After want of memory nothing is pending, and the editor is as it was in all else.
+    /// milliseconds. After want of memory the editor is as it was.
     #[tactic(auto, unfolding(crate::specs::Updated::IsUpdated))]
     pub fn update(
         &mut self,
@@ -142,12 +127,10 @@ impl Editor {
         requires room { self.old.commits < last_u32 }
         ensures updated { IfOk result (λ outcome. IsUpdated self.old steps.now (recording tags moment) outcome self.new) }
         ensures commits { self.new.commits ≤ self.old.commits + 1 }
-        ensures unchanged { OnErr result (self.new ≡ with_nothing_pending self.old) }
+        ensures unchanged { OnErr result (self.new ≡ self.old) }
     {
-        let how = self.recording(Recording { tags, moment });
-        let draft = self.take_draft(alloc)?;
-        let verdict = self.judge(alloc, draft, steps)?;
-        self.conclude(alloc, verdict, how)
+        let verdict = self.judge(alloc, steps)?;
+        self.conclude(alloc, verdict, Recording { tags, moment })
     }
 
     /// Commits what is to be committed, and answers the outcome.
@@ -212,7 +195,6 @@ impl Editor {
             .note(&self.state, entry, &frozen.marks, how.tags, how.moment);
         self.state = frozen.state;
         self.next_key = frozen.next_key;
-        forget(&mut self.pending);
         self.commits += 1;
         self.last = Some(batch);
         Ok(())

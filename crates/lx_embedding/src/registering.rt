@@ -1,6 +1,7 @@
 //! Calls that register rules and listeners.
 
-use crate::editing::room;
+ghost use Rattle.std.specs.Prelude.{◌<◌, ◌≤◌, ◌≡◌, ◌+◌};
+
 use anyhow::Result;
 use lx_editor::Editor;
 use lx_node::{Fields, Kind, NoMemory, Txt};
@@ -23,15 +24,20 @@ fn paragraph_behind_headings(alloc: Global) -> Result<Rule, NoMemory> {
 }
 
 /// Registers a rule.
-pub(crate) fn rule(alloc: Global, editor: &mut Editor) -> Result<String> {
-    room(editor)?;
+pub(crate) fn rule(alloc: Global, editor: &mut Editor) -> Result<String>
+    requires { editor.old.commits < 1000 }
+    ensures { editor.new.commits ≤ editor.old.commits + 1 }
+{
     let rule = paragraph_behind_headings(alloc)?;
     let outcome = editor.register_rule(alloc, rule, 6000)?;
     Ok(format!(in alloc; "{outcome:?}")?)
 }
 
 /// Registers a listener that signs.
-pub(crate) fn listener(alloc: Global, editor: &mut Editor) -> Result<String> {
+pub(crate) fn listener(alloc: Global, editor: &mut Editor) -> Result<String>
+    requires { editor.old.commits < 1000 }
+    ensures { editor.new.commits ≡ editor.old.commits }
+{
     let listener = Listener {
         priority: 2,
         on: Txt::new(alloc, "sign")?,
