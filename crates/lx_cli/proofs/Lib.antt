@@ -4,3 +4,5 @@ pub mod Answering
 pub mod Taking
 pub mod Pieces
 pub mod Runs
+pub mod Generating
+pub mod SureRuns

@@ -31,7 +31,7 @@ worded words read written q r s t = record {
   sink_after = t;
 }
 
-HasRisen-not : (old new : ℕ) → HasRisen old new → new ≡ old → old < last_count → ⊥
+pub HasRisen-not : (old new : ℕ) → HasRisen old new → new ≡ old → old < last_count → ⊥
 HasRisen-not old new risen same below = elim risen [ inl p ↦ omega arith | inr p ↦ omega arith ]
 
 -- a run that did nothing

@@ -2,6 +2,7 @@
 use Rattle.std.specs.Prelude.{◌≡◌, ℕ, ◌+◌, ◌<◌, ◌≤◌, ◌==◌, if◌then◌else◌, List, [], ◌∷◌, ◌++◌, length, take, Result, Ok, Err}
 use Rattle.lx_io.specs.Devices.{Consumes, Appends, IsAtEnd, HasRisen, IsCounted}
 use Rattle.lx_io.specs.declared.fault.Failed.{Failed}
+use Rattle.lx_words.specs.declared.options.Mode.TheVariants.{Plain}
 use Rattle.lx_words.specs.declared.options.Options.{Options}
 use Rattle.lx_editor.specs.Editor.{Editor, new_editor}
 use Rattle.lx_editor.specs.Follows.{FollowsTo}
@@ -76,9 +77,9 @@ ended_by byte waiting = if byte == 10 then waiting ∷ [] else []
 abbrev pub waiting_after : ℕ → List ℕ → List ℕ
 waiting_after byte waiting = if byte == 10 then [] else waiting ++ byte ∷ []
 
--- what was asked for of an editor as it was made
+-- what was asked for of an editor as it was made, which answers lines
 abbrev pub options_of : Editor → Options
-options_of editor = record { view = editor.tells_view; delay = editor.history.delay }
+options_of editor = record { mode = Plain; view = editor.tells_view; delay = editor.history.delay }
 
 -- a session of a run that begins, with these options
 pub record IsNew (options : Options) (session : Session) : Type 0 where

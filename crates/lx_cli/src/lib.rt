@@ -6,7 +6,9 @@ mod program;
 mod reading;
 mod session;
 mod status;
+mod sure;
 mod writing;
 
 pub use program::run;
 pub use status::Status;
+pub use sure::run_surely;

@@ -1,25 +1,31 @@
-ghost use Rattle.std.specs.Prelude.{◌≡◌, ◌<◌, true, ℕ, List, length, map, string_bytes};
-ghost use Rattle.lx_words.specs.Words.{are_taken, asked_for};
-ghost use Rattle.lx_cli.specs.Run.{source_seen, sink_seen, IsRun};
+ghost use Rattle.std.specs.Prelude.{◌≡◌, ◌<◌, ◌≤◌, true, ℕ, List, [], length, map, string_bytes};
+ghost use Rattle.lx_words.specs.Words.{are_taken, asked_for, delay_in};
+ghost use Rattle.lx_cli.specs.Run.{SourceSeen, source_seen, sink_seen, IsRun};
+ghost use Rattle.lx_cli.specs.Generating.{IsGeneratedRun, RunsAsAsked};
 ghost use Rattle.lx_cli.specs.Steps.{IsNew, options_of};
 
 use crate::reading::{Stop, new_buffer, read_lines};
-use crate::session::Session;
+use crate::session::{LINE_END, Session};
 use crate::status::Status;
-use lx_io::{Sink, Source};
-use lx_words::{Options, Refused, options_of};
+use crate::writing::write_all;
+use lx_generator::tell_session;
+use lx_io::{Failed, Sink, Source};
+use lx_node::NoMemory;
+use lx_words::{Generated, Mode, Options, Refused, options_of};
 use std::alloc::Global;
 
 /// Runs the program: answers each line of the source into the sink. The words are those of the command line behind the
 /// program's name: `--view`, under which replies to commits tell the view, and `--delay` with a number of milliseconds
-/// from 0 to 86,400,000, in which typing goes on in one entry of the history. Other words are refused, and nothing is read or written.
+/// from 0 to 86,400,000, in which typing goes on in one entry of the history. With `--generate`, a number of lines from 1 to
+/// 20,000, and `--seed`, a number up to 4,294,967,295, nothing is read: a session is generated and run, and its summary is
+/// written. Other words are refused, and nothing is read or written.
 pub fn run<S: Source, K: Sink>(
     alloc: Global,
     words: &[String],
     source: &mut S,
     sink: &mut K,
 ) -> Status
-    ensures { (read written : List ℕ) × IsRun result (record {
+    ensures { (read written : List ℕ) × RunsAsAsked result (record {
       words = map string_bytes words.now;
       read = read;
       written = written;
@@ -30,9 +36,39 @@ pub fn run<S: Source, K: Sink>(
     }) }
 {
     match options_of(alloc, words) {
-        Ok(options) => serve(alloc, options, source, sink),
+        Ok(options) => match options.mode {
+            Mode::Plain => serve(alloc, options, source, sink),
+            Mode::Generate(session) => generate(alloc, session, options.delay, sink),
+        },
         Err(Refused::Usage) => Status::Usage,
         Err(Refused::Memory) => Status::Memory,
+    }
+}
+
+/// Runs a session that is generated, and writes its summary and a line end.
+fn generate<K: Sink>(alloc: Global, session: Generated, delay: u32, sink: &mut K) -> Status
+    requires some { 1 ≤ session.lines }
+    ensures { (words : List (List ℕ)) (source : SourceSeen) → delay ≡ delay_in words → (written : List ℕ) × IsGeneratedRun result session (record {
+      words = words;
+      read = [];
+      written = written;
+      source_before = source;
+      source_after = source;
+      sink_before = sink_seen K.taken K.faults K.writes sink.old;
+      sink_after = sink_seen K.taken K.faults K.writes sink.new;
+    }) }
+{
+    let mut summary = match tell_session(alloc, session, delay as u64) {
+        Ok(summary) => summary,
+        Err(NoMemory) => return Status::Memory,
+    };
+    match summary.push(LINE_END) {
+        Ok(()) => {}
+        Err(_) => return Status::Memory,
+    }
+    match write_all(sink, &summary) {
+        Ok(()) => Status::Done,
+        Err(Failed) => Status::WriteFault,
     }
 }
 
@@ -43,6 +79,7 @@ fn serve<S: Source, K: Sink>(
     source: &mut S,
     sink: &mut K,
 ) -> Status
+    requires { options.mode ≡ Mode.Plain }
     ensures { (words : List (List ℕ)) → are_taken words ≡ true → options ≡ asked_for words → (read written : List ℕ) × IsRun result (record {
       words = words;
       read = read;

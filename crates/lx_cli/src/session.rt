@@ -3,11 +3,12 @@ use crate::writing::write_all;
 use lx_editor::{Editor, answer_line};
 use lx_io::{Failed, Sink};
 use lx_node::NoMemory;
+use lx_value::Room;
 use lx_words::Options;
 use std::alloc::Global;
 
 /// The byte that ends a line, and a reply.
-const LINE_END: u8 = b'\n';
+pub(crate) const LINE_END: u8 = b'\n';
 
 /// Why a line was not answered.
 #[derive(Clone, Copy)]
@@ -33,12 +34,14 @@ impl Unanswered {
     }
 }
 
-/// What is kept between two bytes of the input: the editor, and the bytes that no line end has ended yet.
+/// What is kept between two bytes of the input: the editor, the bytes that no line end has ended yet, and the room that
+/// lines are read in.
 #[derive(Drop)]
 pub(crate) struct Session {
     alloc: Global,
     editor: Editor,
     pending: Vec<u8>,
+    room: Room,
 }
 
 impl Session {
@@ -52,11 +55,16 @@ impl Session {
     pub(crate) fn new(alloc: Global, options: Options) -> Result<Session, NoMemory>
         ensures { IfOk result (IsNew options) }
     {
+        let room = match Room::new(alloc) {
+            Ok(room) => room,
+            Err(_) => return Err(NoMemory),
+        };
         match Editor::new(alloc, options.view, options.delay as u64) {
             Ok(editor) => Ok(Session {
                 alloc,
                 editor,
                 pending: Vec::new(alloc),
+                room,
             }),
             Err(no_memory) => Err(no_memory),
         }
@@ -70,7 +78,8 @@ impl Session {
             (sink_seen K.taken K.faults K.writes sink.new) }
         ensures emptied { OnOk result (self.new.pending.items ≡ []) }
     {
-        let mut reply = match answer_line(self.alloc, &mut self.editor, &self.pending) {
+        let answer = answer_line(self.alloc, &mut self.editor, &self.pending, &mut self.room);
+        let mut reply = match answer {
             Ok(reply) => reply,
             Err(NoMemory) => return Err(Unanswered::Memory),
         };

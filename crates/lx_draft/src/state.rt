@@ -26,6 +26,11 @@ pub struct Frozen {
 }
 
 impl State {
+    ghost use Rattle.std.specs.Prelude.{min};
+    ghost use Rattle.lx_node.specs.Limits.{last_u32};
+    ghost use Rattle.lx_forest.specs.Weights.{weight};
+    ghost use Rattle.lx_links.specs.Characters.{characters_in};
+
     /// The state of a new editor: the root alone, and nothing selected. An update may start from it with
     /// the key 1.
     pub fn new(alloc: Global) -> Result<State, NoMemory>
@@ -38,6 +43,14 @@ impl State {
             links,
             selection: Selection::Nothing,
         })
+    }
+
+    /// How many scalar values are in the strings of all nodes, up to 4,294,967,295.
+    #[tactic(auto, unfolding(lx_node::specs::Strings::capped))]
+    pub fn characters(&self) -> u32
+        ensures { result ≡ min (weight characters_in self.now.links) last_u32 }
+    {
+        self.links.characters().min(u32::MAX as u64) as u32
     }
 
     /// An equal state. What is done to either of the two afterwards leaves the other as it was.

@@ -1,8 +1,9 @@
 -- What steps or a rule come to is what they make of the editor.
-use Rattle.std.proofs.Common.{◌≡◌, ◌≢◌, ◌∙◌, ℕ, ◌+◌, ◌≤◌, Bool, true, false, if◌then◌else◌, List, Option, Some, Result, Ok, Err, refl, sym, ap, subst, arith}
+use Rattle.std.proofs.Common.{◌≡◌, ◌≢◌, ◌∙◌, ℕ, ◌+◌, ◌≤◌, Bool, true, false, if◌then◌else◌, List, Option, None, Some, Result, Ok, Err, refl, sym, ap, subst, arith}
 use Rattle.lx_node.specs.declared.cause.Cause.{Cause}
 use Rattle.lx_host.specs.declared.op.Op.{Op}
 use Rattle.lx_step.specs.declared.built_in.Turn.{Turn}
+use Rattle.lx_step.specs.declared.command.Command.{Command}
 use Rattle.lx_step.specs.declared.rule.Rule.{Rule}
 use Rattle.lx_rules.specs.declared.any_rule.AnyRule.{AnyRule}
 use Rattle.lx_run.specs.Lines.{Ended, answer_drafted}
@@ -15,12 +16,14 @@ use Rattle.lx_editor.specs.declared.outcome.Outcome.{Outcome}
 use Rattle.lx_editor.specs.declared.outcome.Outcome.TheVariants as made
 use Rattle.lx_editor.specs.declared.outcome.Verdict.{Verdict}
 use Rattle.lx_editor.specs.declared.outcome.Verdict.TheVariants.{Commit, Turned, Refused, Idle}
+use Rattle.lx_draft.specs.Working.{Working}
 use Rattle.lx_draft.specs.declared.state.State.{State}
 use Rattle.lx_history.specs.History.{entry_of}
 use Rattle.lx_editor.specs.declared.recording.Recording.{Recording}
 use Rattle.lx_editor.proofs.Kept.{state_or}
-use Rattle.lx_editor.specs.Dispatched.{unless_refused, IsMadeOfAnswer}
+use Rattle.lx_editor.specs.Dispatched.{answer_by, answer_to, unless_gathering, unless_refused, IsMadeOfAnswer}
 use Rattle.lx_editor.specs.Editor.{Editor}
+use Rattle.lx_editor.specs.Gathering.{begun, is_gathering, recording_all, with_nothing_pending}
 use Rattle.lx_editor.specs.Follows.{html_told, view_told, reply_of}
 use Rattle.lx_editor.specs.Turned.{IsTurned, IsTurnedBy}
 use Rattle.lx_editor.specs.Updated.{Left, Settled, rested_by, IsNothingNew, IsCommitted, IsTaken, IsMadeOf}
@@ -54,11 +57,11 @@ refusal_judged e left editor cause step is told =
     subst (λ r. IsJudged r editor (Refused cause step)) (sym refused) refl
 
 -- a dispatch that is refused is judged so, and wasn't handled
-pub answer_refused : (run : Result Ended (Cause × Option ℕ)) (e : Refusal) (editor : Editor) (verdict : Verdict) → TellsRefusal e run → IsForCause e
-    → ((left : Result Settled (Cause × Option ℕ)) (d : Editor) → TellsRefusal e left → IsJudged left d verdict) → IsAnswerJudged (answer_drafted run) editor verdict false
-answer_refused run (refusal.Cause cause step) editor verdict told for_cause judged =
-    subst (λ r. IsAnswerJudged (answer_drafted r) editor verdict false) (sym told) (judged (Err (cause, step)) editor refl, refl)
-answer_refused run refusal.Memory editor verdict told for_cause judged = absurd for_cause
+pub answer_refused : (gathering : Bool) (run : Result Ended (Cause × Option ℕ)) (e : Refusal) (editor : Editor) (verdict : Verdict) → TellsRefusal e run → IsForCause e
+    → ((left : Result Settled (Cause × Option ℕ)) (d : Editor) → TellsRefusal e left → IsJudged left d verdict) → IsAnswerJudged (unless_gathering gathering (answer_drafted run)) editor verdict false
+answer_refused gathering run (refusal.Cause cause step) editor verdict told for_cause judged =
+    subst (λ r. IsAnswerJudged (unless_gathering gathering (answer_drafted r)) editor verdict false) (sym told) (judged (Err (cause, step)) editor refl, refl)
+answer_refused gathering run refusal.Memory editor verdict told for_cause judged = absurd for_cause
 
 -- ---- an update
 
@@ -71,6 +74,7 @@ module _ (how : Recording) where
   taken left e (Commit frozen batch) (made.Committed number ops) new weighed done = subst (λ l. IsCommitted e how l number ops new) weighed.0 done
   taken left e (Commit frozen batch) (made.Refused cause step) new weighed done = absurd done
   taken left e (Commit frozen batch) made.Idle new weighed done = absurd done
+  taken left e (Commit frozen batch) (made.Gathered count) new weighed done = absurd done
   taken left e (Turned turn state batch) outcome new weighed done = absurd weighed
   taken left e (Refused cause step) outcome new weighed (is, same) =
       subst (λ o. IsTaken e how left o new) (sym is) (record { anew = weighed.anew; fault = weighed.fault; no_step = weighed.no_step; same = same })
@@ -89,6 +93,7 @@ module _ (how : Recording) where
   turn_concluded turn e (Turned way state batch) (made.Committed number ops) new judged done = subst (λ t. IsTurned t how.moment e number ops new) judged.0 done
   turn_concluded turn e (Turned way state batch) (made.Refused cause step) new judged done = absurd done
   turn_concluded turn e (Turned way state batch) made.Idle new judged done = absurd done
+  turn_concluded turn e (Turned way state batch) (made.Gathered count) new judged done = absurd done
   turn_concluded turn e (Refused cause step) outcome new judged (is, same) =
       subst (λ o. IsTurnedBy turn how.moment e o new) (sym is) (record { entry = judged.entry; next = judged.next; fault = judged.fault; no_step = judged.no_step; same = same })
   turn_concluded turn e Idle outcome new judged (is, same) = subst (λ o. IsTurnedBy turn how.moment e o new) (sym is) (judged, same)
@@ -145,6 +150,7 @@ module _ (how : Recording) (old : Editor) (rule : Rule) where
   rule_taken left (Commit frozen batch) (made.Committed number ops) new weighed done = committed_before left number ops new (subst (λ l. IsCommitted mid how l number ops new) weighed.0 done)
   rule_taken left (Commit frozen batch) (made.Refused cause step) new weighed done = absurd done
   rule_taken left (Commit frozen batch) made.Idle new weighed done = absurd done
+  rule_taken left (Commit frozen batch) (made.Gathered count) new weighed done = absurd done
   rule_taken left (Turned turn state batch) outcome new weighed done = absurd weighed
   rule_taken left (Refused cause step) outcome new weighed (is, same) =
       subst (λ o. IsTaken old how left o new) (sym is) (record { anew = λ n. weighed.anew (as_mid left n); fault = weighed.fault; no_step = weighed.no_step; same = same })
@@ -177,6 +183,33 @@ module _ (how : Recording) (old : Editor) (rule : Rule) where
   kept_mid true e was is = absurd (cc)
   kept_mid false e was is = is
 
+-- ---- what a line takes in
+
+-- What is concluded of a draft that was pending, or of one of what is committed, is what the line makes of the editor.
+pub taken_in : (r : Editor → Working → Result Settled (Cause × Option ℕ)) (old mid : Editor) (draft : Working) (how all : Recording) (verdict : Verdict) (outcome : Outcome) (new : Editor)
+    → mid ≡ with_nothing_pending old → draft ≡ begun old → all ≡ recording_all old how → IsJudged (r mid draft) mid verdict → IsConcluded mid all verdict outcome new
+    → IsMadeOf (r (with_nothing_pending old) (begun old)) (with_nothing_pending old) (recording_all old how) outcome new
+taken_in r old mid draft how all verdict outcome new taken is recorded judged done =
+    let now : Editor = with_nothing_pending old in
+    subst (λ (h : Recording). IsMadeOf (r now (begun old)) now h outcome new) recorded
+    (concluded all (r now (begun old)) now verdict outcome new
+    (subst (λ (e : Editor). IsJudged (r e (begun old)) e verdict) taken (subst (λ (w : Working). IsJudged (r mid w) mid verdict) is judged))
+    (subst (λ (e : Editor). IsConcluded e all verdict outcome new) taken done))
+
+-- so it is of a dispatch
+pub answer_taken_in : (command : Command) (old mid : Editor) (draft : Working) (how all : Recording) (gathering : Bool) (verdict : Verdict) (handled : Bool) (outcome : Outcome) (new : Editor)
+    → mid ≡ with_nothing_pending old → draft ≡ begun old → all ≡ recording_all old how → gathering ≡ is_gathering old
+    → IsAnswerJudged (answer_by gathering mid.listeners command draft) mid verdict handled → IsConcluded mid all verdict outcome new
+    → IsMadeOfAnswer (answer_to command old) (with_nothing_pending old) (recording_all old how) outcome (unless_refused outcome handled) new
+answer_taken_in command old mid draft how all gathering verdict handled outcome new taken is recorded same judged done =
+    let now : Editor = with_nothing_pending old in
+    subst (λ (h : Recording). IsMadeOfAnswer (answer_to command old) now h outcome (unless_refused outcome handled) new) recorded
+    (answer_concluded all (answer_to command old) now verdict handled outcome new
+    (subst (λ b. IsAnswerJudged (answer_by b old.listeners command (begun old)) now verdict handled) same
+    (subst (λ (e : Editor). IsAnswerJudged (answer_by gathering e.listeners command (begun old)) e verdict handled) taken
+    (subst (λ (w : Working). IsAnswerJudged (answer_by gathering mid.listeners command w) mid verdict handled) is judged)))
+    (subst (λ (e : Editor). IsConcluded e all verdict outcome new) taken done))
+
 -- ---- a dispatch
 
 -- a reply tells of a refusal nothing of whether the command was handled
@@ -184,6 +217,7 @@ pub handled_told : (outcome : Outcome) (html : Option (List ℕ)) (handled : Boo
 handled_told (made.Committed number ops) html handled = refl
 handled_told (made.Refused cause step) html handled = refl
 handled_told made.Idle html handled = refl
+handled_told (made.Gathered count) html handled = refl
 
 -- ---- replies
 
@@ -204,8 +238,10 @@ pub never_idle : (how : Recording) (e : Editor) (verdict : Verdict) (outcome : O
 never_idle how e (Commit frozen batch) (made.Committed number ops) new anew done is = cc
 never_idle how e (Commit frozen batch) (made.Refused cause step) new anew done is = absurd done
 never_idle how e (Commit frozen batch) made.Idle new anew done is = absurd done
+never_idle how e (Commit frozen batch) (made.Gathered count) new anew done is = absurd done
 never_idle how e (Turned turn state batch) (made.Committed number ops) new anew done is = cc
 never_idle how e (Turned turn state batch) (made.Refused cause step) new anew done is = absurd done
 never_idle how e (Turned turn state batch) made.Idle new anew done is = absurd done
+never_idle how e (Turned turn state batch) (made.Gathered count) new anew done is = absurd done
 never_idle how e (Refused cause step) outcome new anew (same, rest) is = let e : made.Refused cause step ≡ made.Idle = sym same ∙ is in cc
 never_idle how e Idle outcome new anew done is = absurd (cc)

@@ -11,3 +11,4 @@ pub mod Turned
 pub mod Renumbered
 pub mod Selected
 pub mod Began
+pub mod Waiting

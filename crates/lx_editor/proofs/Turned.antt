@@ -131,6 +131,7 @@ module _ (e : Editor) (turn : Turn) (moment : ℕ) (state : State) (batch : Told
     tree = state.links;
     selection = state.selection;
     next_key = e.next_key;
+    pending = None;
     commits = e.commits + 1;
     view = view;
     last = Some batch;
@@ -152,6 +153,7 @@ module _ (e : Editor) (turn : Turn) (moment : ℕ) (state : State) (batch : Told
       now = kept.1;
       entries = turned_each (λ s. IsEntry e.next_key s × HasKinds valid.kept.kinds s.links) turn moment e.history history valid.kept.entries turns;
     };
+    pending = tt;
   }
 
   pub is_turned : IsTurned turn moment e (e.commits + 1) batch.ops made

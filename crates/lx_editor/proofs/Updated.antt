@@ -27,7 +27,7 @@ use Rattle.lx_draft.specs.Covering.{Covers, IsReady}
 use Rattle.lx_draft.specs.Faults.{after}
 use Rattle.lx_draft.specs.Selecting.{selection_lost}
 use Rattle.lx_draft.specs.Freezing.{swept, freeze_step, freeze_fault, limits_fault, kept_selection, Freezes}
-use Rattle.lx_draft.proofs.Covered.{answered, covered-self}
+use Rattle.lx_draft.proofs.Covered.{answered, covered-self, covered-then}
 use Rattle.lx_plain.specs.Render.{render}
 use Rattle.lx_plain.specs.Allowed.{Shows, AreCovered, AreAllowed}
 use Rattle.lx_reconcile.specs.Allowing.{marking, IsAllowed}
@@ -55,8 +55,9 @@ use Rattle.lx_list.proofs.Covered.{covered-lists}
 use Rattle.lx_list.proofs.Swept.{numbered_swept}
 use Rattle.lx_settle.proofs.Rest.{there as attached_there}
 use Rattle.lx_editor.specs.Editor.{Editor}
+use Rattle.lx_editor.specs.Gathering.{started_of}
 use Rattle.lx_editor.specs.Standing.{IsState, HasKinds, IsEntry, EachEntry, IsValid}
-use Rattle.lx_editor.specs.Updated.{at_commit, answers_of, numbered_by, rested_by, IsAtRest, Settled, begun, left_by, Left, state_with, recorded, IsNothingNew, hosts_fault, most_reads, IsCommitted}
+use Rattle.lx_editor.specs.Updated.{at_commit, answers_of, numbered_by, rested_by, IsAtRest, Settled, left_by, Left, state_with, recorded, IsNothingNew, hosts_fault, most_reads, IsCommitted}
 use Rattle.lx_editor.specs.declared.recording.Recording.{Recording}
 use Rattle.lx_editor.specs.Registered.{marked_for, left_with, left_for}
 use Rattle.serde_json.specs.Data.{Data}
@@ -95,12 +96,17 @@ pub fresh_start : (f : Forest) (selection : Selection) (next_key : ℕ) → IsSt
 fresh_start f selection next_key state = record { state = state; marks = refl; fresh = refl }
 
 -- a draft of what is committed is such
-pub fresh_begun : (e : Editor) → IsValid e → IsFresh (begun e)
-fresh_begun e valid = fresh_start e.tree e.selection e.next_key valid.state
+pub fresh_started : (e : Editor) → IsValid e → IsFresh (started_of e)
+fresh_started e valid = fresh_start e.tree e.selection e.next_key valid.state
 
--- so whatever was made of it is covered
-pub start_covered : (begin start end : Working) → start ≡ begin → IsFresh begin → (IsReady start → drafts.AreCovered start end) → drafts.AreCovered begin end
-start_covered begin start end is fresh covers = subst (λ w. drafts.AreCovered w end) is (covers (subst IsReady (sym is) (ready_start begin fresh)))
+-- and is covered as it begins
+pub started_covered : (e : Editor) (w : Working) → IsValid e → w ≡ started_of e → drafts.AreCovered (started_of e) w
+started_covered e w valid is =
+    subst (drafts.AreCovered (started_of e)) (sym is) (covered-self (started_of e) (ready_start (started_of e) (fresh_started e valid)))
+
+-- so is whatever is made of a draft that is covered
+pub still_covered : (start w end : Working) → drafts.AreCovered start w → (IsReady w → drafts.AreCovered w end) → drafts.AreCovered start end
+still_covered start w end begun goes = covered-then start w end begun (goes begun.ready)
 
 -- what is frozen is within the limits, and has what is selected
 nothing_against : (w : Working) (f : Forest) (selection : Selection) (marks : Marked) (next_key : ℕ) → Freezes w f selection marks next_key → (selection_lost selection f ≡ None) × (limits_fault f next_key ≡ None)
@@ -287,6 +293,7 @@ module _ (e : Editor) (how : Recording) (left : Left) (view : HostTree) (history
     tree = left.tree;
     selection = left.selection;
     next_key = left.next_key;
+    pending = None;
     commits = e.commits + 1;
     view = view;
     last = Some (record { ops = ops; reads = reads });
@@ -310,6 +317,7 @@ module _ (e : Editor) (how : Recording) (left : Left) (view : HostTree) (history
           subst (EachEntry (λ s. IsEntry left.next_key s × HasKinds (kinds e left valid.state valid.kept state grown) s.links)) (sym is_recorded)
           (entries_kept e left valid.state valid.kept state grown how);
     };
+    pending = tt;
   }
 
   pub committed : (reads : ℕ) → IsJoined left.tree → IsNumbered left.tree → (IsNothingNew e left → ⊥) → hosts_fault e.tree left.tree e.view ≡ None → reads ≤ most_reads e.tree left.tree (is_noted left.marks) → IsCommitted e how left (e.commits + 1) ops (made reads)
@@ -386,7 +394,7 @@ root_kinds : HasKinds (λ q. Root) root_alone
 root_kinds q there = grind (arith, there, eqb_tells 0 q, eqb_tells q 0)
 
 pub new_valid : (f : Forest) (selection : Selection) (view : HostTree) (history : History) (delay : ℕ) (rules : List AnyRule) (listeners : List Listener) (tells_view : Bool) → f ≡ root_alone → selection ≡ Nothing → view ≡ new_tree → history ≡ new_history delay → MayStart f 1
-    → IsValid (record { tree = f; selection = selection; next_key = 1; commits = 0; view = view; last = None; history = history; moment = 0; rules = rules; listeners = listeners; tells_view = tells_view })
+    → IsValid (record { tree = f; selection = selection; next_key = 1; pending = None; commits = 0; view = view; last = None; history = history; moment = 0; rules = rules; listeners = listeners; tells_view = tells_view })
 unfolding is_text_block capped characters_of characters_of_element characters_of_extra
 new_valid f selection view history delay rules listeners tells_view alone none shown nothing start = record {
   state = record {
@@ -407,4 +415,5 @@ new_valid f selection view history delay rules listeners tells_view alone none s
     now = subst (HasKinds (λ q. Root)) (sym alone) root_kinds;
     entries = subst (EachEntry (λ s. IsEntry 1 s × HasKinds (λ q. Root) s.links)) (sym nothing) (record { undo = All-nil (λ s. IsEntry 1 s × HasKinds (λ q. Root) s.links); redo = All-nil (λ s. IsEntry 1 s × HasKinds (λ q. Root) s.links); current = tt });
   };
+  pending = tt;
 }

@@ -1,10 +1,11 @@
 -- What a dispatch makes of an editor, and what a listener does that is registered.
-use Rattle.std.specs.Prelude.{◌≡◌, ◌<◌, ℕ, ◌+◌, ◌++◌, Bool, true, false, [], ◌∷◌, length, Option, Result, Ok, Err}
+use Rattle.std.specs.Prelude.{◌≡◌, ◌<◌, ℕ, ◌+◌, ◌++◌, Bool, true, false, if◌then◌else◌, List, [], ◌∷◌, length, Option, Some, Result, Ok, Err}
 use Rattle.lx_node.specs.declared.cause.Cause.{Cause}
-use Rattle.lx_node.specs.declared.cause.Cause.TheVariants.{TooManyRules}
+use Rattle.lx_node.specs.declared.cause.Cause.TheVariants.{HistoryInside, TooManyRules}
 use Rattle.lx_step.specs.declared.command.Command.{Command}
 use Rattle.lx_step.specs.declared.listener.Listener.{Listener}
 use Rattle.lx_bus.specs.Offers.{most_listeners}
+use Rattle.lx_draft.specs.Working.{Working}
 use Rattle.lx_run.specs.Lines.{dispatch_run, answer_drafted}
 use Rattle.lx_run.specs.declared.ending.Ending.{Ending}
 use Rattle.lx_run.specs.declared.ending.Ending.TheVariants.{Left, Turned}
@@ -12,15 +13,25 @@ use Rattle.lx_editor.specs.declared.recording.Recording.{Recording}
 use Rattle.lx_editor.specs.declared.outcome.Outcome.{Outcome}
 use Rattle.lx_editor.specs.declared.outcome.Outcome.TheVariants.{Refused}
 use Rattle.lx_editor.specs.Editor.{Editor}
+use Rattle.lx_editor.specs.Gathering.{begun, is_gathering, recording_all, with_nothing_pending}
 use Rattle.lx_editor.specs.Turned.{IsTurnedBy}
-use Rattle.lx_editor.specs.Updated.{rested_by, begun, IsMadeOf}
+use Rattle.lx_editor.specs.Updated.{rested_by, IsMadeOf}
 
 -- ---- dispatches
 
+-- While lines are gathered the history doesn't turn.
+abbrev pub unless_gathering : Bool → Result Ending (Cause × Option ℕ) → Result Ending (Cause × Option ℕ)
+unless_gathering gathering (Err refused) = Err refused
+unless_gathering gathering (Ok (Left w handled)) = Ok (Left w handled)
+unless_gathering gathering (Ok (Turned turn)) = if gathering then Err (HistoryInside, Some 0) else Ok (Turned turn)
+
 -- what a dispatch comes to: a draft that is left and whether it was handled, or the history's turn; or why it is refused and
 -- at which step
+abbrev pub answer_by : Bool → List Listener → Command → Working → Result Ending (Cause × Option ℕ)
+answer_by gathering listeners command w = unless_gathering gathering (answer_drafted (dispatch_run listeners command w))
+
 abbrev pub answer_to : Command → Editor → Result Ending (Cause × Option ℕ)
-answer_to command old = answer_drafted (dispatch_run old.listeners command (begun old))
+answer_to command old = answer_by (is_gathering old) old.listeners command (begun old)
 
 -- a command that is refused wasn't handled
 abbrev pub unless_refused : Outcome → Bool → Bool
@@ -35,9 +46,11 @@ IsMadeOfAnswer (Ok (Left w was_handled)) old how outcome handled new =
     IsMadeOf (rested_by old.rules w) old how outcome new × (handled ≡ unless_refused outcome was_handled)
 IsMadeOfAnswer (Ok (Turned turn)) old how outcome handled new = IsTurnedBy turn how.moment old outcome new × (handled ≡ unless_refused outcome true)
 
--- the outcome that a dispatch may have, whether it is said to be handled, and the editor that it may leave
+-- The outcome that a dispatch may have, whether it is said to be handled, and the editor that it may leave. It takes in what is
+-- pending.
 unfoldable pub IsDispatched : Editor → Command → Recording → Outcome → Bool → Editor → Type 0
-IsDispatched old command how outcome handled new = IsMadeOfAnswer (answer_to command old) old how outcome handled new
+IsDispatched old command how outcome handled new =
+    IsMadeOfAnswer (answer_to command old) (with_nothing_pending old) (recording_all old how) outcome handled new
 
 -- ---- listeners
 

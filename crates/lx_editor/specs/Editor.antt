@@ -9,14 +9,16 @@ use Rattle.lx_rules.specs.AnyRules.{merge_rule, cell_rule}
 use Rattle.lx_reconcile.specs.Told.{Told}
 use Rattle.lx_step.specs.declared.listener.Listener.{Listener}
 use Rattle.lx_history.specs.History.{History, new_history}
+use Rattle.lx_editor.specs.declared.pending.Pending.{Pending}
 
--- the tree and the selection that are committed, the key that the next new node gets, how often the editor has committed,
--- the view, what the last commit told, the history, the moment of the line before, the rules and listeners that are
--- registered, each in the order of registration, and whether replies to commits tell the view
+-- the tree and the selection that are committed, the key that the next new node gets, what is pending, if anything is, how
+-- often the editor has committed, the view, what the last commit told, the history, the moment of the line before, the rules
+-- and listeners that are registered, each in the order of registration, and whether replies to commits tell the view
 pub record Editor : Type 0 where
   pub tree : Forest
   pub selection : Selection
   pub next_key : ℕ
+  pub pending : Option Pending
   pub commits : ℕ
   pub view : HostTree
   pub last : Option Told
@@ -36,6 +38,7 @@ new_editor tells_view delay = record {
   tree = root_alone;
   selection = Nothing;
   next_key = 1;
+  pending = None;
   commits = 0;
   view = new_tree;
   last = None;

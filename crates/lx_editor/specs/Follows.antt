@@ -9,7 +9,7 @@ use Rattle.lx_plain.specs.Render.{render}
 use Rattle.lx_step.specs.declared.command.Command.{Command}
 use Rattle.lx_step.specs.declared.line.Line.{Line}
 use Rattle.lx_step.specs.declared.line.Form.{Form}
-use Rattle.lx_step.specs.declared.line.Form.TheVariants.{Update, Dispatch, Rule, Listener, Load, Show, Clear}
+use Rattle.lx_step.specs.declared.line.Form.TheVariants.{Update, Defer, Flush, Dispatch, Rule, Listener, Load, Show, Clear}
 use Rattle.lx_step.specs.declared.line.Shown.{Shown}
 use Rattle.lx_step.specs.declared.line.Shown.TheVariants.{State, View, Selection, History}
 use Rattle.lx_step.specs.declared.line.Tags.{Tags}
@@ -24,13 +24,14 @@ use Rattle.lx_script.specs.Replies.{reply_text, state_text}
 use Rattle.lx_json.specs.Exporting.{exported}
 use Rattle.lx_editor.specs.declared.recording.Recording.{Recording}
 use Rattle.lx_editor.specs.declared.outcome.Outcome.{Outcome}
-use Rattle.lx_editor.specs.declared.outcome.Outcome.TheVariants.{Committed, Refused, Idle}
+use Rattle.lx_editor.specs.declared.outcome.Outcome.TheVariants.{Committed, Gathered, Refused, Idle}
 use Rattle.lx_editor.specs.Dispatched.{IsDispatched, IsListening}
 use Rattle.lx_editor.specs.Editor.{Editor}
+use Rattle.lx_editor.specs.Gathering.{recording, IsDeferred}
 use Rattle.lx_editor.specs.Loaded.{IsLoaded}
 use Rattle.lx_editor.specs.Registered.{IsRegistered}
 use Rattle.lx_editor.specs.Turned.{with_nothing_recorded}
-use Rattle.lx_editor.specs.Updated.{recording, IsUpdated}
+use Rattle.lx_editor.specs.Updated.{IsUpdated, IsFlushed}
 
 -- the HTML of a tree's rendering, where it is told
 abbrev pub html_told : Bool → Forest → Option (List ℕ)
@@ -45,6 +46,7 @@ abbrev pub reply_of : Option Bool → Option (List ℕ) → Outcome → Reply
 reply_of handled html (Committed commit ops) = reply.Committed commit ops handled html
 reply_of handled html (Refused cause step) = reply.Refused cause step
 reply_of handled html Idle = reply.Idle handled
+reply_of handled html (Gathered count) = reply.Gathered count
 
 -- the reply that tells a listener's number, or why there is none
 abbrev pub number_reply : Result ℕ Cause → Reply
@@ -63,6 +65,16 @@ shown_text History editor = reply_text (reply.History (length editor.history.red
 abbrev pub IsReplyOfUpdate : Editor → List Step → Recording → List ℕ → Editor → Type 0
 IsReplyOfUpdate old steps how bytes new =
     (outcome : Outcome) × IsUpdated old steps how outcome new × (bytes ≡ reply_text (reply_of None (view_told new) outcome))
+
+-- The editor may answer an update by these steps that waits with these bytes, and be the new one after.
+abbrev pub IsReplyOfDefer : Editor → List Step → Tags → List ℕ → Editor → Type 0
+IsReplyOfDefer old steps tags bytes new =
+    (outcome : Outcome) × IsDeferred old steps tags outcome new × (bytes ≡ reply_text (reply_of None (view_told new) outcome))
+
+-- The editor may answer a flush with these bytes, and be the new one after.
+abbrev pub IsReplyOfFlush : Editor → Recording → List ℕ → Editor → Type 0
+IsReplyOfFlush old how bytes new =
+    (outcome : Outcome) × IsFlushed old how outcome new × (bytes ≡ reply_text (reply_of None (view_told new) outcome))
 
 -- The editor may answer a rule with these bytes, and be the new one after.
 abbrev pub IsReplyOfRule : Editor → RuleOf → ℕ → List ℕ → Editor → Type 0
@@ -89,6 +101,8 @@ IsReplyOfListener old listener bytes new =
 -- question changes nothing.
 unfoldable pub RepliesTo : Editor → Tags → Form → List ℕ → Editor → Type 0
 RepliesTo old tags (Update script) bytes new = IsReplyOfUpdate old (steps_of script) (recording tags old.moment) bytes new
+RepliesTo old tags (Defer script) bytes new = IsReplyOfDefer old (steps_of script) tags bytes new
+RepliesTo old tags Flush bytes new = IsReplyOfFlush old (recording tags old.moment) bytes new
 RepliesTo old tags (Dispatch command) bytes new = IsReplyOfDispatch old command (recording tags old.moment) bytes new
 RepliesTo old tags (Rule rule) bytes new = IsReplyOfRule old rule old.moment bytes new
 RepliesTo old tags (Listener listener) bytes new = IsReplyOfListener old listener bytes new
@@ -105,8 +119,8 @@ at_moment (Some moment) e = record e { moment = moment }
 abbrev pub RepliesToLine : Editor → Line → List ℕ → Editor → Type 0
 RepliesToLine old line bytes new = RepliesTo (at_moment line.at old) line.tags line.form bytes new
 
--- The editor may answer what was read with these bytes, and be the new one after. A line that is refused changes nothing but
--- the moment, and one that isn't read not even that.
+-- The editor may answer what was read with these bytes, and be the new one after. A line that is refused changes nothing that is
+-- committed: only the moment, and what is pending where it ran on that. One that isn't read changes nothing at all.
 abbrev pub Replies : Editor → Result Line Cause → List ℕ → Editor → Type 0
 Replies old (Ok line) bytes new = RepliesToLine old line bytes new
 Replies old (Err cause) bytes new = (bytes ≡ reply_text (reply.Refused cause None)) × (new ≡ old)

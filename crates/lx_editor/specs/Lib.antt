@@ -1,4 +1,5 @@
 pub mod Editor
+pub mod Gathering
 pub mod Updated
 pub mod Turned
 pub mod Dispatched

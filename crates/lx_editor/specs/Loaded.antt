@@ -16,6 +16,6 @@ unfoldable pub left_by_load : Editor → Data → Result Settled (Cause × Optio
 left_by_load old document = left_with old.rules (imported document old.next_key)
 
 -- The outcome that a load may have, and the editor that it may leave. A document is always something new, since every node
--- of it is marked.
+-- of it is marked. It doesn't take in what is pending, which is dropped where it commits, and stays where it is refused.
 unfoldable pub IsLoaded : Editor → Data → Recording → Outcome → Editor → Type 0
 IsLoaded old document how outcome new = IsMadeOf (left_by_load old document) old how outcome new × (outcome ≢ Idle)

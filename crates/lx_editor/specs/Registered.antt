@@ -15,7 +15,8 @@ use Rattle.lx_rules.specs.declared.any_rule.AnyRule.{AnyRule}
 use Rattle.lx_rules.specs.declared.any_rule.AnyRule.TheVariants.{Script}
 use Rattle.lx_editor.specs.declared.outcome.Outcome.{Outcome}
 use Rattle.lx_editor.specs.Editor.{built_in, Editor}
-use Rattle.lx_editor.specs.Updated.{Settled, rested_by, begun, recording, IsMadeOf}
+use Rattle.lx_editor.specs.Gathering.{begun, recording, recording_all}
+use Rattle.lx_editor.specs.Updated.{Settled, rested_by, IsMadeOf}
 
 -- the most rules that an editor has: 256 that were registered, and those that are built in
 abbrev pub most_rules : ℕ
@@ -53,6 +54,11 @@ left_by_rule old rule =
 abbrev pub merging : Tags
 merging = record { historic = false; merge = true; push = false }
 
+-- a registering takes in what is pending, but for the 257th
+abbrev pub unless_full : Editor → Editor
+unless_full old = record old { pending = if nat_lt (length old.rules) most_rules then None else old.pending }
+
 -- the outcome that a registering at this moment may have, and the editor that it may leave
 unfoldable pub IsRegistered : Editor → Rule → ℕ → Outcome → Editor → Type 0
-IsRegistered old rule moment outcome new = IsMadeOf (left_by_rule old rule) old (recording merging moment) outcome new
+IsRegistered old rule moment outcome new =
+    IsMadeOf (left_by_rule old rule) (unless_full old) (recording_all old (recording merging moment)) outcome new

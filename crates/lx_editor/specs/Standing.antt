@@ -14,12 +14,14 @@ use Rattle.lx_settle.specs.Joined.{IsJoined}
 use Rattle.lx_list.specs.Numbered.{IsNumbered}
 use Rattle.lx_editor.specs.declared.editor.Editor.TheInside.{Inside}
 use Rattle.lx_editor.specs.Editor.{Editor}
+use Rattle.lx_editor.specs.Gathering.{IsPending, started_of}
 
 abbrev pub editor_of : Inside → Editor
 editor_of a = record {
   tree = a.state.links;
   selection = a.state.selection;
   next_key = a.next_key;
+  pending = a.pending;
   commits = a.commits;
   view = a.view.tree;
   last = a.last;
@@ -67,10 +69,11 @@ pub record IsKept (e : Editor) : Type 0 where
   pub entries : EachEntry (λ s. IsEntry e.next_key s × HasKinds kinds s.links) e.history
 
 -- An editor's state is such, and the view shows its tree and nothing else. There is a last commit exactly where there were
--- any. Of its history each state is kept.
+-- any. Of its history each state is kept. What is pending goes on from what is committed.
 pub record IsValid (e : Editor) : Type 0 where
   pub state : IsState e.tree e.selection e.next_key
   pub shown : Shows e.view e.tree
   pub none : e.commits ≡ 0 → e.last ≡ None
   pub some : e.last ≡ None → e.commits ≡ 0
   pub kept : IsKept e
+  pub pending : IfSome e.pending (IsPending (started_of e))

@@ -1,6 +1,7 @@
 -- What undo and redo make of an editor: the history goes to another of its states, which is committed.
-use Rattle.std.specs.Prelude.{◌≡◌, ◌≤◌, ◌||◌, ℕ, ◌+◌, Bool, List, Option, None, Some}
+use Rattle.std.specs.Prelude.{◌≡◌, ◌≤◌, ◌||◌, ℕ, ◌+◌, Bool, true, false, List, Option, None, Some}
 use Rattle.lx_node.specs.declared.cause.Cause.{Cause}
+use Rattle.lx_node.specs.declared.cause.Cause.TheVariants.{HistoryInside}
 use Rattle.lx_host.specs.declared.op.Op.{Op}
 use Rattle.lx_step.specs.declared.built_in.Turn.{Turn}
 use Rattle.lx_forest.specs.Forest.{Forest}
@@ -11,8 +12,9 @@ use Rattle.lx_history.specs.History.{entry_of, turned, cleared}
 use Rattle.lx_settle.specs.Joined.{IsJoined}
 use Rattle.lx_list.specs.Numbered.{IsNumbered}
 use Rattle.lx_editor.specs.declared.outcome.Outcome.{Outcome}
-use Rattle.lx_editor.specs.declared.outcome.Outcome.TheVariants.{Committed, Refused, Idle}
+use Rattle.lx_editor.specs.declared.outcome.Outcome.TheVariants.{Committed, Gathered, Refused, Idle}
 use Rattle.lx_editor.specs.Editor.{Editor}
+use Rattle.lx_editor.specs.Gathering.{is_gathering, with_nothing_pending}
 use Rattle.lx_editor.specs.Updated.{hosts_fault, most_reads}
 
 -- Every node of either tree counts as marked.
@@ -38,6 +40,7 @@ pub record IsTurned (turn : Turn) (moment : ℕ) (old : Editor) (commit : ℕ) (
     tree = entry.links;
     selection = entry.selection;
     next_key = old.next_key;
+    pending = None;
     commits = old.commits + 1;
     view = new.view;
     last = Some (record { ops = ops; reads = reads });
@@ -62,6 +65,15 @@ abbrev pub IsTurnedBy : Turn → ℕ → Editor → Outcome → Editor → Type 
 IsTurnedBy turn moment old (Committed commit ops) new = IsTurned turn moment old commit ops new
 IsTurnedBy turn moment old (Refused cause step) new = IsUnshowableEntry turn old cause step new
 IsTurnedBy turn moment old Idle new = (entry_of turn old.history ≡ None) × (new ≡ old)
+IsTurnedBy turn moment old (Gathered count) new = ⊥
+
+-- the same where lines may be gathered: then it is refused, and they are dropped
+abbrev pub IsTurnedUnless : Bool → Turn → ℕ → Editor → Outcome → Editor → Type 0
+IsTurnedUnless true turn moment old outcome new = (outcome ≡ Refused HistoryInside None) × (new ≡ old)
+IsTurnedUnless false turn moment old outcome new = IsTurnedBy turn moment old outcome new
+
+unfoldable pub IsTurnedAlone : Turn → ℕ → Editor → Outcome → Editor → Type 0
+IsTurnedAlone turn moment old outcome new = IsTurnedUnless (is_gathering old) turn moment (with_nothing_pending old) outcome new
 
 -- the editor whose history has forgotten its entries
 abbrev pub with_nothing_recorded : Editor → Editor

@@ -10,11 +10,10 @@ use Rattle.lx_host.specs.Hosts.{HostTree}
 use Rattle.lx_marks.specs.Marks.{Marked, unmarked, is_touched, is_noted}
 use Rattle.lx_select.specs.declared.selection.Selection.{Selection}
 use Rattle.lx_step.specs.declared.step.Step.{Step}
-use Rattle.lx_step.specs.declared.line.Tags.{Tags}
 use Rattle.lx_step.specs.declared.listener.Listener.{Listener}
 use Rattle.lx_forest.specs.Forest.{Forest}
 use Rattle.lx_plain.specs.Allowed.{AreAllowed, marked_children, staying, unkept}
-use Rattle.lx_draft.specs.Working.{Working, started}
+use Rattle.lx_draft.specs.Working.{Working}
 use Rattle.lx_draft.specs.Freezing.{freeze_step}
 use Rattle.lx_draft.specs.Faults.{over, after}
 use Rattle.lx_draft.specs.declared.state.Frozen.{Frozen}
@@ -33,8 +32,9 @@ use Rattle.lx_list.specs.Numbered.{IsNumbered}
 use Rattle.lx_list.specs.Numbering.{number_step}
 use Rattle.lx_editor.specs.declared.recording.Recording.{Recording}
 use Rattle.lx_editor.specs.declared.outcome.Outcome.{Outcome}
-use Rattle.lx_editor.specs.declared.outcome.Outcome.TheVariants.{Committed, Refused, Idle}
+use Rattle.lx_editor.specs.declared.outcome.Outcome.TheVariants.{Committed, Gathered, Refused, Idle}
 use Rattle.lx_editor.specs.Editor.{Editor}
+use Rattle.lx_editor.specs.Gathering.{begun, recording_all, with_nothing_pending}
 
 -- ---- what steps leave
 
@@ -86,14 +86,7 @@ IsAtRest settled = IsRested (answers_of settled.left.rules) settled.left.tree se
 unfoldable pub left_by : List AnyRule → List Listener → List Step → Working → Result Settled (Cause × Option ℕ)
 left_by rules listeners steps w = and_then (drafted (steps_run listeners steps w)) (rested_by rules)
 
--- the draft that an update begins with
-abbrev pub begun : Editor → Working
-begun old = started old.tree old.selection old.next_key
-
 -- ---- how a commit is recorded
-
-abbrev pub recording : Tags → ℕ → Recording
-recording tags moment = record { tags = tags; moment = moment }
 
 abbrev pub state_with : Forest → Selection → State
 state_with f selection = record { links = f; selection = selection }
@@ -126,7 +119,8 @@ most_reads old new noted = 8 * (marked_children (staying noted new) old + marked
 
 -- It is something new, the view has ids for it, and it is committed: its texts are joined, its items are numbered, the
 -- operations are allowed between the two trees, and they were found by no more reads than that. The history has it as these
--- tags and this moment say. Of the new editor only the view's ids and the number of reads are left open.
+-- tags and this moment say, and nothing is pending any more. Of the new editor only the view's ids and the number of reads are
+-- left open.
 pub record IsCommitted (old : Editor) (how : Recording) (left : Left) (commit : ℕ) (ops : List Op) (new : Editor) : Type 0 where
   pub anew : IsNothingNew old left → ⊥
   pub ids : hosts_fault old.tree left.tree old.view ≡ None
@@ -140,6 +134,7 @@ pub record IsCommitted (old : Editor) (how : Recording) (left : Left) (commit : 
     tree = left.tree;
     selection = left.selection;
     next_key = left.next_key;
+    pending = None;
     commits = old.commits + 1;
     view = new.view;
     last = Some (record { ops = ops; reads = reads });
@@ -162,11 +157,18 @@ abbrev pub IsTaken : Editor → Recording → Left → Outcome → Editor → Ty
 IsTaken old how left (Committed commit ops) new = IsCommitted old how left commit ops new
 IsTaken old how left (Refused cause step) new = IsUnshowable old left cause step new
 IsTaken old how left Idle new = IsNothingNew old left × (new ≡ record old { rules = left.rules })
+IsTaken old how left (Gathered count) new = ⊥
 
 -- It is refused, and nothing changes; or what is left is at rest, and is taken.
 abbrev pub IsMadeOf : Result Settled (Cause × Option ℕ) → Editor → Recording → Outcome → Editor → Type 0
 IsMadeOf (Err refused) old how outcome new = (outcome ≡ Refused refused.0 refused.1) × (new ≡ old)
 IsMadeOf (Ok settled) old how outcome new = IsAtRest settled × IsTaken old how settled.left outcome new
 
+-- An update takes in what is pending, which is committed with what its steps leave, or dropped with it.
 unfoldable pub IsUpdated : Editor → List Step → Recording → Outcome → Editor → Type 0
-IsUpdated old steps how outcome new = IsMadeOf (left_by old.rules old.listeners steps (begun old)) old how outcome new
+IsUpdated old steps how outcome new =
+    IsMadeOf (left_by old.rules old.listeners steps (begun old)) (with_nothing_pending old) (recording_all old how) outcome new
+
+-- A flush is an update that has no steps.
+unfoldable pub IsFlushed : Editor → Recording → Outcome → Editor → Type 0
+IsFlushed old how outcome new = IsMadeOf (rested_by old.rules (begun old)) (with_nothing_pending old) (recording_all old how) outcome new

@@ -1,22 +1,30 @@
 ghost use Rattle.lx_node.specs.Limits.{last_u32};
 ghost use Rattle.std.specs.Prelude.{◌≡◌, ◌+◌, ◌<◌, ◌≤◌, IfOk, OnErr};
 ghost use Rattle.lx_editor.specs.Follows.{Answers};
+ghost use Rattle.lx_editor.specs.Gathering.{IsLeftWithout};
 
 use crate::editor::Editor;
 use lx_node::{Fault, NoMemory};
 use lx_script::{Reply, read_line, write_reply};
+use lx_value::Room;
 use std::alloc::Global;
 
 /// Answers a line of bytes, without its end, with the bytes of a reply. A line that is refused changes
-/// nothing. After want of memory the editor is as it was.
+/// nothing that is committed. After want of memory the editor is as it was, but for what is pending, which is dropped where
+/// the line ran on it. The room is lent to any number of lines, one after another.
 #[tactic(auto, unfolding(crate::specs::Follows::Answers))]
-pub fn answer_line(alloc: Global, editor: &mut Editor, line: &[u8]) -> Result<Vec<u8>, NoMemory>
+pub fn answer_line(
+    alloc: Global,
+    editor: &mut Editor,
+    line: &[u8],
+    room: &mut Room,
+) -> Result<Vec<u8>, NoMemory>
     requires { editor.old.commits < last_u32 }
     ensures answer { IfOk result (λ reply. Answers editor.old line.now reply.items editor.new) }
     ensures commits { editor.new.commits ≤ editor.old.commits + 1 }
-    ensures unchanged { OnErr result (editor.new ≡ editor.old) }
+    ensures unchanged { OnErr result (IsLeftWithout editor.old editor.new) }
 {
-    match read_line(alloc, line) {
+    match read_line(alloc, line, room) {
         Ok(line) => editor.line(alloc, line),
         Err(Fault::Cause(cause)) => write_reply(alloc, &Reply::Refused { cause, step: None }),
         Err(Fault::Memory) => Err(NoMemory),

@@ -15,15 +15,16 @@ impl Editor {
     ghost use Rattle.lx_step.specs.Sound.{IsSoundListener};
     ghost use Rattle.lx_editor.specs.Dispatched.{IsDispatched, IsListening};
     ghost use Rattle.lx_editor.specs.Follows.{IsReplyOfDispatch, IsReplyOfListener};
-    ghost use Rattle.lx_editor.specs.Updated.{recording};
+    ghost use Rattle.lx_editor.specs.Gathering.{recording, with_nothing_pending};
 
     /// Dispatches a command: it is offered to the listeners of its name, from priority 4 down to 0 and within one
     /// priority in the order of registration, until one has handled it. What their steps leave comes to rest under the
     /// rules and is committed, as an update is. `undo` and `redo` go to another state of the history, where the listeners
     /// above them have neither handled them nor done anything: with an edit, another selection or queued steps before them
-    /// they are refused as `HistoryInside`, and with a payload as `BadCommand`. The answer tells whether a listener has handled the command, too; of a
-    /// dispatch that is refused it tells that none has, and as the step that was refused it tells step 0, or none. After
-    /// want of memory the editor is as it was.
+    /// they are refused as `HistoryInside`, and so while lines are gathered; with a payload as `BadCommand`. The answer
+    /// tells whether a listener has handled the command, too; of a dispatch that is refused it tells that none has, and as
+    /// the step that was refused it tells step 0, or none. Updates that wait are taken in, as an update takes them in. After
+    /// want of memory nothing is pending, and the editor is as it was in all else.
     #[tactic(auto, unfolding(crate::specs::Dispatched::IsDispatched))]
     pub fn dispatch(
         &mut self,
@@ -35,10 +36,13 @@ impl Editor {
         requires room { self.old.commits < last_u32 }
         ensures dispatched { IfOk result (λ told. IsDispatched self.old command.now (recording tags moment) told.1 told.0 self.new) }
         ensures commits { self.new.commits ≤ self.old.commits + 1 }
-        ensures unchanged { OnErr result (self.new ≡ self.old) }
+        ensures unchanged { OnErr result (self.new ≡ with_nothing_pending self.old) }
     {
-        let (verdict, handled) = self.judge_dispatch(alloc, command)?;
-        let outcome = self.conclude(alloc, verdict, Recording { tags, moment })?;
+        let how = self.recording(Recording { tags, moment });
+        let gathering = self.gathered() > 0;
+        let draft = self.take_draft(alloc)?;
+        let (verdict, handled) = self.judge_dispatch(alloc, draft, gathering, command)?;
+        let outcome = self.conclude(alloc, verdict, how)?;
         let handled = outcome.unless_refused(handled);
         Ok((handled, outcome))
     }
@@ -53,10 +57,13 @@ impl Editor {
         requires room { self.old.commits < last_u32 }
         ensures replies { IfOk result (λ reply. IsReplyOfDispatch self.old command.now how reply.items self.new) }
         ensures commits { self.new.commits ≤ self.old.commits + 1 }
-        ensures unchanged { OnErr result (self.new ≡ self.old) }
+        ensures unchanged { OnErr result (self.new ≡ with_nothing_pending self.old) }
     {
-        let (verdict, handled) = self.judge_dispatch(alloc, command)?;
-        self.reply(alloc, verdict, Some(handled), how)
+        let all = self.recording(how);
+        let gathering = self.gathered() > 0;
+        let draft = self.take_draft(alloc)?;
+        let (verdict, handled) = self.judge_dispatch(alloc, draft, gathering, command)?;
+        self.reply(alloc, verdict, Some(handled), all)
     }
 
     /// Registers a listener behind those that are registered, and answers its number, from 1. Nothing is committed. It

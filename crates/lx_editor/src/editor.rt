@@ -1,6 +1,7 @@
 ghost use Rattle.lx_node.specs.Limits.{last_u32};
 
 use crate::outcome::{Outcome, Verdict};
+use crate::pending::{Pending, forget};
 use crate::reconciling::follow;
 use crate::recording::Recording;
 use crate::registering::built_in_rules;
@@ -16,13 +17,14 @@ use lx_step::{Shown, Step, Tags};
 use std::alloc::Global;
 use std::marker::Model;
 
-/// An editor: the state that is committed, the next key, the number of commits, the view, which always shows
-/// the state's tree, the operations of the last commit, the history, the moment of the last line, the rules and listeners
-/// that are registered, and whether its replies to commits tell the view.
-#[derive(Drop)]
+/// An editor: the state that is committed, the next key, what is pending, the number of commits, the view, which always
+/// shows the state's tree, the operations of the last commit, the history, the moment of the last line, the rules and
+/// listeners that are registered, and whether its replies to commits tell the view.
 pub struct Editor {
     pub(crate) state: State,
     pub(crate) next_key: u32,
+    /// Updates that wait for a line which commits them, if there are any.
+    pub(crate) pending: Option<Pending>,
     pub(crate) commits: u32,
     pub(crate) view: HostTree,
     pub(crate) last: Option<Batch>,
@@ -32,6 +34,32 @@ pub struct Editor {
     pub(crate) rules: Vec<AnyRule>,
     pub(crate) bus: Bus,
     pub(crate) tells_view: bool,
+}
+
+// Written out, so that who drops an editor calls this: how each part of one is dropped is proved here alone.
+impl Drop for Editor {
+    fn drop(self) {
+        let Editor {
+            state,
+            next_key: _,
+            pending,
+            commits: _,
+            view,
+            last,
+            history,
+            moment: _,
+            rules,
+            bus,
+            tells_view: _,
+        } = self;
+        drop(state);
+        drop(pending);
+        drop(view);
+        drop(last);
+        drop(history);
+        drop(rules);
+        drop(bus);
+    }
 }
 
 impl Model for Editor {
@@ -58,7 +86,8 @@ impl Editor {
     ghost use Rattle.lx_plain.specs.Allowed.{Shows};
     ghost use Rattle.lx_editor.specs.Editor.{new_editor};
     ghost use Rattle.lx_editor.specs.Standing.{IsState};
-    ghost use Rattle.lx_editor.specs.Updated.{IsUpdated, IsCommitted, left_of, recording};
+    ghost use Rattle.lx_editor.specs.Gathering.{recording, with_nothing_pending};
+    ghost use Rattle.lx_editor.specs.Updated.{IsUpdated, IsCommitted, left_of};
     ghost use Rattle.lx_editor.specs.Judged.{MayCommit, MayConclude, IsConcluded};
 
     /// A new editor: the root alone, nothing selected, no commit, no rule but the two that are built in, no listener,
@@ -78,6 +107,8 @@ impl Editor {
             rules: built_in_rules(alloc)?,
             bus: Bus::new(alloc)?,
             tells_view,
+            // It comes last, so that no call that fails has one to drop.
+            pending: None,
         })
     }
 
@@ -100,6 +131,14 @@ impl Editor {
         &self.view
     }
 
+    /// The number of the last commit, and 0 before the first. Each call that can commit needs it to be below
+    /// 4,294,967,295.
+    pub fn commits(&self) -> u32
+        ensures { result ≡ self.now.commits }
+    {
+        self.commits
+    }
+
     /// The operations of the last commit, and by how many reads they were found. There are none exactly where
     /// nothing was committed yet.
     pub fn last_batch(&self) -> Option<&Batch>
@@ -114,7 +153,8 @@ impl Editor {
     /// outcome tells the step that was refused, or none where what was queued was refused, where the rules didn't come
     /// to rest, or where what is left is beyond a limit or has lost its selection. Steps that mark nothing and leave the
     /// selection equal commit nothing. A commit is recorded in the history as the tags and the moment say, which is in
-    /// milliseconds. After want of memory the editor is as it was.
+    /// milliseconds. Updates that wait are taken in: the steps run behind theirs, and what all of them leave is committed,
+    /// or dropped. After want of memory nothing is pending, and the editor is as it was in all else.
     #[tactic(auto, unfolding(crate::specs::Updated::IsUpdated))]
     pub fn update(
         &mut self,
@@ -127,10 +167,12 @@ impl Editor {
         requires room { self.old.commits < last_u32 }
         ensures updated { IfOk result (λ outcome. IsUpdated self.old steps.now (recording tags moment) outcome self.new) }
         ensures commits { self.new.commits ≤ self.old.commits + 1 }
-        ensures unchanged { OnErr result (self.new ≡ self.old) }
+        ensures unchanged { OnErr result (self.new ≡ with_nothing_pending self.old) }
     {
-        let verdict = self.judge(alloc, steps)?;
-        self.conclude(alloc, verdict, Recording { tags, moment })
+        let how = self.recording(Recording { tags, moment });
+        let draft = self.take_draft(alloc)?;
+        let verdict = self.judge(alloc, draft, steps)?;
+        self.conclude(alloc, verdict, how)
     }
 
     /// Commits what is to be committed, and answers the outcome.
@@ -195,6 +237,7 @@ impl Editor {
             .note(&self.state, entry, &frozen.marks, how.tags, how.moment);
         self.state = frozen.state;
         self.next_key = frozen.next_key;
+        forget(&mut self.pending);
         self.commits += 1;
         self.last = Some(batch);
         Ok(())

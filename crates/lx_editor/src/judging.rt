@@ -8,13 +8,14 @@ ghost use Rattle.lx_draft.specs.Faults.{TellsStep};
 ghost use Rattle.lx_draft.specs.Working.{Working};
 ghost use Rattle.lx_rules.specs.declared.any_rule.AnyRule.{AnyRule as AnyRuleOf};
 ghost use Rattle.lx_run.specs.Refusals.{TellsRefusal};
-ghost use Rattle.lx_editor.specs.Dispatched.{answer_to};
+ghost use Rattle.lx_editor.specs.Dispatched.{answer_by};
 ghost use Rattle.lx_editor.specs.Editor.{Editor as EditorOf};
-ghost use Rattle.lx_editor.specs.Judged.{IsLeft, HasGrown, IsFresh, IsJudged, IsAnswerJudged, IsWeighed, IsForCause, is_refused};
+ghost use Rattle.lx_editor.specs.Gathering.{started_of};
+ghost use Rattle.lx_editor.specs.Judged.{IsLeft, HasGrown, IsJudged, IsAnswerJudged, IsWeighed, IsForCause, is_refused};
 ghost use Rattle.lx_plain.specs.Allowed.{AreCovered};
 ghost use Rattle.lx_reconcile.specs.Allowing.{marking};
 ghost use Rattle.lx_editor.specs.Registered.{left_for, left_with};
-ghost use Rattle.lx_editor.specs.Updated.{Settled, left_of, left_by, begun, rested_by};
+ghost use Rattle.lx_editor.specs.Updated.{Settled, left_of, left_by, rested_by};
 
 use crate::editor::Editor;
 use crate::leaving::rest;
@@ -22,7 +23,7 @@ use crate::marking::mark_type;
 use crate::outcome::Verdict;
 use crate::reconciling::reconcile;
 use lx_draft::{Draft, Frozen};
-use lx_node::{Fault, NoMemory};
+use lx_node::{Cause, Fault, NoMemory};
 use lx_run::{Ending, Refusal, run_dispatch, run_steps};
 use lx_step::{Command, Step, TypeRow};
 use std::alloc::Global;
@@ -51,41 +52,48 @@ pub(crate) fn verdict_of_fault(fault: Fault) -> Result<Verdict, NoMemory>
 }
 
 impl Editor {
-    /// A draft of what is committed.
-    fn begin(&self, alloc: Global) -> Result<Draft, NoMemory>
-        ensures begun { IfOk result (λ draft. draft ≡ begun self.now) }
-        ensures fresh { OnOk result (IsFresh (begun self.now)) }
-    {
-        Draft::start(alloc, &self.state, self.next_key)
-    }
-
     /// What steps come to. It changes nothing.
-    pub(crate) fn judge(&self, alloc: Global, steps: &[Step]) -> Result<Verdict, NoMemory>
+    pub(crate) fn judge(
+        &self,
+        alloc: Global,
+        draft: Draft,
+        steps: &[Step],
+    ) -> Result<Verdict, NoMemory>
         requires sound { All IsSound steps.now }
-        ensures judged { IfOk result (IsJudged (left_by self.now.rules self.now.listeners steps.now (begun self.now)) self.now) }
+        requires covered { drafts.AreCovered (started_of self.now) draft }
+        ensures judged { IfOk result (IsJudged (left_by self.now.rules self.now.listeners steps.now draft) self.now) }
     {
-        let draft = self.begin(alloc)?;
         match run_steps(alloc, &self.bus, draft, steps) {
             Ok(draft) => self.judge_draft(alloc, draft),
             Err(refusal) => verdict_of(refusal),
         }
     }
 
-    /// What a dispatch comes to, and whether the command was handled. It changes nothing.
+    /// What a dispatch comes to, and whether the command was handled. While lines are gathered the history doesn't turn. It
+    /// changes nothing.
     pub(crate) fn judge_dispatch(
         &self,
         alloc: Global,
+        draft: Draft,
+        gathering: bool,
         command: &Command,
     ) -> Result<(Verdict, bool), NoMemory>
-        ensures { IfOk result (λ told. IsAnswerJudged (answer_to command.now self.now) self.now told.0 told.1) }
+        requires covered { drafts.AreCovered (started_of self.now) draft }
+        ensures { IfOk result (λ told. IsAnswerJudged (answer_by gathering self.now.listeners command.now draft) self.now told.0 told.1) }
     {
-        let draft = self.begin(alloc)?;
         match run_dispatch(alloc, &self.bus, draft, command) {
             Ok(Ending::Left { draft, handled }) => {
                 let verdict = self.judge_draft(alloc, draft)?;
                 Ok((verdict, handled))
             }
             Ok(Ending::Turned(turn)) => {
+                if gathering {
+                    let verdict = Verdict::Refused {
+                        cause: Cause::HistoryInside,
+                        step: Some(0),
+                    };
+                    return Ok((verdict, false));
+                }
                 let verdict = self.judge_turn(alloc, turn)?;
                 Ok((verdict, true))
             }
@@ -97,10 +105,16 @@ impl Editor {
     }
 
     /// What the rules come to where the nodes of a type are marked. It changes nothing.
-    pub(crate) fn judge_marked(&self, alloc: Global, on: TypeRow) -> Result<Verdict, NoMemory>
-        ensures judged { IfOk result (IsJudged (left_for self.now.rules on (begun self.now)) self.now) }
+    pub(crate) fn judge_marked(
+        &self,
+        alloc: Global,
+        draft: Draft,
+        on: TypeRow,
+    ) -> Result<Verdict, NoMemory>
+        requires covered { drafts.AreCovered (started_of self.now) draft }
+        ensures judged { IfOk result (IsJudged (left_for self.now.rules on draft) self.now) }
     {
-        let mut draft = self.begin(alloc)?;
+        let mut draft = draft;
         match mark_type(alloc, &mut draft, on) {
             Ok(()) => self.judge_draft(alloc, draft),
             Err(fault) => verdict_of_fault(fault),
@@ -108,8 +122,8 @@ impl Editor {
     }
 
     /// What a draft comes to: it comes to rest under the rules, and what it leaves is weighed.
-    fn judge_draft(&self, alloc: Global, draft: Draft) -> Result<Verdict, NoMemory>
-        requires covered { drafts.AreCovered (begun self.now) draft }
+    pub(crate) fn judge_draft(&self, alloc: Global, draft: Draft) -> Result<Verdict, NoMemory>
+        requires covered { drafts.AreCovered (started_of self.now) draft }
         ensures judged { IfOk result (IsJudged (rested_by self.now.rules draft) self.now) }
     {
         match rest(alloc, draft, self.rules.as_slice()) {

@@ -5,12 +5,14 @@
 mod answer;
 mod commanding;
 mod editor;
+mod gathering;
 mod judging;
 mod leaving;
 mod line;
 mod loading;
 mod marking;
 mod outcome;
+mod pending;
 mod reconciling;
 mod recording;
 mod registering;

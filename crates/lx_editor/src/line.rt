@@ -32,47 +32,72 @@ impl Editor {
     ghost use Rattle.lx_script.specs.Replies.{reply_text};
     ghost use Rattle.lx_script.specs.declared.reply.Reply.TheVariants.{Committed};
     ghost use Rattle.lx_editor.specs.declared.outcome.Outcome.{Outcome as OutcomeOf};
+    ghost use Rattle.lx_editor.specs.Gathering.{with_nothing_pending, IsLeftWithout};
     ghost use Rattle.lx_editor.specs.Judged.{MayConclude, IsConcluded};
-    ghost use Rattle.lx_editor.specs.Follows.{RepliesTo, RepliesToLine, IsReplyOfUpdate, reply_of, view_told};
+    ghost use Rattle.lx_editor.specs.Follows.{RepliesTo, RepliesToLine, IsReplyOfUpdate, at_moment, reply_of, view_told};
 
-    /// Does what a line asks for, and answers with the bytes of a reply: the outcome of an update, of a dispatch, of
-    /// registering a rule or of a load, the number of a listener, what is committed, or that the history is cleared. The
-    /// line's moment is the one that it tells, or else that of the line before. The reply to a commit tells the view
-    /// after it, where the editor was made so. The reply is made before anything is committed, registered or forgotten, so
-    /// after want of memory the editor is as it was.
+    /// Does what a line asks for, and answers with the bytes of a reply: the outcome of an update, of a flush, of a
+    /// dispatch, of registering a rule or of a load, the number of a listener, what is committed, or that the history is
+    /// cleared. The line's moment is the one that it tells, or else that of the line before. The reply to a commit tells
+    /// the view after it, where the editor was made so. The reply is made before anything is committed, gathered, registered or
+    /// forgotten, so after want of memory the editor is as it was, but for what is pending, which is dropped where the line
+    /// ran on it.
     pub fn line(&mut self, alloc: Global, line: Line) -> Result<Vec<u8>, NoMemory>
         requires sound { IsSoundForm line.form }
         requires room { self.old.commits < last_u32 }
         ensures replies { IfOk result (λ reply. RepliesToLine self.old line reply.items self.new) }
         ensures commits { self.new.commits ≤ self.old.commits + 1 }
-        ensures unchanged { OnErr result (self.new ≡ self.old) }
+        ensures unchanged { OnErr result (IsLeftWithout self.old self.new) }
     {
-        let before = self.moment;
-        if let Some(moment) = line.at {
-            self.moment = moment;
-        }
+        let before = self.last_moment();
+        self.begin_at(line.at);
         match self.reply_to_form(alloc, line.form, line.tags) {
             Ok(reply) => Ok(reply),
             Err(error) => {
-                self.moment = before;
+                self.set_moment(before);
                 Err(error)
             }
         }
     }
 
+    /// Takes the moment that a line tells, if it tells one.
+    fn begin_at(&mut self, at: Option<u64>)
+        ensures moment { self.new ≡ at_moment at self.old }
+        ensures commits { self.new.commits ≡ self.old.commits }
+    {
+        if let Some(moment) = at {
+            self.moment = moment;
+        }
+    }
+
+    fn last_moment(&self) -> u64
+        ensures { result ≡ self.now.moment }
+    {
+        self.moment
+    }
+
+    fn set_moment(&mut self, moment: u64)
+        ensures moment { self.new ≡ record self.old { moment = moment } }
+        ensures commits { self.new.commits ≡ self.old.commits }
+    {
+        self.moment = moment;
+    }
+
     /// Does what a line of this form asks for at its moment.
-    #[tactic(auto, unfolding(crate::specs::Follows::RepliesTo))]
+    #[tactic(auto, using(crate::proofs::Waiting::rule_left_without), unfolding(crate::specs::Follows::RepliesTo))]
     fn reply_to_form(&mut self, alloc: Global, form: Form, tags: Tags) -> Result<Vec<u8>, NoMemory>
         requires sound { IsSoundForm form }
         requires room { self.old.commits < last_u32 }
         ensures replies { IfOk result (λ reply. RepliesTo self.old tags form reply.items self.new) }
         ensures commits { self.new.commits ≤ self.old.commits + 1 }
-        ensures unchanged { OnErr result (self.new ≡ self.old) }
+        ensures unchanged { OnErr result (IsLeftWithout self.old self.new) }
     {
         let moment = self.moment;
         let how = Recording { tags, moment };
         match form {
             Form::Update(steps) => self.reply_to_steps(alloc, steps.items(), how),
+            Form::Defer(steps) => self.reply_to_defer(alloc, steps.items(), tags),
+            Form::Flush => self.reply_to_flush(alloc, how),
             Form::Dispatch(command) => self.reply_to_dispatch(alloc, &command, how),
             Form::Rule(rule) => self.reply_to_rule(alloc, rule, moment),
             Form::Listener(listener) => self.reply_to_listener(alloc, listener),
@@ -93,10 +118,12 @@ impl Editor {
         requires room { self.old.commits < last_u32 }
         ensures replies { IfOk result (λ reply. IsReplyOfUpdate self.old steps.now how reply.items self.new) }
         ensures commits { self.new.commits ≤ self.old.commits + 1 }
-        ensures unchanged { OnErr result (self.new ≡ self.old) }
+        ensures unchanged { OnErr result (self.new ≡ with_nothing_pending self.old) }
     {
-        let verdict = self.judge(alloc, steps)?;
-        self.reply(alloc, verdict, None, how)
+        let all = self.recording(how);
+        let draft = self.take_draft(alloc)?;
+        let verdict = self.judge(alloc, draft, steps)?;
+        self.reply(alloc, verdict, None, all)
     }
 
     /// Commits what is to be committed, with the reply that tells the outcome, and of a dispatch whether it was handled.

@@ -42,14 +42,15 @@ impl Editor {
     ghost use Rattle.lx_editor.specs.Follows.{IsReplyOfLoad};
     ghost use Rattle.lx_editor.specs.Judged.{IsLeft, IsShownBy, HasGrown, IsJudged, IsWeighed, is_idle};
     ghost use Rattle.lx_editor.specs.Loaded.{IsLoaded, left_by_load};
-    ghost use Rattle.lx_editor.specs.Updated.{left_of, recording};
+    ghost use Rattle.lx_editor.specs.Gathering.{recording};
+    ghost use Rattle.lx_editor.specs.Updated.{left_of};
 
     /// Loads a document, which takes the place of what is committed: its nodes get new keys, nothing is selected, and all
     /// of it comes to rest under the rules and is committed, and recorded in the history as the tags and the moment say,
     /// which is in milliseconds. It is refused, with no step, where the value isn't a
     /// document, as `UnknownType`, `BadState` with the place as a JSON pointer, or `EmptyState`; as `TooLarge` where it is
-    /// beyond a limit; and else as an update is. It is never idle. After a refusal or want of memory the editor is as it
-    /// was.
+    /// beyond a limit; and else as an update is. It is never idle. Updates that wait are dropped where it is committed.
+    /// After a refusal or want of memory the editor is as it was.
     #[tactic(auto, unfolding(crate::specs::Loaded::IsLoaded))]
     pub fn load(
         &mut self,

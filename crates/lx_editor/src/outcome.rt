@@ -14,6 +14,8 @@ pub enum Outcome {
     Refused { cause: Cause, step: Option<u32> },
     /// It asked for nothing that isn't so already.
     Idle,
+    /// It is gathered: it waits for a call that commits it. So many updates wait, with this one, from 1 to 100,000.
+    Gathered { count: u32 },
 }
 
 impl Outcome {

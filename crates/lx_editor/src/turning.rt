@@ -4,12 +4,13 @@ ghost use Rattle.lx_node.specs.Limits.{last_u32};
 
 use crate::editor::Editor;
 use crate::outcome::{Outcome, Verdict};
+use crate::pending::forget;
 use crate::reconciling::{follow, reconcile};
 use crate::recording::Recording;
 use lx_compare::differences;
 use lx_draft::State;
 use lx_history::History;
-use lx_node::{Fault, NoMemory};
+use lx_node::{Cause, Fault, NoMemory};
 use lx_reconcile::Batch;
 use lx_script::{Reply, write_reply};
 use lx_step::{Tags, Turn};
@@ -21,19 +22,20 @@ impl Editor {
     ghost use Rattle.lx_script.specs.Replies.{reply_text};
     ghost use Rattle.lx_script.specs.declared.reply.Reply.TheVariants.{Cleared};
     ghost use Rattle.lx_editor.specs.Standing.{IsEntry, EachEntry};
-    ghost use Rattle.lx_editor.specs.Turned.{IsTurned, IsTurnedBy, with_nothing_recorded};
+    ghost use Rattle.lx_editor.specs.Gathering.{with_nothing_pending};
+    ghost use Rattle.lx_editor.specs.Turned.{IsTurned, IsTurnedAlone, with_nothing_recorded};
     ghost use Rattle.lx_editor.specs.Judged.{MayTurn, IsTurnJudged};
 
     /// Goes back: the history's next entry is committed as it was recorded, its tree and its selection, whatever was
     /// written since. No rule is asked, and no key is given out again. The moment is in milliseconds; no typing goes on
     /// behind an undo. It is idle exactly where there is no entry to go back to, and refused, as `TooLarge` with the limit
-    /// `hosts`, only where the view has no ids for the entry's nodes. After a refusal or want of memory the editor is as
-    /// it was.
+    /// `hosts`, only where the view has no ids for the entry's nodes. While lines are gathered it is refused as
+    /// `HistoryInside`, and they are dropped. After a refusal or want of memory the editor is as it was in all else.
     pub fn undo(&mut self, alloc: Global, moment: u64) -> Result<Outcome, NoMemory>
         requires room { self.old.commits < last_u32 }
-        ensures turned { IfOk result (λ outcome. IsTurnedBy way.Undo moment self.old outcome self.new) }
+        ensures turned { IfOk result (λ outcome. IsTurnedAlone way.Undo moment self.old outcome self.new) }
         ensures commits { self.new.commits ≤ self.old.commits + 1 }
-        ensures unchanged { OnErr result (self.new ≡ self.old) }
+        ensures unchanged { OnErr result (self.new ≡ with_nothing_pending self.old) }
     {
         self.turn(alloc, Turn::Undo, moment)
     }
@@ -42,19 +44,28 @@ impl Editor {
     /// undone, or something was written and pushed since. Else it is as `undo`.
     pub fn redo(&mut self, alloc: Global, moment: u64) -> Result<Outcome, NoMemory>
         requires room { self.old.commits < last_u32 }
-        ensures turned { IfOk result (λ outcome. IsTurnedBy way.Redo moment self.old outcome self.new) }
+        ensures turned { IfOk result (λ outcome. IsTurnedAlone way.Redo moment self.old outcome self.new) }
         ensures commits { self.new.commits ≤ self.old.commits + 1 }
-        ensures unchanged { OnErr result (self.new ≡ self.old) }
+        ensures unchanged { OnErr result (self.new ≡ with_nothing_pending self.old) }
     {
         self.turn(alloc, Turn::Redo, moment)
     }
 
+    #[tactic(auto, unfolding(crate::specs::Turned::IsTurnedAlone))]
     fn turn(&mut self, alloc: Global, turn: Turn, moment: u64) -> Result<Outcome, NoMemory>
         requires room { self.old.commits < last_u32 }
-        ensures turned { IfOk result (λ outcome. IsTurnedBy turn moment self.old outcome self.new) }
+        ensures turned { IfOk result (λ outcome. IsTurnedAlone turn moment self.old outcome self.new) }
         ensures commits { self.new.commits ≤ self.old.commits + 1 }
-        ensures unchanged { OnErr result (self.new ≡ self.old) }
+        ensures unchanged { OnErr result (self.new ≡ with_nothing_pending self.old) }
     {
+        let gathering = self.gathered() > 0;
+        forget(&mut self.pending);
+        if gathering {
+            return Ok(Outcome::Refused {
+                cause: Cause::HistoryInside,
+                step: None,
+            });
+        }
         let verdict = self.judge_turn(alloc, turn)?;
         let how = Recording {
             tags: Tags::none(),
@@ -100,6 +111,7 @@ impl Editor {
         follow(&mut self.view, ops)?;
         let _turned = self.history.turn(turn, moment);
         self.state = state;
+        forget(&mut self.pending);
         self.commits += 1;
         self.last = Some(batch);
         Ok(())

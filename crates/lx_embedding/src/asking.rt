@@ -1,10 +1,10 @@
 //! Calls that commit nothing.
 
-ghost use Rattle.std.specs.Prelude.{◌<◌, ◌≤◌, ◌+◌};
-
+use crate::editing::room;
 use anyhow::Result;
 use lx_editor::{Editor, answer_line};
 use lx_step::Shown;
+use lx_value::Room;
 use std::alloc::Global;
 
 /// The view as HTML, and how many nodes the state has.
@@ -17,6 +17,11 @@ pub(crate) fn view(alloc: Global, editor: &Editor) -> Result<String> {
 pub(crate) fn depths(alloc: Global, editor: &Editor) -> Result<String> {
     let (undo, redo) = editor.depths();
     Ok(format!(in alloc; "{undo} {redo}")?)
+}
+
+/// How often the editor has committed, and how many updates wait.
+pub(crate) fn counts(alloc: Global, editor: &Editor) -> Result<String> {
+    Ok(format!(in alloc; "{} {}", editor.commits(), editor.gathered())?)
 }
 
 /// Whether the history has a current entry.
@@ -45,11 +50,11 @@ pub(crate) fn show(alloc: Global, editor: &Editor) -> Result<String> {
 }
 
 /// A line, answered with the bytes of its reply.
-pub(crate) fn line(alloc: Global, editor: &mut Editor) -> Result<String>
-    requires { editor.old.commits < 1000 }
-    ensures { editor.new.commits ≤ editor.old.commits + 1 }
-{
-    text(alloc, answer_line(alloc, editor, br#"{"show":"history"}"#)?)
+pub(crate) fn line(alloc: Global, editor: &mut Editor) -> Result<String> {
+    room(editor)?;
+    let mut scratch = Room::new(alloc)?;
+    let reply = answer_line(alloc, editor, br#"{"show":"history"}"#, &mut scratch)?;
+    text(alloc, reply)
 }
 
 fn text(alloc: Global, bytes: Vec<u8>) -> Result<String> {

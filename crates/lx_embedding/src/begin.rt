@@ -6,6 +6,7 @@ use lx_editor::{Editor, Outcome, answer_line};
 use lx_host::Op;
 use lx_node::{NoMemory, Txt};
 use lx_step::{Step, Tags};
+use lx_value::Room;
 use std::alloc::Global;
 
 /// An editor with one paragraph.
@@ -18,7 +19,8 @@ pub(crate) fn begin(alloc: Global) -> Result<Editor, NoMemory>
     if let Outcome::Committed { ops, .. } = outcome {
         draw(ops.items()); // yours: what a client does to its tree of elements
     }
-    let _reply = answer_line(alloc, &mut editor, br#"{"show":"view"}"#)?; // a line, and the bytes of its reply
+    let mut room = Room::new(alloc)?; // one is lent to every line
+    let _reply = answer_line(alloc, &mut editor, br#"{"show":"view"}"#, &mut room)?; // a line, and the bytes of its reply
     Ok(editor)
 }
 

@@ -5,9 +5,12 @@
 mod asking;
 mod begin;
 mod editing;
+mod large;
 mod registering;
+mod waiting;
 
 use anyhow::Result;
+use lx_editor::Editor;
 use std::alloc::Global;
 use std::io::Write;
 
@@ -36,7 +39,24 @@ fn tell_all<W: Write>(alloc: Global, out: &mut W) -> Result<()> {
     tell(out, "line", asking::line(alloc, &mut editor)?)?;
     tell(out, "current", asking::current(alloc, &editor)?)?;
     editor.clear_history();
-    tell(out, "cleared", asking::current(alloc, &editor)?)
+    tell(out, "cleared", asking::current(alloc, &editor)?)?;
+    tell_waiting(alloc, &mut editor, out)?;
+    tell(out, "large document", large::type_into_last_text(alloc)?)
+}
+
+/// Makes the calls of updates that wait: two that are flushed, one that an undo drops, and one that a refused update drops.
+fn tell_waiting<W: Write>(alloc: Global, editor: &mut Editor, out: &mut W) -> Result<()> {
+    tell(out, "defer", waiting::defer(alloc, editor, "Tomorrow")?)?;
+    tell(out, "defer", waiting::defer(alloc, editor, "Today")?)?;
+    tell(out, "counts", asking::counts(alloc, editor)?)?;
+    tell(out, "flush", waiting::flush(alloc, editor)?)?;
+    tell(out, "counts", asking::counts(alloc, editor)?)?;
+    tell(out, "defer", waiting::defer(alloc, editor, "Later")?)?;
+    tell(out, "undo", editing::undo(alloc, editor)?)?;
+    tell(out, "counts", asking::counts(alloc, editor)?)?;
+    tell(out, "defer", waiting::defer(alloc, editor, "Never")?)?;
+    tell(out, "refused", editing::remove_missing(alloc, editor)?)?;
+    tell(out, "counts", asking::counts(alloc, editor)?)
 }
 
 /// Writes a line.

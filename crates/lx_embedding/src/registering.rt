@@ -1,7 +1,6 @@
 //! Calls that register rules and listeners.
 
-ghost use Rattle.std.specs.Prelude.{◌<◌, ◌≤◌, ◌≡◌, ◌+◌};
-
+use crate::editing::room;
 use anyhow::Result;
 use lx_editor::Editor;
 use lx_node::{Fields, Kind, NoMemory, Txt};
@@ -24,20 +23,15 @@ fn paragraph_behind_headings(alloc: Global) -> Result<Rule, NoMemory> {
 }
 
 /// Registers a rule.
-pub(crate) fn rule(alloc: Global, editor: &mut Editor) -> Result<String>
-    requires { editor.old.commits < 1000 }
-    ensures { editor.new.commits ≤ editor.old.commits + 1 }
-{
+pub(crate) fn rule(alloc: Global, editor: &mut Editor) -> Result<String> {
+    room(editor)?;
     let rule = paragraph_behind_headings(alloc)?;
     let outcome = editor.register_rule(alloc, rule, 6000)?;
     Ok(format!(in alloc; "{outcome:?}")?)
 }
 
 /// Registers a listener that signs.
-pub(crate) fn listener(alloc: Global, editor: &mut Editor) -> Result<String>
-    requires { editor.old.commits < 1000 }
-    ensures { editor.new.commits ≡ editor.old.commits }
-{
+pub(crate) fn listener(alloc: Global, editor: &mut Editor) -> Result<String> {
     let listener = Listener {
         priority: 2,
         on: Txt::new(alloc, "sign")?,

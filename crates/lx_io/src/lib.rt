@@ -12,6 +12,7 @@ mod sink;
 mod source;
 mod std_sink;
 mod std_source;
+mod sure_source;
 
 pub use fault::Failed;
 pub use memory_sink::MemorySink;
@@ -20,3 +21,4 @@ pub use sink::Sink;
 pub use source::Source;
 pub use std_sink::StdSink;
 pub use std_source::StdSource;
+pub use sure_source::SureSource;

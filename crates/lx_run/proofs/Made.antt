@@ -1,5 +1,5 @@
 -- A line's own steps that are left, and what holds of all that they make.
-use Rattle.std.proofs.Common.{◌≡◌, ◌∙◌, ◌+◌, ◌≤◌, ℕ, List, [], ◌∷◌, Some, Result, Ok, Err, refl, ap, sym, subst, arith}
+use Rattle.std.proofs.Common.{◌≡◌, ◌∙◌, ◌+◌, ◌≤◌, ℕ, List, [], ◌∷◌, None, Some, Result, Ok, Err, refl, ap, sym, subst, arith}
 use Rattle.lx_node.specs.Limits.{most_counts}
 use Rattle.lx_node.specs.declared.cause.Cause.{Cause}
 use Rattle.lx_node.specs.declared.cause.Fault.{Fault}
@@ -11,15 +11,16 @@ use Rattle.lx_step.specs.declared.step.Step.{Step}
 use Rattle.lx_draft.specs.Covering.{IsReady, AreCovered}
 use Rattle.lx_draft.specs.Working.{Working}
 use Rattle.lx_draft.specs.Faults.{TellsStep}
+use Rattle.lx_draft.specs.Steps.{count_step}
 use Rattle.lx_run.specs.declared.refusal.Refusal.{Refusal}
 use Rattle.lx_run.specs.declared.refusal.Refusal.TheVariants as refusal
-use Rattle.lx_run.specs.Lines.{at_first, script_from, queue_run, steps_run, drafted, IsEmptied}
+use Rattle.lx_run.specs.Lines.{at_first, script_from, queue_run, steps_run, deferred_run, drafted, IsEmptied}
 use Rattle.lx_run.specs.Refusals.{Refused, at_step, at_none, and_then, IsRefusal, TellsRefusal}
 use Rattle.lx_run.specs.Running.{Running, step_in, dispatched, most_nested, emptied}
 use Rattle.lx_run.proofs.Covered.{IsReadyRunning, AreCoveredRunning, covered, covered_queue}
 use Rattle.lx_run.proofs.Emptied.{IsEnough, is_emptied}
-use Rattle.lx_run.proofs.Paced.{AnyRunning, IsPaced, paced}
-use Rattle.lx_run.proofs.Stays.{Makes, makes_on, IsKept, step_keeps, dispatched_keeps, emptied_keeps}
+use Rattle.lx_run.proofs.Paced.{AnyRunning, IsPaced, paced, CountsOn, counts_on, counts_on_queue}
+use Rattle.lx_run.proofs.Stays.{Makes, makes_on, IsKept, IsOfScripts, step_keeps, dispatched_keeps, emptied_keeps}
 
 -- ---- steps that are left
 
@@ -70,25 +71,36 @@ script_keeps D R kept at ls (s ∷ steps) m ready =
     (step_keeps D R kept (dispatched most_nested ls) (dispatched_keeps D R kept most_nested ls) Nothing s m ready)
     (λ n h. makes_on (R n) (R m) (script_from (at + 1) ls steps n) (script_keeps D R kept (at + 1) ls steps n (kept.ready m n h)) (λ o i. kept.on m n o h i))
 
+queue_keeps : (D : Running → Type 0) (R : Running → Running → Type 0) → IsKept D R → IsOfScripts D R → (ls : List Listener) (m n : Running) → R m n → Makes (R m) (queue_run ls n)
+queue_keeps D R kept free ls m n h =
+    makes_none (R m) (emptied most_counts ls n)
+    (makes_on (R n) (R m) (emptied most_counts ls n) (emptied_keeps D R kept free most_counts ls n (kept.ready m n h)) (λ o i. kept.on m n o h i))
+
+-- what is kept by each step, and by the queue, is kept by a line's steps
+run_keeps : (D : Running → Type 0) (R : Running → Running → Type 0) → IsKept D R → IsOfScripts D R → (ls : List Listener) (steps : List Step) (w : Working) → D (at_first w) → Makes (R (at_first w)) (steps_run ls steps w)
+unfolding steps_run
+run_keeps D R kept free ls steps w ready =
+    makes_and (R (at_first w)) (R (at_first w)) (script_from 0 ls steps (at_first w)) (queue_run ls)
+    (script_keeps D R kept 0 ls steps (at_first w) ready) (λ n h. queue_keeps D R kept free ls (at_first w) n h)
+
 -- ---- marks
 
 pub queue_covered : (ls : List Listener) (m n : Running) → AreCoveredRunning m n → Makes (AreCoveredRunning m) (queue_run ls n)
-queue_covered ls m n c =
-    makes_none (AreCoveredRunning m) (emptied most_counts ls n)
-    (makes_on (AreCoveredRunning n) (AreCoveredRunning m) (emptied most_counts ls n) (emptied_keeps IsReadyRunning AreCoveredRunning covered covered_queue most_counts ls n (covered.ready m n c)) (λ o i. covered.on m n o c i))
-
-steps_covered : (ls : List Listener) (steps : List Step) (w : Working) → IsReady w → Makes (AreCoveredRunning (at_first w)) (steps_run ls steps w)
-unfolding steps_run
-steps_covered ls steps w ready =
-    makes_and (AreCoveredRunning (at_first w)) (AreCoveredRunning (at_first w)) (script_from 0 ls steps (at_first w)) (queue_run ls)
-    (script_keeps IsReadyRunning AreCoveredRunning covered 0 ls steps (at_first w) ready) (λ n c. queue_covered ls (at_first w) n c)
+queue_covered ls m n c = queue_keeps IsReadyRunning AreCoveredRunning covered covered_queue ls m n c
 
 drafted_so : (P : Working → Type 0) (r : Result Running Refused) (left : Working) → Makes (λ m. P m.script.draft) r → drafted r ≡ Ok left → P left
 drafted_so P (Ok m) left p e = let is : m.script.draft ≡ left = cc in subst P is p
 drafted_so P (Err refused) left p e = absurd (cc)
 
 pub steps_told : (ls : List Listener) (steps : List Step) (w left : Working) → drafted (steps_run ls steps w) ≡ Ok left → IsReady w → AreCovered w left
-steps_told ls steps w left e ready = drafted_so (AreCovered w) (steps_run ls steps w) left (steps_covered ls steps w ready) e
+steps_told ls steps w left e ready =
+    drafted_so (AreCovered w) (steps_run ls steps w) left (run_keeps IsReadyRunning AreCoveredRunning covered covered_queue ls steps w ready) e
+
+-- ---- counts
+
+pub steps_count : (ls : List Listener) (steps : List Step) (w left : Working) → drafted (steps_run ls steps w) ≡ Ok left → w.counted ≤ left.counted
+steps_count ls steps w left e =
+    drafted_so (λ v. w.counted ≤ v.counted) (steps_run ls steps w) left (run_keeps AnyRunning CountsOn counts_on counts_on_queue ls steps w tt) e
 
 -- ---- nothing is queued any more
 
@@ -107,6 +119,17 @@ unfolding steps_run
 steps_end ls steps w few =
     emptied_told _ (makes_and (IsPaced (at_first w)) (λ n. n.queue ≡ []) (script_from 0 ls steps (at_first w)) (queue_run ls)
     (script_keeps AnyRunning IsPaced paced 0 ls steps (at_first w) tt) (λ n p. queue_ends ls w n few p))
+
+-- ---- steps that wait
+
+-- behind their count they do what they do at once
+pub deferred_runs : (ls : List Listener) (steps : List Step) (w v : Working) → count_step w ≡ Ok v → deferred_run ls steps w ≡ steps_run ls steps v
+unfolding deferred_run
+deferred_runs ls steps w v taken = ap (λ r. and_then (at_none r) (steps_run ls steps)) taken
+
+pub deferred_refused : (ls : List Listener) (steps : List Step) (w : Working) (cause : Cause) → count_step w ≡ Err cause → deferred_run ls steps w ≡ Err (cause, None)
+unfolding deferred_run
+deferred_refused ls steps w cause refused = ap (λ r. and_then (at_none r) (steps_run ls steps)) refused
 
 -- ---- a line's own step
 

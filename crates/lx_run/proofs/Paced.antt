@@ -21,7 +21,7 @@ use Rattle.lx_run.proofs.ListPaths.{list_reaches}
 use Rattle.lx_run.proofs.Bounded.{KeepsMost, count_within, within_scripts}
 use Rattle.lx_run.proofs.Counted.{count-counted, counted_scripts}
 use Rattle.lx_run.proofs.Paths.{Reaches, effect_path}
-use Rattle.lx_run.proofs.Stays.{Makes, makes_told, makes_on, makes_from, makes_then, IsKept, done_keeps, dispatched_keeps}
+use Rattle.lx_run.proofs.Stays.{Makes, makes_told, makes_on, makes_from, makes_then, IsKept, IsOfScripts, done_keeps, dispatched_keeps}
 use Rattle.lx_run.proofs.TablePaths.{table_reaches}
 
 -- what is queued takes counts
@@ -106,6 +106,28 @@ paced = record {
   tables = λ command sent m n r e. paced_on (on_draft (table_step command sent)) m n (table_reaches counted_scripts command sent) (table_reaches within_scripts command sent) e;
   later = λ m n steps sent r e. paced_later m n steps sent e;
 }
+
+-- ---- counts alone
+
+-- counts are never taken back
+abbrev pub CountsOn : Running → Running → Type 0
+CountsOn m n = m.script.draft.counted ≤ n.script.draft.counted
+
+pub counts_on : IsKept AnyRunning CountsOn
+counts_on = record {
+  ready = λ m n p. tt;
+  same = λ m r. omega arith;
+  on = λ m n o p q. omega (arith, p, q);
+  counted = λ m n r e. (paced.counted m n r e).counted;
+  plain = λ s m n r e. (paced.plain s m n r e).counted;
+  does = λ command sent m n r e. (paced.does command sent m n r e).counted;
+  lists = λ command sent m n r e. (paced.lists command sent m n r e).counted;
+  tables = λ command sent m n r e. (paced.tables command sent m n r e).counted;
+  later = λ m n steps sent r e. (paced.later m n steps sent r e).counted;
+}
+
+pub counts_on_queue : IsOfScripts AnyRunning CountsOn
+counts_on_queue m queue r = omega arith
 
 -- ---- a step takes a count, whatever it does
 

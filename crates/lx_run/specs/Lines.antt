@@ -18,6 +18,7 @@ use Rattle.lx_select.specs.declared.selection.Selection.{Selection}
 use Rattle.lx_draft.specs.Working.{Working}
 use Rattle.lx_draft.specs.Covering.{IsReady, AreCovered}
 use Rattle.lx_draft.specs.Faults.{after}
+use Rattle.lx_draft.specs.Steps.{count_step}
 use Rattle.lx_run.specs.Naming.{no_names}
 use Rattle.lx_run.specs.Refusals.{Refused, at_step, at_none, and_then}
 use Rattle.lx_run.specs.Running.{Running, Queued, running, take_count, step_in, is_nothing, offered, dispatched, most_nested, emptied}
@@ -45,6 +46,10 @@ queue_run ls m = at_none (emptied most_counts ls m)
 -- steps of a line, with these listeners
 unfoldable pub steps_run : List Listener → List Step → Working → Result Running Refused
 steps_run ls steps w = and_then (script_from 0 ls steps (at_first w)) (queue_run ls)
+
+-- Steps that wait for a line which commits them take a count as they begin, for which no step is refused.
+unfoldable pub deferred_run : List Listener → List Step → Working → Result Running Refused
+deferred_run ls steps w = and_then (at_none (count_step w)) (steps_run ls steps)
 
 -- ---- a dispatch that is a line
 

@@ -23,5 +23,5 @@ mod tables;
 mod turning;
 
 pub use ending::Ending;
-pub use lines::{run_dispatch, run_steps};
+pub use lines::{run_deferred, run_dispatch, run_steps};
 pub use refusal::Refusal;

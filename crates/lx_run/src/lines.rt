@@ -1,11 +1,11 @@
 //! Lines, each with what it queues.
 
-ghost use Rattle.std.specs.Prelude.{◌≡◌, ◌≤◌, Ok, OnOk, IfOk, IfErr, All};
+ghost use Rattle.std.specs.Prelude.{◌≡◌, ◌+◌, ◌≤◌, Ok, OnOk, IfOk, IfErr, All};
 ghost use Rattle.lx_step.specs.declared.command.Payload.TheVariants.{Nothing};
 ghost use Rattle.lx_step.specs.Sound.{IsSound};
 ghost use Rattle.lx_draft.specs.Covering.{IsReady, AreCovered};
 ghost use Rattle.lx_node.specs.Limits.{most_counts};
-ghost use Rattle.lx_run.specs.Lines.{script_from, queue_run, steps_run, dispatch_begun, dispatch_run, drafted, answer_drafted, ended_with, IsEndingCovered, IsEmptied, IsAnswerEmptied};
+ghost use Rattle.lx_run.specs.Lines.{script_from, queue_run, steps_run, deferred_run, dispatch_begun, dispatch_run, drafted, answer_drafted, ended_with, IsEndingCovered, IsEmptied, IsAnswerEmptied};
 ghost use Rattle.lx_run.specs.Refusals.{at_step, IsRefusal, TellsRefusal};
 
 use crate::dispatching::{MOST_NESTED, run_step};
@@ -39,6 +39,38 @@ pub fn run_steps(alloc: Global, bus: &Bus, draft: Draft, steps: &[Step]) -> Resu
     }
     match run_rest(bus, &mut running) {
         Ok(()) => Ok(running.into_draft()),
+        Err(refusal) => Err(refusal),
+    }
+}
+
+/// Runs steps as `run_steps` does, where they wait for a line that commits them: they take a count before the first of
+/// them begins, for which no step is refused. What they have made is left in the draft, with all that it had counted.
+#[tactic(auto, unfolding(crate::specs::Lines::deferred_run))]
+pub fn run_deferred(
+    alloc: Global,
+    bus: &Bus,
+    draft: Draft,
+    steps: &[Step],
+) -> Result<Draft, Refusal>
+    requires sound { All IsSound steps.now }
+    ensures ok { IfOk result (λ left. drafted (deferred_run bus.now steps.now draft) ≡ Ok left) }
+    ensures covered { IfOk result (λ left. IsReady draft → AreCovered draft left) }
+    ensures counted { IfOk result (λ left. draft.counted + 1 ≤ left.counted) }
+    ensures few { IfOk result (λ left. left.counted ≤ most_counts) }
+    ensures emptied { OnOk result (IsEmptied (deferred_run bus.now steps.now draft)) }
+    ensures err { IfErr result (λ e. TellsRefusal e (deferred_run bus.now steps.now draft)) }
+{
+    let mut begun = draft;
+    match begun.count() {
+        Ok(()) => {}
+        Err(cause) => return Err(Refusal::Cause { cause, step: None }),
+    }
+    match run_steps(alloc, bus, begun, steps) {
+        Ok(left) => {
+            // What links tell holds of every draft, as that it has taken at most 100,000 counts.
+            let _links = left.links();
+            Ok(left)
+        }
         Err(refusal) => Err(refusal),
     }
 }

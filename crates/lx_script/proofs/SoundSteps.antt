@@ -13,7 +13,7 @@ use Rattle.lx_node.specs.declared.fields.Fields.{Fields}
 use Rattle.lx_node.specs.Kinds.{is_possible, type_name}
 use Rattle.lx_node.specs.OfKind.{IsOfKind}
 use Rattle.lx_step.specs.declared.line.Form.{Form}
-use Rattle.lx_step.specs.declared.line.Form.TheVariants.{Update, Dispatch, Rule, Listener as Listens, Show}
+use Rattle.lx_step.specs.declared.line.Form.TheVariants.{Update, Flush, Dispatch, Rule, Listener as Listens, Show}
 use Rattle.lx_step.specs.declared.member.Member.{Member}
 use Rattle.lx_step.specs.declared.member.Member.TheVariants.{Other}
 use Rattle.lx_step.specs.declared.reference.Reference.{Reference}
@@ -32,7 +32,7 @@ use Rattle.lx_script.specs.declared.words.Verb.{Verb}
 use Rattle.lx_script.specs.declared.words.Verb.TheVariants as verb
 use Rattle.lx_script.specs.Documents.{document_fields, members_in}
 use Rattle.lx_script.specs.Commands.{built_in_name, command_with, command_in, command_of, payload_in}
-use Rattle.lx_script.specs.Grammar.{update_of, dispatch_form_of, rule_form_of, listener_form_of, show_of, clear_of, clearings, form_of}
+use Rattle.lx_script.specs.Grammar.{update_with, update_of, flush_told, flush_of, dispatch_form_of, rule_form_of, listener_form_of, show_of, clear_of, clearings, form_of}
 use Rattle.lx_script.specs.Listeners.{listener_of, listener_with, when_in}
 use Rattle.lx_script.specs.Members.{patch_member, patch_members, patch_of}
 use Rattle.lx_script.specs.NewNodes.{or_default, kind_with, may_all_be_given, new_fields}
@@ -276,12 +276,27 @@ member_script_sound inside name d made is = chained IsSoundScript (script_in ins
 
 -- ---- lines
 
+update_with_sound : (steps : Script) (deferred : Bool) → IsSoundScript steps → IsSoundForm (update_with steps deferred)
+update_with_sound steps true sound = sound
+update_with_sound steps false sound = sound
+
 update_of_sound : (d : Data) (form : Form) → update_of d ≡ Some form → IsSoundForm form
 update_of_sound d form is =
     let steps = required (script_in false) (codes "update") d in
-    tested IsSoundForm (has_only (codes "at" ∷ codes "tags" ∷ codes "update" ∷ []) d) (option_map (λ steps. Update steps) steps)
-    (mapped IsSoundForm (λ steps. Update steps) steps (member_script_sound false (codes "update") d))
+    let deferred = truth_in (get (codes "defer") d) in
+    tested IsSoundForm (has_only (codes "at" ∷ codes "tags" ∷ codes "update" ∷ codes "defer" ∷ []) d) _
+    (mapped IsSoundForm (λ p. update_with p.0 p.1) (option_zip steps deferred)
+    (λ p at. update_with_sound p.0 p.1 (member_script_sound false (codes "update") d p.0 (zip_first steps deferred p at))))
     form is
+
+flush_told_sound : (truth : Bool) (form : Form) → flush_told truth ≡ Some form → IsSoundForm form
+flush_told_sound true form is = let same : Flush ≡ form = cc in subst IsSoundForm same tt
+flush_told_sound false form is = absurd (cc)
+
+flush_of_sound : (d : Data) (form : Form) → flush_of d ≡ Some form → IsSoundForm form
+flush_of_sound d form is =
+    tested IsSoundForm (has_only (codes "at" ∷ codes "tags" ∷ codes "flush" ∷ []) d) _
+    (chained IsSoundForm flush_told (required as_bool (codes "flush") d) (λ truth at. flush_told_sound truth)) form is
 
 dispatch_form_of_sound : (d : Data) (form : Form) → dispatch_form_of d ≡ Some form → IsSoundForm form
 dispatch_form_of_sound d form is =
@@ -338,7 +353,8 @@ clear_of_sound d form is =
 pub form_of_sound : (d : Data) (form : Form) → form_of d ≡ Some form → IsSoundForm form
 form_of_sound d form is =
     either IsSoundForm (update_of d) _ (update_of_sound d)
+    (either IsSoundForm (flush_of d) _ (flush_of_sound d)
     (either IsSoundForm (dispatch_form_of d) _ (dispatch_form_of_sound d)
     (either IsSoundForm (rule_form_of d) _ (rule_form_of_sound d)
     (either IsSoundForm (listener_form_of d) _ (listener_form_of_sound d)
-    (either IsSoundForm (show_of d) (clear_of d) (show_of_sound d) (clear_of_sound d))))) form is
+    (either IsSoundForm (show_of d) (clear_of d) (show_of_sound d) (clear_of_sound d)))))) form is

@@ -21,7 +21,7 @@ use Rattle.lx_select.specs.declared.selection.Selection.{Selection}
 use Rattle.lx_select.specs.declared.selection.Selection.TheVariants as selection
 use Rattle.lx_script.specs.Replies.{selection_data, attributes_onto, detail_of, lost_data, named_data, natural, op_data, or_null, reply_data, reply_text, state_data, state_text, text_data}
 use Rattle.lx_script.specs.declared.reply.Reply.{Reply}
-use Rattle.lx_script.specs.declared.reply.Reply.TheVariants.{Committed, Refused, Idle, Registered, Cleared, View, Selection as Selected, History}
+use Rattle.lx_script.specs.declared.reply.Reply.TheVariants.{Committed, Refused, Idle, Gathered, Registered, Cleared, View, Selection as Selected, History}
 
 neither : (a b : Bool) → (a || b) ≡ false → (a ≡ false) × (b ≡ false)
 neither true b is = cc
@@ -94,6 +94,7 @@ has_float-reply_data (Committed commit ops (Some handled) (Some html)) = rw (ite
 has_float-reply_data (Refused cause step) = rw (has_float-detail_of cause, has_float-or_null natural (λ _. refl) step) refl
 has_float-reply_data (Idle None) = refl
 has_float-reply_data (Idle (Some handled)) = refl
+has_float-reply_data (Gathered n) = refl
 has_float-reply_data (Registered n) = refl
 has_float-reply_data Cleared = refl
 has_float-reply_data (View html) = refl

@@ -1,9 +1,9 @@
 -- What a line of bytes asks for: the grammar of lines, over the JSON value that the bytes are.
-use Rattle.std.specs.Prelude.{◌≡◌, ◌⊎◌, ◌||◌, ℕ, Bool, List, [], ◌∷◌, false, codes, IsUtf8, if◌then◌else◌, Option, None, Some, option_map, Result, Ok, Err}
-use Rattle.std.specs.Option.{option_or}
+use Rattle.std.specs.Prelude.{◌≡◌, ◌⊎◌, ◌||◌, ℕ, Bool, List, [], ◌∷◌, true, false, codes, IsUtf8, if◌then◌else◌, Option, None, Some, option_map, option_and_then, Result, Ok, Err}
+use Rattle.std.specs.Option.{option_or, option_zip}
 use Rattle.std.specs.Str.{bytes_eq}
 use Rattle.serde_json.specs.Data.{Data}
-use Rattle.serde_json.specs.Find.{get, as_str}
+use Rattle.serde_json.specs.Find.{get, as_bool, as_str}
 use Rattle.serde_json.specs.Read.{read}
 use Rattle.serde_json.specs.View.{view}
 use Rattle.lx_node.specs.declared.cause.Cause.{Cause}
@@ -11,14 +11,15 @@ use Rattle.lx_node.specs.declared.cause.Cause.TheVariants.{BadLine, BadCommand}
 use Rattle.lx_node.specs.declared.cause.Fault.{Fault}
 use Rattle.lx_node.specs.declared.cause.Fault.TheVariants.{Cause as Refused, Memory}
 use Rattle.lx_step.specs.declared.line.Form.{Form}
-use Rattle.lx_step.specs.declared.line.Form.TheVariants.{Update, Dispatch, Rule, Listener as Listens, Load, Show, Clear}
+use Rattle.lx_step.specs.declared.line.Form.TheVariants.{Update, Defer, Flush, Dispatch, Rule, Listener as Listens, Load, Show, Clear}
 use Rattle.lx_step.specs.declared.line.Line.{Line}
 use Rattle.lx_step.specs.declared.line.Tags.{Tags}
 use Rattle.lx_step.specs.Lines.{untagged}
+use Rattle.lx_step.specs.Script.{Script}
 use Rattle.lx_script.specs.Commands.{command_in}
 use Rattle.lx_script.specs.Listeners.{listener_of}
 use Rattle.lx_script.specs.Rules.{rule_of}
-use Rattle.lx_script.specs.Steps.{script_in}
+use Rattle.lx_script.specs.Steps.{script_in, truth_in}
 use Rattle.lx_script.specs.Values.{named, has_only, required, optional, number_within, list_of}
 use Rattle.lx_script.specs.Words.{questions}
 
@@ -26,7 +27,13 @@ use Rattle.lx_script.specs.Words.{questions}
 abbrev pub IsJson : List ℕ → Data → Type 0
 IsJson bytes d = IsUtf8 bytes × (read bytes ≡ Some d)
 
--- ---- how a line is recorded: any line may tell its moment, and an update, a dispatch and a load may have tags
+-- The bytes are refused since they are no JSON value, or memory was wanting.
+abbrev pub TellsNoJson : List ℕ → Fault → Type 0
+TellsNoJson bytes (Refused BadLine) = (d : Data) → IsJson bytes d → ⊥
+TellsNoJson bytes (Refused other) = ⊥
+TellsNoJson bytes Memory = Unit {0}
+
+-- ---- how a line is recorded: any line may tell its moment, and an update, a flush, a dispatch and a load may have tags
 
 abbrev pub most_moment : ℕ
 most_moment = 9007199254740991
@@ -55,10 +62,25 @@ tags_of d = option_map tags_in (optional (list_of as_str) (codes "tags") d)
 
 -- ---- forms
 
--- {"update":[STEP..]}
+-- an update, which waits where it is deferred
+abbrev pub update_with : Script → Bool → Form
+update_with steps true = Defer steps
+update_with steps false = Update steps
+
+-- {"update":[STEP..],"defer"?:TRUTH}
 abbrev pub update_of : Data → Option Form
 update_of d =
-    if has_only (codes "at" ∷ codes "tags" ∷ codes "update" ∷ []) d then option_map (λ steps. Update steps) (required (script_in false) (codes "update") d) else None
+    if has_only (codes "at" ∷ codes "tags" ∷ codes "update" ∷ codes "defer" ∷ []) d then
+    option_map (λ p. update_with p.0 p.1) (option_zip (required (script_in false) (codes "update") d) (truth_in (get (codes "defer") d)))
+    else None
+
+-- {"flush":true}
+abbrev pub flush_told : Bool → Option Form
+flush_told true = Some Flush
+flush_told false = None
+
+abbrev pub flush_of : Data → Option Form
+flush_of d = if has_only (codes "at" ∷ codes "tags" ∷ codes "flush" ∷ []) d then option_and_then flush_told (required as_bool (codes "flush") d) else None
 
 -- {"dispatch":NAME,"payload"?:PAYLOAD}
 abbrev pub dispatch_form_of : Data → Option Form
@@ -85,11 +107,12 @@ clearings = (codes "history", Clear) ∷ []
 abbrev pub clear_of : Data → Option Form
 clear_of d = if has_only (codes "at" ∷ codes "clear" ∷ []) d then required (named clearings) (codes "clear") d else None
 
--- an update, a dispatch, a rule, a listener, a question, or what clears the history
+-- an update, a flush, a dispatch, a rule, a listener, a question, or what clears the history
 abbrev pub form_of : Data → Option Form
 form_of d =
     option_or (update_of d)
-    (option_or (dispatch_form_of d) (option_or (rule_form_of d) (option_or (listener_form_of d) (option_or (show_of d) (clear_of d)))))
+    (option_or (flush_of d)
+    (option_or (dispatch_form_of d) (option_or (rule_form_of d) (option_or (listener_form_of d) (option_or (show_of d) (clear_of d))))))
 
 -- {"load":DOCUMENT}, where any value is a document: it is read as it is loaded
 abbrev pub document_in : Data → Option Data

@@ -25,7 +25,7 @@ use Rattle.lx_host.specs.declared.op.Op.TheVariants.{Create, Place, Drop, Text, 
 use Rattle.lx_select.specs.declared.selection.Selection.{Selection}
 use Rattle.lx_select.specs.declared.selection.Selection.TheVariants as selection
 use Rattle.lx_script.specs.declared.reply.Reply.{Reply}
-use Rattle.lx_script.specs.declared.reply.Reply.TheVariants.{Committed, Refused, Idle, Registered, Cleared, View, Selection as Selected, History}
+use Rattle.lx_script.specs.declared.reply.Reply.TheVariants.{Committed, Refused, Idle, Gathered, Registered, Cleared, View, Selection as Selected, History}
 
 -- ---- parts of replies
 
@@ -202,6 +202,10 @@ refusal_data cause step =
 abbrev pub idle_data : Option Bool → Data
 idle_data handled = object (with_handled handled (member (codes "idle") (boolean true) no_members))
 
+-- {"gathered":N}
+abbrev pub gathered_data : ℕ → Data
+gathered_data n = object (member (codes "gathered") (natural n) no_members)
+
 -- {"registered":N}
 abbrev pub registered_data : ℕ → Data
 registered_data n = object (member (codes "registered") (natural n) no_members)
@@ -231,6 +235,7 @@ unfoldable pub reply_data : Reply → Data
 reply_data (Committed commit ops handled html) = commit_data commit ops handled html
 reply_data (Refused cause step) = refusal_data cause step
 reply_data (Idle handled) = idle_data handled
+reply_data (Gathered n) = gathered_data n
 reply_data (Registered n) = registered_data n
 reply_data Cleared = cleared_data
 reply_data (View html) = view_data html

@@ -33,7 +33,7 @@ mod write;
 
 pub use exporting::node_value;
 pub use fields::{FieldFault, fields_of};
-pub use read::read_line;
+pub use read::{line_of, read_line, read_value};
 pub use reply::Reply;
 pub use types::{kind_of_type, kind_told};
 pub use write::{write_commit, write_reply, write_state};

@@ -1,10 +1,11 @@
 //! Lines: the grammar of commands over the JSON value that a line is.
 
-ghost use Rattle.std.specs.Prelude.{◌≡◌, IfOk, codes, option_map};
+ghost use Rattle.std.specs.Prelude.{◌≡◌, IfOk, IfErr, codes, option_map};
 ghost use Rattle.serde_json.specs.Find.{get};
 ghost use Rattle.serde_json.specs.View.{view};
 ghost use Rattle.lx_step.specs.Sound.{IsSoundForm};
-ghost use Rattle.lx_script.specs.Grammar.{TellsLine};
+ghost use Rattle.lx_script.specs.Steps.{truth_in};
+ghost use Rattle.lx_script.specs.Grammar.{IsJson, TellsLine, TellsNoJson};
 ghost use Rattle.lx_script.specs.Grammar as grammar;
 
 use crate::commands::command_in;
@@ -15,8 +16,9 @@ use crate::scripts::member_script;
 use crate::values::has_only;
 use crate::words::shown_of;
 use lx_node::{Cause, Fault, NoMemory};
-use lx_step::{Form, Line};
-use serde_json::{Category, Value};
+use lx_step::{Form, Line, Steps};
+use lx_value::{Room, Unread};
+use serde_json::Value;
 use std::alloc::Global;
 
 /// Reads a line of bytes, without its end. It is refused as `BadLine` where it isn't JSON, and as
@@ -24,33 +26,82 @@ use std::alloc::Global;
 /// which isn't the root's, and the members that a step sets have values within their ranges: a step of the line itself,
 /// of a listener, or that another step queues. A listener's priority is from 0 to 4.
 ///
+/// An update waits for a line that commits it where `defer` is true beside it.
+///
 /// Any line may tell its moment as `at`, a whole number of milliseconds from 0 to 9,007,199,254,740,991. An update,
-/// a dispatch and a load may have `tags`, a list of strings: `historic`, `history-merge` and `history-push` say how the
+/// a flush, a dispatch and a load may have `tags`, a list of strings: `historic`, `history-merge` and `history-push` say how the
 /// commit is recorded, and others say nothing. A line that has any member beside these and those of its form is refused
 /// as `BadCommand`.
-pub fn read_line(alloc: Global, bytes: &[u8]) -> Result<Line, Fault>
+///
+/// The room is lent to any number of lines, one after another.
+pub fn read_line(alloc: Global, bytes: &[u8], room: &mut Room) -> Result<Line, Fault>
     ensures tells { TellsLine bytes.now result }
     ensures sound { IfOk result (λ line. IsSoundForm line.form) }
 {
-    match Value::from_slice(alloc, bytes) {
+    match read_value(alloc, bytes, room) {
         Ok(value) => line_of(alloc, value),
-        Err(error) => match error.classify() {
-            Category::Memory => Err(Fault::Memory),
-            _ => Err(Fault::Cause(Cause::BadLine)),
-        },
+        Err(fault) => Err(fault),
     }
 }
 
-/// An update.
+/// Reads the JSON value that bytes are, or refuses them as `BadLine`.
+pub fn read_value(alloc: Global, bytes: &[u8], room: &mut Room) -> Result<Value, Fault>
+    ensures ok { IfOk result (λ value. IsJson bytes.now (view value)) }
+    ensures refused { IfErr result (TellsNoJson bytes.now) }
+{
+    match lx_value::read_value(alloc, bytes, room) {
+        Ok(value) => Ok(value),
+        Err(Unread::NoJson) => Err(Fault::Cause(Cause::BadLine)),
+        Err(Unread::Memory) => Err(Fault::Memory),
+    }
+}
+
+/// Whether an update waits.
+fn defer_in(value: &Value) -> Option<bool>
+    ensures { result ≡ truth_in (get (codes "defer") (view value.now)) }
+{
+    match value.get("defer") {
+        Some(value) => value.as_bool(),
+        None => Some(false),
+    }
+}
+
+/// An update, which waits where it is deferred.
+fn update_with(steps: Steps, defer: bool) -> Form
+    ensures { result ≡ grammar.update_with steps defer }
+{
+    if defer {
+        Form::Defer(steps)
+    } else {
+        Form::Update(steps)
+    }
+}
+
+/// An update, which may wait.
 fn update_of(alloc: Global, value: &Value) -> Result<Option<Form>, NoMemory>
     ensures { IfOk result (λ made. made ≡ grammar.update_of (view value.now)) }
 {
-    if !has_only(&["at", "tags", "update"], value) {
+    if !has_only(&["at", "tags", "update", "defer"], value) {
         return Ok(None);
     }
-    match member_script(alloc, false, "update", value)? {
-        Some(steps) => Ok(Some(Form::Update(steps))),
+    let defer = defer_in(value);
+    let steps = member_script(alloc, false, "update", value)?;
+    match steps.zip(defer) {
+        Some((steps, defer)) => Ok(Some(update_with(steps, defer))),
         None => Ok(None),
+    }
+}
+
+/// What commits the updates that wait.
+fn flush_of(value: &Value) -> Option<Form>
+    ensures { result ≡ grammar.flush_of (view value.now) }
+{
+    if !has_only(&["at", "tags", "flush"], value) {
+        return None;
+    }
+    match value.get("flush").and_then(Value::as_bool) {
+        Some(true) => Some(Form::Flush),
+        _ => None,
     }
 }
 
@@ -132,6 +183,9 @@ fn form_of(alloc: Global, value: &Value) -> Result<Option<Form>, NoMemory>
     if let Some(form) = update_of(alloc, value)? {
         return Ok(Some(form));
     }
+    if let Some(form) = flush_of(value) {
+        return Ok(Some(form));
+    }
     if let Some(form) = dispatch_form_of(alloc, value)? {
         return Ok(Some(form));
     }
@@ -169,7 +223,7 @@ fn load_of(value: Value) -> Option<Value>
 
 /// A line. A value that is none is refused as no command. A load takes its document out of the value, so the moment and
 /// the tags are read before.
-fn line_of(alloc: Global, value: Value) -> Result<Line, Fault>
+pub fn line_of(alloc: Global, value: Value) -> Result<Line, Fault>
     ensures makes { grammar.Makes (view value) result }
     ensures sound { IfOk result (λ line. IsSoundForm line.form) }
 {

@@ -22,6 +22,8 @@ pub enum Reply {
     Idle {
         handled: Option<bool>,
     },
+    /// The line waits for one that commits it, and with it so many do.
+    Gathered(u32),
     /// The line registered a listener, and this is its number, from 1.
     Registered(u32),
     /// The line made the history forget its entries.

@@ -3,7 +3,7 @@
 ghost use Rattle.std.specs.Prelude.{◌≡◌, false, IfOk};
 ghost use Rattle.serde_json.specs.View.{view};
 ghost use Rattle.serde_json.specs.Written.{has_float};
-ghost use Rattle.lx_script.specs.Replies.{reply_data, reply_text, commit_data, refusal_data, idle_data, registered_data, cleared_data, history_data, state_data, state_text, view_data, shown_selection_data};
+ghost use Rattle.lx_script.specs.Replies.{reply_data, reply_text, commit_data, refusal_data, idle_data, gathered_data, registered_data, cleared_data, history_data, state_data, state_text, view_data, shown_selection_data};
 ghost use Rattle.lx_script.specs.declared.reply.Reply.TheVariants.{Committed};
 
 use crate::causes::{cause_name, detail_value};
@@ -60,6 +60,7 @@ fn reply_value(alloc: Global, reply: &Reply) -> Result<Value, AllocError>
         } => commit_value(alloc, *number, ops.items(), *handled, view),
         Reply::Refused { cause, step } => refusal_value(alloc, cause, *step),
         Reply::Idle { handled } => idle_value(alloc, *handled),
+        Reply::Gathered(count) => gathered_value(alloc, *count),
         Reply::Registered(number) => registered_value(alloc, *number),
         Reply::Cleared => cleared_value(alloc),
         Reply::View(html) => shown_view(alloc, html),
@@ -100,6 +101,12 @@ fn idle_value(alloc: Global, handled: Option<bool>) -> Result<Value, AllocError>
         Some(handled) => json!(in alloc; {"handled": handled, "idle": true}),
         None => json!(in alloc; {"idle": true}),
     }
+}
+
+fn gathered_value(alloc: Global, count: u32) -> Result<Value, AllocError>
+    ensures { IfOk result (λ v. view v ≡ gathered_data count) }
+{
+    json!(in alloc; {"gathered": count})
 }
 
 fn registered_value(alloc: Global, number: u32) -> Result<Value, AllocError>

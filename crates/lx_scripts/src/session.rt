@@ -13,6 +13,7 @@ use lx_reconcile::fresh;
 use lx_run::{Refusal, run_steps};
 use lx_script::{Reply, read_line, write_reply};
 use lx_step::{Form, Line, Shown, Step};
+use lx_value::Room;
 use std::alloc::Global;
 
 /// A state, and the key that the next new node gets: an update may start from them.
@@ -22,6 +23,7 @@ pub(crate) struct Session {
     next_key: u32,
     /// No listeners: what steps dispatch is offered to nobody.
     nobody: Bus,
+    room: Room,
     ghost may_start: { MayStart state.links next_key },
 }
 
@@ -30,16 +32,18 @@ impl Session {
     pub(crate) fn new(alloc: Global) -> Result<Session, NoMemory> {
         let state = State::new(alloc)?;
         let nobody = Bus::new(alloc)?;
+        let room = Room::new(alloc)?;
         Ok(Session {
             state,
             next_key: 1,
             nobody,
+            room,
         })
     }
 
     /// Does what a line asks for, and tells it in a line without its end.
     pub(crate) fn answer(&mut self, alloc: Global, line: &[u8]) -> Result<Vec<u8>> {
-        match read_line(alloc, line) {
+        match read_line(alloc, line, &mut self.room) {
             Ok(line) => self.line(alloc, line),
             Err(Fault::Cause(cause)) => refused(alloc, cause, None),
             Err(Fault::Memory) => Err(NoMemory.into()),

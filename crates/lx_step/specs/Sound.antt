@@ -5,7 +5,7 @@ use Rattle.lx_node.specs.declared.kind.Kind.TheVariants.{Root}
 use Rattle.lx_node.specs.declared.fields.Fields.{Fields}
 use Rattle.lx_node.specs.OfKind.{IsOfKind}
 use Rattle.lx_step.specs.declared.line.Form.{Form}
-use Rattle.lx_step.specs.declared.line.Form.TheVariants.{Update, Dispatch, Rule, Listener as Listens, Load, Show, Clear}
+use Rattle.lx_step.specs.declared.line.Form.TheVariants.{Update, Defer, Flush, Dispatch, Rule, Listener as Listens, Load, Show, Clear}
 use Rattle.lx_step.specs.declared.step.Step.{Step}
 use Rattle.lx_step.specs.declared.step.Step.TheVariants.{New, Set, Later}
 use Rattle.lx_node.specs.Trees.{nil, tree}
@@ -40,10 +40,12 @@ pub record IsSoundListener (l : Listener) : Type 0 where
   pub priority : l.priority ≤ 4
   pub steps : IsSoundScript l.steps
 
--- The steps of an update are sound, and so is a listener. Of a rule nothing is asked, since an edit that doesn't suit its node
+-- The steps of an update are sound, also where it waits, and so is a listener. Of a rule nothing is asked, since an edit that doesn't suit its node
 -- has no work there, and of a document nothing, since it is read as it is loaded.
 abbrev pub IsSoundForm : Form → Type 0
 IsSoundForm (Update steps) = IsSoundScript steps
+IsSoundForm (Defer steps) = IsSoundScript steps
+IsSoundForm Flush = Unit {0}
 IsSoundForm (Dispatch command) = Unit {0}
 IsSoundForm (Rule rule) = Unit {0}
 IsSoundForm (Listens listener) = IsSoundListener listener

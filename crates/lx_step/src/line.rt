@@ -29,6 +29,10 @@ pub struct Tags {
 pub enum Form {
     /// An update by these steps, in their order.
     Update(Steps),
+    /// An update by these steps that waits for a line which commits it.
+    Defer(Steps),
+    /// What waits is committed.
+    Flush,
     /// A command that is dispatched.
     Dispatch(Command),
     /// A rule that is registered.
@@ -45,7 +49,7 @@ pub enum Form {
 
 impl Tags {
     ghost use Rattle.std.specs.Prelude.{◌≡◌};
-    ghost use Rattle.lx_step.specs.Lines.{untagged};
+    ghost use Rattle.lx_step.specs.Lines.{untagged, both_tags};
 
     /// No tags.
     pub fn none() -> Tags
@@ -55,6 +59,17 @@ impl Tags {
             historic: false,
             merge: false,
             push: false,
+        }
+    }
+
+    /// What these tags and others say together.
+    pub fn with(self, others: Tags) -> Tags
+        ensures { result ≡ both_tags self others }
+    {
+        Tags {
+            historic: self.historic || others.historic,
+            merge: self.merge || others.merge,
+            push: self.push || others.push,
         }
     }
 }

@@ -3,6 +3,7 @@
 use lx_node::NoMemory;
 use lx_script::read_line;
 use lx_step::{Form, Listener};
+use lx_value::Room;
 use std::alloc::Global;
 use std::test::Fail;
 
@@ -50,7 +51,8 @@ fn is_copied(alloc: Global, listener: &Listener) -> Result<bool, NoMemory> {
 #[test]
 fn a_copy_of_a_listener_is_told_alike(rt: HostRuntime) -> Result<(), Fail> {
     let alloc = rt.alloc();
-    let line = read_line(alloc, LISTENER.as_bytes())?;
+    let mut room = Room::new(alloc)?;
+    let line = read_line(alloc, LISTENER.as_bytes(), &mut room)?;
     let Form::Listener(listener) = &line.form else {
         return Err(Fail::new("it is read as no listener"));
     };

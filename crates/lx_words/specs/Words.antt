@@ -1,5 +1,5 @@
 -- What the program's words ask for, and which words it takes, by clap's stated meaning of a simple command.
-use Rattle.std.specs.Prelude.{◌≡◌, ℕ, Bool, pos, true, false, List, [], ◌∷◌, Option, Some, codes, ⊤}
+use Rattle.std.specs.Prelude.{◌≡◌, ◌≤◌, ◌&&◌, ◌⊎◌, ℕ, Bool, pos, true, false, is_some, unwrap_or, List, [], ◌∷◌, Option, None, Some, option_map, codes, ⊤}
 use Rattle.std.specs.Option.{option_map_or}
 use Rattle.std.specs.Str.{bytes_eq}
 use Rattle.std.specs.Str.Parse.{digits_value, without_leading_plus}
@@ -12,6 +12,8 @@ use Rattle.clap.specs.Walk.{Rule, Text, is_empty, one_of}
 use Rattle.clap.specs.declared.builder.action.ArgAction.TheVariants.{Set, SetTrue}
 use Rattle.clap.specs.declared.builder.value_parser.ValueParser.TheVariants as vp
 use Rattle.clap.specs.declared.parser.matches.Found.{Found}
+use Rattle.lx_words.specs.declared.options.Mode.{Mode}
+use Rattle.lx_words.specs.declared.options.Mode.TheVariants as mode
 use Rattle.lx_words.specs.declared.options.Options.{Options}
 use Rattle.lx_words.specs.declared.options.Refused.{Refused}
 use Rattle.lx_words.specs.declared.options.Refused.TheVariants as refused
@@ -33,15 +35,35 @@ delay_rule = record (new_rule (codes "delay")) {
   defaults = codes "1000" ∷ [];
 }
 
+-- the most lines that a generated session has
+abbrev pub most_lines : ℕ
+most_lines = 20000
+
+-- `--generate N`, a number of lines
+unfoldable pub generate_rule : Rule
+generate_rule = record (new_rule (codes "generate")) {
+  long = Some (codes "generate");
+  action = Some Set;
+  parser = Some (vp.Signed (pos 1) (pos most_lines));
+}
+
+-- the largest seed, which is the largest number of 32 bits
+abbrev pub most_seed : ℕ
+most_seed = 4294967295
+
+-- `--seed S`, a number of 32 bits
+unfoldable pub seed_rule : Rule
+seed_rule = record (new_rule (codes "seed")) {
+  long = Some (codes "seed");
+  action = Some Set;
+  parser = Some (vp.Signed (pos 0) (pos most_seed));
+}
+
 -- the program, passed the words behind its name; it has no flag for help and none for a version
 unfoldable pub lexical_app : App
 lexical_app =
-    with_rule (with_rule (on_top (λ s. record s { no_binary_name = true; disable_help_flag = true })
-    (new_app (codes "lexical"))) view_rule) delay_rule
-
--- clap lists no kind of error at the words
-unfoldable pub are_taken : List Text → Bool
-are_taken words = is_empty (fault_of lexical_app words)
+    with_rule (with_rule (with_rule (with_rule (on_top (λ s. record s { no_binary_name = true; disable_help_flag = true })
+    (new_app (codes "lexical"))) view_rule) delay_rule) generate_rule) seed_rule
 
 -- the text that clap reads of the flag is `true`
 unfoldable pub says_true : Option Text → Bool
@@ -51,6 +73,10 @@ says_true text = option_map_or (λ t. bytes_eq t (codes "true")) text false
 unfoldable pub number_said : Option Text → ℕ
 number_said text = option_map_or (λ t. digits_value 10 (without_leading_plus t)) text 0
 
+-- the same of a text that may be missing
+unfoldable pub number_if_said : Option Text → Option ℕ
+number_if_said text = option_map (λ t. digits_value 10 (without_leading_plus t)) text
+
 -- whether the words ask for the view, by clap's matches
 unfoldable pub view_in : List Text → Bool
 view_in words = says_true (one_of (codes "view") (matches_of lexical_app words))
@@ -59,16 +85,55 @@ view_in words = says_true (one_of (codes "view") (matches_of lexical_app words))
 unfoldable pub delay_in : List Text → ℕ
 delay_in words = number_said (one_of (codes "delay") (matches_of lexical_app words))
 
+-- the number of an option that the words may have, by clap's matches
+unfoldable pub number_in : Text → List Text → Option ℕ
+number_in name words = number_if_said (one_of name (matches_of lexical_app words))
+
+-- The mode that is asked for, by whether the view is and by the numbers of lines and of the seed: the two stand together, and
+-- not beside the view.
+abbrev pub mode_of : Bool → Option ℕ → Option ℕ → Option Mode
+mode_of view None None = Some mode.Plain
+mode_of false (Some lines) (Some seed) = Some (mode.Generate (record { lines = lines; seed = seed }))
+mode_of view lines seed = None
+
+-- a session that is generated has as many lines as it may have
+abbrev pub HasLines : Mode → Type 0
+HasLines mode.Plain = ⊤
+HasLines (mode.Generate session) = (1 ≤ session.lines) × (session.lines ≤ most_lines)
+
+-- the mode that the words ask for, by clap's matches
+unfoldable pub mode_in : List Text → Option Mode
+mode_in words = mode_of (view_in words) (number_in (codes "generate") words) (number_in (codes "seed") words)
+
+-- clap lists no kind of error at the words, and they ask for a mode
+unfoldable pub are_taken : List Text → Bool
+are_taken words = is_empty (fault_of lexical_app words) && is_some (mode_in words)
+
 -- what the words ask for
 abbrev pub asked_for : List Text → Options
-asked_for words = record { view = view_in words; delay = delay_in words }
+asked_for words = record { mode = unwrap_or (mode_in words) mode.Plain; view = view_in words; delay = delay_in words }
 
 -- words are refused as usage only where they are not taken
 abbrev pub IsRefusal : Refused → List Text → Type 0
 IsRefusal refused.Usage words = are_taken words ≡ false
 IsRefusal refused.Memory words = ⊤
 
--- the matches have a delay that its parser took
-abbrev pub HasDelay : Found → Type 0
-HasDelay f = (text : Text) × (one_text f (codes "delay") ≡ Some (without_minus text))
-    × IsSignedIn (pos 0) (pos most_delay) text
+-- the matches have a number under this name that its parser took
+abbrev pub HasNumber : Text → ℕ → ℕ → Found → Type 0
+HasNumber name least most f = (text : Text) × (one_text f name ≡ Some (without_minus text))
+    × IsSignedIn (pos least) (pos most) text
+
+-- they have nothing under this name, or such a number
+abbrev pub MayHaveNumber : Text → ℕ → ℕ → Found → Type 0
+MayHaveNumber name least most f = (one_text f name ≡ None) ⊎ HasNumber name least most f
+
+-- what the program's matches have of its numbers
+pub record HasNumbers (f : Found) : Type 0 where
+  pub delay : HasNumber (codes "delay") 0 most_delay f
+  pub generate : MayHaveNumber (codes "generate") 1 most_lines f
+  pub seed : MayHaveNumber (codes "seed") 0 most_seed f
+
+-- the mode that matches ask for
+abbrev pub mode_found : Found → Option Mode
+mode_found f = mode_of (says_true (one_text f (codes "view"))) (number_if_said (one_text f (codes "generate")))
+    (number_if_said (one_text f (codes "seed")))

@@ -1,6 +1,6 @@
 ghost use Rattle.std.specs.Prelude.{◌≡◌, IfOk, false};
 ghost use Rattle.clap.specs.Words.{app_of, rule_of};
-ghost use Rattle.lx_words.specs.Words.{delay_rule, lexical_app, view_rule};
+ghost use Rattle.lx_words.specs.Words.{delay_rule, generate_rule, lexical_app, seed_rule, view_rule};
 
 use clap::{Arg, ArgAction, Command, value_parser};
 use std::alloc::{AllocError, Global};
@@ -13,7 +13,9 @@ pub(crate) fn lexical_command<'a>(alloc: Global) -> Result<Command<'a>, AllocErr
         .no_binary_name(true)
         .disable_help_flag(true)
         .arg(view_flag(alloc))?
-        .arg(delay_option(alloc))
+        .arg(delay_option(alloc))?
+        .arg(generate_option(alloc))?
+        .arg(seed_option(alloc))
 }
 
 #[tactic(auto, unfolding(crate::specs::Words::view_rule))]
@@ -36,4 +38,26 @@ fn delay_option<'a>(alloc: Global) -> Arg<'a>
         .action(ArgAction::Set)
         .value_parser(value_parser!(u32).range(0..=86_400_000))
         .default_value("1000")
+}
+
+#[tactic(auto, unfolding(crate::specs::Words::generate_rule))]
+fn generate_option<'a>(alloc: Global) -> Arg<'a>
+    ensures rule { rule_of result ≡ generate_rule }
+    ensures local { result.global ≡ false }
+{
+    Arg::new(alloc, "generate")
+        .long("generate")
+        .action(ArgAction::Set)
+        .value_parser(value_parser!(u32).range(1..=20_000))
+}
+
+#[tactic(auto, unfolding(crate::specs::Words::seed_rule))]
+fn seed_option<'a>(alloc: Global) -> Arg<'a>
+    ensures rule { rule_of result ≡ seed_rule }
+    ensures local { result.global ≡ false }
+{
+    Arg::new(alloc, "seed")
+        .long("seed")
+        .action(ArgAction::Set)
+        .value_parser(value_parser!(u32).range(0..=4_294_967_295))
 }

@@ -4,4 +4,4 @@
 mod command;
 mod options;
 
-pub use options::{Options, Refused, options_of};
+pub use options::{Generated, Mode, Options, Refused, options_of};

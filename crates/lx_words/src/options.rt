@@ -1,16 +1,36 @@
-ghost use Rattle.std.specs.Prelude.{◌≡◌, ◌≢◌, ◌≤◌, IfOk, IfErr, true, map, codes};
+ghost use Rattle.std.specs.Prelude.{◌≡◌, ◌≢◌, ◌≤◌, IfOk, IfErr, IfSome, true, None, Some, map, codes};
 ghost use Rattle.std.specs.String.{string_bytes};
 ghost use Rattle.clap.specs.Words.{found_of, one_text};
-ghost use Rattle.lx_words.specs.Words.{HasDelay, IsRefusal, are_taken, asked_for, most_delay, number_said, says_true};
+ghost use Rattle.lx_words.specs.Words.{HasLines, HasNumber, HasNumbers, IsRefusal, MayHaveNumber, are_taken, asked_for, mode_found, mode_of, most_delay, most_lines, most_seed, number_if_said, number_said, says_true};
 
 use crate::command::lexical_command;
 use clap::ArgMatches;
 use clap::error::ErrorKind;
 use std::alloc::Global;
 
+/// What the program does.
+#[derive(Clone, Copy)]
+pub enum Mode {
+    /// It answers the lines of its input.
+    Plain,
+    /// It generates a session in the place of the input, and tells it as a whole.
+    Generate(Generated),
+}
+
+/// A session that is generated.
+#[derive(Clone, Copy)]
+pub struct Generated {
+    /// How many lines it has, from 1 to 20,000.
+    pub lines: u32,
+    /// The number from which its lines are made.
+    pub seed: u32,
+}
+
 /// What the words ask for.
 #[derive(Clone, Copy)]
 pub struct Options {
+    /// What the program does.
+    pub mode: Mode,
     /// Whether the reply to each commit also tells the view.
     pub view: bool,
     /// The delay of the history in milliseconds, from 0 to 86,400,000.
@@ -26,33 +46,54 @@ pub enum Refused {
     Memory,
 }
 
-/// What the words behind the program's name ask for. They are taken exactly where clap takes them, unless memory
-/// runs out first.
+/// What the words behind the program's name ask for. They are taken exactly where clap takes them and they ask for one mode,
+/// unless memory runs out first: `--generate` and `--seed` stand together, and not beside `--view`.
 pub fn options_of(alloc: Global, words: &[String]) -> Result<Options, Refused>
     ensures ok { IfOk result (λ options. (are_taken (map string_bytes words.now) ≡ true)
         × (options ≡ asked_for (map string_bytes words.now))) }
     ensures usage { IfErr result (λ refused. IsRefusal refused (map string_bytes words.now)) }
     ensures delay { IfOk result (λ options. options.delay ≤ most_delay) }
+    ensures lines { IfOk result (λ options. HasLines options.mode) }
 {
     let command = match lexical_command(alloc) {
         Ok(command) => command,
         Err(_) => return Err(Refused::Memory),
     };
     match command.try_get_matches_from(words) {
-        Ok(matches) => Ok(options_in(&matches)),
+        Ok(matches) => options_in(&matches),
         Err(error) => Err(refused_by(error.kind())),
     }
 }
 
-fn options_in(matches: &ArgMatches<'_>) -> Options
-    requires delay { HasDelay (found_of matches.now) }
-    ensures view { result.view ≡ says_true (one_text (found_of matches.now) (codes "view")) }
-    ensures delay { result.delay ≡ number_said (one_text (found_of matches.now) (codes "delay")) }
-    ensures most { result.delay ≤ most_delay }
+/// What the matches ask for. They are refused where they ask for no mode.
+fn options_in(matches: &ArgMatches<'_>) -> Result<Options, Refused>
+    requires numbers { HasNumbers (found_of matches.now) }
+    ensures mode { IfOk result (λ options. mode_found (found_of matches.now) ≡ Some options.mode) }
+    ensures view { IfOk result (λ options. options.view ≡ says_true (one_text (found_of matches.now) (codes "view"))) }
+    ensures delay { IfOk result (λ options. options.delay ≡ number_said (one_text (found_of matches.now) (codes "delay"))) }
+    ensures most { IfOk result (λ options. options.delay ≤ most_delay) }
+    ensures lines { IfOk result (λ options. HasLines options.mode) }
+    ensures usage { IfErr result (λ refused. (refused ≡ Refused.Usage) × (mode_found (found_of matches.now) ≡ None)) }
 {
-    Options {
-        view: found_view(matches),
-        delay: found_delay(matches),
+    let view = found_view(matches);
+    let lines = found_lines(matches);
+    let seed = found_seed(matches);
+    let delay = found_delay(matches);
+    match mode_of(view, lines, seed) {
+        Some(mode) => Ok(Options { mode, view, delay }),
+        None => Err(Refused::Usage),
+    }
+}
+
+/// The mode that is asked for, if it is one.
+fn mode_of(view: bool, lines: Option<u32>, seed: Option<u32>) -> Option<Mode>
+    ensures mode { result ≡ mode_of view lines seed }
+    ensures lines { IfSome lines (λ n. (1 ≤ n) × (n ≤ most_lines)) → IfSome result HasLines }
+{
+    match (view, lines, seed) {
+        (_, None, None) => Some(Mode::Plain),
+        (false, Some(lines), Some(seed)) => Some(Mode::Generate(Generated { lines, seed })),
+        _ => None,
     }
 }
 
@@ -63,11 +104,26 @@ fn found_view(matches: &ArgMatches<'_>) -> bool
 }
 
 fn found_delay(matches: &ArgMatches<'_>) -> u32
-    requires { HasDelay (found_of matches.now) }
+    requires { HasNumber (codes "delay") 0 most_delay (found_of matches.now) }
     ensures said { result ≡ number_said (one_text (found_of matches.now) (codes "delay")) }
     ensures most { result ≤ most_delay }
 {
     matches.get_one::<u32>("delay").unwrap()
+}
+
+fn found_lines(matches: &ArgMatches<'_>) -> Option<u32>
+    requires { MayHaveNumber (codes "generate") 1 most_lines (found_of matches.now) }
+    ensures said { result ≡ number_if_said (one_text (found_of matches.now) (codes "generate")) }
+    ensures within { IfSome result (λ n. (1 ≤ n) × (n ≤ most_lines)) }
+{
+    matches.get_one::<u32>("generate")
+}
+
+fn found_seed(matches: &ArgMatches<'_>) -> Option<u32>
+    requires { MayHaveNumber (codes "seed") 0 most_seed (found_of matches.now) }
+    ensures { result ≡ number_if_said (one_text (found_of matches.now) (codes "seed")) }
+{
+    matches.get_one::<u32>("seed")
 }
 
 fn refused_by(kind: ErrorKind) -> Refused

@@ -1,4 +1,6 @@
-use Rattle.std.proofs.Common.{[], ◌∙◌, ap}
+use Rattle.std.proofs.Common.{[], ◌≡◌, ◌∙◌, ap, sym}
+use Rattle.lx_words.specs.declared.options.Mode.{Mode}
+use Rattle.lx_editor.specs.Editor.{new_editor}
 use Rattle.lx_cli.specs.Run.{source_seen, sink_seen}
 use Rattle.lx_cli.specs.Steps.{options_of}
 use Rattle.lx_cli.proofs.Runs.{IsRun-none}
@@ -23,4 +25,7 @@ returns-in-Err-new_buffer g c words taken is = (
 )
 
 pub returns : goal.returns
-returns g c words taken is = c.answer_all.ensures words taken (ap options_of c.in-Ok.ensures.editor ∙ is)
+returns g c words taken is =
+    let plain : options_of (new_editor c.args.options.view c.args.options.delay) ≡ c.args.options =
+    ap (λ (m : Mode). record c.args.options { mode = m }) (sym c.requires) in
+    c.answer_all.ensures words taken (ap options_of c.in-Ok.ensures.editor ∙ plain ∙ is)

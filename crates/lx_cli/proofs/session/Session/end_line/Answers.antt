@@ -9,7 +9,7 @@ pub returns-clause-lines : goal.returns-clause-lines
 returns-clause-lines g c =
     let seen = sink_seen g.K.Sink.taken g.K.Sink.faults g.K.Sink.writes in
     let old = c.args.self.now.editor in
-    let new = c.answer_line.new.editor in
+    let new = c.answer_line-answer.new.editor in
     let line = c.args.self.now.pending.items in
     let answer = c.in-Ok.reply.items in
     let answers : Answers old line answer new =

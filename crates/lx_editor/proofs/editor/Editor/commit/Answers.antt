@@ -1,7 +1,8 @@
-use Rattle.std.proofs.Common.{◌≡◌, ◌+◌, sym, subst}
+use Rattle.std.proofs.Common.{◌≡◌, ◌+◌, Option, sym, subst}
 use Rattle.lx_host.specs.Hosts.{FitInTurn, Leads}
+use Rattle.lx_editor.specs.declared.pending.Pending.{Pending}
 use Rattle.lx_editor.specs.Editor.{Editor}
-use Rattle.lx_editor.specs.Standing.{editor_of}
+use Rattle.lx_editor.specs.Standing.{editor_of, IsValid}
 use Rattle.lx_editor.specs.Updated.{Left, left_of, state_with, recorded, IsCommitted}
 use Rattle.lx_editor.specs.Judged.{MayCommit}
 use Rattle.lx_editor.proofs.Updated.{allowed_fit, recorded_same, still_valid, committed, made}
@@ -27,7 +28,9 @@ invariant_of-self-2 c =
     c.in_ok-entry.ensures.links c.in_ok-entry.ensures.selection c.prepare.ensures.same c.note.ensures in
     let may : MayCommit e left c.args.batch = subst (λ (d : Editor). MayCommit d (left_of d.rules c.args.frozen) c.args.batch) (sym c.self.view_is) c.requires.may in
     let leads : Leads e.view ops view = subst (λ ops. Leads e.view ops view) c.in_ok-ops.ensures c.in_ok-follow.ensures.leads in
-    still_valid e c.args.how left view history is ops may.allowed leads c.args.batch.reads c.self.invariant may.stands.state may.grown
+    let new : Editor = made e c.args.how left view history is ops may.allowed leads c.args.batch.reads in
+    subst (λ (p : Option Pending). IsValid (record new { pending = p })) (sym c.forget.ensures)
+    (still_valid e c.args.how left view history is ops may.allowed leads c.args.batch.reads c.self.invariant may.stands.state may.grown)
 
 pub returns-clause-committed : goal.returns-clause-committed
 returns-clause-committed c =
@@ -44,4 +47,5 @@ returns-clause-committed c =
     let leads : Leads e.view ops view = subst (λ ops. Leads e.view ops view) c.in_ok-ops.ensures c.in_ok-follow.ensures.leads in
     let new : Editor = made e c.args.how left view history is ops may.allowed leads reads in
     let done = committed e c.args.how left view history is ops may.allowed leads reads may.stands.state.joined may.stands.state.numbered may.anew may.ids may.few in
-    subst (λ (d : Editor). IsCommitted d c.args.how (left_of d.rules c.args.frozen) (d.commits + 1) ops new) c.self.view_is done
+    let told = subst (λ (p : Option Pending). IsCommitted e c.args.how left (e.commits + 1) ops (record new { pending = p })) (sym c.forget.ensures) done in
+    subst (λ (d : Editor). IsCommitted d c.args.how (left_of d.rules c.args.frozen) (d.commits + 1) ops (record new { pending = c.forget.new.pending })) c.self.view_is told

@@ -1,7 +1,8 @@
-use Rattle.std.proofs.Common.{◌+◌, sym, subst}
+use Rattle.std.proofs.Common.{◌+◌, Option, sym, subst}
 use Rattle.lx_host.specs.Hosts.{FitInTurn, Leads}
+use Rattle.lx_editor.specs.declared.pending.Pending.{Pending}
 use Rattle.lx_editor.specs.Editor.{Editor}
-use Rattle.lx_editor.specs.Standing.{editor_of}
+use Rattle.lx_editor.specs.Standing.{editor_of, IsValid}
 use Rattle.lx_editor.specs.Turned.{IsTurned}
 use Rattle.lx_editor.specs.Judged.{MayTurn}
 use Rattle.lx_editor.proofs.Updated.{leads_fit}
@@ -24,7 +25,9 @@ invariant_of-self-2 c =
     let may : MayTurn e c.args.turn c.args.state batch = subst (λ (d : Editor). MayTurn d c.args.turn c.args.state batch) (sym c.self.view_is) c.requires.may in
     let leads : Leads e.view batch.ops view = subst (λ ops. Leads e.view ops view) c.in_ok-ops.ensures c.in_ok-follow.ensures.leads in
     let turns = has_turned c.turn-turned.result c.args.turn c.args.moment e.history c.prepare.new.self.history history c.args.state may.next c.prepare.ensures.same c.turn-turned.ensures in
-    still_valid e c.args.turn c.args.moment c.args.state batch may c.self.invariant view leads history turns
+    let new : Editor = made e c.args.turn c.args.moment c.args.state batch may c.self.invariant view leads history turns in
+    subst (λ (p : Option Pending). IsValid (record new { pending = p })) (sym c.forget.ensures)
+    (still_valid e c.args.turn c.args.moment c.args.state batch may c.self.invariant view leads history turns)
 
 pub returns-clause-turned : goal.returns-clause-turned
 returns-clause-turned c =
@@ -37,4 +40,5 @@ returns-clause-turned c =
     let turns = has_turned c.turn-turned.result c.args.turn c.args.moment e.history c.prepare.new.self.history history c.args.state may.next c.prepare.ensures.same c.turn-turned.ensures in
     let new : Editor = made e c.args.turn c.args.moment c.args.state batch may c.self.invariant view leads history turns in
     let done = is_turned e c.args.turn c.args.moment c.args.state batch may c.self.invariant view leads history turns in
-    subst (λ (d : Editor). IsTurned c.args.turn c.args.moment d (d.commits + 1) batch.ops new) c.self.view_is done
+    let told = subst (λ (p : Option Pending). IsTurned c.args.turn c.args.moment e (e.commits + 1) batch.ops (record new { pending = p })) (sym c.forget.ensures) done in
+    subst (λ (d : Editor). IsTurned c.args.turn c.args.moment d (d.commits + 1) batch.ops (record new { pending = c.forget.new.pending })) c.self.view_is told

@@ -1,11 +1,12 @@
 use Rattle.std.proofs.Common.{◌≡◌, ◌∙◌, List, sym, ap, subst}
 use Rattle.lx_rules.specs.declared.any_rule.AnyRule.{AnyRule}
 use Rattle.lx_editor.specs.Editor.{Editor}
+use Rattle.lx_editor.specs.Gathering.{started_of}
 use Rattle.lx_editor.specs.Standing.{IsValid}
-use Rattle.lx_editor.specs.Updated.{begun, left_of}
+use Rattle.lx_editor.specs.Updated.{left_of, rested_by}
 use Rattle.lx_editor.specs.Judged.{IsLeft, HasGrown, IsJudged, LeavesAtRest, IsSettledOf}
 use Rattle.lx_editor.proofs.Began.{fresh_rests}
-use Rattle.lx_editor.proofs.Updated.{fresh_begun}
+use Rattle.lx_editor.proofs.Updated.{fresh_started}
 use Rattle.lx_editor.proofs.Told.{told}
 use Rattle.lx_editor.proofs.editor.Editor.judge_draft.Goals as goal
 
@@ -13,14 +14,14 @@ pub rest-requires : goal.rest-requires
 rest-requires c =
     let e : Editor = c.args.self.now in
     let valid : IsValid e = subst IsValid c.self.view_is c.self.invariant in
-    record { may = fresh_rests (begun e) c.args.draft (fresh_begun e valid) c.requires.covered }
+    record { may = fresh_rests (started_of e) c.args.draft (fresh_started e valid) c.requires.covered }
 
 pub weigh-requires : goal.weigh-requires
 weigh-requires c =
     let e : Editor = c.args.self.now in
     let valid : IsValid e = subst IsValid c.self.view_is c.self.invariant in
     let same : c.as_slice.result.now ≡ e.rules = c.as_slice.ensures.value ∙ ap (λ (d : Editor). d.rules) c.self.view_is in
-    let stands = c.in-Ok.ensures.stands _ (fresh_begun e valid) c.requires.covered in
+    let stands = c.in-Ok.ensures.stands _ (fresh_started e valid) c.requires.covered in
     record {
       left = subst (λ (rules : List AnyRule). IsLeft (left_of rules c.in-Ok.frozen)) same stands.0;
       covered = stands.1;
@@ -34,7 +35,7 @@ returns-in-Ok c =
     let valid : IsValid e = subst IsValid c.self.view_is c.self.invariant in
     let leaves : LeavesAtRest c.args.draft (left_of e.rules c.in-Ok.frozen) = subst (λ (rules : List AnyRule). LeavesAtRest c.args.draft (left_of rules c.in-Ok.frozen)) same c.in-Ok.ensures.left in
     let settles : IsSettledOf c.args.draft (left_of e.rules c.in-Ok.frozen) =
-    subst (λ (rules : List AnyRule). IsSettledOf c.args.draft (left_of rules c.in-Ok.frozen)) same (c.in-Ok.ensures.stands _ (fresh_begun e valid) c.requires.covered).3
+    subst (λ (rules : List AnyRule). IsSettledOf c.args.draft (left_of rules c.in-Ok.frozen)) same (c.in-Ok.ensures.stands _ (fresh_started e valid) c.requires.covered).3
     in
     record {
       judged =

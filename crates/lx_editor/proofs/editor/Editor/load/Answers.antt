@@ -1,6 +1,6 @@
 use Rattle.serde_json.specs.View.{view}
+use Rattle.lx_editor.specs.Gathering.{recording}
 use Rattle.lx_editor.specs.Loaded.{IsLoaded, left_by_load}
-use Rattle.lx_editor.specs.Updated.{recording}
 use Rattle.lx_editor.proofs.Judged.{may_conclude, concluded, never_idle}
 use Rattle.lx_editor.proofs.Told.{told}
 use Rattle.lx_editor.proofs.editor.Editor.load.Goals as goal

@@ -1,0 +1,63 @@
+-- What a run may be for all words: over the input, or of a session that is generated.
+use Rattle.std.specs.Prelude.{◌≡◌, ◌<◌, ◌⊎◌, ℕ, ◌+◌, List, [], ◌∷◌, ◌++◌, length, if◌then◌else◌}
+use Rattle.lx_io.specs.Devices.{Appends, HasRisen, IsCounted, last_count}
+use Rattle.lx_words.specs.declared.options.Generated.{Generated}
+use Rattle.lx_words.specs.declared.options.Mode.{Mode}
+use Rattle.lx_words.specs.declared.options.Mode.TheVariants.{Plain, Generate}
+use Rattle.lx_words.specs.Words.{are_taken, asked_for, delay_in}
+use Rattle.lx_generator.specs.Sessions.{IsTold}
+use Rattle.lx_cli.specs.Run.{Seen, IsFaultless, IsRun}
+use Rattle.lx_cli.specs.declared.status.Status.{Status}
+use Rattle.lx_cli.specs.declared.status.Status.TheVariants.{Done, Usage, ReadFault, WriteFault, Memory, InputTooLong}
+
+-- A session with the delay of the words is told, and its summary and a line end are written.
+pub record IsToldWhole (session : Generated) (run : Seen) : Type 0 where
+  pub summary : List ℕ
+  pub told : IsTold session (delay_in run.words) summary
+  pub written : run.written ≡ summary ++ 10 ∷ []
+  pub faultless : IsFaultless run
+
+-- A front of them is written, and then a write failed.
+pub record IsToldInPart (session : Generated) (run : Seen) : Type 0 where
+  pub summary : List ℕ
+  pub later : List ℕ
+  pub told : IsTold session (delay_in run.words) summary
+  pub front : run.written ++ later ≡ summary ++ 10 ∷ []
+  pub sink : HasRisen run.sink_before.faults run.sink_after.faults
+
+-- Memory was wanting before anything was written.
+pub record IsUntold (run : Seen) : Type 0 where
+  pub written : run.written ≡ []
+  pub faultless : IsFaultless run
+
+-- what each status says of a session that is generated
+unfoldable pub GeneratedEnds : Status → Generated → Seen → Type 0
+GeneratedEnds Done session run = IsToldWhole session run
+GeneratedEnds WriteFault session run = IsToldInPart session run
+GeneratedEnds Memory session run = IsUntold run
+GeneratedEnds Usage session run = ⊥
+GeneratedEnds ReadFault session run = ⊥
+GeneratedEnds InputTooLong session run = ⊥
+
+-- A run that generates a session and ended so. Nothing is read, and the source is as it was. What it wrote went to the sink,
+-- in at most one call more than the bytes. Where no write fails it is done, unless memory was wanting.
+pub record IsGeneratedRun (status : Status) (session : Generated) (run : Seen) : Type 0 where
+  pub ends : GeneratedEnds status session run
+  pub read : run.read ≡ []
+  pub source : run.source_after ≡ run.source_before
+  pub appends : Appends run.sink_before.taken run.sink_after.taken run.written
+  pub writes : IsCounted run.sink_before.writes run.sink_after.writes (length run.written + 1)
+  pub complete : IsFaultless run → run.sink_before.faults < last_count → (status ≡ Done) ⊎ (status ≡ Memory)
+
+-- what the program does where its words are taken, and otherwise what it does with none
+abbrev pub mode_for : List (List ℕ) → Mode
+mode_for words = if are_taken words then (asked_for words).mode else Plain
+
+-- A run as its mode has it: the input is answered, or a session is generated.
+abbrev pub RunsBy : Mode → Status → Seen → Type 0
+RunsBy Plain status run = IsRun status run
+RunsBy (Generate session) status run = IsGeneratedRun status session run
+
+-- a run as its words have it
+abbrev pub RunsAsAsked : Status → Seen → Type 0
+RunsAsAsked status run = RunsBy (mode_for run.words) status run

@@ -1,0 +1,15 @@
+use Rattle.std.proofs.Common.{◌∙◌, ℕ, ap, subst}
+use Rattle.lx_editor.specs.Editor.{Editor}
+use Rattle.lx_editor.specs.Follows.{RepliesTo}
+use Rattle.lx_editor.specs.Gathering.{IsLeftWithout}
+use Rattle.lx_editor.proofs.Waiting.{moment_back}
+use Rattle.lx_editor.proofs.editor.Editor.line.Goals as goal
+
+pub returns-in-Ok-clause-replies : goal.returns-in-Ok-clause-replies
+returns-in-Ok-clause-replies c =
+    subst (λ (e : Editor). RepliesTo e c.args.line.tags c.args.line.form c.in-Ok.reply.items c.reply_to_form.new.self) c.begin_at.ensures.moment c.in-Ok.ensures.replies
+
+pub returns-in-Err-clause-unchanged : goal.returns-in-Err-clause-unchanged
+returns-in-Err-clause-unchanged c =
+    moment_back c.args.self.now c.reply_to_form.new.self c.set_moment.new.self c.args.line.at (subst (λ (e : Editor). IsLeftWithout e c.reply_to_form.new.self) c.begin_at.ensures.moment c.in-Err.ensures.unchanged)
+    (c.set_moment.ensures.moment ∙ ap (λ (m : ℕ). record c.reply_to_form.new.self { moment = m }) c.last_moment-before.ensures)

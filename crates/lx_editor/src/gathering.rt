@@ -1,0 +1,187 @@
+//! Updates that wait for a line which commits them all together.
+
+ghost use Rattle.lx_node.specs.Limits.{last_u32};
+
+use crate::editor::Editor;
+use crate::outcome::Outcome;
+use crate::pending::Pending;
+use crate::recording::Recording;
+use lx_draft::Draft;
+use lx_node::NoMemory;
+use lx_run::{Refusal, run_deferred};
+use lx_script::{Reply, write_reply};
+use lx_step::{Step, Tags};
+use std::alloc::Global;
+
+impl Editor {
+    ghost use Rattle.std.specs.Prelude.{◌≡◌, ◌+◌, ◌<◌, ◌≤◌, Ok, All, IfOk, IfErr, OnErr};
+    ghost use Rattle.lx_step.specs.Lines.{both_tags};
+    ghost use Rattle.lx_step.specs.Sound.{IsSound};
+    ghost use Rattle.lx_draft.specs.Covering.{AreCovered};
+    ghost use Rattle.lx_run.specs.Refusals.{TellsRefusal};
+    ghost use Rattle.lx_editor.specs.Follows.{IsReplyOfDefer, IsReplyOfFlush};
+    ghost use Rattle.lx_editor.specs.Gathering.{started_of, pending_of, begun, with_nothing_pending, with_pending, with_line, recording, recording_all, gathered_by, IsPending, IsDeferred};
+    ghost use Rattle.lx_editor.specs.Updated.{IsFlushed};
+
+    /// How many updates are gathered and wait for a call that commits them, at most 100,000. It is 0 where none are.
+    pub fn gathered(&self) -> u32
+        ensures { result ≡ (pending_of self.now).lines }
+    {
+        match &self.pending {
+            Some(pending) => pending.lines,
+            None => 0,
+        }
+    }
+
+    /// How a commit is recorded that takes in the lines which are gathered.
+    pub(crate) fn recording(&self, how: Recording) -> Recording
+        ensures { result ≡ recording_all self.now how }
+    {
+        let gathered = match &self.pending {
+            Some(pending) => pending.tags,
+            None => Tags::none(),
+        };
+        Recording {
+            tags: gathered.with(how.tags),
+            moment: how.moment,
+        }
+    }
+
+    /// The draft that a line begins with: the one that is pending, or else one of what is committed. Nothing is pending
+    /// then.
+    pub(crate) fn take_draft(&mut self, alloc: Global) -> Result<Draft, NoMemory>
+        ensures begun { IfOk result (λ draft. draft ≡ begun self.old) }
+        ensures covered { IfOk result (λ draft. AreCovered (started_of self.old) draft) }
+        ensures counted { IfOk result (λ draft. (pending_of self.old).lines ≤ draft.counted) }
+        ensures taken { self.new ≡ with_nothing_pending self.old }
+    {
+        match self.pending.take() {
+            Some(pending) => Ok(pending.draft),
+            None => Draft::start(alloc, &self.state, self.next_key),
+        }
+    }
+
+    /// Runs steps that wait for a call which commits them: nothing is committed, and what they leave is what the next
+    /// `defer`, `update`, `dispatch`, `register_rule` or `flush` begins with. The outcome tells how many updates wait
+    /// then. Each takes a count before its first step, and the limits of an update hold for all of them together. It is
+    /// refused as an update is, by a step, by what it queued or by that first count, and no step is told for the last two;
+    /// then all that was pending is dropped with it. The moment, in milliseconds, says nothing, since a commit has that of
+    /// the call which commits. After want of memory nothing is pending, and the editor is as it was in all else.
+    #[tactic(auto, unfolding(crate::specs::Gathering::IsDeferred))]
+    pub fn defer(
+        &mut self,
+        alloc: Global,
+        steps: &[Step],
+        tags: Tags,
+        _moment: u64,
+    ) -> Result<Outcome, NoMemory>
+        requires sound { All IsSound steps.now }
+        ensures deferred { IfOk result (λ outcome. IsDeferred self.old steps.now tags outcome self.new) }
+        ensures commits { self.new.commits ≡ self.old.commits }
+        ensures unchanged { OnErr result (self.new ≡ with_nothing_pending self.old) }
+    {
+        match self.gather(alloc, steps, tags) {
+            Ok(gathered) => {
+                let count = gathered.lines;
+                self.keep(gathered);
+                Ok(Outcome::Gathered { count })
+            }
+            Err(Refusal::Cause { cause, step }) => Ok(Outcome::Refused { cause, step }),
+            Err(Refusal::Memory) => Err(NoMemory),
+        }
+    }
+
+    /// The same, answered with the bytes of a reply, which is made before the line is gathered.
+    pub(crate) fn reply_to_defer(
+        &mut self,
+        alloc: Global,
+        steps: &[Step],
+        tags: Tags,
+    ) -> Result<Vec<u8>, NoMemory>
+        requires sound { All IsSound steps.now }
+        ensures replies { IfOk result (λ reply. IsReplyOfDefer self.old steps.now tags reply.items self.new) }
+        ensures commits { self.new.commits ≡ self.old.commits }
+        ensures unchanged { OnErr result (self.new ≡ with_nothing_pending self.old) }
+    {
+        match self.gather(alloc, steps, tags) {
+            Ok(pending) => {
+                let reply = write_reply(alloc, &Reply::Gathered(pending.lines))?;
+                self.keep(pending);
+                Ok(reply)
+            }
+            Err(Refusal::Cause { cause, step }) => {
+                write_reply(alloc, &Reply::Refused { cause, step })
+            }
+            Err(Refusal::Memory) => Err(NoMemory),
+        }
+    }
+
+    /// Keeps what is pending with one line more.
+    fn keep(&mut self, pending: Pending)
+        requires { IsPending (started_of self.old) pending }
+        ensures { self.new ≡ with_pending self.old pending }
+    {
+        self.pending = Some(pending);
+    }
+
+    /// What is pending with these steps behind it. Nothing is pending then, until this is.
+    fn gather(&mut self, alloc: Global, steps: &[Step], tags: Tags) -> Result<Pending, Refusal>
+        requires sound { All IsSound steps.now }
+        ensures gathered { IfOk result (λ pending. gathered_by self.old steps.now ≡ Ok pending.draft) }
+        ensures line { IfOk result (λ pending. pending ≡ with_line tags (pending_of self.old) pending.draft) }
+        ensures pending { IfOk result (IsPending (started_of self.old)) }
+        ensures refused { IfErr result (λ e. TellsRefusal e (gathered_by self.old steps.now)) }
+        ensures taken { self.new ≡ with_nothing_pending self.old }
+    {
+        let before = self.gathered();
+        let how = self.recording(Recording { tags, moment: 0 });
+        let draft = match self.take_draft(alloc) {
+            Ok(draft) => draft,
+            Err(NoMemory) => return Err(Refusal::Memory),
+        };
+        let draft = match run_deferred(alloc, &self.bus, draft, steps) {
+            Ok(draft) => draft,
+            Err(refusal) => return Err(refusal),
+        };
+        Ok(Pending {
+            draft,
+            lines: before + 1,
+            tags: how.tags,
+        })
+    }
+
+    /// Commits what is pending, as an update without steps: it comes to rest under the rules, and is committed and
+    /// recorded with the tags of all that was gathered and with these, at this moment, in milliseconds. It is idle where
+    /// that marks nothing and leaves the selection equal, as where nothing is pending. It is refused, with no step, where
+    /// the rules don't come to rest, or where what is left is beyond a limit or has lost its selection, and what was
+    /// pending is dropped then. After want of memory nothing is pending, and the editor is as it was in all else.
+    #[tactic(auto, unfolding(crate::specs::Updated::IsFlushed))]
+    pub fn flush(&mut self, alloc: Global, tags: Tags, moment: u64) -> Result<Outcome, NoMemory>
+        requires room { self.old.commits < last_u32 }
+        ensures flushed { IfOk result (λ outcome. IsFlushed self.old (recording tags moment) outcome self.new) }
+        ensures commits { self.new.commits ≤ self.old.commits + 1 }
+        ensures unchanged { OnErr result (self.new ≡ with_nothing_pending self.old) }
+    {
+        let how = self.recording(Recording { tags, moment });
+        let draft = self.take_draft(alloc)?;
+        let verdict = self.judge_draft(alloc, draft)?;
+        self.conclude(alloc, verdict, how)
+    }
+
+    /// The same, answered with the bytes of a reply, which is made before anything is committed.
+    pub(crate) fn reply_to_flush(
+        &mut self,
+        alloc: Global,
+        how: Recording,
+    ) -> Result<Vec<u8>, NoMemory>
+        requires room { self.old.commits < last_u32 }
+        ensures replies { IfOk result (λ reply. IsReplyOfFlush self.old how reply.items self.new) }
+        ensures commits { self.new.commits ≤ self.old.commits + 1 }
+        ensures unchanged { OnErr result (self.new ≡ with_nothing_pending self.old) }
+    {
+        let all = self.recording(how);
+        let draft = self.take_draft(alloc)?;
+        let verdict = self.judge_draft(alloc, draft)?;
+        self.reply(alloc, verdict, None, all)
+    }
+}

@@ -1,0 +1,10 @@
+//! Sessions that are generated from a number, each run on a new editor and told as a whole: the same lines come of the same
+//! number on every machine.
+#![tactic(auto)]
+
+mod lines;
+mod session;
+mod summary;
+mod tally;
+
+pub use session::tell_session;
