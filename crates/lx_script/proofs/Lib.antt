@@ -5,6 +5,7 @@ pub mod Gathered
 pub mod Listed
 pub mod ReadBack
 pub mod Reading
+pub mod Sent
 pub mod Sorted
 pub mod Sound
 pub mod SoundSteps

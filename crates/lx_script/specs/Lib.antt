@@ -8,6 +8,7 @@ pub mod NewNodes
 pub mod References
 pub mod Replies
 pub mod Rules
+pub mod Sent
 pub mod Steps
 pub mod Storable
 pub mod Types

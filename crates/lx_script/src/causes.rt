@@ -1,12 +1,12 @@
 //! What a refusal tells of its cause: a name, and a detail that says more.
 
-ghost use Rattle.std.specs.Prelude.{◌≡◌, IfOk};
-ghost use Rattle.serde_json.specs.View.{view};
+ghost use Rattle.std.specs.Prelude.{◌≡◌, OnOk};
 ghost use Rattle.lx_script.specs.Replies.{cause_name as word_of_cause, selection_name as word_of_selection, limit_name as word_of_limit, point_kind_name as word_of_point_kind, point_data, named_data, lost_data, reached_data, detail_of};
+ghost use Rattle.lx_script.specs.Sent.{Tells};
 
+use json::Writer;
 use lx_node::{Cause, Limit, Lost, Named, Point, PointKind, SelectionKind};
-use serde_json::{Value, json};
-use std::alloc::{AllocError, Global};
+use std::alloc::AllocError;
 
 pub(crate) fn cause_name(cause: &Cause) -> &'static str
     ensures { result.now ≡ word_of_cause cause.now }
@@ -64,56 +64,63 @@ fn point_kind_name(kind: PointKind) -> &'static str
     }
 }
 
-pub(crate) fn point_value(alloc: Global, point: Point) -> Result<Value, AllocError>
-    ensures { IfOk result (λ v. view v ≡ point_data point) }
+pub(crate) fn put_point(writer: &mut Writer, point: Point) -> Result<(), AllocError>
+    ensures { OnOk result (Tells (point_data point) writer.old writer.new) }
 {
-    json!(in alloc; [point.key.number(), point.offset, point_kind_name(point.kind)])
+    writer.begin_array()?;
+    writer.u64(point.key.number() as u64)?;
+    writer.u64(point.offset as u64)?;
+    writer.string(point_kind_name(point.kind))?;
+    writer.end_array()?;
+    Ok(())
 }
 
-fn named_value(alloc: Global, named: &Named) -> Result<Value, AllocError>
-    ensures { IfOk result (λ v. view v ≡ named_data named.now) }
+fn put_named(writer: &mut Writer, named: &Named) -> Result<(), AllocError>
+    ensures { OnOk result (Tells (named_data named.now) writer.old writer.new) }
 {
     match named {
-        Named::Key(key) => Ok(Value::from(key.number())),
-        Named::Name(name) => Value::try_from_str(alloc, name.as_str()),
+        Named::Key(key) => writer.u64(key.number() as u64),
+        Named::Name(name) => writer.string(name.as_str()),
     }
 }
 
-fn lost_value(alloc: Global, lost: Lost) -> Result<Value, AllocError>
-    ensures { IfOk result (λ v. view v ≡ lost_data lost) }
+fn put_lost(writer: &mut Writer, lost: Lost) -> Result<(), AllocError>
+    ensures { OnOk result (Tells (lost_data lost) writer.old writer.new) }
 {
     match lost {
-        Lost::Point(point) => point_value(alloc, point),
-        Lost::Key(key) => Ok(Value::from(key.number())),
+        Lost::Point(point) => put_point(writer, point),
+        Lost::Key(key) => writer.u64(key.number() as u64),
     }
 }
 
-fn reached_value(alloc: Global, limit: Limit, reached: u64) -> Result<Value, AllocError>
-    ensures { IfOk result (λ v. view v ≡ reached_data limit reached) }
+fn put_reached(writer: &mut Writer, limit: Limit, reached: u64) -> Result<(), AllocError>
+    ensures { OnOk result (Tells (reached_data limit reached) writer.old writer.new) }
 {
-    json!(in alloc; [limit_name(limit), reached])
+    writer.begin_array()?;
+    writer.string(limit_name(limit))?;
+    writer.u64(reached)?;
+    writer.end_array()?;
+    Ok(())
 }
 
 // A cause that has one limit tells one number.
-pub(crate) fn detail_value(alloc: Global, cause: &Cause) -> Result<Value, AllocError>
-    ensures { IfOk result (λ v. view v ≡ detail_of cause.now) }
+pub(crate) fn put_detail(writer: &mut Writer, cause: &Cause) -> Result<(), AllocError>
+    ensures { OnOk result (Tells (detail_of cause.now) writer.old writer.new) }
 {
     match cause {
         Cause::BadLine | Cause::BadCommand | Cause::EmptyState | Cause::HistoryInside => {
-            Ok(Value::Null)
+            writer.null()
         }
-        Cause::UnknownNode(named) => named_value(alloc, named),
-        Cause::WrongKind(kind) => Value::try_from_str(alloc, kind.type_name()),
-        Cause::BadPlace(place) => Ok(Value::from(*place)),
-        Cause::NoSelection(kind) => Value::try_from_str(alloc, selection_name(*kind)),
-        Cause::SelectionLost(lost) => lost_value(alloc, *lost),
-        Cause::NoRest => Ok(Value::from(101u8)),
-        Cause::StepLimit => Ok(Value::from(100_001u32)),
-        Cause::DispatchDepth => Ok(Value::from(65u8)),
-        Cause::TooLarge(limit, reached) => reached_value(alloc, *limit, *reached),
-        Cause::UnknownType(text) | Cause::BadState(text) => {
-            Value::try_from_str(alloc, text.as_str())
-        }
-        Cause::TooManyRules => Ok(Value::from(256u32)),
+        Cause::UnknownNode(named) => put_named(writer, named),
+        Cause::WrongKind(kind) => writer.string(kind.type_name()),
+        Cause::BadPlace(place) => writer.u64(*place as u64),
+        Cause::NoSelection(kind) => writer.string(selection_name(*kind)),
+        Cause::SelectionLost(lost) => put_lost(writer, *lost),
+        Cause::NoRest => writer.u64(101),
+        Cause::StepLimit => writer.u64(100_001),
+        Cause::DispatchDepth => writer.u64(65),
+        Cause::TooLarge(limit, reached) => put_reached(writer, *limit, *reached),
+        Cause::UnknownType(text) | Cause::BadState(text) => writer.string(text.as_str()),
+        Cause::TooManyRules => writer.u64(256),
     }
 }

@@ -18,6 +18,7 @@ mod listeners;
 mod members;
 mod new_nodes;
 mod ops;
+mod parts;
 mod read;
 mod recording;
 mod references;

@@ -1,27 +1,31 @@
 //! What a reply tells of operations.
 
-ghost use Rattle.std.specs.Prelude.{◌≡◌, IfOk, Option, map};
-ghost use Rattle.serde_json.specs.View.{view};
-ghost use Rattle.lx_script.specs.Replies.{op_data as data_of_op, text_data, attributes_data, list_data, or_null};
+ghost use Rattle.std.specs.Prelude.{◌≡◌, IfOk, OnOk, ◌∷◌, [], decimal, map};
+ghost use Rattle.json.specs.Token as token;
+ghost use Rattle.lx_host.specs.declared.op.Op.TheVariants.{Create, Place, Drop, Text, Attr, Break};
+ghost use Rattle.lx_script.specs.Replies.{op_data, attributes_data, attributes_onto, list_data};
+ghost use Rattle.lx_script.specs.Sent.{Sends, Tells, members_in_order};
+ghost use Rattle.serde_json.specs.Data.{object, no_members};
 
-use lx_host::{Name, Op};
-use lx_node::Txt;
-use serde_json::{Map, Value, json};
+use crate::parts::{put_number_or_null, put_text_or_null};
+use json::Writer;
+use lx_host::{Attrs, Name, Op, Tag};
+use lx_node::{Key, NoMemory, Txt};
 use std::alloc::{AllocError, Global};
 
-pub(crate) fn ops_value(alloc: Global, ops: &[Op]) -> Result<Value, AllocError>
-    ensures { IfOk result (λ v. view v ≡ list_data (map data_of_op ops.now)) }
+pub(crate) fn put_ops(alloc: Global, writer: &mut Writer, ops: &[Op]) -> Result<(), AllocError>
+    ensures { OnOk result (Tells (list_data (map op_data ops.now)) writer.old writer.new) }
 {
-    let mut values = Vec::with_capacity(alloc, ops.len())?;
+    writer.begin_array()?;
     'ops: for op in ops {
-        values.push(op_value(alloc, op)?)?;
+        put_op(alloc, writer, op)?;
     }
-    Ok(Value::Array(values))
+    writer.end_array()?;
+    Ok(())
 }
 
-#[tactic(auto, unfolding(crate::specs::Replies::op_data))]
-fn op_value(alloc: Global, op: &Op) -> Result<Value, AllocError>
-    ensures { IfOk result (λ v. view v ≡ data_of_op op.now) }
+fn put_op(alloc: Global, writer: &mut Writer, op: &Op) -> Result<(), AllocError>
+    ensures { OnOk result (Tells (op_data op.now) writer.old writer.new) }
 {
     match op {
         Op::Create {
@@ -31,83 +35,147 @@ fn op_value(alloc: Global, op: &Op) -> Result<Value, AllocError>
             attrs,
             text,
             ending,
-        } => {
-            let attributes = attributes_value(alloc, attrs.items())?;
-            let text = text_or_null(alloc, text)?;
-            json!(in alloc; ["create", *id, key.number(), tag.word(), attributes, text, *ending])
-        }
+        } => put_create(alloc, writer, *id, *key, *tag, attrs, text, *ending),
         Op::Place {
             parent,
             child,
             before,
-        } => place_value(alloc, *parent, *child, *before),
-        Op::Drop { id } => drop_value(alloc, *id),
-        Op::Text { id, text } => text_value(alloc, *id, text),
-        Op::Attr { id, name, value } => attr_value(alloc, *id, *name, value),
-        Op::Break { id, ending } => break_value(alloc, *id, *ending),
+        } => put_place(writer, *parent, *child, *before),
+        Op::Drop { id } => put_drop(writer, *id),
+        Op::Text { id, text } => put_text(writer, *id, text),
+        Op::Attr { id, name, value } => put_attribute(writer, *id, *name, value),
+        Op::Break { id, ending } => put_break(writer, *id, *ending),
     }
 }
 
-ghost use Rattle.lx_host.specs.declared.op.Op.TheVariants.{Place, Drop, Text, Attr, Break};
+#[tactic(auto, unfolding(crate::specs::Replies::op_data))]
+fn put_create(
+    alloc: Global,
+    writer: &mut Writer,
+    id: u32,
+    key: Key,
+    tag: Tag,
+    attributes: &Attrs,
+    text: &Option<Txt>,
+    ending: bool,
+) -> Result<(), AllocError>
+    ensures { OnOk result (Tells (op_data (Create id key tag attributes.now text.now ending)) writer.old writer.new) }
+{
+    begin_op(writer, "create", id)?;
+    writer.u64(key.number() as u64)?;
+    writer.string(tag.word())?;
+    put_attributes(alloc, writer, attributes.items())?;
+    put_text_or_null(writer, text)?;
+    writer.boolean(ending)?;
+    writer.end_array()?;
+    Ok(())
+}
 
 #[tactic(auto, unfolding(crate::specs::Replies::op_data))]
-fn place_value(
-    alloc: Global,
+fn put_place(
+    writer: &mut Writer,
     parent: u32,
     child: u32,
     before: Option<u32>,
-) -> Result<Value, AllocError>
-    ensures { IfOk result (λ v. view v ≡ data_of_op (Place parent child before)) }
+) -> Result<(), AllocError>
+    ensures { OnOk result (Tells (op_data (Place parent child before)) writer.old writer.new) }
 {
-    json!(in alloc; ["place", parent, child, before])
+    begin_op(writer, "place", parent)?;
+    writer.u64(child as u64)?;
+    put_number_or_null(writer, before)?;
+    writer.end_array()?;
+    Ok(())
 }
 
 #[tactic(auto, unfolding(crate::specs::Replies::op_data))]
-fn drop_value(alloc: Global, id: u32) -> Result<Value, AllocError>
-    ensures { IfOk result (λ v. view v ≡ data_of_op (Drop id)) }
+fn put_drop(writer: &mut Writer, id: u32) -> Result<(), AllocError>
+    ensures { OnOk result (Tells (op_data (Drop id)) writer.old writer.new) }
 {
-    json!(in alloc; ["drop", id])
+    begin_op(writer, "drop", id)?;
+    writer.end_array()?;
+    Ok(())
 }
 
 #[tactic(auto, unfolding(crate::specs::Replies::op_data))]
-fn text_value(alloc: Global, id: u32, text: &Txt) -> Result<Value, AllocError>
-    ensures { IfOk result (λ v. view v ≡ data_of_op (Text id text.now)) }
+fn put_text(writer: &mut Writer, id: u32, text: &Txt) -> Result<(), AllocError>
+    ensures { OnOk result (Tells (op_data (Text id text.now)) writer.old writer.new) }
 {
-    let text = Value::try_from_str(alloc, text.as_str())?;
-    json!(in alloc; ["text", id, text])
+    begin_op(writer, "text", id)?;
+    writer.string(text.as_str())?;
+    writer.end_array()?;
+    Ok(())
 }
 
 #[tactic(auto, unfolding(crate::specs::Replies::op_data))]
-fn attr_value(alloc: Global, id: u32, name: Name, value: &Option<Txt>) -> Result<Value, AllocError>
-    ensures { IfOk result (λ v. view v ≡ data_of_op (Attr id name value.now)) }
+fn put_attribute(
+    writer: &mut Writer,
+    id: u32,
+    name: Name,
+    value: &Option<Txt>,
+) -> Result<(), AllocError>
+    ensures { OnOk result (Tells (op_data (Attr id name value.now)) writer.old writer.new) }
 {
-    let value = text_or_null(alloc, value)?;
-    json!(in alloc; ["attr", id, name.word(), value])
+    begin_op(writer, "attr", id)?;
+    writer.string(name.word())?;
+    put_text_or_null(writer, value)?;
+    writer.end_array()?;
+    Ok(())
 }
 
 #[tactic(auto, unfolding(crate::specs::Replies::op_data))]
-fn break_value(alloc: Global, id: u32, ending: bool) -> Result<Value, AllocError>
-    ensures { IfOk result (λ v. view v ≡ data_of_op (Break id ending)) }
+fn put_break(writer: &mut Writer, id: u32, ending: bool) -> Result<(), AllocError>
+    ensures { OnOk result (Tells (op_data (Break id ending)) writer.old writer.new) }
 {
-    json!(in alloc; ["break", id, ending])
+    begin_op(writer, "break", id)?;
+    writer.boolean(ending)?;
+    writer.end_array()?;
+    Ok(())
 }
 
-fn attributes_value(alloc: Global, attributes: &[(Name, Txt)]) -> Result<Value, AllocError>
-    ensures { IfOk result (λ v. view v ≡ attributes_data attributes.now) }
+/// Begins an operation: what it does, and to which host.
+fn begin_op(writer: &mut Writer, word: &str, id: u32) -> Result<(), AllocError>
+    ensures { OnOk result (Sends (token.begin_array ∷ token.string word.now ∷ token.number (decimal id) ∷ []) writer.old writer.new) }
 {
-    let mut members = Map::new(alloc);
+    writer.begin_array()?;
+    writer.string(word)?;
+    writer.u64(id as u64)?;
+    Ok(())
+}
+
+/// The attributes of a host as an object, whose members stand in byte order of their names.
+fn put_attributes(
+    alloc: Global,
+    writer: &mut Writer,
+    attributes: &[(Name, Txt)],
+) -> Result<(), AllocError>
+    ensures { OnOk result (Tells (attributes_data attributes.now) writer.old writer.new) }
+{
+    let Ok(attributes) = in_order(alloc, attributes) else {
+        return Err(AllocError);
+    };
+    put_in_order(writer, attributes.items())
+}
+
+/// Equal attributes in byte order of their names. That they had this order no clause of `Attrs` says.
+fn in_order(alloc: Global, attributes: &[(Name, Txt)]) -> Result<Attrs, NoMemory>
+    ensures { IfOk result (λ made. members_in_order made ≡ attributes_onto no_members attributes.now) }
+{
+    let mut made = Attrs::of(Vec::new(alloc));
     'attributes: for (name, text) in attributes {
-        let value = Value::try_from_str(alloc, text.as_str())?;
-        serde_json::put(&mut members, alloc, name.word(), value)?;
+        let text = text.copy(alloc)?;
+        made.write(*name, Some(text))?;
     }
-    Ok(Value::Object(members))
+    Ok(made)
 }
 
-fn text_or_null(alloc: Global, text: &Option<Txt>) -> Result<Value, AllocError>
-    ensures { IfOk result (λ v. view v ≡ or_null text_data text.now) }
+fn put_in_order(writer: &mut Writer, attributes: &[(Name, Txt)]) -> Result<(), AllocError>
+    ensures { OnOk result (Tells (object (members_in_order attributes.now)) writer.old writer.new) }
 {
-    match text {
-        Some(text) => Value::try_from_str(alloc, text.as_str()),
-        None => Ok(Value::Null),
+    writer.begin_object()?;
+    'attributes: for (name, text) in attributes {
+        writer.key(name.word())?;
+        writer.string(text.as_str())?;
     }
+    writer.end_object()?;
+    Ok(())
 }

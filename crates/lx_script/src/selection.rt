@@ -1,76 +1,84 @@
 //! What a reply tells of a selection.
 
-ghost use Rattle.std.specs.Prelude.{◌≡◌, IfOk, map};
-ghost use Rattle.serde_json.specs.View.{view};
+ghost use Rattle.std.specs.Prelude.{◌≡◌, OnOk, map};
 ghost use Rattle.lx_script.specs.Replies.{selection_data, range_data, nodes_data, cells_data, natural, list_data};
+ghost use Rattle.lx_script.specs.Sent.{Tells};
 
-use crate::causes::point_value;
+use crate::causes::put_point;
+use crate::parts::{put_number_member, put_word_member};
+use json::Writer;
 use lx_node::{Key, Point};
 use lx_select::Selection;
-use serde_json::{Value, json};
-use std::alloc::{AllocError, Global};
+use std::alloc::AllocError;
 
-pub(crate) fn selection_value(alloc: Global, selection: &Selection) -> Result<Value, AllocError>
-    ensures { IfOk result (λ v. view v ≡ selection_data selection.now) }
+pub(crate) fn put_selection(writer: &mut Writer, selection: &Selection) -> Result<(), AllocError>
+    ensures { OnOk result (Tells (selection_data selection.now) writer.old writer.new) }
 {
     match selection {
-        Selection::Nothing => Ok(Value::Null),
+        Selection::Nothing => writer.null(),
         Selection::Range {
             anchor,
             focus,
             format,
-        } => range_value(alloc, anchor, focus, *format),
-        Selection::Nodes(keys) => nodes_value(alloc, keys.items()),
+        } => put_range(writer, anchor, focus, *format),
+        Selection::Nodes(keys) => put_nodes(writer, keys.items()),
         Selection::Cells {
             table,
             anchor,
             focus,
-        } => cells_value(alloc, *table, *anchor, *focus),
+        } => put_cells(writer, *table, *anchor, *focus),
     }
 }
 
-fn range_value(
-    alloc: Global,
+fn put_range(
+    writer: &mut Writer,
     anchor: &Point,
     focus: &Point,
     format: u16,
-) -> Result<Value, AllocError>
-    ensures { IfOk result (λ v. view v ≡ range_data anchor.now focus.now format) }
+) -> Result<(), AllocError>
+    ensures { OnOk result (Tells (range_data anchor.now focus.now format) writer.old writer.new) }
 {
-    let anchor = point_value(alloc, *anchor)?;
-    let focus = point_value(alloc, *focus)?;
-    json!(in alloc; {
-        "anchor": anchor,
-        "focus": focus,
-        "format": format,
-        "kind": "range",
-    })
+    writer.begin_object()?;
+    writer.key("anchor")?;
+    put_point(writer, *anchor)?;
+    writer.key("focus")?;
+    put_point(writer, *focus)?;
+    put_number_member(writer, "format", format as u64)?;
+    put_word_member(writer, "kind", "range")?;
+    writer.end_object()?;
+    Ok(())
 }
 
-fn nodes_value(alloc: Global, keys: &[Key]) -> Result<Value, AllocError>
-    ensures { IfOk result (λ v. view v ≡ nodes_data keys.now) }
+fn put_nodes(writer: &mut Writer, keys: &[Key]) -> Result<(), AllocError>
+    ensures { OnOk result (Tells (nodes_data keys.now) writer.old writer.new) }
 {
-    let keys = keys_value(alloc, keys)?;
-    json!(in alloc; {"keys": keys, "kind": "nodes"})
+    writer.begin_object()?;
+    writer.key("keys")?;
+    put_keys(writer, keys)?;
+    put_word_member(writer, "kind", "nodes")?;
+    writer.end_object()?;
+    Ok(())
 }
 
-fn keys_value(alloc: Global, keys: &[Key]) -> Result<Value, AllocError>
-    ensures { IfOk result (λ v. view v ≡ list_data (map natural keys.now)) }
+fn put_keys(writer: &mut Writer, keys: &[Key]) -> Result<(), AllocError>
+    ensures { OnOk result (Tells (list_data (map natural keys.now)) writer.old writer.new) }
 {
-    let mut values = Vec::with_capacity(alloc, keys.len())?;
+    writer.begin_array()?;
     'keys: for key in keys {
-        values.push(Value::from(key.number()))?;
+        writer.u64(key.number() as u64)?;
     }
-    Ok(Value::Array(values))
+    writer.end_array()?;
+    Ok(())
 }
 
-fn cells_value(alloc: Global, table: Key, anchor: Key, focus: Key) -> Result<Value, AllocError>
-    ensures { IfOk result (λ v. view v ≡ cells_data table anchor focus) }
+fn put_cells(writer: &mut Writer, table: Key, anchor: Key, focus: Key) -> Result<(), AllocError>
+    ensures { OnOk result (Tells (cells_data table anchor focus) writer.old writer.new) }
 {
-    json!(in alloc; {
-        "anchor": anchor.number(),
-        "focus": focus.number(),
-        "kind": "cells",
-        "table": table.number(),
-    })
+    writer.begin_object()?;
+    put_number_member(writer, "anchor", anchor.number() as u64)?;
+    put_number_member(writer, "focus", focus.number() as u64)?;
+    put_word_member(writer, "kind", "cells")?;
+    put_number_member(writer, "table", table.number() as u64)?;
+    writer.end_object()?;
+    Ok(())
 }

@@ -1,27 +1,34 @@
-//! Replies: a JSON value is built once, and written without spaces.
+//! Replies: JSON is written a token at a time, without spaces. A document alone is a value first.
 
-ghost use Rattle.std.specs.Prelude.{◌≡◌, false, IfOk};
+ghost use Rattle.std.specs.Prelude.{◌≡◌, false, IfOk, OnOk};
 ghost use Rattle.serde_json.specs.View.{view};
 ghost use Rattle.serde_json.specs.Written.{has_float};
 ghost use Rattle.lx_script.specs.Replies.{reply_data, reply_text, commit_data, refusal_data, idle_data, gathered_data, registered_data, cleared_data, history_data, state_data, state_text, view_data, shown_selection_data};
+ghost use Rattle.lx_script.specs.Sent.{Sends, Tells, handled_tokens, view_tokens};
 ghost use Rattle.lx_script.specs.declared.reply.Reply.TheVariants.{Committed};
 
-use crate::causes::{cause_name, detail_value};
-use crate::ops::ops_value;
+use crate::causes::{cause_name, put_detail};
+use crate::ops::put_ops;
+use crate::parts::{put_flag_member, put_number_member, put_number_or_null, put_word_member};
 use crate::reply::Reply;
-use crate::selection::selection_value;
+use crate::selection::put_selection;
+use json::Writer;
 use lx_host::Op;
 use lx_node::{Cause, NoMemory, Txt};
 use lx_select::Selection;
 use serde_json::{Value, json};
 use std::alloc::{AllocError, Global};
 
+/// How many bytes there is room for when a reply is begun. A commit made by typing rarely has more.
+const FIRST_ROOM: usize = 256;
+
 /// The bytes of a reply, without a line end: compact JSON whose members stand in byte order.
 pub fn write_reply(alloc: Global, reply: &Reply) -> Result<Vec<u8>, NoMemory>
     ensures { IfOk result (λ bytes. bytes.items ≡ reply_text reply.now) }
 {
-    let value = reply_value(alloc, reply)?;
-    Ok(value.to_vec(alloc)?)
+    let mut writer = Writer::new(Vec::with_capacity(alloc, FIRST_ROOM)?);
+    put_reply(alloc, &mut writer, reply)?;
+    Ok(writer.into_inner())
 }
 
 /// The bytes of the reply that tells a commit, as of `Reply::Committed`. The operations aren't copied.
@@ -34,8 +41,9 @@ pub fn write_commit(
 ) -> Result<Vec<u8>, NoMemory>
     ensures { IfOk result (λ bytes. bytes.items ≡ reply_text (Committed number ops.now handled view.now)) }
 {
-    let value = commit_value(alloc, number, ops, handled, view)?;
-    Ok(value.to_vec(alloc)?)
+    let mut writer = Writer::new(Vec::with_capacity(alloc, FIRST_ROOM)?);
+    put_commit(alloc, &mut writer, number, ops, handled, view)?;
+    Ok(writer.into_inner())
 }
 
 /// The bytes of the reply that tells a document, which has no number with a fraction.
@@ -47,9 +55,15 @@ pub fn write_state(alloc: Global, document: Value) -> Result<Vec<u8>, NoMemory>
     Ok(value.to_vec(alloc)?)
 }
 
+fn state_value(alloc: Global, document: Value) -> Result<Value, AllocError>
+    ensures { IfOk result (λ v. view v ≡ state_data (view document)) }
+{
+    json!(in alloc; {"state": document})
+}
+
 #[tactic(auto, unfolding(crate::specs::Replies::reply_data))]
-fn reply_value(alloc: Global, reply: &Reply) -> Result<Value, AllocError>
-    ensures { IfOk result (λ v. view v ≡ reply_data reply.now) }
+fn put_reply(alloc: Global, writer: &mut Writer, reply: &Reply) -> Result<(), AllocError>
+    ensures { OnOk result (Tells (reply_data reply.now) writer.old writer.new) }
 {
     match reply {
         Reply::Committed {
@@ -57,106 +71,140 @@ fn reply_value(alloc: Global, reply: &Reply) -> Result<Value, AllocError>
             ops,
             handled,
             view,
-        } => commit_value(alloc, *number, ops.items(), *handled, view),
-        Reply::Refused { cause, step } => refusal_value(alloc, cause, *step),
-        Reply::Idle { handled } => idle_value(alloc, *handled),
-        Reply::Gathered(count) => gathered_value(alloc, *count),
-        Reply::Registered(number) => registered_value(alloc, *number),
-        Reply::Cleared => cleared_value(alloc),
-        Reply::View(html) => shown_view(alloc, html),
-        Reply::Selection(selection) => shown_selection(alloc, selection),
-        Reply::History { redo, undo } => shown_history(alloc, *redo, *undo),
+        } => put_commit(alloc, writer, *number, ops.items(), *handled, view),
+        Reply::Refused { cause, step } => put_refusal(writer, cause, *step),
+        Reply::Idle { handled } => put_idle(writer, *handled),
+        Reply::Gathered(count) => put_gathered(writer, *count),
+        Reply::Registered(number) => put_registered(writer, *number),
+        Reply::Cleared => put_cleared(writer),
+        Reply::View(html) => put_view(writer, html),
+        Reply::Selection(selection) => put_shown_selection(writer, selection),
+        Reply::History { redo, undo } => put_history(writer, *redo, *undo),
     }
 }
 
-fn commit_value(
+fn put_commit(
     alloc: Global,
+    writer: &mut Writer,
     number: u32,
     ops: &[Op],
     handled: Option<bool>,
     html: &Option<Txt>,
-) -> Result<Value, AllocError>
-    ensures { IfOk result (λ v. view v ≡ commit_data number ops.now handled html.now) }
+) -> Result<(), AllocError>
+    ensures { OnOk result (Tells (commit_data number ops.now handled html.now) writer.old writer.new) }
 {
-    let ops = ops_value(alloc, ops)?;
-    let Some(html) = html else {
-        return match handled {
-            Some(handled) => json!(in alloc; {"commit": number, "handled": handled, "ops": ops}),
-            None => json!(in alloc; {"commit": number, "ops": ops}),
-        };
-    };
-    let html = Value::try_from_str(alloc, html.as_str())?;
+    writer.begin_object()?;
+    put_number_member(writer, "commit", number as u64)?;
+    put_handled(writer, handled)?;
+    writer.key("ops")?;
+    put_ops(alloc, writer, ops)?;
+    put_told_view(writer, html)?;
+    writer.end_object()?;
+    Ok(())
+}
+
+/// Whether a command was handled, as a member, where one was dispatched.
+fn put_handled(writer: &mut Writer, handled: Option<bool>) -> Result<(), AllocError>
+    ensures { OnOk result (Sends (handled_tokens handled) writer.old writer.new) }
+{
     match handled {
-        Some(handled) => {
-            json!(in alloc; {"commit": number, "handled": handled, "ops": ops, "view": html})
-        }
-        None => json!(in alloc; {"commit": number, "ops": ops, "view": html}),
+        Some(handled) => put_flag_member(writer, "handled", handled),
+        None => Ok(()),
     }
 }
 
-fn idle_value(alloc: Global, handled: Option<bool>) -> Result<Value, AllocError>
-    ensures { IfOk result (λ v. view v ≡ idle_data handled) }
+/// The view as a member, where replies tell it.
+fn put_told_view(writer: &mut Writer, html: &Option<Txt>) -> Result<(), AllocError>
+    ensures { OnOk result (Sends (view_tokens html.now) writer.old writer.new) }
 {
-    match handled {
-        Some(handled) => json!(in alloc; {"handled": handled, "idle": true}),
-        None => json!(in alloc; {"idle": true}),
+    match html {
+        Some(html) => put_word_member(writer, "view", html.as_str()),
+        None => Ok(()),
     }
 }
 
-fn gathered_value(alloc: Global, count: u32) -> Result<Value, AllocError>
-    ensures { IfOk result (λ v. view v ≡ gathered_data count) }
+fn put_refusal(writer: &mut Writer, cause: &Cause, step: Option<u32>) -> Result<(), AllocError>
+    ensures { OnOk result (Tells (refusal_data cause.now step) writer.old writer.new) }
 {
-    json!(in alloc; {"gathered": count})
+    writer.begin_object()?;
+    writer.key("refused")?;
+    writer.begin_object()?;
+    put_word_member(writer, "cause", cause_name(cause))?;
+    put_number_member(writer, "code", cause.code() as u64)?;
+    writer.key("detail")?;
+    put_detail(writer, cause)?;
+    writer.key("step")?;
+    put_number_or_null(writer, step)?;
+    writer.end_object()?;
+    writer.end_object()?;
+    Ok(())
 }
 
-fn registered_value(alloc: Global, number: u32) -> Result<Value, AllocError>
-    ensures { IfOk result (λ v. view v ≡ registered_data number) }
+fn put_idle(writer: &mut Writer, handled: Option<bool>) -> Result<(), AllocError>
+    ensures { OnOk result (Tells (idle_data handled) writer.old writer.new) }
 {
-    json!(in alloc; {"registered": number})
+    writer.begin_object()?;
+    put_handled(writer, handled)?;
+    put_flag_member(writer, "idle", true)?;
+    writer.end_object()?;
+    Ok(())
 }
 
-fn cleared_value(alloc: Global) -> Result<Value, AllocError>
-    ensures { IfOk result (λ v. view v ≡ cleared_data) }
+fn put_gathered(writer: &mut Writer, count: u32) -> Result<(), AllocError>
+    ensures { OnOk result (Tells (gathered_data count) writer.old writer.new) }
 {
-    json!(in alloc; {"cleared": true})
+    writer.begin_object()?;
+    put_number_member(writer, "gathered", count as u64)?;
+    writer.end_object()?;
+    Ok(())
 }
 
-fn refusal_value(alloc: Global, cause: &Cause, step: Option<u32>) -> Result<Value, AllocError>
-    ensures { IfOk result (λ v. view v ≡ refusal_data cause.now step) }
+fn put_registered(writer: &mut Writer, number: u32) -> Result<(), AllocError>
+    ensures { OnOk result (Tells (registered_data number) writer.old writer.new) }
 {
-    let detail = detail_value(alloc, cause)?;
-    json!(in alloc; {
-        "refused": {
-            "cause": cause_name(cause),
-            "code": cause.code(),
-            "detail": detail,
-            "step": step,
-        }
-    })
+    writer.begin_object()?;
+    put_number_member(writer, "registered", number as u64)?;
+    writer.end_object()?;
+    Ok(())
 }
 
-fn state_value(alloc: Global, document: Value) -> Result<Value, AllocError>
-    ensures { IfOk result (λ v. view v ≡ state_data (view document)) }
+fn put_cleared(writer: &mut Writer) -> Result<(), AllocError>
+    ensures { OnOk result (Tells cleared_data writer.old writer.new) }
 {
-    json!(in alloc; {"state": document})
+    writer.begin_object()?;
+    put_flag_member(writer, "cleared", true)?;
+    writer.end_object()?;
+    Ok(())
 }
 
-fn shown_view(alloc: Global, html: &Txt) -> Result<Value, AllocError>
-    ensures { IfOk result (λ v. view v ≡ view_data html.now) }
+fn put_view(writer: &mut Writer, html: &Txt) -> Result<(), AllocError>
+    ensures { OnOk result (Tells (view_data html.now) writer.old writer.new) }
 {
-    let html = Value::try_from_str(alloc, html.as_str())?;
-    json!(in alloc; {"view": html})
+    writer.begin_object()?;
+    put_word_member(writer, "view", html.as_str())?;
+    writer.end_object()?;
+    Ok(())
 }
 
-fn shown_selection(alloc: Global, selection: &Selection) -> Result<Value, AllocError>
-    ensures { IfOk result (λ v. view v ≡ shown_selection_data selection.now) }
+fn put_shown_selection(writer: &mut Writer, selection: &Selection) -> Result<(), AllocError>
+    ensures { OnOk result (Tells (shown_selection_data selection.now) writer.old writer.new) }
 {
-    let selection = selection_value(alloc, selection)?;
-    json!(in alloc; {"selection": selection})
+    writer.begin_object()?;
+    writer.key("selection")?;
+    put_selection(writer, selection)?;
+    writer.end_object()?;
+    Ok(())
 }
 
-fn shown_history(alloc: Global, redo: u32, undo: u32) -> Result<Value, AllocError>
-    ensures { IfOk result (λ v. view v ≡ history_data redo undo) }
+fn put_history(writer: &mut Writer, redo: u32, undo: u32) -> Result<(), AllocError>
+    ensures { OnOk result (Tells (history_data redo undo) writer.old writer.new) }
 {
-    json!(in alloc; {"history": {"redo": redo, "undo": undo}})
+    writer.begin_object()?;
+    writer.key("history")?;
+    writer.begin_object()?;
+    put_number_member(writer, "redo", redo as u64)?;
+    put_number_member(writer, "undo", undo as u64)?;
+    writer.end_object()?;
+    writer.end_object()?;
+    Ok(())
 }
