@@ -18,7 +18,7 @@ use Rattle.clap.specs.declared.error.kind.ErrorKind.{ErrorKind}
 use Rattle.clap.specs.declared.error.kind.ErrorKind.TheVariants as kind
 use Rattle.clap.specs.declared.parser.matches.ArgMatches.{ArgMatches}
 use Rattle.clap.specs.declared.parser.matches.Found.{Found}
-use Rattle.lx_words.specs.Words.{IsRefusal, MayHaveNumber, are_taken, asked_for, delay_in, delay_rule, generate_rule, lexical_app, mode_found, mode_in, number_if_said, number_in, number_said, says_true, seed_rule, view_in, view_rule}
+use Rattle.lx_words.specs.Words.{IsRefusal, MayHaveNumber, are_taken, asked_for, delay_in, delay_rule, generate_rule, hub_in, hub_rule, lexical_app, mode_found, mode_in, number_if_said, number_in, number_said, says_true, seed_rule, view_in, view_rule}
 use Rattle.lx_words.specs.declared.options.Mode.{Mode}
 use Rattle.lx_words.specs.declared.options.Mode.TheVariants as mode
 use Rattle.lx_words.specs.declared.options.Options.{Options}
@@ -58,22 +58,22 @@ not_same a b differ = go (bytes_eq a b) refl
     go true e = absurd (differ ((bytes_eq-Decides a b).0 e))
     go false e = refl
 
-pub view_read : (E : Type 0) (t : Option Text) (r : Option Bool) → (t ≡ None → r ≡ None)
+pub flag_read : (E : Type 0) (t : Option Text) (r : Option Bool) → (t ≡ None → r ≡ None)
     → ((u : Text) → t ≡ Some u → ReadsOne {T = Bool} {E = E} ParsesBool u r) → unwrap_or r false ≡ says_true t
 unfolding says_true
-view_read E None r none some = rw (none refl) refl
-view_read E (Some u) (Some true) none some = sym ((bytes_eq-Decides u (codes "true")).1 (some u refl))
-view_read E (Some u) (Some false) none some = rw (some u refl) refl
-view_read E (Some u) None none some = sym (not_same u (codes "true") (some u refl).1.0)
+flag_read E None r none some = rw (none refl) refl
+flag_read E (Some u) (Some true) none some = sym ((bytes_eq-Decides u (codes "true")).1 (some u refl))
+flag_read E (Some u) (Some false) none some = rw (some u refl) refl
+flag_read E (Some u) None none some = sym (not_same u (codes "true") (some u refl).1.0)
 
 -- ---- the words
 
 is_simple_app : is_simple lexical_app ≡ true
-unfolding lexical_app view_rule delay_rule generate_rule seed_rule
+unfolding lexical_app view_rule delay_rule hub_rule generate_rule seed_rule
 is_simple_app = refl
 
 is_free_app : is_simple_and_free lexical_app ≡ true
-unfolding lexical_app view_rule delay_rule generate_rule seed_rule
+unfolding lexical_app view_rule delay_rule hub_rule generate_rule seed_rule
 is_free_app = refl
 
 -- what the matches have under a name is what the words have
@@ -85,8 +85,10 @@ text_is a words m is has name =
 
 -- the mode of the matches is that of the words
 mode_is : (a : App) (words : List Text) (m : ArgMatches) → a ≡ lexical_app → HasMatchesOf a words m → mode_found (found_of m) ≡ mode_in words
-unfolding mode_in view_in number_in
-mode_is a words m is has = rw (text_is a words m is has (codes "view"), text_is a words m is has (codes "generate"), text_is a words m is has (codes "seed")) refl
+unfolding mode_in view_in hub_in number_in
+mode_is a words m is has =
+    let text = text_is a words m is has in
+    rw (text (codes "view"), text (codes "hub"), text (codes "generate"), text (codes "seed")) refl
 
 taken : (a : App) (words : List Text) (mode : Mode) → a ≡ lexical_app → (is_simple_and_free a ≡ true → fault_of a words ≡ [])
     → mode_in words ≡ Some mode → are_taken words ≡ true

@@ -35,6 +35,10 @@ delay_rule = record (new_rule (codes "delay")) {
   defaults = codes "1000" ∷ [];
 }
 
+-- `--hub`, which takes no value
+unfoldable pub hub_rule : Rule
+hub_rule = record (new_rule (codes "hub")) { long = Some (codes "hub"); action = Some SetTrue }
+
 -- the most lines that a generated session has
 abbrev pub most_lines : ℕ
 most_lines = 20000
@@ -62,8 +66,8 @@ seed_rule = record (new_rule (codes "seed")) {
 -- the program, passed the words behind its name; it has no flag for help and none for a version
 unfoldable pub lexical_app : App
 lexical_app =
-    with_rule (with_rule (with_rule (with_rule (on_top (λ s. record s { no_binary_name = true; disable_help_flag = true })
-    (new_app (codes "lexical"))) view_rule) delay_rule) generate_rule) seed_rule
+    with_rule (with_rule (with_rule (with_rule (with_rule (on_top (λ s. record s { no_binary_name = true; disable_help_flag = true })
+    (new_app (codes "lexical"))) view_rule) delay_rule) hub_rule) generate_rule) seed_rule
 
 -- the text that clap reads of the flag is `true`
 unfoldable pub says_true : Option Text → Bool
@@ -81,6 +85,10 @@ number_if_said text = option_map (λ t. digits_value 10 (without_leading_plus t)
 unfoldable pub view_in : List Text → Bool
 view_in words = says_true (one_of (codes "view") (matches_of lexical_app words))
 
+-- whether they ask for views that lag behind, by clap's matches
+unfoldable pub hub_in : List Text → Bool
+hub_in words = says_true (one_of (codes "hub") (matches_of lexical_app words))
+
 -- the delay that the words ask for, by clap's matches
 unfoldable pub delay_in : List Text → ℕ
 delay_in words = number_said (one_of (codes "delay") (matches_of lexical_app words))
@@ -89,21 +97,23 @@ delay_in words = number_said (one_of (codes "delay") (matches_of lexical_app wor
 unfoldable pub number_in : Text → List Text → Option ℕ
 number_in name words = number_if_said (one_of name (matches_of lexical_app words))
 
--- The mode that is asked for, by whether the view is and by the numbers of lines and of the seed: the two stand together, and
--- not beside the view.
-abbrev pub mode_of : Bool → Option ℕ → Option ℕ → Option Mode
-mode_of view None None = Some mode.Plain
-mode_of false (Some lines) (Some seed) = Some (mode.Generate (record { lines = lines; seed = seed }))
-mode_of view lines seed = None
+-- The mode that is asked for, by whether the view is, by whether views that lag behind are, and by the numbers of lines and of
+-- the seed: the two stand together, and beside neither flag.
+abbrev pub mode_of : Bool → Bool → Option ℕ → Option ℕ → Option Mode
+mode_of view false None None = Some mode.Plain
+mode_of view true None None = Some mode.Hub
+mode_of false false (Some lines) (Some seed) = Some (mode.Generate (record { lines = lines; seed = seed }))
+mode_of view hub lines seed = None
 
 -- a session that is generated has as many lines as it may have
 abbrev pub HasLines : Mode → Type 0
 HasLines mode.Plain = ⊤
+HasLines mode.Hub = ⊤
 HasLines (mode.Generate session) = (1 ≤ session.lines) × (session.lines ≤ most_lines)
 
 -- the mode that the words ask for, by clap's matches
 unfoldable pub mode_in : List Text → Option Mode
-mode_in words = mode_of (view_in words) (number_in (codes "generate") words) (number_in (codes "seed") words)
+mode_in words = mode_of (view_in words) (hub_in words) (number_in (codes "generate") words) (number_in (codes "seed") words)
 
 -- clap lists no kind of error at the words, and they ask for a mode
 unfoldable pub are_taken : List Text → Bool
@@ -135,5 +145,5 @@ pub record HasNumbers (f : Found) : Type 0 where
 
 -- the mode that matches ask for
 abbrev pub mode_found : Found → Option Mode
-mode_found f = mode_of (says_true (one_text f (codes "view"))) (number_if_said (one_text f (codes "generate")))
-    (number_if_said (one_text f (codes "seed")))
+mode_found f = mode_of (says_true (one_text f (codes "view"))) (says_true (one_text f (codes "hub")))
+    (number_if_said (one_text f (codes "generate"))) (number_if_said (one_text f (codes "seed")))

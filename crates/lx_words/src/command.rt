@@ -1,6 +1,6 @@
 ghost use Rattle.std.specs.Prelude.{◌≡◌, IfOk, false};
 ghost use Rattle.clap.specs.Words.{app_of, rule_of};
-ghost use Rattle.lx_words.specs.Words.{delay_rule, generate_rule, lexical_app, seed_rule, view_rule};
+ghost use Rattle.lx_words.specs.Words.{delay_rule, generate_rule, hub_rule, lexical_app, seed_rule, view_rule};
 
 use clap::{Arg, ArgAction, Command, value_parser};
 use std::alloc::{AllocError, Global};
@@ -14,6 +14,7 @@ pub(crate) fn lexical_command<'a>(alloc: Global) -> Result<Command<'a>, AllocErr
         .disable_help_flag(true)
         .arg(view_flag(alloc))?
         .arg(delay_option(alloc))?
+        .arg(hub_flag(alloc))?
         .arg(generate_option(alloc))?
         .arg(seed_option(alloc))
 }
@@ -38,6 +39,16 @@ fn delay_option<'a>(alloc: Global) -> Arg<'a>
         .action(ArgAction::Set)
         .value_parser(value_parser!(u32).range(0..=86_400_000))
         .default_value("1000")
+}
+
+#[tactic(auto, unfolding(crate::specs::Words::hub_rule))]
+fn hub_flag<'a>(alloc: Global) -> Arg<'a>
+    ensures rule { rule_of result ≡ hub_rule }
+    ensures local { result.global ≡ false }
+{
+    Arg::new(alloc, "hub")
+        .long("hub")
+        .action(ArgAction::SetTrue)
 }
 
 #[tactic(auto, unfolding(crate::specs::Words::generate_rule))]

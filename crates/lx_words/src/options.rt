@@ -8,11 +8,14 @@ use clap::ArgMatches;
 use clap::error::ErrorKind;
 use std::alloc::Global;
 
-/// What the program does.
+/// What the program does. Words ask for one mode: `--hub` for the hub, `--generate` and `--seed` together for a generated
+/// session, and none of these for the plain one.
 #[derive(Clone, Copy)]
 pub enum Mode {
     /// It answers the lines of its input.
     Plain,
+    /// It answers the lines of its input, and keeps views that lag behind commits.
+    Hub,
     /// It generates a session in the place of the input, and tells it as a whole.
     Generate(Generated),
 }
@@ -47,7 +50,8 @@ pub enum Refused {
 }
 
 /// What the words behind the program's name ask for. They are taken exactly where clap takes them and they ask for one mode,
-/// unless memory runs out first: `--generate` and `--seed` stand together, and not beside `--view`.
+/// unless memory runs out first: `--generate` and `--seed` stand together, not beside `--view` and not beside `--hub`. `--hub`
+/// may stand beside `--view`, and `--delay` beside any.
 pub fn options_of(alloc: Global, words: &[String]) -> Result<Options, Refused>
     ensures ok { IfOk result (λ options. (are_taken (map string_bytes words.now) ≡ true)
         × (options ≡ asked_for (map string_bytes words.now))) }
@@ -75,32 +79,35 @@ fn options_in(matches: &ArgMatches<'_>) -> Result<Options, Refused>
     ensures lines { IfOk result (λ options. HasLines options.mode) }
     ensures usage { IfErr result (λ refused. (refused ≡ Refused.Usage) × (mode_found (found_of matches.now) ≡ None)) }
 {
-    let view = found_view(matches);
+    let view = found_flag(matches, "view");
+    let hub = found_flag(matches, "hub");
     let lines = found_lines(matches);
     let seed = found_seed(matches);
     let delay = found_delay(matches);
-    match mode_of(view, lines, seed) {
+    match mode_of(view, hub, lines, seed) {
         Some(mode) => Ok(Options { mode, view, delay }),
         None => Err(Refused::Usage),
     }
 }
 
 /// The mode that is asked for, if it is one.
-fn mode_of(view: bool, lines: Option<u32>, seed: Option<u32>) -> Option<Mode>
-    ensures mode { result ≡ mode_of view lines seed }
+fn mode_of(view: bool, hub: bool, lines: Option<u32>, seed: Option<u32>) -> Option<Mode>
+    ensures mode { result ≡ mode_of view hub lines seed }
     ensures lines { IfSome lines (λ n. (1 ≤ n) × (n ≤ most_lines)) → IfSome result HasLines }
 {
-    match (view, lines, seed) {
-        (_, None, None) => Some(Mode::Plain),
-        (false, Some(lines), Some(seed)) => Some(Mode::Generate(Generated { lines, seed })),
+    match (view, hub, lines, seed) {
+        (_, false, None, None) => Some(Mode::Plain),
+        (_, true, None, None) => Some(Mode::Hub),
+        (false, false, Some(lines), Some(seed)) => Some(Mode::Generate(Generated { lines, seed })),
         _ => None,
     }
 }
 
-fn found_view(matches: &ArgMatches<'_>) -> bool
-    ensures { result ≡ says_true (one_text (found_of matches.now) (codes "view")) }
+/// Whether a flag stands among the words.
+fn found_flag(matches: &ArgMatches<'_>, name: &str) -> bool
+    ensures { result ≡ says_true (one_text (found_of matches.now) name.now) }
 {
-    matches.get_one::<bool>("view").unwrap_or(false)
+    matches.get_one::<bool>(name).unwrap_or(false)
 }
 
 fn found_delay(matches: &ArgMatches<'_>) -> u32
