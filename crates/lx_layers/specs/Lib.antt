@@ -1,0 +1,5 @@
+pub mod Asked
+pub mod Replies
+pub mod Served
+pub mod Passing
+pub mod Shown

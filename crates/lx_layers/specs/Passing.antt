@@ -1,0 +1,32 @@
+-- How a hub follows an editor. Only this crate's own contracts cite it.
+use Rattle.std.specs.Prelude.{◌≡◌, ◌≢◌, ℕ, ◌+◌, List, codes, Option, None, Some}
+use Rattle.serde_json.specs.Data.{Data}
+use Rattle.lx_host.specs.Hosts.{Leads}
+use Rattle.lx_reconcile.specs.Told.{Told}
+use Rattle.lx_script.specs.Grammar.{IsJson}
+use Rattle.lx_hub.specs.Hub.{Hub}
+use Rattle.lx_editor.specs.Editor.{Editor}
+use Rattle.lx_editor.specs.Follows.{Answers}
+use Rattle.lx_layers.specs.Asked.{sole_member}
+use Rattle.lx_layers.specs.Replies.{views_text, hub_after_line}
+use Rattle.lx_layers.specs.Served.{AreLevel, IsFollowedBy}
+
+-- The editor has one commit more than the hub has batches, and its last operations lead from the hub's tip to its view.
+pub record IsAhead (e : Editor) (h : Hub) : Type 0 where
+  pub told : Told
+  pub last : e.last ≡ Some told
+  pub number : e.commits ≡ h.commits + 1
+  pub leads : Leads h.tip told.ops e.view
+
+-- a line behind which there may be a commit more than before it
+pub record MayFollow (before : ℕ) (e : Editor) (h : Hub) : Type 0 where
+  pub level : e.commits ≡ before → AreLevel e h
+  pub ahead : e.commits ≢ before → IsAhead e h
+
+-- what the two may answer to a value, by that of its only member where it has the hub's name
+abbrev pub AnswersMember : Option Data → Data → Editor → Hub → List ℕ → Editor → Hub → Type 0
+AnswersMember (Some asked) value old h bytes new g = (bytes ≡ views_text asked h) × (new ≡ old) × (g ≡ hub_after_line asked h)
+AnswersMember None value old h bytes new g = ((line : List ℕ) → IsJson line value → Answers old line bytes new) × IsFollowedBy old new h g
+
+abbrev pub AnswersValue : Data → Editor → Hub → List ℕ → Editor → Hub → Type 0
+AnswersValue value old h bytes new g = AnswersMember (sole_member (codes "hub") value) value old h bytes new g

@@ -1,0 +1,99 @@
+-- An editor with a layer beside it, and how lines may be answered there.
+use Rattle.std.specs.Prelude.{◌≡◌, ℕ, ◌+◌, List, [], ◌∷◌, ◌++◌, codes, Option, None, Some}
+use Rattle.serde_json.specs.Data.{Data}
+use Rattle.lx_host.specs.declared.op.Op.{Op}
+use Rattle.lx_reconcile.specs.Told.{Told}
+use Rattle.lx_editor.specs.Editor.{Editor, new_editor}
+use Rattle.lx_editor.specs.Follows.{Answers}
+use Rattle.lx_editor.specs.Gathering.{IsLeftWithout}
+use Rattle.lx_hub.specs.Hub.{Hub, new_hub, published}
+use Rattle.lx_words.specs.declared.options.Options.{Options}
+use Rattle.lx_words.specs.declared.options.Mode.{Mode}
+use Rattle.lx_words.specs.declared.options.Mode.TheVariants as mode
+use Rattle.lx_layers.specs.declared.layer.Layer.{Layer}
+use Rattle.lx_layers.specs.declared.layer.Layer.TheVariants as layer
+use Rattle.lx_layers.specs.Asked.{IsOwn, IsOther}
+use Rattle.lx_layers.specs.Replies.{views_text, hub_after_line}
+
+-- an editor, and what stands beside it
+pub record Served : Type 0 where
+  pub editor : Editor
+  pub layer : Layer
+
+abbrev pub plain : Editor → Served
+plain e = record { editor = e; layer = layer.Plain }
+
+abbrev pub with_hub : Editor → Hub → Served
+with_hub e h = record { editor = e; layer = layer.Hub h }
+
+-- what stands beside a new editor in a mode; a session that is generated has nothing there
+abbrev pub new_layer : Mode → Layer
+new_layer mode.Plain = layer.Plain
+new_layer mode.Hub = layer.Hub new_hub
+new_layer (mode.Generate session) = layer.Plain
+
+abbrev pub new_served : Options → Served
+new_served options = record { editor = new_editor options.view options.delay; layer = new_layer options.mode }
+
+-- ---- a hub beside an editor
+
+-- The hub's tip is the editor's view, and it has taken as many batches as there were commits.
+pub record AreLevel (e : Editor) (h : Hub) : Type 0 where
+  pub tip : h.tip ≡ e.view
+  pub commits : h.commits ≡ e.commits
+
+-- what holds of the two
+abbrev pub IsBeside : Editor → Layer → Type 0
+IsBeside e (layer.Hub h) = AreLevel e h
+IsBeside e other = Unit {0}
+
+abbrev pub ops_told : Option Told → List Op
+ops_told None = []
+ops_told (Some told) = told.ops
+
+-- the hub after a line that went to the editor: where that committed, the commit's operations are published
+pub record IsFollowedBy (old new : Editor) (h g : Hub) : Type 0 where
+  pub published : new.commits ≡ old.commits + 1 → g ≡ published (ops_told new.last) h
+  pub same : new.commits ≡ old.commits → g ≡ h
+
+-- ---- answers
+
+-- A line may be answered with these bytes: with nothing beside the editor as the editor may. Beside a hub, a line of the hub's
+-- own has the hub's reply and leaves the editor, its moment too; and any other line is answered as the editor may.
+pub data AnswersIn : Served → List ℕ → List ℕ → Served → Type 0 where
+  by_editor : (old new : Editor) (line bytes : List ℕ) → Answers old line bytes new → AnswersIn (plain old) line bytes (plain new)
+  about_views : (e : Editor) (h : Hub) (line : List ℕ) (asked : Data) → IsOwn (codes "hub") line asked
+      → AnswersIn (with_hub e h) line (views_text asked h) (with_hub e (hub_after_line asked h))
+  beside_views : (old new : Editor) (h g : Hub) (line bytes : List ℕ) → IsOther (codes "hub") line → Answers old line bytes new
+      → IsFollowedBy old new h g → AnswersIn (with_hub old h) line bytes (with_hub new g)
+
+-- These bytes are answers to the lines, each with a line end, one after another.
+abbrev pub FollowsInTo : Served → List (List ℕ) → List ℕ → Served → Type 0
+FollowsInTo old [] bytes new = (bytes ≡ []) × (new ≡ old)
+FollowsInTo old (line ∷ lines) bytes new =
+    (answer rest : List ℕ) × (mid : Served) × AnswersIn old line answer mid
+    × (bytes ≡ answer ++ 10 ∷ rest) × FollowsInTo mid lines rest new
+
+abbrev pub FollowsIn : Served → List (List ℕ) → List ℕ → Type 0
+FollowsIn old lines bytes = (new : Served) × FollowsInTo old lines bytes new
+
+-- ---- numbers
+
+-- how many commits there were, and how many views were attached: a line takes one of them at most
+abbrev pub made_in : Layer → ℕ
+made_in (layer.Hub h) = h.made
+made_in other = 0
+
+abbrev pub spent : Served → ℕ
+spent s = s.editor.commits + made_in s.layer
+
+-- ---- want of memory
+
+-- What it leaves: with nothing beside the editor, what it leaves of an editor. Beside a hub nothing is answered any more, since
+-- the hub may lack a commit.
+abbrev pub IsLeftBeside : Layer → Editor → Served → Type 0
+IsLeftBeside layer.Plain old new = IsLeftWithout old new.editor × (new.layer ≡ layer.Plain)
+IsLeftBeside other old new = new.layer ≡ layer.Gone
+
+abbrev pub IsLeftIn : Served → Served → Type 0
+IsLeftIn old new = IsLeftBeside old.layer old.editor new

@@ -1,0 +1,38 @@
+use lx_hub::Hub;
+use lx_node::NoMemory;
+use lx_words::Mode;
+use std::alloc::Global;
+
+/// What stands beside the editor.
+#[derive(Drop)]
+pub(crate) enum Layer {
+    /// Nothing.
+    Plain,
+    /// Views that lag.
+    Hub(Hub),
+    /// Nothing any more: memory was wanting for a line beside a hub, which may lack a commit. No line is answered behind it.
+    Gone,
+}
+
+impl Layer {
+    ghost use Rattle.std.specs.Prelude.{◌≡◌, IfOk};
+    ghost use Rattle.lx_layers.specs.Served.{new_layer};
+    ghost use Rattle.lx_layers.specs.declared.layer.Layer.TheVariants as layer;
+
+    /// What stands beside a new editor in a mode.
+    pub(crate) fn new(alloc: Global, mode: Mode) -> Result<Layer, NoMemory>
+        ensures { IfOk result (λ made. made ≡ new_layer mode) }
+    {
+        match mode {
+            Mode::Hub => Ok(Layer::Hub(Hub::new(alloc)?)),
+            Mode::Plain | Mode::Generate(_) => Ok(Layer::Plain),
+        }
+    }
+
+    /// Lets go what stands there.
+    pub(crate) fn let_go(&mut self)
+        ensures { self.new ≡ layer.Gone }
+    {
+        *self = Layer::Gone;
+    }
+}
