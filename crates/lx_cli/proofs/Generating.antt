@@ -1,17 +1,20 @@
 -- Runs as their words have them, and runs that generate a session.
-use Rattle.std.proofs.Common.{◌≡◌, ℕ, true, false, ◌+◌, inl, inr, List, [], ◌∷◌, ◌++◌, length, refl, arith}
+use Rattle.std.proofs.Common.{◌≡◌, ℕ, true, false, ◌+◌, inl, inr, List, [], ◌∷◌, ◌++◌, length, refl, ap, subst, arith}
 use Rattle.lx_words.specs.declared.options.Generated.{Generated}
 use Rattle.lx_words.specs.declared.options.Mode.{Mode}
-use Rattle.lx_words.specs.declared.options.Mode.TheVariants.{Plain, Generate}
+use Rattle.lx_words.specs.declared.options.Mode.TheVariants.{Plain, Hub, Generate}
 use Rattle.lx_words.specs.Words.{are_taken, asked_for, delay_in}
 use Rattle.lx_generator.specs.Sessions.{IsTold}
 use Rattle.lx_cli.specs.declared.status.Status.{Status}
-use Rattle.lx_cli.specs.declared.status.Status.TheVariants.{Done, WriteFault, Memory}
-use Rattle.lx_cli.specs.Run.{SourceSeen, SinkSeen, Seen, IsRun}
+use Rattle.lx_cli.specs.declared.status.Status.TheVariants.{Done, Usage, ReadFault, WriteFault, Memory, InputTooLong}
+use Rattle.lx_editor.specs.Follows.{Follows}
+use Rattle.lx_layers.specs.Served.{Served, FollowsIn, new_layer, plain}
+use Rattle.lx_layers.proofs.Plain.{follows_plain}
+use Rattle.lx_cli.specs.Run.{begun_with, served_with, SourceSeen, SinkSeen, Seen, Ends, IsAnsweredRun, IsFrontOfReplies, IsRun, IsServedRun}
 use Rattle.lx_cli.specs.Steps.{AreWritten, IsPieceCutOff}
 use Rattle.lx_cli.specs.Generating.{GeneratedEnds, IsGeneratedRun, RunsAsAsked, RunsBy, mode_for}
 use Rattle.lx_cli.proofs.Devices.{Appends-none, IsCounted-none, IsCounted-within}
-use Rattle.lx_cli.proofs.Runs.{HasRisen-not, IsRun-none, worded}
+use Rattle.lx_cli.proofs.Runs.{HasRisen-not, IsAnsweredRun-none, worded}
 
 -- ---- runs as their words have them
 
@@ -23,6 +26,56 @@ RunsAsAsked-taken mode status run taken is runs = rw (taken, is) runs
 -- words that are refused
 pub RunsAsAsked-refused : (status : Status) (run : Seen) → are_taken run.words ≡ false → IsRun status run → RunsAsAsked status run
 RunsAsAsked-refused status run refused runs = rw refused runs
+
+-- ---- runs with nothing beside the editor
+
+front_along : (A B : List (List ℕ) → List ℕ → Type 0) → ((lines : List (List ℕ)) (bytes : List ℕ) → A lines bytes → B lines bytes)
+    → (lines : List (List ℕ)) (written : List ℕ) → IsFrontOfReplies A lines written → IsFrontOfReplies B lines written
+front_along A B goes lines written p = record {
+  answered = p.answered;
+  later_lines = p.later_lines;
+  front = p.front;
+  replies = p.replies;
+  later_bytes = p.later_bytes;
+  follows = goes p.answered p.replies p.follows;
+  begun = p.begun;
+}
+
+ends_along : (A B : List (List ℕ) → List ℕ → Type 0) → ((lines : List (List ℕ)) (bytes : List ℕ) → A lines bytes → B lines bytes)
+    → (status : Status) (run : Seen) → Ends A status run → Ends B status run
+unfolding Ends
+ends_along A B goes Done run p = record { taken = p.taken; at_end = p.at_end; short = p.short; follows = goes _ _ p.follows; faultless = p.faultless }
+ends_along A B goes Usage run p = p
+ends_along A B goes ReadFault run p = record { taken = p.taken; short = p.short; follows = goes _ _ p.follows; source = p.source; sink = p.sink }
+ends_along A B goes WriteFault run p = record { taken = p.taken; lines = p.lines; may = p.may; front = front_along A B goes p.lines run.written p.front; source = p.source; sink = p.sink }
+ends_along A B goes Memory run p = record { taken = p.taken; lines = p.lines; may = p.may; front = front_along A B goes p.lines run.written p.front; faultless = p.faultless }
+ends_along A B goes InputTooLong run p = record { taken = p.taken; long = p.long; follows = goes _ _ p.follows; faultless = p.faultless }
+
+-- where these bytes are replies to lines, those are too
+answered_along : (A B : List (List ℕ) → List ℕ → Type 0) → ((lines : List (List ℕ)) (bytes : List ℕ) → A lines bytes → B lines bytes)
+    → (status : Status) (run : Seen) → IsAnsweredRun A status run → IsAnsweredRun B status run
+answered_along A B goes status run p = record {
+  ends = ends_along A B goes status run p.ends;
+  consumes = p.consumes;
+  appends = p.appends;
+  bounded = p.bounded;
+  reads = p.reads;
+  writes = p.writes;
+  complete = p.complete;
+}
+
+-- words that ask for no mode have nothing beside the editor
+served_plain : (words : List (List ℕ)) → (asked_for words).mode ≡ Plain → served_with words ≡ plain (begun_with words)
+served_plain words is = ap (λ (m : Mode). record { editor = begun_with words; layer = new_layer m }) is
+
+-- words that are taken, and ask for no mode
+pub RunsAsAsked-plain : (status : Status) (run : Seen) → are_taken run.words ≡ true → (asked_for run.words).mode ≡ Plain
+    → IsServedRun status run → RunsAsAsked status run
+RunsAsAsked-plain status run taken is runs =
+    let plainly : IsAnsweredRun (FollowsIn (plain (begun_with run.words))) status run =
+    subst (λ (s : Served). IsAnsweredRun (FollowsIn s) status run) (served_plain run.words is) runs in
+    RunsAsAsked-taken Plain status run taken is
+    (answered_along (FollowsIn (plain (begun_with run.words))) (Follows (begun_with run.words)) (follows_plain (begun_with run.words)) status run plainly)
 
 -- ---- sessions that are generated
 
@@ -44,7 +97,8 @@ pub RunsAsAsked-none : (words : List (List ℕ)) (q : SourceSeen) (s : SinkSeen)
 RunsAsAsked-none words q s = go (mode_for words)
   where
     go : (mode : Mode) → RunsBy mode Memory (worded words [] [] q q s s)
-    go Plain = IsRun-none words q s
+    go Plain = IsAnsweredRun-none (Follows (begun_with words)) (begun_with words, (refl, refl)) words q s
+    go Hub = IsAnsweredRun-none (FollowsIn (served_with words)) (served_with words, (refl, refl)) words q s
     go (Generate session) = IsGeneratedRun-none session words q s
 
 -- the summary and a line end are written

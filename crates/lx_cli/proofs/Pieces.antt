@@ -3,7 +3,7 @@ use Rattle.std.proofs.Common.{◌≡◌, ℕ, ◌+◌, ◌<◌, ◌≤◌, List,
 use Rattle.std.proofs.Math.Seq.{take-append-add}
 use Rattle.std.proofs.lemmas.List.{length-take, take-take, take-append-drop}
 use Rattle.lx_io.specs.Devices.{Consumes, HasRisen, IsCounted}
-use Rattle.lx_editor.specs.Editor.{Editor}
+use Rattle.lx_layers.specs.Served.{Served, spent}
 use Rattle.lx_cli.specs.declared.session.Unanswered.{Unanswered}
 use Rattle.lx_cli.specs.declared.session.Unanswered.TheVariants as unanswered
 use Rattle.lx_cli.specs.declared.reading.Stop.{Stop}
@@ -24,21 +24,21 @@ AreBrokenOff-failed a b left faults reads = record {
 }
 
 -- bytes behind those that are unanswered
-pub AreUnanswered-longer : (why : Unanswered) (editor : Editor) (s t : SinkSeen) (waits xs : List ℕ) (m n : ℕ) → m ≤ n
-    → AreUnanswered why (ended (waits ++ take m xs)) editor s t → AreUnanswered why (ended (waits ++ take n xs)) editor s t
-AreUnanswered-longer why editor s t waits xs m n le p =
+pub AreUnanswered-longer : (why : Unanswered) (served : Served) (s t : SinkSeen) (waits xs : List ℕ) (m n : ℕ) → m ≤ n
+    → AreUnanswered why (ended (waits ++ take m xs)) served s t → AreUnanswered why (ended (waits ++ take n xs)) served s t
+AreUnanswered-longer why served s t waits xs m n le p =
     let front : take m (take n xs) ≡ take m xs = take-take m n xs le in
     let rest : List ℕ = drop m (take n xs) in
     let whole : take m xs ++ rest ≡ take n xs = ap (λ bytes. bytes ++ rest) (sym front) ∙ take-append-drop m (take n xs) in
-    subst (λ (lines : List (List ℕ)). AreUnanswered why lines editor s t)
+    subst (λ (lines : List (List ℕ)). AreUnanswered why lines served s t)
     (sym (ended-append (waits ++ take m xs) rest) ∙ ap ended (append_assoc waits (take m xs) rest ∙ ap (λ bytes. waits ++ bytes) whole))
-    (AreUnanswered-later why editor s t (ended (waits ++ take m xs)) (ended (unended (waits ++ take m xs) ++ rest)) p)
+    (AreUnanswered-later why served s t (ended (waits ++ take m xs)) (ended (unended (waits ++ take m xs) ++ rest)) p)
 
 -- one read that gave bytes, not all of whose lines are answered
 pub IsUnanswered-one : (why : Unanswered) (may_come count within : ℕ) (into : List ℕ) (a b : Moment)
     → 0 < count → count ≤ length into → count ≤ may_come + 1 → within ≤ count → within ≤ may_come
     → Consumes a.source.left b.source.left (take count into) → b.source.faults ≡ a.source.faults → IsCounted a.source.reads b.source.reads 1
-    → AreUnanswered why (ended (a.session.pending.items ++ take within into)) a.session.editor a.sink b.sink
+    → AreUnanswered why (ended (a.session.pending.items ++ take within into)) a.session.served a.sink b.sink
     → IsUnanswered why may_come (take count into) a b
 IsUnanswered-one why may_come count within into a b some fits most le short consumes faults reads unanswered = record {
   within = rw (length-take count into) (omega arith);
@@ -48,8 +48,8 @@ IsUnanswered-one why may_come count within into a b some fits most le short cons
     reads = IsCounted-within a.source.reads b.source.reads 1 (length (take count into)) (rw (length-take count into) (omega arith)) reads;
   };
   unanswered =
-      AreUnanswered-longer why a.session.editor a.sink b.sink a.session.pending.items (take count into) within may_come short
-      (subst (λ (bytes : List ℕ). AreUnanswered why (ended (a.session.pending.items ++ bytes)) a.session.editor a.sink b.sink)
+      AreUnanswered-longer why a.session.served a.sink b.sink a.session.pending.items (take count into) within may_come short
+      (subst (λ (bytes : List ℕ). AreUnanswered why (ended (a.session.pending.items ++ bytes)) a.session.served a.sink b.sink)
       (sym (take-take within count into le)) unanswered);
 }
 
@@ -74,7 +74,7 @@ IsUnanswered-behind why a b c all left xs ys e p q = record {
   within = omega (arith, length-append xs ys, q.within);
   source = AreRead-append a.source b.source c.source xs ys p.source q.source;
   unanswered =
-      subst (λ (bytes : List ℕ). AreUnanswered why (ended (a.session.pending.items ++ bytes)) a.session.editor a.sink c.sink)
+      subst (λ (bytes : List ℕ). AreUnanswered why (ended (a.session.pending.items ++ bytes)) a.session.served a.sink c.sink)
       (sym (take-append-add xs ys left) ∙ ap (λ n. take n (xs ++ ys)) e)
       (AreUnanswered-taken why a.session b.session a.sink b.sink c.sink xs (take left ys) p.taken q.unanswered);
 }
@@ -102,13 +102,13 @@ Stops-behind TooLong a b c all left xs ys e p q = record {
       (AreTaken-append a.session b.session c.session a.sink b.sink c.sink xs (take left ys) p.taken q.taken);
 }
 
--- the numbers that the editor has given out, and those that the bytes still may want
-pub commits-behind : (a b : Moment) (all left : ℕ) (xs : List ℕ) → length xs + left ≡ all → ReadsOn all xs a b
-    → b.session.editor.commits + length b.session.pending.items + left
-    ≤ a.session.editor.commits + length a.session.pending.items + all
-commits-behind a b all left xs e p =
+-- what is spent of the numbers, and what the bytes still may want
+pub spent-behind : (a b : Moment) (all left : ℕ) (xs : List ℕ) → length xs + left ≡ all → ReadsOn all xs a b
+    → spent b.session.served + length b.session.pending.items + left
+    ≤ spent a.session.served + length a.session.pending.items + all
+spent-behind a b all left xs e p =
     let waits = a.session.pending.items in
-    omega (arith, length-ended-le (waits ++ xs), length-append waits xs, ap length p.taken.waiting, p.taken.answered.commits)
+    omega (arith, length-ended-le (waits ++ xs), length-append waits xs, ap length p.taken.waiting, p.taken.answered.few)
 
 pub IsUnended-behind : (a b : Moment) (all : ℕ) (xs : List ℕ) → ReadsOn all xs a b → IsUnended b.session.pending.items
 IsUnended-behind a b all xs p =

@@ -4,7 +4,8 @@ use Rattle.lx_node.specs.Limits.{last_u32}
 use Rattle.lx_io.specs.Devices.{Consumes, IsAtEnd, HasRisen, IsCounted, last_count}
 use Rattle.lx_words.specs.declared.options.Options.{Options}
 use Rattle.lx_words.specs.Words.{are_taken, asked_for}
-use Rattle.lx_editor.specs.Editor.{Editor}
+use Rattle.lx_layers.specs.Served.{Served, spent}
+use Rattle.lx_layers.proofs.Plain.{spent_new}
 use Rattle.lx_cli.specs.declared.session.Session.{Session}
 use Rattle.lx_cli.specs.declared.session.Unanswered.{Unanswered}
 use Rattle.lx_cli.specs.declared.session.Unanswered.TheVariants as unanswered
@@ -13,11 +14,11 @@ use Rattle.lx_cli.specs.declared.reading.Stop.TheVariants as stop
 use Rattle.lx_cli.specs.declared.status.Status.{Status}
 use Rattle.lx_cli.specs.declared.status.Status.TheVariants.{Done, Usage, ReadFault, Memory, InputTooLong}
 use Rattle.lx_cli.specs.Lines.{ended, unended, last_line, lines_of}
-use Rattle.lx_cli.specs.Run.{begun_with, input_limit, SourceSeen, SinkSeen, Seen, Ends, IsRun}
+use Rattle.lx_cli.specs.Run.{served_with, input_limit, SourceSeen, SinkSeen, Seen, Ends, IsAnsweredRun, IsServedRun}
 use Rattle.lx_cli.specs.Steps.{AreAnswered, AreUnanswered, AreTaken, IsUnended, IsNew, Moment, IsEnd, IsBrokenOff, IsUnanswered, IsPastLimit, HasStopped, unanswered_status, stop_status}
 use Rattle.lx_cli.proofs.Lines.{IsUnended-none, length-ended-le}
 use Rattle.lx_cli.proofs.Devices.{Consumes-none, Appends-none, IsCounted-none, IsCounted-within, AreWritten-append}
-use Rattle.lx_cli.proofs.Answering.{FollowsTo-append, IsFrontOfReplies-none, AreUnanswered-append}
+use Rattle.lx_cli.proofs.Answering.{FollowsInTo-append, AreUnanswered-append}
 
 -- a run with words
 abbrev pub worded : List (List ℕ) → List ℕ → List ℕ → SourceSeen → SourceSeen → SinkSeen → SinkSeen → Seen
@@ -34,15 +35,24 @@ worded words read written q r s t = record {
 pub HasRisen-not : (old new : ℕ) → HasRisen old new → new ≡ old → old < last_count → ⊥
 HasRisen-not old new risen same below = elim risen [ inl p ↦ omega arith | inr p ↦ omega arith ]
 
--- a run that did nothing
-pub IsRun-none : (words : List (List ℕ)) (q : SourceSeen) (s : SinkSeen) → IsRun Memory (worded words [] [] q q s s)
+-- a run that did nothing, where nothing is the reply to no lines
+pub IsAnsweredRun-none : (AreReplies : List (List ℕ) → List ℕ → Type 0) → AreReplies [] []
+    → (words : List (List ℕ)) (q : SourceSeen) (s : SinkSeen) → IsAnsweredRun AreReplies Memory (worded words [] [] q q s s)
 unfolding Ends
-IsRun-none words q s = record {
+IsAnsweredRun-none AreReplies none words q s = record {
   ends = record {
     taken = inr (refl, refl);
     lines = ended (take input_limit []);
     may = inl refl;
-    front = IsFrontOfReplies-none (begun_with words) (ended (take input_limit []));
+    front = record {
+      answered = [];
+      later_lines = ended (take input_limit []);
+      front = refl;
+      replies = [];
+      later_bytes = [];
+      follows = none;
+      begun = refl;
+    };
     faultless = record { source = refl; sink = refl };
   };
   consumes = Consumes-none q.left;
@@ -53,9 +63,10 @@ IsRun-none words q s = record {
   complete = λ taken faults short. inr refl;
 }
 
-pub IsRun-usage : (words : List (List ℕ)) (q : SourceSeen) (s : SinkSeen) → are_taken words ≡ false → IsRun Usage (worded words [] [] q q s s)
+pub IsAnsweredRun-usage : (AreReplies : List (List ℕ) → List ℕ → Type 0) (words : List (List ℕ)) (q : SourceSeen) (s : SinkSeen) → are_taken words ≡ false
+    → IsAnsweredRun AreReplies Usage (worded words [] [] q q s s)
 unfolding Ends
-IsRun-usage words q s refused = record {
+IsAnsweredRun-usage AreReplies words q s refused = record {
   ends = record {
     refused = refused;
     read = refl;
@@ -74,34 +85,34 @@ IsRun-usage words q s refused = record {
 pub IsUnended-new : (options : Options) (session : Session) → IsNew options session → IsUnended session.pending.items
 IsUnended-new options session new = subst IsUnended (sym new.pending) IsUnended-none
 
--- the editor has numbers for a last line
-pub commits-end : (options : Options) (a b : Moment) (read : List ℕ) → IsNew options a.session → IsEnd input_limit read a b → b.session.editor.commits < last_u32
-commits-end options a b read new p =
+-- there are numbers for a last line
+pub spent-end : (options : Options) (a b : Moment) (read : List ℕ) → IsNew options a.session → IsEnd input_limit read a b → spent b.session.served < last_u32
+spent-end options a b read new p =
     let waits = a.session.pending.items in
-    omega (arith, length-ended-le (waits ++ read), length-append waits read, ap length new.pending, ap (λ (e : Editor). e.commits) new.editor, p.taken.answered.commits, p.within)
+    omega (arith, length-ended-le (waits ++ read), length-append waits read, ap length new.pending, ap spent new.served ∙ spent_new options, p.taken.answered.few, p.within)
 
 module _ (words : List (List ℕ)) (is_taken : are_taken words ≡ true) where
   -- so it ended, whatever was written
   abbrev pub Ran : Status → List ℕ → SourceSeen → SourceSeen → SinkSeen → SinkSeen → Type 0
-  Ran status read q r s t = (written : List ℕ) × IsRun status (worded words read written q r s t)
+  Ran status read q r s t = (written : List ℕ) × IsServedRun status (worded words read written q r s t)
 
   -- what is taken in a run from its begin
-  taken_new : (a b : Session) (s t : SinkSeen) (bytes : List ℕ) → IsNew (asked_for words) a → AreTaken bytes a b s t → AreAnswered (ended bytes) (begun_with words) b.editor s t
+  taken_new : (a b : Session) (s t : SinkSeen) (bytes : List ℕ) → IsNew (asked_for words) a → AreTaken bytes a b s t → AreAnswered (ended bytes) (served_with words) b.served s t
   taken_new a b s t bytes new p =
-      subst (λ (editor : Editor). AreAnswered (ended bytes) editor b.editor s t) new.editor
-      (subst (λ (waits : List ℕ). AreAnswered (ended (waits ++ bytes)) a.editor b.editor s t) new.pending p.answered)
+      subst (λ (served : Served). AreAnswered (ended bytes) served b.served s t) new.served
+      (subst (λ (waits : List ℕ). AreAnswered (ended (waits ++ bytes)) a.served b.served s t) new.pending p.answered)
 
   waiting_new : (a b : Session) (s t : SinkSeen) (bytes : List ℕ) → IsNew (asked_for words) a → AreTaken bytes a b s t → b.pending.items ≡ unended bytes
   waiting_new a b s t bytes new p = p.waiting ∙ ap (λ waits. unended (waits ++ bytes)) new.pending
 
-  pub Ran-done : (a b : Moment) (end : Editor) (t : SinkSeen) (read : List ℕ) → IsNew (asked_for words) a.session → IsEnd input_limit read a b
-      → AreAnswered (last_line b.session.pending.items) b.session.editor end b.sink t
+  pub Ran-done : (a b : Moment) (end : Served) (t : SinkSeen) (read : List ℕ) → IsNew (asked_for words) a.session → IsEnd input_limit read a b
+      → AreAnswered (last_line b.session.pending.items) b.session.served end b.sink t
       → Ran Done read a.source b.source a.sink t
   unfolding Ends
   Ran-done a b end t read new p q =
       let lines = taken_new a.session b.session a.sink b.sink read new p.taken in
-      let last : AreAnswered (last_line (unended read)) b.session.editor end b.sink t =
-      subst (λ (waits : List ℕ). AreAnswered (last_line waits) b.session.editor end b.sink t)
+      let last : AreAnswered (last_line (unended read)) b.session.served end b.sink t =
+      subst (λ (waits : List ℕ). AreAnswered (last_line waits) b.session.served end b.sink t)
       (waiting_new a.session b.session a.sink b.sink read new p.taken) q in
       let sink = AreWritten-append a.sink b.sink t lines.written last.written lines.sink last.sink in
       let written : List ℕ = lines.written ++ last.written in (
@@ -111,7 +122,7 @@ module _ (words : List (List ℕ)) (is_taken : are_taken words ≡ true) where
             taken = is_taken;
             at_end = p.source.at_end;
             short = p.within;
-            follows = (end, FollowsTo-append (begun_with words) b.session.editor end (ended read) (last_line (unended read)) lines.written last.written lines.follows last.follows);
+            follows = (end, FollowsInTo-append (served_with words) b.session.served end (ended read) (last_line (unended read)) lines.written last.written lines.follows last.follows);
             faultless = record { source = p.source.faults; sink = sink.faults };
           };
           consumes = p.source.consumes;
@@ -133,7 +144,7 @@ module _ (words : List (List ℕ)) (is_taken : are_taken words ≡ true) where
           ends = record {
             taken = is_taken;
             short = p.within;
-            follows = (b.session.editor, lines.follows);
+            follows = (b.session.served, lines.follows);
             source = p.source.faults;
             sink = lines.sink.faults;
           };
@@ -156,7 +167,7 @@ module _ (words : List (List ℕ)) (is_taken : are_taken words ≡ true) where
           ends = record {
             taken = is_taken;
             long = p.long;
-            follows = (b.session.editor, lines.follows);
+            follows = (b.session.served, lines.follows);
             faultless = record { source = p.source.faults; sink = lines.sink.faults };
           };
           consumes = p.source.consumes;
@@ -171,7 +182,7 @@ module _ (words : List (List ℕ)) (is_taken : are_taken words ≡ true) where
   ran_unanswered : (why : Unanswered) (q r : SourceSeen) (s t : SinkSeen) (read : List ℕ) (lines : List (List ℕ))
       → length read ≤ input_limit + 1 → Consumes q.left r.left read → r.faults ≡ q.faults → IsCounted q.reads r.reads (length read + 1)
       → (lines ≡ ended (take input_limit read)) ⊎ (IsAtEnd r.left × (length read ≤ input_limit) × (lines ≡ lines_of read))
-      → AreUnanswered why lines (begun_with words) s t → Ran (unanswered_status why) read q r s t
+      → AreUnanswered why lines (served_with words) s t → Ran (unanswered_status why) read q r s t
   unfolding Ends
   ran_unanswered unanswered.WriteFault q r s t read lines bounded consumes faults reads may p = (
     p.written,
@@ -203,28 +214,28 @@ module _ (words : List (List ℕ)) (is_taken : are_taken words ≡ true) where
       → Ran (unanswered_status why) read a.source b.source a.sink b.sink
   Ran-unanswered why a b read new p =
       let may = take input_limit read in
-      let lines : AreUnanswered why (ended may) (begun_with words) a.sink b.sink =
-      subst (λ (editor : Editor). AreUnanswered why (ended may) editor a.sink b.sink) new.editor
-      (subst (λ (waits : List ℕ). AreUnanswered why (ended (waits ++ may)) a.session.editor a.sink b.sink) new.pending p.unanswered) in
+      let lines : AreUnanswered why (ended may) (served_with words) a.sink b.sink =
+      subst (λ (served : Served). AreUnanswered why (ended may) served a.sink b.sink) new.served
+      (subst (λ (waits : List ℕ). AreUnanswered why (ended (waits ++ may)) a.session.served a.sink b.sink) new.pending p.unanswered) in
       ran_unanswered why a.source b.source a.sink b.sink read (ended may) p.within p.source.consumes p.source.faults
       (IsCounted-within a.source.reads b.source.reads (length read) (length read + 1) (omega arith) p.source.reads)
       (inl refl) lines
 
   -- where the last line is not answered
   pub Ran-last_unanswered : (why : Unanswered) (a b : Moment) (t : SinkSeen) (read : List ℕ) → IsNew (asked_for words) a.session → IsEnd input_limit read a b
-      → AreUnanswered why (last_line b.session.pending.items) b.session.editor b.sink t
+      → AreUnanswered why (last_line b.session.pending.items) b.session.served b.sink t
       → Ran (unanswered_status why) read a.source b.source a.sink t
   Ran-last_unanswered why a b t read new p q =
       let lines = taken_new a.session b.session a.sink b.sink read new p.taken in
-      let last : AreUnanswered why (last_line (unended read)) b.session.editor b.sink t =
-      subst (λ (waits : List ℕ). AreUnanswered why (last_line waits) b.session.editor b.sink t)
+      let last : AreUnanswered why (last_line (unended read)) b.session.served b.sink t =
+      subst (λ (waits : List ℕ). AreUnanswered why (last_line waits) b.session.served b.sink t)
       (waiting_new a.session b.session a.sink b.sink read new p.taken) q in
       ran_unanswered why a.source b.source a.sink t read (lines_of read) (omega (arith, p.within)) p.source.consumes p.source.faults p.source.reads
       (inr (p.source.at_end, p.within, refl))
-      (AreUnanswered-append why (begun_with words) b.session.editor a.sink b.sink t (ended read) (last_line (unended read)) lines last)
+      (AreUnanswered-append why (served_with words) b.session.served a.sink b.sink t (ended read) (last_line (unended read)) lines last)
 
   stopped : (why : Stop) (a b : Moment) → IsNew (asked_for words) a.session → why ≢ stop.End → HasStopped why input_limit a b
-      → (read written : List ℕ) × IsRun (stop_status why) (worded words read written a.source b.source a.sink b.sink)
+      → (read written : List ℕ) × IsServedRun (stop_status why) (worded words read written a.source b.source a.sink b.sink)
   stopped stop.End a b new early p = absurd (early refl)
   stopped stop.ReadFault a b new early p = let run = Ran-read_fault a b p.bytes new p.stops in (p.bytes, run.0, run.1)
   stopped stop.WriteFault a b new early p = let run = Ran-unanswered unanswered.WriteFault a b p.bytes new p.stops in (p.bytes, run.0, run.1)
@@ -233,18 +244,18 @@ module _ (words : List (List ℕ)) (is_taken : are_taken words ≡ true) where
 
   -- where no more was read before the end
   pub HasRun-stopped : (r : Status) (why : Stop) (a b : Moment) → r ≡ stop_status why → IsNew (asked_for words) a.session → why ≢ stop.End → HasStopped why input_limit a b
-      → (read written : List ℕ) × IsRun r (worded words read written a.source b.source a.sink b.sink)
+      → (read written : List ℕ) × IsServedRun r (worded words read written a.source b.source a.sink b.sink)
   HasRun-stopped r why a b is new early p =
-      subst (λ (r : Status). (read written : List ℕ) × IsRun r (worded words read written a.source b.source a.sink b.sink)) (sym is) (stopped why a b new early p)
+      subst (λ (r : Status). (read written : List ℕ) × IsServedRun r (worded words read written a.source b.source a.sink b.sink)) (sym is) (stopped why a b new early p)
 
-  pub HasRun-done : (a b : Moment) (end : Editor) (t : SinkSeen) → IsNew (asked_for words) a.session → HasStopped stop.End input_limit a b
-      → AreAnswered (last_line b.session.pending.items) b.session.editor end b.sink t
-      → (read written : List ℕ) × IsRun Done (worded words read written a.source b.source a.sink t)
+  pub HasRun-done : (a b : Moment) (end : Served) (t : SinkSeen) → IsNew (asked_for words) a.session → HasStopped stop.End input_limit a b
+      → AreAnswered (last_line b.session.pending.items) b.session.served end b.sink t
+      → (read written : List ℕ) × IsServedRun Done (worded words read written a.source b.source a.sink t)
   HasRun-done a b end t new p q = let run = Ran-done a b end t p.bytes new p.stops q in (p.bytes, run.0, run.1)
 
   pub HasRun-last_unanswered : (r : Status) (why : Unanswered) (a b : Moment) (t : SinkSeen) → r ≡ unanswered_status why → IsNew (asked_for words) a.session → HasStopped stop.End input_limit a b
-      → AreUnanswered why (last_line b.session.pending.items) b.session.editor b.sink t
-      → (read written : List ℕ) × IsRun r (worded words read written a.source b.source a.sink t)
+      → AreUnanswered why (last_line b.session.pending.items) b.session.served b.sink t
+      → (read written : List ℕ) × IsServedRun r (worded words read written a.source b.source a.sink t)
   HasRun-last_unanswered r why a b t is new p q =
       let run = Ran-last_unanswered why a b t p.bytes new p.stops q in
-      subst (λ (r : Status). (read written : List ℕ) × IsRun r (worded words read written a.source b.source a.sink t)) (sym is) (p.bytes, run.0, run.1)
+      subst (λ (r : Status). (read written : List ℕ) × IsServedRun r (worded words read written a.source b.source a.sink t)) (sym is) (p.bytes, run.0, run.1)

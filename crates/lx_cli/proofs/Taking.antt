@@ -36,49 +36,49 @@ unended_push-behind waits xs rest byte e =
 
 pub AreTaken-none : (a : Session) (s : SinkSeen) → IsUnended a.pending.items → AreTaken [] a a s s
 AreTaken-none a s h = record {
-  answered = subst (λ (lines : List (List ℕ)). AreAnswered lines a.editor a.editor s s)
-      (sym (ap ended (append-nil a.pending.items) ∙ h.none)) (AreAnswered-none a.editor s);
+  answered = subst (λ (lines : List (List ℕ)). AreAnswered lines a.served a.served s s)
+      (sym (ap ended (append-nil a.pending.items) ∙ h.none)) (AreAnswered-none a.served s);
   waiting = sym (ap unended (append-nil a.pending.items) ∙ h.all);
 }
 
 pub AreTaken-append : (a b c : Session) (s t u : SinkSeen) (xs ys : List ℕ)
     → AreTaken xs a b s t → AreTaken ys b c t u → AreTaken (xs ++ ys) a c s u
 AreTaken-append a b c s t u xs ys p q = record {
-  answered = subst (λ (lines : List (List ℕ)). AreAnswered lines a.editor c.editor s u)
+  answered = subst (λ (lines : List (List ℕ)). AreAnswered lines a.served c.served s u)
       (sym (ended-behind a.pending.items xs ys b.pending.items p.waiting))
-      (AreAnswered-append a.editor b.editor c.editor s t u (ended (a.pending.items ++ xs)) (ended (b.pending.items ++ ys)) p.answered q.answered);
+      (AreAnswered-append a.served b.served c.served s t u (ended (a.pending.items ++ xs)) (ended (b.pending.items ++ ys)) p.answered q.answered);
   waiting = q.waiting ∙ unended-behind a.pending.items xs ys b.pending.items p.waiting;
 }
 
 -- bytes behind those that are taken, of which not all lines are answered
 pub AreUnanswered-taken : (why : Unanswered) (a b : Session) (s t u : SinkSeen) (xs ys : List ℕ)
-    → AreTaken xs a b s t → AreUnanswered why (ended (b.pending.items ++ ys)) b.editor t u
-    → AreUnanswered why (ended (a.pending.items ++ (xs ++ ys))) a.editor s u
+    → AreTaken xs a b s t → AreUnanswered why (ended (b.pending.items ++ ys)) b.served t u
+    → AreUnanswered why (ended (a.pending.items ++ (xs ++ ys))) a.served s u
 AreUnanswered-taken why a b s t u xs ys p q =
-    subst (λ (lines : List (List ℕ)). AreUnanswered why lines a.editor s u)
+    subst (λ (lines : List (List ℕ)). AreUnanswered why lines a.served s u)
     (sym (ended-behind a.pending.items xs ys b.pending.items p.waiting))
-    (AreUnanswered-append why a.editor b.editor s t u (ended (a.pending.items ++ xs)) (ended (b.pending.items ++ ys)) p.answered q)
+    (AreUnanswered-append why a.served b.served s t u (ended (a.pending.items ++ xs)) (ended (b.pending.items ++ ys)) p.answered q)
 
 pub AreTaken-push : (a b c : Session) (s t u : SinkSeen) (xs : List ℕ) (byte : ℕ)
-    → AreTaken xs a b s t → AreAnswered (ended_by byte b.pending.items) b.editor c.editor t u
+    → AreTaken xs a b s t → AreAnswered (ended_by byte b.pending.items) b.served c.served t u
     → c.pending.items ≡ waiting_after byte b.pending.items → AreTaken (xs ++ byte ∷ []) a c s u
 AreTaken-push a b c s t u xs byte p q waiting = record {
-  answered = subst (λ (lines : List (List ℕ)). AreAnswered lines a.editor c.editor s u)
+  answered = subst (λ (lines : List (List ℕ)). AreAnswered lines a.served c.served s u)
       (sym (ended_push-behind a.pending.items xs b.pending.items byte p.waiting))
-      (AreAnswered-append a.editor b.editor c.editor s t u (ended (a.pending.items ++ xs)) (ended_by byte b.pending.items) p.answered q);
+      (AreAnswered-append a.served b.served c.served s t u (ended (a.pending.items ++ xs)) (ended_by byte b.pending.items) p.answered q);
   waiting = waiting ∙ unended_push-behind a.pending.items xs b.pending.items byte p.waiting;
 }
 
 -- a byte that ends a line which is not answered, and whatever comes behind it
 pub AreUnanswered-push : (why : Unanswered) (a b : Session) (s t u : SinkSeen) (xs rest : List ℕ) (byte : ℕ)
-    → AreTaken xs a b s t → AreUnanswered why (ended_by byte b.pending.items) b.editor t u
-    → AreUnanswered why (ended (a.pending.items ++ ((xs ++ byte ∷ []) ++ rest))) a.editor s u
+    → AreTaken xs a b s t → AreUnanswered why (ended_by byte b.pending.items) b.served t u
+    → AreUnanswered why (ended (a.pending.items ++ ((xs ++ byte ∷ []) ++ rest))) a.served s u
 AreUnanswered-push why a b s t u xs rest byte p q =
     let waits = a.pending.items in
     let lines : List (List ℕ) = ended (waits ++ xs) ++ ended_by byte b.pending.items in
     let later : List (List ℕ) = ended (unended (waits ++ (xs ++ byte ∷ [])) ++ rest) in
-    subst (λ (lines : List (List ℕ)). AreUnanswered why lines a.editor s u)
+    subst (λ (lines : List (List ℕ)). AreUnanswered why lines a.served s u)
     (sym (ended-behind waits (xs ++ byte ∷ []) rest (unended (waits ++ (xs ++ byte ∷ []))) refl
     ∙ ap (λ front. front ++ later) (ended_push-behind waits xs b.pending.items byte p.waiting)))
-    (AreUnanswered-later why a.editor s u lines later
-    (AreUnanswered-append why a.editor b.editor s t u (ended (waits ++ xs)) (ended_by byte b.pending.items) p.answered q))
+    (AreUnanswered-later why a.served s u lines later
+    (AreUnanswered-append why a.served b.served s t u (ended (waits ++ xs)) (ended_by byte b.pending.items) p.answered q))

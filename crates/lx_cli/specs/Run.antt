@@ -3,7 +3,8 @@ use Rattle.std.specs.Prelude.{◌≡◌, ℕ, true, false, ◌+◌, ◌<◌, ◌
 use Rattle.lx_io.specs.Devices.{Consumes, Appends, IsAtEnd, HasRisen, IsCounted, last_count}
 use Rattle.lx_editor.specs.Editor.{Editor, new_editor}
 use Rattle.lx_editor.specs.Follows.{Follows}
-use Rattle.lx_words.specs.Words.{are_taken, view_in, delay_in}
+use Rattle.lx_words.specs.Words.{are_taken, asked_for, view_in, delay_in}
+use Rattle.lx_layers.specs.Served.{Served, FollowsIn, new_served}
 use Rattle.lx_cli.specs.Lines.{ended, lines_of}
 use Rattle.lx_cli.specs.declared.status.Status.{Status}
 use Rattle.lx_cli.specs.declared.status.Status.TheVariants.{Done, Usage, ReadFault, WriteFault, Memory, InputTooLong}
@@ -12,6 +13,10 @@ use Rattle.lx_cli.specs.declared.status.Status.TheVariants.{Done, Usage, ReadFau
 -- delay that they ask for
 abbrev pub begun_with : List (List ℕ) → Editor
 begun_with words = new_editor (view_in words) (delay_in words)
+
+-- the same with what stands beside it in the mode that the words ask for
+abbrev pub served_with : List (List ℕ) → Served
+served_with words = new_served (asked_for words)
 
 -- the most bytes that the input may have
 abbrev pub input_limit : ℕ
@@ -53,14 +58,15 @@ pub record IsFaultless (run : Seen) : Type 0 where
   pub source : run.source_after.faults ≡ run.source_before.faults
   pub sink : run.sink_after.faults ≡ run.sink_before.faults
 
--- what was written is the front of replies that the editor may give to a front of the lines
-pub record IsFrontOfReplies (editor : Editor) (lines : List (List ℕ)) (written : List ℕ) : Type 0 where
+-- What was written is the front of replies to a front of the lines, where it is said which bytes may be the replies to which
+-- lines.
+pub record IsFrontOfReplies (AreReplies : List (List ℕ) → List ℕ → Type 0) (lines : List (List ℕ)) (written : List ℕ) : Type 0 where
   pub answered : List (List ℕ)
   pub later_lines : List (List ℕ)
   pub front : answered ++ later_lines ≡ lines
   pub replies : List ℕ
   pub later_bytes : List ℕ
-  pub follows : Follows editor answered replies
+  pub follows : AreReplies answered replies
   pub begun : written ++ later_bytes ≡ replies
 
 -- The lines that may be answered: those that ended in what was read, without the byte past the limit, and what stands
@@ -71,11 +77,11 @@ MayAnswer run lines =
     ⊎ (IsAtEnd run.source_after.left × (length run.read ≤ input_limit) × (lines ≡ lines_of run.read))
 
 -- The input was read to its end, and all of its lines are answered.
-pub record IsDone (run : Seen) : Type 0 where
+pub record IsDone (AreReplies : List (List ℕ) → List ℕ → Type 0) (run : Seen) : Type 0 where
   pub taken : are_taken run.words ≡ true
   pub at_end : IsAtEnd run.source_after.left
   pub short : length run.read ≤ input_limit
-  pub follows : Follows (begun_with run.words) (lines_of run.read) run.written
+  pub follows : AreReplies (lines_of run.read) run.written
   pub faultless : IsFaultless run
 
 -- The words aren't taken, and nothing was read or written: neither the source nor the sink was called.
@@ -87,46 +93,46 @@ pub record IsUsage (run : Seen) : Type 0 where
   pub sink : run.sink_after ≡ run.sink_before
 
 -- A read failed, and the lines that had ended are answered.
-pub record IsReadFault (run : Seen) : Type 0 where
+pub record IsReadFault (AreReplies : List (List ℕ) → List ℕ → Type 0) (run : Seen) : Type 0 where
   pub taken : are_taken run.words ≡ true
   pub short : length run.read ≤ input_limit
-  pub follows : Follows (begun_with run.words) (ended run.read) run.written
+  pub follows : AreReplies (ended run.read) run.written
   pub source : HasRisen run.source_before.faults run.source_after.faults
   pub sink : run.sink_after.faults ≡ run.sink_before.faults
 
 -- A write failed, and a front of the replies to lines that may be answered is written.
-pub record IsWriteFault (run : Seen) : Type 0 where
+pub record IsWriteFault (AreReplies : List (List ℕ) → List ℕ → Type 0) (run : Seen) : Type 0 where
   pub taken : are_taken run.words ≡ true
   pub lines : List (List ℕ)
   pub may : MayAnswer run lines
-  pub front : IsFrontOfReplies (begun_with run.words) lines run.written
+  pub front : IsFrontOfReplies AreReplies lines run.written
   pub source : run.source_after.faults ≡ run.source_before.faults
   pub sink : HasRisen run.sink_before.faults run.sink_after.faults
 
 -- Memory was wanting, and a front of the replies to lines that may be answered is written. Where the words may not be
 -- taken, it was wanting before they were looked at, and nothing was read or written.
-pub record IsOutOfMemory (run : Seen) : Type 0 where
+pub record IsOutOfMemory (AreReplies : List (List ℕ) → List ℕ → Type 0) (run : Seen) : Type 0 where
   pub taken : (are_taken run.words ≡ true) ⊎ ((run.read ≡ []) × (run.written ≡ []))
   pub lines : List (List ℕ)
   pub may : MayAnswer run lines
-  pub front : IsFrontOfReplies (begun_with run.words) lines run.written
+  pub front : IsFrontOfReplies AreReplies lines run.written
   pub faultless : IsFaultless run
 
 -- One byte more than the limit was read, and the lines that had ended before it are answered.
-pub record IsTooLong (run : Seen) : Type 0 where
+pub record IsTooLong (AreReplies : List (List ℕ) → List ℕ → Type 0) (run : Seen) : Type 0 where
   pub taken : are_taken run.words ≡ true
   pub long : length run.read ≡ input_limit + 1
-  pub follows : Follows (begun_with run.words) (ended (take input_limit run.read)) run.written
+  pub follows : AreReplies (ended (take input_limit run.read)) run.written
   pub faultless : IsFaultless run
 
 -- what each status says of a run
-unfoldable pub Ends : Status → Seen → Type 0
-Ends Done run = IsDone run
-Ends Usage run = IsUsage run
-Ends ReadFault run = IsReadFault run
-Ends WriteFault run = IsWriteFault run
-Ends Memory run = IsOutOfMemory run
-Ends InputTooLong run = IsTooLong run
+unfoldable pub Ends : (List (List ℕ) → List ℕ → Type 0) → Status → Seen → Type 0
+Ends AreReplies Done run = IsDone AreReplies run
+Ends AreReplies Usage run = IsUsage run
+Ends AreReplies ReadFault run = IsReadFault AreReplies run
+Ends AreReplies WriteFault run = IsWriteFault AreReplies run
+Ends AreReplies Memory run = IsOutOfMemory AreReplies run
+Ends AreReplies InputTooLong run = IsTooLong AreReplies run
 
 -- Both counts of faults stand where they stood, and not at their last value.
 pub record HasNoFault (run : Seen) : Type 0 where
@@ -134,14 +140,22 @@ pub record HasNoFault (run : Seen) : Type 0 where
   pub source : run.source_before.faults < last_count
   pub sink : run.sink_before.faults < last_count
 
--- A run that ended so. What it read is gone from the source, and what it wrote went to the sink. It reads at most one
+-- A run that ended so, where it is said which bytes may be the replies to which lines. What it read is gone from the source, and what it wrote went to the sink. It reads at most one
 -- byte more than the limit. The calls are at most one more than the bytes: reads than were read, writes than were written.
 -- Where the words are taken, and there are no fault and not too many bytes, it is done, unless memory was wanting.
-pub record IsRun (status : Status) (run : Seen) : Type 0 where
-  pub ends : Ends status run
+pub record IsAnsweredRun (AreReplies : List (List ℕ) → List ℕ → Type 0) (status : Status) (run : Seen) : Type 0 where
+  pub ends : Ends AreReplies status run
   pub consumes : Consumes run.source_before.left run.source_after.left run.read
   pub appends : Appends run.sink_before.taken run.sink_after.taken run.written
   pub bounded : length run.read ≤ input_limit + 1
   pub reads : IsCounted run.source_before.reads run.source_after.reads (length run.read + 1)
   pub writes : IsCounted run.sink_before.writes run.sink_after.writes (length run.written + 1)
   pub complete : are_taken run.words ≡ true → HasNoFault run → length run.read ≤ input_limit → (status ≡ Done) ⊎ (status ≡ Memory)
+
+-- a run in which the editor that the words ask for answers the lines
+abbrev pub IsRun : Status → Seen → Type 0
+IsRun status run = IsAnsweredRun (Follows (begun_with run.words)) status run
+
+-- a run in which that editor answers them with what stands beside it
+abbrev pub IsServedRun : Status → Seen → Type 0
+IsServedRun status run = IsAnsweredRun (FollowsIn (served_with run.words)) status run

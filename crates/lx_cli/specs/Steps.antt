@@ -2,10 +2,8 @@
 use Rattle.std.specs.Prelude.{◌≡◌, ℕ, ◌+◌, ◌<◌, ◌≤◌, ◌==◌, if◌then◌else◌, List, [], ◌∷◌, ◌++◌, length, take, Result, Ok, Err}
 use Rattle.lx_io.specs.Devices.{Consumes, Appends, IsAtEnd, HasRisen, IsCounted}
 use Rattle.lx_io.specs.declared.fault.Failed.{Failed}
-use Rattle.lx_words.specs.declared.options.Mode.TheVariants.{Plain}
 use Rattle.lx_words.specs.declared.options.Options.{Options}
-use Rattle.lx_editor.specs.Editor.{Editor, new_editor}
-use Rattle.lx_editor.specs.Follows.{FollowsTo}
+use Rattle.lx_layers.specs.Served.{Served, FollowsIn, FollowsInTo, new_served, spent}
 use Rattle.lx_cli.specs.declared.session.Session.{Session}
 use Rattle.lx_cli.specs.declared.session.Unanswered.{Unanswered}
 use Rattle.lx_cli.specs.declared.session.Unanswered.TheVariants as unanswered
@@ -41,31 +39,31 @@ PieceEnds (Ok done) piece old new = AreWritten piece old new
 PieceEnds (Err failed) piece old new = IsPieceCutOff piece old new
 
 -- All of the lines are answered, and the replies are written.
-pub record AreAnswered (lines : List (List ℕ)) (old new : Editor) (sink_old sink_new : SinkSeen) : Type 0 where
+pub record AreAnswered (lines : List (List ℕ)) (old new : Served) (sink_old sink_new : SinkSeen) : Type 0 where
   pub written : List ℕ
-  pub follows : FollowsTo old lines written new
-  pub commits : new.commits ≤ old.commits + length lines
+  pub follows : FollowsInTo old lines written new
+  pub few : spent new ≤ spent old + length lines
   pub sink : AreWritten written sink_old sink_new
 
 -- A front of the replies is written, and then a write failed.
-pub record AreLinesCutOff (lines : List (List ℕ)) (old : Editor) (sink_old sink_new : SinkSeen) : Type 0 where
+pub record AreLinesCutOff (lines : List (List ℕ)) (old : Served) (sink_old sink_new : SinkSeen) : Type 0 where
   pub written : List ℕ
-  pub front : IsFrontOfReplies old lines written
+  pub front : IsFrontOfReplies (FollowsIn old) lines written
   pub sink : AreCutOff written sink_old sink_new
 
 -- A front of the replies is written, and then memory was wanting.
-pub record LackMemory (lines : List (List ℕ)) (old : Editor) (sink_old sink_new : SinkSeen) : Type 0 where
+pub record LackMemory (lines : List (List ℕ)) (old : Served) (sink_old sink_new : SinkSeen) : Type 0 where
   pub written : List ℕ
-  pub front : IsFrontOfReplies old lines written
+  pub front : IsFrontOfReplies (FollowsIn old) lines written
   pub sink : AreWritten written sink_old sink_new
 
 -- why not all of the lines are answered
-abbrev pub AreUnanswered : Unanswered → List (List ℕ) → Editor → SinkSeen → SinkSeen → Type 0
+abbrev pub AreUnanswered : Unanswered → List (List ℕ) → Served → SinkSeen → SinkSeen → Type 0
 AreUnanswered unanswered.WriteFault lines old sink_old sink_new = AreLinesCutOff lines old sink_old sink_new
 AreUnanswered unanswered.Memory lines old sink_old sink_new = LackMemory lines old sink_old sink_new
 
 -- what comes of lines that are to be answered
-abbrev pub LinesEnd : Result Unit Unanswered → List (List ℕ) → Editor → Editor → SinkSeen → SinkSeen → Type 0
+abbrev pub LinesEnd : Result Unit Unanswered → List (List ℕ) → Served → Served → SinkSeen → SinkSeen → Type 0
 LinesEnd (Ok done) lines old new sink_old sink_new = AreAnswered lines old new sink_old sink_new
 LinesEnd (Err why) lines old new sink_old sink_new = AreUnanswered why lines old sink_old sink_new
 
@@ -77,13 +75,9 @@ ended_by byte waiting = if byte == 10 then waiting ∷ [] else []
 abbrev pub waiting_after : ℕ → List ℕ → List ℕ
 waiting_after byte waiting = if byte == 10 then [] else waiting ++ byte ∷ []
 
--- what was asked for of an editor as it was made, which answers lines
-abbrev pub options_of : Editor → Options
-options_of editor = record { mode = Plain; view = editor.tells_view; delay = editor.history.delay }
-
 -- a session of a run that begins, with these options
 pub record IsNew (options : Options) (session : Session) : Type 0 where
-  pub editor : session.editor ≡ new_editor options.view options.delay
+  pub served : session.served ≡ new_served options
   pub pending : session.pending.items ≡ []
 
 -- no line end is among these bytes
@@ -93,14 +87,14 @@ pub record IsUnended (bytes : List ℕ) : Type 0 where
 
 -- The bytes came behind those that waited: the lines that they ended are answered, and the rest waits.
 pub record AreTaken (bytes : List ℕ) (old new : Session) (sink_old sink_new : SinkSeen) : Type 0 where
-  pub answered : AreAnswered (ended (old.pending.items ++ bytes)) old.editor new.editor sink_old sink_new
+  pub answered : AreAnswered (ended (old.pending.items ++ bytes)) old.served new.served sink_old sink_new
   pub waiting : new.pending.items ≡ unended (old.pending.items ++ bytes)
 
 -- what comes of bytes behind those that wait
 abbrev pub BytesEnd : Result Unit Unanswered → List ℕ → Session → Session → SinkSeen → SinkSeen → Type 0
 BytesEnd (Ok done) bytes old new sink_old sink_new = AreTaken bytes old new sink_old sink_new
 BytesEnd (Err why) bytes old new sink_old sink_new =
-    AreUnanswered why (ended (old.pending.items ++ bytes)) old.editor sink_old sink_new
+    AreUnanswered why (ended (old.pending.items ++ bytes)) old.served sink_old sink_new
 
 -- These bytes were read, and each read gave one of them.
 pub record AreRead (bytes : List ℕ) (old new : SourceSeen) : Type 0 where
@@ -150,7 +144,7 @@ pub record IsUnanswered (why : Unanswered) (may_come : ℕ) (bytes : List ℕ) (
   pub within : length bytes ≤ may_come + 1
   pub source : AreRead bytes old.source new.source
   pub unanswered :
-      AreUnanswered why (ended (old.session.pending.items ++ take may_come bytes)) old.session.editor old.sink new.sink
+      AreUnanswered why (ended (old.session.pending.items ++ take may_come bytes)) old.session.served old.sink new.sink
 
 -- One byte more than may come was read, and those before it are taken.
 pub record IsPastLimit (may_come : ℕ) (bytes : List ℕ) (old new : Moment) : Type 0 where

@@ -1,8 +1,9 @@
 ghost use Rattle.std.specs.Prelude.{◌≡◌, ◌<◌, ◌≤◌, true, ℕ, List, [], length, map, string_bytes};
 ghost use Rattle.lx_words.specs.Words.{are_taken, asked_for, delay_in};
-ghost use Rattle.lx_cli.specs.Run.{SourceSeen, source_seen, sink_seen, IsRun};
+ghost use Rattle.lx_words.specs.declared.options.Options.{Options as OptionsOf};
+ghost use Rattle.lx_cli.specs.Run.{SourceSeen, source_seen, sink_seen, IsServedRun};
 ghost use Rattle.lx_cli.specs.Generating.{IsGeneratedRun, RunsAsAsked};
-ghost use Rattle.lx_cli.specs.Steps.{IsNew, options_of};
+ghost use Rattle.lx_cli.specs.Steps.{IsNew};
 
 use crate::reading::{Stop, new_buffer, read_lines};
 use crate::session::{LINE_END, Session};
@@ -16,9 +17,10 @@ use std::alloc::Global;
 
 /// Runs the program: answers each line of the source into the sink. The words are those of the command line behind the
 /// program's name: `--view`, under which replies to commits tell the view, and `--delay` with a number of milliseconds
-/// from 0 to 86,400,000, in which typing goes on in one entry of the history. With `--generate`, a number of lines from 1 to
-/// 20,000, and `--seed`, a number up to 4,294,967,295, nothing is read: a session is generated and run, and its summary is
-/// written. Other words are refused, and nothing is read or written.
+/// from 0 to 86,400,000, in which typing goes on in one entry of the history. With `--hub`, which may stand beside both,
+/// each commit is published to views that lag behind, and lines about views are answered too. With `--generate`, a number of
+/// lines from 1 to 20,000, and `--seed`, a number up to 4,294,967,295, nothing is read: a session is generated and run, and
+/// its summary is written. Other words are refused, and nothing is read or written.
 pub fn run<S: Source, K: Sink>(
     alloc: Global,
     words: &[String],
@@ -38,6 +40,7 @@ pub fn run<S: Source, K: Sink>(
     match options_of(alloc, words) {
         Ok(options) => match options.mode {
             Mode::Plain => serve(alloc, options, source, sink),
+            Mode::Hub => serve(alloc, options, source, sink),
             Mode::Generate(session) => generate(alloc, session, options.delay, sink),
         },
         Err(Refused::Usage) => Status::Usage,
@@ -79,8 +82,7 @@ fn serve<S: Source, K: Sink>(
     source: &mut S,
     sink: &mut K,
 ) -> Status
-    requires { options.mode ≡ Mode.Plain }
-    ensures { (words : List (List ℕ)) → are_taken words ≡ true → options ≡ asked_for words → (read written : List ℕ) × IsRun result (record {
+    ensures { (words : List (List ℕ)) → are_taken words ≡ true → options ≡ asked_for words → (read written : List ℕ) × IsServedRun result (record {
       words = words;
       read = read;
       written = written;
@@ -108,9 +110,9 @@ fn answer_all<S: Source, K: Sink>(
     source: &mut S,
     sink: &mut K,
 ) -> Status
-    requires session { IsNew (options_of session.old.editor) session.old }
+    requires session { (options : OptionsOf) × IsNew options session.old }
     requires buffer { 0 < length buffer.old }
-    ensures { (words : List (List ℕ)) → are_taken words ≡ true → options_of session.old.editor ≡ asked_for words → (read written : List ℕ) × IsRun result (record {
+    ensures { (words : List (List ℕ)) → are_taken words ≡ true → IsNew (asked_for words) session.old → (read written : List ℕ) × IsServedRun result (record {
       words = words;
       read = read;
       written = written;

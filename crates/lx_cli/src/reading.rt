@@ -1,5 +1,6 @@
 ghost use Rattle.std.specs.Prelude.{◌+◌, ◌*◌, ◌<◌, ◌≤◌, length, vec_len, IfOk, IfErr};
 ghost use Rattle.lx_node.specs.Limits.{last_u32};
+ghost use Rattle.lx_layers.specs.Served.{spent};
 ghost use Rattle.lx_cli.specs.Run.{input_limit, source_seen, sink_seen};
 ghost use Rattle.lx_cli.specs.Steps.{IsUnended, GoesOnBy, HasStopped, moment};
 
@@ -65,7 +66,7 @@ fn read_piece<S: Source, K: Sink>(
     requires buffer { 0 < length buffer.old }
     requires limit { may_come ≤ input_limit }
     requires unended { IsUnended session.old.pending.items }
-    requires room { session.old.editor.commits + length session.old.pending.items + may_come < last_u32 }
+    requires room { spent session.old.served + length session.old.pending.items + may_come < last_u32 }
     ensures read { IfOk result (λ count. GoesOnBy count may_come
         (moment session.old (source_seen S.left S.faults S.reads source.old) (sink_seen K.taken K.faults K.writes sink.old))
         (moment session.new (source_seen S.left S.faults S.reads source.new) (sink_seen K.taken K.faults K.writes sink.new))) }
@@ -102,7 +103,7 @@ pub(crate) fn read_lines<S: Source, K: Sink>(
 ) -> Stop
     requires buffer { 0 < length buffer.old }
     requires unended { IsUnended session.old.pending.items }
-    requires room { session.old.editor.commits + length session.old.pending.items + input_limit < last_u32 }
+    requires room { spent session.old.served + length session.old.pending.items + input_limit < last_u32 }
     ensures { HasStopped result input_limit
         (moment session.old (source_seen S.left S.faults S.reads source.old) (sink_seen K.taken K.faults K.writes sink.old))
         (moment session.new (source_seen S.left S.faults S.reads source.new) (sink_seen K.taken K.faults K.writes sink.new)) }

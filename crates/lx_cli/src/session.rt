@@ -1,7 +1,7 @@
 use crate::status::Status;
 use crate::writing::write_all;
-use lx_editor::{Editor, answer_line};
 use lx_io::{Failed, Sink};
+use lx_layers::Served;
 use lx_node::NoMemory;
 use lx_value::Room;
 use lx_words::Options;
@@ -34,12 +34,12 @@ impl Unanswered {
     }
 }
 
-/// What is kept between two bytes of the input: the editor, the bytes that no line end has ended yet, and the room that
-/// lines are read in.
+/// What is kept between two bytes of the input: the editor with what stands beside it, the bytes that no line end has ended
+/// yet, and the room that lines are read in.
 #[derive(Drop)]
 pub(crate) struct Session {
     alloc: Global,
-    editor: Editor,
+    served: Served,
     pending: Vec<u8>,
     room: Room,
 }
@@ -47,11 +47,12 @@ pub(crate) struct Session {
 impl Session {
     ghost use Rattle.std.specs.Prelude.{◌≡◌, ◌+◌, ◌*◌, ◌<◌, [], ◌∷◌, length, IfOk, OnOk};
     ghost use Rattle.lx_node.specs.Limits.{last_u32};
+    ghost use Rattle.lx_layers.specs.Served.{spent};
     ghost use Rattle.lx_cli.specs.Lines.{last_line};
     ghost use Rattle.lx_cli.specs.Run.{sink_seen};
     ghost use Rattle.lx_cli.specs.Steps.{IsNew, LinesEnd, BytesEnd, IsUnended, ended_by, waiting_after};
 
-    /// A new editor with these options, and no bytes.
+    /// A new editor with what these options ask for, and no bytes.
     pub(crate) fn new(alloc: Global, options: Options) -> Result<Session, NoMemory>
         ensures { IfOk result (IsNew options) }
     {
@@ -59,10 +60,10 @@ impl Session {
             Ok(room) => room,
             Err(_) => return Err(NoMemory),
         };
-        match Editor::new(alloc, options.view, options.delay as u64) {
-            Ok(editor) => Ok(Session {
+        match Served::new(alloc, options) {
+            Ok(served) => Ok(Session {
                 alloc,
-                editor,
+                served,
                 pending: Vec::new(alloc),
                 room,
             }),
@@ -72,13 +73,15 @@ impl Session {
 
     /// Answers the line that waits.
     fn end_line<K: Sink>(&mut self, sink: &mut K) -> Result<(), Unanswered>
-        requires { self.old.editor.commits < last_u32 }
-        ensures lines { LinesEnd result (self.old.pending.items ∷ []) self.old.editor self.new.editor
+        requires { spent self.old.served < last_u32 }
+        ensures lines { LinesEnd result (self.old.pending.items ∷ []) self.old.served self.new.served
             (sink_seen K.taken K.faults K.writes sink.old)
             (sink_seen K.taken K.faults K.writes sink.new) }
         ensures emptied { OnOk result (self.new.pending.items ≡ []) }
     {
-        let answer = answer_line(self.alloc, &mut self.editor, &self.pending, &mut self.room);
+        let answer = self
+            .served
+            .answer(self.alloc, &self.pending, &mut self.room);
         let mut reply = match answer {
             Ok(reply) => reply,
             Err(NoMemory) => return Err(Unanswered::Memory),
@@ -98,8 +101,8 @@ impl Session {
 
     /// Takes a byte behind those that wait.
     fn take_byte<K: Sink>(&mut self, byte: u8, sink: &mut K) -> Result<(), Unanswered>
-        requires { self.old.editor.commits < last_u32 }
-        ensures lines { LinesEnd result (ended_by byte self.old.pending.items) self.old.editor self.new.editor
+        requires { spent self.old.served < last_u32 }
+        ensures lines { LinesEnd result (ended_by byte self.old.pending.items) self.old.served self.new.served
             (sink_seen K.taken K.faults K.writes sink.old)
             (sink_seen K.taken K.faults K.writes sink.new) }
         ensures waiting { OnOk result (self.new.pending.items ≡ waiting_after byte self.old.pending.items) }
@@ -120,7 +123,7 @@ impl Session {
         sink: &mut K,
     ) -> Result<(), Unanswered>
         requires unended { IsUnended self.old.pending.items }
-        requires room { self.old.editor.commits + length self.old.pending.items + length piece.now < last_u32 }
+        requires room { spent self.old.served + length self.old.pending.items + length piece.now < last_u32 }
         ensures { BytesEnd result piece.now self.old self.new
             (sink_seen K.taken K.faults K.writes sink.old)
             (sink_seen K.taken K.faults K.writes sink.new) }
@@ -136,8 +139,8 @@ impl Session {
 
     /// Answers what waits at the end of the input, if that is anything.
     pub(crate) fn finish<K: Sink>(&mut self, sink: &mut K) -> Result<(), Unanswered>
-        requires { self.old.editor.commits < last_u32 }
-        ensures { LinesEnd result (last_line self.old.pending.items) self.old.editor self.new.editor
+        requires { spent self.old.served < last_u32 }
+        ensures { LinesEnd result (last_line self.old.pending.items) self.old.served self.new.served
             (sink_seen K.taken K.faults K.writes sink.old)
             (sink_seen K.taken K.faults K.writes sink.new) }
     {

@@ -1,10 +1,11 @@
 use Rattle.std.proofs.Common.{[], ◌≡◌, ◌∙◌, ap, map, string_bytes, sym}
-use Rattle.lx_words.specs.declared.options.Mode.TheVariants.{Plain, Generate}
+use Rattle.lx_words.specs.declared.options.Mode.TheVariants.{Plain, Hub, Generate}
 use Rattle.lx_words.specs.declared.options.Options.{Options}
 use Rattle.lx_words.specs.Words.{asked_for}
-use Rattle.lx_cli.specs.Run.{source_seen, sink_seen}
-use Rattle.lx_cli.proofs.Runs.{IsRun-usage, worded}
-use Rattle.lx_cli.proofs.Generating.{RunsAsAsked-none, RunsAsAsked-refused, RunsAsAsked-taken}
+use Rattle.lx_editor.specs.Follows.{Follows}
+use Rattle.lx_cli.specs.Run.{begun_with, source_seen, sink_seen}
+use Rattle.lx_cli.proofs.Runs.{IsAnsweredRun-usage, worded}
+use Rattle.lx_cli.proofs.Generating.{RunsAsAsked-none, RunsAsAsked-plain, RunsAsAsked-refused, RunsAsAsked-taken}
 use Rattle.lx_cli.proofs.program.run.Goals as goal
 
 pub generate-requires : goal.generate-requires
@@ -17,7 +18,16 @@ returns-in-Plain g c =
     let asked = c.in-Ok.ensures.ok.1 in
     let plain : (asked_for words).mode ≡ Plain = ap (λ (o : Options). o.mode) (sym asked) ∙ c.in-Plain.is in
     let run = c.serve.ensures words taken asked in
-    (run.0, run.1, RunsAsAsked-taken Plain c.serve.result _ taken plain run.2)
+    (run.0, run.1, RunsAsAsked-plain c.serve.result _ taken plain run.2)
+
+pub returns-in-Hub : goal.returns-in-Hub
+returns-in-Hub g c =
+    let words = map string_bytes c.args.words.now in
+    let taken = c.in-Ok.ensures.ok.0 in
+    let asked = c.in-Ok.ensures.ok.1 in
+    let mode : (asked_for words).mode ≡ Hub = ap (λ (o : Options). o.mode) (sym asked) ∙ c.in-Hub.is in
+    let run = c.serve-in-Hub.ensures words taken asked in
+    (run.0, run.1, RunsAsAsked-taken Hub c.serve-in-Hub.result _ taken mode run.2)
 
 pub returns-in-Generate : goal.returns-in-Generate
 returns-in-Generate g c =
@@ -33,7 +43,7 @@ returns-in-Err-Usage g c =
     let source = source_seen g.S.Source.left g.S.Source.faults g.S.Source.reads c.args.source.now in
     let sink = sink_seen g.K.Sink.taken g.K.Sink.faults g.K.Sink.writes c.args.sink.now in
     let refused = rw c.in-Err-Usage.field-0-is at c.in-Err-Usage.ensures.usage in
-    ([], [], RunsAsAsked-refused _ (worded words [] [] source source sink sink) refused (IsRun-usage words source sink refused))
+    ([], [], RunsAsAsked-refused _ (worded words [] [] source source sink sink) refused (IsAnsweredRun-usage (Follows (begun_with words)) words source sink refused))
 
 pub returns-in-Err-Memory : goal.returns-in-Err-Memory
 returns-in-Err-Memory g c = (

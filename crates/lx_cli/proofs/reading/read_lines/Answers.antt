@@ -1,7 +1,7 @@
 use Rattle.std.proofs.Common.{◌++◌, [], refl, length-append, arith}
 use Rattle.lx_cli.specs.Run.{source_seen, sink_seen}
 use Rattle.lx_cli.specs.Steps.{moment}
-use Rattle.lx_cli.proofs.Pieces.{GoesOn-none, GoesOn-append, Stops-behind, commits-behind, IsUnended-behind}
+use Rattle.lx_cli.proofs.Pieces.{GoesOn-none, GoesOn-append, Stops-behind, spent-behind, IsUnended-behind}
 use Rattle.lx_cli.proofs.reading.read_lines.Goals as goal
 
 pub loop-count-init : goal.loop-count-init
@@ -14,7 +14,7 @@ read_piece-requires g c =
       buffer = omega arith;
       limit = omega (arith, before.1);
       unended = IsUnended-behind _ _ _ _ before.2;
-      room = omega (arith, commits-behind _ _ _ _ _ before.1 before.2);
+      room = omega (arith, spent-behind _ _ _ _ _ before.1 before.2);
     }
 
 pub loop-count-preserved : goal.loop-count-preserved
