@@ -12,4 +12,3 @@ pub mod Renumbered
 pub mod Selected
 pub mod Began
 pub mod Waiting
-pub mod Changed

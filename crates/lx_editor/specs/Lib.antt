@@ -7,5 +7,4 @@ pub mod Registered
 pub mod Loaded
 pub mod Standing
 pub mod Judged
-pub mod Changes
 pub mod Follows

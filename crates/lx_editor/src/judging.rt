@@ -145,11 +145,7 @@ impl Editor {
         }
         let links = &frozen.state.links;
         match reconcile(alloc, &self.state.links, links, &frozen.marks, &self.view) {
-            Ok(batch) => Ok(Verdict::Commit {
-                frozen,
-                batch,
-                shown: None,
-            }),
+            Ok(batch) => Ok(Verdict::Commit { frozen, batch }),
             Err(Fault::Cause(cause)) => Ok(Verdict::Refused { cause, step: None }),
             Err(Fault::Memory) => Err(NoMemory),
         }

@@ -3,7 +3,6 @@
 #![tactic(auto)]
 
 mod answer;
-mod change;
 mod commanding;
 mod editor;
 mod gathering;
@@ -20,6 +19,5 @@ mod registering;
 mod turning;
 
 pub use answer::answer_line;
-pub use change::Change;
 pub use editor::Editor;
 pub use outcome::Outcome;

@@ -84,12 +84,7 @@ impl Editor {
         let state = entry.copy(alloc)?;
         let marks = differences(alloc, &self.state.links, &state.links)?;
         match reconcile(alloc, &self.state.links, &state.links, &marks, &self.view) {
-            Ok(batch) => Ok(Verdict::Turned {
-                turn,
-                state,
-                batch,
-                marks,
-            }),
+            Ok(batch) => Ok(Verdict::Turned { turn, state, batch }),
             Err(Fault::Cause(cause)) => Ok(Verdict::Refused { cause, step: None }),
             Err(Fault::Memory) => Err(NoMemory),
         }

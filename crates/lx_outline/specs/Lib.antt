@@ -1,4 +1,0 @@
-pub mod Events
-pub mod Outline
-pub mod Parts
-pub mod Reading
