@@ -10,10 +10,21 @@ use lx_select::Selection;
 use std::alloc::Global;
 
 /// An editor state: nodes that stand for a forest, and a selection.
-#[derive(Drop)]
 pub struct State {
     pub links: Links,
     pub selection: Selection,
+}
+
+// Written out, so that who drops one calls this: how each part is dropped is proved here alone.
+impl Drop for State {
+    fn drop(self) {
+        let State {
+            links,
+            selection,
+        } = self;
+        drop(links);
+        drop(selection);
+    }
 }
 
 /// What a draft leaves for a commit: the new state, what the update marked, and the key that the next new

@@ -13,7 +13,6 @@ use std::marker::Model;
 
 /// The states of an editor to which it can go back and forth. Of both lists the newest entry comes first. There are at
 /// most 500 entries in all, and none where no state is current. Times are numbers of milliseconds from any one moment on.
-#[derive(Drop)]
 pub struct History {
     /// For how long after a commit typing goes on.
     pub(crate) delay: u64,
@@ -24,6 +23,23 @@ pub struct History {
     /// What kind of typing the last commit was, and when it was.
     pub(crate) last: Change,
     pub(crate) moment: u64,
+}
+
+// Written out, so that who drops one calls this: how each part is dropped is proved here alone.
+impl Drop for History {
+    fn drop(self) {
+        let History {
+            delay: _,
+            undo,
+            redo,
+            current,
+            last: _,
+            moment: _,
+        } = self;
+        drop(undo);
+        drop(redo);
+        drop(current);
+    }
 }
 
 impl Model for History {

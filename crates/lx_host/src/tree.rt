@@ -16,13 +16,28 @@ use std::marker::Model;
 
 /// A host tree: host 0 with all below it, hosts that aren't placed yet, and the least id never used, with the room
 /// for more beside it. No id stands twice in it. Of each key that hosts show, a second table has how many show it.
-#[derive(Drop)]
 pub struct HostTree {
     alloc: Global,
     grove: Grove,
     keys: IndexMap<u32, Shown>,
     stock: Stock,
     next_id: u32,
+}
+
+// Written out, so that who drops one calls this: how each part is dropped is proved here alone.
+impl Drop for HostTree {
+    fn drop(self) {
+        let HostTree {
+            alloc: _,
+            grove,
+            keys,
+            stock,
+            next_id: _,
+        } = self;
+        drop(grove);
+        drop(keys);
+        drop(stock);
+    }
 }
 
 impl Model for HostTree {

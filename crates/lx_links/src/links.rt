@@ -10,7 +10,6 @@ use std::marker::Model;
 
 /// Nodes that stand for a forest. Links that met want of memory in a call that changes them, or were made
 /// to fail, have failed: they have no nodes, not even a root, and each call that can want memory wants it.
-#[derive(Drop)]
 pub struct Links {
     pub(crate) alloc: Global,
     /// The nodes, or none where the links have failed.
@@ -18,6 +17,18 @@ pub struct Links {
     /// The sums of all nodes, where there are any.
     pub(crate) sums: Sums,
     ghost stands: { Standing held } by { Standing-prop held },
+}
+
+// Written out, so that who drops one calls this: how each part is dropped is proved here alone.
+impl Drop for Links {
+    fn drop(self) {
+        let Links {
+            alloc: _,
+            held,
+            sums: _,
+        } = self;
+        drop(held);
+    }
 }
 
 impl Model for Links {

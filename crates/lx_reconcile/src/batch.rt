@@ -10,10 +10,20 @@ use std::alloc::Global;
 use std::marker::Model;
 
 /// The operations of one commit, in their order. Nothing but `operations` makes one.
-#[derive(Drop)]
 pub struct Batch {
     ops: Ops,
     reads: u64,
+}
+
+// Written out, so that who drops one calls this: how each part is dropped is proved here alone.
+impl Drop for Batch {
+    fn drop(self) {
+        let Batch {
+            ops,
+            reads: _,
+        } = self;
+        drop(ops);
+    }
 }
 
 impl Model for Batch {
