@@ -18,10 +18,7 @@ pub struct State {
 // Written out, so that who drops one calls this: how each part is dropped is proved here alone.
 impl Drop for State {
     fn drop(self) {
-        let State {
-            links,
-            selection,
-        } = self;
+        let State { links, selection } = self;
         drop(links);
         drop(selection);
     }

@@ -18,10 +18,7 @@ pub struct Batch {
 // Written out, so that who drops one calls this: how each part is dropped is proved here alone.
 impl Drop for Batch {
     fn drop(self) {
-        let Batch {
-            ops,
-            reads: _,
-        } = self;
+        let Batch { ops, reads: _ } = self;
         drop(ops);
     }
 }
