@@ -18,7 +18,7 @@ use Rattle.clap.specs.declared.error.kind.ErrorKind.{ErrorKind}
 use Rattle.clap.specs.declared.error.kind.ErrorKind.TheVariants as kind
 use Rattle.clap.specs.declared.parser.matches.ArgMatches.{ArgMatches}
 use Rattle.clap.specs.declared.parser.matches.Found.{Found}
-use Rattle.lx_words.specs.Words.{IsRefusal, MayHaveNumber, are_taken, asked_for, delay_in, delay_rule, generate_rule, hub_in, hub_rule, lexical_app, mode_found, mode_in, number_if_said, number_in, number_said, says_true, seed_rule, view_in, view_rule}
+use Rattle.lx_words.specs.Words.{IsRefusal, MayHaveNumber, are_taken, asked_for, delay_in, delay_rule, generate_rule, hub_in, hub_rule, lexical_app, mode_found, mode_in, number_if_said, number_in, number_said, outline_in, outline_rule, says_true, seed_rule, view_in, view_rule}
 use Rattle.lx_words.specs.declared.options.Mode.{Mode}
 use Rattle.lx_words.specs.declared.options.Mode.TheVariants as mode
 use Rattle.lx_words.specs.declared.options.Options.{Options}
@@ -69,11 +69,11 @@ flag_read E (Some u) None none some = sym (not_same u (codes "true") (some u ref
 -- ---- the words
 
 is_simple_app : is_simple lexical_app ≡ true
-unfolding lexical_app view_rule delay_rule hub_rule generate_rule seed_rule
+unfolding lexical_app view_rule delay_rule hub_rule outline_rule generate_rule seed_rule
 is_simple_app = refl
 
 is_free_app : is_simple_and_free lexical_app ≡ true
-unfolding lexical_app view_rule delay_rule hub_rule generate_rule seed_rule
+unfolding lexical_app view_rule delay_rule hub_rule outline_rule generate_rule seed_rule
 is_free_app = refl
 
 -- what the matches have under a name is what the words have
@@ -85,10 +85,10 @@ text_is a words m is has name =
 
 -- the mode of the matches is that of the words
 mode_is : (a : App) (words : List Text) (m : ArgMatches) → a ≡ lexical_app → HasMatchesOf a words m → mode_found (found_of m) ≡ mode_in words
-unfolding mode_in view_in hub_in number_in
+unfolding mode_in view_in hub_in outline_in number_in
 mode_is a words m is has =
     let text = text_is a words m is has in
-    rw (text (codes "view"), text (codes "hub"), text (codes "generate"), text (codes "seed")) refl
+    rw (text (codes "view"), text (codes "hub"), text (codes "outline"), text (codes "generate"), text (codes "seed")) refl
 
 taken : (a : App) (words : List Text) (mode : Mode) → a ≡ lexical_app → (is_simple_and_free a ≡ true → fault_of a words ≡ [])
     → mode_in words ≡ Some mode → are_taken words ≡ true

@@ -27,7 +27,7 @@ use Rattle.clap.specs.declared.builder.value_parser.ValueParser.TheVariants as v
 use Rattle.clap.specs.declared.parser.matches.ArgMatches.{ArgMatches}
 use Rattle.clap.specs.declared.parser.matches.Found.{Found}
 use Rattle.clap.specs.declared.parser.matches.MatchedArg.{MatchedArg}
-use Rattle.lx_words.specs.Words.{HasNumber, HasNumbers, MayHaveNumber, delay_rule, generate_rule, hub_rule, lexical_app, most_delay, most_lines, most_seed, seed_rule, view_rule}
+use Rattle.lx_words.specs.Words.{HasNumber, HasNumbers, MayHaveNumber, delay_rule, generate_rule, hub_rule, lexical_app, most_delay, most_lines, most_seed, outline_rule, seed_rule, view_rule}
 
 abbrev number_parser : ℕ → ℕ → ValueParser
 number_parser least most = vp.Signed (pos least) (pos most)
@@ -162,29 +162,32 @@ is_read_present b f id least most none named numbers has all =
 
 -- ---- the program's command
 
-map_five : {A B : Type 0} (f : A → B) (list : List A) (x y z t u : B) → map f list ≡ x ∷ y ∷ z ∷ t ∷ u ∷ []
-    → (v d h g s : A) × (list ≡ v ∷ d ∷ h ∷ g ∷ s ∷ []) × (f v ≡ x) × (f d ≡ y) × (f h ≡ z) × (f g ≡ t) × (f s ≡ u)
-map_five f [] x y z t u e = cc
-map_five f (v ∷ []) x y z t u e = cc
-map_five f (v ∷ d ∷ []) x y z t u e = cc
-map_five f (v ∷ d ∷ h ∷ []) x y z t u e = cc
-map_five f (v ∷ d ∷ h ∷ g ∷ []) x y z t u e = cc
-map_five f (v ∷ d ∷ h ∷ g ∷ s ∷ []) x y z t u e = (
+map_six : {A B : Type 0} (f : A → B) (list : List A) (x y z p t u : B) → map f list ≡ x ∷ y ∷ z ∷ p ∷ t ∷ u ∷ []
+    → (v d h o g s : A) × (list ≡ v ∷ d ∷ h ∷ o ∷ g ∷ s ∷ []) × (f v ≡ x) × (f d ≡ y) × (f h ≡ z) × (f o ≡ p) × (f g ≡ t) × (f s ≡ u)
+map_six f [] x y z p t u e = cc
+map_six f (v ∷ []) x y z p t u e = cc
+map_six f (v ∷ d ∷ []) x y z p t u e = cc
+map_six f (v ∷ d ∷ h ∷ []) x y z p t u e = cc
+map_six f (v ∷ d ∷ h ∷ o ∷ []) x y z p t u e = cc
+map_six f (v ∷ d ∷ h ∷ o ∷ g ∷ []) x y z p t u e = cc
+map_six f (v ∷ d ∷ h ∷ o ∷ g ∷ s ∷ []) x y z p t u e = (
   v,
   d,
   h,
+  o,
   g,
   s,
   refl,
   ap (λ rs. slice_index_or rs 0 x) e,
   ap (λ rs. slice_index_or rs 1 y) e,
   ap (λ rs. slice_index_or rs 2 z) e,
-  ap (λ rs. slice_index_or rs 3 t) e,
-  ap (λ rs. slice_index_or rs 4 u) e,
+  ap (λ rs. slice_index_or rs 3 p) e,
+  ap (λ rs. slice_index_or rs 4 t) e,
+  ap (λ rs. slice_index_or rs 5 u) e,
 )
-map_five f (v ∷ d ∷ h ∷ g ∷ s ∷ w ∷ more) x y z t u e = cc
+map_six f (v ∷ d ∷ h ∷ o ∷ g ∷ s ∷ w ∷ more) x y z p t u e = cc
 
-rules_are : lexical_app.top.rules ≡ view_rule ∷ delay_rule ∷ hub_rule ∷ generate_rule ∷ seed_rule ∷ []
+rules_are : lexical_app.top.rules ≡ view_rule ∷ delay_rule ∷ hub_rule ∷ outline_rule ∷ generate_rule ∷ seed_rule ∷ []
 unfolding lexical_app
 rules_are = refl
 
@@ -246,6 +249,12 @@ hub_arg h e =
     let plain = plain_arg h (ap (λ (r : Rule). r.is_simple) e) (ap (λ (r : Rule). r.is_free) e) in
     (ap (λ (r : Rule). r.id) e, plain.0)
 
+outline_arg : (o : Arg) → rule_of o ≡ outline_rule → (o.id.now ≡ codes "outline") × IsPlainArg o
+unfolding outline_rule
+outline_arg o e =
+    let plain = plain_arg o (ap (λ (r : Rule). r.is_simple) e) (ap (λ (r : Rule). r.is_free) e) in
+    (ap (λ (r : Rule). r.id) e, plain.0)
+
 delay_arg : (d : Arg) → rule_of d ≡ delay_rule → (d.id.now ≡ codes "delay") × IsPlainArg d × WantsDefault d × IsNumber 0 most_delay d
 unfolding delay_rule
 delay_arg d e =
@@ -285,12 +294,14 @@ record IsProgram (c : Command) : Type 0 where
   view : Arg
   delay : Arg
   hub : Arg
+  outline : Arg
   generate : Arg
   seed : Arg
-  args : args_of c ≡ view ∷ delay ∷ hub ∷ generate ∷ seed ∷ []
+  args : args_of c ≡ view ∷ delay ∷ hub ∷ outline ∷ generate ∷ seed ∷ []
   view_id : view.id.now ≡ codes "view"
   delay_id : delay.id.now ≡ codes "delay"
   hub_id : hub.id.now ≡ codes "hub"
+  outline_id : outline.id.now ≡ codes "outline"
   generate_id : generate.id.now ≡ codes "generate"
   seed_id : seed.id.now ≡ codes "seed"
   wants : WantsDefault delay
@@ -302,43 +313,48 @@ record IsProgram (c : Command) : Type 0 where
 
 is_program : (c : Command) → app_of c ≡ lexical_app → IsProgram c
 is_program c e =
-    let five = map_five rule_of (args_of c) view_rule delay_rule hub_rule generate_rule seed_rule (ap (λ (a : App). a.top.rules) e ∙ rules_are) in
-    let v = view_arg five.0 five.6 in
-    let d = delay_arg five.1 five.7 in
-    let h = hub_arg five.2 five.8 in
-    let g = generate_arg five.3 five.9 in
-    let s = seed_arg five.4 five.10 in
+    let six =
+    map_six rule_of (args_of c) view_rule delay_rule hub_rule outline_rule generate_rule seed_rule (ap (λ (a : App). a.top.rules) e ∙ rules_are) in
+    let v = view_arg six.0 six.7 in
+    let d = delay_arg six.1 six.8 in
+    let h = hub_arg six.2 six.9 in
+    let o = outline_arg six.3 six.10 in
+    let g = generate_arg six.4 six.11 in
+    let s = seed_arg six.5 six.12 in
     let fields = plain_fields c (ap (λ (a : App). a.top.is_plain) e ∙ top_is.0) in
-    let all : All IsPlainArg (five.0 ∷ five.1 ∷ five.2 ∷ five.3 ∷ five.4 ∷ []) =
-    λ k w lt. each_plain five.0 five.1 five.2 five.3 five.4 k w lt v.1 d.1 h.1 g.1 s.1 in
+    let all : All IsPlainArg (six.0 ∷ six.1 ∷ six.2 ∷ six.3 ∷ six.4 ∷ six.5 ∷ []) =
+    λ k w lt. each_plain six.0 six.1 six.2 six.3 six.4 six.5 k w lt v.1 d.1 h.1 o.1 g.1 s.1 in
     record {
-      view = five.0;
-      delay = five.1;
-      hub = five.2;
-      generate = five.3;
-      seed = five.4;
-      args = five.5;
+      view = six.0;
+      delay = six.1;
+      hub = six.2;
+      outline = six.3;
+      generate = six.4;
+      seed = six.5;
+      args = six.6;
       view_id = v.0;
       delay_id = d.0;
       hub_id = h.0;
+      outline_id = o.0;
       generate_id = g.0;
       seed_id = s.0;
       wants = d.2;
       is_delay = d.3;
       is_generate = g.2;
       is_seed = s.2;
-      plain = (subst (All IsPlainArg) (sym five.5) all, fields.0);
+      plain = (subst (All IsPlainArg) (sym six.6) all, fields.0);
       globals = fields.1;
     }
   where
-    each_plain : (v d h g s : Arg) (k : ℕ) (w : Arg) → k < length (v ∷ d ∷ h ∷ g ∷ s ∷ []) → IsPlainArg v → IsPlainArg d → IsPlainArg h
-        → IsPlainArg g → IsPlainArg s → IsPlainArg (slice_index_or (v ∷ d ∷ h ∷ g ∷ s ∷ []) k w)
-    each_plain v d h g s zero w lt pv pd ph pg ps = pv
-    each_plain v d h g s (suc zero) w lt pv pd ph pg ps = pd
-    each_plain v d h g s (suc (suc zero)) w lt pv pd ph pg ps = ph
-    each_plain v d h g s (suc (suc (suc zero))) w lt pv pd ph pg ps = pg
-    each_plain v d h g s (suc (suc (suc (suc zero)))) w lt pv pd ph pg ps = ps
-    each_plain v d h g s (suc (suc (suc (suc (suc k))))) w lt pv pd ph pg ps = absurd (omega arith)
+    each_plain : (v d h o g s : Arg) (k : ℕ) (w : Arg) → k < length (v ∷ d ∷ h ∷ o ∷ g ∷ s ∷ []) → IsPlainArg v → IsPlainArg d → IsPlainArg h
+        → IsPlainArg o → IsPlainArg g → IsPlainArg s → IsPlainArg (slice_index_or (v ∷ d ∷ h ∷ o ∷ g ∷ s ∷ []) k w)
+    each_plain v d h o g s zero w lt pv pd ph po pg ps = pv
+    each_plain v d h o g s (suc zero) w lt pv pd ph po pg ps = pd
+    each_plain v d h o g s (suc (suc zero)) w lt pv pd ph po pg ps = ph
+    each_plain v d h o g s (suc (suc (suc zero))) w lt pv pd ph po pg ps = po
+    each_plain v d h o g s (suc (suc (suc (suc zero)))) w lt pv pd ph po pg ps = pg
+    each_plain v d h o g s (suc (suc (suc (suc (suc zero))))) w lt pv pd ph po pg ps = ps
+    each_plain v d h o g s (suc (suc (suc (suc (suc (suc k)))))) w lt pv pd ph po pg ps = absurd (omega arith)
 
 -- ---- the places of its arguments
 
@@ -347,7 +363,9 @@ first_letter text = slice_index_or text 0 0
 
 -- the place of the argument whose id begins with this letter
 abbrev place_by : ℕ → ℕ
-place_by letter = if letter == 118 then 0 else if letter == 100 then 1 else if letter == 104 then 2 else if letter == 103 then 3 else 4
+place_by letter =
+    if letter == 118 then 0 else if letter == 100 then 1 else if letter == 104 then 2
+    else if letter == 111 then 3 else if letter == 103 then 4 else 5
 
 abbrev place_of : Text → ℕ
 place_of id = place_by (first_letter id)
@@ -356,14 +374,15 @@ place_is : (c : Command) → IsProgram c → (j : ℕ) (e : Arg) → j < length 
 place_is c is j e lt =
     subst (λ (l : List Arg). place_of (slice_index_or l j e).id.now ≡ j) (sym is.args) (go j (subst (λ (l : List Arg). j < length l) is.args lt))
   where
-    go : (j : ℕ) → j < length (is.view ∷ is.delay ∷ is.hub ∷ is.generate ∷ is.seed ∷ [])
-        → place_of (slice_index_or (is.view ∷ is.delay ∷ is.hub ∷ is.generate ∷ is.seed ∷ []) j e).id.now ≡ j
+    go : (j : ℕ) → j < length (is.view ∷ is.delay ∷ is.hub ∷ is.outline ∷ is.generate ∷ is.seed ∷ [])
+        → place_of (slice_index_or (is.view ∷ is.delay ∷ is.hub ∷ is.outline ∷ is.generate ∷ is.seed ∷ []) j e).id.now ≡ j
     go zero lt = ap place_of is.view_id
     go (suc zero) lt = ap place_of is.delay_id
     go (suc (suc zero)) lt = ap place_of is.hub_id
-    go (suc (suc (suc zero))) lt = ap place_of is.generate_id
-    go (suc (suc (suc (suc zero)))) lt = ap place_of is.seed_id
-    go (suc (suc (suc (suc (suc k))))) lt = absurd (omega arith)
+    go (suc (suc (suc zero))) lt = ap place_of is.outline_id
+    go (suc (suc (suc (suc zero)))) lt = ap place_of is.generate_id
+    go (suc (suc (suc (suc (suc zero))))) lt = ap place_of is.seed_id
+    go (suc (suc (suc (suc (suc (suc k)))))) lt = absurd (omega arith)
 
 same_number : (least most : ℕ) (a y : Arg) → SameRules a y → IsNumber least most a → IsNumber least most y
 same_number least most a y s is =
@@ -410,12 +429,12 @@ are_numbers c m p is id least most k a lt at named own_id number = λ j y high h
 pub has_numbers : (c : Command) (m : ArgMatches) → app_of c ≡ lexical_app → IsParsedFrom c m → HasNumbers (found_of m)
 has_numbers c m e p =
     let is = is_program c e in
-    let within : (k : ℕ) → k < 5 → k < length (args_of c) = λ k lt. subst (λ (l : List Arg). k < length l) (sym is.args) lt in
+    let within : (k : ℕ) → k < 6 → k < length (args_of c) = λ k lt. subst (λ (l : List Arg). k < length l) (sym is.args) lt in
     let parsed = p.parsed (p.from.globals ∙ is.globals) in
     let no_groups = (p.from.plain is.plain).1 in
     let delay_at : slice_index_or (args_of c) 1 is.delay ≡ is.delay = ap (λ (l : List Arg). slice_index_or l 1 is.delay) is.args in
-    let generate_at : slice_index_or (args_of c) 3 is.generate ≡ is.generate = ap (λ (l : List Arg). slice_index_or l 3 is.generate) is.args in
-    let seed_at : slice_index_or (args_of c) 4 is.seed ≡ is.seed = ap (λ (l : List Arg). slice_index_or l 4 is.seed) is.args in
+    let generate_at : slice_index_or (args_of c) 4 is.generate ≡ is.generate = ap (λ (l : List Arg). slice_index_or l 4 is.generate) is.args in
+    let seed_at : slice_index_or (args_of c) 5 is.seed ≡ is.seed = ap (λ (l : List Arg). slice_index_or l 5 is.seed) is.args in
     let wants : WantsDefault (slice_index_or (args_of c) 1 is.delay) = subst WantsDefault (sym delay_at) is.wants in
     let has : HasId (found_of m) (codes "delay") = subst (HasId (found_of m)) (ap (λ (a : Arg). a.id.now) delay_at ∙ is.delay_id)
     (default_present c m p is.globals 1 is.delay (within 1 (omega arith)) wants) in
@@ -424,9 +443,9 @@ has_numbers c m e p =
           (are_numbers c m p is (codes "delay") 0 most_delay 1 is.delay (within 1 (omega arith)) delay_at is.delay_id own_delay is.is_delay)
           has parsed.values;
       generate = may_be_read p.built (found_of m) (codes "generate") 1 most_lines no_groups own_generate.0
-          (are_numbers c m p is (codes "generate") 1 most_lines 3 is.generate (within 3 (omega arith)) generate_at is.generate_id own_generate is.is_generate)
+          (are_numbers c m p is (codes "generate") 1 most_lines 4 is.generate (within 4 (omega arith)) generate_at is.generate_id own_generate is.is_generate)
           parsed.values;
       seed = may_be_read p.built (found_of m) (codes "seed") 0 most_seed no_groups own_seed.0
-          (are_numbers c m p is (codes "seed") 0 most_seed 4 is.seed (within 4 (omega arith)) seed_at is.seed_id own_seed is.is_seed)
+          (are_numbers c m p is (codes "seed") 0 most_seed 5 is.seed (within 5 (omega arith)) seed_at is.seed_id own_seed is.is_seed)
           parsed.values;
     }

@@ -39,6 +39,10 @@ delay_rule = record (new_rule (codes "delay")) {
 unfoldable pub hub_rule : Rule
 hub_rule = record (new_rule (codes "hub")) { long = Some (codes "hub"); action = Some SetTrue }
 
+-- `--outline`, which takes no value
+unfoldable pub outline_rule : Rule
+outline_rule = record (new_rule (codes "outline")) { long = Some (codes "outline"); action = Some SetTrue }
+
 -- the most lines that a generated session has
 abbrev pub most_lines : ℕ
 most_lines = 20000
@@ -66,8 +70,9 @@ seed_rule = record (new_rule (codes "seed")) {
 -- the program, passed the words behind its name; it has no flag for help and none for a version
 unfoldable pub lexical_app : App
 lexical_app =
-    with_rule (with_rule (with_rule (with_rule (with_rule (on_top (λ s. record s { no_binary_name = true; disable_help_flag = true })
-    (new_app (codes "lexical"))) view_rule) delay_rule) hub_rule) generate_rule) seed_rule
+    with_rule (with_rule (with_rule (with_rule (with_rule (with_rule
+    (on_top (λ s. record s { no_binary_name = true; disable_help_flag = true }) (new_app (codes "lexical")))
+    view_rule) delay_rule) hub_rule) outline_rule) generate_rule) seed_rule
 
 -- the text that clap reads of the flag is `true`
 unfoldable pub says_true : Option Text → Bool
@@ -89,6 +94,10 @@ view_in words = says_true (one_of (codes "view") (matches_of lexical_app words))
 unfoldable pub hub_in : List Text → Bool
 hub_in words = says_true (one_of (codes "hub") (matches_of lexical_app words))
 
+-- whether they ask for an outline, by clap's matches
+unfoldable pub outline_in : List Text → Bool
+outline_in words = says_true (one_of (codes "outline") (matches_of lexical_app words))
+
 -- the delay that the words ask for, by clap's matches
 unfoldable pub delay_in : List Text → ℕ
 delay_in words = number_said (one_of (codes "delay") (matches_of lexical_app words))
@@ -97,23 +106,27 @@ delay_in words = number_said (one_of (codes "delay") (matches_of lexical_app wor
 unfoldable pub number_in : Text → List Text → Option ℕ
 number_in name words = number_if_said (one_of name (matches_of lexical_app words))
 
--- The mode that is asked for, by whether the view is, by whether views that lag behind are, and by the numbers of lines and of
--- the seed: the two stand together, and beside neither flag.
-abbrev pub mode_of : Bool → Bool → Option ℕ → Option ℕ → Option Mode
-mode_of view false None None = Some mode.Plain
-mode_of view true None None = Some mode.Hub
-mode_of false false (Some lines) (Some seed) = Some (mode.Generate (record { lines = lines; seed = seed }))
-mode_of view hub lines seed = None
+-- The mode that is asked for, by whether the view is, by whether views that lag behind are, by whether an outline is, and by the
+-- numbers of lines and of the seed. The two numbers stand together, and beside no flag. Views that lag behind and an outline don't
+-- stand together, and either may beside the view.
+abbrev pub mode_of : Bool → Bool → Bool → Option ℕ → Option ℕ → Option Mode
+mode_of view false false None None = Some mode.Plain
+mode_of view true false None None = Some mode.Hub
+mode_of view false true None None = Some mode.Outline
+mode_of false false false (Some lines) (Some seed) = Some (mode.Generate (record { lines = lines; seed = seed }))
+mode_of view hub outline lines seed = None
 
 -- a session that is generated has as many lines as it may have
 abbrev pub HasLines : Mode → Type 0
 HasLines mode.Plain = ⊤
 HasLines mode.Hub = ⊤
+HasLines mode.Outline = ⊤
 HasLines (mode.Generate session) = (1 ≤ session.lines) × (session.lines ≤ most_lines)
 
 -- the mode that the words ask for, by clap's matches
 unfoldable pub mode_in : List Text → Option Mode
-mode_in words = mode_of (view_in words) (hub_in words) (number_in (codes "generate") words) (number_in (codes "seed") words)
+mode_in words =
+    mode_of (view_in words) (hub_in words) (outline_in words) (number_in (codes "generate") words) (number_in (codes "seed") words)
 
 -- clap lists no kind of error at the words, and they ask for a mode
 unfoldable pub are_taken : List Text → Bool
@@ -146,4 +159,4 @@ pub record HasNumbers (f : Found) : Type 0 where
 -- the mode that matches ask for
 abbrev pub mode_found : Found → Option Mode
 mode_found f = mode_of (says_true (one_text f (codes "view"))) (says_true (one_text f (codes "hub")))
-    (number_if_said (one_text f (codes "generate"))) (number_if_said (one_text f (codes "seed")))
+    (says_true (one_text f (codes "outline"))) (number_if_said (one_text f (codes "generate"))) (number_if_said (one_text f (codes "seed")))

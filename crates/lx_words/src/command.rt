@@ -1,6 +1,6 @@
 ghost use Rattle.std.specs.Prelude.{◌≡◌, IfOk, false};
 ghost use Rattle.clap.specs.Words.{app_of, rule_of};
-ghost use Rattle.lx_words.specs.Words.{delay_rule, generate_rule, hub_rule, lexical_app, seed_rule, view_rule};
+ghost use Rattle.lx_words.specs.Words.{delay_rule, generate_rule, hub_rule, lexical_app, outline_rule, seed_rule, view_rule};
 
 use clap::{Arg, ArgAction, Command, value_parser};
 use std::alloc::{AllocError, Global};
@@ -15,6 +15,7 @@ pub(crate) fn lexical_command<'a>(alloc: Global) -> Result<Command<'a>, AllocErr
         .arg(view_flag(alloc))?
         .arg(delay_option(alloc))?
         .arg(hub_flag(alloc))?
+        .arg(outline_flag(alloc))?
         .arg(generate_option(alloc))?
         .arg(seed_option(alloc))
 }
@@ -48,6 +49,16 @@ fn hub_flag<'a>(alloc: Global) -> Arg<'a>
 {
     Arg::new(alloc, "hub")
         .long("hub")
+        .action(ArgAction::SetTrue)
+}
+
+#[tactic(auto, unfolding(crate::specs::Words::outline_rule))]
+fn outline_flag<'a>(alloc: Global) -> Arg<'a>
+    ensures rule { rule_of result ≡ outline_rule }
+    ensures local { result.global ≡ false }
+{
+    Arg::new(alloc, "outline")
+        .long("outline")
         .action(ArgAction::SetTrue)
 }
 

@@ -8,14 +8,16 @@ use clap::ArgMatches;
 use clap::error::ErrorKind;
 use std::alloc::Global;
 
-/// What the program does. Words ask for one mode: `--hub` for the hub, `--generate` and `--seed` together for a generated
-/// session, and none of these for the plain one.
+/// What the program does. Words ask for one mode: `--hub` for the hub, `--outline` for the outline, `--generate` and `--seed`
+/// together for a generated session, and none of these for the plain one. Two of these modes are refused.
 #[derive(Clone, Copy)]
 pub enum Mode {
     /// It answers the lines of its input.
     Plain,
     /// It answers the lines of its input, and keeps views that lag behind commits.
     Hub,
+    /// It answers the lines of its input, and keeps an outline by the events of commits.
+    Outline,
     /// It generates a session in the place of the input, and tells it as a whole.
     Generate(Generated),
 }
@@ -50,8 +52,8 @@ pub enum Refused {
 }
 
 /// What the words behind the program's name ask for. They are taken exactly where clap takes them and they ask for one mode,
-/// unless memory runs out first: `--generate` and `--seed` stand together, not beside `--view` and not beside `--hub`. `--hub`
-/// may stand beside `--view`, and `--delay` beside any.
+/// unless memory runs out first: two of `--hub`, `--outline` and `--generate` with `--seed` are refused. `--generate` and `--seed`
+/// stand together, and not beside `--view`. `--hub` and `--outline` may stand beside `--view`, and `--delay` beside any.
 pub fn options_of(alloc: Global, words: &[String]) -> Result<Options, Refused>
     ensures ok { IfOk result (λ options. (are_taken (map string_bytes words.now) ≡ true)
         × (options ≡ asked_for (map string_bytes words.now))) }
@@ -81,24 +83,36 @@ fn options_in(matches: &ArgMatches<'_>) -> Result<Options, Refused>
 {
     let view = found_flag(matches, "view");
     let hub = found_flag(matches, "hub");
+    let outline = found_flag(matches, "outline");
     let lines = found_lines(matches);
     let seed = found_seed(matches);
     let delay = found_delay(matches);
-    match mode_of(view, hub, lines, seed) {
+    match mode_of(view, hub, outline, lines, seed) {
         Some(mode) => Ok(Options { mode, view, delay }),
         None => Err(Refused::Usage),
     }
 }
 
-/// The mode that is asked for, if it is one.
-fn mode_of(view: bool, hub: bool, lines: Option<u32>, seed: Option<u32>) -> Option<Mode>
-    ensures mode { result ≡ mode_of view hub lines seed }
+/// The mode that is asked for, if it is one. Two of the hub, the outline and a generated session are refused, and so is a
+/// generated session beside the view. The hub and the outline may stand beside the view.
+fn mode_of(
+    view: bool,
+    hub: bool,
+    outline: bool,
+    lines: Option<u32>,
+    seed: Option<u32>,
+) -> Option<Mode>
+    ensures mode { result ≡ mode_of view hub outline lines seed }
     ensures lines { IfSome lines (λ n. (1 ≤ n) × (n ≤ most_lines)) → IfSome result HasLines }
 {
-    match (view, hub, lines, seed) {
-        (_, false, None, None) => Some(Mode::Plain),
-        (_, true, None, None) => Some(Mode::Hub),
-        (false, false, Some(lines), Some(seed)) => Some(Mode::Generate(Generated { lines, seed })),
+    match (view, hub, outline, lines, seed) {
+        (_, false, false, None, None) => Some(Mode::Plain),
+        (_, true, false, None, None) => Some(Mode::Hub),
+        (_, false, true, None, None) => Some(Mode::Outline),
+        (false, false, false, Some(lines), Some(seed)) => Some(Mode::Generate(Generated {
+            lines,
+            seed,
+        })),
         _ => None,
     }
 }
