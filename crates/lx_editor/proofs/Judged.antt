@@ -34,16 +34,16 @@ use Rattle.lx_editor.specs.Judged.{MayCommit, MayTurn, IsWeighed, IsJudged, IsTu
 pub may_conclude : (r : Result Settled (Cause × Option ℕ)) (e : Editor) (verdict : Verdict) → IsJudged r e verdict → MayConclude e verdict
 may_conclude r e (Refused cause step) judged = tt
 may_conclude r e Idle judged = tt
-may_conclude (Err refused) e (Commit frozen batch) judged = absurd (cc)
-may_conclude (Ok settled) e (Commit frozen batch) judged = subst (λ l. MayCommit e l batch) (sym judged.1.0) judged.1.1
-may_conclude (Err refused) e (Turned turn state batch) judged = absurd (cc)
-may_conclude (Ok settled) e (Turned turn state batch) judged = absurd judged.1
+may_conclude (Err refused) e (Commit frozen batch shown) judged = absurd (cc)
+may_conclude (Ok settled) e (Commit frozen batch shown) judged = (subst (λ l. MayCommit e l batch) (sym judged.1.0) judged.1.1, judged.1.2)
+may_conclude (Err refused) e (Turned turn state batch marks) judged = absurd (cc)
+may_conclude (Ok settled) e (Turned turn state batch marks) judged = absurd judged.1
 
 pub may_conclude_turn : (turn : Turn) (e : Editor) (verdict : Verdict) → IsTurnJudged turn e verdict → MayConclude e verdict
 may_conclude_turn turn e (Refused cause step) judged = tt
 may_conclude_turn turn e Idle judged = tt
-may_conclude_turn turn e (Commit frozen batch) judged = absurd judged
-may_conclude_turn turn e (Turned way state batch) judged = subst (λ t. MayTurn e t state batch) (sym judged.0) judged.1
+may_conclude_turn turn e (Commit frozen batch shown) judged = absurd judged
+may_conclude_turn turn e (Turned way state batch marks) judged = (subst (λ t. MayTurn e t state batch) (sym judged.0) judged.1, judged.2)
 
 pub may_conclude_answer : (r : Result Ending (Cause × Option ℕ)) (e : Editor) (verdict : Verdict) (handled : Bool) → IsAnswerJudged r e verdict handled → MayConclude e verdict
 may_conclude_answer (Err refused) e verdict handled judged = subst (MayConclude e) (sym judged.0) tt
@@ -71,11 +71,11 @@ same_rules e rules is = ap (λ rs. record e { rules = rs }) (sym is)
 
 module _ (how : Recording) where
   taken : (left : Left) (e : Editor) (verdict : Verdict) (outcome : Outcome) (new : Editor) → IsWeighed e left verdict → IsConcluded e how verdict outcome new → IsTaken e how left outcome new
-  taken left e (Commit frozen batch) (made.Committed number ops) new weighed done = subst (λ l. IsCommitted e how l number ops new) weighed.0 done
-  taken left e (Commit frozen batch) (made.Refused cause step) new weighed done = absurd done
-  taken left e (Commit frozen batch) made.Idle new weighed done = absurd done
-  taken left e (Commit frozen batch) (made.Gathered count) new weighed done = absurd done
-  taken left e (Turned turn state batch) outcome new weighed done = absurd weighed
+  taken left e (Commit frozen batch shown) (made.Committed number ops) new weighed done = subst (λ l. IsCommitted e how l number ops new) weighed.0 done
+  taken left e (Commit frozen batch shown) (made.Refused cause step) new weighed done = absurd done
+  taken left e (Commit frozen batch shown) made.Idle new weighed done = absurd done
+  taken left e (Commit frozen batch shown) (made.Gathered count) new weighed done = absurd done
+  taken left e (Turned turn state batch marks) outcome new weighed done = absurd weighed
   taken left e (Refused cause step) outcome new weighed (is, same) =
       subst (λ o. IsTaken e how left o new) (sym is) (record { anew = weighed.anew; fault = weighed.fault; no_step = weighed.no_step; same = same })
   taken left e Idle outcome new weighed (is, same) = subst (λ o. IsTaken e how left o new) (sym is) (weighed.1, same ∙ same_rules e left.rules weighed.0)
@@ -89,11 +89,11 @@ module _ (how : Recording) where
   -- ---- an undo or a redo
 
   pub turn_concluded : (turn : Turn) (e : Editor) (verdict : Verdict) (outcome : Outcome) (new : Editor) → IsTurnJudged turn e verdict → IsConcluded e how verdict outcome new → IsTurnedBy turn how.moment e outcome new
-  turn_concluded turn e (Commit frozen batch) outcome new judged done = absurd judged
-  turn_concluded turn e (Turned way state batch) (made.Committed number ops) new judged done = subst (λ t. IsTurned t how.moment e number ops new) judged.0 done
-  turn_concluded turn e (Turned way state batch) (made.Refused cause step) new judged done = absurd done
-  turn_concluded turn e (Turned way state batch) made.Idle new judged done = absurd done
-  turn_concluded turn e (Turned way state batch) (made.Gathered count) new judged done = absurd done
+  turn_concluded turn e (Commit frozen batch shown) outcome new judged done = absurd judged
+  turn_concluded turn e (Turned way state batch marks) (made.Committed number ops) new judged done = subst (λ t. IsTurned t how.moment e number ops new) judged.0 done
+  turn_concluded turn e (Turned way state batch marks) (made.Refused cause step) new judged done = absurd done
+  turn_concluded turn e (Turned way state batch marks) made.Idle new judged done = absurd done
+  turn_concluded turn e (Turned way state batch marks) (made.Gathered count) new judged done = absurd done
   turn_concluded turn e (Refused cause step) outcome new judged (is, same) =
       subst (λ o. IsTurnedBy turn how.moment e o new) (sym is) (record { entry = judged.entry; next = judged.next; fault = judged.fault; no_step = judged.no_step; same = same })
   turn_concluded turn e Idle outcome new judged (is, same) = subst (λ o. IsTurnedBy turn how.moment e o new) (sym is) (judged, same)
@@ -123,8 +123,8 @@ module _ (how : Recording) (old : Editor) (rule : Rule) where
   pub may_conclude_rule : (r : Result Settled (Cause × Option ℕ)) (verdict : Verdict) (e : Editor) → IsJudged r mid verdict → e ≡ with_unless_refused rule old verdict → MayConclude e verdict
   may_conclude_rule r (Refused cause step) e judged is = tt
   may_conclude_rule r Idle e judged is = tt
-  may_conclude_rule r (Commit frozen batch) e judged is = subst (λ x. MayConclude x (Commit frozen batch)) (sym is) (may_conclude r mid (Commit frozen batch) judged)
-  may_conclude_rule r (Turned turn state batch) e judged is = subst (λ x. MayConclude x (Turned turn state batch)) (sym is) (may_conclude r mid (Turned turn state batch) judged)
+  may_conclude_rule r (Commit frozen batch shown) e judged is = subst (λ x. MayConclude x (Commit frozen batch shown)) (sym is) (may_conclude r mid (Commit frozen batch shown) judged)
+  may_conclude_rule r (Turned turn state batch marks) e judged is = subst (λ x. MayConclude x (Turned turn state batch marks)) (sym is) (may_conclude r mid (Turned turn state batch marks) judged)
 
   nothing_new : (left : Left) → IsNothingNew mid left → IsNothingNew old left
   nothing_new left n = record { none_marked = n.none_marked; selected = n.selected }
@@ -147,11 +147,11 @@ module _ (how : Recording) (old : Editor) (rule : Rule) where
   }
 
   rule_taken : (left : Left) (verdict : Verdict) (outcome : Outcome) (new : Editor) → IsWeighed mid left verdict → IsConcluded (with_unless_refused rule old verdict) how verdict outcome new → IsTaken old how left outcome new
-  rule_taken left (Commit frozen batch) (made.Committed number ops) new weighed done = committed_before left number ops new (subst (λ l. IsCommitted mid how l number ops new) weighed.0 done)
-  rule_taken left (Commit frozen batch) (made.Refused cause step) new weighed done = absurd done
-  rule_taken left (Commit frozen batch) made.Idle new weighed done = absurd done
-  rule_taken left (Commit frozen batch) (made.Gathered count) new weighed done = absurd done
-  rule_taken left (Turned turn state batch) outcome new weighed done = absurd weighed
+  rule_taken left (Commit frozen batch shown) (made.Committed number ops) new weighed done = committed_before left number ops new (subst (λ l. IsCommitted mid how l number ops new) weighed.0 done)
+  rule_taken left (Commit frozen batch shown) (made.Refused cause step) new weighed done = absurd done
+  rule_taken left (Commit frozen batch shown) made.Idle new weighed done = absurd done
+  rule_taken left (Commit frozen batch shown) (made.Gathered count) new weighed done = absurd done
+  rule_taken left (Turned turn state batch marks) outcome new weighed done = absurd weighed
   rule_taken left (Refused cause step) outcome new weighed (is, same) =
       subst (λ o. IsTaken old how left o new) (sym is) (record { anew = λ n. weighed.anew (as_mid left n); fault = weighed.fault; no_step = weighed.no_step; same = same })
   rule_taken left Idle outcome new weighed (is, same) =
@@ -235,13 +235,13 @@ turned_view turn moment old state commit ops new next t =
 
 -- what isn't judged as idle isn't concluded as that
 pub never_idle : (how : Recording) (e : Editor) (verdict : Verdict) (outcome : Outcome) (new : Editor) → is_idle verdict ≡ false → IsConcluded e how verdict outcome new → outcome ≢ made.Idle
-never_idle how e (Commit frozen batch) (made.Committed number ops) new anew done is = cc
-never_idle how e (Commit frozen batch) (made.Refused cause step) new anew done is = absurd done
-never_idle how e (Commit frozen batch) made.Idle new anew done is = absurd done
-never_idle how e (Commit frozen batch) (made.Gathered count) new anew done is = absurd done
-never_idle how e (Turned turn state batch) (made.Committed number ops) new anew done is = cc
-never_idle how e (Turned turn state batch) (made.Refused cause step) new anew done is = absurd done
-never_idle how e (Turned turn state batch) made.Idle new anew done is = absurd done
-never_idle how e (Turned turn state batch) (made.Gathered count) new anew done is = absurd done
+never_idle how e (Commit frozen batch shown) (made.Committed number ops) new anew done is = cc
+never_idle how e (Commit frozen batch shown) (made.Refused cause step) new anew done is = absurd done
+never_idle how e (Commit frozen batch shown) made.Idle new anew done is = absurd done
+never_idle how e (Commit frozen batch shown) (made.Gathered count) new anew done is = absurd done
+never_idle how e (Turned turn state batch marks) (made.Committed number ops) new anew done is = cc
+never_idle how e (Turned turn state batch marks) (made.Refused cause step) new anew done is = absurd done
+never_idle how e (Turned turn state batch marks) made.Idle new anew done is = absurd done
+never_idle how e (Turned turn state batch marks) (made.Gathered count) new anew done is = absurd done
 never_idle how e (Refused cause step) outcome new anew (same, rest) is = let e : made.Refused cause step ≡ made.Idle = sym same ∙ is in cc
 never_idle how e Idle outcome new anew done is = absurd (cc)

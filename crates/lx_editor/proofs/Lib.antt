@@ -12,3 +12,4 @@ pub mod Renumbered
 pub mod Selected
 pub mod Began
 pub mod Waiting
+pub mod Changed

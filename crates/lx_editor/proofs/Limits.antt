@@ -1,15 +1,22 @@
--- What is within the limits is so with another next key that is within them.
-use Rattle.std.proofs.Common.{◌≡◌, ◌≤◌, ℕ, Option, None, Some, refl, arith}
+-- What is within the limits is so with another next key that is within them; and how many characters such a state has.
+use Rattle.std.proofs.Common.{◌≡◌, ◌∙◌, ap, ◌-◌, ◌^◌, ◌<◌, ◌≤◌, ℕ, Option, None, Some, refl, arith}
+use Rattle.std.proofs.lemmas.Bool.Decides.{nat_tests}
 use Rattle.std.specs.Option.{option_or}
 use Rattle.lx_node.specs.Limits.{most_depth, most_nodes, most_characters, most_key}
 use Rattle.lx_node.specs.NamedTrees.{total}
 use Rattle.lx_node.specs.Strings.{capped}
 use Rattle.lx_node.specs.declared.cause.Cause.{Cause}
+use Rattle.lx_node.specs.declared.cause.Limit.{Limit}
 use Rattle.lx_node.specs.declared.cause.Limit.TheVariants.{Depth, Nodes, Characters, KeyCount}
 use Rattle.lx_select.specs.declared.selection.Selection.{Selection}
+use Rattle.lx_forest.specs.Edits.{drop_detached}
 use Rattle.lx_forest.specs.Forest.{Forest}
+use Rattle.lx_forest.specs.Weights.{weight}
+use Rattle.lx_forest.proofs.Weights.{weight-preorder}
+use Rattle.lx_links.specs.Characters.{characters_in}
 use Rattle.lx_draft.specs.Faults.{over}
-use Rattle.lx_draft.specs.Freezing.{tree_depth, tree_characters, limits_fault}
+use Rattle.lx_draft.specs.Freezing.{characters_at, tree_depth, tree_characters, limits_fault}
+use Rattle.lx_reconcile.proofs.StartEnd.{one_tree}
 use Rattle.lx_editor.specs.Standing.{IsState}
 
 pub first_none : (a b : Option Cause) → option_or a b ≡ None → a ≡ None
@@ -77,3 +84,23 @@ state_rises f g s t k m state other more = record {
   joined = state.joined;
   numbered = state.numbered;
 }
+
+-- ---- characters
+
+within : (limit : Limit) (most n : ℕ) → most < 2 ^ 64 - 1 → over limit most n ≡ None → n ≤ most
+unfolding capped
+within limit most n small none = grind (arith, nat_tests)
+
+-- a state that may be committed has no more characters than it may have
+pub few_characters : (f : Forest) (s : Selection) (k : ℕ) → IsState f s k → tree_characters f ≤ most_characters
+few_characters f s k state =
+    let size = second_none (over Depth most_depth (tree_depth f)) _ state.within in
+    let long = second_none (over Nodes most_nodes (total f)) _ size in
+    within Characters most_characters (tree_characters f) (omega arith) (first_none (over Characters most_characters (tree_characters f)) _ long)
+
+-- all characters are those of its one tree
+pub all_in_tree : (f : Forest) (s : Selection) (k : ℕ) → IsState f s k → tree_characters f ≡ weight characters_in f
+unfolding drop_detached
+all_in_tree f s k state =
+    weight-preorder characters_in (characters_at f) f state.in_order (λ q spot e. rw e refl)
+    ∙ ap (weight characters_in) (one_tree f state.in_order state.alone)

@@ -22,3 +22,8 @@ told_without (Err e) P Q p then = then p
 pub both_told : {X E : Type 0} (r : Result X E) (P Q : X → Type 0) (C : Type 0) → IfOk r P → OnOk r C → ((x : X) → P x → C → Q x) → IfOk r Q
 both_told (Ok x) P Q C p c then = then x p c
 both_told (Err e) P Q C p c then = tt
+
+-- what follows from what is told of any answer is told
+pub told_of : {X E : Type 0} (r : Result X E) (P : X → Type 0) (C : Type 0) → IfOk r P → ((x : X) → P x → C) → OnOk r C
+told_of (Ok x) P C p then = then x p
+told_of (Err e) P C p then = tt

@@ -1,5 +1,5 @@
 -- What steps and rules come to before anything is changed. Only this crate's own contracts cite it.
-use Rattle.std.specs.Prelude.{◌≡◌, ◌≤◌, ◌⊎◌, ℕ, Bool, true, false, List, [], ◌∷◌, Option, None, Some, Result, Ok, Err}
+use Rattle.std.specs.Prelude.{◌≡◌, ◌≤◌, ◌⊎◌, ℕ, Bool, true, false, List, [], ◌∷◌, Option, None, Some, unwrap_or, Result, Ok, Err}
 use Rattle.lx_node.specs.declared.cause.Cause.{Cause}
 use Rattle.lx_marks.specs.Marks.{Marked, unmarked, is_touched, is_noted, with_leaf}
 use Rattle.lx_step.specs.declared.built_in.Turn.{Turn}
@@ -7,6 +7,7 @@ use Rattle.lx_forest.specs.Forest.{Forest}
 use Rattle.lx_forest.specs.Lookups.{has, kind_of, parent_of, children_of, roots, IsForest}
 use Rattle.lx_json.specs.Importing.{IsImported}
 use Rattle.lx_list.specs.Began.{BeganNumbered}
+use Rattle.lx_draft.specs.declared.state.Frozen.{Frozen}
 use Rattle.lx_draft.specs.declared.state.State.{State}
 use Rattle.lx_draft.specs.Working.{Working}
 use Rattle.lx_draft.specs.Covering as drafts
@@ -113,10 +114,18 @@ pub record MayCommit (old : Editor) (left : Left) (batch : Told) : Type 0 where
   pub allowed : IsAllowed old.tree left.tree (marking left.marks) old.view batch.ops
   pub few : batch.reads ≤ most_reads old.tree left.tree (is_noted left.marks)
 
+-- the marks that cover the trees before and after: these, where a document was loaded, and else those of what is frozen
+abbrev pub covering : Frozen → Option Marked → Marked
+covering frozen shown = unwrap_or shown frozen.marks
+
+abbrev pub IsCoveredBy : Editor → Forest → Marked → Type 0
+IsCoveredBy old after marks = AreCovered old.tree after (marking marks)
+
 -- What is left under the editor's rules is to be committed, or can't be shown, or is nothing new.
 abbrev pub IsWeighed : Editor → Left → Verdict → Type 0
-IsWeighed old left (Commit frozen batch) = (left_of old.rules frozen ≡ left) × MayCommit old left batch
-IsWeighed old left (Turned turn state batch) = ⊥
+IsWeighed old left (Commit frozen batch shown) =
+    (left_of old.rules frozen ≡ left) × MayCommit old left batch × IsCoveredBy old frozen.state.links (covering frozen shown)
+IsWeighed old left (Turned turn state batch marks) = ⊥
 IsWeighed old left (Refused cause step) = IsUnshowable old left cause step old
 IsWeighed old left Idle = (left.rules ≡ old.rules) × IsNothingNew old left
 
@@ -141,10 +150,10 @@ pub record MayTurn (old : Editor) (turn : Turn) (state : State) (batch : Told) :
   pub few : batch.reads ≤ most_reads old.tree state.links (is_in_either old.tree state.links)
 
 abbrev pub IsTurnJudged : Turn → Editor → Verdict → Type 0
-IsTurnJudged turn old (Turned way state batch) = (way ≡ turn) × MayTurn old turn state batch
+IsTurnJudged turn old (Turned way state batch marks) = (way ≡ turn) × MayTurn old turn state batch × IsCoveredBy old state.links marks
 IsTurnJudged turn old (Refused cause step) = IsUnshowableEntry turn old cause step old
 IsTurnJudged turn old Idle = entry_of turn old.history ≡ None
-IsTurnJudged turn old (Commit frozen batch) = ⊥
+IsTurnJudged turn old (Commit frozen batch shown) = ⊥
 
 -- what a dispatch comes to, and whether it was handled
 abbrev pub IsAnswerJudged : Result Ending (Cause × Option ℕ) → Editor → Verdict → Bool → Type 0
@@ -159,18 +168,18 @@ IsForCause refusal.Memory = ⊥
 
 -- ---- what is done
 
--- what has to hold for a verdict to be carried out: where there is a commit, it may be made
+-- what has to hold for a verdict to be carried out: where there is a commit, it may be made, and its marks cover the two trees
 abbrev pub MayConclude : Editor → Verdict → Type 0
-MayConclude old (Commit frozen batch) = MayCommit old (left_of old.rules frozen) batch
-MayConclude old (Turned turn state batch) = MayTurn old turn state batch
+MayConclude old (Commit frozen batch shown) = MayCommit old (left_of old.rules frozen) batch × IsCoveredBy old frozen.state.links (covering frozen shown)
+MayConclude old (Turned turn state batch marks) = MayTurn old turn state batch × IsCoveredBy old state.links marks
 MayConclude old verdict = Unit {0}
 
 -- the outcome that a verdict has, and the editor that it leaves
 abbrev pub IsConcluded : Editor → Recording → Verdict → Outcome → Editor → Type 0
-IsConcluded old how (Commit frozen batch) (made.Committed number ops) new = IsCommitted old how (left_of old.rules frozen) number ops new
-IsConcluded old how (Commit frozen batch) other new = ⊥
-IsConcluded old how (Turned turn state batch) (made.Committed number ops) new = IsTurned turn how.moment old number ops new
-IsConcluded old how (Turned turn state batch) other new = ⊥
+IsConcluded old how (Commit frozen batch shown) (made.Committed number ops) new = IsCommitted old how (left_of old.rules frozen) number ops new
+IsConcluded old how (Commit frozen batch shown) other new = ⊥
+IsConcluded old how (Turned turn state batch marks) (made.Committed number ops) new = IsTurned turn how.moment old number ops new
+IsConcluded old how (Turned turn state batch marks) other new = ⊥
 IsConcluded old how (Refused cause step) outcome new = (outcome ≡ made.Refused cause step) × (new ≡ old)
 IsConcluded old how Idle outcome new = (outcome ≡ made.Idle) × (new ≡ old)
 

@@ -7,4 +7,5 @@ pub mod Registered
 pub mod Loaded
 pub mod Standing
 pub mod Judged
+pub mod Changes
 pub mod Follows

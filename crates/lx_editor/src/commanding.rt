@@ -2,6 +2,7 @@
 
 ghost use Rattle.lx_node.specs.Limits.{last_u32};
 
+use crate::change::Telling;
 use crate::editor::Editor;
 use crate::outcome::Outcome;
 use crate::recording::Recording;
@@ -11,11 +12,12 @@ use lx_step::{Command, Listener, Tags};
 use std::alloc::Global;
 
 impl Editor {
-    ghost use Rattle.std.specs.Prelude.{◌≡◌, ◌+◌, ◌<◌, ◌≤◌, IfOk, OnErr};
+    ghost use Rattle.std.specs.Prelude.{◌≡◌, ◌+◌, ◌<◌, ◌≤◌, None, IfOk, OnOk, OnErr};
     ghost use Rattle.lx_step.specs.Sound.{IsSoundListener};
     ghost use Rattle.lx_editor.specs.Dispatched.{IsDispatched, IsListening};
     ghost use Rattle.lx_editor.specs.Follows.{IsReplyOfDispatch, IsReplyOfListener};
     ghost use Rattle.lx_editor.specs.Gathering.{recording, with_nothing_pending};
+    ghost use Rattle.lx_editor.specs.Changes.{IsToldChange};
 
     /// Dispatches a command: it is offered to the listeners of its name, from priority 4 down to 0 and within one
     /// priority in the order of registration, until one has handled it. What their steps leave comes to rest under the
@@ -53,8 +55,11 @@ impl Editor {
         alloc: Global,
         command: &Command,
         how: Recording,
+        told: &mut Telling,
     ) -> Result<Vec<u8>, NoMemory>
         requires room { self.old.commits < last_u32 }
+        requires untold { told.old.change ≡ None }
+        ensures change { OnOk result (IsToldChange told.old.asked self.old told.new.change self.new) }
         ensures replies { IfOk result (λ reply. IsReplyOfDispatch self.old command.now how reply.items self.new) }
         ensures commits { self.new.commits ≤ self.old.commits + 1 }
         ensures unchanged { OnErr result (self.new ≡ with_nothing_pending self.old) }
@@ -63,7 +68,7 @@ impl Editor {
         let gathering = self.gathered() > 0;
         let draft = self.take_draft(alloc)?;
         let (verdict, handled) = self.judge_dispatch(alloc, draft, gathering, command)?;
-        self.reply(alloc, verdict, Some(handled), all)
+        self.reply(alloc, verdict, Some(handled), all, told)
     }
 
     /// Registers a listener behind those that are registered, and answers its number, from 1. Nothing is committed. It

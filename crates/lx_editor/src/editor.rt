@@ -189,13 +189,18 @@ impl Editor {
         ensures unchanged { OnErr result (self.new ≡ self.old) }
     {
         match verdict {
-            Verdict::Commit { frozen, batch } => {
+            Verdict::Commit { frozen, batch, .. } => {
                 let number = self.next_commit();
                 let ops = batch.copy_ops(alloc)?;
                 self.commit(alloc, frozen, batch, how)?;
                 Ok(Outcome::Committed { number, ops })
             }
-            Verdict::Turned { turn, state, batch } => {
+            Verdict::Turned {
+                turn,
+                state,
+                batch,
+                ..
+            } => {
                 let number = self.next_commit();
                 let ops = batch.copy_ops(alloc)?;
                 self.commit_entry(alloc, turn, state, batch, how.moment)?;

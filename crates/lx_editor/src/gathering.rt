@@ -2,6 +2,7 @@
 
 ghost use Rattle.lx_node.specs.Limits.{last_u32};
 
+use crate::change::Telling;
 use crate::editor::Editor;
 use crate::outcome::Outcome;
 use crate::pending::Pending;
@@ -14,7 +15,7 @@ use lx_step::{Step, Tags};
 use std::alloc::Global;
 
 impl Editor {
-    ghost use Rattle.std.specs.Prelude.{◌≡◌, ◌+◌, ◌<◌, ◌≤◌, Ok, All, IfOk, IfErr, OnErr};
+    ghost use Rattle.std.specs.Prelude.{◌≡◌, ◌+◌, ◌<◌, ◌≤◌, Ok, None, All, IfOk, IfErr, OnOk, OnErr};
     ghost use Rattle.lx_step.specs.Lines.{both_tags};
     ghost use Rattle.lx_step.specs.Sound.{IsSound};
     ghost use Rattle.lx_draft.specs.Covering.{AreCovered};
@@ -22,6 +23,7 @@ impl Editor {
     ghost use Rattle.lx_editor.specs.Follows.{IsReplyOfDefer, IsReplyOfFlush};
     ghost use Rattle.lx_editor.specs.Gathering.{started_of, pending_of, begun, with_nothing_pending, with_pending, with_line, recording, recording_all, gathered_by, IsPending, IsDeferred};
     ghost use Rattle.lx_editor.specs.Updated.{IsFlushed};
+    ghost use Rattle.lx_editor.specs.Changes.{IsToldChange};
 
     /// How many updates are gathered and wait for a call that commits them, at most 100,000. It is 0 where none are.
     pub fn gathered(&self) -> u32
@@ -173,8 +175,11 @@ impl Editor {
         &mut self,
         alloc: Global,
         how: Recording,
+        told: &mut Telling,
     ) -> Result<Vec<u8>, NoMemory>
         requires room { self.old.commits < last_u32 }
+        requires untold { told.old.change ≡ None }
+        ensures change { OnOk result (IsToldChange told.old.asked self.old told.new.change self.new) }
         ensures replies { IfOk result (λ reply. IsReplyOfFlush self.old how reply.items self.new) }
         ensures commits { self.new.commits ≤ self.old.commits + 1 }
         ensures unchanged { OnErr result (self.new ≡ with_nothing_pending self.old) }
@@ -182,6 +187,6 @@ impl Editor {
         let all = self.recording(how);
         let draft = self.take_draft(alloc)?;
         let verdict = self.judge_draft(alloc, draft)?;
-        self.reply(alloc, verdict, None, all)
+        self.reply(alloc, verdict, None, all, told)
     }
 }

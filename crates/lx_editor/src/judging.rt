@@ -145,7 +145,11 @@ impl Editor {
         }
         let links = &frozen.state.links;
         match reconcile(alloc, &self.state.links, links, &frozen.marks, &self.view) {
-            Ok(batch) => Ok(Verdict::Commit { frozen, batch }),
+            Ok(batch) => Ok(Verdict::Commit {
+                frozen,
+                batch,
+                shown: None,
+            }),
             Err(Fault::Cause(cause)) => Ok(Verdict::Refused { cause, step: None }),
             Err(Fault::Memory) => Err(NoMemory),
         }

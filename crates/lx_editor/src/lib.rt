@@ -3,6 +3,7 @@
 #![tactic(auto)]
 
 mod answer;
+mod change;
 mod commanding;
 mod editor;
 mod gathering;
@@ -19,5 +20,6 @@ mod registering;
 mod turning;
 
 pub use answer::answer_line;
+pub use change::Change;
 pub use editor::Editor;
 pub use outcome::Outcome;

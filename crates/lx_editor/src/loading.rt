@@ -5,6 +5,7 @@ ghost use Rattle.std.specs.Prelude.{◌≡◌, IfOk};
 ghost use Rattle.lx_forest.specs.Lookups.{children_of};
 ghost use Rattle.lx_editor.specs.Judged.{with_leaves};
 
+use crate::change::Telling;
 use crate::editor::Editor;
 use crate::judging::{verdict_of, verdict_of_fault};
 use crate::leaving::rest;
@@ -32,7 +33,7 @@ fn with_children_gone(marks: &Marks, old: &Links) -> Result<Marks, NoMemory>
 }
 
 impl Editor {
-    ghost use Rattle.std.specs.Prelude.{ℕ, ◌+◌, ◌<◌, ◌≤◌, ◌≢◌, true, false, [], OnErr};
+    ghost use Rattle.std.specs.Prelude.{ℕ, ◌+◌, ◌<◌, ◌≤◌, ◌≢◌, true, false, [], None, OnOk, OnErr};
     ghost use Rattle.serde_json.specs.View.{view};
     ghost use Rattle.lx_node.specs.Limits.{most_key};
     ghost use Rattle.lx_node.specs.NamedTrees.{total};
@@ -42,6 +43,7 @@ impl Editor {
     ghost use Rattle.lx_editor.specs.Follows.{IsReplyOfLoad};
     ghost use Rattle.lx_editor.specs.Judged.{IsLeft, IsShownBy, HasGrown, IsJudged, IsWeighed, is_idle};
     ghost use Rattle.lx_editor.specs.Loaded.{IsLoaded, left_by_load};
+    ghost use Rattle.lx_editor.specs.Changes.{IsToldChange};
     ghost use Rattle.lx_editor.specs.Gathering.{recording};
     ghost use Rattle.lx_editor.specs.Updated.{left_of};
 
@@ -74,14 +76,17 @@ impl Editor {
         alloc: Global,
         document: &Value,
         how: Recording,
+        told: &mut Telling,
     ) -> Result<Vec<u8>, NoMemory>
         requires room { self.old.commits < last_u32 }
+        requires untold { told.old.change ≡ None }
+        ensures change { OnOk result (IsToldChange told.old.asked self.old told.new.change self.new) }
         ensures replies { IfOk result (λ reply. IsReplyOfLoad self.old (view document.now) how reply.items self.new) }
         ensures commits { self.new.commits ≤ self.old.commits + 1 }
         ensures unchanged { OnErr result (self.new ≡ self.old) }
     {
         let verdict = self.judge_load(alloc, document)?;
-        self.reply(alloc, verdict, None, how)
+        self.reply(alloc, verdict, None, how, told)
     }
 
     /// What loading a document comes to. It changes nothing.
@@ -112,7 +117,11 @@ impl Editor {
         let shown = with_children_gone(&frozen.marks, &self.state.links)?;
         let links = &frozen.state.links;
         match reconcile(alloc, &self.state.links, links, &shown, &self.view) {
-            Ok(batch) => Ok(Verdict::Commit { frozen, batch }),
+            Ok(batch) => Ok(Verdict::Commit {
+                frozen,
+                batch,
+                shown: Some(shown),
+            }),
             Err(Fault::Cause(cause)) => Ok(Verdict::Refused { cause, step: None }),
             Err(Fault::Memory) => Err(NoMemory),
         }

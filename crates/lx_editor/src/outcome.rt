@@ -1,5 +1,6 @@
 use lx_draft::{Frozen, State};
 use lx_host::Ops;
+use lx_marks::Marks;
 use lx_node::Cause;
 use lx_reconcile::Batch;
 use lx_step::Turn;
@@ -36,16 +37,20 @@ impl Outcome {
 /// What steps, a dispatch or a rule come to, before anything is changed.
 #[derive(Drop)]
 pub(crate) enum Verdict {
-    /// What they left is committed, with these operations.
+    /// What they left is committed, with these operations. The marks that cover the trees before and after are those that are
+    /// shown, where a document was loaded, and else those of what is frozen.
     Commit {
         frozen: Frozen,
         batch: Batch,
+        shown: Option<Marks>,
     },
-    /// The history goes to its next entry, a copy of which is this state, with these operations.
+    /// The history goes to its next entry, a copy of which is this state, with these operations. The marks cover the trees
+    /// before and after.
     Turned {
         turn: Turn,
         state: State,
         batch: Batch,
+        marks: Marks,
     },
     /// They are refused for a cause. The step, from 0, is the one that was refused, where it was one.
     Refused {

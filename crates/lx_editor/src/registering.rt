@@ -6,6 +6,7 @@ ghost use Rattle.lx_editor.specs.Editor.{built_in};
 ghost use Rattle.lx_editor.specs.Registered.{merging};
 ghost use Rattle.lx_editor.specs.Gathering.{recording};
 
+use crate::change::Telling;
 use crate::editor::Editor;
 use crate::outcome::{Outcome, Verdict};
 use crate::recording::Recording;
@@ -41,7 +42,7 @@ fn merged_at(moment: u64) -> Recording
 }
 
 impl Editor {
-    ghost use Rattle.std.specs.Prelude.{◌+◌, ◌<◌, ◌≤◌, if◌then◌else◌, true, false, OnOk, OnErr};
+    ghost use Rattle.std.specs.Prelude.{◌+◌, ◌<◌, ◌≤◌, if◌then◌else◌, true, false, None, OnOk, OnErr};
     ghost use Rattle.lx_step.specs.declared.rule.Rule.{Rule as RuleOf};
     ghost use Rattle.lx_editor.specs.Editor.{Editor as EditorOf};
     ghost use Rattle.lx_editor.specs.Registered.{IsRegistered, left_by_rule, left_for, unless_full, with_one_more, with_rule};
@@ -49,6 +50,7 @@ impl Editor {
     ghost use Rattle.lx_editor.specs.Gathering.{started_of};
     ghost use Rattle.lx_editor.specs.Judged.{IsJudged, is_refused};
     ghost use Rattle.lx_editor.specs.Follows.{IsReplyOfRule};
+    ghost use Rattle.lx_editor.specs.Changes.{IsToldChange};
 
     /// Registers a rule behind those that are registered. All nodes of its type in the tree are marked, which
     /// takes no count, and come to rest under all rules; what that makes of the state is committed, and goes into the
@@ -88,8 +90,11 @@ impl Editor {
         alloc: Global,
         rule: Rule,
         moment: u64,
+        told: &mut Telling,
     ) -> Result<Vec<u8>, NoMemory>
         requires room { self.old.commits < last_u32 }
+        requires untold { told.old.change ≡ None }
+        ensures change { OnOk result (IsToldChange told.old.asked self.old told.new.change self.new) }
         ensures replies { IfOk result (λ reply. IsReplyOfRule self.old rule moment reply.items self.new) }
         ensures commits { self.new.commits ≤ self.old.commits + 1 }
         ensures unchanged { OnErr result (self.new ≡ unless_full self.old) }
@@ -97,7 +102,7 @@ impl Editor {
         let how = self.recording(merged_at(moment));
         let verdict = self.judge_rule(alloc, rule)?;
         let refused = verdict.is_refused();
-        match self.reply(alloc, verdict, None, how) {
+        match self.reply(alloc, verdict, None, how, told) {
             Ok(reply) => Ok(reply),
             Err(error) => {
                 self.forget_unless(refused);

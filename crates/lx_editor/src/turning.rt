@@ -84,7 +84,12 @@ impl Editor {
         let state = entry.copy(alloc)?;
         let marks = differences(alloc, &self.state.links, &state.links)?;
         match reconcile(alloc, &self.state.links, &state.links, &marks, &self.view) {
-            Ok(batch) => Ok(Verdict::Turned { turn, state, batch }),
+            Ok(batch) => Ok(Verdict::Turned {
+                turn,
+                state,
+                batch,
+                marks,
+            }),
             Err(Fault::Cause(cause)) => Ok(Verdict::Refused { cause, step: None }),
             Err(Fault::Memory) => Err(NoMemory),
         }

@@ -44,7 +44,8 @@ fn tell_all<W: Write>(alloc: Global, out: &mut W) -> Result<()> {
     tell(out, "large document", large::type_into_last_text(alloc)?)
 }
 
-/// Makes the calls of updates that wait: two that are flushed, one that an undo drops, and one that a refused update drops.
+/// Makes the calls of updates that wait: two that are flushed, one that an undo drops, one that a refused update drops, and one
+/// that a line flushes, which tells what it changed.
 fn tell_waiting<W: Write>(alloc: Global, editor: &mut Editor, out: &mut W) -> Result<()> {
     tell(out, "defer", waiting::defer(alloc, editor, "Tomorrow")?)?;
     tell(out, "defer", waiting::defer(alloc, editor, "Today")?)?;
@@ -56,7 +57,9 @@ fn tell_waiting<W: Write>(alloc: Global, editor: &mut Editor, out: &mut W) -> Re
     tell(out, "counts", asking::counts(alloc, editor)?)?;
     tell(out, "defer", waiting::defer(alloc, editor, "Never")?)?;
     tell(out, "refused", editing::remove_missing(alloc, editor)?)?;
-    tell(out, "counts", asking::counts(alloc, editor)?)
+    tell(out, "counts", asking::counts(alloc, editor)?)?;
+    tell(out, "defer", waiting::defer(alloc, editor, "Done")?)?;
+    tell(out, "change", waiting::flush_by_line(alloc, editor)?)
 }
 
 /// Writes a line.

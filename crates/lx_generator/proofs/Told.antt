@@ -1,33 +1,25 @@
 -- What is told of the state at a session's end.
 use Rattle.std.proofs.Common.{◌≡◌, ◌∙◌, ℕ, false, List, length, subst, ◌-◌, ◌^◌, ◌<◌, ◌≤◌, [], ◌∷◌, Option, None, Some, refl, ap, arith}
 use Rattle.std.specs.Prelude.{min}
-use Rattle.std.specs.Option.{option_or}
-use Rattle.std.proofs.lemmas.Bool.Decides.{nat_tests}
 use Rattle.serde_json.specs.Data.{Data}
 use Rattle.serde_json.specs.Written.{compact_text, has_float}
-use Rattle.lx_node.specs.Limits.{last_u32, most_characters, most_depth, most_nodes}
+use Rattle.lx_node.specs.Limits.{last_u32, most_characters}
 use Rattle.lx_node.specs.NamedTrees.{total}
 use Rattle.lx_node.specs.Strings.{capped}
 use Rattle.lx_node.specs.Trees.{nil, tree}
-use Rattle.lx_node.specs.declared.cause.Cause.{Cause}
-use Rattle.lx_node.specs.declared.cause.Limit.{Limit}
-use Rattle.lx_node.specs.declared.cause.Limit.TheVariants.{Characters, Depth, Nodes}
 use Rattle.lx_host.specs.Hosts.{HostTree, shape_of}
 use Rattle.lx_host.specs.Html.{first_tree, html_of}
 use Rattle.lx_select.specs.declared.selection.Selection.{Selection}
-use Rattle.lx_forest.specs.Edits.{drop_detached}
 use Rattle.lx_forest.specs.Forest.{Forest}
 use Rattle.lx_forest.specs.Lookups.{roots}
 use Rattle.lx_forest.specs.Weights.{weight}
-use Rattle.lx_forest.proofs.Weights.{weight-preorder}
 use Rattle.lx_plain.specs.Allowed.{Shows}
 use Rattle.lx_plain.specs.Render.{render}
 use Rattle.lx_links.specs.Characters.{characters_in}
-use Rattle.lx_draft.specs.Faults.{over}
-use Rattle.lx_draft.specs.Freezing.{characters_at, tree_characters, tree_depth}
-use Rattle.lx_reconcile.proofs.StartEnd.{one_tree}
+use Rattle.lx_draft.specs.Freezing.{tree_characters}
 use Rattle.lx_editor.specs.Editor.{Editor, new_editor}
 use Rattle.lx_editor.specs.Standing.{IsState}
+use Rattle.lx_editor.proofs.Limits.{few_characters, all_in_tree}
 use Rattle.lx_words.specs.declared.options.Generated.{Generated}
 use Rattle.lx_generator.specs.declared.summary.Summary.{Summary}
 use Rattle.lx_generator.specs.declared.tally.Tally.{Tally}
@@ -35,32 +27,6 @@ use Rattle.lx_generator.specs.Sessions.{IsSession, IsTold, summary_of, view_text
 use Rattle.lx_generator.specs.Summaries.{summary_data, summary_text}
 
 -- ---- characters
-
-first_none : (a b : Option Cause) → option_or a b ≡ None → a ≡ None
-first_none None b e = refl
-first_none (Some cause) b e = absurd (cc)
-
-second_none : (a b : Option Cause) → option_or a b ≡ None → b ≡ None
-second_none None b e = e
-second_none (Some cause) b e = absurd (cc)
-
-within : (limit : Limit) (most n : ℕ) → most < 2 ^ 64 - 1 → over limit most n ≡ None → n ≤ most
-unfolding capped
-within limit most n small none = grind (arith, nat_tests)
-
--- a state that may be committed has no more characters than it may have
-few_characters : (f : Forest) (s : Selection) (k : ℕ) → IsState f s k → tree_characters f ≤ most_characters
-few_characters f s k state =
-    let size = second_none (over Depth most_depth (tree_depth f)) _ state.within in
-    let long = second_none (over Nodes most_nodes (total f)) _ size in
-    within Characters most_characters (tree_characters f) (omega arith) (first_none (over Characters most_characters (tree_characters f)) _ long)
-
--- all characters are those of its one tree
-all_in_tree : (f : Forest) (s : Selection) (k : ℕ) → IsState f s k → tree_characters f ≡ weight characters_in f
-unfolding drop_detached
-all_in_tree f s k state =
-    weight-preorder characters_in (characters_at f) f state.in_order (λ q spot e. rw e refl)
-    ∙ ap (weight characters_in) (one_tree f state.in_order state.alone)
 
 pub characters_are : (f : Forest) (s : Selection) (k : ℕ) → IsState f s k → min (weight characters_in f) last_u32 ≡ tree_characters f
 characters_are f s k state =

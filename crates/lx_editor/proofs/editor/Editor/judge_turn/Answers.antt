@@ -4,7 +4,7 @@ use Rattle.lx_draft.specs.declared.state.State.{State}
 use Rattle.lx_history.specs.History.{entry_of}
 use Rattle.lx_editor.specs.Editor.{Editor}
 use Rattle.lx_editor.specs.Standing.{editor_of, HasKinds, IsEntry}
-use Rattle.lx_editor.specs.Judged.{MayTurn}
+use Rattle.lx_editor.specs.Judged.{MayTurn, IsCoveredBy}
 use Rattle.lx_editor.proofs.Turned.{entry_kept, next_copied, keeps_kinds, known_allowed, known_few}
 use Rattle.lx_editor.proofs.editor.Editor.judge_turn.Goals as goal
 use Rattle.lx_editor.proofs.editor.Editor.judge_turn.Goals.{After-copy}
@@ -54,4 +54,8 @@ returns-in-Ok c =
       allowed = known_allowed _ _ _ c.in_ok-marks.ensures.known _ batch.ops c.in-Ok.ensures.allowed;
       few = known_few _ _ _ c.in_ok-marks.ensures.known batch.reads c.in-Ok.ensures.few;
     } in
-    (refl, subst (λ (e : Editor). MayTurn e c.args.turn c.in_ok-state.state batch) c.self.view_is may)
+    let covered = c.in_ok-marks.ensures.covered (keeps_kinds c.self.invariant.kept.kinds _ _ c.self.invariant.kept.now (kept at _ copy.links copy.selection).1) in (
+      refl,
+      subst (λ (e : Editor). MayTurn e c.args.turn c.in_ok-state.state batch) c.self.view_is may,
+      subst (λ (e : Editor). IsCoveredBy e c.in_ok-state.state.links c.in_ok-marks.marks) c.self.view_is covered,
+    )

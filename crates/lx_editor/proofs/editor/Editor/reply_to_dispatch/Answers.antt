@@ -3,7 +3,8 @@ use Rattle.lx_script.specs.Replies.{reply_text}
 use Rattle.lx_editor.specs.Follows.{view_told}
 use Rattle.lx_editor.specs.Dispatched.{IsDispatched, answer_by, unless_refused}
 use Rattle.lx_editor.proofs.Judged.{may_conclude_answer, answer_taken_in, handled_told}
-use Rattle.lx_editor.proofs.Told.{told}
+use Rattle.lx_editor.proofs.Changed.{told_from, uncommitted_pending}
+use Rattle.lx_editor.proofs.Told.{told, told_ok}
 use Rattle.lx_editor.proofs.Waiting.{gathering_told}
 use Rattle.lx_editor.proofs.editor.Editor.reply_to_dispatch.Goals as goal
 
@@ -24,3 +25,10 @@ returns-clause-replies c =
           c.take_draft.ensures.taken c.in_ok-draft.ensures.begun c.recording-all.ensures (gathering_told c.args.self.now c.gathered-gathering.result c.gathered-gathering.ensures) c.in_ok-verdict.ensures done,
       text ∙ ap reply_text (handled_told outcome (view_told c.reply.new.self) handled),
     ))
+
+pub returns-clause-change : goal.returns-clause-change
+returns-clause-change c =
+    let old = c.args.self.now in
+    let mid = c.take_draft.new.self in
+    told_ok c.reply.result _ _ c.reply.ensures.change
+    (λ change. told_from c.args.told.now.asked old mid c.reply.new.told.change c.reply.new.self (uncommitted_pending old mid c.take_draft.ensures.taken) change)

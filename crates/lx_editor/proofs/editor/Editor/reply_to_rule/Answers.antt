@@ -1,8 +1,9 @@
 use Rattle.std.proofs.Common.{◌≡◌, ◌∙◌, ap, subst, arith}
 use Rattle.lx_editor.specs.Editor.{Editor}
 use Rattle.lx_editor.specs.Gathering.{recording, recording_all}
-use Rattle.lx_editor.specs.Judged.{IsConcluded}
+use Rattle.lx_editor.specs.Judged.{IsConcluded, is_refused}
 use Rattle.lx_editor.specs.Registered.{IsRegistered, left_by_rule, merging, unless_full}
+use Rattle.lx_editor.proofs.Changed.{told_from, uncommitted_rule}
 use Rattle.lx_editor.proofs.Judged.{rule_concluded}
 use Rattle.lx_editor.proofs.Waiting.{rule_given_up}
 use Rattle.lx_editor.proofs.editor.Editor.reply_to_rule.Goals as goal
@@ -18,6 +19,12 @@ returns-in-Ok-clause-replies c =
           (subst (λ how. IsConcluded c.judge_rule.new.self how c.in_ok-verdict.verdict outcome c.reply.new.self) (c.recording-how.ensures ∙ ap (recording_all old) c.merged_at.ensures) done),
       text,
     )
+
+pub returns-in-Ok-clause-change : goal.returns-in-Ok-clause-change
+returns-in-Ok-clause-change c =
+    let old = c.args.self.now in
+    let mid = c.judge_rule.new.self in
+    told_from c.args.told.now.asked old mid c.reply.new.told.change c.reply.new.self (uncommitted_rule (is_refused c.in_ok-verdict.verdict) old mid c.args.rule c.in_ok-verdict.ensures.rules) c.in-Ok.ensures.change
 
 pub returns-in-Err-clause-unchanged : goal.returns-in-Err-clause-unchanged
 returns-in-Err-clause-unchanged c =

@@ -1,11 +1,11 @@
-use Rattle.std.proofs.Common.{◌≡◌, ◌≤◌, None, Some, refl, subst}
+use Rattle.std.proofs.Common.{◌≡◌, ◌∙◌, ◌≤◌, None, Some, refl, sym, ap, subst}
 use Rattle.lx_forest.specs.Lookups.{children_of}
 use Rattle.lx_marks.specs.Marks.{Marked, is_noted}
 use Rattle.lx_reconcile.specs.Allowing.{marking, IsAllowed}
 use Rattle.lx_editor.specs.Editor.{Editor}
 use Rattle.lx_editor.specs.Standing.{editor_of}
 use Rattle.lx_editor.specs.Updated.{left_of, hosts_fault, most_reads}
-use Rattle.lx_editor.specs.Judged.{with_leaves}
+use Rattle.lx_editor.specs.Judged.{with_leaves, IsCoveredBy}
 use Rattle.lx_editor.proofs.Shown.{is_anew, may_commit}
 use Rattle.lx_editor.proofs.editor.Editor.weigh_load.Goals as goal
 
@@ -24,7 +24,11 @@ returns-in-Ok-clause-weighed c =
     let few : batch.reads ≤ most_reads now.tree links (is_noted (with_leaves (children_of now.tree 0) frozen.marks)) =
     subst (λ (d : Editor). batch.reads ≤ most_reads d.tree links (is_noted (with_leaves (children_of d.tree 0) frozen.marks))) c.self.view_is
     (subst (λ (m : Marked). batch.reads ≤ most_reads e.tree links (is_noted m)) shown c.in-Ok.ensures.few) in
-    (refl, may_commit now (left_of now.rules frozen) (with_leaves (children_of now.tree 0) frozen.marks) batch c.requires.left c.requires.anew c.requires.shown ids c.requires.grown allowed few)
+    let gone : c.in_ok-shown.shown ≡ with_leaves (children_of now.tree 0) frozen.marks = shown ∙ ap (λ (d : Editor). with_leaves (children_of d.tree 0) frozen.marks) c.self.view_is in (
+      refl,
+      may_commit now (left_of now.rules frozen) (with_leaves (children_of now.tree 0) frozen.marks) batch c.requires.left c.requires.anew c.requires.shown ids c.requires.grown allowed few,
+      subst (IsCoveredBy now links) (sym gone) c.requires.shown.covered,
+    )
 
 pub returns-in-Err-Cause-clause-weighed : goal.returns-in-Err-Cause-clause-weighed
 returns-in-Err-Cause-clause-weighed c =
