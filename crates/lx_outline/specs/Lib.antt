@@ -1,0 +1,4 @@
+pub mod Events
+pub mod Outline
+pub mod Parts
+pub mod Reading

@@ -1,0 +1,127 @@
+//! The events of a commit, from the marks that cover its two trees.
+
+ghost use Rattle.std.specs.Prelude.{◌≡◌, ℕ, true, false, [], ◌∷◌, IfOk, OnOk};
+ghost use Rattle.lx_node.specs.Siblings.{is_among};
+ghost use Rattle.lx_forest.specs.Lookups.{has, roots, IsForest};
+ghost use Rattle.lx_plain.specs.Allowed.{AreCovered};
+ghost use Rattle.lx_marks.specs.Marks.{is_touched, is_noted};
+ghost use Rattle.lx_outline.specs.Events.{IsCreated, IsUpdated, AreEvents};
+ghost use Rattle.lx_outline.specs.Parts.{IsPart, AreGone, HasLeft, Grows};
+
+use crate::differing::{has_left, is_created, is_updated};
+use crate::event::Event;
+use crate::keys::{Change, Keys};
+use lx_draft::State;
+use lx_links::Links;
+use lx_marks::Marks;
+use lx_node::{Key, NoMemory};
+use std::alloc::Global;
+
+/// The marked keys that the second tree alone has.
+fn created_among(
+    alloc: Global,
+    before: &Links,
+    after: &Links,
+    marked: &[Key],
+) -> Result<Keys, NoMemory>
+    ensures { IfOk result (λ keys. IsPart (IsCreated before.now after.now) marked.now keys) }
+{
+    let mut keys = Keys::new(alloc);
+    for key in marked {
+        keys.insert_if(is_created(before, after, *key), *key)?;
+    }
+    Ok(keys)
+}
+
+/// The marked keys whose nodes are others in the second tree.
+fn updated_among(
+    alloc: Global,
+    before: &Links,
+    after: &Links,
+    marked: &[Key],
+) -> Result<Keys, NoMemory>
+    ensures { IfOk result (λ keys. IsPart (IsUpdated before.now after.now) marked.now keys) }
+{
+    let mut keys = Keys::new(alloc);
+    for key in marked {
+        keys.insert_if(is_updated(before, after, *key), *key)?;
+    }
+    Ok(keys)
+}
+
+/// Adds the keys of a tree, where it is gone, but for what went elsewhere: what is below a node comes before it.
+fn add_gone(before: &Links, after: &Links, key: Key, keys: &mut Keys) -> Result<(), NoMemory>
+    requires there { has key before.now ≡ true }
+    requires gone { AreGone before.now after.now keys.old }
+    ensures gone { OnOk result (AreGone before.now after.now keys.new) }
+    ensures grows { OnOk result (Grows keys.old keys.new) }
+    ensures told { OnOk result (has key after.now ≡ false → is_among key keys.new ≡ true) }
+{
+    if after.has(key) {
+        return Ok(());
+    }
+    for child in before.children(key) {
+        add_gone(before, after, child, keys)?;
+    }
+    keys.insert(key)
+}
+
+/// Adds what went with a node, where it is gone and its parent is still there.
+fn add_what_left(before: &Links, after: &Links, key: Key, keys: &mut Keys) -> Result<(), NoMemory>
+    requires gone { AreGone before.now after.now keys.old }
+    ensures gone { OnOk result (AreGone before.now after.now keys.new) }
+    ensures grows { OnOk result (Grows keys.old keys.new) }
+    ensures told { OnOk result (HasLeft before.now after.now key → is_among key keys.new ≡ true) }
+{
+    if has_left(before, after, key) {
+        return add_gone(before, after, key, keys);
+    }
+    Ok(())
+}
+
+/// The keys of the nodes that are gone. Of a tree that is gone only its top has a parent that is still there, so only that
+/// need be marked.
+fn destroyed_from(
+    alloc: Global,
+    before: &Links,
+    after: &Links,
+    marked: &[Key],
+) -> Result<Keys, NoMemory>
+    ensures gone { IfOk result (λ keys. AreGone before.now after.now keys) }
+    ensures told { IfOk result (λ keys. (q : ℕ) → is_among q marked.now ≡ true → HasLeft before.now after.now q → is_among q keys ≡ true) }
+{
+    let mut keys = Keys::new(alloc);
+    for key in marked {
+        add_what_left(before, after, *key, &mut keys)?;
+    }
+    Ok(keys)
+}
+
+/// What a commit did to the nodes of a tree, whose marks cover the trees before and after: which were destroyed, which were
+/// created and which were updated, each part in ascending order of keys. It costs a look at each marked node and at each that
+/// is gone, and for marked nodes with as many children as before a look at these.
+pub fn events(
+    alloc: Global,
+    before: &State,
+    after: &State,
+    marks: &Marks,
+) -> Result<Vec<Event>, NoMemory>
+    requires before { IsForest before.now.links }
+    requires after { IsForest after.now.links }
+    requires one_tree { roots before.now.links ≡ 0 ∷ [] }
+    requires covered { AreCovered before.now.links after.now.links (record { touched = is_touched marks.now; noted = is_noted marks.now }) }
+    ensures { IfOk result (λ events. AreEvents before.now.links after.now.links events.items) }
+{
+    let keys = marks.keys()?;
+    let marked = keys.as_slice();
+    let old = &before.links;
+    let new = &after.links;
+    let destroyed = destroyed_from(alloc, old, new, marked)?;
+    let created = created_among(alloc, old, new, marked)?;
+    let updated = updated_among(alloc, old, new, marked)?;
+    let mut events = Vec::new(alloc);
+    destroyed.tell(Change::Destroyed, &mut events)?;
+    created.tell(Change::Created, &mut events)?;
+    updated.tell(Change::Updated, &mut events)?;
+    Ok(events)
+}
