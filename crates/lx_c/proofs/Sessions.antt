@@ -2,7 +2,7 @@
 use Rattle.std.proofs.Common.{◌≡◌, ◌⊎◌, inl, inr, ℕ, Option, Some, List, [], take, refl, sym, ap, ◌∙◌, subst}
 use Rattle.lx_io.specs.Devices.{Appends}
 use Rattle.lx_words.specs.declared.options.Mode.{Mode}
-use Rattle.lx_words.specs.declared.options.Mode.TheVariants.{Plain, Hub, Generate}
+use Rattle.lx_words.specs.declared.options.Mode.TheVariants.{Plain, Hub, Outline, Generate}
 use Rattle.lx_cli.specs.Generating.{mode_for, RunsBy, RunsAsAsked}
 use Rattle.lx_cli.specs.Run.{SourceSeen, SinkSeen, Seen}
 use Rattle.lx_cli.specs.Ends.{number_of_status}
@@ -19,6 +19,7 @@ with_taken taken faults writes = record { taken = Some taken; faults = faults; w
 appended : (mode : Mode) (status : Status) (seen : Seen) → RunsBy mode status seen → Appends seen.sink_before.taken seen.sink_after.taken seen.written
 appended Plain status seen run = run.appends
 appended Hub status seen run = run.appends
+appended Outline status seen run = run.appends
 appended (Generate session) status seen run = run.appends
 
 -- what a run over memory wrote is what its sink has taken

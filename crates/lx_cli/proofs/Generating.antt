@@ -2,7 +2,7 @@
 use Rattle.std.proofs.Common.{◌≡◌, ℕ, true, false, ◌+◌, inl, inr, List, [], ◌∷◌, ◌++◌, length, refl, ap, subst, arith}
 use Rattle.lx_words.specs.declared.options.Generated.{Generated}
 use Rattle.lx_words.specs.declared.options.Mode.{Mode}
-use Rattle.lx_words.specs.declared.options.Mode.TheVariants.{Plain, Hub, Generate}
+use Rattle.lx_words.specs.declared.options.Mode.TheVariants.{Plain, Hub, Outline, Generate}
 use Rattle.lx_words.specs.Words.{are_taken, asked_for, delay_in}
 use Rattle.lx_generator.specs.Sessions.{IsTold}
 use Rattle.lx_cli.specs.declared.status.Status.{Status}
@@ -99,6 +99,7 @@ RunsAsAsked-none words q s = go (mode_for words)
     go : (mode : Mode) → RunsBy mode Memory (worded words [] [] q q s s)
     go Plain = IsAnsweredRun-none (Follows (begun_with words)) (begun_with words, (refl, refl)) words q s
     go Hub = IsAnsweredRun-none (FollowsIn (served_with words)) (served_with words, (refl, refl)) words q s
+    go Outline = IsAnsweredRun-none (FollowsIn (served_with words)) (served_with words, (refl, refl)) words q s
     go (Generate session) = IsGeneratedRun-none session words q s
 
 -- the summary and a line end are written

@@ -9,7 +9,7 @@ use Rattle.lx_cli.specs.Run.{begun_with, served_with, Seen, Ends, IsAnsweredRun}
 use Rattle.lx_cli.specs.Generating.{GeneratedEnds, IsGeneratedRun, RunsAsAsked, RunsBy, mode_for}
 use Rattle.lx_words.specs.declared.options.Generated.{Generated}
 use Rattle.lx_words.specs.declared.options.Mode.{Mode}
-use Rattle.lx_words.specs.declared.options.Mode.TheVariants.{Plain, Hub, Generate}
+use Rattle.lx_words.specs.declared.options.Mode.TheVariants.{Plain, Hub, Outline, Generate}
 
 HasRisen-none : (old new : ℕ) → old ≡ 0 → new ≡ 0 → HasRisen old new → ⊥
 HasRisen-none old new before after risen = elim risen [ inl p ↦ omega arith | inr p ↦ omega arith ]
@@ -30,6 +30,7 @@ RunsBy-sure : (mode : Mode) (status : Status) (run : Seen) → RunsBy mode statu
     → status ≢ ReadFault
 RunsBy-sure Plain status run p before after = IsAnsweredRun-sure (Follows (begun_with run.words)) status run p before after
 RunsBy-sure Hub status run p before after = IsAnsweredRun-sure (FollowsIn (served_with run.words)) status run p before after
+RunsBy-sure Outline status run p before after = IsAnsweredRun-sure (FollowsIn (served_with run.words)) status run p before after
 RunsBy-sure (Generate session) status run p before after = IsGeneratedRun-sure status session run p
 
 pub RunsAsAsked-sure : (status : Status) (run : Seen) → RunsAsAsked status run → run.source_before.faults ≡ 0 → run.source_after.faults ≡ 0

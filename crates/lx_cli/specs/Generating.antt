@@ -1,9 +1,10 @@
--- What a run may be for all words: over the input, with views that lag or without, or of a session that is generated.
+-- What a run may be for all words: over the input, with views that lag, with an outline or with neither, or of a session that is
+-- generated.
 use Rattle.std.specs.Prelude.{◌≡◌, ◌<◌, ◌⊎◌, ℕ, ◌+◌, List, [], ◌∷◌, ◌++◌, length, if◌then◌else◌}
 use Rattle.lx_io.specs.Devices.{Appends, HasRisen, IsCounted, last_count}
 use Rattle.lx_words.specs.declared.options.Generated.{Generated}
 use Rattle.lx_words.specs.declared.options.Mode.{Mode}
-use Rattle.lx_words.specs.declared.options.Mode.TheVariants.{Plain, Hub, Generate}
+use Rattle.lx_words.specs.declared.options.Mode.TheVariants.{Plain, Hub, Outline, Generate}
 use Rattle.lx_words.specs.Words.{are_taken, asked_for, delay_in}
 use Rattle.lx_generator.specs.Sessions.{IsTold}
 use Rattle.lx_cli.specs.Run.{Seen, IsFaultless, IsRun, IsServedRun}
@@ -53,10 +54,12 @@ pub record IsGeneratedRun (status : Status) (session : Generated) (run : Seen) :
 abbrev pub mode_for : List (List ℕ) → Mode
 mode_for words = if are_taken words then (asked_for words).mode else Plain
 
--- A run as its mode has it: the input is answered, or so is one with lines about views among it, or a session is generated.
+-- A run as its mode has it: the input is answered, with lines about views or about the outline among it in their modes, or a session
+-- is generated.
 abbrev pub RunsBy : Mode → Status → Seen → Type 0
 RunsBy Plain status run = IsRun status run
 RunsBy Hub status run = IsServedRun status run
+RunsBy Outline status run = IsServedRun status run
 RunsBy (Generate session) status run = IsGeneratedRun status session run
 
 -- a run as its words have it

@@ -18,9 +18,10 @@ use std::alloc::Global;
 /// Runs the program: answers each line of the source into the sink. The words are those of the command line behind the
 /// program's name: `--view`, under which replies to commits tell the view, and `--delay` with a number of milliseconds
 /// from 0 to 86,400,000, in which typing goes on in one entry of the history. With `--hub`, which may stand beside both,
-/// each commit is published to views that lag behind, and lines about views are answered too. With `--generate`, a number of
-/// lines from 1 to 20,000, and `--seed`, a number up to 4,294,967,295, nothing is read: a session is generated and run, and
-/// its summary is written. Other words are refused, and nothing is read or written.
+/// each commit is published to views that lag behind, and lines about views are answered too. With `--outline`, likewise, an
+/// outline follows each commit, and lines that ask about it are answered too. With `--generate`, a number of lines from 1 to
+/// 20,000, and `--seed`, a number up to 4,294,967,295, nothing is read: a session is generated and run, and its summary is
+/// written. Other words are refused, and nothing is read or written.
 pub fn run<S: Source, K: Sink>(
     alloc: Global,
     words: &[String],
@@ -41,6 +42,7 @@ pub fn run<S: Source, K: Sink>(
         Ok(options) => match options.mode {
             Mode::Plain => serve(alloc, options, source, sink),
             Mode::Hub => serve(alloc, options, source, sink),
+            Mode::Outline => serve(alloc, options, source, sink),
             Mode::Generate(session) => generate(alloc, session, options.delay, sink),
         },
         Err(Refused::Usage) => Status::Usage,

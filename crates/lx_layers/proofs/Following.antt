@@ -85,20 +85,20 @@ pub answers_no_json : (old new : Editor) (bytes text : List ℕ) (cause : Cause)
 unfolding Answers
 answers_no_json old new bytes text cause refused told same = (Err cause, tells_of_no_json bytes (fault.Cause cause) refused, (told, same))
 
--- no line of the hub's own
-no_json_other : (bytes : List ℕ) (cause : Cause) → TellsNoJson bytes (fault.Cause cause) → IsOther (codes "hub") bytes
-no_json_other bytes BadLine refused = λ value is. absurd (refused value is)
-no_json_other bytes other refused = absurd refused
+-- no line of a layer's own
+pub no_json_other : (name bytes : List ℕ) (cause : Cause) → TellsNoJson bytes (fault.Cause cause) → IsOther name bytes
+no_json_other name bytes BadLine refused = λ value is. absurd (refused value is)
+no_json_other name bytes other refused = absurd refused
 
 pub beside_no_json : (old new : Editor) (h g : Hub) (bytes text : List ℕ) (cause : Cause) → TellsNoJson bytes (fault.Cause cause)
     → text ≡ reply_text (reply.Refused cause None) → new ≡ old → g ≡ h → AnswersIn (with_hub old h) bytes text (with_hub new g)
 beside_no_json old new h g bytes text cause refused told same still =
-    beside_views old new h g bytes text (no_json_other bytes cause refused) (answers_no_json old new bytes text cause refused told same) (followed_still old new h g same still)
+    beside_views old new h g bytes text (no_json_other (codes "hub") bytes cause refused) (answers_no_json old new bytes text cause refused told same) (followed_still old new h g same still)
 
 -- ---- lines by their values
 
 -- one value is read of bytes
-one_value : (bytes : List ℕ) (value other : Data) → IsJson bytes value → IsJson bytes other → value ≡ other
+pub one_value : (bytes : List ℕ) (value other : Data) → IsJson bytes value → IsJson bytes other → value ≡ other
 one_value bytes value other is also = let same : Some value ≡ Some other = sym is.1 ∙ also.1 in cc
 
 beside_member : (asked : Option Data) (old new : Editor) (h g : Hub) (bytes text : List ℕ) (value : Data) → IsJson bytes value → sole_member (codes "hub") value ≡ asked

@@ -4,3 +4,6 @@ pub mod Left
 pub mod Plain
 pub mod Showing
 pub mod Following
+pub mod Noted
+pub mod Within
+pub mod Whole

@@ -7,7 +7,7 @@ use Rattle.lx_editor.specs.Editor.{Editor}
 use Rattle.lx_editor.specs.Follows.{Answers, Follows}
 use Rattle.lx_layers.specs.declared.layer.Layer.{Layer}
 use Rattle.lx_layers.specs.declared.layer.Layer.TheVariants as layer
-use Rattle.lx_layers.specs.Served.{Served, plain, new_layer, new_served, AnswersIn, by_editor, about_views, beside_views, FollowsIn, FollowsInTo, made_in, spent}
+use Rattle.lx_layers.specs.Served.{Served, plain, new_layer, new_served, AnswersIn, by_editor, about_views, beside_views, about_outline, beside_outline, FollowsIn, FollowsInTo, made_in, spent}
 
 -- ---- nothing beside the editor
 
@@ -21,6 +21,8 @@ plainly : (s t : Served) (line bytes : List ℕ) → AnswersIn s line bytes t �
 plainly _ _ _ _ (by_editor old new line bytes answers) is = record { editor = new; made = refl; answers = answers }
 plainly _ _ _ _ (about_views e h line asked own) is = absurd (cc)
 plainly _ _ _ _ (beside_views old new h g line bytes other answers followed) is = absurd (cc)
+plainly _ _ _ _ (about_outline e o line asked own) is = absurd (cc)
+plainly _ _ _ _ (beside_outline old new o p line bytes other answers noted) is = absurd (cc)
 
 follows_to : (e : Editor) (lines : List (List ℕ)) (bytes : List ℕ) (t : Served) → FollowsInTo (plain e) lines bytes t → Follows e lines bytes
 follows_to e [] bytes t p = (e, (p.0, refl))
@@ -45,6 +47,7 @@ answered_plain old new l line bytes is answers =
 none_made : (m : Mode) → made_in (new_layer m) ≡ 0
 none_made mode.Plain = refl
 none_made mode.Hub = refl
+none_made mode.Outline = refl
 none_made (mode.Generate session) = refl
 
 pub spent_new : (options : Options) → spent (new_served options) ≡ 0

@@ -20,7 +20,7 @@ use Rattle.lx_layers.specs.declared.layer.Layer.{Layer}
 use Rattle.lx_layers.specs.declared.layer.Layer.TheVariants as layer
 use Rattle.lx_layers.specs.Asked.{about_views as asked_about}
 use Rattle.lx_layers.specs.Replies.{hub_by}
-use Rattle.lx_layers.specs.Served.{Served, with_hub, new_layer, new_served, ops_told, IsFollowedBy, AnswersIn, by_editor, about_views, beside_views, FollowsInTo}
+use Rattle.lx_layers.specs.Served.{Served, with_hub, new_layer, new_served, ops_told, IsFollowedBy, AnswersIn, by_editor, about_views, beside_views, about_outline, beside_outline, FollowsInTo}
 use Rattle.lx_layers.specs.Shown.{LeadsThrough, SomeServed, IsOfCommit, ViewsShow}
 use Rattle.lx_layers.proofs.Moving.{HasStayed, HasCommitted, Moves, moves_answers}
 
@@ -183,6 +183,8 @@ step _ _ _ _ passed (by_editor old new line bytes answers) along = absurd (let n
 step _ _ _ _ passed (about_views e h line asked own) along =
     let same : h ≡ along.hub = let is : layer.Hub h ≡ layer.Hub along.hub = along.beside in cc in
     about_along (asked_about asked) e h passed along.events (same ∙ along.made) along.known
+step _ _ _ _ passed (about_outline e o line asked own) along = absurd (let no : layer.Outline o ≡ layer.Hub along.hub = along.beside in cc)
+step _ _ _ _ passed (beside_outline old new o p line bytes other answers noted) along = absurd (let no : layer.Outline o ≡ layer.Hub along.hub = along.beside in cc)
 step _ _ _ _ passed (beside_views old new h g line bytes other answers followed) along =
     let same : h ≡ along.hub = let is : layer.Hub h ≡ layer.Hub along.hub = along.beside in cc in
     moved_along old new h g passed along.events (same ∙ along.made) along.known (moves_answers old line bytes new answers) followed

@@ -1,4 +1,4 @@
--- What lines about views ask for, over JSON values.
+-- What lines about views, and about the outline, ask for, over JSON values.
 use Rattle.std.specs.Prelude.{◌≡◌, ℕ, List, [], ◌∷◌, codes, if◌then◌else◌, Option, None, Some, option_map, option_and_then}
 use Rattle.std.specs.Option.{option_or}
 use Rattle.std.specs.Str.{bytes_eq}
@@ -9,6 +9,8 @@ use Rattle.lx_script.specs.Grammar.{IsJson}
 use Rattle.lx_script.specs.Values.{named, number_within}
 use Rattle.lx_layers.specs.declared.asking.AboutViews.{AboutViews}
 use Rattle.lx_layers.specs.declared.asking.AboutViews.TheVariants.{Attach, Deliver, Html, Detach}
+use Rattle.lx_layers.specs.declared.asking.AboutOutline.{AboutOutline}
+use Rattle.lx_layers.specs.declared.asking.AboutOutline.TheVariants.{Headings, LastEvents}
 
 -- ---- which lines
 
@@ -47,3 +49,12 @@ about_one items = None
 -- what the value of the layer's member asks for, if it is of one of these forms
 abbrev pub about_views : Data → Option AboutViews
 about_views d = option_or (named attaching d) (option_and_then about_one (as_array d))
+
+-- ---- what lines about the outline ask for: "outline" or "events"
+
+abbrev pub of_outline : List (List ℕ × AboutOutline)
+of_outline = (codes "outline", Headings) ∷ (codes "events", LastEvents) ∷ []
+
+-- what the value of the layer's member asks for, if it is one of these words
+abbrev pub about_outline : Data → Option AboutOutline
+about_outline d = named of_outline d

@@ -1,5 +1,6 @@
 pub mod Asked
 pub mod Replies
+pub mod Outlining
 pub mod Served
 pub mod Passing
 pub mod Shown

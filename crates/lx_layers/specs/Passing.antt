@@ -1,4 +1,4 @@
--- How a hub follows an editor. Only this crate's own contracts cite it.
+-- How a hub, or an outline, follows an editor. Only this crate's own contracts cite it.
 use Rattle.std.specs.Prelude.{◌≡◌, ◌≢◌, ℕ, ◌+◌, List, codes, Option, None, Some}
 use Rattle.serde_json.specs.Data.{Data}
 use Rattle.lx_host.specs.Hosts.{Leads}
@@ -9,7 +9,8 @@ use Rattle.lx_editor.specs.Editor.{Editor}
 use Rattle.lx_editor.specs.Follows.{Answers}
 use Rattle.lx_layers.specs.Asked.{sole_member}
 use Rattle.lx_layers.specs.Replies.{views_text, hub_after_line}
-use Rattle.lx_layers.specs.Served.{AreLevel, IsFollowedBy}
+use Rattle.lx_layers.specs.Outlining.{OutlinedView, outline_text}
+use Rattle.lx_layers.specs.Served.{AreLevel, IsFollowedBy, IsNotedBy}
 
 -- The editor has one commit more than the hub has batches, and its last operations lead from the hub's tip to its view.
 pub record IsAhead (e : Editor) (h : Hub) : Type 0 where
@@ -30,3 +31,13 @@ AnswersMember None value old h bytes new g = ((line : List ℕ) → IsJson line 
 
 abbrev pub AnswersValue : Data → Editor → Hub → List ℕ → Editor → Hub → Type 0
 AnswersValue value old h bytes new g = AnswersMember (sole_member (codes "hub") value) value old h bytes new g
+
+-- ---- an outline beside an editor
+
+-- what the two may answer to a value, by that of its only member where it has the outline's name
+abbrev pub NotesMember : Option Data → Data → Editor → OutlinedView → List ℕ → Editor → OutlinedView → Type 0
+NotesMember (Some asked) value old o bytes new p = (bytes ≡ outline_text asked old.tree o.events) × (new ≡ old) × (p ≡ o)
+NotesMember None value old o bytes new p = ((line : List ℕ) → IsJson line value → Answers old line bytes new) × IsNotedBy old new o p
+
+abbrev pub NotesValue : Data → Editor → OutlinedView → List ℕ → Editor → OutlinedView → Type 0
+NotesValue value old o bytes new p = NotesMember (sole_member (codes "ask") value) value old o bytes new p

@@ -7,12 +7,15 @@ use Rattle.lx_editor.specs.Editor.{Editor, new_editor}
 use Rattle.lx_editor.specs.Follows.{Answers}
 use Rattle.lx_editor.specs.Gathering.{IsLeftWithout}
 use Rattle.lx_hub.specs.Hub.{Hub, new_hub, published}
+use Rattle.lx_outline.specs.Events.{AreEvents}
+use Rattle.lx_outline.specs.Outline.{IsOutlineOf}
 use Rattle.lx_words.specs.declared.options.Options.{Options}
 use Rattle.lx_words.specs.declared.options.Mode.{Mode}
 use Rattle.lx_words.specs.declared.options.Mode.TheVariants as mode
 use Rattle.lx_layers.specs.declared.layer.Layer.{Layer}
 use Rattle.lx_layers.specs.declared.layer.Layer.TheVariants as layer
 use Rattle.lx_layers.specs.Asked.{IsOwn, IsOther}
+use Rattle.lx_layers.specs.Outlining.{OutlinedView, new_outlined, outline_text}
 use Rattle.lx_layers.specs.Replies.{views_text, hub_after_line}
 
 -- an editor, and what stands beside it
@@ -26,10 +29,14 @@ plain e = record { editor = e; layer = layer.Plain }
 abbrev pub with_hub : Editor → Hub → Served
 with_hub e h = record { editor = e; layer = layer.Hub h }
 
+abbrev pub with_outline : Editor → OutlinedView → Served
+with_outline e o = record { editor = e; layer = layer.Outline o }
+
 -- what stands beside a new editor in a mode; a session that is generated has nothing there
 abbrev pub new_layer : Mode → Layer
 new_layer mode.Plain = layer.Plain
 new_layer mode.Hub = layer.Hub new_hub
+new_layer mode.Outline = layer.Outline new_outlined
 new_layer (mode.Generate session) = layer.Plain
 
 abbrev pub new_served : Options → Served
@@ -42,9 +49,10 @@ pub record AreLevel (e : Editor) (h : Hub) : Type 0 where
   pub tip : h.tip ≡ e.view
   pub commits : h.commits ≡ e.commits
 
--- what holds of the two
+-- what holds of an editor and of what stands beside it: a hub is level with it, and an outline is that of its tree
 abbrev pub IsBeside : Editor → Layer → Type 0
 IsBeside e (layer.Hub h) = AreLevel e h
+IsBeside e (layer.Outline o) = IsOutlineOf o.outline e.tree
 IsBeside e other = Unit {0}
 
 abbrev pub ops_told : Option Told → List Op
@@ -56,16 +64,30 @@ pub record IsFollowedBy (old new : Editor) (h g : Hub) : Type 0 where
   pub published : new.commits ≡ old.commits + 1 → g ≡ published (ops_told new.last) h
   pub same : new.commits ≡ old.commits → g ≡ h
 
+-- ---- an outline beside an editor
+
+-- The outline after a line that went to the editor: it is that of the tree that is committed now, and where the line committed,
+-- the events are those between the two trees.
+pub record IsNotedBy (old new : Editor) (o p : OutlinedView) : Type 0 where
+  pub kept : IsOutlineOf p.outline new.tree
+  pub told : new.commits ≡ old.commits + 1 → AreEvents old.tree new.tree p.events
+  pub same : new.commits ≡ old.commits → p ≡ o
+
 -- ---- answers
 
--- A line may be answered with these bytes: with nothing beside the editor as the editor may. Beside a hub, a line of the hub's
--- own has the hub's reply and leaves the editor, its moment too; and any other line is answered as the editor may.
+-- A line may be answered with these bytes: with nothing beside the editor as the editor may. Beside a hub or an outline, a line
+-- of the layer's own has the layer's reply and leaves the editor, its moment too; and any other line is answered as the editor
+-- may.
 pub data AnswersIn : Served → List ℕ → List ℕ → Served → Type 0 where
   by_editor : (old new : Editor) (line bytes : List ℕ) → Answers old line bytes new → AnswersIn (plain old) line bytes (plain new)
   about_views : (e : Editor) (h : Hub) (line : List ℕ) (asked : Data) → IsOwn (codes "hub") line asked
       → AnswersIn (with_hub e h) line (views_text asked h) (with_hub e (hub_after_line asked h))
   beside_views : (old new : Editor) (h g : Hub) (line bytes : List ℕ) → IsOther (codes "hub") line → Answers old line bytes new
       → IsFollowedBy old new h g → AnswersIn (with_hub old h) line bytes (with_hub new g)
+  about_outline : (e : Editor) (o : OutlinedView) (line : List ℕ) (asked : Data) → IsOwn (codes "ask") line asked
+      → AnswersIn (with_outline e o) line (outline_text asked e.tree o.events) (with_outline e o)
+  beside_outline : (old new : Editor) (o p : OutlinedView) (line bytes : List ℕ) → IsOther (codes "ask") line → Answers old line bytes new
+      → IsNotedBy old new o p → AnswersIn (with_outline old o) line bytes (with_outline new p)
 
 -- These bytes are answers to the lines, each with a line end, one after another.
 abbrev pub FollowsInTo : Served → List (List ℕ) → List ℕ → Served → Type 0
@@ -89,8 +111,8 @@ spent s = s.editor.commits + made_in s.layer
 
 -- ---- want of memory
 
--- What it leaves: with nothing beside the editor, what it leaves of an editor. Beside a hub nothing is answered any more, since
--- the hub may lack a commit.
+-- What it leaves: with nothing beside the editor, what it leaves of an editor. Beside a hub or an outline nothing is answered any
+-- more, since the layer may lack a commit.
 abbrev pub IsLeftBeside : Layer → Editor → Served → Type 0
 IsLeftBeside layer.Plain old new = IsLeftWithout old new.editor × (new.layer ≡ layer.Plain)
 IsLeftBeside other old new = new.layer ≡ layer.Gone

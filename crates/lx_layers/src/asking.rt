@@ -1,4 +1,4 @@
-//! What lines about views ask for.
+//! What lines about views, and about the outline, ask for.
 
 ghost use Rattle.std.specs.Prelude.{◌≡◌, option_and_then, option_map};
 ghost use Rattle.serde_json.specs.Find.{as_array};
@@ -20,6 +20,15 @@ pub(crate) enum AboutViews {
     Html(u32),
     /// That a view is let go.
     Detach(u32),
+}
+
+/// What a line about the outline asks for.
+#[derive(Clone, Copy, Debug, PartialEq, Eq, Hash)]
+pub(crate) enum AboutOutline {
+    /// The sums and the headings.
+    Headings,
+    /// What the last commit did to nodes.
+    LastEvents,
 }
 
 /// The value of the member of that name, where an object has it and no other.
@@ -92,5 +101,16 @@ pub(crate) fn about_views(value: &Value) -> Option<AboutViews>
     match value.as_str() {
         Some("attach") => Some(AboutViews::Attach),
         _ => about_listed(value),
+    }
+}
+
+/// What the value of a member `ask` asks for: `"outline"` or `"events"`.
+pub(crate) fn about_outline(value: &Value) -> Option<AboutOutline>
+    ensures { result ≡ asked.about_outline (view value.now) }
+{
+    match value.as_str() {
+        Some("outline") => Some(AboutOutline::Headings),
+        Some("events") => Some(AboutOutline::LastEvents),
+        _ => None,
     }
 }

@@ -1,3 +1,4 @@
+use crate::outlined::Outlined;
 use lx_hub::Hub;
 use lx_node::NoMemory;
 use lx_words::Mode;
@@ -10,21 +11,27 @@ pub(crate) enum Layer {
     Plain,
     /// Views that lag.
     Hub(Hub),
-    /// Nothing any more: memory was wanting for a line beside a hub, which may lack a commit. No line is answered behind it.
+    /// An outline that is kept by events.
+    Outline(Outlined),
+    /// Nothing any more: memory was wanting for a line beside a hub or an outline, which may lack a commit. No line is answered
+    /// after it.
     Gone,
 }
 
 impl Layer {
-    ghost use Rattle.std.specs.Prelude.{◌≡◌, IfOk};
-    ghost use Rattle.lx_layers.specs.Served.{new_layer};
+    ghost use Rattle.std.specs.Prelude.{◌≡◌, ℕ, Bool, IfOk, OnOk};
+    ghost use Rattle.lx_editor.specs.Editor.{new_editor};
+    ghost use Rattle.lx_layers.specs.Served.{IsBeside, new_layer};
     ghost use Rattle.lx_layers.specs.declared.layer.Layer.TheVariants as layer;
 
     /// What stands beside a new editor in a mode.
     pub(crate) fn new(alloc: Global, mode: Mode) -> Result<Layer, NoMemory>
-        ensures { IfOk result (λ made. made ≡ new_layer mode) }
+        ensures made { IfOk result (λ made. made ≡ new_layer mode) }
+        ensures beside { OnOk result ((view : Bool) (delay : ℕ) → IsBeside (new_editor view delay) (new_layer mode)) }
     {
         match mode {
             Mode::Hub => Ok(Layer::Hub(Hub::new(alloc)?)),
+            Mode::Outline => Ok(Layer::Outline(Outlined::new(alloc)?)),
             Mode::Plain | Mode::Generate(_) => Ok(Layer::Plain),
         }
     }

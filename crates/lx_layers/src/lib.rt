@@ -1,4 +1,4 @@
-//! An editor with what stands beside it: nothing, or views that lag.
+//! An editor with what stands beside it: nothing, views that lag, or an outline.
 //!
 //! A layer has lines of its own, objects with one member of its name, and answers those. All other lines go to the editor, and
 //! the layer is told of each commit. This is the one place where the modes of the program part.
@@ -7,8 +7,12 @@
 mod asking;
 mod laws;
 mod layer;
+mod noting;
+mod outlined;
 mod passing;
+mod refusing;
 mod served;
+mod telling;
 mod views;
 
 pub use laws::views_show;

@@ -5,12 +5,12 @@ ghost use Rattle.serde_json.specs.View.{view as data_of};
 ghost use Rattle.serde_json.specs.Written.{compact_text};
 ghost use Rattle.lx_node.specs.Limits.{last_u32};
 ghost use Rattle.lx_hub.specs.Hub.{html_at};
-ghost use Rattle.lx_layers.specs.Replies.{attached_data, delivery_data, detached_data, html_data, hub_after_line, refused_text, unknown_data, views_after, views_data, views_text};
+ghost use Rattle.lx_layers.specs.Replies.{attached_data, delivery_data, detached_data, html_data, hub_after_line, unknown_data, views_after, views_data, views_text};
 
 use crate::asking::{AboutViews, about_views};
+use crate::refusing::refuse;
 use lx_hub::{Attached, Delivery, Hub};
-use lx_node::{Cause, NoMemory};
-use lx_script::{Reply, write_reply};
+use lx_node::NoMemory;
 use serde_json::{Value, json};
 use std::alloc::{AllocError, Global};
 
@@ -28,19 +28,6 @@ pub(crate) fn answer_about_views(
         Some(about) => answer_about(alloc, hub, about),
         None => refuse(alloc),
     }
-}
-
-/// The reply to a value that asks for nothing.
-fn refuse(alloc: Global) -> Result<Vec<u8>, NoMemory>
-    ensures { IfOk result (λ reply. reply.items ≡ refused_text) }
-{
-    write_reply(
-        alloc,
-        &Reply::Refused {
-            cause: Cause::BadCommand,
-            step: None,
-        },
-    )
 }
 
 fn answer_about(alloc: Global, hub: &mut Hub, about: AboutViews) -> Result<Vec<u8>, NoMemory>

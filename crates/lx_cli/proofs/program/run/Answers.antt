@@ -1,5 +1,5 @@
 use Rattle.std.proofs.Common.{[], ◌≡◌, ◌∙◌, ap, map, string_bytes, sym}
-use Rattle.lx_words.specs.declared.options.Mode.TheVariants.{Plain, Hub, Generate}
+use Rattle.lx_words.specs.declared.options.Mode.TheVariants.{Plain, Hub, Outline, Generate}
 use Rattle.lx_words.specs.declared.options.Options.{Options}
 use Rattle.lx_words.specs.Words.{asked_for}
 use Rattle.lx_editor.specs.Follows.{Follows}
@@ -28,6 +28,15 @@ returns-in-Hub g c =
     let mode : (asked_for words).mode ≡ Hub = ap (λ (o : Options). o.mode) (sym asked) ∙ c.in-Hub.is in
     let run = c.serve-in-Hub.ensures words taken asked in
     (run.0, run.1, RunsAsAsked-taken Hub c.serve-in-Hub.result _ taken mode run.2)
+
+pub returns-in-Outline : goal.returns-in-Outline
+returns-in-Outline g c =
+    let words = map string_bytes c.args.words.now in
+    let taken = c.in-Ok.ensures.ok.0 in
+    let asked = c.in-Ok.ensures.ok.1 in
+    let mode : (asked_for words).mode ≡ Outline = ap (λ (o : Options). o.mode) (sym asked) ∙ c.in-Outline.is in
+    let run = c.serve-in-Outline.ensures words taken asked in
+    (run.0, run.1, RunsAsAsked-taken Outline c.serve-in-Outline.result _ taken mode run.2)
 
 pub returns-in-Generate : goal.returns-in-Generate
 returns-in-Generate g c =
