@@ -2,10 +2,13 @@
 
 ghost use Rattle.std.specs.Prelude.{◌≡◌, ◌↔◌, IsTrue};
 ghost use Rattle.lx_forest.specs.Lookups.{children_of};
+ghost use Rattle.lx_plain.specs.Allowed.{AreCovered};
+ghost use Rattle.lx_marks.specs.Marks as marked;
 ghost use Rattle.lx_outline.specs.Events.{IsCreated, IsUpdated};
 ghost use Rattle.lx_outline.specs.Parts.{IsSameNode, HasLeft};
 
 use lx_links::{Children, Links};
+use lx_marks::Marks;
 use lx_node::{Key, Node};
 
 /// Whether two lists of children are the same. They are looked at up to the first difference.
@@ -61,7 +64,7 @@ pub(crate) fn is_created(before: &Links, after: &Links, key: Key) -> bool
 }
 
 /// Whether a node of both trees has other fields, another parent or another list of children in the second.
-pub(crate) fn is_updated(before: &Links, after: &Links, key: Key) -> bool
+fn is_updated(before: &Links, after: &Links, key: Key) -> bool
     ensures { IsTrue result ↔ IsUpdated before.now after.now key }
 {
     let Some(old) = before.node(key) else {
@@ -71,6 +74,25 @@ pub(crate) fn is_updated(before: &Links, after: &Links, key: Key) -> bool
         return false;
     };
     !is_same_node(old, new) || !has_same_children(before, after, key)
+}
+
+/// Whether a node is marked itself.
+fn is_touched(marks: &Marks, key: Key) -> bool
+    ensures { result ≡ marked.is_touched marks.now key }
+{
+    marks.has_leaf(key) || matches!(marks.element(key), Some(true))
+}
+
+/// The same as `is_updated`, where marks cover the two trees: a node that isn't marked itself is the same in both, so that its
+/// children aren't looked at.
+pub(crate) fn is_changed(before: &Links, after: &Links, marks: &Marks, key: Key) -> bool
+    requires covered { AreCovered before.now after.now (record { touched = marked.is_touched marks.now; noted = marked.is_noted marks.now }) }
+    ensures { IsTrue result ↔ IsUpdated before.now after.now key }
+{
+    if !is_touched(marks, key) {
+        return false;
+    }
+    is_updated(before, after, key)
 }
 
 /// Whether a node is gone whose parent is still there.

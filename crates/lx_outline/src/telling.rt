@@ -8,7 +8,7 @@ ghost use Rattle.lx_marks.specs.Marks.{is_touched, is_noted};
 ghost use Rattle.lx_outline.specs.Events.{IsCreated, IsUpdated, AreEvents};
 ghost use Rattle.lx_outline.specs.Parts.{IsPart, AreGone, HasLeft, Grows};
 
-use crate::differing::{has_left, is_created, is_updated};
+use crate::differing::{has_left, is_changed, is_created};
 use crate::event::Event;
 use crate::keys::{Change, Keys};
 use lx_draft::State;
@@ -38,13 +38,15 @@ fn updated_among(
     alloc: Global,
     before: &Links,
     after: &Links,
+    marks: &Marks,
     marked: &[Key],
 ) -> Result<Keys, NoMemory>
+    requires covered { AreCovered before.now after.now (record { touched = is_touched marks.now; noted = is_noted marks.now }) }
     ensures { IfOk result (λ keys. IsPart (IsUpdated before.now after.now) marked.now keys) }
 {
     let mut keys = Keys::new(alloc);
     for key in marked {
-        keys.insert_if(is_updated(before, after, *key), *key)?;
+        keys.insert_if(is_changed(before, after, marks, *key), *key)?;
     }
     Ok(keys)
 }
@@ -99,7 +101,7 @@ fn destroyed_from(
 
 /// What a commit did to the nodes of a tree, whose marks cover the trees before and after: which were destroyed, which were
 /// created and which were updated, each part in ascending order of keys. It costs a look at each marked node and at each that
-/// is gone, and for marked nodes with as many children as before a look at these.
+/// is gone, and a look at the children of those that are marked themselves and have as many as before.
 pub fn events(
     alloc: Global,
     before: &State,
@@ -118,7 +120,7 @@ pub fn events(
     let new = &after.links;
     let destroyed = destroyed_from(alloc, old, new, marked)?;
     let created = created_among(alloc, old, new, marked)?;
-    let updated = updated_among(alloc, old, new, marked)?;
+    let updated = updated_among(alloc, old, new, marks, marked)?;
     let mut events = Vec::new(alloc);
     destroyed.tell(Change::Destroyed, &mut events)?;
     created.tell(Change::Created, &mut events)?;
