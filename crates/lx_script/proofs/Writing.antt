@@ -10,7 +10,7 @@ use Rattle.json.specs.Written.{Written}
 use Rattle.serde_json.proofs.Texts.{print-outline}
 use Rattle.serde_json.specs.Data.{Data, Members, no_members, member, put}
 use Rattle.serde_json.specs.Written.{compact_text, has_float, members_have_float, outline}
-use Rattle.lx_script.specs.Replies.{or_null, reply_data, reply_text, state_data, state_text}
+use Rattle.lx_script.specs.Replies.{or_null, reply_data, reply_text, shown_slice_data, slice_text, state_data, state_text}
 use Rattle.lx_script.specs.Sent.{Tells}
 use Rattle.lx_script.specs.declared.reply.Reply.{Reply}
 
@@ -52,3 +52,11 @@ has_float-state_data document whole = rw whole refl
 pub text_of_state : (document d : Data) (bytes : List ℕ) → d ≡ state_data document → has_float document ≡ false → (has_float d ≡ false → bytes ≡ compact_text d) → bytes ≡ state_text document
 unfolding state_text
 text_of_state document d bytes is whole written = written (ap has_float is ∙ has_float-state_data document whole) ∙ ap compact_text is
+
+slice-whole : (slice : Option Data) → ((d : Data) → slice ≡ Some d → has_float d ≡ false) → has_float (shown_slice_data slice) ≡ false
+slice-whole None whole = refl
+slice-whole (Some d) whole = ap (λ b. b || false) (whole d refl)
+
+pub text_of_slice : (slice : Option Data) (d : Data) (bytes : List ℕ) → d ≡ shown_slice_data slice → ((d : Data) → slice ≡ Some d → has_float d ≡ false) → (has_float d ≡ false → bytes ≡ compact_text d) → bytes ≡ slice_text slice
+unfolding slice_text
+text_of_slice slice d bytes is whole told = told (ap has_float is ∙ slice-whole slice whole) ∙ ap compact_text is

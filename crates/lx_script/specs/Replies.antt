@@ -223,6 +223,10 @@ history_data redo undo =
 abbrev pub state_data : Data → Data
 state_data document = object (member (codes "state") document no_members)
 
+-- {"slice":SLICE or null}
+abbrev pub shown_slice_data : Option Data → Data
+shown_slice_data slice = object (member (codes "slice") (or_null (λ d. d) slice) no_members)
+
 -- {"view":HTML}
 abbrev pub view_data : List ℕ → Data
 view_data html = object (member (codes "view") (text_data html) no_members)
@@ -248,3 +252,7 @@ reply_text reply = compact_text (reply_data reply)
 -- the text of the reply that tells a document
 unfoldable pub state_text : Data → List ℕ
 state_text document = compact_text (state_data document)
+
+-- the text of the reply that tells a slice, or that there is none
+unfoldable pub slice_text : Option Data → List ℕ
+slice_text slice = compact_text (shown_slice_data slice)

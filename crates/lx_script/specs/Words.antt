@@ -69,7 +69,7 @@ point_kinds = (codes "text", point.Text) ∷ (codes "element", point.Element) �
 abbrev pub questions : List (List ℕ × Shown)
 questions =
     (codes "state", shown.State) ∷ (codes "view", shown.View) ∷ (codes "selection", shown.Selection)
-    ∷ (codes "history", shown.History) ∷ []
+    ∷ (codes "history", shown.History) ∷ (codes "slice", shown.Slice) ∷ []
 
 -- the members of nodes that documents and scripts name
 abbrev pub names : List (List ℕ × Name)

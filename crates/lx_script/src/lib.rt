@@ -37,4 +37,4 @@ pub use fields::{FieldFault, fields_of};
 pub use read::{line_of, read_line, read_value};
 pub use reply::Reply;
 pub use types::{kind_of_type, kind_told};
-pub use write::{write_commit, write_reply, write_state};
+pub use write::{write_commit, write_reply, write_slice, write_state};

@@ -227,6 +227,7 @@ pub(crate) fn shown_of(value: &Value) -> Option<Shown>
             ("view", Shown::View),
             ("selection", Shown::Selection),
             ("history", Shown::History),
+            ("slice", Shown::Slice),
         ],
         value,
     )

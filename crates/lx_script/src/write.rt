@@ -1,9 +1,10 @@
-//! Replies: JSON is written a token at a time, without spaces. A document alone is a value first.
+//! Replies: JSON is written a token at a time, without spaces. Only a document and a slice are values first.
 
-ghost use Rattle.std.specs.Prelude.{◌≡◌, false, IfOk, OnOk};
+ghost use Rattle.std.specs.Prelude.{◌≡◌, false, IfOk, OnOk, Some, option_map};
+ghost use Rattle.serde_json.specs.Data.{Data};
 ghost use Rattle.serde_json.specs.View.{view};
 ghost use Rattle.serde_json.specs.Written.{has_float};
-ghost use Rattle.lx_script.specs.Replies.{reply_data, reply_text, commit_data, refusal_data, idle_data, gathered_data, registered_data, cleared_data, history_data, state_data, state_text, view_data, shown_selection_data};
+ghost use Rattle.lx_script.specs.Replies.{reply_data, reply_text, commit_data, refusal_data, idle_data, gathered_data, registered_data, cleared_data, history_data, state_data, state_text, slice_text, shown_slice_data, view_data, shown_selection_data};
 ghost use Rattle.lx_script.specs.Sent.{Sends, Tells, handled_tokens, view_tokens};
 ghost use Rattle.lx_script.specs.declared.reply.Reply.TheVariants.{Committed};
 
@@ -53,6 +54,24 @@ pub fn write_state(alloc: Global, document: Value) -> Result<Vec<u8>, NoMemory>
 {
     let value = state_value(alloc, document)?;
     Ok(value.to_vec(alloc)?)
+}
+
+/// The bytes of the reply that tells a slice, which has no number with a fraction, or that there is none.
+pub fn write_slice(alloc: Global, slice: Option<Value>) -> Result<Vec<u8>, NoMemory>
+    requires whole { (d : Data) → option_map view slice ≡ Some d → has_float d ≡ false }
+    ensures { IfOk result (λ bytes. bytes.items ≡ slice_text (option_map view slice)) }
+{
+    let value = slice_value(alloc, slice)?;
+    Ok(value.to_vec(alloc)?)
+}
+
+fn slice_value(alloc: Global, slice: Option<Value>) -> Result<Value, AllocError>
+    ensures { IfOk result (λ v. view v ≡ shown_slice_data (option_map view slice)) }
+{
+    match slice {
+        Some(slice) => json!(in alloc; {"slice": slice}),
+        None => json!(in alloc; {"slice": null}),
+    }
 }
 
 fn state_value(alloc: Global, document: Value) -> Result<Value, AllocError>

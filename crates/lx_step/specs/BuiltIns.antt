@@ -5,7 +5,7 @@ use Rattle.lx_node.specs.Same.{same_text}
 use Rattle.lx_step.specs.declared.built_in.BuiltIn.{BuiltIn}
 use Rattle.lx_step.specs.declared.built_in.BuiltIn.TheVariants.{Turn as turn, Caret as caret, List as list, Table as table}
 use Rattle.lx_step.specs.declared.built_in.CaretCommand.{CaretCommand}
-use Rattle.lx_step.specs.declared.built_in.CaretCommand.TheVariants.{InsertText, RemoveText, InsertParagraph, InsertLineBreak, InsertTab, DeleteCharacter, DeleteWord, FormatText, SelectAll}
+use Rattle.lx_step.specs.declared.built_in.CaretCommand.TheVariants.{InsertText, RemoveText, InsertParagraph, InsertLineBreak, InsertTab, DeleteCharacter, DeleteWord, FormatText, SelectAll, Paste}
 use Rattle.lx_step.specs.declared.built_in.ListCommand.{ListCommand}
 use Rattle.lx_step.specs.declared.built_in.ListCommand.TheVariants.{MakeList, RemoveList, Indent, Outdent, ToggleChecked}
 use Rattle.lx_step.specs.declared.built_in.TableCommand.{TableCommand}
@@ -33,6 +33,8 @@ caret_commands =
     ∷ (chars (codes "delete-word"), DeleteWord)
     ∷ (chars (codes "format-text"), FormatText)
     ∷ (chars (codes "select-all"), SelectAll)
+    ∷ (chars (codes "cut"), RemoveText)
+    ∷ (chars (codes "paste"), Paste)
     ∷ []
 
 abbrev pub list_commands : List (List ℕ × ListCommand)

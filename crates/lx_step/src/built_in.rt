@@ -24,6 +24,8 @@ pub enum CaretCommand {
     DeleteWord,
     FormatText,
     SelectAll,
+    /// The slice that a text tells, in the place of what is selected.
+    Paste,
 }
 
 /// A command of lists, which goes by the selection.
@@ -132,6 +134,12 @@ impl CaretCommand {
         }
         if is_word("select-all", name) {
             return Some(CaretCommand::SelectAll);
+        }
+        if is_word("cut", name) {
+            return Some(CaretCommand::RemoveText);
+        }
+        if is_word("paste", name) {
+            return Some(CaretCommand::Paste);
         }
         None
     }

@@ -85,4 +85,6 @@ pub enum Shown {
     Selection,
     /// How many entries the history has to go back to, and forth to.
     History,
+    /// What of the document the selection covers, as a slice.
+    Slice,
 }
