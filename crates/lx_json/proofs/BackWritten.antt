@@ -68,12 +68,12 @@ abbrev pub written : Forest → List Data
 written nil = []
 written (tree l below rest) = node_data l.kind l.fields (trees_data below) ∷ written rest
 
-items_of-written : (f : Forest) → items_of (written f) ≡ trees_data f
+pub items_of-written : (f : Forest) → items_of (written f) ≡ trees_data f
 unfolding trees_data
 items_of-written nil = refl
 items_of-written (tree l below rest) = ap (item (node_data l.kind l.fields (trees_data below))) (items_of-written rest)
 
-written-joined : (s t : Forest) → written (joined s t) ≡ written s ++ written t
+pub written-joined : (s t : Forest) → written (joined s t) ≡ written s ++ written t
 written-joined nil t = refl
 written-joined (tree l below rest) t = ap (λ ds. node_data l.kind l.fields (trees_data below) ∷ ds) (written-joined rest t)
 
@@ -102,7 +102,7 @@ written_none f all left e = record {
   told = λ told. subst (λ ks. AreGivenBack (trees_of f ks)) e told;
 }
 
-map_more : (values : List Value) (v : Value) → map view (values ++ v ∷ []) ≡ map view values ++ view v ∷ []
+pub map_more : (values : List Value) (v : Value) → map view (values ++ v ∷ []) ≡ map view values ++ view v ∷ []
 map_more [] v = refl
 map_more (x ∷ values) v = ap (λ ds. view x ∷ ds) (map_more values v)
 

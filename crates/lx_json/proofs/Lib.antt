@@ -7,6 +7,7 @@ pub mod Drafting
 pub mod Grown
 pub mod Kinded
 pub mod Looked
+pub mod NodesMade
 pub mod Ordered
 pub mod Rooted
 pub mod Spelled

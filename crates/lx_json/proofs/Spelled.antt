@@ -5,6 +5,7 @@ use Rattle.std.proofs.lemmas.Fmt.{IsAscii-decimal}
 use Rattle.std.proofs.lemmas.Str.{chars-IsAscii, IsAscii-append}
 use Rattle.std.proofs.lemmas.Bool.Decides.{nat_tests}
 use Rattle.lx_json.specs.Reading.{child_place}
+use Rattle.lx_json.specs.Nodes.{index_place}
 use Rattle.lx_json.proofs.Ordered.{are_ascii}
 
 pub chars-nothing : chars (codes "") ≡ []
@@ -37,3 +38,9 @@ front_ascii = below_128 (codes "/children/") refl
 
 pub chars-child_place : (i : ℕ) → i < 2 ^ 64 → chars (child_place i) ≡ child_place i
 chars-child_place i small = chars-IsAscii (child_place i) (IsAscii-append (codes "/children/") (decimal i) front_ascii (IsAscii-decimal i small))
+
+slash_ascii : IsAscii (codes "/")
+slash_ascii = below_128 (codes "/") refl
+
+pub chars-index_place : (i : ℕ) → i < 2 ^ 64 → chars (index_place i) ≡ index_place i
+chars-index_place i small = chars-IsAscii (index_place i) (IsAscii-append (codes "/") (decimal i) slash_ascii (IsAscii-decimal i small))

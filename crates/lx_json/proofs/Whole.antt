@@ -10,7 +10,7 @@ use Rattle.lx_script.proofs.Exported.{no-float}
 both : (a b : Bool) → a ≡ false → b ≡ false → (a || b) ≡ false
 both a b e g = ap (λ x. x || b) e ∙ g
 
-trees-whole : (f : Forest) → items_have_float (trees_data f) ≡ false
+pub trees-whole : (f : Forest) → items_have_float (trees_data f) ≡ false
 unfolding trees_data
 trees-whole nil = refl
 trees-whole (tree l below rest) = both _ _ (no-float l.kind l.fields (trees_data below) (trees-whole below)) (trees-whole rest)

@@ -5,3 +5,4 @@ pub mod Pieces
 pub mod Exporting
 pub mod Back
 pub mod GivenBack
+pub mod Nodes

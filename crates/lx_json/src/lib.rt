@@ -7,9 +7,11 @@ mod exporting;
 mod growing;
 mod importing;
 mod marking;
+mod nodes;
 mod pieces;
 mod places;
 mod reading;
 
 pub use exporting::export;
 pub use importing::import;
+pub use nodes::read_nodes;

@@ -5,6 +5,7 @@ ghost use Rattle.std.specs.Prelude.{◌≡◌, ◌++◌, IfOk, chars};
 ghost use Rattle.lx_node.specs.declared.cause.Cause.TheVariants.{BadState, UnknownType};
 ghost use Rattle.lx_json.specs.Reading.{child_place, member_place};
 ghost use Rattle.lx_json.specs.Growing.{IsRefusedFor, IsUnder};
+ghost use Rattle.lx_json.specs.Nodes.{index_place};
 
 use lx_node::{Cause, Fault, NoMemory, Txt};
 use std::alloc::Global;
@@ -57,6 +58,16 @@ pub(crate) fn under_child(alloc: Global, index: usize, fault: Fault) -> Fault
     ensures { IsUnder (child_place index) fault result }
 {
     match format!(in alloc; "/children/{index}") {
+        Ok(place) => under(alloc, place.as_str(), fault),
+        Err(_) => Fault::Memory,
+    }
+}
+
+/// A fault of the item at this index of a list, told from that list.
+pub(crate) fn under_index(alloc: Global, index: usize, fault: Fault) -> Fault
+    ensures { IsUnder (index_place index) fault result }
+{
+    match format!(in alloc; "/{index}") {
         Ok(place) => under(alloc, place.as_str(), fault),
         Err(_) => Fault::Memory,
     }
