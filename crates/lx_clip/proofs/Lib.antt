@@ -1,0 +1,10 @@
+pub mod Alike
+pub mod Behind
+pub mod BlockKinds
+pub mod Covered
+pub mod Cut
+pub mod Lasts
+pub mod PathsOfNodes
+pub mod PathsOfPasting
+pub mod Sets
+pub mod Telling

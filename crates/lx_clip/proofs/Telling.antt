@@ -1,0 +1,7 @@
+-- The characters of the place where the nodes of a slice stand.
+use Rattle.std.proofs.Common.{◌≡◌, codes, refl}
+use Rattle.std.specs.Str.{chars}
+
+pub chars_nodes : chars (codes "/nodes") ≡ codes "/nodes"
+unfolding chars
+chars_nodes = refl

@@ -1,0 +1,6 @@
+use Rattle.lx_clip.specs.Slices.{range_covers}
+use Rattle.lx_clip.proofs.Alike.{whole_slice}
+use Rattle.lx_clip.proofs.slicing.slice.Goals as goal
+
+pub returns-in-Some-clause-whole : goal.returns-in-Some-clause-whole
+returns-in-Some-clause-whole c = whole_slice c.slice_of.result (range_covers c.args.state.now.links c.in-Some.range) c.slice_of.ensures

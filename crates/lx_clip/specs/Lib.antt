@@ -1,0 +1,5 @@
+pub mod Covers
+pub mod Extents
+pub mod Laws
+pub mod Pasting
+pub mod Slices

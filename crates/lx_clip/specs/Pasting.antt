@@ -1,0 +1,189 @@
+-- What a slice makes of a draft at the caret.
+use Rattle.std.specs.Prelude.{ℕ, ◌==◌, Bool, true, false, if◌then◌else◌, codes, List, [], ◌∷◌, drop, find, Option, None, Some, option_and_then, unwrap_or, encode_utf8_all, Result, Ok, Err}
+use Rattle.std.specs.Option.{option_or}
+use Rattle.serde_json.specs.Data.{Data, string, array, Items, no_items, item}
+use Rattle.serde_json.specs.Find.{get}
+use Rattle.serde_json.specs.Read.{read}
+use Rattle.lx_node.specs.Kinds.{is_inline}
+use Rattle.lx_node.specs.Siblings.{last_of}
+use Rattle.lx_node.specs.declared.kind.Kind.{Kind}
+use Rattle.lx_node.specs.declared.kind.Kind.TheVariants.{Root, Paragraph, Cell}
+use Rattle.lx_node.specs.declared.cause.Cause.{Cause}
+use Rattle.lx_node.specs.declared.cause.Cause.TheVariants.{BadCommand}
+use Rattle.lx_node.specs.declared.cause.Point.{Point}
+use Rattle.lx_forest.specs.Forest.{Forest}
+use Rattle.lx_forest.specs.Lookups.{label_of, kind_of, parent_of, children_of, keys_within, ancestors}
+use Rattle.lx_draft.specs.Working.{Working}
+use Rattle.lx_draft.specs.Faults.{answer, after}
+use Rattle.lx_draft.specs.Beside.{put_behind_step}
+use Rattle.lx_edit.specs.Edits.{end_in, moved_to_end}
+use Rattle.lx_edit.specs.InTurn.{in_turn}
+use Rattle.lx_range.specs.Blocks.{passes, block_of}
+use Rattle.lx_range.specs.Making.{new_like}
+use Rattle.lx_range.specs.Ranges.{at_anchor, caret_at}
+use Rattle.lx_script.specs.Types.{kind_of_type}
+use Rattle.lx_json.specs.Nodes.{nodes_read}
+use Rattle.lx_caret.specs.Adding.{kind_around, no_room, opened, put_by}
+use Rattle.lx_caret.specs.Inserting.{place_behind}
+use Rattle.lx_caret.specs.Paragraphs.{cut_open, holders_in, before_point, parted_up}
+use Rattle.lx_caret.specs.Removing.{removed_empty, remove_text_step}
+
+-- ---- places
+
+-- each right behind the one before, the first behind another node
+unfoldable pub put_behind_each : ℕ → List ℕ → Working → Result Working Cause
+put_behind_each other [] w = Ok w
+put_behind_each other (k ∷ ks) w = after (put_behind_step k other w) (put_behind_each k ks)
+
+-- the end of what a node without children has, or the place behind it
+abbrev pub end_at_leaf : Forest → ℕ → Point
+end_at_leaf f leaf = unwrap_or (end_in f leaf (kind_of f leaf)) (place_behind f leaf)
+
+-- the last node in the tree of a key
+abbrev pub last_leaf : Forest → ℕ → ℕ
+last_leaf f k = unwrap_or (last_of (keys_within f k)) k
+
+-- the end of what a node holds: that of the last in its tree
+abbrev pub end_below : Forest → ℕ → Point
+end_below f k = end_at_leaf f (last_leaf f k)
+
+-- the caret goes to the end of the last node
+abbrev pub caret_by : Option ℕ → Working → Working
+caret_by None w = w
+caret_by (Some last) w = caret_at (end_below w.forest last) w
+
+abbrev pub caret_after : List ℕ → Working → Working
+caret_after keys w = caret_by (last_of keys) w
+
+-- ---- nodes at a point
+
+-- what may not hold one of them refuses it
+abbrev pub no_room_at : Option Kind → Option Kind → Option Cause
+no_room_at outer None = None
+no_room_at outer (Some inner) = no_room inner outer
+
+abbrev pub no_room_for : Forest → List ℕ → Option Kind → Option Cause
+no_room_for f [] outer = None
+no_room_for f (k ∷ ks) outer = option_or (no_room_at outer (kind_of f k)) (no_room_for f ks outer)
+
+-- the first where a new node would go, and the others behind it
+abbrev pub put_all_by : Point → List ℕ → Working → Result Working Cause
+put_all_by p [] w = Ok w
+put_all_by p (k ∷ ks) w = after (put_by k p p.kind w) (put_behind_each k ks)
+
+unfoldable pub nodes_added : Point → List ℕ → Working → Result Working Cause
+nodes_added p keys w =
+    after (answer (no_room_for w.forest keys (kind_around w.forest p.key p.kind)) w) (λ v.
+    after (opened p v) (λ split.
+    after (put_all_by p keys split) (λ put. Ok (caret_after keys put))))
+
+-- ---- blocks at a point of a block
+
+-- what stays behind the point: a new block like it, which isn't made for nothing
+pub record Tailed : Type 0 where
+  pub draft : Working
+  pub key : Option ℕ
+
+abbrev pub tail_made : ℕ → List ℕ → Working → Result Tailed Cause
+tail_made block [] w = Ok (record { draft = w; key = None })
+tail_made block moved w =
+    after (new_like (label_of w.forest block) w) (λ made.
+    after (in_turn (moved_to_end w.next_key) moved made) (λ v. Ok (record { draft = v; key = Some w.next_key })))
+
+-- it goes behind the last of the nodes
+abbrev pub tail_put : Option ℕ → Option ℕ → Working → Result Working Cause
+tail_put (Some new) (Some last) w = put_behind_step new last w
+tail_put _ _ w = Ok w
+
+unfoldable pub put_around : ℕ → List ℕ → List ℕ → Working → Result Working Cause
+put_around block keys moved w =
+    after (tail_made block moved w) (λ tailed.
+    after (put_behind_each block keys tailed.draft) (λ put.
+    after (tail_put tailed.key (last_of keys) put) (λ v. removed_empty block (caret_after keys v))))
+
+-- the block is parted at the point, as where a paragraph is inserted, and the nodes go between
+unfoldable pub block_opened : ℕ → Point → List ℕ → Working → Result Working Cause
+block_opened block p keys w =
+    after (cut_open p w) (λ v.
+    after (parted_up (holders_in v.forest block p) (before_point v.forest p p.kind) v) (λ parted.
+    put_around block keys (drop parted.index (children_of parted.draft.forest block)) parted.draft))
+
+-- ---- blocks
+
+-- what holds blocks: the root, or a cell
+abbrev pub holds_blocks : Kind → Bool
+holds_blocks Root = true
+holds_blocks Cell = true
+holds_blocks other = false
+
+abbrev pub stands_among_blocks : Forest → ℕ → Bool
+stands_among_blocks f k = passes holds_blocks (option_and_then (kind_of f) (parent_of f k))
+
+-- a node or the nearest above it that stands below the root or a cell
+abbrev pub outer_block : Forest → ℕ → ℕ
+outer_block f k = unwrap_or (find (stands_among_blocks f) (k ∷ ancestors f k)) k
+
+-- behind a node, in which nothing is parted
+unfoldable pub put_beyond : ℕ → List ℕ → Working → Result Working Cause
+put_beyond outer keys w = after (put_behind_each outer keys w) (λ v. Ok (caret_after keys v))
+
+abbrev pub blocks_put : ℕ → ℕ → Point → List ℕ → Working → Result Working Cause
+blocks_put outer block p keys w = if outer == block then block_opened block p keys w else put_beyond outer keys w
+
+-- without a block they go where the point is
+abbrev pub blocks_added : Option ℕ → Point → List ℕ → Working → Result Working Cause
+blocks_added None p keys w = nodes_added p keys w
+blocks_added (Some block) p keys w = blocks_put (outer_block w.forest block) block p keys w
+
+-- ---- a slice
+
+abbrev pub is_inline_type : Option Data → Bool
+is_inline_type (Some (string text)) = passes is_inline (kind_of_type text)
+is_inline_type other = false
+
+abbrev pub has_inline_type : Data → Bool
+has_inline_type d = is_inline_type (get (codes "type") d)
+
+-- the first node's type is that of an inline
+abbrev pub begins_inline : Items → Bool
+begins_inline no_items = false
+begins_inline (item d ds) = has_inline_type d
+
+-- what the nodes are read as the children of
+abbrev pub holder : Bool → Kind
+holder true = Paragraph
+holder false = Root
+
+abbrev pub placed_at : Bool → List ℕ → Point → ℕ → Working → Result Working Cause
+placed_at true keys p format w = nodes_added p keys w
+placed_at false keys p format w = blocks_added (block_of w.forest p.key) p keys w
+
+abbrev pub placed : Bool → List ℕ → Working → Result Working Cause
+placed inline [] w = Ok w
+placed inline keys w = at_anchor (placed_at inline keys) w
+
+-- the nodes of a list are made, and then placed
+abbrev pub list_inserted : Bool → Data → Working → Result Working Cause
+list_inserted inline list w = after (nodes_read (codes "/nodes") list (holder inline) w) (λ made. placed inline made.keys made.draft)
+
+-- a slice has a list of nodes
+abbrev pub inserted : Option Data → Working → Result Working Cause
+inserted (Some (array items)) w = list_inserted (begins_inline items) (array items) w
+inserted other w = Err BadCommand
+
+unfoldable pub insert_step : Data → Working → Result Working Cause
+insert_step d w = inserted (get (codes "nodes") d) w
+
+-- ---- the command
+
+-- the value that a text tells, if there is one
+abbrev pub told_if : Option Data → Result Data Cause
+told_if None = Err BadCommand
+told_if (Some d) = Ok d
+
+abbrev pub json_of : List ℕ → Result Data Cause
+json_of text = told_if (read (encode_utf8_all text))
+
+-- what is selected is removed, and then the text is read
+unfoldable pub paste_step : List ℕ → Working → Result Working Cause
+paste_step text w = after (remove_text_step w) (λ v. after (json_of text) (λ d. insert_step d v))

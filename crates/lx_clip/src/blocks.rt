@@ -1,0 +1,178 @@
+//! Blocks that go where a point is.
+
+ghost use Rattle.std.specs.Prelude.{◌≡◌, true, Ok, OnOk, IfOk, IfErr};
+ghost use Rattle.lx_node.specs.Kinds as kinds;
+ghost use Rattle.lx_node.specs.Siblings.{last_of};
+ghost use Rattle.lx_draft.specs.Faults.{TellsStep};
+ghost use Rattle.lx_range.specs.Blocks as blocks;
+ghost use Rattle.lx_clip.specs.Pasting as pasting;
+
+use crate::adding::{add_nodes, put_behind_each};
+use crate::ending::caret_after;
+use crate::ready::ready;
+use lx_caret::{cut_text, part_up, remove_empty};
+use lx_draft::Draft;
+use lx_edit::move_each;
+use lx_links::Links;
+use lx_node::{Fault, Key, Kind, Point};
+use lx_range::{block, children_from, make_like};
+use std::alloc::Global;
+
+/// Makes a new block like another of what stays behind the point, if anything does.
+#[tactic(auto, using(crate::proofs::BlockKinds::block_there, crate::proofs::BlockKinds::block_below))]
+fn make_tail(
+    alloc: Global,
+    draft: &mut Draft,
+    block: Key,
+    moved: &[Key],
+) -> Result<Option<Key>, Fault>
+    requires { blocks.is_at kinds.is_text_block draft.old.forest block ≡ true }
+    ensures ok { IfOk result (λ tail. pasting.tail_made block moved.now draft.old ≡ Ok (record { draft = draft.new; key = tail })) }
+    ensures err { IfErr result (λ e. TellsStep e (pasting.tail_made block moved.now draft.old)) }
+{
+    if moved.is_empty() {
+        return Ok(None);
+    }
+    let new = make_like(alloc, draft, block)?;
+    move_each(draft, new, moved)?;
+    Ok(Some(new))
+}
+
+/// Puts the new block behind the last of the nodes.
+fn put_tail(draft: &mut Draft, tail: Option<Key>, keys: &[Key]) -> Result<(), Fault>
+    ensures ok { OnOk result (pasting.tail_put tail (last_of keys.now) draft.old ≡ Ok draft.new) }
+    ensures err { IfErr result (λ e. TellsStep e (pasting.tail_put tail (last_of keys.now) draft.old)) }
+{
+    let Some(new) = tail else {
+        return Ok(());
+    };
+    match keys.last() {
+        Some(last) => draft.put_behind(new, *last),
+        None => Ok(()),
+    }
+}
+
+/// Puts nodes behind a block, and behind them a new one of those of its children that stand behind the point. The block goes if
+/// it is empty then.
+#[tactic(auto, unfolding(crate::specs::Pasting::put_around))]
+fn put_around(
+    alloc: Global,
+    draft: &mut Draft,
+    block: Key,
+    keys: &[Key],
+    moved: &[Key],
+) -> Result<(), Fault>
+    requires { blocks.is_at kinds.is_text_block draft.old.forest block ≡ true }
+    ensures ok { OnOk result (pasting.put_around block keys.now moved.now draft.old ≡ Ok draft.new) }
+    ensures err { IfErr result (λ e. TellsStep e (pasting.put_around block keys.now moved.now draft.old)) }
+{
+    let tail = make_tail(alloc, draft, block, moved)?;
+    put_behind_each(draft, block, keys)?;
+    put_tail(draft, tail, keys)?;
+    caret_after(draft, keys);
+    remove_empty(draft, block)
+}
+
+/// Parts a block at a point, and puts nodes between.
+#[tactic(auto, unfolding(crate::specs::Pasting::block_opened))]
+fn open_block(
+    alloc: Global,
+    draft: &mut Draft,
+    block: Key,
+    keys: &[Key],
+    point: &Point,
+) -> Result<(), Fault>
+    requires { blocks.is_at kinds.is_text_block draft.old.forest block ≡ true }
+    ensures ok { OnOk result (pasting.block_opened block point.now keys.now draft.old ≡ Ok draft.new) }
+    ensures err { IfErr result (λ e. TellsStep e (pasting.block_opened block point.now keys.now draft.old)) }
+{
+    ready(draft)?;
+    cut_text(alloc, draft, point)?;
+    let index = part_up(alloc, draft, block, point)?;
+    let moved = children_from(alloc, draft.links(), block, index)?;
+    put_around(alloc, draft, block, keys, &moved)
+}
+
+/// What holds blocks: the root, or a cell.
+fn holds_blocks(kind: Kind) -> bool
+    ensures { result ≡ pasting.holds_blocks kind }
+{
+    matches!(kind, Kind::Root | Kind::Cell)
+}
+
+/// Whether a node stands below the root or a cell.
+fn stands_among_blocks(links: &Links, key: Key) -> bool
+    ensures { result ≡ pasting.stands_among_blocks links.now key }
+{
+    match links.parent(key) {
+        Some(parent) => match links.kind(parent) {
+            Some(kind) => holds_blocks(kind),
+            None => false,
+        },
+        None => false,
+    }
+}
+
+/// A node, or the nearest above it that stands below the root or a cell.
+fn outer_block(links: &Links, key: Key) -> Key
+    ensures { result ≡ pasting.outer_block links.now key }
+{
+    let mut at = key;
+    while !stands_among_blocks(links, at) {
+        match links.parent(at) {
+            Some(parent) => at = parent,
+            None => return key,
+        }
+    }
+    at
+}
+
+/// Puts nodes behind a node, which isn't parted.
+#[tactic(auto, unfolding(crate::specs::Pasting::put_beyond))]
+fn put_beyond(draft: &mut Draft, outer: Key, keys: &[Key]) -> Result<(), Fault>
+    ensures ok { OnOk result (pasting.put_beyond outer keys.now draft.old ≡ Ok draft.new) }
+    ensures err { IfErr result (λ e. TellsStep e (pasting.put_beyond outer keys.now draft.old)) }
+{
+    put_behind_each(draft, outer, keys)?;
+    caret_after(draft, keys);
+    Ok(())
+}
+
+/// Puts blocks at a point of a block.
+fn put_at_block(
+    alloc: Global,
+    draft: &mut Draft,
+    block: Key,
+    keys: &[Key],
+    point: &Point,
+) -> Result<(), Fault>
+    requires { blocks.is_at kinds.is_text_block draft.old.forest block ≡ true }
+    ensures ok { OnOk result (pasting.blocks_put (pasting.outer_block draft.old.forest block) block point.now keys.now draft.old ≡ Ok draft.new) }
+    ensures err { IfErr result (λ e. TellsStep e (pasting.blocks_put (pasting.outer_block draft.old.forest block) block point.now keys.now draft.old)) }
+{
+    let outer = outer_block(draft.links(), block);
+    if outer == block {
+        open_block(alloc, draft, block, keys, point)
+    } else {
+        put_beyond(draft, outer, keys)
+    }
+}
+
+/// Puts blocks that stand below nothing at a point, and the caret to the end of the last. A block that stands below the root or
+/// a cell is parted at the point, and they go between. A block that stands elsewhere stays whole, and they go behind the nearest
+/// node above it that stands below the root or a cell. Without a block they go where the point is.
+#[tactic(auto, using(crate::proofs::BlockKinds::block_is))]
+pub(crate) fn add_blocks(
+    alloc: Global,
+    draft: &mut Draft,
+    keys: &[Key],
+    point: &Point,
+) -> Result<(), Fault>
+    ensures ok { OnOk result (pasting.blocks_added (blocks.block_of draft.old.forest point.now.key) point.now keys.now draft.old ≡ Ok draft.new) }
+    ensures err { IfErr result (λ e. TellsStep e (pasting.blocks_added (blocks.block_of draft.old.forest point.now.key) point.now keys.now draft.old)) }
+{
+    match block(draft.links(), point.key) {
+        Some(block) => put_at_block(alloc, draft, block, keys, point),
+        None => add_nodes(alloc, draft, keys, point),
+    }
+}
