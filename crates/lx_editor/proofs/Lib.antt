@@ -5,6 +5,7 @@ pub mod Gathered
 pub mod Updated
 pub mod Loaded
 pub mod Shown
+pub mod Sliced
 pub mod Limits
 pub mod Kept
 pub mod Turned

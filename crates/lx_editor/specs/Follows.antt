@@ -1,5 +1,5 @@
 -- How an editor may answer lines, and how the bytes of replies follow from them.
-use Rattle.std.specs.Prelude.{◌≡◌, ℕ, List, [], ◌∷◌, ◌++◌, length, if◌then◌else◌, Bool, Option, None, Some, Result, Ok, Err}
+use Rattle.std.specs.Prelude.{◌≡◌, ℕ, List, [], ◌∷◌, ◌++◌, length, if◌then◌else◌, Bool, Option, None, Some, option_map, Result, Ok, Err}
 use Rattle.serde_json.specs.Data.{Data}
 use Rattle.serde_json.specs.View.{view}
 use Rattle.lx_node.specs.declared.cause.Cause.{Cause}
@@ -11,7 +11,7 @@ use Rattle.lx_step.specs.declared.line.Line.{Line}
 use Rattle.lx_step.specs.declared.line.Form.{Form}
 use Rattle.lx_step.specs.declared.line.Form.TheVariants.{Update, Defer, Flush, Dispatch, Rule, Listener, Load, Show, Clear}
 use Rattle.lx_step.specs.declared.line.Shown.{Shown}
-use Rattle.lx_step.specs.declared.line.Shown.TheVariants.{State, View, Selection, History}
+use Rattle.lx_step.specs.declared.line.Shown.TheVariants.{State, View, Selection, History, Slice}
 use Rattle.lx_step.specs.declared.line.Tags.{Tags}
 use Rattle.lx_step.specs.declared.listener.Listener.{Listener as ListenerOf}
 use Rattle.lx_step.specs.declared.rule.Rule.{Rule as RuleOf}
@@ -20,8 +20,9 @@ use Rattle.lx_step.specs.declared.step.Step.{Step}
 use Rattle.lx_script.specs.declared.reply.Reply.{Reply}
 use Rattle.lx_script.specs.declared.reply.Reply.TheVariants as reply
 use Rattle.lx_script.specs.Grammar.{Reads}
-use Rattle.lx_script.specs.Replies.{reply_text, state_text}
+use Rattle.lx_script.specs.Replies.{reply_text, slice_text, state_text}
 use Rattle.lx_json.specs.Exporting.{exported}
+use Rattle.lx_clip.specs.Slices.{sliced, slice_data}
 use Rattle.lx_editor.specs.declared.recording.Recording.{Recording}
 use Rattle.lx_editor.specs.declared.outcome.Outcome.{Outcome}
 use Rattle.lx_editor.specs.declared.outcome.Outcome.TheVariants.{Committed, Gathered, Refused, Idle}
@@ -54,12 +55,13 @@ number_reply (Ok number) = reply.Registered number
 number_reply (Err cause) = reply.Refused cause None
 
 -- The bytes of the reply that shows what is committed: the document, the view as the HTML of the tree's rendering, which it
--- shows, or the selection; or how many entries the history has.
+-- shows, or the selection; how many entries the history has; or the slice of what is selected, if there is one.
 abbrev pub shown_text : Shown → Editor → List ℕ
 shown_text State editor = state_text (exported editor.tree)
 shown_text View editor = reply_text (reply.View (html_of (render editor.tree)))
 shown_text Selection editor = reply_text (reply.Selection editor.selection)
 shown_text History editor = reply_text (reply.History (length editor.history.redo) (length editor.history.undo))
+shown_text Slice editor = slice_text (option_map slice_data (sliced editor.tree editor.selection))
 
 -- The editor may answer an update by these steps with these bytes, and be the new one after.
 abbrev pub IsReplyOfUpdate : Editor → List Step → Recording → List ℕ → Editor → Type 0

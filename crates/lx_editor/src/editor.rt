@@ -6,13 +6,14 @@ use crate::reconciling::follow;
 use crate::recording::Recording;
 use crate::registering::built_in_rules;
 use lx_bus::Bus;
+use lx_clip::slice;
 use lx_draft::{Frozen, State};
 use lx_history::History;
 use lx_host::HostTree;
 use lx_node::NoMemory;
 use lx_reconcile::Batch;
 use lx_rules::AnyRule;
-use lx_script::{Reply, write_reply, write_state};
+use lx_script::{Reply, write_reply, write_slice, write_state};
 use lx_step::{Shown, Step, Tags};
 use std::alloc::Global;
 use std::marker::Model;
@@ -251,8 +252,8 @@ impl Editor {
     ghost use Rattle.lx_step.specs.declared.line.Shown.TheVariants as shown;
     ghost use Rattle.lx_editor.specs.Follows.{shown_text};
 
-    /// Shows what is committed, as the bytes of a reply: the document, the HTML of the view, or the selection; or how many
-    /// entries the history has.
+    /// Shows what is committed, as the bytes of a reply: the document, the HTML of the view, or the selection; how many entries
+    /// the history has; or the slice of what is selected, if there is one.
     pub fn show(&self, alloc: Global, shown: Shown) -> Result<Vec<u8>, NoMemory>
         ensures { IfOk result (λ reply. reply.items ≡ shown_text shown self.now) }
     {
@@ -267,6 +268,7 @@ impl Editor {
                 let (undo, redo) = self.depths();
                 write_reply(alloc, &Reply::History { redo, undo })
             }
+            Shown::Slice => self.show_slice(alloc),
         }
     }
 
@@ -276,6 +278,14 @@ impl Editor {
     {
         let document = self.export(alloc)?;
         write_state(alloc, document)
+    }
+
+    /// Shows what of the document the selection covers.
+    fn show_slice(&self, alloc: Global) -> Result<Vec<u8>, NoMemory>
+        ensures { IfOk result (λ reply. reply.items ≡ shown_text shown.Slice self.now) }
+    {
+        let slice = slice(alloc, &self.state)?;
+        write_slice(alloc, slice)
     }
 
     /// Shows the view.

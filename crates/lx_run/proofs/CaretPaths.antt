@@ -3,7 +3,7 @@ use Rattle.std.proofs.Common.{◌≡◌, ℕ, List, Option, None, Some, Result, 
 use Rattle.lx_node.specs.declared.cause.Cause.{Cause}
 use Rattle.lx_step.specs.BuiltIns.{row_of}
 use Rattle.lx_step.specs.declared.built_in.CaretCommand.{CaretCommand}
-use Rattle.lx_step.specs.declared.built_in.CaretCommand.TheVariants.{InsertText, RemoveText, InsertParagraph, InsertLineBreak, InsertTab, DeleteCharacter, DeleteWord, FormatText, SelectAll}
+use Rattle.lx_step.specs.declared.built_in.CaretCommand.TheVariants.{InsertText, RemoveText, InsertParagraph, InsertLineBreak, InsertTab, DeleteCharacter, DeleteWord, FormatText, SelectAll, Paste}
 use Rattle.lx_step.specs.declared.command.Payload.{Payload}
 use Rattle.lx_step.specs.declared.command.Payload.TheVariants as payload
 use Rattle.lx_draft.specs.Working.{Working}
@@ -18,6 +18,8 @@ use Rattle.lx_caret.proofs.PathsOfParagraphs.{insert_paragraph_path}
 use Rattle.lx_caret.proofs.PathsOfDeleting.{delete_character_path, delete_word_path}
 use Rattle.lx_caret.proofs.PathsOfFormatting.{format_text_path, select_all_path}
 use Rattle.lx_list.proofs.Paths.{paragraph_in_item_path}
+use Rattle.lx_clip.specs.Pasting.{paste_step}
+use Rattle.lx_clip.proofs.PathsOfPasting.{paste_path}
 use Rattle.lx_run.specs.Carets.{with_none, with_text, meant, with_word, ways, formats, ended_at, paragraph_step, plain_step, caret_step}
 use Rattle.lx_run.specs.Scripts.{on_draft}
 use Rattle.lx_run.proofs.Paths.{IsScriptPath, Reaches, on_draft_path}
@@ -67,6 +69,7 @@ caret_path D R scripts InsertText sent w v d e = with_text_path D R insert_text_
 caret_path D R scripts DeleteCharacter sent w v d e = with_word_path D R ways delete_character_step (λ back. delete_character_path scripts.path back) sent w v d e
 caret_path D R scripts DeleteWord sent w v d e = with_word_path D R ways delete_word_step (λ back. delete_word_path scripts.path back) sent w v d e
 caret_path D R scripts FormatText sent w v d e = with_word_path D R formats format_text_step (λ bit. format_text_path scripts.path bit) sent w v d e
+caret_path D R scripts Paste sent w v d e = with_text_path D R paste_step (λ text. paste_path scripts.path text) sent w v d e
 caret_path D R scripts RemoveText sent w v d e = with_none_path D R (plain_step RemoveText) (plain_path D R scripts RemoveText) sent w v d e
 caret_path D R scripts InsertParagraph sent w v d e = with_none_path D R (plain_step InsertParagraph) (plain_path D R scripts InsertParagraph) sent w v d e
 caret_path D R scripts InsertLineBreak sent w v d e = with_none_path D R (plain_step InsertLineBreak) (plain_path D R scripts InsertLineBreak) sent w v d e

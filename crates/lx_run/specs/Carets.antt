@@ -4,7 +4,7 @@ use Rattle.lx_node.specs.declared.cause.Cause.{Cause}
 use Rattle.lx_node.specs.declared.cause.Cause.TheVariants.{BadCommand}
 use Rattle.lx_step.specs.BuiltIns.{row_of}
 use Rattle.lx_step.specs.declared.built_in.CaretCommand.{CaretCommand}
-use Rattle.lx_step.specs.declared.built_in.CaretCommand.TheVariants.{InsertText, RemoveText, InsertParagraph, InsertLineBreak, InsertTab, DeleteCharacter, DeleteWord, FormatText, SelectAll}
+use Rattle.lx_step.specs.declared.built_in.CaretCommand.TheVariants.{InsertText, RemoveText, InsertParagraph, InsertLineBreak, InsertTab, DeleteCharacter, DeleteWord, FormatText, SelectAll, Paste}
 use Rattle.lx_step.specs.declared.command.Payload.{Payload}
 use Rattle.lx_step.specs.declared.command.Payload.TheVariants as payload
 use Rattle.lx_draft.specs.Working.{Working}
@@ -16,6 +16,7 @@ use Rattle.lx_caret.specs.Deleting.{delete_character_step, delete_word_step}
 use Rattle.lx_caret.specs.Formatting.{format_text_step}
 use Rattle.lx_caret.specs.SelectAll.{select_all_step}
 use Rattle.lx_list.specs.Ending.{paragraph_in_item_step}
+use Rattle.lx_clip.specs.Pasting.{paste_step}
 
 -- ---- what a command is given: nothing, a text, or a word; anything else is no payload of it
 
@@ -81,4 +82,5 @@ caret_step InsertText sent w = with_text insert_text_step sent w
 caret_step DeleteCharacter sent w = with_word ways delete_character_step sent w
 caret_step DeleteWord sent w = with_word ways delete_word_step sent w
 caret_step FormatText sent w = with_word formats format_text_step sent w
+caret_step Paste sent w = with_text paste_step sent w
 caret_step plain sent w = with_none (plain_step plain) sent w

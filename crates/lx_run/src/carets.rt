@@ -8,6 +8,7 @@ ghost use Rattle.lx_step.specs.BuiltIns.{row_of};
 ghost use Rattle.lx_caret.specs.Deleting.{delete_character_step, delete_word_step};
 ghost use Rattle.lx_caret.specs.Formatting.{format_text_step};
 ghost use Rattle.lx_caret.specs.Inserting.{insert_text_step};
+ghost use Rattle.lx_clip.specs.Pasting.{paste_step};
 ghost use Rattle.lx_draft.specs.Faults.{TellsStep};
 ghost use Rattle.lx_run.specs.Carets as carets;
 ghost use Rattle.lx_run.specs.Carets.{caret_step};
@@ -135,6 +136,17 @@ fn insert_text(alloc: Global, draft: &mut Draft, sent: &Payload) -> Result<(), F
     }
 }
 
+/// Puts the slice that the text tells which is sent in the place of what is selected.
+fn paste(alloc: Global, draft: &mut Draft, sent: &Payload) -> Result<(), Fault>
+    ensures ok { OnOk result (carets.with_text paste_step sent.now draft.old ≡ Ok draft.new) }
+    ensures err { IfErr result (λ e. TellsStep e (carets.with_text paste_step sent.now draft.old)) }
+{
+    match sent {
+        Payload::Text(text) => lx_clip::paste(alloc, draft, text.as_str()),
+        _ => Err(bad_command()),
+    }
+}
+
 /// Cuts a block in two. An item without children ends its list.
 fn insert_paragraph(alloc: Global, draft: &mut Draft) -> Result<(), Fault>
     ensures ok { OnOk result (carets.paragraph_step draft.old ≡ Ok draft.new) }
@@ -179,6 +191,7 @@ pub(crate) fn do_caret(
         CaretCommand::DeleteCharacter => delete_character(alloc, draft, sent),
         CaretCommand::DeleteWord => delete_word(alloc, draft, sent),
         CaretCommand::FormatText => format_text(alloc, draft, sent),
+        CaretCommand::Paste => paste(alloc, draft, sent),
         plain => {
             if is_nothing(sent) {
                 do_plain(alloc, draft, plain)

@@ -64,7 +64,9 @@ impl Session {
 
     fn show(&self, alloc: Global, shown: Shown) -> Result<Vec<u8>> {
         let reply = match shown {
-            Shown::State | Shown::History => return refused(alloc, Cause::BadCommand, None),
+            Shown::State | Shown::History | Shown::Slice => {
+                return refused(alloc, Cause::BadCommand, None);
+            }
             Shown::View => Reply::View(fresh(alloc, &self.state)?.print_html()?),
             Shown::Selection => Reply::Selection(self.state.selection.copy(alloc)?),
         };
