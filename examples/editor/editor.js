@@ -50,8 +50,13 @@ function enqueue(task) {
   });
 }
 
-/** Has lines sent in their turn. First comes what the browser has selected, unless acts that will change that wait. */
-function act(lines, selected = underWay === 0 ? browserSelection() : null) {
+/** What the browser has selected, unless acts that will change that wait. */
+function selectedNow() {
+  return underWay === 0 ? browserSelection() : null;
+}
+
+/** Has lines sent in their turn, behind what was selected. */
+function act(lines, selected = selectedNow()) {
   enqueue(() => perform(lines, selected));
 }
 
@@ -85,7 +90,7 @@ const commands = {
   deleteContentForward: command('delete-character', 'forward'),
   deleteWordBackward: command('delete-word', 'back'),
   deleteWordForward: command('delete-word', 'forward'),
-  deleteByCut: command('remove-text'),
+  deleteByCut: command('cut'),
   formatBold: command('format-text', 'bold'),
   formatItalic: command('format-text', 'italic'),
   formatUnderline: command('format-text', 'underline'),
@@ -115,13 +120,48 @@ function replace(event) {
   act([command('insert-text', event.data ?? event.dataTransfer.getData('text/plain'))], selectionFrom(range));
 }
 
-/** Pasted text is plain: one line of input, so one entry of the history, with a break between two lines of text. */
+// ---- the clipboard
+
+let copied = { text: '', slice: null }; // the plain text that was copied here last, and the core's slice of it
+
+const lineEnds = text => text.replace(/\r\n?/g, '\n');
+
+/** Plain text goes to the clipboard at once; the slice of it is asked of the core, and kept in the page. */
+function copy(event) {
+  const text = String(getSelection());
+  if (!text) return;
+  event.preventDefault();
+  event.clipboardData.setData('text/plain', text);
+  const selected = selectedNow();
+  enqueue(async () => {
+    await perform([], selected);
+    copied = { text: lineEnds(text), slice: (await ask({ show: 'slice' })).slice };
+  });
+}
+
+page.addEventListener('copy', copy);
+page.addEventListener('cut', event => {
+  copy(event);
+  if (event.defaultPrevented) act([commands.deleteByCut]);
+});
+
+/** Plain text is one line of input, so one entry of the history, with a break between two lines of text. */
+function plain(text) {
+  const [first, ...others] = text.split('\n');
+  const typed = words => ({ dispatch: 'insert-text', payload: words });
+  const steps = others.flatMap(words => [{ dispatch: 'insert-paragraph' }, ...(words ? [typed(words)] : [])]);
+  return { update: [typed(first), ...steps] };
+}
+
+/** Text that was copied in this page is pasted as it was there; any other text as plain text. */
 page.addEventListener('paste', event => {
   event.preventDefault();
-  const [first, ...others] = event.clipboardData.getData('text/plain').split(/\r\n|\r|\n/);
-  const typed = text => ({ dispatch: 'insert-text', payload: text });
-  const steps = others.flatMap(text => [{ dispatch: 'insert-paragraph' }, ...(text ? [typed(text)] : [])]);
-  act([{ update: [typed(first), ...steps] }]);
+  const text = lineEnds(event.clipboardData.getData('text/plain'));
+  const selected = selectedNow();
+  enqueue(() => {
+    const isOurs = copied.slice && copied.text === text;
+    return perform([isOurs ? command('paste', JSON.stringify(copied.slice)) : plain(text)], selected);
+  });
 });
 
 // Browsers have no event of their own for these: their own list of what can be undone stays empty here.
@@ -188,7 +228,7 @@ function takeBack() {
 }
 
 page.addEventListener('compositionstart', () => {
-  composing = { selected: underWay === 0 ? browserSelection() : null };
+  composing = { selected: selectedNow() };
 });
 
 page.addEventListener('compositionend', event => {

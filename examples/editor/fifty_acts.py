@@ -57,6 +57,11 @@ const event = new ClipboardEvent('paste', { clipboardData: data, bubbles: true, 
 document.getElementById('page').dispatchEvent(event);
 """
 
+COPY = r"""
+const event = new ClipboardEvent('copy', { clipboardData: new DataTransfer(), bubbles: true, cancelable: true });
+document.getElementById('page').dispatchEvent(event);
+"""
+
 
 class Page:
     """The page in a browser, and the server behind it."""
@@ -139,6 +144,10 @@ class Page:
     def paste(self, text):
         self.driver.execute_script(PASTE, text)
 
+    def copied(self, *selected):
+        self.select(*selected)
+        self.driver.execute_script(COPY)
+
     def click(self, selector, index=0, left=None):
         """Clicks into an element, or so far left of its left edge."""
         element = self.driver.find_elements(By.CSS_SELECTOR, selector)[index]
@@ -219,7 +228,9 @@ def acts():
         ('the page is opened anew', lambda page: page.open(), '<div><p><br></p>'),
         ('all goes from a block into a cell: refused', lambda page: (page.press('control+a'), page.press('delete')),
          '!NoSelection "range"'),
-        ('undo of the cut', lambda page: page.press('control+z'), '<div><p><span data-lexical-text="true">Plan</span></p>'),
+        ('undo of the cut, and what is bold is copied and pasted', lambda page: (
+            page.press('control+z'), page.rest(), page.copied('text', 0, 'text', 4), page.rest(), page.caret('Plan'),
+            page.paste('text')), '<span data-lexical-text="true">Plan</span><mark'),
     ]
 
 
