@@ -53,12 +53,12 @@ later a b e = order.antisymm b a ∙ ap ordering_reverse e
 
 -- ---- with an attribute given or taken away
 
--- a stands before what is given or taken away
+-- a comes before what is given or taken away
 rise_given : (name : Name) (value : Option (List ℕ)) (a : Name × List ℕ) (xs : List (Name × List ℕ)) → name_order a.0 name ≡ Less → names_rise (a ∷ xs) ≡ true → ((v : List ℕ) → names_rise ((name, v) ∷ xs) ≡ true) → names_rise (a ∷ before_others name value xs) ≡ true
 rise_given name None a xs e f g = f
 rise_given name (Some v) a xs e f g = rise_more a (name, v) xs e (g v)
 
--- o is the order of the name and of the first one behind a
+-- o is the order of the name and of the first one after a
 rise_behind_by : (name : Name) (value : Option (List ℕ)) (a b : Name × List ℕ) (xs : List (Name × List ℕ)) (o : Ordering) → name_order name b.0 ≡ o → name_order a.0 name ≡ Less → name_order a.0 b.0 ≡ Less → names_rise (b ∷ xs) ≡ true
     → (name_order b.0 name ≡ Less → names_rise (b ∷ with_attribute name value xs) ≡ true)
     → names_rise (a ∷ match_ordering o (before_others name value (b ∷ xs)) (before_others name value xs) (b ∷ with_attribute name value xs)) ≡ true

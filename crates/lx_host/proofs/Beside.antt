@@ -1,4 +1,4 @@
--- The host behind one, as hosts define it and by the links.
+-- The host after one, as hosts define it and by the links.
 use Rattle.std.proofs.Common.{ℕ, ◌≡◌, ◌<◌, true, false, cond, eqb, ◌||◌, [], None, refl, sym, ap, ◌∙◌, arith, inl, inr}
 use Rattle.std.proofs.lemmas.Bool.{cases_Bool, cases_lt}
 use Rattle.std.proofs.lemmas.Bool.Decides.{eqb_tells}

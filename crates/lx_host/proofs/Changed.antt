@@ -174,7 +174,7 @@ fewer_left f k a inside =
 pub has_within : (f : Trees Host) (k q : ℕ) → is_within id_of f k q ≡ true → has q f ≡ true
 has_within f k q inside = grind (arith, inside, count-alone-le id_of q k f)
 
--- a host that stands below another isn't host 0
+-- a host that is below another isn't host 0
 pub not_root : (f : Trees Host) (q p : ℕ) → IsOrdered id_of f → parent_of id_of f q ≡ Some p → q ≢ 0
 not_root f q p h up e = none_some (parent_of id_of f q) (ap (parent_of id_of f) e ∙ parent_of-root id_of f h) up where
   none_some : (o : Option ℕ) → o ≡ None → o ≡ Some p → ⊥

@@ -5,7 +5,7 @@ use Rattle.lx_node.proofs.NamedTrees as trees
 pub use Rattle.lx_node.proofs.NamedTrees.{joined-nil, joined-assoc}
 use Rattle.lx_host.specs.Hosts.{Host, Face, id_of, count, without, alone, children_of, inserted, put_below, changed_at, changed}
 
--- ---- one behind another
+-- ---- one after another
 
 pub count-joined : (id : ℕ) (s t : Trees Host) → count id (joined s t) ≡ count id s + count id t
 count-joined = trees.count-joined id_of

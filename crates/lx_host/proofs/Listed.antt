@@ -31,7 +31,7 @@ abbrev pub IsChild : Trees Host → ℕ → Option ℕ → Type 0
 IsChild f q None = Unit {0}
 IsChild f q (Some c) = parent_of id_of f c ≡ Some q
 
--- What the loop over the children of q knows at one of them, or behind the last: what is written, with what is left from
+-- What the loop over the children of q knows at one of them, or after the last: what is written, with what is left from
 -- there on, is all.
 pub record IsListing (f : Trees Host) (q : ℕ) (at : Option ℕ) (page all : List ℕ) : Type 0 where
   pub ordered : IsOrdered id_of f
@@ -49,7 +49,7 @@ listing_starts f q at page h e = record {
   written = ap (λ o. page ++ left_from f q o) e ∙ ap (λ ks. page ++ html_of (shape_of (gathered id_of f ks))) (from_name-first (children_of id_of f q));
 }
 
--- the child at which the loop stands, and the one to which it goes on
+-- the child at which the loop is, and the one to which it goes on
 pub record IsPassed (f : Trees Host) (q c : ℕ) (at next : Option ℕ) : Type 0 where
   pub there : has c f ≡ true
   pub smaller : total (alone c f) < total (alone q f)

@@ -1,4 +1,4 @@
--- What a page holds after pieces were written one behind another.
+-- What a page holds after pieces were written one after another.
 use Rattle.std.proofs.Common.{◌≡◌, ℕ, Option, None, Some, List, [], ◌∷◌, ◌++◌, refl, sym, ap, ◌∙◌, append_assoc}
 use Rattle.std.proofs.lemmas.Bool.{ne_eqb}
 use Rattle.std.proofs.lemmas.List.{append-nil}
@@ -65,7 +65,7 @@ pub chars_of_one : (c : ℕ) → IsScalar c → chars (encode c) ≡ c ∷ []
 chars_of_one c is =
     chars_past_char (encode c) [] c (IsUtf8-encode c is) (sym (append-nil (encode c))) ∙ ap (λ rest. c ∷ rest) chars-nil
 
--- ---- pieces, one behind another
+-- ---- pieces, one after another
 
 pub behind : {q r : List ℕ} (p a b : List ℕ) → q ≡ p ++ a → r ≡ q ++ b → r ≡ p ++ (a ++ b)
 behind p a b first second = second ∙ ap (λ page. page ++ b) first ∙ append_assoc p a b

@@ -35,7 +35,7 @@ placed p k before f h = let e : put_in id_of p before k (take_out id_of k f) ≡
 above_of : (o : Option ℕ) (p : ℕ) → is_named o p ≡ true → o ≡ Some p
 above_of o p e = grind (arith, e, is_named_tells o p)
 
--- the child behind which the gap before another one is
+-- the child after which the gap before another one is
 pub behind_of : (f : Trees Host) (p b : ℕ) (before : Option ℕ) → IsOrdered id_of f → before ≡ Some b → is_place before (children_of id_of f p) ≡ true → previous_of id_of f b ≡ place_behind before (children_of id_of f p)
 behind_of f p b before h is place =
     let among : is_among b (children_of id_of f p) ≡ true = sym (ap (λ o. is_place o (children_of id_of f p)) is) ∙ place in

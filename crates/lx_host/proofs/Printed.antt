@@ -1,4 +1,4 @@
--- The HTML of hosts, one behind another.
+-- The HTML of hosts, one after another.
 use Rattle.std.proofs.Common.{None, Some, ◌≡◌, ℕ, true, false, List, [], ◌++◌, refl, sym, ap, ◌∙◌, append_assoc}
 use Rattle.std.proofs.lemmas.List.{append-nil}
 use Rattle.lx_node.specs.Trees.{Trees, nil, tree, joined}

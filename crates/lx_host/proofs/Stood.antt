@@ -78,7 +78,7 @@ module _ {S : Type 0} where
   pub stood_now : (m : HashMap ℕ Linked S) (s : Standing m) (v : GroveView) (room : ℕ) (ids : List ℕ) → ◌≡◌ {A = GroveView} (record { hosts = hosts_in m s; room = room; ids = ids }) v → Stands m v.hosts
   stood_now m s v room ids e = stood m s v.hosts (ap (λ (v : GroveView). v.hosts) e)
 
-  -- a host that isn't there, or stands below nothing, stays where it is
+  -- a host that isn't there, or is below nothing, stays where it is
   pub absent_stays : (m : HashMap ℕ Linked S) (f : Trees Host) (k : ℕ) → Stands m f → get nat_eq m k ≡ None → f ≡ take_out id_of k f
   absent_stays m f k s e =
       let none : has id_of k f ≡ false = sym (is_some-record_at id_of f k) ∙ ap is_some (sym (s.same k) ∙ ap (option_map (record_of k)) e) in

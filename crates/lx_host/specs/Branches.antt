@@ -1,4 +1,4 @@
--- Where the root stands, and where a host may be put among others.
+-- Where the root is, and where a host may be put among others.
 use Rattle.std.specs.Prelude.{ℕ, ◌==◌, ◌≡◌, List, Option, None, Some, Bool, true}
 use Rattle.std.specs.List.{list_any}
 use Rattle.lx_node.specs.Trees.{Trees, nil, tree}

@@ -10,8 +10,8 @@ use Rattle.lx_host.specs.declared.tag.Name.{Name}
 use Rattle.lx_host.specs.declared.op.Op.{Op}
 use Rattle.lx_host.specs.declared.op.Op.TheVariants.{Create, Place, Drop, Text, Attr, Break}
 
--- What a host shows, beside its children: a node's key, an element with its attributes, a text or none, and whether a
--- line break ends it.
+-- what a host shows, beside its children: a node's key, an element with its attributes, a text or none, and whether a
+-- line break ends it
 pub record Face : Type 0 where
   pub key : ℕ
   pub tag : Tag
@@ -19,11 +19,12 @@ pub record Face : Type 0 where
   pub text : Option (List ℕ)
   pub ending : Bool
 
+-- a host: its id, and what it shows
 pub record Host : Type 0 where
   pub id : ℕ
   pub face : Face
 
--- The first tree is host 0's. The trees behind it aren't placed yet.
+-- hosts and the next id; the first tree is host 0's, and those after it aren't placed yet
 pub record HostTree : Type 0 where
   pub hosts : Trees Host
   pub next : ℕ
@@ -32,20 +33,22 @@ pub record HostTree : Type 0 where
 abbrev pub one_host : ℕ → Face → Trees Host
 one_host id face = tree (record { id = id; face = face }) nil nil
 
--- What is shown, without ids.
+-- what hosts show, without their ids
 abbrev pub shape_of : Trees Host → Trees Face
 shape_of nil = nil
 shape_of (tree host below rest) = tree host.face (shape_of below) (shape_of rest)
 
 -- ---- hosts by their ids
 
+-- the id of a host
 abbrev pub id_of : Host → ℕ
 id_of host = host.id
 
--- how many hosts have the id, and whether one has
+-- how many hosts have the id
 abbrev pub count : ℕ → Trees Host → ℕ
 count id hosts = named.count id_of id hosts
 
+-- whether a host has the id
 abbrev pub has : ℕ → Trees Host → Bool
 has id hosts = named.has id_of id hosts
 
@@ -75,16 +78,17 @@ put_below parent before new hosts = named.put_below id_of parent before new host
 
 -- ---- what a host shows, changed
 
+-- what a host shows, with this text
 abbrev pub with_text : List ℕ → Face → Face
 with_text text face =
     record { key = face.key; tag = face.tag; attrs = face.attrs; text = Some text; ending = face.ending }
 
--- with the attribute given this value, or taken away
+-- what a host shows, with the attribute given this value, or taken away
 abbrev pub with_value : Name → Option (List ℕ) → Face → Face
 with_value name value face =
     record { key = face.key; tag = face.tag; attrs = with_attribute name value face.attrs; text = face.text; ending = face.ending }
 
--- with a line break at its end, or without
+-- what a host shows, with a line break at its end, or without
 abbrev pub with_ending : Bool → Face → Face
 with_ending ending face =
     record { key = face.key; tag = face.tag; attrs = face.attrs; text = face.text; ending = ending }
@@ -105,9 +109,8 @@ abbrev pub fits_before : ℕ → Option ℕ → List ℕ → Bool
 fits_before child None ids = true
 fits_before child (Some before) ids = list_any (λ id. id == before) ids && not (before == child)
 
--- Whether an operation fits now. A host is created under the next id, while there is one. A host other than 0 can be
--- placed below each host that isn't below it, before one of that host's children, other than itself, or at the end. A host
--- other than 0 can be dropped, and what each host shows can be changed.
+-- whether an operation fits now: only the next id is created, host 0 is neither placed nor dropped, no host comes below
+-- itself, and a host before which one is placed is another child of the parent
 unfoldable pub fits : Op → HostTree → Bool
 fits (Create id key tag attrs text ending) w = (id == w.next) && nat_lt w.next last_u32
 fits (Place parent child before) w =
@@ -118,7 +121,7 @@ fits (Text id text) w = has id w.hosts
 fits (Attr id name value) w = has id w.hosts
 fits (Break id ending) w = has id w.hosts
 
--- What an operation makes of a host tree that it fits.
+-- what an operation makes of a host tree that it fits
 unfoldable pub effect : Op → HostTree → HostTree
 effect (Create id key tag attrs text ending) w =
     record {
@@ -132,7 +135,7 @@ effect (Text id text) w = record { hosts = changed id (with_text text) w.hosts; 
 effect (Attr id name value) w = record { hosts = changed id (with_value name value) w.hosts; next = w.next }
 effect (Break id ending) w = record { hosts = changed id (with_ending ending) w.hosts; next = w.next }
 
--- The operations lead from the host tree v to w: each fits in turn, and w is what they make.
+-- the operations lead from the host tree v to w: each fits in turn, and w is what they make
 abbrev pub Leads : HostTree → List Op → HostTree → Type 0
 Leads v [] w = w ≡ v
 Leads v (op ∷ ops) w = (mid : HostTree) × IsTrue (fits op v) × (mid ≡ effect op v) × Leads mid ops w
@@ -142,14 +145,15 @@ abbrev pub FitInTurn : HostTree → List Op → Type 0
 FitInTurn v [] = Unit {0}
 FitInTurn v (op ∷ ops) = IsTrue (fits op v) × FitInTurn (effect op v) ops
 
--- a new host tree: host 0 alone, which shows the root
+-- what shows a root without children
 abbrev pub root_face : Face
 root_face = record { key = 0; tag = Tag.Div; attrs = []; text = None; ending = false }
 
+-- a new host tree: host 0 alone, which shows the root
 abbrev pub new_tree : HostTree
 new_tree = record { hosts = one_host 0 root_face; next = 1 }
 
--- no id stands twice, and each is below the next one
+-- no id occurs twice, and each is below the next one
 pub record IsNumbered (w : HostTree) : Type 0 where
   pub once : (id : ℕ) → count id w.hosts < 2
   pub below : (id : ℕ) → w.next < id + 1 → count id w.hosts ≡ 0

@@ -16,6 +16,7 @@ escaped c =
     if c == 38 then codes "&amp;" else (if c == 60 then codes "&lt;" else
     (if c == 62 then codes "&gt;" else (if c == 34 then codes "&quot;" else c ∷ [])))
 
+-- a text, with those characters written by their names
 abbrev pub text_html : List ℕ → List ℕ
 text_html text = flat_map escaped text
 
@@ -23,22 +24,26 @@ text_html text = flat_map escaped text
 abbrev pub attribute_html : Name × List ℕ → List ℕ
 attribute_html attribute = codes " " ++ name_word attribute.0 ++ codes "=\"" ++ text_html attribute.1 ++ codes "\""
 
+-- several attributes, one after another
 abbrev pub attributes_html : List (Name × List ℕ) → List ℕ
 attributes_html attributes = flat_map attribute_html attributes
 
 -- ---- elements
 
+-- how an element begins, with its attributes
 abbrev pub start_tag : List ℕ → List (Name × List ℕ) → List ℕ
 start_tag word attributes = codes "<" ++ word ++ attributes_html attributes ++ codes ">"
 
+-- how an element ends
 abbrev pub end_tag : List ℕ → List ℕ
 end_tag word = codes "</" ++ word ++ codes ">"
 
+-- an element: its start and its end around what is inside
 abbrev pub element_html : List ℕ → List (Name × List ℕ) → List ℕ → List ℕ
 element_html word attributes inside = start_tag word attributes ++ inside ++ end_tag word
 
--- A host with this inside. `br` and `hr` are their start alone. Of two elements, one in the other, the outer one has the
--- attributes.
+-- a host with this inside: `br` and `hr` are their start alone, and of two elements, one in the other, the outer one
+-- has the attributes
 unfoldable pub host_html : Tag → List (Name × List ℕ) → List ℕ → List ℕ
 host_html Br attributes inside = start_tag (codes "br") attributes
 host_html Hr attributes inside = start_tag (codes "hr") attributes
@@ -57,7 +62,7 @@ ending_html ending = if ending then codes "<br>" else []
 
 -- ---- hosts
 
--- the HTML of shapes, one behind another
+-- the HTML of shapes, one after another
 unfoldable pub html_of : Trees Face → List ℕ
 html_of nil = []
 html_of (tree face below rest) =

@@ -7,11 +7,12 @@ use Rattle.lx_host.specs.Lookups.{lesser}
 use Rattle.lx_host.specs.Weights.{key_at}
 use Rattle.lx_rooted.specs.Lookups.{is_attached}
 
--- the id, if there is one that passes
+-- the id, if there is one and it passes
 abbrev pub passing : (ℕ → Bool) → Option ℕ → Option ℕ
 passing test None = None
 passing test (Some id) = if test id then Some id else None
 
+-- the least id of a list that passes the test
 abbrev pub least_in : (ℕ → Bool) → List ℕ → Option ℕ
 least_in test [] = None
 least_in test (id ∷ ids) = lesser (passing test (Some id)) (least_in test ids)

@@ -9,7 +9,7 @@ use Rattle.lx_host.specs.Hosts.{Host, children_of, ids_of}
 abbrev pub first_child : ℕ → Trees Host → Option ℕ
 first_child id hosts = first_of (children_of id hosts)
 
--- the host behind that one among the children of a host
+-- the host after that one among the children of a host
 abbrev pub next_sibling : ℕ → Trees Host → Option ℕ
 next_sibling id nil = None
 next_sibling id (tree host below rest) =

@@ -10,13 +10,14 @@ use Rattle.lx_rooted.specs.Records.{Record, StandsFor}
 use Rattle.lx_rooted.proofs.Records.{StandsFor-unique}
 use Rattle.lx_host.specs.declared.linked.Linked.{Linked}
 
--- what contracts see of a grove: its hosts, how many more can be added without memory, and the ids in its table's own order
+-- what contracts see of a grove: its hosts, how many more can be added without memory, and the ids in its table's own
+-- order
 pub record GroveView : Type 0 where
   pub hosts : Trees Host
   pub room : ℕ
   pub ids : List ℕ
 
--- a host as the record of its id, and back
+-- a host as the record of its id
 abbrev pub record_of : ℕ → Linked → Record Host
 record_of q n =
     record {
@@ -29,6 +30,7 @@ record_of q n =
       size = n.size;
     }
 
+-- a record as a host, which doesn't know its id
 abbrev pub linked_of : Record Host → Linked
 linked_of r =
     record {
@@ -50,10 +52,11 @@ module _ {S : Type 0} where
   abbrev pub records : HashMap ℕ Linked S → ℕ → Option (Record Host)
   records m q = option_map (record_of q) (get nat_eq m q)
 
+  -- a table stands for trees in order
   abbrev pub Stands : HashMap ℕ Linked S → Trees Host → Type 0
   Stands m f = StandsFor id_of (records m) f
 
--- trees for which a table stands
+-- trees for which a table stands: it stands for one list of trees at most
 pub record Standing {S : Type 0} (table : HashMap ℕ Linked S) : Type 0 where
   pub hosts : Trees Host
   pub stands : Stands table hosts
@@ -68,22 +71,25 @@ module _ {S : Type 0} where
   same_standing : (m : HashMap ℕ Linked S) (x : Standing m) (f : Trees Host) (h : Stands m f) → x.hosts ≡ f → x ≡ record { hosts = f; stands = h }
   same_standing m x f h e = let P : Trees Host → Type 0 = λ g. (k : Stands m g) → x ≡ record { hosts = g; stands = k } in subst P e (λ k. ap (λ k. record { hosts = x.hosts; stands = k }) (Stands-prop m x.hosts x.stands k)) h
 
+  -- a table stands for one list of trees at most, and in one way
   pub Standing-prop : (m : HashMap ℕ Linked S) → IsProp (Standing m)
   Standing-prop m x y = same_standing m x y.hosts y.stands (StandsFor-unique id_of (records m) x.hosts y.hosts x.stands y.stands)
 
-  -- the trees, which don't unfold
+  -- the trees for which a table stands, as a name that doesn't unfold
   pub hosts_in : (m : HashMap ℕ Linked S) → Standing m → Trees Host
   hosts_in m s = s.hosts
 
+  -- the table stands for the trees that it is said to stand for
   pub hosts_in-stands : (m : HashMap ℕ Linked S) (s : Standing m) → Stands m (hosts_in m s)
   unfolding hosts_in
   hosts_in-stands m s = s.stands
 
-  -- whatever the table stands for
+  -- the trees for which a table stands are whatever it stands for
   pub hosts_in-is : (m : HashMap ℕ Linked S) (s : Standing m) (f : Trees Host) → Stands m f → hosts_in m s ≡ f
   hosts_in-is m s f h = StandsFor-unique id_of (records m) (hosts_in m s) f (hosts_in-stands m s) h
 
--- a host may be placed there
+-- a host may be placed there: it isn't host 0 nor above the parent, and the one before which it comes is among the
+-- children
 pub record FitsPlace (parent child : ℕ) (before : Option ℕ) (f : Trees Host) : Type 0 where
   pub other : child ≢ 0
   pub child_in : has child f ≡ true

@@ -7,6 +7,7 @@ use Rattle.std.specs.Vec.{vec_capacity}
 abbrev pub most_attributes : ℕ
 most_attributes = 19
 
+-- empty vectors, each with room for so many attributes
 abbrev pub AreRoomy : {X : Type 0} → List (Vec X) → Type 0
 AreRoomy [] = Unit {0}
 AreRoomy (v ∷ vs) = (v.items ≡ []) × (most_attributes ≤ vec_capacity v) × AreRoomy vs

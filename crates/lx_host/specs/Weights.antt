@@ -7,15 +7,16 @@ use Rattle.lx_node.specs.Spots.{Spot, spot}
 use Rattle.lx_host.specs.Hosts.{Host, id_of, count}
 use Rattle.lx_host.specs.declared.keys.Shown.{Shown}
 
--- what the labels of trees weigh together
+-- the sum of a number over all labels
 abbrev pub weighed : {A : Type 0} → (A → ℕ) → Trees A → ℕ
 weighed w nil = 0
 weighed w (tree a below rest) = w a + weighed w below + weighed w rest
 
--- 1 for a host that shows the key, and its id
+-- 1 for a host that shows the key
 abbrev pub shows : ℕ → Host → ℕ
 shows key host = if host.face.key == key then 1 else 0
 
+-- the id of a host that shows the key, and 0 for any other
 abbrev pub id_shown : ℕ → Host → ℕ
 id_shown key host = if host.face.key == key then host.id else 0
 
@@ -23,10 +24,11 @@ id_shown key host = if host.face.key == key then host.id else 0
 abbrev pub shows_at : ℕ → ℕ → Host → ℕ
 shows_at key q host = if host.id == q && host.face.key == key then 1 else 0
 
--- how many hosts show the key, and the sum of their ids
+-- how many hosts show the key
 abbrev pub shown : ℕ → Trees Host → ℕ
 shown key hosts = weighed (shows key) hosts
 
+-- the sum of the ids of the hosts that show the key
 abbrev pub ids_shown : ℕ → Trees Host → ℕ
 ids_shown key hosts = weighed (id_shown key) hosts
 
@@ -38,6 +40,7 @@ is_shown key hosts q = nat_lt 0 (weighed (shows_at key q) hosts)
 abbrev pub entry_by : ℕ → ℕ → Option Shown
 entry_by hosts ids = if hosts == 0 then None else Some (record { hosts = hosts; ids = ids })
 
+-- what is known of a key that these hosts show
 abbrev pub entry_of : ℕ → Trees Host → Option Shown
 entry_of key hosts = entry_by (shown key hosts) (ids_shown key hosts)
 

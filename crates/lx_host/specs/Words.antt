@@ -13,22 +13,25 @@ use Rattle.lx_host.specs.declared.tag.Tag.TheVariants.{Div, P, H1, H2, H3, H4, H
 use Rattle.lx_host.specs.declared.tag.Name.{Name}
 use Rattle.lx_host.specs.declared.tag.Name.TheVariants.{AriaChecked, Class, ColSpan, DataAlign, DataBg, DataIndent, DataLexicalDecorator, DataLexicalText, DataSrc, Dir, Href, Rel, Role, RowSpan, Start, Style, Target, Title, Value}
 
+-- the word of an inner element
 abbrev pub inner_word : Inner → List ℕ
 inner_word Strong = codes "strong"
 inner_word Em = codes "em"
 inner_word Span = codes "span"
 
+-- the word of an outer element
 abbrev pub outer_word : Outer → List ℕ
 outer_word Code = codes "code"
 outer_word Mark = codes "mark"
 outer_word Sub = codes "sub"
 outer_word Sup = codes "sup"
 
--- of two elements, the outer one stands first
+-- the word of one element, or of two, of which the outer one comes first
 abbrev pub inline_word : Option Outer → Inner → List ℕ
 inline_word None inner = inner_word inner
 inline_word (Some outer) inner = outer_word outer ++ codes ">" ++ inner_word inner
 
+-- the word of a tag
 unfoldable pub tag_word : Tag → List ℕ
 tag_word Div = codes "div"
 tag_word P = codes "p"
@@ -51,6 +54,7 @@ tag_word Br = codes "br"
 tag_word Hr = codes "hr"
 tag_word (Inline outer inner) = inline_word outer inner
 
+-- the word of an attribute's name
 unfoldable pub name_word : Name → List ℕ
 name_word AriaChecked = codes "aria-checked"
 name_word Class = codes "class"
@@ -80,6 +84,7 @@ names_rise [] = true
 names_rise (a ∷ []) = true
 names_rise (a ∷ b ∷ rest) = is_lt (slice_cmp nat_cmp (name_word a.0) (name_word b.0)) && names_rise (b ∷ rest)
 
+-- what a host may have: names that rise, and no more than a list may have
 pub record AreAttributes (attributes : List (Name × List ℕ)) : Type 0 where
   pub rise : IsTrue (names_rise attributes)
   pub few : length attributes ≤ last_u32
@@ -93,8 +98,8 @@ abbrev pub before_others : Name → Option (List ℕ) → List (Name × List ℕ
 before_others name None others = others
 before_others name (Some value) others = (name, value) ∷ others
 
--- Attributes whose names rise, with this one: before the first whose name comes later, or in place of the one of its
--- name. Without a value, the one of that name is left out.
+-- attributes whose names rise, with this one put before the first whose name comes later or in place of the one of its
+-- name, or with that one left out where no value is given
 abbrev pub with_attribute : Name → Option (List ℕ) → List (Name × List ℕ) → List (Name × List ℕ)
 with_attribute name value [] = before_others name value []
 with_attribute name value (a ∷ rest) =

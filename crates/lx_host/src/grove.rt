@@ -120,7 +120,7 @@ impl Grove {
         self.host(id).is_some()
     }
 
-    /// The host below which it stands.
+    /// The host below which it is.
     pub fn parent(&self, id: u32) -> Option<u32>
         ensures parent { result ≡ lookups.parent_of id_of self.now.hosts id }
         ensures ordered { IsOrdered id_of self.now.hosts }
@@ -164,7 +164,7 @@ impl Grove {
         }
     }
 
-    /// The host right behind this one among the children of its parent.
+    /// The host right after this one among the children of its parent.
     pub fn next(&self, id: u32) -> Option<u32>
         ensures next { result ≡ lookups.next_of id_of self.now.hosts id }
         ensures ordered { IsOrdered id_of self.now.hosts }
@@ -228,7 +228,7 @@ impl Grove {
         at
     }
 
-    /// Whether the host of that id is there and stands below that one.
+    /// Whether the host of that id is there and is below that one.
     fn is_child(&self, id: u32, parent: u32) -> bool
         ensures child { result ≡ is_named (lookups.parent_of id_of self.now.hosts id) parent }
         ensures ordered { IsOrdered id_of self.now.hosts }
@@ -340,7 +340,7 @@ impl Grove {
         }
     }
 
-    /// Puts a host that stands below nothing among the children of a parent. The room stays.
+    /// Puts a host that is below nothing among the children of a parent. The room stays.
     fn put(&mut self, parent: u32, before: Option<u32>, id: u32)
         requires can { CanPut id_of parent id self.old.hosts }
         requires place { is_place before (lookups.children_of id_of self.old.hosts parent) ≡ true }
@@ -362,7 +362,7 @@ impl Grove {
         self.put(parent, before, child);
     }
 
-    /// Takes a host away that has no child and stands below nothing. The room stays.
+    /// Takes a host away that has no child and is below nothing. The room stays.
     fn take_lone(&mut self, id: u32)
         requires other { id ≢ 0 }
         requires top { lookups.parent_of id_of self.old.hosts id ≡ None }

@@ -17,7 +17,7 @@ pub struct Gap {
     pub next: Option<u32>,
 }
 
-/// Tells a host which one stands right behind it.
+/// Shows a host which one comes right after it.
 fn set_next(table: &mut IndexMap<u32, Linked>, at: Option<u32>, next: Option<u32>)
     ensures differs { Differs (λ q. changed (Next next) (is_named at q)) table.old table.new }
     ensures room { spare table.new ≡ spare table.old }
@@ -25,7 +25,7 @@ fn set_next(table: &mut IndexMap<u32, Linked>, at: Option<u32>, next: Option<u32
     change_host(table, at, Change::Next(next));
 }
 
-/// Tells a host which one stands right before it.
+/// Shows a host which one comes right before it.
 fn set_prev(table: &mut IndexMap<u32, Linked>, at: Option<u32>, prev: Option<u32>)
     ensures differs { Differs (λ q. changed (Prev prev) (is_named at q)) table.old table.new }
     ensures room { spare table.new ≡ spare table.old }
@@ -33,7 +33,7 @@ fn set_prev(table: &mut IndexMap<u32, Linked>, at: Option<u32>, prev: Option<u32
     change_host(table, at, Change::Prev(prev));
 }
 
-/// Tells the host that it stands below nothing.
+/// Shows the host that it is below nothing.
 fn set_free(table: &mut IndexMap<u32, Linked>, id: u32)
     ensures differs { Differs (λ q. changed (Place None None None) (q == id)) table.old table.new }
     ensures room { spare table.new ≡ spare table.old }
@@ -72,7 +72,7 @@ pub fn unlink(table: &mut IndexMap<u32, Linked>, id: u32, parent: u32, gap: &Gap
     set_free(table, id);
 }
 
-/// Tells the host where it stands: below the parent, in the gap.
+/// Shows the host where it is: below the parent, in the gap.
 fn set_below(table: &mut IndexMap<u32, Linked>, id: u32, parent: u32, gap: &Gap)
     ensures differs { Differs (λ q. changed (Place (Some parent) gap.now.prev gap.now.next) (q == id)) table.old table.new }
     ensures room { spare table.new ≡ spare table.old }

@@ -24,7 +24,7 @@ pub struct Face {
     pub ending: bool,
 }
 
-/// A host with its links: the host below which it stands, its neighbours there, the ends of its own children, and
+/// A host with its links: the host below which it is, its neighbours there, the ends of its own children, and
 /// how many they are.
 #[derive(Drop)]
 pub struct Linked {
@@ -71,9 +71,9 @@ pub enum Change {
     Text(Txt),
     /// A line break ends it, or none does.
     Break(bool),
-    /// This one stands right behind it.
+    /// This one comes right after it.
     Next(Option<u32>),
-    /// This one stands right before it.
+    /// This one comes right before it.
     Prev(Option<u32>),
     /// It goes below a parent, or below none, between these neighbours.
     Place {
@@ -81,7 +81,7 @@ pub enum Change {
         prev: Option<u32>,
         next: Option<u32>,
     },
-    /// A child that stood between these has left it.
+    /// A child that came between these has left it.
     Left {
         prev: Option<u32>,
         next: Option<u32>,

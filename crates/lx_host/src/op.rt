@@ -244,7 +244,7 @@ pub(crate) fn copy_text(alloc: Global, text: &Option<Txt>) -> Result<Option<Txt>
 
 ghost use Rattle.lx_host.specs.Places.{IsPlaceOf};
 
-/// Where the attribute of that name stands among these, or else, as an error, where it belongs.
+/// Where the attribute of that name is among these, or else, as an error, where it belongs.
 fn place_of(attributes: &[(Name, Txt)], name: Name) -> Result<usize, usize>
     ensures { IsPlaceOf name attributes.now result }
 {

@@ -5,7 +5,7 @@ use lx_node::{NoMemory, Txt};
 use std::alloc::Global;
 use std::marker::Model;
 
-/// The HTML that was written so far, as the list of its Unicode scalar values. After want of memory a page
+/// The HTML that was written so far, as the list of its Unicode scalar values. After memory ran out a page
 /// is only fit to be dropped.
 #[derive(Drop)]
 pub struct Page {

@@ -137,7 +137,7 @@ impl Tag {
     ghost use Rattle.std.specs.Prelude.{◌≡◌};
     ghost use Rattle.lx_host.specs.Words.{tag_word};
 
-    /// The word of the tag. Of two elements, the outer one stands first, as in `code>strong`.
+    /// The word of the tag. Of two elements, the outer one comes first, as in `code>strong`.
     #[tactic(auto, unfolding(crate::specs::Words::tag_word))]
     pub fn word(self) -> &'static str
         ensures { result.now ≡ tag_word self }

@@ -15,7 +15,7 @@ use std::alloc::Global;
 use std::marker::Model;
 
 /// A host tree: host 0 with all below it, hosts that aren't placed yet, and the least id never used, with the room
-/// for more beside it. No id stands twice in it. Of each key that hosts show, a second table has how many show it.
+/// for more beside it. No id occurs twice in it. Of each key that hosts show, a second table has how many show it.
 pub struct HostTree {
     alloc: Global,
     grove: Grove,
@@ -253,7 +253,7 @@ impl HostTree {
         self.grove.first(id)
     }
 
-    /// The id of the host behind the one of that id, among the children of one. Host 0 and hosts that aren't
+    /// The id of the host after the one of that id, among the children of one. Host 0 and hosts that aren't
     /// placed have none beside them.
     pub fn next_sibling(&self, id: u32) -> Option<u32>
         ensures { result ≡ next_sibling id self.now.tree.hosts }
@@ -264,7 +264,7 @@ impl HostTree {
     ghost use Rattle.lx_host.specs.Hosts.{id_of};
     ghost use Rattle.lx_rooted.specs.Lookups.{parent_of};
 
-    /// The id of the host below which the one of that id stands. Host 0 and hosts that aren't placed stand
+    /// The id of the host below which the one of that id is. Host 0 and hosts that aren't placed are
     /// below none.
     pub fn parent(&self, id: u32) -> Option<u32>
         ensures { result ≡ parent_of id_of self.now.tree.hosts id }

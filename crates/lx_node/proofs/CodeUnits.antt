@@ -83,7 +83,7 @@ counted-append a b characters code_units e f front back x y few = record {
   fits = few;
 }
 
--- what is told of them
+-- what a machine counts of them
 pub counted-characters : (counts : Counts) (text : List ℕ) → AreCounted counts text → counts.characters ≡ capped (length text)
 counted-characters counts text is = is.characters ∙ capped_small (length text) (omega (arith, units-many text, is.fits))
 

@@ -1,4 +1,4 @@
--- The laws of trees whose labels have names: one behind another, where a name is absent, and after edits.
+-- The laws of trees whose labels have names: one after another, where a name is absent, and after edits.
 use Rattle.std.proofs.Common.{length, length-append, ◌≡◌, ℕ, ◌+◌, ◌≤◌, Bool, true, false, cond, eqb, List, [], ◌∷◌, ◌++◌, Option, refl, ap, arith, append_assoc}
 use Rattle.std.proofs.lemmas.Bool.Decides.{eqb_tells}
 use Rattle.lx_node.specs.Trees.{Trees, nil, tree, joined}
@@ -6,7 +6,7 @@ use Rattle.lx_node.specs.NamedTrees.{IsDistinct, has, total, mapped, count, name
 use Rattle.lx_node.specs.Siblings.{is_among, NoRepeats, names_without, names_with}
 use Rattle.lx_node.proofs.Siblings.{is_among-append, NoRepeats-append}
 
--- ---- one behind another
+-- ---- one after another
 
 pub joined-nil : {A : Type 0} (s : Trees A) → joined s nil ≡ s
 joined-nil nil = refl
@@ -131,7 +131,7 @@ module _ {A : Type 0} (name : A → ℕ) where
   total-put_below p before new (tree a below rest) once =
       grind (arith, total-put_below p before new below, total-put_below p before new rest, total-inserted before new below, put_below-absent p before new below, put_below-absent p before new rest)
 
-  -- a name that stands is a label
+  -- a name that is there is a label's
   pub count-le-total : (q : ℕ) (t : Trees A) → count name q t ≤ total t
   count-le-total q nil = omega arith
   count-le-total q (tree a below rest) = grind (arith, count-le-total q below, count-le-total q rest)
@@ -158,12 +158,12 @@ module _ {A : Type 0} (name : A → ℕ) where
   names-mapped change kept nil = refl
   names-mapped change kept (tree a below rest) = rw (kept a, names-mapped change kept rest)
 
-  -- a name that stands nowhere isn't among the first
+  -- a name that is nowhere isn't among the first
   pub names_without-absent : (k : ℕ) (t : Trees A) → count name k t ≡ 0 → names_without k (names name t) ≡ names name t
   names_without-absent k nil e = refl
   names_without-absent k (tree a below rest) e = grind (arith, names_without-absent k rest)
 
-  -- a tree alone stands first
+  -- a tree alone comes first
   pub names-alone : (k : ℕ) (t : Trees A) → count name k t ≡ 1 → names name (alone name k t) ≡ k ∷ []
   names-alone k nil e = absurd (omega arith)
   names-alone k (tree a below rest) e =

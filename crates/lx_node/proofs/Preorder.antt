@@ -30,7 +30,7 @@ filter-none keep [] each = refl
 filter-none keep (x ∷ xs) each =
     rw (each x (grind (arith, eqb_tells x x))) (filter-none keep xs (λ q among. each q (grind (arith, among))))
 
--- new names before one: what is ahead of that, and what is behind, stays
+-- new names before one: what is ahead of that, and what comes after, stays
 names_with-behind : (b : ℕ) (new xs ys : List ℕ) → is_among b xs ≡ false → names_with (Some b) new (xs ++ ys) ≡ xs ++ names_with (Some b) new ys
 names_with-behind b new [] ys e = refl
 names_with-behind b new (x ∷ xs) ys e = grind (arith, eqb_tells x b, eqb_tells b x, names_with-behind b new xs ys)
@@ -43,7 +43,7 @@ names_with-last : (new xs : List ℕ) → names_with None new xs ≡ xs ++ new
 names_with-last new [] = refl
 names_with-last new (x ∷ xs) = ap (λ ys. x ∷ ys) (names_with-last new xs)
 
--- new names between a front and what is behind it
+-- new names between a front and what comes after it
 names_with-first_of : (new xs ys : List ℕ) → NoRepeats (xs ++ ys) → names_with (first_of ys) new (xs ++ ys) ≡ xs ++ (new ++ ys)
 names_with-first_of new xs [] u = rw (append-nil xs, append-nil new) (names_with-last new xs)
 names_with-first_of new [] (y ∷ ys) u = grind (arith, eqb_tells y y)
@@ -111,7 +111,7 @@ module _ {A : Type 0} (name : A → ℕ) where
         ]
       ]
 
-  -- The names up to the end of the tree of p are the front: behind it the rest goes on, and there new ones come.
+  -- The names up to the end of the tree of p are the front: after it the rest goes on, and there new ones come.
   record IsFront (after : List ℕ) (p : ℕ) (new t : Trees A) (front : List ℕ) : Type 0 where
     split : preorder name t ++ after ≡ front ++ unwrap_or (behind_before name after t p) []
     come : preorder name (put_below name p None new t) ++ after ≡ front ++ (preorder name new ++ unwrap_or (behind_before name after t p) [])
@@ -136,7 +136,7 @@ module _ {A : Type 0} (name : A → ℕ) where
     come = rw (same, other, put_below-absent name p None new below gone) (ap (λ ks. name a ∷ ks) (append_assoc (preorder name below) (preorder name (put_below name p None new rest)) after ∙ ap (λ ks. preorder name below ++ ks) later.come ∙ sym (append_assoc (preorder name below) front (preorder name new ++ unwrap_or (behind_before name after rest p) []))));
   }
 
-  -- behind the children of p
+  -- after the children of p
   come_last : (after : List ℕ) (p : ℕ) (new t : Trees A) → IsDistinct name t → 0 < count name p t → (front : List ℕ) × IsFront after p new t front
   come_last after p new nil once some = absurd (omega arith)
   come_last after p new (tree a below rest) once some =
@@ -153,7 +153,7 @@ module _ {A : Type 0} (name : A → ℕ) where
         ]
       ]
 
-  -- the names with new ones before that child of p, or else before what is behind p
+  -- the names with new ones before that child of p, or else before what comes after p
   pub preorder-put_below : (p : ℕ) (before : Option ℕ) (new t : Trees A) → IsDistinct name t → 0 < count name p t → is_place before (children_at (spot name t p)) ≡ true →
       preorder name (put_below name p before new t) ≡ names_with (option_or before (first_of (behind name t p))) (preorder name new) (preorder name t)
   preorder-put_below p (Some b) new t once some e = come_before None p b new t once e

@@ -1,4 +1,4 @@
--- The tests of equality tell equality.
+-- The tests of equality show equality.
 use Rattle.std.proofs.Common.{◌≡◌, ◌∙◌, ℕ, List, [], ◌∷◌, Bool, Option, None, Some, refl, sym, ap, encode_utf8_all}
 use Rattle.std.specs.Str.{bytes_eq, chars}
 use Rattle.std.proofs.lemmas.Slice.Eq.{bytes_eq-Decides}

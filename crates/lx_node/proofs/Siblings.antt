@@ -1,4 +1,4 @@
--- The laws of a list of names: what leaving and coming do to who stands beside whom.
+-- The laws of a list of names: what leaving and coming do to who is beside whom.
 use Rattle.std.proofs.Common.{suc, ◌≡◌, ◌≢◌, ◌⊎◌, sym, ap, ℕ, ◌+◌, true, false, cond, eqb, ◌||◌, ◌&&◌, not, List, [], ◌∷◌, ◌++◌, length, Option, None, Some, refl, arith, subst, inl, inr}
 use Rattle.std.specs.Prelude.{option_map, is_some, is_none}
 use Rattle.std.proofs.lemmas.Bool.Decides.{eqb_tells}
@@ -86,7 +86,7 @@ pub last_from-apart : (b : Option ℕ) (xs : List ℕ) (q : ℕ) → is_named b 
 last_from-apart b [] q e f = e
 last_from-apart b (x ∷ xs) q e f = last_from-apart (Some x) xs q (grind (arith, eqb_tells x q, eqb_tells q x)) (grind arith)
 
--- a name in the list has none before it where it is the first, and none behind it where it is the last
+-- a name in the list has none before it where it is the first, and none after it where it is the last
 pub is_none-previous_in : (xs : List ℕ) (k : ℕ) → NoRepeats xs → is_among k xs ≡ true → is_none (previous_in xs k) ≡ is_named (first_of xs) k
 is_none-previous_in [] k u e = absurd (grind arith)
 is_none-previous_in (x ∷ xs) k u e = grind (arith, eqb_tells x k, eqb_tells k x, is_some-previous_from x xs k)

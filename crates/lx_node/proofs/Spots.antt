@@ -1,4 +1,4 @@
--- The laws of where a name stands.
+-- The laws of where a name is.
 use Rattle.std.proofs.Common.{cond, eqb, true, ◌&&◌, ◌≡◌, ℕ, ◌+◌, ◌<◌, false, List, Option, None, Some, refl, sym, ap, ◌∙◌, arith, subst, inl, inr}
 use Rattle.std.specs.Prelude.{is_some, is_none, option_map}
 use Rattle.std.specs.Option.{option_or}
@@ -85,7 +85,7 @@ module _ {A : Type 0} (name : A → ℕ) where
   spot_below-inserted p before new (tree a below rest) q once =
       grind (arith, spot_below-inserted p before new rest q, spot_below-joined p new (tree a below rest) q, spot_below-absent p new q, spot_below-absent (Some (name a)) below q)
 
-  -- at a name that stands outside the tree of k, that tree is gone from the children
+  -- at a name that is outside the tree of k, that tree is gone from the children
   pub spot_below-without : (p : Option ℕ) (k : ℕ) (t : Trees A) (q : ℕ) → count name q (alone name k t) ≡ 0 →
       spot_below name p (without name k t) q ≡ option_map (left_by k) (spot_below name p t q)
   spot_below-without p k nil q e = refl
@@ -99,14 +99,14 @@ module _ {A : Type 0} (name : A → ℕ) where
   moved-absent p r k (tree a below rest) q e =
       grind (arith, eqb_tells (name a) k, eqb_tells (name a) q, eqb_tells q k, moved-absent (Some (name a)) r k below q, moved-absent p r k rest q, names_without-absent name k below, option_map-option_or {X = Spot A} {Y = Spot A})
 
-  -- at a name that stands in the tree of k alone
+  -- at a name that is in the tree of k alone
   pub spot_below-alone : (p r : Option ℕ) (k : ℕ) (t : Trees A) (q : ℕ) → count name k t < 2 → count name q (without name k t) ≡ 0 →
       spot_below name r (alone name k t) q ≡ option_map (moved r k q) (spot_below name p t q)
   spot_below-alone p r k nil q once e = refl
   spot_below-alone p r k (tree a below rest) q once e =
       grind (arith, eqb_tells (name a) k, eqb_tells (name a) q, eqb_tells q k, spot_below-alone (Some (name a)) r k below q, spot_below-alone p r k rest q, spot_below-joined r (alone name k below) (alone name k rest) q, moved-absent (Some (name a)) r k below q, names_without-absent name k below, option_map-option_or {X = Spot A} {Y = Spot A})
 
-  -- new trees below the one place p, at each name that stands at most once after that
+  -- new trees below the one place p, at each name that is at most once after that
   pub spot_below-put_below : (r : Option ℕ) (p : ℕ) (before : Option ℕ) (new t : Trees A) (q : ℕ) → count name p t ≡ 1 → count name q new + count name q t < 2 →
       spot_below name r (put_below name p before new t) q
       ≡ option_or (spot_below name (Some p) new q) (option_map (joined_by p before (names name new) q) (spot_below name r t q))
@@ -114,9 +114,9 @@ module _ {A : Type 0} (name : A → ℕ) where
   spot_below-put_below r p before new (tree a below rest) q there once =
       grind (arith, eqb_tells (name a) p, eqb_tells (name a) q, eqb_tells q p, spot_below-put_below (Some (name a)) p before new below q, spot_below-put_below r p before new rest q, spot_below-inserted (Some (name a)) before new below q, names-inserted name before new below, names-put_below name p before new below, put_below-absent name p before new below, put_below-absent name p before new rest, spot_below-absent (Some p) new q, spot_below-absent (Some (name a)) below q, spot_below-absent r rest q)
 
-  -- ---- trees are determined by where their names stand
+  -- ---- trees are determined by where their names are
 
-  -- what `at` says of each label is where it stands in these trees, which stand below this parent, if any
+  -- what `at` says of each label is where it is in these trees, which are below this parent, if any
   abbrev Tells : (ℕ → Option (Spot A)) → Option ℕ → Trees A → Type 0
   Tells at parent nil = Unit {0}
   Tells at parent (tree a below rest) =
@@ -169,13 +169,13 @@ module _ {A : Type 0} (name : A → ℕ) where
         | inr h ↦ rw h.0 (NoRepeats-either (spot_below name (Some (name a)) below q) (spot_below name r rest q) (NoRepeats-children (Some (name a)) below q (λ x. omega (arith, once x))) (NoRepeats-children r rest q (λ x. omega (arith, once x))))
       ]
 
-  -- a child stands in the trees
+  -- a child is in the trees
   pub count-child : (r : Option ℕ) (t : Trees A) (q c : ℕ) → count name c t ≡ 0 → is_among c (children_at (spot_below name r t q)) ≡ false
   count-child r nil q c e = refl
   count-child r (tree a below rest) q c e =
       grind (arith, count-child (Some (name a)) below q c, count-child r rest q c, is_among-names below c)
 
-  -- so does a parent, unless all the trees stand below it
+  -- so does a parent, unless all the trees are below it
   pub parent-absent : (r : Option ℕ) (t : Trees A) (q p : ℕ) → count name p t ≡ 0 → is_named r p ≡ false → is_named (parent_at (spot_below name r t q)) p ≡ false
   parent-absent r nil q p e n = refl
   parent-absent r (tree a below rest) q p e n =
@@ -202,7 +202,7 @@ module _ {A : Type 0} (name : A → ℕ) where
   parent-present p (tree a below rest) q some =
       grind (arith, eqb_tells (name a) q, parent-present (name a) below q, parent-present p rest q, spot_below-absent (Some (name a)) below q, is_some-spot_below (Some (name a)) below q)
 
-  -- the first names are those that stand and have no parent
+  -- the first names are those that are there and have no parent
   pub is_among-firsts : (t : Trees A) (q : ℕ) → IsDistinct name t → is_among q (names name t) ≡ (has name q t && is_none (parent_at (spot name t q)))
   is_among-firsts nil q once = refl
   is_among-firsts (tree a below rest) q once =

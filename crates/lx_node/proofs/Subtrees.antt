@@ -14,13 +14,13 @@ use Rattle.lx_node.proofs.Spots.{count-child, parent-absent, is_among-names, is_
 module _ {A : Type 0} (name : A → ℕ) where
   -- ---- a tree alone after edits
 
-  -- a tree that stands outside the one that is left out
+  -- a tree that is outside the one that is left out
   pub alone-without : (a k : ℕ) (t : Trees A) → count name a (alone name k t) ≡ 0 → alone name a (without name k t) ≡ without name k (alone name a t)
   alone-without a k nil e = refl
   alone-without a k (tree x below rest) e =
       grind (arith, eqb_tells (name x) k, alone-without a k below, alone-without a k rest, count-joined name a (alone name k below) (alone name k rest), alone-absent name a below, without-joined name k (alone name a below) (alone name a rest))
 
-  -- a tree that stands inside another
+  -- a tree that is inside another
   pub alone-alone : (a k : ℕ) (t : Trees A) → count name a (without name k t) ≡ 0 → alone name a (alone name k t) ≡ alone name a t
   alone-alone a k nil e = refl
   alone-alone a k (tree x below rest) e =
@@ -74,7 +74,7 @@ module _ {A : Type 0} (name : A → ℕ) where
   pub count-alone_up : (a : ℕ) (t : Trees A) (q p : ℕ) → IsDistinct name t → parent_at (spot name t q) ≡ Some p → q ≢ a → count name q (alone name a t) ≡ count name p (alone name a t)
   count-alone_up a t q p once up other = grind (arith, walk_up a None t q p once up, eqb_tells q a)
 
-  -- a parent stands in the trees
+  -- a parent is in the trees
   pub count-parent : (t : Trees A) (q p : ℕ) → parent_at (spot name t q) ≡ Some p → 0 < count name p t
   count-parent t q p up = grind (arith, parent-absent name None t q p, is_named_tells (parent_at (spot name t q)) p)
 

@@ -14,7 +14,7 @@ use Rattle.lx_node.proofs.Siblings.{is_some-index_in, index_in-append, is_named_
 use Rattle.lx_node.proofs.Spots.{is_among-names, count-child, parent-absent, parent-present, spot_below-absent, is_some-spot_below}
 use Rattle.lx_node.proofs.Subtrees.{count-alone-le}
 
--- what stands above trees: nothing, or their parent and what is above it
+-- what is above trees: nothing, or their parent and what is above it
 over : Option ℕ → List ℕ → List ℕ
 over None top = []
 over (Some p) top = p ∷ top
@@ -143,7 +143,7 @@ module _ {A : Type 0} (name : A → ℕ) where
         | inr h ↦ grind (arith, h, once q, behind_before-rest after a below rest q, behind_last_sibling after rest q (λ x. omega (arith, once x)), is_among-names name rest q)
       ]
 
-  -- a name, and then its first child, or else what is behind it
+  -- a name, and then its first child, or else what comes after it
   from_child : (r : Option ℕ) (after : List ℕ) (t : Trees A) (q c : ℕ) → IsDistinct name t → first_of (children_at (spot_below name r t q)) ≡ Some c →
       from_before after t q ≡ q ∷ from_before after t c
   from_child r after nil q c once e = absurd (grind arith)
@@ -162,7 +162,7 @@ module _ {A : Type 0} (name : A → ℕ) where
         | inr h ↦ grind (arith, h, once q, is_some-spot_below name (Some (name a)) below q, is_some-spot_below name r rest q, spot_below-absent name (Some (name a)) below q, from_before-below after a below rest q, from_before-rest after a below rest q, behind_before-below after a below rest q, behind_before-rest after a below rest q, from_leaf (Some (name a)) (preorder name rest ++ after) below q (λ x. omega (arith, once x)), from_leaf r after rest q (λ x. omega (arith, once x)))
       ]
 
-  -- behind a name comes its next sibling, or else what is behind the parent
+  -- after a name comes its next sibling, or else what comes after the parent
   behind_next : (r : Option ℕ) (after : List ℕ) (t : Trees A) (q n p : ℕ) → IsDistinct name t → next_in (children_at (spot_below name r t p)) q ≡ Some n →
       behind_before name after t q ≡ Some (from_before after t n)
   behind_next r after nil q n p once e = absurd (grind arith)
@@ -181,7 +181,7 @@ module _ {A : Type 0} (name : A → ℕ) where
         | inr h ↦ grind (arith, h, once q, once p, is_some-spot_below name (Some (name a)) below p, spot_below-absent name (Some (name a)) below p, spot_below-absent name r rest p, is_some-spot_below name r rest p, behind_before-below after a below rest q, behind_before-rest after a below rest q, behind_before-below after a below rest p, behind_before-rest after a below rest p, behind_last (Some (name a)) (preorder name rest ++ after) below q p (λ x. omega (arith, once x)), behind_last r after rest q p (λ x. omega (arith, once x)), count-child name (Some (name a)) below p q, count-child name r rest p q)
       ]
 
-  -- ---- the same of trees that stand below nothing and that nothing follows
+  -- ---- the same of trees that are below nothing and that nothing follows
 
   -- a name without a parent has no ancestors
   pub ancestors-top : (t : Trees A) (q : ℕ) → parent_at (spot name t q) ≡ None → ancestors name t q ≡ []
@@ -206,25 +206,25 @@ module _ {A : Type 0} (name : A → ℕ) where
   unfolding from_before
   from-child t q c once e = from_child None [] t q c once e
 
-  -- a name without children, and then what is behind it
+  -- a name without children, and then what comes after it
   pub from-leaf : (t : Trees A) (q : ℕ) → IsDistinct name t → 0 < count name q t → children_at (spot name t q) ≡ [] → from name t q ≡ q ∷ behind name t q
   unfolding from_before
   from-leaf t q once some e = from_leaf None [] t q once some e
 
-  -- behind a name comes its next sibling
+  -- after a name comes its next sibling
   pub behind-next : (t : Trees A) (q n p : ℕ) → IsDistinct name t → next_in (children_at (spot name t p)) q ≡ Some n → behind name t q ≡ from name t n
   unfolding from_before
   behind-next t q n p once e = ap (λ o. unwrap_or o []) (behind_next None [] t q n p once e)
 
-  -- behind a last child comes what is behind its parent
+  -- after a last child comes what comes after its parent
   pub behind-last : (t : Trees A) (q p : ℕ) → IsDistinct name t → is_among q (children_at (spot name t p)) ≡ true → next_in (children_at (spot name t p)) q ≡ None → behind name t q ≡ behind name t p
   behind-last t q p once c e = ap (λ o. unwrap_or o []) (behind_last None [] t q p once c e)
 
-  -- behind a last first name comes nothing
+  -- after a last first name comes nothing
   pub behind-top : (t : Trees A) (q : ℕ) → IsDistinct name t → is_among q (names name t) ≡ true → next_in (names name t) q ≡ None → behind name t q ≡ []
   behind-top t q once c e = ap (λ o. unwrap_or o []) (behind_last_sibling [] t q once c e)
 
-  -- fewer names stand above one than there are
+  -- fewer names are above one than there are
   ancestors_short : (above : List ℕ) (t : Trees A) (q : ℕ) → 0 < count name q t → length (unwrap_or (ancestors_below name above t q) []) < length above + total t
   ancestors_short above nil q some = absurd (omega arith)
   ancestors_short above (tree a below rest) q some =
@@ -235,7 +235,7 @@ module _ {A : Type 0} (name : A → ℕ) where
 
   -- ---- before and after
 
-  -- how many names stand before q
+  -- how many names come before q
   place : Trees A → ℕ → ℕ
   place nil q = 0
   place (tree a below rest) q = cond (eqb (name a) q) 0 (cond (has name q below) (1 + place below q) (1 + total below + place rest q))

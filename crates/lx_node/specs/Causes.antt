@@ -3,6 +3,7 @@ use Rattle.std.specs.Prelude.{ℕ}
 use Rattle.lx_node.specs.declared.cause.Cause.{Cause}
 use Rattle.lx_node.specs.declared.cause.Cause.TheVariants.{BadLine, BadCommand, UnknownNode, WrongKind, BadPlace, NoSelection, SelectionLost, NoRest, StepLimit, DispatchDepth, TooLarge, UnknownType, BadState, EmptyState, HistoryInside, TooManyRules}
 
+-- the number of a cause, 1 to 16
 unfoldable pub code_of : Cause → ℕ
 code_of BadLine = 1
 code_of BadCommand = 2

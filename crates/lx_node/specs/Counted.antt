@@ -3,7 +3,7 @@ use Rattle.std.specs.Prelude.{ℕ, ◌≡◌, ◌<◌, ◌^◌, List, length}
 use Rattle.lx_node.specs.Units.{units}
 use Rattle.lx_node.specs.declared.counts.Counts.{Counts}
 
--- the numbers of characters and of code units, of which a machine tells each
+-- what a machine has counted of a text: its characters and its code units
 pub record AreCounted (counts : Counts) (text : List ℕ) : Type 0 where
   pub characters : counts.characters ≡ length text
   pub fits : units text < 2 ^ 64

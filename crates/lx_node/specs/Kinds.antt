@@ -3,6 +3,7 @@ use Rattle.std.specs.Prelude.{ℕ, List, Bool, true, false, not, ◌||◌, ◌&&
 use Rattle.lx_node.specs.declared.kind.Kind.{Kind}
 use Rattle.lx_node.specs.declared.kind.Kind.TheVariants.{Root, Paragraph, Heading, Quote, List as ListKind, Item, Link, Table, Row, Cell, Text, Tab, Break, Rule, Embed}
 
+-- what a kind is called in documents and replies
 unfoldable pub type_name : Kind → List ℕ
 type_name Root = codes "root"
 type_name Paragraph = codes "paragraph"
@@ -22,7 +23,7 @@ type_name Embed = codes "embed"
 
 -- ---- the table of kinds
 
--- what stands in a line of text
+-- what comes in a line of text
 unfoldable pub is_inline : Kind → Bool
 is_inline Text = true
 is_inline Tab = true
@@ -31,7 +32,7 @@ is_inline Link = true
 is_inline Embed = true
 is_inline _ = false
 
--- what stands below the root or in a cell
+-- what comes below the root or in a cell
 unfoldable pub is_block : Kind → Bool
 is_block Paragraph = true
 is_block (Heading level) = true
@@ -41,42 +42,52 @@ is_block Table = true
 is_block Rule = true
 is_block _ = false
 
+-- whether this is the kind of a paragraph
 unfoldable pub is_paragraph : Kind → Bool
 is_paragraph Paragraph = true
 is_paragraph _ = false
 
+-- whether this is the kind of a heading, whatever its level
 unfoldable pub is_heading : Kind → Bool
 is_heading (Heading level) = true
 is_heading _ = false
 
+-- whether this is the kind of a list, whatever its type
 unfoldable pub is_list : Kind → Bool
 is_list (ListKind type) = true
 is_list _ = false
 
+-- whether this is the kind of a list's item
 unfoldable pub is_item : Kind → Bool
 is_item Item = true
 is_item _ = false
 
+-- whether this is the kind of a link
 unfoldable pub is_link : Kind → Bool
 is_link Link = true
 is_link _ = false
 
+-- whether this is the kind of a table
 unfoldable pub is_table : Kind → Bool
 is_table Table = true
 is_table _ = false
 
+-- whether this is the kind of a table's row
 unfoldable pub is_row : Kind → Bool
 is_row Row = true
 is_row _ = false
 
+-- whether this is the kind of a row's cell
 unfoldable pub is_cell : Kind → Bool
 is_cell Cell = true
 is_cell _ = false
 
+-- whether this is the kind of a text
 unfoldable pub is_text : Kind → Bool
 is_text Text = true
 is_text _ = false
 
+-- whether this is the kind of an embed
 unfoldable pub is_embed : Kind → Bool
 is_embed Embed = true
 is_embed _ = false
@@ -95,7 +106,7 @@ is_text_block Quote = true
 is_text_block Item = true
 is_text_block _ = false
 
--- an element is what may have children; the others are leaves
+-- what may have children: an element; all else is a leaf
 unfoldable pub is_element : Kind → Bool
 is_element Text = false
 is_element Tab = false
@@ -104,9 +115,8 @@ is_element Rule = false
 is_element Embed = false
 is_element _ = true
 
--- which kinds of children a kind holds: the root and a cell blocks, a paragraph and a heading inlines, a quote
--- inlines, paragraphs, headings and lists, a list items, an item inlines and lists, a link inlines other than links,
--- a table rows, a row cells, and a leaf nothing
+-- the root and cells hold blocks, paragraphs and headings inlines, quotes inlines, paragraphs, headings and lists,
+-- lists items, items inlines and lists, links other inlines, tables rows, rows cells, and leaves nothing
 unfoldable pub may_hold : Kind → Kind → Bool
 may_hold Root child = is_block child
 may_hold Paragraph child = is_inline child
@@ -120,7 +130,7 @@ may_hold Row child = is_cell child
 may_hold Cell child = is_block child
 may_hold _ child = false
 
--- a link, a list and a table without children are taken out; every other kind may be empty
+-- which kinds may be without children: all but a link, a list and a table, which are taken out when they are empty
 unfoldable pub may_be_empty : Kind → Bool
 may_be_empty Link = false
 may_be_empty (ListKind type) = false

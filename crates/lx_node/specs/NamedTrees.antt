@@ -1,5 +1,5 @@
--- Trees whose labels have names. The function `name` says how a label is called. Nothing here needs that no name stands
--- twice: a function acts on each label of the name that it is given.
+-- Trees whose labels have names. The function `name` says how a label is called. Nothing here needs names to
+-- differ: a function acts on each label of the name that it is given.
 use Rattle.std.specs.Prelude.{ℕ, ◌+◌, ◌<◌, ◌==◌, ◌++◌, Bool, nat_lt, if◌then◌else◌, List, [], ◌∷◌, Option}
 use Rattle.lx_node.specs.Trees.{Trees, nil, tree, joined}
 use Rattle.lx_node.specs.Siblings.{is_named}
@@ -24,16 +24,16 @@ module _ {A : Type 0} (name : A → ℕ) where
   abbrev pub has : ℕ → Trees A → Bool
   has q trees = nat_lt 0 (count q trees)
 
-  -- no name stands twice
+  -- no name occurs twice
   abbrev pub IsDistinct : Trees A → Type 0
   IsDistinct trees = (q : ℕ) → count q trees < 2
 
-  -- the names of the first labels: those that stand below nothing
+  -- the names of the first labels: those that are below nothing
   abbrev pub names : Trees A → List ℕ
   names nil = []
   names (tree a below rest) = name a ∷ names rest
 
-  -- all names, each before those below it, and those before the names behind
+  -- all names, each before those below it, and those before the names after
   abbrev pub preorder : Trees A → List ℕ
   preorder nil = []
   preorder (tree a below rest) = name a ∷ preorder below ++ preorder rest
@@ -55,7 +55,7 @@ module _ {A : Type 0} (name : A → ℕ) where
   children_of q (tree a below rest) =
       (if name a == q then names below else children_of q below) ++ children_of q rest
 
-  -- trees with new ones before the first tree of that name, or behind all where none is named or there is none
+  -- trees with new ones before the first tree of that name, or after all where none is named or there is none
   abbrev pub inserted : Option ℕ → Trees A → Trees A → Trees A
   inserted before new nil = new
   inserted before new (tree a below rest) =
@@ -67,7 +67,7 @@ module _ {A : Type 0} (name : A → ℕ) where
   put_below parent before new (tree a below rest) =
       tree a (if name a == parent then inserted before new below else put_below parent before new below) (put_below parent before new rest)
 
-  -- the trees of these names, one behind another
+  -- the trees of these names, one after another
   abbrev pub gathered : Trees A → List ℕ → Trees A
   gathered trees [] = nil
   gathered trees (k ∷ ks) = joined (alone k trees) (gathered trees ks)

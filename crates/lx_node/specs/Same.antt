@@ -17,23 +17,27 @@ use Rattle.lx_node.specs.declared.fields.Fields.TheVariants as fields
 
 -- ---- parts
 
+-- whether two texts have the same characters
 unfoldable pub same_text : List ℕ → List ℕ → Bool
 same_text [] [] = true
 same_text (x ∷ xs) (y ∷ ys) = (x == y) && same_text xs ys
 same_text _ _ = false
 
+-- whether two modes are equal
 unfoldable pub same_mode : Mode → Mode → Bool
 same_mode Normal Normal = true
 same_mode Token Token = true
 same_mode Segmented Segmented = true
 same_mode _ _ = false
 
+-- whether two directions are equal
 unfoldable pub same_direction : Direction → Direction → Bool
 same_direction direction.Unset direction.Unset = true
 same_direction direction.Ltr direction.Ltr = true
 same_direction direction.Rtl direction.Rtl = true
 same_direction _ _ = false
 
+-- whether two alignments are equal
 unfoldable pub same_align : Align → Align → Bool
 same_align align.Unset align.Unset = true
 same_align align.Left align.Left = true
@@ -46,10 +50,12 @@ same_align _ _ = false
 
 -- ---- what a text has, and an element
 
+-- whether two texts have the same parts
 unfoldable pub same_text_fields : TextFields → TextFields → Bool
 same_text_fields a b =
     same_text a.text b.text && ((a.format == b.format) && ((a.detail == b.detail) && (same_mode a.mode b.mode && same_text a.style b.style)))
 
+-- whether two elements have the same of their own kinds
 unfoldable pub same_extra : Extra → Extra → Bool
 same_extra extra.Plain extra.Plain = true
 same_extra (extra.List start) (extra.List other_start) = start == other_start
@@ -63,6 +69,7 @@ same_extra (extra.Cell header row_span col_span background) (extra.Cell other_he
     && ((row_span == other_row_span) && ((col_span == other_col_span) && option_eq same_text background other_background))
 same_extra _ _ = false
 
+-- whether two elements have the same parts
 unfoldable pub same_element : ElementFields → ElementFields → Bool
 same_element a b =
     same_direction a.direction b.direction
@@ -71,6 +78,7 @@ same_element a b =
 
 -- ---- fields of one variant that have the same parts
 
+-- whether fields are equal: of one variant, with the same parts
 unfoldable pub same_fields : Fields → Fields → Bool
 same_fields (fields.Element a) (fields.Element b) = same_element a b
 same_fields (fields.Text a) (fields.Text b) = same_text_fields a b

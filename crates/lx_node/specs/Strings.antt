@@ -11,21 +11,23 @@ use Rattle.lx_node.specs.declared.fields.Fields.TheVariants as fields
 unfoldable pub capped : ℕ → ℕ
 capped n = min n (2 ^ 64 - 1)
 
+-- how many characters a string has that may be missing
 unfoldable pub characters_of_optional : Option (List ℕ) → ℕ
 characters_of_optional None = 0
 characters_of_optional (Some text) = length text
 
--- the text and the style
+-- how many characters a text's or a tab's fields have: its own and its style's
 unfoldable pub characters_of_text : TextFields → ℕ
 characters_of_text text = length text.text + length text.style
 
--- a link's four strings, and a cell's background
+-- how many characters a link's four strings have, or a cell's background
 unfoldable pub characters_of_extra : Extra → ℕ
 characters_of_extra (extra.Link rel target title url) =
     characters_of_optional rel + characters_of_optional target + characters_of_optional title + length url
 characters_of_extra (extra.Cell header row_span col_span background) = characters_of_optional background
 characters_of_extra _ = 0
 
+-- how many characters an element's fields have, with the style of its texts
 unfoldable pub characters_of_element : ElementFields → ℕ
 characters_of_element element = length element.text_style + characters_of_extra element.extra
 

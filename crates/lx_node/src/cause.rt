@@ -77,7 +77,7 @@ pub enum Cause {
     TooManyRules,
 }
 
-/// Why a call did nothing: it was refused for a cause, or memory was wanting.
+/// Why a call did nothing: it was refused for a cause, or memory ran out.
 #[derive(Debug, Drop, Error)]
 pub enum Fault {
     #[error("refused: {0:?}")]

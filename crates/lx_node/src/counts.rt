@@ -72,7 +72,7 @@ pub(crate) fn count(text: &str) -> Counts
     counts
 }
 
-/// What there is in a piece of a string: so many bytes stand before it, and so many are in it.
+/// What there is in a piece of a string: so many bytes come before it, and so many are in it.
 pub(crate) fn count_piece(text: &str, front: usize, piece: usize) -> Counts
     requires { IsCut front piece (chars text.now) }
     ensures { (before within behind : List ℕ) → Cuts front piece before within behind (chars text.now) → AreCounted result within }

@@ -66,7 +66,7 @@ impl Kind {
         )
     }
 
-    /// Whether nodes of the kind stand in a line of text: texts, tabs, line breaks, links and embeds.
+    /// Whether nodes of the kind come in a line of text: texts, tabs, line breaks, links and embeds.
     #[tactic(auto, unfolding(crate::specs::Kinds::is_inline))]
     pub fn is_inline(self) -> bool
         ensures { result ≡ kinds.is_inline self }
@@ -77,7 +77,7 @@ impl Kind {
         )
     }
 
-    /// Whether nodes of the kind stand below the root and in cells: paragraphs, headings, quotes, lists,
+    /// Whether nodes of the kind come below the root and in cells: paragraphs, headings, quotes, lists,
     /// tables and rules.
     #[tactic(auto, unfolding(crate::specs::Kinds::is_block))]
     pub fn is_block(self) -> bool

@@ -6,7 +6,7 @@ pub const MOST_COUNTS: u32 = 100_000;
 /// How many Unicode scalar values the edits of one update write, at most.
 pub const MOST_WRITTEN: u64 = 16_777_216;
 
-/// How many nodes stand above another in a committed state, at most.
+/// How many nodes are above another in a committed state, at most.
 pub const MOST_DEPTH: u32 = 48;
 
 /// How many nodes a committed state has, at most, with the root.

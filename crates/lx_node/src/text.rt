@@ -124,8 +124,8 @@ impl Txt {
     ghost use Rattle.std.specs.Prelude.{List, ℕ, OnOk, OnErr};
     ghost use Rattle.lx_node.specs.Cuts.{Cuts, IsCut};
 
-    /// Puts `new` in the place of a piece, in place: so many bytes stand before the piece, and so many are in it. What
-    /// stands behind it is moved, and the piece and what is new alone are counted. It takes memory where there is no room
+    /// Puts `new` in the place of a piece, in place: so many bytes come before the piece, and so many are in it. What
+    /// comes after it is moved, and the piece and what is new alone are counted. It takes memory where there is no room
     /// for what is more. Where none was left the text is as it was.
     pub fn splice(&mut self, front: usize, piece: usize, new: &str) -> Result<(), NoMemory>
         requires { IsCut front piece self.old }
@@ -138,7 +138,7 @@ impl Txt {
         Ok(())
     }
 
-    /// Whether a piece is this text: so many bytes stand before the piece, and so many are in it.
+    /// Whether a piece is this text: so many bytes come before the piece, and so many are in it.
     pub fn has_piece(&self, front: usize, piece: usize, text: &str) -> bool
         requires { IsCut front piece self.now }
         ensures { (before within behind : List ℕ) → Cuts front piece before within behind self.now → result ≡ same_text within (chars text.now) }

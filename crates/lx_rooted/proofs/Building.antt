@@ -1,4 +1,4 @@
--- Trees that are put behind the children of a label, one after another.
+-- Trees that are put after the children of a label, one after another.
 use Rattle.std.proofs.Common.{◌≡◌, ◌≢◌, ℕ, true, false, eqb, None, refl, ap, ◌∙◌, arith}
 use Rattle.std.proofs.lemmas.Bool.Decides.{eqb_tells}
 use Rattle.lx_node.specs.Trees.{Trees, nil, tree, joined}
@@ -45,7 +45,7 @@ module _ {A : Type 0} (name : A → ℕ) where
   inserted_twice new more nil = inserted_last more new
   inserted_twice new more (tree m below rest) = ap (tree m below) (inserted_twice new more rest)
 
-  -- more behind them
+  -- more after them
   pub last_below-twice : (p : ℕ) (new more f : Trees A) → has name p new ≡ false → last_below name p more (last_below name p new f) ≡ last_below name p (joined new more) f
   last_below-twice p new more nil free = refl
   last_below-twice p new more (tree m below rest) free =

@@ -15,7 +15,7 @@ module _ {A : Type 0} (name : A → ℕ) where
   abbrev from_before : List ℕ → Trees A → ℕ → List ℕ
   from_before after t q = preorder name (alone name q t) ++ unwrap_or (behind_before name after t q) []
 
-  -- These names stand before q: behind them comes the tree of q, and then what is behind that.
+  -- These names come before q: after them comes the tree of q, and then what comes after that.
   record IsFront (after : List ℕ) (t : Trees A) (q : ℕ) (front : List ℕ) : Type 0 where
     split : preorder name t ++ after ≡ front ++ from_before after t q
 
@@ -24,7 +24,7 @@ module _ {A : Type 0} (name : A → ℕ) where
       let own : eqb (name a) (name a) ≡ true = grind (arith, eqb_tells (name a) (name a)) in
       record { split = rw (own, alone-absent name (name a) rest gone) (ap (λ ks. name a ∷ ks) (append_assoc (preorder name below) (preorder name rest) after ∙ ap (λ ks. ks ++ (preorder name rest ++ after)) (sym (append-nil (preorder name below))))) }
 
-  -- where the name stands below the first label, and where it stands behind
+  -- where the name is below the first label, and where it comes after
   front_below : (after : List ℕ) (q : ℕ) (a : A) (below rest : Trees A) (front : List ℕ) → count name q (tree a below rest) < 2 → 0 < count name q below →
       IsFront (preorder name rest ++ after) below q front → IsFront after (tree a below rest) q (name a ∷ front)
   front_below after q a below rest front once some lower =

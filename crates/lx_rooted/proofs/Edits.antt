@@ -1,4 +1,4 @@
--- The laws of the primitive edits: how often a name stands after one, and where it stands.
+-- The laws of the primitive edits: how often a name is after one, and where it is.
 use Rattle.std.proofs.Common.{◌≡◌, ℕ, ◌+◌, ◌<◌, true, false, cond, eqb, List, [], ◌∷◌, Option, None, Some, refl, sym, ap, ◌∙◌, arith, inl, inr}
 use Rattle.std.specs.Prelude.{is_some, option_map}
 use Rattle.std.specs.Option.{option_or}
@@ -51,7 +51,7 @@ module _ {A : Type 0} (name : A → ℕ) where
   unfolding take_out
   count-take_out q k f = omega (arith, count-among_roots q k (alone name k f) (without name k f), count-without-alone name q k f)
 
-  -- a name that stands, and in no tree but its own, stands in what is left
+  -- a name that is there, and in no tree but its own, is in what is left
   pub outside_once : (p k : ℕ) (f : Trees A) → IsOrdered name f → has name p f ≡ true → is_within name f k p ≡ false → count name p (without name k f) ≡ 1
   outside_once p k f h there outside = grind (arith, h.once p, count-without-alone name p k f)
 
@@ -84,7 +84,7 @@ module _ {A : Type 0} (name : A → ℕ) where
   unfolding with_new
   spot-with_new l f q h free = grind (arith, h.once q, spot-among_roots (name l) (tree l nil nil) f q, eqb_tells q (name l), eqb_tells (name l) q, spot_below-absent name None f q)
 
-  -- what stands outside the tree of k isn't k
+  -- what is outside the tree of k isn't k
   left_taken : (k : ℕ) (f : Trees A) (q : ℕ) (s : Spot A) → count name q (alone name k f) ≡ 0 → spot name f q ≡ Some s → left_by k s ≡ taken k q s
   left_taken k f q s gone e = grind (arith, eqb_tells q k, count-alone_self name k f, spot_below-absent name None f q)
 
@@ -180,7 +180,7 @@ module _ {A : Type 0} (name : A → ℕ) where
   pub spot-mapped : (g : A → A) → ((a : A) → name (g a) ≡ name a) → (f : Trees A) (q : ℕ) → spot name (mapped g f) q ≡ option_map (relabelled g) (spot name f q)
   spot-mapped g keeps f q = spot_below-mapped name g keeps None f q
 
-  -- what stands in no tree of k, once that tree is gone
+  -- what is in no tree of k, once that tree is gone
   pub spot-without : (k : ℕ) (f : Trees A) (q : ℕ) → IsOrdered name f → parent_of name f k ≡ None → spot name (without name k f) q ≡ cond (is_within name f k q) None (spot name f q)
   spot-without k f q h top =
       elim (cases_lt 0 (count name q (alone name k f))) [

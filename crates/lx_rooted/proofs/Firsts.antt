@@ -25,7 +25,7 @@ order_between-next None r = refl
 order_between-next (Some i) None = refl
 order_between-next (Some i) (Some j) = grind (arith, nat_tests)
 
--- an index behind the first is greater, whichever it is
+-- an index after the first is greater, whichever it is
 first_before : (o r : Option ℕ) → is_some o ≡ is_some r → order_between (Some 0) (option_map (λ i. i + 1) o) ≡ order_between (Some 0) (option_map (λ i. i + 1) r)
 first_before None None e = refl
 first_before None (Some j) e = absurd (grind arith)
@@ -43,7 +43,7 @@ no_first None None e = (refl, refl)
 no_first None (Some j) e = (refl, refl)
 no_first (Some i) r e = absurd (grind arith)
 
--- lists that begin alike and order the names behind that alike
+-- lists that begin alike and order the names after that alike
 same_first : (x : ℕ) (xs ys : List ℕ) (a b : ℕ) → is_among a xs ≡ is_among a ys → is_among b xs ≡ is_among b ys → order_between (index_in xs a) (index_in xs b) ≡ order_between (index_in ys a) (index_in ys b) →
     order_between (index_in (x ∷ xs) a) (index_in (x ∷ xs) b) ≡ order_between (index_in (x ∷ ys) a) (index_in (x ∷ ys) b)
 same_first x xs ys a b there_a there_b same =
@@ -95,7 +95,7 @@ order_between-reversed None (Some j) = refl
 order_between-reversed (Some i) None = refl
 order_between-reversed (Some i) (Some j) = ap (λ c. Some c) (reversed i j)
 
--- ---- one in the middle of a list, and one ahead of that or behind it
+-- ---- one in the middle of a list, and one ahead of that or after it
 
 order_places : (o r : Option ℕ) (n : ℕ) → is_some o ≡ true → ((i : ℕ) → o ≡ Some i → i < n) → order_between o (option_map (λ j. n + j) r) ≡ cond (is_some r) (Some Less) None
 order_places None r n e short = absurd (grind (arith, e))
@@ -125,7 +125,7 @@ order_middle (x ∷ front) mid rest a b far_a in_a far_b =
 
 -- ---- where new names come
 
--- Before a name: what is ahead of it, and what is behind it, stays.
+-- Before a name: what is ahead of it, and what comes after it, stays.
 pub record IsCutAt (c : ℕ) (new xs front rest : List ℕ) : Type 0 where
   pub split : xs ≡ front ++ (c ∷ rest)
   pub come : names_with (Some c) new xs ≡ front ++ (new ++ c ∷ rest)
@@ -152,7 +152,7 @@ names_with-end : (new xs : List ℕ) → names_with None new xs ≡ xs ++ new
 names_with-end new [] = refl
 names_with-end new (x ∷ xs) = ap (λ ys. x ∷ ys) (names_with-end new xs)
 
--- between a front and what is behind it
+-- between a front and what comes after it
 pub names_with-between : (new front rest : List ℕ) → NoRepeats (front ++ rest) → names_with (first_of rest) new (front ++ rest) ≡ front ++ (new ++ rest)
 names_with-between new front [] u = rw (append-nil front, append-nil new) (names_with-end new front)
 names_with-between new [] (y ∷ rest) u = grind (arith, eqb_tells y y)
@@ -196,7 +196,7 @@ come_behind front own rest new p a b once in_p in_a far_a far_b =
       | inr outside ↦ rw outside (new_one ∙ grind (arith, outside, is_among-append b front own) ∙ sym (order_middle front own rest p b far_p in_p outside))
     ]
 
--- one that comes right behind others, and one that is elsewhere: behind those, and else as each of those is to it
+-- one that comes right after others, and one that is elsewhere: after those, and else as each of those is to it
 pub order-come_behind : (xs front own rest new : List ℕ) (p a b : ℕ) → xs ≡ front ++ (own ++ rest) → NoRepeats xs → is_among p own ≡ true → is_among a new ≡ true → is_among a xs ≡ false → is_among b new ≡ false →
     order_between (index_in (names_with (first_of rest) new xs) a) (index_in (names_with (first_of rest) new xs) b) ≡ cond (is_among b own) (Some Greater) (order_between (index_in xs p) (index_in xs b))
 order-come_behind xs front own rest new p a b split once in_p in_a far_a far_b =

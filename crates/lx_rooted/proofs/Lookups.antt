@@ -22,7 +22,7 @@ module _ {A : Type 0} (name : A → ℕ) where
   pub NoRepeats-children_of : (f : Trees A) (q : ℕ) → IsOrdered name f → NoRepeats (children_of name f q)
   NoRepeats-children_of f q h = NoRepeats-children name None f q h.once
 
-  -- a parent stands, and so does a child
+  -- a parent is there, and so is a child
   pub has-parent_of : (f : Trees A) (q p : ℕ) → parent_of name f q ≡ Some p → has name p f ≡ true
   has-parent_of f q p e = grind (arith, count-parent name f q p e)
 

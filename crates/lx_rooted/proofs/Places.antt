@@ -24,7 +24,7 @@ module _ {A : Type 0} (name : A → ℕ) where
     outside = grind (arith, is_within-take_out name k f k p h, outside);
   }
 
-  -- a tree that stands below none stays where it is
+  -- a tree that is below none stays where it is
   pub take_out-top : (k : ℕ) (f : Trees A) → IsOrdered name f → parent_of name f k ≡ None → take_out name k f ≡ f
   take_out-top k f h top =
       same_forest name (take_out name k f) f (IsOrdered-take_out name k f h) h

@@ -59,7 +59,7 @@ module _ {A : Type 0} (name : A → ℕ) where
   preorder-put_in_detached p before k f h c detached =
       ap (named.preorder name) (root_put p before k f h c ∙ put_below-absent name p before (alone name k f) (alone name 0 f) (grind (arith, detached)))
 
-  -- put brings them in before the child that is named, or else before what is behind the parent
+  -- put brings them in before the child that is named, or else before what comes after the parent
   pub preorder-put_in : (p : ℕ) (before : Option ℕ) (k : ℕ) (f : Trees A) → IsOrdered name f → CanPut name p k f → is_place before (children_of name f p) ≡ true → preorder name (put_in name p before k f) ≡ cond (is_attached name f p) (names_with (option_or before (first_of (behind name f p))) (keys_within name f k) (preorder name f)) (preorder name f)
   preorder-put_in p before k f h c place =
       elim (cases_Bool (is_attached name f p)) [
@@ -97,7 +97,7 @@ module _ {A : Type 0} (name : A → ℕ) where
       ap (λ ks. order_between (index_in ks a) (index_in ks b)) keys
       ∙ order-come_before (preorder name f) (keys_within name f k) c a b there (is_among-preorder name a (alone name k f) ∙ in_a) far_a (is_among-preorder name b (alone name k f) ∙ far_b)
 
-  -- the root's names are some front, then those of the tree of p, and then what is behind
+  -- the root's names are some front, then those of the tree of p, and then what comes after
   cut_around : (f : Trees A) (p : ℕ) → IsOrdered name f → is_attached name f p ≡ true → (front : List ℕ) × (preorder name f ≡ front ++ (keys_within name f p ++ behind name f p))
   cut_around f p h attached =
       let cut = preorder-cut name (alone name 0 f) p (tree_distinct name f h) (grind (arith, attached)) in

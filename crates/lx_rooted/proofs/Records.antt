@@ -263,7 +263,7 @@ module _ {A : Type 0} (name : A → ℕ) where
       rw (siblings-mapped g keeps f q, spot-mapped name g keeps f q)
       (option_map-map (linked (siblings name f q) q) (spots.relabelled g) (spot name f q) ∙ sym (option_map-map (relabelled g) (linked (siblings name f q) q) (spot name f q)))
 
-  -- the tree of k, which stands below none, is gone
+  -- the tree of k, which is below none, is gone
   pub siblings-without : (k : ℕ) (f : Trees A) (q : ℕ) → IsOrdered name f → parent_of name f k ≡ None → is_within name f k q ≡ false → siblings name (without name k f) q ≡ siblings name f q
   siblings-without k f q h top outside =
       siblings-agree name f (without name k f) q (ap parent_at (spot-without name k f q h top) ∙ rw outside)

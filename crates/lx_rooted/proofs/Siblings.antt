@@ -1,4 +1,4 @@
--- The laws of siblings: neighbours have one parent, and what edits do to the list in which a name stands.
+-- The laws of siblings: neighbours have one parent, and what edits do to the list in which a name is.
 use Rattle.std.proofs.Common.{◌≡◌, ℕ, true, false, cond, eqb, [], ◌∷◌, Option, None, Some, ap, ◌∙◌, arith, inl, inr}
 use Rattle.std.proofs.lemmas.Bool.Decides.{eqb_tells}
 use Rattle.lx_node.specs.Siblings.{is_named, is_among, NoRepeats, names_without, names_with, place_behind}
@@ -37,7 +37,7 @@ module _ {A : Type 0} (name : A → ℕ) where
         | inr (p, some) ↦ rw (e, some) (same p some)
       ]
 
-  -- the name behind which one comes that comes before a child
+  -- the name after which one comes that comes before a child
   pub place_behind-previous_of : (f : Trees A) (p b : ℕ) → parent_of name f b ≡ Some p → place_behind (Some b) (children_of name f p) ≡ previous_of name f b
   place_behind-previous_of f p b up = rw up
 

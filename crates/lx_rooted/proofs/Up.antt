@@ -135,7 +135,7 @@ module _ {A : Type 0} (name : A → ℕ) where
         | inr outside ↦ rw (outside, append-nil (ancestors name f q)) (ancestors-put_in_outside p before k f q h c outside)
       ]
 
-  -- each name in whose tree an attached one stands is attached
+  -- each name whose tree has an attached one in it is attached
   pub attached_above : (f : Trees A) (x q : ℕ) → IsOrdered name f → is_attached name f q ≡ true → is_within name f x q ≡ true → is_attached name f x ≡ true
   attached_above f x q h attached inside =
       elim (cases_eq 0 x) [

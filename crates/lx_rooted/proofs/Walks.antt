@@ -14,7 +14,7 @@ cases_option None = inl refl
 cases_option (Some x) = inr (x, refl)
 
 module _ {A : Type 0} (name : A → ℕ) where
-  -- what stands nowhere has no parent
+  -- what is nowhere has no parent
   pub no_parent : (f : Trees A) (q : ℕ) → has name q f ≡ false → parent_of name f q ≡ None
   no_parent f q absent = grind (arith, absent, is_some-spot name f q)
 

@@ -54,7 +54,7 @@ module _ {A : Type 0} (name : A → ℕ) where
       alone-put_below_outside name a p before (alone name k f) (without name k f) (omega (arith, outside_once name p k f h c.parent c.outside)) gone
       ∙ ap (put_below name p before (alone name k f)) (alone-without name a k f gone)
 
-  -- a name that stands is in its own tree
+  -- a name that is there is in its own tree
   pub is_within-self : (f : Trees A) (k : ℕ) → is_within name f k k ≡ has name k f
   is_within-self f k = rw (count-alone_self name k f)
 
@@ -126,7 +126,7 @@ module _ {A : Type 0} (name : A → ℕ) where
   without-take_out_eq k f =
       without-among_roots k (alone name k f) (without name k f) (without-alone k f) ∙ without-absent name k (without name k f) (count-without name k f)
 
-  -- a tree that is put in is first taken out, if it stands below another
+  -- a tree that is put in is first taken out, if it is below another
   pub put_in-take_out : (p : ℕ) (before : Option ℕ) (k : ℕ) (f : Trees A) → IsOrdered name f → put_in name p before k (take_out name k f) ≡ put_in name p before k f
   unfolding put_in take_out
   put_in-take_out p before k f h =

@@ -27,11 +27,11 @@ module _ {A : Type 0} (name : A → ℕ) where
   unfoldable pub put_in : ℕ → Option ℕ → ℕ → Trees A → Trees A
   put_in p before k f = put_below name p before (alone name k f) (without name k f)
 
-  -- trees behind the children of p
+  -- trees put after the children of p
   abbrev pub last_below : ℕ → Trees A → Trees A → Trees A
   last_below p new f = put_below name p None new f
 
--- the tree of k may be put below p: it is detached and isn't the root's, and p stands outside it
+-- the tree of k may be put below p: it is detached and isn't the root's, and p is outside it
 pub record CanPut {A : Type 0} (name : A → ℕ) (p k : ℕ) (f : Trees A) : Type 0 where
   pub other : k ≢ 0
   pub there : has name k f ≡ true
@@ -39,12 +39,12 @@ pub record CanPut {A : Type 0} (name : A → ℕ) (p k : ℕ) (f : Trees A) : Ty
   pub parent : has name p f ≡ true
   pub outside : is_within name f k p ≡ false
 
--- take of k
+-- where a name is once k was taken
 abbrev pub taken : {A : Type 0} → ℕ → ℕ → Spot A → Spot A
 taken k q s =
     record { label = s.label; parent = (if q == k then None else s.parent); children = names_without k s.children }
 
--- put of k below p
+-- where a name is once k was put below p
 abbrev pub placed : {A : Type 0} → ℕ → Option ℕ → ℕ → ℕ → Spot A → Spot A
 placed p before k q s =
     record {
@@ -54,8 +54,8 @@ placed p before k q s =
     }
 
 module _ {A : Type 0} (name : A → ℕ) where
-  -- How a name in a tree that comes to this place among the children of p stands to a name q elsewhere: as the child before
-  -- which it comes, or else as p; but it is before that child, and behind all in the tree of p.
+  -- how a name in a tree that comes to this place among the children of p stands to a name q elsewhere: as the child
+  -- before which it comes, or else as p; but it is before that child, and after all in the tree of p
   abbrev pub order_from_place : Trees A → ℕ → Option ℕ → ℕ → Option Ordering
   order_from_place f p None q = if is_within name f p q then Some Greater else order_of name f p q
   order_from_place f p (Some c) q = if q == c then Some Less else order_of name f c q

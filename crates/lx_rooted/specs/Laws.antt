@@ -13,7 +13,7 @@ use Rattle.lx_rooted.specs.Edits.{with_new, take_out, put_in, last_below, CanPut
 use Rattle.lx_rooted.specs.Records.{Record, record_at, StandsFor, lone, relabelled, unlinked, linked_in}
 
 module _ {A : Type 0} (name : A → ℕ) where
-  -- where each name stands after each edit
+  -- where each name is after each edit
   pub record SpotsFollow : Type 0 where
     pub new : (l : A) (f : Trees A) (q : ℕ) → IsOrdered name f → has name (name l) f ≡ false →
         spot name (with_new name l f) q ≡ (if q == name l then Some (record { label = l; parent = None; children = [] }) else spot name f q)
@@ -50,7 +50,7 @@ module _ {A : Type 0} (name : A → ℕ) where
     pub put : (p : ℕ) (before : Option ℕ) (k : ℕ) (f : Trees A) (q : ℕ) → IsOrdered name f → CanPut name p k f →
         ancestors name (put_in name p before k f) q ≡ ancestors name f q ++ (if is_within name f k q then p ∷ ancestors name f p else [])
 
-  -- how deep each name stands in the root's tree: the root at 0, and each after an edit
+  -- how deep each name is in the root's tree: the root at 0, and each after an edit
   pub record DepthsFollow : Type 0 where
     pub root : (f : Trees A) → IsOrdered name f → depth name f 0 ≡ Some 0
     pub new : (l : A) (f : Trees A) (q : ℕ) → IsOrdered name f → has name (name l) f ≡ false → depth name (with_new name l f) q ≡ depth name f q
@@ -83,7 +83,7 @@ module _ {A : Type 0} (name : A → ℕ) where
     pub put_detached : (p : ℕ) (before : Option ℕ) (k : ℕ) (f : Trees A) (a b : ℕ) → IsOrdered name f → CanPut name p k f →
         is_attached name f p ≡ false → order_of name (put_in name p before k f) a b ≡ order_of name f a b
 
-  -- trees in order are determined by where their names stand, and by the records that stand for them
+  -- trees in order are determined by where their names are, and by the records that stand for them
   pub record TreesAreTold : Type 0 where
     pub by_spots : (f g : Trees A) → IsOrdered name f → IsOrdered name g → ((q : ℕ) → spot name f q ≡ spot name g q) → f ≡ g
     pub by_records : (get : ℕ → Option (Record A)) (f g : Trees A) → StandsFor name get f → StandsFor name get g → f ≡ g
@@ -101,7 +101,7 @@ module _ {A : Type 0} (name : A → ℕ) where
     pub gone : (k : ℕ) (f : Trees A) (q : ℕ) → IsOrdered name f → parent_of name f k ≡ None →
         record_at name (without name k f) q ≡ (if is_within name f k q then None else record_at name f q)
 
-  -- trees behind the children of a name come by primitive edits: a new label, then the trees below it, and more behind it
+  -- trees after the children of a name come by primitive edits: a new label, then the trees below it, and more after it
   pub record BuildingFollows : Type 0 where
     pub new : (p : ℕ) (l : A) (f : Trees A) → has name (name l) f ≡ false → put_in name p None (name l) (with_new name l f) ≡ last_below name p (tree l nil nil) f
     pub below : (p : ℕ) (l : A) (s f : Trees A) → has name (name l) f ≡ false → p ≢ name l → last_below name (name l) s (last_below name p (tree l nil nil) f) ≡ last_below name p (tree l s nil) f

@@ -6,7 +6,7 @@
 ghost use Rattle.std.specs.Prelude.{ℕ};
 ghost use Rattle.lx_rooted.specs.Laws.{SpotsFollow, OrderIsKept, TreesFollow, AncestorsFollow, DepthsFollow, PreorderFollows, OrderFollows, TreesAreTold, RecordsFollow, BuildingFollows};
 
-/// Where each name stands after each primitive edit, as one equation for all names.
+/// Where each name is after each primitive edit, as one equation for all names.
 pub fn spots_follow<L>()
     ensures { (name : L → ℕ) → SpotsFollow name }
 {}
@@ -26,7 +26,7 @@ pub fn ancestors_follow<L>()
     ensures { (name : L → ℕ) → AncestorsFollow name }
 {}
 
-/// How deep each name of the root's tree stands after each primitive edit.
+/// How deep each name of the root's tree is after each primitive edit.
 pub fn depths_follow<L>()
     ensures { (name : L → ℕ) → DepthsFollow name }
 {}
@@ -51,7 +51,7 @@ pub fn records_follow<L>()
     ensures { (name : L → ℕ) → RecordsFollow name }
 {}
 
-/// Trees come behind the children of a name by primitive edits: a new label put there, then those below it, and more behind.
+/// Trees come after the children of a name by primitive edits: a new label put there, then those below it, and more after.
 pub fn building_follows<L>()
     ensures { (name : L → ℕ) → BuildingFollows name }
 {}
