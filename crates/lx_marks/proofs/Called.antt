@@ -19,7 +19,7 @@ unfolding flagged
 insert_entry-flagged k flag value [] e = ap (λ b. (k, b) ∷ []) e
 insert_entry-flagged k flag value (f ∷ es) e = grind (arith, insert_entry-flagged k flag value es, e)
 
--- no leaf stands twice after a call that names one or leaves all as they were, and no element
+-- no leaf occurs twice after a call that names one or leaves all as they were, and no element
 pub NoRepeats-named : {T E : Type 0} (r : Result T E) (k : ℕ) (xs ys : List ℕ) → OnOk r (ys ≡ with_name k xs) → OnErr r (ys ≡ xs) → NoRepeats xs → NoRepeats ys
 NoRepeats-named (Ok v) k xs ys ok err once = subst NoRepeats (sym ok) (NoRepeats-with_name k xs once)
 NoRepeats-named (Err e) k xs ys ok err once = subst NoRepeats (sym err) once

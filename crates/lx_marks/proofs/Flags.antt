@@ -44,7 +44,7 @@ keys_of-flagged k flag (e ∷ es) = grind (arith, keys_of-flagged k flag es, eqb
 pub once_flagged : (k : ℕ) (flag : Bool) (es : List (ℕ × Bool)) → NoRepeats (keys_of es) → NoRepeats (keys_of (flagged k flag es))
 once_flagged k flag es once = subst NoRepeats (sym (keys_of-flagged k flag es)) (NoRepeats-with_name k (keys_of es) once)
 
--- elements that aren't there go behind all
+-- elements that aren't there go after all
 flagged-absent : (k : ℕ) (flag : Bool) (es : List (ℕ × Bool)) → is_among k (keys_of es) ≡ false → flagged k flag es ≡ es ++ (k, flag) ∷ []
 unfolding flagged
 flagged-absent k flag [] none = refl

@@ -1,4 +1,4 @@
--- The laws of names that come one after another, each behind all unless it is there.
+-- The laws of names that come one after another, each after all unless it is there.
 use Rattle.std.proofs.Common.{◌≡◌, ◌∙◌, ℕ, true, false, eqb, ◌||◌, if◌then◌else◌, List, [], ◌∷◌, ◌++◌, refl, sym, ap, append-nil, append_assoc, arith}
 use Rattle.std.proofs.lemmas.Bool.Decides.{eqb_tells}
 use Rattle.lx_node.specs.Siblings.{is_among, NoRepeats}
@@ -28,7 +28,7 @@ unfolding with_names
 NoRepeats-with_names [] xs once = once
 NoRepeats-with_names (k ∷ ks) xs once = NoRepeats-with_names ks (with_name k xs) (NoRepeats-with_name k xs once)
 
--- names that aren't there go behind all
+-- names that aren't there go after all
 pub with_names-apart : (ks xs : List ℕ) → NoRepeats ks → ((q : ℕ) → is_among q ks ≡ true → is_among q xs ≡ false) → with_names ks xs ≡ xs ++ ks
 unfolding with_name with_names
 with_names-apart [] xs once apart = sym (append-nil xs)

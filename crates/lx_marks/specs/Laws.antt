@@ -9,6 +9,7 @@ either_flag None flag = flag
 either_flag (Some mine) None = Some mine
 either_flag (Some mine) (Some other) = Some (mine || other)
 
+-- what is marked after each mark, as equations for all keys
 pub record MarksAreTold : Type 0 where
   -- which keys are marked themselves
   pub none_touched : (q : ℕ) → is_touched unmarked q ≡ false
@@ -45,7 +46,7 @@ pub record MarksAreTold : Type 0 where
       flag_in m.elements q ≡ Some true → flag_in (with_marked k flag m).elements q ≡ Some true
   pub flag_stays_absorbed : (other m : Marked) (q : ℕ) →
       flag_in m.elements q ≡ Some true → flag_in (absorbed other m).elements q ≡ Some true
-  -- no key comes to stand twice
+  -- no key comes to occur twice
   pub once_unmarked : IsMarked unmarked
   pub once_leaf : (k : ℕ) (m : Marked) → IsMarked m → IsMarked (with_leaf k m)
   pub once_element : (k : ℕ) (flag : Bool) (m : Marked) → IsMarked m → IsMarked (with_marked k flag m)

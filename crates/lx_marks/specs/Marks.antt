@@ -3,8 +3,8 @@ use Rattle.std.specs.Prelude.{ℕ, ◌==◌, ◌||◌, Bool, false, is_some, if�
 use Rattle.std.specs.Map.{keys_of}
 use Rattle.lx_node.specs.Siblings.{is_among, NoRepeats}
 
--- The keys that edits marked, in the order of their first marks: those of leaves, and those of elements, each with a flag.
--- The flag tells whether the element itself was marked; without it only something below it was.
+-- the keys that edits marked, by their first marks: leaves, and elements, each with whether it was marked itself or
+-- only below
 pub record Marked : Type 0 where
   pub leaves : List ℕ
   pub elements : List (ℕ × Bool)
@@ -23,7 +23,7 @@ unfoldable pub flagged : ℕ → Bool → List (ℕ × Bool) → List (ℕ × Bo
 flagged k flag [] = (k, flag) ∷ []
 flagged k flag (e ∷ es) = if k == e.0 then (e.0, e.1 || flag) ∷ es else e ∷ flagged k flag es
 
--- the names with this one, behind all unless it is there
+-- the names with this one, after all unless it is there
 unfoldable pub with_name : ℕ → List ℕ → List ℕ
 with_name k xs = if is_among k xs then xs else xs ++ k ∷ []
 
@@ -51,6 +51,7 @@ absorbed other m = record { leaves = with_names other.leaves m.leaves; elements 
 
 -- ---- which nodes are marked
 
+-- a flag is there and is true
 abbrev pub is_true_flag : Option Bool → Bool
 is_true_flag None = false
 is_true_flag (Some flag) = flag
@@ -59,11 +60,11 @@ is_true_flag (Some flag) = flag
 abbrev pub is_touched : Marked → ℕ → Bool
 is_touched m q = is_among q m.leaves || is_true_flag (flag_in m.elements q)
 
--- whether it is marked at all: itself, or since something below it is
+-- whether a node is marked at all: itself, or since something below it is
 abbrev pub is_noted : Marked → ℕ → Bool
 is_noted m q = is_among q m.leaves || is_some (flag_in m.elements q)
 
--- no key stands twice among the leaves, nor among the elements
+-- no key occurs twice among the leaves, nor among the elements
 pub record IsMarked (m : Marked) : Type 0 where
   pub leaves : NoRepeats m.leaves
   pub elements : NoRepeats (keys_of m.elements)

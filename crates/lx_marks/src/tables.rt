@@ -6,7 +6,7 @@ ghost use Rattle.lx_marks.specs.Marks.{with_name, with_names, flagged, all_flagg
 use indexmap::{IndexMap, IndexSet};
 use lx_node::{Key, NoMemory};
 
-/// Puts a leaf behind the others unless it is there. With room to spare that can't fail, and it takes up one
+/// Puts a leaf after the others unless it is there. With room to spare that can't fail, and it takes up one
 /// place at most.
 #[tactic(auto, unfolding(crate::specs::Marks::with_name))]
 pub(crate) fn name_leaf(leaves: &mut IndexSet<Key>, key: Key) -> Result<(), NoMemory>
@@ -19,7 +19,7 @@ pub(crate) fn name_leaf(leaves: &mut IndexSet<Key>, key: Key) -> Result<(), NoMe
     Ok(())
 }
 
-/// Puts an element behind the others, or raises the flag of one that is there. With room to spare that can't
+/// Puts an element after the others, or raises the flag of one that is there. With room to spare that can't
 /// fail, and it takes up one place at most.
 pub(crate) fn flag_element(
     elements: &mut IndexMap<Key, bool>,
@@ -36,7 +36,7 @@ pub(crate) fn flag_element(
     Ok(())
 }
 
-/// Puts each of the others behind the leaves unless it is there.
+/// Puts each of the others after the leaves unless it is there.
 #[tactic(auto, unfolding(crate::specs::Marks::with_names))]
 pub(crate) fn name_all(leaves: &mut IndexSet<Key>, others: &IndexSet<Key>)
     requires { length others.now.keys ≤ set.spare leaves.old }
@@ -47,7 +47,7 @@ pub(crate) fn name_all(leaves: &mut IndexSet<Key>, others: &IndexSet<Key>)
     }
 }
 
-/// Puts each of the others behind the elements, or raises the flag of one that is there.
+/// Puts each of the others after the elements, or raises the flag of one that is there.
 #[tactic(auto, unfolding(crate::specs::Marks::all_flagged))]
 pub(crate) fn flag_all(elements: &mut IndexMap<Key, bool>, others: &IndexMap<Key, bool>)
     requires { length others.now.entries ≤ map.spare elements.old }

@@ -6,6 +6,7 @@ use Rattle.lx_node.specs.declared.cause.SelectionKind.TheVariants as kind
 use Rattle.lx_select.specs.declared.selection.Selection.{Selection}
 use Rattle.lx_select.specs.declared.selection.Selection.TheVariants.{Nothing, Range, Nodes, Cells}
 
+-- what a selection is: nothing, a range, nodes, or cells
 abbrev pub kind_of_selection : Selection → SelectionKind
 kind_of_selection Nothing = kind.Nothing
 kind_of_selection (Range anchor focus format) = kind.Range
@@ -38,12 +39,13 @@ ends_of other = None
 
 -- ---- points that go along
 
--- Of where a point was before edits and where they left it: one that was on the key goes where a rule sends it from there.
+-- of where a point was before edits and where they left it: one that was on the key goes where a rule sends it from
+-- there
 abbrev pub carried_point : ℕ → (Point → Point) → Point → Point → Point
 carried_point key moved before now = if before.key == key then moved before else now
 
--- Of where the two points of a range were before edits: those that were on the key are brought along, and all others are where
--- the edits left them.
+-- of where the two points of a range were before edits: those that were on the key are brought along, and all others
+-- are where the edits left them
 abbrev pub carried : ℕ → (Point → Point) → Option (Point × Point) → Selection → Selection
 carried key moved (Some (anchor, focus)) (Range a b format) =
     Range (carried_point key moved anchor a) (carried_point key moved focus b) format

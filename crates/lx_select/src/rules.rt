@@ -5,7 +5,7 @@ ghost use Rattle.lx_select.specs.Selection.{carried_point};
 use lx_node::{Key, Point, PointKind};
 use lx_text::within;
 
-/// Whether a point lies among the children of the parent, behind the child at the index.
+/// Whether a point lies among the children of the parent, after the child at the index.
 #[tactic(auto, unfolding(crate::specs::Rules::is_behind, crate::specs::Rules::is_counting_children))]
 fn is_behind(point: &Point, parent: Key, index: u32) -> bool
     ensures { result ≡ rules.is_behind parent index point.now }
@@ -35,7 +35,7 @@ pub fn take_moved(mut point: Point, parent: Key, index: u32) -> Point
     point
 }
 
-/// Where an offset is after a piece of that length replaced what stood from `from` to `to`.
+/// Where an offset is after a piece of that length replaced what was from `from` to `to`.
 #[tactic(auto, unfolding(crate::specs::Rules::spliced_offset, crate::specs::Rules::offset_sum))]
 fn spliced(offset: u32, from: u32, to: u32, len: u32) -> u32
     ensures { result ≡ rules.spliced_offset from to len offset }
@@ -49,7 +49,7 @@ fn spliced(offset: u32, from: u32, to: u32, len: u32) -> u32
     }
 }
 
-/// Where a point is after a piece of that length replaced what stood from `from` to `to` in the key.
+/// Where a point is after a piece of that length replaced what was from `from` to `to` in the key.
 #[tactic(auto, unfolding(crate::specs::Rules::splice_moves))]
 pub fn splice_moved(mut point: Point, key: Key, from: u32, to: u32, len: u32) -> Point
     ensures { result ≡ rules.splice_moves key from to len point }
@@ -71,7 +71,7 @@ pub fn set_moved(mut point: Point, key: Key, text: &str) -> Point
     point
 }
 
-/// Where a point is after what stood from `at` on in the key came to a new key.
+/// Where a point is after what was from `at` on in the key came to a new key.
 #[tactic(auto, unfolding(crate::specs::Rules::split_moves))]
 pub fn split_moved(mut point: Point, key: Key, at: u32, new: Key) -> Point
     ensures { result ≡ rules.split_moves key at new point }
@@ -95,7 +95,7 @@ pub fn replace_moved(mut point: Point, old: Key, new: Key, new_text: &str) -> Po
     point
 }
 
-/// Where a point is after what stood at 0 of the key `from` came to the offset `at` of the key `to`.
+/// Where a point is after what was at 0 of the key `from` came to the offset `at` of the key `to`.
 #[tactic(auto, unfolding(crate::specs::Rules::carry_moves, crate::specs::Rules::offset_sum))]
 pub fn carry_moved(mut point: Point, from: Key, to: Key, at: u32) -> Point
     ensures { result ≡ rules.carry_moves from to at point }
@@ -108,7 +108,7 @@ pub fn carry_moved(mut point: Point, from: Key, to: Key, at: u32) -> Point
 }
 
 /// Where a point is that edits left at `now`: one that was on the key `from` before goes to the key `to`, with what
-/// stood at 0 of the one and is now at the offset `at` of the other.
+/// was at 0 of the one and is now at the offset `at` of the other.
 #[tactic(auto, unfolding(crate::specs::Rules::carry_moves))]
 pub fn carried(now: Point, before: Point, from: Key, to: Key, at: u32) -> Point
     ensures { result ≡ carried_point from (rules.carry_moves from to at) before now }

@@ -165,7 +165,7 @@ impl Selection {
 
     /// Moves the points on the key where a piece of `len` code units came in the place of those from the
     /// offset `from` to the offset `to`. A point at most at `from` stays, one at least at `to` keeps its
-    /// place in the text behind, and one between goes to the end of the piece.
+    /// place in the text after, and one between goes to the end of the piece.
     pub fn after_splice(&mut self, key: Key, from: u32, to: u32, len: u32)
         ensures { self.new ≡ each_point (splice_moves key from to len) self.old }
     {
@@ -188,7 +188,7 @@ impl Selection {
         self.move_each(|point| rules::split_moved(point, key, at, new));
     }
 
-    /// Moves the points on the second key where its text went behind that of the first, which had `len` code
+    /// Moves the points on the second key where its text went after that of the first, which had `len` code
     /// units.
     #[tactic(auto, unfolding(crate::specs::Rules::join_moves))]
     pub fn after_join(&mut self, first: Key, len: u32, second: Key)
@@ -197,7 +197,7 @@ impl Selection {
         self.move_each(|point| rules::carry_moved(point, second, first, len));
     }
 
-    /// Moves the points on the key `from` where its children went behind those of the key `to`, which had
+    /// Moves the points on the key `from` where its children went after those of the key `to`, which had
     /// `size` of them.
     #[tactic(auto, unfolding(crate::specs::Rules::children_moves))]
     pub fn after_children(&mut self, from: Key, to: Key, size: u32)
@@ -224,8 +224,8 @@ impl Selection {
     }
 
     /// Brings points along with what a node had, after the edits that moved that elsewhere. The two points of the
-    /// range `before` those edits tell which were on the key `from`: such a point goes to the key `to`, where what
-    /// stood at 0 of the one is now at the offset `at`. Every other point stays where the edits left it.
+    /// range `before` those edits show which were on the key `from`: such a point goes to the key `to`, where what
+    /// was at 0 of the one is now at the offset `at`. Every other point stays where the edits left it.
     pub fn carry(&mut self, before: Option<(Point, Point)>, from: Key, to: Key, at: u32)
         ensures { self.new ≡ carried from (carry_moves from to at) before self.old }
     {

@@ -1,4 +1,4 @@
--- Items in chapters: where a key's item stands, and the order of the keys.
+-- Items in chapters: where a key's item is, and the order of the keys.
 use Rattle.std.proofs.Common.{◌≡◌, ℕ, zero, suc, ◌<◌, ◌≤◌, ◌+◌, ◌*◌, ◌/◌, ◌%◌, true, false, cond, nat_lt, take, min, Result, Ok, Err, OnErr, append_assoc, add-one, add-zero, replicate, List, [], ◌∷◌, ◌++◌, length, Option, Some, None, refl, sym, ap, ◌∙◌, subst, arith}
 use Rattle.std.specs.declared.rc.Rc.{Rc}
 use Rattle.std.specs.declared.cmp.Ordering.TheVariants.{Less}
@@ -143,7 +143,7 @@ module _ {X Z : Type 0} where
   whole : (p : Rc (List (Option X)) Z) (i : ℕ) → i < 1024 → slot_at (slots_of p) i ≡ slot_at p.value i
   whole p i h = get_or-take 1024 p.value i None h
 
-  -- the map of what stands in the chapters
+  -- the map of what is in the chapters
   abbrev pub mapped : List (ℕ × Rc (List (Option X)) Z) → FinMap nat_cmp X
   mapped ps = from_entries {R = nat_cmp} (items_of slots_of ps)
 

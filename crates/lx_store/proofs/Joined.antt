@@ -1,4 +1,4 @@
--- The slots of pages that stand one behind another: where a slot is, and what a write to one page does.
+-- The slots of pages that come one after another: where a slot is, and what a write to one page does.
 use Rattle.std.proofs.Common.{◌≡◌, ℕ, zero, suc, ◌<◌, ◌≤◌, ◌+◌, ◌-◌, ◌*◌, ◌/◌, ◌%◌, nat_lt, true, false, take, replicate, List, [], ◌∷◌, ◌++◌, length, get_or, set, Option, None, refl, sym, ap, ◌∙◌, arith}
 use Rattle.std.proofs.lemmas.List.{get_or_past, get_or-take, get_or_append_left, get_or-append_right, get_or-replicate, length-append, length-take-le, length-replicate, length-set, replicate-append-replicate, set-get_or, get_or_read_under, set-append_left, set-append_right, take-append-le, take_all}
 use Rattle.lx_store.specs.Pages.{fitted, joined, page_at}
@@ -108,7 +108,7 @@ module _ {X : Type 0} where
       ap (λ j. get_or (joined ps) j None) (sym place) ∙ slot_joined ps (s / 32) (s % 32) (omega arith)
       ∙ ap (λ p. get_or p (s % 32) None) none ∙ get_or_past [] (s % 32) None (omega arith)
 
--- what a call does to a chapter whose slot s stands in the page that it reads
+-- what a call does to a chapter whose slot s is in the page that it reads
 module _ {X : Type 0} (ps : List (List (Option X))) (s : ℕ) (page : List (Option X))
     (size : length ps ≡ 32) (low : s < 1024) (read : page ≡ get_or ps (s / 32) page) where
   place : s / 32 * 32 + s % 32 ≡ s

@@ -1,4 +1,4 @@
--- Chapters in a vector that is sorted by their numbers: what stands at a place, and what an edit at a place does.
+-- Chapters in a vector that is sorted by their numbers: what is at a place, and what an edit at a place does.
 use Rattle.std.proofs.Common.{◌≡◌, ℕ, zero, suc, ◌/◌, ◌%◌, replicate, ◌<◌, ◌≤◌, true, false, cond, List, [], ◌∷◌, length, get_or, set, Option, Some, None, option_map, Result, Ok, Err, IfOk, IfErr, refl, sym, ap, ◌∙◌, subst, arith}
 use Rattle.std.specs.declared.cmp.Ordering.TheVariants.{Less}
 use Rattle.std.specs.Ordering.{nat_cmp, ordering_index}

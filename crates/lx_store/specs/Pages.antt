@@ -1,4 +1,4 @@
--- Slots in pages of 32, and pages one behind another.
+-- Slots in pages of 32, and pages one after another.
 use Rattle.std.specs.Prelude.{ℕ, List, [], ◌∷◌, ◌++◌, take, replicate, slice_set, slice_index_or}
 use Rattle.std.specs.declared.option.Option.{Option}
 use Rattle.std.specs.declared.option.Option.TheVariants.{None, Some}
@@ -22,7 +22,7 @@ module _ {X : Type 0} where
   abbrev pub fitted : List (Option X) → List (Option X)
   fitted slots = take 32 (slots ++ replicate 32 None)
 
-  -- the slots of pages, one page's behind another's
+  -- the slots of pages, one page's after another's
   abbrev pub joined : List (List (Option X)) → List (Option X)
   joined [] = []
   joined (page ∷ pages) = fitted page ++ joined pages

@@ -1,4 +1,4 @@
--- Items in chapters of 1,024 slots: the item under key k stands in slot k mod 1024 of chapter k div 1024.
+-- Items in chapters of 1,024 slots: the item under key k is in slot k mod 1024 of chapter k div 1024.
 use Rattle.std.specs.Prelude.{◌≡◌, ℕ, ◌+◌, ◌*◌, ◌<◌, ◌≤◌, length, List, [], ◌∷◌, ◌++◌, take, slice_index_or}
 use Rattle.std.specs.declared.option.Option.{Option}
 use Rattle.std.specs.declared.option.Option.TheVariants.{None, Some}
@@ -20,7 +20,7 @@ module _ {X : Type 0} where
   slots_of chapter = take 1024 chapter.value
 
   module _ {P : Type 0} (slots : P → List (Option X)) where
-    -- the items of chapters that stand under their numbers, with their keys
+    -- the items of chapters that are under their numbers, with their keys
     abbrev pub items_of : List (ℕ × P) → List (ℕ × X)
     items_of [] = []
     items_of (chapter ∷ chapters) = keyed (chapter.0 * 1024) (slots chapter.1) ++ items_of chapters
@@ -33,7 +33,7 @@ IsTable chapters = IsStrictlySortedBy nat_cmp (keys_of chapters) × AllByRecursi
 abbrev pub number_at : {P : Type 0} → List (ℕ × P) → ℕ → ℕ × P → ℕ
 number_at chapters place none = let chapter = slice_index_or chapters place none in chapter.0
 
--- the chapter with the number stands at the place
+-- the chapter with the number is at the place
 pub record StandsAt {P : Type 0} (chapters : List (ℕ × P)) (number place : ℕ) : Type 0 where
   pub fits : place < length chapters
   pub same : (none : ℕ × P) → number_at chapters place none ≡ number

@@ -66,7 +66,7 @@ impl<V: Item> Chapter<V> {
         self.leaves[(slot / page::SLOTS) as usize].get(slot % page::SLOTS)
     }
 
-    /// Puts the item into the slot, and answers what stood there.
+    /// Puts the item into the slot, and answers what was there.
     pub fn put(
         &mut self,
         slot: u32,
@@ -86,7 +86,7 @@ impl<V: Item> Chapter<V> {
         Ok(leaf.put(slot % page::SLOTS, item, alloc, count)?)
     }
 
-    /// Edits the item in the slot, and tells whether there is one.
+    /// Edits the item in the slot, and says whether there is one.
     pub fn change<E: Edit<V>>(
         &mut self,
         slot: u32,
@@ -107,7 +107,7 @@ impl<V: Item> Chapter<V> {
         Ok(leaf.change(slot % page::SLOTS, edit, alloc, count)?)
     }
 
-    /// Empties the slot, and answers what stood there.
+    /// Empties the slot, and answers what was there.
     pub fn take(
         &mut self,
         slot: u32,
@@ -139,7 +139,7 @@ impl<V: Item> Chapter<V> {
     }
 }
 
-/// The number of the chapter that the key stands in.
+/// The number of the chapter that the key is in.
 pub fn number_of(key: Key) -> u32
     ensures number { result ≡ key / 1024 }
     ensures small { result < 4194304 }
@@ -147,7 +147,7 @@ pub fn number_of(key: Key) -> u32
     key.number() / SLOTS
 }
 
-/// The slot of the chapter that the key stands in.
+/// The slot of the chapter that the key is in.
 pub fn slot_of(key: Key) -> u32
     ensures { result ≡ key % 1024 }
 {

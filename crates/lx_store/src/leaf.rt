@@ -68,7 +68,7 @@ impl<V: Item> Leaf<V> {
         self.held.is_none()
     }
 
-    /// Puts the item into the slot, and answers what stood there.
+    /// Puts the item into the slot, and answers what was there.
     pub fn put(
         &mut self,
         slot: u32,
@@ -92,7 +92,7 @@ impl<V: Item> Leaf<V> {
         }
     }
 
-    /// Edits the item in the slot, and tells whether there is one.
+    /// Edits the item in the slot, and says whether there is one.
     pub fn change<E: Edit<V>>(
         &mut self,
         slot: u32,
@@ -114,7 +114,7 @@ impl<V: Item> Leaf<V> {
         Ok(change(page, slot, edit, alloc, count)?)
     }
 
-    /// Empties the slot, and answers what stood there.
+    /// Empties the slot, and answers what was there.
     pub fn take(
         &mut self,
         slot: u32,
@@ -166,7 +166,7 @@ fn page_of<V: Item>(
     Ok(Rc::new(alloc, page)?)
 }
 
-// Puts the item into the slot, and answers what stood there. A page that others hold too stays with them as it
+// Puts the item into the slot, and answers what was there. A page that others hold too stays with them as it
 // was, and a copy takes its place here.
 fn write<V: Item>(
     page: &mut Rc<Page<V>>,
@@ -194,7 +194,7 @@ fn write<V: Item>(
     }
 }
 
-// Edits the item in the slot, and tells whether there is one. No copy is made for a slot that is empty. A page
+// Edits the item in the slot, and says whether there is one. No copy is made for a slot that is empty. A page
 // that others hold too stays with them as it was, and a copy takes its place here.
 fn change<V: Item, E: Edit<V>>(
     page: &mut Rc<Page<V>>,
@@ -226,7 +226,7 @@ fn change<V: Item, E: Edit<V>>(
     }
 }
 
-// Empties the slot, and answers what stood there. No copy is made for a slot that is empty already.
+// Empties the slot, and answers what was there. No copy is made for a slot that is empty already.
 fn take_out<V: Item>(
     page: &mut Rc<Page<V>>,
     slot: u32,

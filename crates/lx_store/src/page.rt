@@ -60,7 +60,7 @@ impl<V: Item> Page<V> {
         self.slots[slot as usize].get()
     }
 
-    /// Puts the item into the slot, and answers what stood there.
+    /// Puts the item into the slot, and answers what was there.
     pub fn put(
         &mut self,
         slot: u32,
@@ -79,7 +79,7 @@ impl<V: Item> Page<V> {
         Ok(self.slots[slot as usize].put(item, alloc, count)?)
     }
 
-    /// Edits the item in the slot, and tells whether there is one.
+    /// Edits the item in the slot, and says whether there is one.
     pub fn change<E: Edit<V>>(
         &mut self,
         slot: u32,
@@ -99,7 +99,7 @@ impl<V: Item> Page<V> {
         Ok(self.slots[slot as usize].change(edit, alloc, count)?)
     }
 
-    /// Empties the slot, and answers what stood there.
+    /// Empties the slot, and answers what was there.
     pub fn take(
         &mut self,
         slot: u32,

@@ -84,7 +84,7 @@ impl<V: Item> Slot<V> {
         }
     }
 
-    /// Edits the item, and tells whether there is one. An item that other slots hold too stays with them as it
+    /// Edits the item, and says whether there is one. An item that other slots hold too stays with them as it
     /// was, and its twin is edited.
     pub fn change<E: Edit<V>>(
         &mut self,
@@ -176,7 +176,7 @@ fn change<V: Item, E: Edit<V>>(
     }
 }
 
-// The item, or its twin where others hold it too. Where memory was wanting, it is handed back.
+// The item, or its twin where others hold it too. Where memory ran out, it is handed back.
 fn owned<V: Item>(shared: Rc<V>, alloc: Global, count: &mut V::Count) -> Result<V, Rc<V>>
     ensures item { IfOk result (λ item. item ≡ shared.value) }
     ensures returned { IfErr result (λ kept. kept.value ≡ shared.value) }

@@ -65,7 +65,7 @@ impl<V: Item> Store<V> {
     }
 
     /// Puts the item under the key, and answers the one that was there. Every other key keeps its item. The
-    /// count may have risen, by at most 32, also where memory was wanting; the store is then as it was.
+    /// count may have risen, by at most 32, also where memory ran out; the store is then as it was.
     pub fn put(&mut self, key: Key, item: V, count: &mut V::Count) -> Result<Option<V>, NoMemory>
         requires { map.get self.old key ≡ None → map.len self.old < last_u32 }
         ensures old { IfOk result (λ old. old ≡ map.get self.old key) }
@@ -81,8 +81,8 @@ impl<V: Item> Store<V> {
         Ok(old)
     }
 
-    /// Edits the item under the key where it stands, and tells whether there is one. Every other key keeps its
-    /// item. The count may have risen, by at most 32, also where memory was wanting; the store is then as it
+    /// Edits the item under the key where it is, and says whether there is one. Every other key keeps its
+    /// item. The count may have risen, by at most 32, also where memory ran out; the store is then as it
     /// was.
     pub fn change<E: Edit<V>>(
         &mut self,
@@ -101,7 +101,7 @@ impl<V: Item> Store<V> {
     }
 
     /// Takes out the item under the key, where there is one. Every other key keeps its item. The count may
-    /// have risen, by at most 32, also where memory was wanting; the store is then as it was.
+    /// have risen, by at most 32, also where memory ran out; the store is then as it was.
     pub fn take(&mut self, key: Key, count: &mut V::Count) -> Result<Option<V>, NoMemory>
         ensures taken { IfOk result (λ taken. taken ≡ map.get self.old key) }
         ensures gone { OnOk result (self.new ≡ map.remove self.old key) }

@@ -17,7 +17,7 @@ use std::alloc::Global;
 use std::marker::Model;
 use std::rc::Rc;
 
-/// A map from key to item, in chapters that forks share. Contracts see it as a finite map. The chapters stand in
+/// A map from key to item, in chapters that forks share. Contracts see it as a finite map. The chapters are in
 /// the order of their numbers, and only those that have items.
 #[derive(Drop)]
 pub struct Table<V: Item> {
@@ -94,7 +94,7 @@ impl<V: Item> Table<V> {
         }
     }
 
-    /// Edits the item under the key, and tells whether there is one.
+    /// Edits the item under the key, and says whether there is one.
     pub fn change<E: Edit<V>>(
         &mut self,
         key: Key,
@@ -160,8 +160,8 @@ impl<V: Item> Table<V> {
     }
 }
 
-// Where the chapter with the number stands, or where it would go. Where the numbers run from 0 without a gap,
-// a chapter stands at the place that its number says, so that is looked at first.
+// Where the chapter with the number is, or where it would go. Where the numbers run from 0 without a gap,
+// a chapter is at the place that its number says, so that is looked at first.
 fn place<V: Item>(chapters: &[(u32, Rc<Chapter<V>>)], number: u32) -> Result<usize, usize>
     requires { IsStrictlySortedBy nat_cmp (keys_of chapters.now) }
     ensures stands { IfOk result (λ place. StandsAt chapters.now number place) }
@@ -191,7 +191,7 @@ fn chapter_of<V: Item>(
     Ok(Rc::new(alloc, chapter)?)
 }
 
-// Puts the item into the slot, and answers what stood there. A chapter that others hold too stays with them as
+// Puts the item into the slot, and answers what was there. A chapter that others hold too stays with them as
 // it was, and a copy takes its place here.
 fn write<V: Item>(
     chapter: &mut Rc<Chapter<V>>,
@@ -219,7 +219,7 @@ fn write<V: Item>(
     }
 }
 
-// Edits the item in the slot, and tells whether there is one. No copy is made for a slot that is empty. A
+// Edits the item in the slot, and says whether there is one. No copy is made for a slot that is empty. A
 // chapter that others hold too stays with them as it was, and a copy takes its place here.
 fn change<V: Item, E: Edit<V>>(
     chapter: &mut Rc<Chapter<V>>,
@@ -251,7 +251,7 @@ fn change<V: Item, E: Edit<V>>(
     }
 }
 
-// Empties the slot, and answers what stood there. No copy is made for a slot that is empty already.
+// Empties the slot, and answers what was there. No copy is made for a slot that is empty already.
 fn take_out<V: Item>(
     chapter: &mut Rc<Chapter<V>>,
     slot: u32,

@@ -26,7 +26,7 @@ spliced-end at new text e =
 none_behind : (text rest : List ℕ) → rest ≡ [] → text ++ [] ++ rest ≡ text
 none_behind text rest e = ap (λ cs. (text ++ []) ++ cs) e ∙ append-nil (text ++ []) ∙ append-nil text
 
--- nothing stands behind the end
+-- nothing comes after the end
 pub cut-end : (at bytes : ℕ) (text : List ℕ) → at ≡ text_length text → bytes ≡ length (encode_utf8_all text)
     → Cuts bytes 0 (front_of at text) (slice_of at at text) (rest_of at text) text
 unfolding slice_of

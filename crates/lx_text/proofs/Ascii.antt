@@ -36,7 +36,7 @@ ascii_by (c ∷ text) e =
     let first : IsAscii (encode_utf8 c) = subst (λ bs. IsAscii bs) (sym (encode_ascii c plain)) (one_ascii c plain) in
     IsAscii-append (encode_utf8 c) (encode_utf8_all text) first (ascii_by text rest)
 
--- where no character has two code units, as many characters as the offset says stand before it
+-- where no character has two code units, as many characters as the offset says come before it
 module _ (o : ℕ) (text : List ℕ) (plain : units text ≡ length text) (within : o ≤ units text) where
   pub plain-place : is_offset o text ≡ true
   unfolding text_length

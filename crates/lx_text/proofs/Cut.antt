@@ -100,7 +100,7 @@ stopped_at_end text rest offset left p none =
     let nothing : chars rest ≡ [] = ap chars (no_length rest none) ∙ chars-nil in
     stopped_by text rest offset left p (ap (front_of left) nothing ∙ front-none left) (ap (rest_of left) nothing ∙ rest-none left ∙ sym nothing)
 
--- ---- how many code units a character has, as a machine tells them
+-- ---- how many code units a character has, as a machine counts them
 
 pub units_told : (c n : ℕ) → (c < 65536 → n ≡ 1) → (65536 ≤ c → n ≡ 2) → n ≡ units_of c
 unfolding units_of
@@ -112,7 +112,7 @@ long_told c n left few many long = omega (arith, long, units_told c n few many)
 pub fits_told : (c n left : ℕ) → (c < 65536 → n ≡ 1) → (65536 ≤ c → n ≡ 2) → n ≤ left → units_of c ≤ left
 fits_told c n left few many fits = omega (arith, fits, units_told c n few many)
 
--- ---- what stands before a place and behind it
+-- ---- what comes before a place and after it
 
 front_length : (text front rest : List ℕ) → encode_utf8_all front ++ rest ≡ text → length text - length rest ≡ length (encode_utf8_all front)
 front_length text front rest is = omega (arith, lengths (encode_utf8_all front) rest, ap length is)

@@ -1,4 +1,4 @@
--- Which cause comes first, from what the two cuts told.
+-- Which cause comes first, from what the two cuts answered.
 use Rattle.std.proofs.Common.{◌≡◌, ℕ, ◌-◌, ◌<◌, ◌≤◌, true, false, List, None, Some, arith}
 use Rattle.std.proofs.lemmas.Bool.Decides.{nat_tests}
 use Rattle.lx_node.specs.declared.cause.Cause.TheVariants.{BadPlace}

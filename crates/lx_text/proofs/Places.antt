@@ -1,4 +1,4 @@
--- Places in texts, by the characters before them and behind them.
+-- Places in texts, by the characters before them and after them.
 use Rattle.std.proofs.Common.{◌≡◌, ◌∙◌, ℕ, ◌+◌, ◌-◌, ◌<◌, ◌≤◌, Bool, true, false, cond, leb, List, [], ◌∷◌, ◌++◌, length, refl, ap, arith}
 use Rattle.std.proofs.lemmas.Bool.Decides.{nat_tests, eqb_tells}
 use Rattle.lx_node.specs.Units.{units_of, units}
@@ -38,7 +38,7 @@ unfolding text_length units front_of
 front-length o [] = omega arith
 front-length o (c ∷ text) = front_by c o (front_of (o - units_of c) text) (front-length (o - units_of c) text) (leb (units_of c) o) refl
 
--- at the start there is nothing before, and everything behind
+-- at the start there is nothing before, and everything after
 pub front-start : (text : List ℕ) → front_of 0 text ≡ []
 unfolding front_of
 front-start [] = refl
@@ -53,7 +53,7 @@ rest-start (c ∷ text) =
     let no : leb (units_of c) 0 ≡ false = grind (arith, nat_tests, units_of-some c) in
     ap (λ b. cond b (rest_of (0 - units_of c) text) (c ∷ text)) no
 
--- behind another text
+-- after another text
 pub front-behind : (o : ℕ) (front back : List ℕ) → front_of (text_length front + o) (front ++ back) ≡ front ++ front_of o back
 unfolding text_length units front_of
 front-behind o [] back = ap (λ n. front_of n back) (omega arith)
@@ -72,7 +72,7 @@ rest-behind o (c ∷ front) back =
     ap (λ b. cond b (rest_of (units_of c + units front + o - units_of c) (front ++ back)) (c ∷ (front ++ back))) fits
     ∙ ap (λ n. rest_of n (front ++ back)) left ∙ rest-behind o front back
 
--- from the length of a text on there is nothing behind
+-- from the length of a text on there is nothing after
 pub rest-end : (o : ℕ) (text : List ℕ) → text_length text ≤ o → rest_of o text ≡ []
 unfolding text_length units rest_of
 rest-end o [] past = refl

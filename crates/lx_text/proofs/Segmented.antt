@@ -49,7 +49,7 @@ capped_on over n more behind e = omega (arith, e)
 capped_end : (over n more : ℕ) → more ≡ min (over + min n 4294967295) 4294967295 → min (over + n) 4294967295 ≡ more
 capped_end over n more e = omega (arith, e)
 
--- what is over a piece that comes first, and over those behind it where it is white
+-- what is over a piece that comes first, and over those after it where it is white
 over_one : (piece : List ℕ) (rest : List (List ℕ)) (white : Bool) → list_all is_whitespace piece ≡ white → over_word (piece ∷ rest) ≡ cond white (text_length piece + over_word rest) (text_length piece)
 over_one piece rest white e = ap (λ b. cond b (text_length piece + over_word rest) (text_length piece)) e
 

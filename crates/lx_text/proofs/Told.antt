@@ -43,11 +43,11 @@ lengths o text = sym (length-append (front_of o text) (rest_of o text)) ∙ ap t
 pub offset_within : (offset : ℕ) (text : List ℕ) → is_offset offset text ≡ true → offset ≤ text_length text
 offset_within offset text e = omega (arith, offset_is offset text e, lengths offset text)
 
--- what is left behind an offset
+-- what is left after an offset
 pub rest-length : (offset : ℕ) (text : List ℕ) → is_offset offset text ≡ true → text_length (rest_of offset text) + offset ≡ text_length text
 rest-length offset text e = omega (arith, offset_is offset text e, lengths offset text)
 
--- ---- two texts, one behind the other
+-- ---- two texts, one after the other
 
 same_past : (a b c : ℕ) → eqb (a + b) (a + c) ≡ eqb b c
 same_past a b c = grind (arith, eqb_tells (a + b) (a + c), eqb_tells b c)
@@ -64,7 +64,7 @@ offset-front offset front back e =
     offset_at offset (front_of offset front) (rest_of offset front ++ back) (front ++ back)
     (sym (ap (λ cs. cs ++ back) (parts offset front)) ∙ append_assoc (front_of offset front) (rest_of offset front) back) (offset_is offset front e)
 
--- an offset of a text, in what stands before another one, and in what stands behind it
+-- an offset of a text, in what comes before another one, and in what comes after it
 pub front-further : (o from : ℕ) (text : List ℕ) → is_offset o text ≡ true → o ≤ from → front_of from text ≡ front_of o text ++ front_of (from - o) (rest_of o text)
 front-further o from text e order =
     let here : text_length (front_of o text) ≡ o = offset_is o text e in
@@ -109,7 +109,7 @@ within-last offset place text e order =
     within_is offset text ∙ ap text_length (front-further place offset text e order) ∙ length-append (front_of place text) (front_of (offset - place) (rest_of place text)) in
     omega (arith, here, further)
 
--- an offset that is so far behind the last place
+-- an offset that is so far past the last place
 pub found_at : (offset behind : ℕ) (text : List ℕ) → within text offset + behind ≡ offset → behind ≡ 0 → true ≡ is_offset offset text
 unfolding is_offset
 found_at offset behind text e none = let same : within text offset ≡ offset = omega (arith, e, none) in grind (arith, same, eqb_tells (within text offset) offset)
@@ -118,7 +118,7 @@ pub missed_at : (offset behind : ℕ) (text : List ℕ) → within text offset +
 unfolding is_offset
 missed_at offset behind text e some = let other : within text offset < offset = omega (arith, e, some) in grind (arith, other, eqb_tells (within text offset) offset)
 
--- ---- the end, as an offset tells it
+-- ---- the end, as an offset can say it
 
 pub told-offset : (text : List ℕ) → is_offset (length_told text) text ≡ true
 unfolding length_told
@@ -175,18 +175,18 @@ piece-length from to text piece =
 pub slice-length : (from to : ℕ) (text : List ℕ) → slice_fault text from to ≡ None → text_length (slice_of from to text) + from ≡ to
 slice-length from to text e = piece-length from to text (piece_of from to text e)
 
--- the text up to the second offset is what stands up to the first one, and the piece
+-- the text up to the second offset is what comes up to the first one, and the piece
 pub front-piece : (from to : ℕ) (text : List ℕ) → is_offset from text ≡ true → from ≤ to → front_of to text ≡ front_of from text ++ slice_of from to text
 unfolding slice_of
 front-piece from to text e order = front-further from to text e order
 
--- the text from the first offset on is the piece, and what stands from the second one on
+-- the text from the first offset on is the piece, and what is from the second one on
 pub rest-piece : (from to : ℕ) (text : List ℕ) → is_offset from text ≡ true → from ≤ to → rest_of from text ≡ slice_of from to text ++ rest_of to text
 unfolding slice_of
 rest-piece from to text e order =
     sym (parts (to - from) (rest_of from text)) ∙ ap (λ cs. front_of (to - from) (rest_of from text) ++ cs) (rest-further from to text e order)
 
--- the text is what stands before the piece, the piece, and what stands behind it
+-- the text is what comes before the piece, the piece, and what comes after it
 pub pieces-whole : (from to : ℕ) (text : List ℕ) → slice_fault text from to ≡ None → front_of from text ++ slice_of from to text ++ rest_of to text ≡ text
 pieces-whole from to text e =
     let piece = piece_of from to text e in

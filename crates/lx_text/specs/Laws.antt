@@ -5,6 +5,7 @@ use Rattle.std.specs.Char.Escape.{encode_utf16}
 use Rattle.lx_node.specs.Limits.{last_u32}
 use Rattle.lx_text.specs.Texts.{text_length, front_of, rest_of, within, is_offset, length_told, slice_of, spliced_text, slice_fault}
 
+-- how lengths, offsets and pieces go together, whatever offsets count; and that they count UTF-16
 pub record TextsAreTold : Type 0 where
   -- lengths add up
   pub length_none : text_length [] ≡ 0
@@ -13,7 +14,7 @@ pub record TextsAreTold : Type 0 where
   pub offset_start : (text : List ℕ) → is_offset 0 text ≡ true
   pub offset_end : (text : List ℕ) → is_offset (text_length text) text ≡ true
   pub offset_within : (offset : ℕ) (text : List ℕ) → is_offset offset text ≡ true → offset ≤ text_length text
-  -- of two texts, one behind the other, the offsets of both are those of each
+  -- of two texts, one after the other, the offsets of both are those of each
   pub offset_front : (offset : ℕ) (front back : List ℕ) → is_offset offset front ≡ true → is_offset offset (front ++ back) ≡ true
   pub offset_behind : (offset : ℕ) (front back : List ℕ) → is_offset (text_length front + offset) (front ++ back) ≡ is_offset offset back
   -- between them the one ends and the other begins

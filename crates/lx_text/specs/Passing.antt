@@ -3,8 +3,8 @@ use Rattle.std.specs.Prelude.{ℕ, ◌+◌, ◌≡◌, ◌++◌, List, length, e
 use Rattle.std.specs.Str.{chars, IsUtf8}
 use Rattle.lx_text.specs.Texts.{text_length, front_of, rest_of, within}
 
--- What was passed of a text up to an offset: these characters. The bytes behind them are left, and so many code units are
--- left of the offset.
+-- these characters of a text were passed up to an offset, the bytes after them are left, and so many code units of the
+-- offset
 pub record IsPassed (text : List ℕ) (offset left : ℕ) (rest : List ℕ) : Type 0 where
   pub front : List ℕ
   pub utf8 : IsUtf8 rest
@@ -13,8 +13,8 @@ pub record IsPassed (text : List ℕ) (offset left : ℕ) (rest : List ℕ) : Ty
   pub rest_is : rest_of offset (chars text) ≡ rest_of left (chars rest)
   pub length_is : text_length front + left ≡ offset
 
--- The last place at the offset or before it: these characters stand before it, and so many bytes behind it. The offset is so
--- much further.
+-- the last place at the offset or before it: after these characters, before so many bytes, and the offset is so much
+-- further
 pub record IsStopped (text : List ℕ) (offset left rest : ℕ) : Type 0 where
   pub front : List ℕ
   pub back : List ℕ

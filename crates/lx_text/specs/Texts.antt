@@ -13,12 +13,12 @@ use Rattle.lx_node.specs.declared.cause.Fault.TheVariants as fault
 unfoldable pub text_length : List ℕ → ℕ
 text_length text = units text
 
--- the text up to an offset, and the text from there on; inside a surrogate pair both go by where the pair starts, and past
--- the end by the end
+-- the text up to an offset: up to the start of a pair that the offset is inside, and all of it past the end
 unfoldable pub front_of : ℕ → List ℕ → List ℕ
 front_of offset [] = []
 front_of offset (c ∷ text) = if nat_le (units_of c) offset then c ∷ front_of (offset - units_of c) text else []
 
+-- the text from an offset on: from the start of a pair that the offset is inside, and nothing past the end
 unfoldable pub rest_of : ℕ → List ℕ → List ℕ
 rest_of offset [] = []
 rest_of offset (c ∷ text) = if nat_le (units_of c) offset then rest_of (offset - units_of c) text else c ∷ text
@@ -31,7 +31,7 @@ within text offset = text_length (front_of offset text)
 unfoldable pub is_offset : ℕ → List ℕ → Bool
 is_offset offset text = within text offset == offset
 
--- the last place that an offset tells: the end, up to the last number of a u32
+-- the last place that an offset can name: the end, up to the last number of a u32
 unfoldable pub length_told : List ℕ → ℕ
 length_told text = within text last_u32
 
@@ -47,7 +47,7 @@ spliced_text from to new text = front_of from text ++ new ++ rest_of to text
 abbrev pub no_offset : List ℕ → ℕ → Option Cause
 no_offset text offset = if is_offset offset text then None else Some (BadPlace offset)
 
--- the first one is behind the second
+-- the first offset is after the second
 abbrev pub turned_round : ℕ → ℕ → Option Cause
 turned_round from to = if nat_le from to then None else Some (BadPlace from)
 
@@ -55,7 +55,7 @@ turned_round from to = if nat_le from to then None else Some (BadPlace from)
 abbrev pub slice_fault : List ℕ → ℕ → ℕ → Option Cause
 slice_fault text from to = option_or (no_offset text from) (option_or (no_offset text to) (turned_round from to))
 
--- what an error tells, where this is the first cause: the call was refused for it, or there was none and memory was wanting
+-- what an error says, where this is the first cause: the call was refused for it, or there was none and memory ran out
 abbrev pub TellsFirst : Option Cause → Fault → Type 0
 TellsFirst first (fault.Cause cause) = first ≡ Some cause
 TellsFirst first fault.Memory = first ≡ None

@@ -29,7 +29,7 @@ fn units_in(block: &str) -> u32
     units
 }
 
-/// What is behind the blocks that end at an offset or before it, and how much further the offset is: inside the next block,
+/// What is after the blocks that end at an offset or before it, and how much further the offset is: inside the next block,
 /// or past the end.
 pub(crate) fn passed_blocks(text: &str, offset: u32) -> (&str, u32)
     ensures { IsPassed text.now offset result.1 result.0.now }

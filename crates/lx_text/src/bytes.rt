@@ -1,4 +1,4 @@
-//! Where a piece of a kept text stands in its bytes, so that it can be replaced where it stands.
+//! Where a piece of a kept text is in its bytes, so that it can be replaced where it is.
 
 ghost use Rattle.std.specs.Prelude.{◌≡◌, None, Some, IfOk, IfErr, length, chars, encode_utf8_all};
 ghost use Rattle.lx_node.specs.Cuts.{Cuts};
@@ -8,7 +8,7 @@ use crate::offsets::pieces_of;
 use lx_node::{Cause, Fault, Txt};
 use std::alloc::Global;
 
-/// Where the piece between two offsets stands in a kept text: how many bytes are before it, and how many are in it. The
+/// Where the piece between two offsets is in a kept text: how many bytes are before it, and how many are in it. The
 /// offsets count as those of `slice`, and it is refused for the cause for which `slice` is. At the end of the text, where
 /// typing and joins put what is new, and in a text of ASCII, nothing is looked for. It takes no memory.
 pub fn piece_at(text: &Txt, from: u32, to: u32) -> Result<(usize, usize), Cause>

@@ -86,7 +86,7 @@ fn last_word(text: &str) -> u32
     over
 }
 
-/// The length of the pieces of white space at the start of a text, and of the piece behind them.
+/// The length of the pieces of white space at the start of a text, and of the piece after them.
 fn first_word(text: &str) -> u32
     ensures { result ≡ min (clusters.over_word (clusters.words (chars text.now))) 4294967295 }
 {
@@ -117,7 +117,7 @@ pub fn word_before(text: &str, at: u32) -> Result<u32, Fault>
 }
 
 /// Where the first word of the text from an offset on ends: white space at its start is passed over first. It is the
-/// offset itself where there is nothing behind. It is refused with `BadPlace` and the offset where that is past the
+/// offset itself where there is nothing after. It is refused with `BadPlace` and the offset where that is past the
 /// end or inside a pair.
 #[tactic(auto, unfolding(crate::specs::Clusters::word_after))]
 pub fn word_after(text: &str, at: u32) -> Result<u32, Fault>

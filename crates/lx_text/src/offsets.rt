@@ -8,7 +8,7 @@ ghost use Rattle.lx_text.specs.Passing.{IsStopped};
 use crate::blocks::passed_blocks;
 use lx_node::Txt;
 
-/// The text up to a place that so many bytes stand behind, and the text from there on, with how much further the offset
+/// The text up to a place after which so many bytes come, and the text from there on, with how much further the offset
 /// is.
 fn stopped(text: &str, offset: u32, left: u32, rest: usize) -> (&str, &str, u32)
     requires { IsStopped text.now offset left rest }
@@ -21,7 +21,7 @@ fn stopped(text: &str, offset: u32, left: u32, rest: usize) -> (&str, &str, u32)
     (front, back, left)
 }
 
-/// The text up to the last place at an offset or before it, the text from there on, and how far the offset is behind
+/// The text up to the last place at an offset or before it, the text from there on, and how far the offset is past
 /// that place: 0 where it is one itself. It goes by blocks, and then by the characters of the one that the offset is in.
 fn parted_within(text: &str, offset: u32) -> (&str, &str, u32)
     ensures front { chars result.0.now ≡ texts.front_of offset (chars text.now) }

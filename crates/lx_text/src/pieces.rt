@@ -15,8 +15,8 @@ pub(crate) fn units(text: &str) -> u32
     u32::try_from(lx_node::units(text)).unwrap_or(u32::MAX)
 }
 
-/// How long a text is in UTF-16 code units, which is the offset of its end. Of a text that is longer than an offset
-/// tells, it is the last place that one tells.
+/// How long a text is in UTF-16 code units, which is the offset of its end. For a text that is longer than an offset
+/// can say, it is the last place that one can.
 pub fn length(text: &str) -> u32
     ensures { result ≡ length_told (chars text.now) }
 {
@@ -43,7 +43,7 @@ fn told(text: &str, units: u64) -> u32
 
 /// The piece of a text between two offsets, which count UTF-16 code units from 0 to the length of the text. It is refused
 /// with `BadPlace` and the offset that is wrong: the first one that is past the end or inside a pair, or else `from`
-/// where it is behind `to`. `Memory` says that none was left for the piece.
+/// where it is after `to`. `Memory` says that none was left for the piece.
 #[tactic(auto, unfolding(crate::specs::Texts::slice_of))]
 pub fn slice(alloc: Global, text: &str, from: u32, to: u32) -> Result<Txt, Fault>
     ensures cut { IfOk result (λ piece. piece ≡ slice_of from to (chars text.now)) }
