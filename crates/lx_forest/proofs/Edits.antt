@@ -1,4 +1,4 @@
--- The laws of the primitive edits: how often a key stands after one, and where it stands.
+-- The laws of the primitive edits: how often a key is there after one, and where it is.
 use Rattle.std.proofs.Common.{◌≡◌, ℕ, ◌+◌, ◌<◌, ◌≤◌, true, false, cond, eqb, List, [], Option, None, Some, refl, ◌∙◌, arith}
 use Rattle.std.specs.Prelude.{is_some, option_map}
 use Rattle.std.specs.Option.{option_or}
@@ -27,7 +27,7 @@ total-among_roots k new f = rootedEdits.total-among_roots key_of k new f
 pub spot-among_roots : (k : ℕ) (new f : Forest) (q : ℕ) → count q new + count q f < 2 → spot (among_roots k new f) q ≡ option_or (spot new q) (spot f q)
 spot-among_roots k new f q h1 = rootedEdits.spot-among_roots key_of k new f q h1
 
--- ---- how often a key stands
+-- ---- how often a key is there
 
 pub count-with_new : (q : ℕ) (l : Label) (f : Forest) → count q (with_new l f) ≡ cond (eqb l.key q) 1 0 + count q f
 unfolding with_new
@@ -41,7 +41,7 @@ pub count-take_out : (q k : ℕ) (f : Forest) → count q (take_out k f) ≡ cou
 unfolding take_out
 count-take_out q k f = rootedEdits.count-take_out key_of q k f
 
--- a key that stands, and in no tree but its own, stands in what is left
+-- a key that is there, and in no tree but its own, is in what is left
 pub outside_once : (p k : ℕ) (f : Forest) → IsForest f → has p f ≡ true → is_within f k p ≡ false → count p (without k f) ≡ 1
 outside_once p k f h1 h2 h3 = rootedEdits.outside_once key_of p k f (ordered h1) h2 h3
 
@@ -75,7 +75,7 @@ pub total-drop_detached-le : (f : Forest) → total (drop_detached f) ≤ total 
 unfolding drop_detached
 total-drop_detached-le f = omega (arith, total-without-alone key_of 0 f)
 
--- ---- where a key stands
+-- ---- where a key is
 
 pub key-spot : (f : Forest) (q : ℕ) (s : Spot Label) → spot f q ≡ Some s → s.label.key ≡ q
 key-spot f q s h1 = rootedEdits.key-spot key_of f q s h1

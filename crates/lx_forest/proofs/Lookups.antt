@@ -23,7 +23,7 @@ is_among-children_of f q p h1 = rootedLookups.is_among-children_of key_of f q p 
 pub NoRepeats-children_of : (f : Forest) (q : ℕ) → IsForest f → NoRepeats (children_of f q)
 NoRepeats-children_of f q h1 = rootedLookups.NoRepeats-children_of key_of f q (ordered h1)
 
--- a parent stands, and so does a child
+-- a parent is there, and so is a child
 pub has-parent_of : (f : Forest) (q p : ℕ) → parent_of f q ≡ Some p → has p f ≡ true
 has-parent_of f q p h1 = rootedLookups.has-parent_of key_of f q p h1
 
@@ -34,7 +34,7 @@ has-child f q p h1 = rootedLookups.has-child key_of f q p h1
 pub parent_of-self : (f : Forest) (q : ℕ) → IsForest f → is_named (parent_of f q) q ≡ false
 parent_of-self f q h1 = rootedLookups.parent_of-self key_of f q (ordered h1)
 
--- a label has the key at which it stands
+-- a label has the key at which it is
 pub key-label_of : (f : Forest) (q : ℕ) (l : Label) → label_of f q ≡ Some l → l.key ≡ q
 key-label_of f q l e = from_spot (spot f q) (λ s at. key-spot f q s at) e where
   from_spot : (o : Option (Spot Label)) → ((s : Spot Label) → o ≡ Some s → s.label.key ≡ q) → option_map (λ (s : Spot Label). s.label) o ≡ Some l → l.key ≡ q

@@ -35,7 +35,7 @@ pub preorder-take_out : (k : ℕ) (f : Forest) → IsForest f → k ≢ 0 → pr
 unfolding take_out
 preorder-take_out k f h other = rootedPreorder.preorder-take_out key_of k f (ordered h) other
 
--- put brings them in before the child that is named, or else before what is behind the parent
+-- put brings them in before the child that is named, or else before what comes after the parent
 pub preorder-put_in : (p : ℕ) (before : Option ℕ) (k : ℕ) (f : Forest) → IsForest f → CanPut p k f → is_place before (children_of f p) ≡ true → preorder (put_in p before k f) ≡ cond (is_attached f p) (names_with (option_or before (first_of (behind f p))) (keys_within f k) (preorder f)) (preorder f)
 unfolding put_in
 preorder-put_in p before k f h c place = rootedPreorder.preorder-put_in key_of p before k f (ordered h) c place

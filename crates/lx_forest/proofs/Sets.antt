@@ -16,7 +16,7 @@ pub ruleset after_put = (IsForest-put_in, count-put_in, kind_of-put_in, parent_o
 
 pub ruleset after_drop = (IsForest-drop_detached, kind_of-drop_detached, parent_of-drop_detached, children_of-drop_detached, is_attached-drop_detached)
 
--- where a key stands after an edit, and its links
+-- where a key is after an edit, and its links
 pub ruleset spots_after = (spot-with_new, spot-with_fields, spot-take_out, spot-put_in, spot-drop_detached)
 
 pub ruleset records_after = (record_at-with_new, record_at-with_fields, record_at-take_out, record_at-put_in, record_at-drop_detached)

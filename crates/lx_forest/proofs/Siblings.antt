@@ -1,4 +1,4 @@
--- The laws of siblings: neighbours have one parent, and what edits do to the list in which a key stands.
+-- The laws of siblings: neighbours have one parent, and what edits do to the list in which a key is.
 use Rattle.std.proofs.Common.{◌≡◌, ℕ, true, false, cond, eqb, [], ◌∷◌, Option, Some, sym, ◌∙◌}
 use Rattle.lx_node.specs.Siblings.{is_named, NoRepeats, names_without, names_with, place_behind}
 use Rattle.lx_node.specs.declared.fields.Fields.{Fields}
@@ -26,7 +26,7 @@ NoRepeats-siblings f q h1 = rootedSiblings.NoRepeats-siblings key_of f q (ordere
 pub siblings-agree : (f g : Forest) (q : ℕ) → parent_of g q ≡ parent_of f q → ((p : ℕ) → parent_of f q ≡ Some p → children_of g p ≡ children_of f p) → siblings g q ≡ siblings f q
 siblings-agree f g q h1 h2 = rootedSiblings.siblings-agree key_of f g q h1 h2
 
--- the name behind which one comes that comes before a child
+-- the name after which one comes that comes before a child
 pub place_behind-previous_of : (f : Forest) (p b : ℕ) → parent_of f b ≡ Some p → place_behind (Some b) (children_of f p) ≡ previous_of f b
 place_behind-previous_of f p b h1 = rootedSiblings.place_behind-previous_of key_of f p b h1
 

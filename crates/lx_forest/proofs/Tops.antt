@@ -1,4 +1,4 @@
--- The keys that stand below nothing and aren't the root's: what they and all below them weigh, and who is below whom.
+-- The keys that are below nothing and aren't the root's: what they and all below them weigh, and who is below whom.
 use Rattle.std.proofs.Common.{◌≡◌, ◌≢◌, ℕ, zero, suc, ◌<◌, true, false, ◌&&◌, List, [], ◌∷◌, length, Some, refl, sym, ap, ◌∙◌, arith, inl, inr}
 use Rattle.std.specs.Prelude.{sum_by, is_none}
 use Rattle.std.proofs.lemmas.List.Sums.{sum_by-cons}

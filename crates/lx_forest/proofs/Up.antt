@@ -59,7 +59,7 @@ ancestors-put_in p before k f q h c = rootedUp.ancestors-put_in key_of p before 
 
 -- ---- what drops the detached trees leaves the attached keys' ancestors
 
--- each key in whose tree an attached one stands is attached
+-- each key whose tree has an attached one in it is attached
 pub attached_above : (f : Forest) (x q : ℕ) → IsForest f → is_attached f q ≡ true → is_within f x q ≡ true → is_attached f x ≡ true
 attached_above f x q h attached inside = rootedUp.attached_above key_of f x q (ordered h) attached inside
 

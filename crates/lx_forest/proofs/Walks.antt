@@ -22,7 +22,7 @@ use Rattle.lx_forest.proofs.Ordered.{ordered}
 
 -- ---- up
 
--- what stands nowhere has no parent
+-- what is nowhere has no parent
 pub no_parent : (f : Forest) (q : ℕ) → has q f ≡ false → parent_of f q ≡ None
 no_parent f q h1 = rootedWalks.no_parent key_of f q h1
 
@@ -32,7 +32,7 @@ ancestors-top f q up = walks.ancestors-top key_of f q up
 pub ancestors-step : (f : Forest) (q p : ℕ) → IsForest f → parent_of f q ≡ Some p → ancestors f q ≡ p ∷ ancestors f p
 ancestors-step f q p h up = walks.ancestors-step key_of f q p h.once up
 
--- fewer keys stand above one than there are in all, so a walk up ends
+-- fewer keys are above one than there are in all, so a walk up ends
 pub length-ancestors-lt : (f : Forest) (q : ℕ) → has q f ≡ true → length (ancestors f q) < total f
 length-ancestors-lt f q there = walks.length-ancestors-lt key_of f q (grind (arith, there))
 
@@ -77,14 +77,14 @@ root_first f h = names-alone key_of 0 f (grind (arith, h.once 0, has-root f h))
 pub from-root : (f : Forest) → IsForest f → from f 0 ≡ preorder f
 from-root f h = walks.from-first key_of (alone 0 f) 0 (tree_distinct f h) (ap first_of (root_first f h))
 
--- from a key on: the key, and from its first child on, or else what is behind it
+-- from a key on: the key, and from its first child on, or else what comes after it
 pub from-child : (f : Forest) (q c : ℕ) → IsForest f → is_attached f q ≡ true → first_child f q ≡ Some c → from f q ≡ q ∷ from f c
 from-child f q c h attached first = walks.from-child key_of (alone 0 f) q c (tree_distinct f h) (rw (spot_in_tree f q h, attached) first)
 
 pub from-leaf : (f : Forest) (q : ℕ) → IsForest f → is_attached f q ≡ true → children_of f q ≡ [] → from f q ≡ q ∷ behind f q
 from-leaf f q h attached none = walks.from-leaf key_of (alone 0 f) q (tree_distinct f h) (grind (arith, attached)) (rw (spot_in_tree f q h, attached) none)
 
--- behind a key: from its next sibling on, or else what is behind its parent
+-- after a key: from its next sibling on, or else what comes after its parent
 pub behind-next : (f : Forest) (q n : ℕ) → IsForest f → is_attached f q ≡ true → next_of f q ≡ Some n → behind f q ≡ from f n
 behind-next f q n h attached next =
     elim (cases_option (parent_of f q)) [

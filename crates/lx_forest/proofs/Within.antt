@@ -58,7 +58,7 @@ alone-put_in_outside a p before k f h1 h2 h3 = rootedWithin.alone-put_in_outside
 pub is_within-ancestors : (f : Forest) (k q : ℕ) → IsForest f → has q f ≡ true → is_within f k q ≡ is_among k (q ∷ ancestors f q)
 is_within-ancestors f k q h there = rootedUp.is_within-ancestors key_of f k q (ordered h) there
 
--- a key that stands is in its own tree
+-- a key that is there is in its own tree
 pub is_within-self : (f : Forest) (k : ℕ) → is_within f k k ≡ has k f
 is_within-self f k = rootedWithin.is_within-self key_of f k
 

@@ -33,21 +33,21 @@ take_out k f = rooted.take_out key_of k f
 unfoldable pub put_in : ℕ → Option ℕ → ℕ → Forest → Forest
 put_in p before k f = rooted.put_in key_of p before k f
 
--- trees behind the children of p
+-- the forest with trees put after the children of p
 abbrev pub last_below : ℕ → Forest → Forest → Forest
 last_below p new f = rooted.last_below key_of p new f
 
--- only the root's tree is left
+-- the forest with the root's tree alone
 unfoldable pub drop_detached : Forest → Forest
 drop_detached f = alone 0 f
 
--- the tree of k may be put below p: it is detached and isn't the root's, and p stands outside it
+-- the tree of k may be put below p: it is detached and isn't the root's, and p is outside it
 abbrev pub CanPut : ℕ → ℕ → Forest → Type 0
 CanPut p k f = rooted.CanPut key_of p k f
 
 -- ---- what an edit does to the spot at q
 
--- set at k
+-- where a key is once the fields of k were set
 abbrev pub reset : ℕ → Fields → ℕ → Spot Label → Spot Label
 reset k fields q s =
     record {
@@ -58,7 +58,7 @@ reset k fields q s =
 
 -- ---- what put does to the order
 
--- How a key in a tree that comes to this place among the children of p stands to a key q elsewhere: as the child before
--- which it comes, or else as p; but it is before that child, and behind all in the tree of p.
+-- how a key in a tree that comes to this place among the children of p stands to a key q elsewhere: as the child before
+-- which it comes, or else as p; but it is before that child, and after all in the tree of p
 abbrev pub order_from_place : Forest → ℕ → Option ℕ → ℕ → Option Ordering
 order_from_place f p before q = rooted.order_from_place key_of f p before q

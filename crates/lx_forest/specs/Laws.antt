@@ -1,4 +1,4 @@
--- The laws of forests that all else stands on.
+-- The laws of forests on which all else rests.
 use Rattle.std.specs.Prelude.{ℕ, ◌+◌, ◌≡◌, ◌≢◌, ◌==◌, ◌&&◌, ◌||◌, not, true, false, if◌then◌else◌, [], ◌∷◌, ◌++◌, length, Option, None, Some, option_map}
 use Rattle.std.specs.List.{filter}
 use Rattle.std.specs.Option.{option_or}
@@ -11,7 +11,7 @@ use Rattle.lx_forest.specs.Lookups.{has, spot, children_of, is_within, is_attach
 use Rattle.lx_forest.specs.Edits.{with_new, with_fields, take_out, put_in, last_below, drop_detached, CanPut, reset, taken, placed, order_from_place}
 use Rattle.lx_forest.specs.Records.{Record, record_at, StandsFor, lone, refielded, unlinked, linked_in}
 
--- where each key stands after each edit
+-- where each key is after each edit
 pub record SpotsFollow : Type 0 where
   pub new : (l : Label) (f : Forest) (q : ℕ) → IsForest f → has l.key f ≡ false →
       spot (with_new l f) q ≡ (if q == l.key then Some (record { label = l; parent = None; children = [] }) else spot f q)
@@ -50,7 +50,7 @@ pub record AncestorsFollow : Type 0 where
       ancestors (put_in p before k f) q ≡ ancestors f q ++ (if is_within f k q then p ∷ ancestors f p else [])
   pub drop : (f : Forest) (q : ℕ) → IsForest f → ancestors (drop_detached f) q ≡ (if is_attached f q then ancestors f q else [])
 
--- how deep each key stands in the root's tree: the root at 0, and each after an edit
+-- how deep each key is in the root's tree: the root at 0, and each after an edit
 pub record DepthsFollow : Type 0 where
   pub root : (f : Forest) → IsForest f → depth f 0 ≡ Some 0
   pub new : (l : Label) (f : Forest) (q : ℕ) → IsForest f → has l.key f ≡ false → depth (with_new l f) q ≡ depth f q
@@ -89,7 +89,7 @@ pub record OrderFollows : Type 0 where
       is_attached f p ≡ false → order_of (put_in p before k f) a b ≡ order_of f a b
   pub drop : (f : Forest) (a b : ℕ) → IsForest f → order_of (drop_detached f) a b ≡ order_of f a b
 
--- a forest in order is determined by where its keys stand, and by the records that stand for it
+-- a forest in order is determined by where its keys are, and by the records that stand for it
 pub record ForestsAreTold : Type 0 where
   pub by_spots : (f g : Forest) → IsForest f → IsForest g → ((q : ℕ) → spot f q ≡ spot g q) → f ≡ g
   pub by_records : (get : ℕ → Option Record) (f g : Forest) → StandsFor get f → StandsFor get g → f ≡ g
@@ -105,7 +105,7 @@ pub record RecordsFollow : Type 0 where
       record_at (put_in p before k f) q ≡ option_map (linked_in p (place_behind before (children_of f p)) before k q) (record_at f q)
   pub drop : (f : Forest) (q : ℕ) → IsForest f → record_at (drop_detached f) q ≡ (if is_attached f q then record_at f q else None)
 
--- trees behind the children of a node come by primitive edits: a new node, then the trees below it, and more behind it
+-- trees after the children of a node come by primitive edits: a new node, then the trees below it, and more after it
 pub record BuildingFollows : Type 0 where
   pub new : (p : ℕ) (l : Label) (f : Forest) → has l.key f ≡ false → put_in p None l.key (with_new l f) ≡ last_below p (tree l nil nil) f
   pub below : (p : ℕ) (l : Label) (s f : Forest) → has l.key f ≡ false → p ≢ l.key → last_below l.key s (last_below p (tree l nil nil) f) ≡ last_below p (tree l s nil) f

@@ -1,4 +1,4 @@
--- What a forest says of a key: where the key stands, and all that is read from that.
+-- What a forest says of a key: where the key is, and all that is read from that.
 use Rattle.std.specs.Prelude.{ℕ, ◌<◌, ◌≡◌, Bool, true, List, length, Option, Some, option_map}
 use Rattle.std.specs.declared.cmp.Ordering.{Ordering}
 use Rattle.lx_node.specs.NamedTrees as named
@@ -13,13 +13,15 @@ use Rattle.lx_node.specs.declared.kind.Kind.TheVariants.{Root}
 use Rattle.lx_node.specs.declared.fields.Fields.{Fields}
 use Rattle.lx_forest.specs.Forest.{Label, Forest}
 
+-- the key of a node, which is its name among trees
 abbrev pub key_of : Label → ℕ
 key_of l = l.key
 
--- how often the key stands, and whether it stands
+-- how often the key is there
 abbrev pub count : ℕ → Forest → ℕ
 count q f = named.count key_of q f
 
+-- whether the key is there
 abbrev pub has : ℕ → Forest → Bool
 has q f = named.has key_of q f
 
@@ -27,42 +29,51 @@ has q f = named.has key_of q f
 abbrev pub roots : Forest → List ℕ
 roots f = named.names key_of f
 
--- the tree of a key, and the forest without it
+-- the tree of a key
 abbrev pub alone : ℕ → Forest → Forest
 alone k f = named.alone key_of k f
 
+-- the forest without the tree of a key
 abbrev pub without : ℕ → Forest → Forest
 without k f = named.without key_of k f
 
--- the trees of these keys, one behind another
+-- the trees of these keys, one after another
 abbrev pub trees_of : Forest → List ℕ → Forest
 trees_of f ks = named.gathered key_of f ks
 
--- where a key stands: its label, its parent, its children's keys
+-- where a key is: its label, its parent, its children's keys
 abbrev pub spot : Forest → ℕ → Option (Spot Label)
 spot f q = spots.spot key_of f q
 
+-- what a key is, if it is there
 abbrev pub label_of : Forest → ℕ → Option Label
 label_of f q = option_map (λ s. s.label) (spot f q)
 
+-- the kind of a key, if it is there
 abbrev pub kind_of : Forest → ℕ → Option Kind
 kind_of f q = option_map (λ l. l.kind) (label_of f q)
 
+-- the fields of a key, if it is there
 abbrev pub fields_of : Forest → ℕ → Option Fields
 fields_of f q = option_map (λ l. l.fields) (label_of f q)
 
+-- the parent of a key, if it is below one
 abbrev pub parent_of : Forest → ℕ → Option ℕ
 parent_of f q = parent_at (spot f q)
 
+-- the children of a key, in their order
 abbrev pub children_of : Forest → ℕ → List ℕ
 children_of f q = children_at (spot f q)
 
+-- how many children a key has
 abbrev pub size_of : Forest → ℕ → ℕ
 size_of f q = length (children_of f q)
 
+-- the first child of a key, if it has one
 abbrev pub first_child : Forest → ℕ → Option ℕ
 first_child f q = first_of (children_of f q)
 
+-- the last child of a key, if it has one
 abbrev pub last_child : Forest → ℕ → Option ℕ
 last_child f q = last_of (children_of f q)
 
@@ -70,17 +81,19 @@ last_child f q = last_of (children_of f q)
 abbrev pub children_below : Forest → Option ℕ → List ℕ
 children_below f o = rooted.children_below key_of f o
 
--- the keys of the list in which a key stands, itself among them: none where it has no parent
+-- the keys of the list in which a key is, itself among them: none where it has no parent
 abbrev pub siblings : Forest → ℕ → List ℕ
 siblings f q = children_below f (parent_of f q)
 
+-- the key right before this one among its siblings
 abbrev pub previous_of : Forest → ℕ → Option ℕ
 previous_of f q = previous_in (siblings f q) q
 
+-- the key right after this one among its siblings
 abbrev pub next_of : Forest → ℕ → Option ℕ
 next_of f q = next_in (siblings f q) q
 
--- how many siblings stand before it
+-- how many siblings come before it
 abbrev pub index_of : Forest → ℕ → Option ℕ
 index_of f q = index_in (siblings f q) q
 
@@ -96,7 +109,7 @@ is_attached f q = is_within f 0 q
 abbrev pub ancestors : Forest → ℕ → List ℕ
 ancestors f q = walks.ancestors key_of f q
 
--- how many keys stand above an attached one
+-- how many keys are above an attached one
 abbrev pub depth : Forest → ℕ → Option ℕ
 depth f q = rooted.depth key_of f q
 
@@ -108,10 +121,11 @@ keys_within f k = rooted.keys_within key_of f k
 abbrev pub preorder : Forest → List ℕ
 preorder f = keys_within f 0
 
--- of these, the ones from q on, and those behind the tree of q
+-- the keys of the root's tree from q on
 abbrev pub from : Forest → ℕ → List ℕ
 from f q = rooted.from key_of f q
 
+-- the keys of the root's tree after the tree of q
 abbrev pub behind : Forest → ℕ → List ℕ
 behind f q = rooted.behind key_of f q
 
@@ -119,17 +133,18 @@ behind f q = rooted.behind key_of f q
 abbrev pub order_of : Forest → ℕ → ℕ → Option Ordering
 order_of f a b = rooted.order_of key_of f a b
 
--- A forest is in order: no key stands twice, the first tree is the root's, and the detached trees behind it stand by their
--- keys.
+-- a forest is in order: no key occurs twice, the first tree is the root's, and the detached trees after it come by
+-- their keys
 pub record IsForest (f : Forest) : Type 0 where
   pub once : (q : ℕ) → count q f < 2
   pub rising : rises (roots f) ≡ true
   pub root : kind_of f 0 ≡ Some Root
 
--- each child is of a kind that its parent's kind may hold
+-- the kind of a parent may hold that of a child, if both are there
 abbrev pub holds : (Kind → Kind → Bool) → Option Kind → Option Kind → Bool
 holds may_hold (Some outer) (Some inner) = may_hold outer inner
 holds may_hold _ _ = true
 
+-- each child is of a kind that its parent's kind may hold
 pub record IsHeld (may_hold : Kind → Kind → Bool) (f : Forest) : Type 0 where
   pub each : (q p : ℕ) → parent_of f q ≡ Some p → holds may_hold (kind_of f p) (kind_of f q) ≡ true

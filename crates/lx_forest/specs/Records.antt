@@ -19,8 +19,8 @@ record_at f q = rooted.record_at key_of f q
 abbrev pub IsRecordOf : Forest → ℕ → Record → Type 0
 IsRecordOf f q r = rooted.IsRecordOf key_of f q r
 
--- A map of records stands for a forest in order: at each key it has the forest's record. The forest has fewer than 2 ^ 32
--- nodes, so that each size fits.
+-- a map of records stands for a forest in order, which has fewer than 2 ^ 32 nodes, so that each size fits: at each key
+-- it has the forest's record
 pub record StandsFor (get : ℕ → Option Record) (f : Forest) : Type 0 where
   pub in_order : IsForest f
   pub same : (q : ℕ) → get q ≡ record_at f q
@@ -28,7 +28,7 @@ pub record StandsFor (get : ℕ → Option Record) (f : Forest) : Type 0 where
 
 -- ---- what an edit does to the record at q
 
--- set at k
+-- the record of a key once the fields of k were set
 abbrev pub refielded : ℕ → Fields → ℕ → Record → Record
 refielded k fields q r =
     record r {

@@ -15,6 +15,7 @@ abbrev pub unnumbered : Extra → Extra
 unnumbered (extra.Item value checked) = extra.Item 1 checked
 unnumbered other = other
 
+-- the fields as a rule sees them, where the number of an item is 1
 abbrev pub seen_fields : Fields → Fields
 seen_fields (fields.Element element) = fields.Element (record element { extra = unnumbered element.extra })
 seen_fields other = other
@@ -24,6 +25,7 @@ abbrev pub kind_at : Forest → Option ℕ → Option Kind
 kind_at f None = None
 kind_at f (Some k) = kind_of f k
 
+-- kinds with one in front, if there is one
 abbrev pub with_kind : Option Kind → List Kind → List Kind
 with_kind None kinds = kinds
 with_kind (Some kind) kinds = kind ∷ kinds
@@ -33,6 +35,7 @@ abbrev pub kinds_of : Forest → List ℕ → List Kind
 kinds_of f [] = []
 kinds_of f (x ∷ xs) = with_kind (kind_of f x) (kinds_of f xs)
 
+-- a node as a rule sees it, by where it is
 abbrev pub viewed : Forest → ℕ → Spot Label → View
 viewed f q s =
     record {
@@ -44,7 +47,7 @@ viewed f q s =
       children = kinds_of f s.children;
     }
 
--- the node of the key as a rule sees it: its kind and its fields, and the kinds of its parent, of its neighbours and of its
--- children
+-- the node of the key as a rule sees it: its kind and its fields, and the kinds of its parent, of its neighbours and of
+-- its children
 abbrev pub view_of : Forest → ℕ → Option View
 view_of f q = option_map (viewed f q) (spot f q)

@@ -1,10 +1,10 @@
 //! Forests, which contracts speak of: nodes in nested lists, what is looked up in them, and their primitive edits. There
-//! is no code here. The functions below do nothing: their contracts are the laws that all else stands on.
+//! is no code here. The functions below do nothing: their contracts are the laws on which all else rests.
 #![tactic(auto)]
 
 ghost use Rattle.lx_forest.specs.Laws.{SpotsFollow, OrderIsKept, TreesFollow, AncestorsFollow, DepthsFollow, PreorderFollows, OrderFollows, ForestsAreTold, RecordsFollow, BuildingFollows};
 
-/// Where each key stands after each primitive edit, as one equation for all keys.
+/// Where each key is after each primitive edit, as one equation for all keys.
 pub fn spots_follow()
     ensures { SpotsFollow }
 {}
@@ -24,7 +24,7 @@ pub fn ancestors_follow()
     ensures { AncestorsFollow }
 {}
 
-/// How deep each key of the root's tree stands after each primitive edit.
+/// How deep each key of the root's tree is after each primitive edit.
 pub fn depths_follow()
     ensures { DepthsFollow }
 {}
@@ -49,7 +49,7 @@ pub fn records_follow()
     ensures { RecordsFollow }
 {}
 
-/// Trees come behind the children of a node by primitive edits: a new node put there, then those below it, and more behind.
+/// Trees come after the children of a node by primitive edits: a new node put there, then those below it, and more after.
 pub fn building_follows()
     ensures { BuildingFollows }
 {}

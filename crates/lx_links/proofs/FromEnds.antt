@@ -26,7 +26,7 @@ at_front f p first s is = is ∙ (ends f p s).front_is
 pub one_on : (f : Forest) (p passed key : ℕ) (at next : Option ℕ) → Sound f → at ≡ slice_get (children_of f p) passed → at ≡ Some key → next ≡ next_of f key → next ≡ slice_get (children_of f p) (passed + 1)
 one_on f p passed key at next s here is e = e ∙ next_child f p passed key s (sym here ∙ is)
 
--- where one is absent, so are those behind it
+-- where one is absent, so are those after it
 pub none_on : (f : Forest) (p passed before : ℕ) (at : Option ℕ) → at ≡ slice_get (children_of f p) passed → at ≡ None → passed ≤ before → None ≡ slice_get (children_of f p) before
 none_on f p passed before at here none most =
     sym (slice_get_past (children_of f p) before (omega (arith, past_none (children_of f p) passed (sym here ∙ none), most)))

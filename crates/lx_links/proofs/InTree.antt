@@ -1,4 +1,4 @@
--- The key behind one in the root's tree, and its depth.
+-- The key after one in the root's tree, and its depth.
 use Rattle.std.proofs.Common.{ℕ, ◌≡◌, ◌&&◌, eqb, ◌+◌, ◌-◌, ◌<◌, ◌^◌, true, false, cond, length, List, [], ◌∷◌, Option, None, Some, option_map, refl, sym, ap, ◌∙◌, subst, inl, inr, arith, IfSome, IfNone}
 use Rattle.std.proofs.lemmas.Bool.{cases_Bool, cases_eq}
 use Rattle.std.proofs.lemmas.Bool.Decides.{eqb_tells}
@@ -91,7 +91,7 @@ first_behind f q c d s e first =
 leaf_behind : (f : Forest) (q d : ℕ) → Sound f → depth f q ≡ Some d → first_child f q ≡ None → from f q ≡ q ∷ behind f q
 leaf_behind f q d s e none = from-leaf f q (in_order_with f q d s e) (attached_with f q d e) (none_first (children_of f q) none)
 
--- ---- behind a tree
+-- ---- after a tree
 
 -- the next sibling
 pub sibling_depth : (f : Forest) (q n d : ℕ) → Sound f → depth f q ≡ Some d → next_of f q ≡ Some n → depth f n ≡ Some d
@@ -108,11 +108,11 @@ sibling_attached f q n d s e next = attached_with f n d (sibling_depth f q n d s
 pub sibling_behind : (f : Forest) (q n d : ℕ) → Sound f → depth f q ≡ Some d → next_of f q ≡ Some n → behind f q ≡ from f n
 sibling_behind f q n d s e next = behind-next f q n (in_order_with f q d s e) (attached_with f q d e) next
 
--- behind a last child is what is behind its parent
+-- after a last child is what comes after its parent
 pub parent_behind : (f : Forest) (q p d : ℕ) → Sound f → depth f q ≡ Some d → next_of f q ≡ None → parent_of f q ≡ Some p → behind f q ≡ behind f p
 parent_behind f q p d s e last up = behind-last f q p (in_order_with f q d s e) (attached_with f q d e) up last
 
--- nothing is behind the root
+-- nothing is after the root
 is_root : (f : Forest) (q d : ℕ) → Sound f → depth f q ≡ Some d → parent_of f q ≡ None → q ≡ 0
 is_root f q d s e up = elim (cases_eq q 0) [
   | inl root ↦ root

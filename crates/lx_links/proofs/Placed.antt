@@ -44,7 +44,7 @@ parent_of-child f q p s e = above_of (parent_of f q) p (sym (child_named f q p s
 behind_child : (f : Forest) (p b : ℕ) → Sound f → is_among b (children_of f p) ≡ true → previous_of f b ≡ previous_in (children_of f p) b
 behind_child f p b s e = ap (λ o. previous_in (children_below f o) b) (parent_of-child f b p s e)
 
--- the child behind which the gap before another one is
+-- the child after which the gap before another one is
 pub behind_of : (f : Forest) (p b : ℕ) (before : Option ℕ) → Sound f → before ≡ Some b → is_place before (children_of f p) ≡ true → previous_of f b ≡ place_behind before (children_of f p)
 behind_of f p b before s is place =
     behind_child f p b s (sym (ap (λ o. is_place o (children_of f p)) is) ∙ place) ∙ sym (ap (λ o. place_behind o (children_of f p)) is)

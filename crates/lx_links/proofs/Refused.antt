@@ -1,4 +1,4 @@
--- Which cause comes first, from what the tests on the way told.
+-- Which cause comes first, from what the tests on the way answered.
 use Rattle.std.proofs.Common.{ℕ, ◌≡◌, ◌≢◌, Bool, true, false, cond, Option, None, Some, Result, Ok, Err, is_some, sym, ap, ◌∙◌, subst}
 use Rattle.std.specs.Option.{option_or}
 use Rattle.std.specs.Result.{IfErr, OnErr, IsErrAnd}
@@ -59,6 +59,6 @@ detach_fine k f n p s e = detach_seen k f n (Some p) s e
 pub refused_by : (old new : Forest) (first : Option Cause) (e : Fault) (cause : Cause) → e ≡ fault.Cause cause → old ≢ nil → first ≡ Some cause → new ≡ old → RefusesEdit old first new e
 refused_by old new first e cause is lives fault same = subst (RefusesEdit old first new) (sym is) (lives, fault, same)
 
--- where no cause holds, memory was wanting
+-- where no cause holds, memory ran out
 pub failed_by_memory : {T : Type 0} (r : Result T Fault) (old new : Forest) (first : Option Cause) → IsErrAnd r (λ y. y ≡ Memory) → first ≡ None → new ≡ nil → IfErr r (RefusesEdit old first new)
 failed_by_memory r old new first h none gone = memory_err r (RefusesEdit old first new) h (λ lives. none, gone)

@@ -1,4 +1,4 @@
--- What a node tells of the forest, and what its absence tells.
+-- What a node shows of the forest, and what its absence shows.
 use Rattle.std.proofs.Common.{ℕ, ◌≡◌, true, false, length, [], Option, None, Some, option_map, is_some, Bor, refl, sym, ap, ◌∙◌}
 use Rattle.std.specs.Option.{option_copied}
 use Rattle.lx_node.specs.Spots.{Spot, parent_at, children_at}
@@ -68,7 +68,7 @@ is_some-map g (Some x) = refl
 pub is_some_in : (o : Option (Bor Node)) (f : Forest) (q : ℕ) → option_copied o ≡ option_map node_of (record_at f q) → is_some o ≡ has q f
 is_some_in o f q e = sym (is_some-copied o) ∙ ap is_some e ∙ is_some-map node_of (record_at f q) ∙ is_some-record_at f q
 
--- where a key isn't in a forest, nothing is told of it
+-- where a key isn't in a forest, nothing is said of it
 none_of : {A : Type 0} (o : Option A) → is_some o ≡ false → o ≡ None
 none_of None e = refl
 none_of (Some x) e = cc

@@ -1,4 +1,4 @@
--- A text that is spliced where it stands, as one that is set.
+-- A text that is spliced where it is, as one that is set.
 use Rattle.std.proofs.Common.{append_assoc, ◌≡◌, ◌∙◌, ℕ, ◌+◌, ◌-◌, ◌<◌, ◌≤◌, true, cond, eqb, List, [], ◌∷◌, ◌++◌, length, Option, None, Some, Result, Ok, Err, option_map, refl, sym, ap, subst, inl, inr, arith, encode_utf8, encode_utf8_all, chars, length-append}
 use Rattle.std.specs.Prelude.{OnOk}
 use Rattle.std.specs.Char.{len_utf8}
@@ -114,7 +114,7 @@ edited_in_place (Ok x) splice n old text is fits made =
     (spliced_is splice old.text cut.before cut.within cut.behind cut.cuts ∙ sym (made cut.before cut.within cut.behind cut.cuts)))
 edited_in_place (Err e) splice n old text is fits made = tt
 
--- what stands under the key then
+-- what is under the key then
 pub node_refielded : (old new : Nodes) (k : ℕ) (n : Node) (x : Fields) → Differs (λ q. node_after (Content x) (is_named (Some k) q)) old new → get old k ≡ Some n
     → get new k ≡ Some (record n { fields = x })
 node_refielded old new k n x d there =

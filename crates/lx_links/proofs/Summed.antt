@@ -138,7 +138,7 @@ set_at : (n old new : Sums) (f : Forest) (k : ℕ) (fields : Fields) (s : Spot L
     → old ≡ own_sums s.label.kind s.label.fields → new ≡ own_sums s.label.kind fields → plus n new ≡ plus (sums_of (with_fields k fields f)) old
 set_at n old new f k fields s h e c o w = rw (c, o, w) (same_sums _ _ (set_weight counted_in f k fields s h e) (set_weight items_in f k fields s h e) (set_weight item_counted_in f k fields s h e))
 
--- at a node that the forest tells
+-- at a node that the forest has
 pub node_counts : (n old new : Sums) (f : Forest) (k : ℕ) (fields : Fields) (node : Node)
     → IsForest f → n ≡ sums_of f → Some node ≡ option_map node_of (record_at f k)
     → old ≡ own_sums node.kind node.fields → new ≡ own_sums node.kind fields → plus n new ≡ plus (sums_of (with_fields k fields f)) old
@@ -175,7 +175,7 @@ is_part n gone rest e = rw e (record { characters = omega arith; items = omega a
 pub less_part : (n gone rest : Sums) → n ≡ plus rest gone → less n gone ≡ rest
 less_part n gone rest e = rw e (same_sums _ _ (omega arith) (omega arith) (omega arith))
 
--- ---- what is told of them
+-- ---- what a machine counts of them
 
 capped_is : (n told m : ℕ) → n ≡ m → told ≡ min n (2 ^ 64 - 1) → told ≡ capped m
 unfolding capped

@@ -39,7 +39,7 @@ pub keys_in : (m : Nodes) (f : Forest) (q : ℕ) → StandsFor (records m) f →
 keys_in m f q s =
     sym (same_any q (keys m)) ∙ sym (contains_key-keys m q) ∙ sym (is_some-map (record_of q) (get m q)) ∙ ap is_some (s.same q) ∙ is_some-record_at f q
 
--- the keys of a map rise, so none stands twice
+-- the keys of a map rise, so none occurs twice
 both : (a b : Bool) → T (a && b) → T a × T b
 both true b h = (tt, h)
 both false b h = absurd h

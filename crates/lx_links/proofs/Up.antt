@@ -13,7 +13,7 @@ use Rattle.lx_links.specs.Stands.{Sound}
 absent_within : (m n : ℕ) → n ≤ m → ltb 0 m ≡ false → ltb 0 n ≡ false
 absent_within m n h e = grind (arith, h, e)
 
--- a forest in which something stands is in order
+-- a forest in which something is below a parent is in order
 pub in_order : (f : Forest) (q p : ℕ) → Sound f → parent_of f q ≡ Some p → IsForest f
 in_order f q p s e = s.in_order (λ no. let P : Forest → Type 0 = λ g. parent_of g q ≡ Some p in let h : None ≡ Some p = subst P no e in cc)
 
@@ -61,7 +61,7 @@ attached_top f q t s top same = elim (cases_Bool (has q f)) [
 pub within_met : (f : Forest) (k q : ℕ) → q ≡ k → is_within f k q ≡ has k f
 within_met f k q e = ap (is_within f k) e ∙ is_within-self f k
 
--- what the test of a loop tells
+-- what the test of a loop shows
 pub test_other : (a b : ℕ) → not (eqb a b) ≡ true → a ≢ b
 test_other a b e = grind (arith, nat_tests, e)
 

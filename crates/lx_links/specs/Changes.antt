@@ -40,7 +40,7 @@ Fits _ n = Unit {0}
 pub record Differs (change : ℕ → Node → Node) (old new : Nodes) : Type 0 where
   pub each : (q : ℕ) → get new q ≡ option_map (change q) (get old q)
 
--- a node after the key left that one, and its neighbours
+-- a node once the key left its parent and its neighbours
 abbrev pub node_unlinked : ℕ → ℕ → Option ℕ → Option ℕ → ℕ → Node → Node
 node_unlinked key parent prev next q n =
     record {
@@ -54,7 +54,7 @@ node_unlinked key parent prev next q n =
       size = (if q == parent then n.size - 1 else n.size);
     }
 
--- a node after the key came below that one, between its neighbours
+-- a node once the key came below a parent, between its neighbours
 abbrev pub node_linked : ℕ → ℕ → Option ℕ → Option ℕ → ℕ → Node → Node
 node_linked key parent behind before q n =
     record {

@@ -1,11 +1,11 @@
--- Where a walk through the children of a node stands.
+-- Where a walk through the children of a node is.
 use Rattle.std.specs.Prelude.{ℕ, ◌+◌, ◌≤◌, ◌≡◌, Option}
 use Rattle.std.specs.List.{slice_get}
 use Rattle.lx_forest.specs.Forest.{Forest}
 use Rattle.lx_forest.specs.Lookups.{children_of, size_of}
 use Rattle.lx_links.specs.Stands.{Sound}
 
--- so many have been passed, so many are left, and the ends of those are these
+-- so many children have been passed, so many are left, and the ends of those that are left are these
 pub record IsAmid (f : Forest) (parent passed left : ℕ) (front back : Option ℕ) : Type 0 where
   pub sound : Sound f
   pub within : passed + left ≤ size_of f parent

@@ -19,6 +19,7 @@ use Rattle.lx_forest.specs.Lookups.{has, kind_of, parent_of, children_of, is_wit
 abbrev pub unknown : Forest → ℕ → Option Cause
 unknown f k = if has k f then None else Some (UnknownNode (Key k))
 
+-- there is no such node, if one is named
 abbrev pub unknown_before : Forest → Option ℕ → Option Cause
 unknown_before f None = None
 unknown_before f (Some k) = unknown f k
@@ -28,13 +29,15 @@ abbrev pub wrong_fields : Option Kind → Fields → Option Cause
 wrong_fields None fields = None
 wrong_fields (Some kind) fields = if is_of_kind kind fields then None else Some (WrongKind kind)
 
+-- why fields can't be set: there is no such node, or they aren't of its kind
 abbrev pub set_fault : ℕ → Fields → Forest → Option Cause
 set_fault k fields f = option_or (unknown f k) (wrong_fields (kind_of f k) fields)
 
--- it stands below nothing
+-- the node is below nothing
 abbrev pub not_below : Forest → ℕ → Option Cause
 not_below f k = if is_some (parent_of f k) then None else Some (BadPlace k)
 
+-- why a node can't be taken out: it isn't there, or is below nothing
 abbrev pub detach_fault : ℕ → Forest → Option Cause
 detach_fault k f = option_or (unknown f k) (not_below f k)
 
@@ -43,7 +46,7 @@ abbrev pub misfit : Option Kind → Option Kind → Option Cause
 misfit (Some outer) (Some inner) = if may_hold outer inner then None else Some (WrongKind inner)
 misfit _ _ = None
 
--- it is the root, or stands below something, or the parent is in its tree
+-- the node is the root, or is below something, or the parent is in its tree
 abbrev pub bound_to : Forest → ℕ → ℕ → Option Cause
 bound_to f p k = if k == 0 || (is_some (parent_of f k) || is_within f k p) then Some (BadPlace k) else None
 
@@ -52,6 +55,7 @@ abbrev pub no_child : Forest → ℕ → Option ℕ → Option Cause
 no_child f p None = None
 no_child f p (Some before) = if is_among before (children_of f p) then None else Some (BadPlace before)
 
+-- why a node can't be put there: one isn't there, the parent may not hold it, it is bound, or the other is no child
 abbrev pub place_fault : ℕ → Option ℕ → ℕ → Forest → Option Cause
 place_fault p before k f =
     option_or (unknown f p)
@@ -59,8 +63,8 @@ place_fault p before k f =
     (option_or (unknown f k)
     (option_or (misfit (kind_of f p) (kind_of f k)) (option_or (bound_to f p k) (no_child f p before)))))
 
--- What an edit of links does that answers an error, where this is the first cause: refused for it, it leaves the links as
--- they were. Otherwise memory was wanting, and the links have failed.
+-- what an edit of links leaves that answers an error: refused for its first cause, the links as they were; out of
+-- memory, links that have failed
 abbrev pub RefusesEdit : Forest → Option Cause → Forest → Fault → Type 0
 RefusesEdit old first new (fault.Cause cause) = (old ≢ nil) × (first ≡ Some cause) × (new ≡ old)
 RefusesEdit old first new fault.Memory = (old ≢ nil → first ≡ None) × (new ≡ nil)

@@ -4,6 +4,7 @@ use Rattle.lx_forest.specs.Forest.{Forest}
 use Rattle.lx_forest.specs.Lookups.{parent_of, ancestors, is_within, is_attached}
 use Rattle.lx_links.specs.Stands.{Sound}
 
+-- both are one name, or neither is there
 abbrev pub same_named : Option ℕ → Option ℕ → Bool
 same_named None None = true
 same_named (Some x) (Some y) = x == y

@@ -16,10 +16,11 @@ use Rattle.lx_forest.specs.Suited.{IsSuited}
 use Rattle.lx_forest.specs.Records.{Record, StandsFor}
 use Rattle.lx_forest.proofs.Records.{StandsFor-unique}
 
+-- the nodes under their keys, in the order of the keys
 abbrev pub Nodes : Type 0
 Nodes = FinMap nat_cmp Node
 
--- a node as the record of its key, and back
+-- a node as the record of its key
 abbrev pub record_of : ℕ → Node → Record
 record_of q n =
     record {
@@ -32,6 +33,7 @@ record_of q n =
       size = n.size;
     }
 
+-- a record as a node, which doesn't know its key
 abbrev pub node_of : Record → Node
 node_of r =
     record {
@@ -54,13 +56,14 @@ lone_node kind fields =
 abbrev pub records : Nodes → ℕ → Option Record
 records m q = option_map (record_of q) (get m q)
 
--- such a map for a forest in which each child is of a kind that its parent's kind may hold, and all fields are of their kinds
+-- a map of nodes stands for a forest in which each child is of a kind that its parent's may hold, and all fields are of
+-- their kinds
 pub record Holds (m : Nodes) (f : Forest) : Type 0 where
   pub stands : StandsFor (records m) f
   pub held : IsHeld may_hold f
   pub suited : IsSuited f
 
--- What stands for a forest: a map of nodes for one in order, and none for the empty one, which has no root.
+-- what stands for a forest: a map of nodes for one in order, and none for the empty one, which has no root
 abbrev pub Stands : Option Nodes → Forest → Type 0
 Stands None f = f ≡ nil
 Stands (Some m) f = Holds m f
@@ -96,18 +99,20 @@ Stands-prop (Some m) f = Holds-prop m f
 same_standing : (held : Option Nodes) (x : Standing held) (f : Forest) (h : Stands held f) → x.forest ≡ f → x ≡ record { forest = f; stands = h }
 same_standing held x f h e = let P : Forest → Type 0 = λ g. (k : Stands held g) → x ≡ record { forest = g; stands = k } in subst P e (λ k. ap (λ k. record { forest = x.forest; stands = k }) (Stands-prop held x.forest x.stands k)) h
 
+-- what is held stands for one forest at most, and in one way
 pub Standing-prop : (held : Option Nodes) → IsProp (Standing held)
 Standing-prop held x y = same_standing held x y.forest y.stands (Stands-unique held x.forest y.forest x.stands y.stands)
 
--- the forest, which doesn't unfold
+-- the forest of what is held, as a name that doesn't unfold
 pub forest_in : (held : Option Nodes) → Standing held → Forest
 forest_in held s = s.forest
 
+-- what is held stands for the forest that is said to be held
 pub forest_in-stands : (held : Option Nodes) (s : Standing held) → Stands held (forest_in held s)
 unfolding forest_in
 forest_in-stands held s = s.stands
 
--- whatever stands for the forest of what is held
+-- the forest of what is held is whichever it stands for
 pub forest_in-is : (held : Option Nodes) (s : Standing held) (f : Forest) → Stands held f → forest_in held s ≡ f
 forest_in-is held s f h = Stands-unique held (forest_in held s) f (forest_in-stands held s) h
 

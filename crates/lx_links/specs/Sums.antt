@@ -11,17 +11,19 @@ use Rattle.lx_forest.specs.Weights.{weight, own_weight}
 use Rattle.lx_links.specs.declared.sums.Sums.{Sums}
 use Rattle.lx_links.specs.Characters.{counted_in}
 
+-- 1 for an item, and 0 for any other node
 abbrev pub items_in : Label → ℕ
 items_in l = cond (is_item l.kind) 1 0
 
--- how many scalar values are in the strings of an item, and what a machine counts of them
+-- how many scalar values are in the strings of an item: 0 for any other node
 abbrev pub item_characters_in : Label → ℕ
 item_characters_in l = cond (is_item l.kind) (characters_of l.fields) 0
 
+-- how many scalar values are in the strings of an item, as far as a machine counts: 0 for any other node
 abbrev pub item_counted_in : Label → ℕ
 item_counted_in l = cond (is_item l.kind) (capped (characters_of l.fields)) 0
 
--- those of one node, of all, and of the nodes of these keys
+-- what one node holds
 abbrev pub own_sums : Kind → Fields → Sums
 own_sums kind fields = record {
   characters = capped (characters_of fields);
@@ -29,9 +31,11 @@ own_sums kind fields = record {
   item_characters = cond (is_item kind) (capped (characters_of fields)) 0;
 }
 
+-- what all nodes of the forest hold together
 abbrev pub sums_of : Forest → Sums
 sums_of f = record { characters = weight counted_in f; items = weight items_in f; item_characters = weight item_counted_in f }
 
+-- what the nodes of these keys hold together
 abbrev pub sums_at : Forest → List ℕ → Sums
 sums_at f ks = record {
   characters = sum_by (own_weight counted_in f) ks;
@@ -39,7 +43,7 @@ sums_at f ks = record {
   item_characters = sum_by (own_weight item_counted_in f) ks;
 }
 
--- of both together, and what is left without a part
+-- two sums added
 abbrev pub plus : Sums → Sums → Sums
 plus s more = record {
   characters = s.characters + more.characters;
@@ -47,6 +51,7 @@ plus s more = record {
   item_characters = s.item_characters + more.item_characters;
 }
 
+-- a sum without a part of it
 abbrev pub less : Sums → Sums → Sums
 less s gone = record {
   characters = s.characters - gone.characters;
@@ -54,12 +59,13 @@ less s gone = record {
   item_characters = s.item_characters - gone.item_characters;
 }
 
+-- no part of the one sum is more than that of the other
 pub record IsPart (gone s : Sums) : Type 0 where
   pub characters : gone.characters ≤ s.characters
   pub items : gone.items ≤ s.items
   pub item_characters : gone.item_characters ≤ s.item_characters
 
--- no more than fewer than 2 ^ 32 nodes can have
+-- sums no greater than those of fewer than 2 ^ 32 nodes can be
 pub record AreFew (s : Sums) : Type 0 where
   pub characters : s.characters < 2 ^ 96
   pub items : s.items < 2 ^ 32

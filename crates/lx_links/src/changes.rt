@@ -20,7 +20,7 @@ pub enum Change {
         prev: Option<Key>,
         next: Option<Key>,
     },
-    /// A child that stood between these has left it.
+    /// A child that came between these has left it.
     Left {
         prev: Option<Key>,
         next: Option<Key>,
@@ -94,7 +94,7 @@ pub fn put_node(store: &mut Store<Node>, key: Key, node: Node) -> Result<(), NoM
     Ok(())
 }
 
-/// Changes the node of a key where it stands, where a key is given and there is such a node.
+/// Changes the node of a key where it is, where a key is given and there is such a node.
 pub fn change_node(store: &mut Store<Node>, at: Option<Key>, change: Change) -> Result<(), NoMemory>
     requires { (k : ℕ) (n : Node) → at ≡ Some k → map.get store.old k ≡ Some n → Fits change n }
     ensures { OnOk result (Differs (λ q. node_after change (is_named at q)) store.old store.new) }

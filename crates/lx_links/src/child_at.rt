@@ -38,7 +38,7 @@ impl Links {
         at
     }
 
-    /// The child with so many behind it.
+    /// The child with so many after it.
     fn child_from_back(&self, parent: Key, behind: u32) -> Option<Key>
         requires { behind < lookups.size_of self.now parent }
         ensures { result ≡ slice_get (lookups.children_of self.now parent) (lookups.size_of self.now parent - 1 - behind) }

@@ -24,7 +24,7 @@ impl Links {
     ghost use Rattle.lx_node.specs.declared.fields.TextFields.{TextFields};
     ghost use Rattle.lx_links.specs.Splices.{MaySplice};
 
-    /// Adds a node without children that stands below nothing.
+    /// Adds a node without children that is below nothing.
     pub fn insert_new(&mut self, key: Key, kind: Kind, fields: Fields) -> Result<(), NoMemory>
         requires free { lookups.has key self.old ≡ false }
         requires room { total self.old < last_u32 }
@@ -69,7 +69,7 @@ impl Links {
         Ok(())
     }
 
-    /// Puts `new` in the place of a piece of a text where that stands: so many bytes are before the piece, and so many are
+    /// Puts `new` in the place of a piece of a text where that is: so many bytes are before the piece, and so many are
     /// in it. Where no other links hold the node, its text isn't copied.
     pub fn splice(
         &mut self,
@@ -100,7 +100,7 @@ impl Links {
     }
 
     /// Takes a node, with all below it, out from below its parent. It is refused where there is no such node,
-    /// and where it stands below nothing.
+    /// and where it is below nothing.
     pub fn detach(&mut self, key: Key) -> Result<(), Fault>
         ensures detached { OnOk result ((detach_fault key self.old ≡ None) × (self.new ≡ take_out key self.old)) }
         ensures living { OnOk result (self.old ≢ nil) }
@@ -125,9 +125,9 @@ impl Links {
         Ok(())
     }
 
-    /// Puts a node that stands below nothing, with all below it, among the children of a parent: before one
+    /// Puts a node that is below nothing, with all below it, among the children of a parent: before one
     /// of them, or at the end. It is refused where one of the three isn't there; where the parent may not
-    /// hold it; where it is the root, or stands below a node already, or the parent is in its tree; and
+    /// hold it; where it is the root, or is below a node already, or the parent is in its tree; and
     /// where what it is to come before isn't a child of the parent.
     pub fn place(&mut self, parent: Key, before: Option<Key>, key: Key) -> Result<(), Fault>
         ensures placed { OnOk result ((place_fault parent before key self.old ≡ None) × (self.new ≡ put_in parent before key self.old)) }

@@ -57,7 +57,7 @@ impl Links {
         }
     }
 
-    /// It stands below nothing.
+    /// It is below nothing.
     pub fn not_below(&self, key: Key) -> Option<Cause>
         ensures { result ≡ faults.not_below self.now key }
     {
@@ -68,7 +68,7 @@ impl Links {
         }
     }
 
-    /// It can't go below the parent: it is the root, or stands below a node already, or the parent is in its
+    /// It can't go below the parent: it is the root, or is below a node already, or the parent is in its
     /// tree.
     pub fn bound(&self, parent: Key, key: Key) -> Option<Cause>
         ensures { result ≡ faults.bound_to self.now parent key }
@@ -89,7 +89,7 @@ impl Links {
         }
     }
 
-    /// It is the root, or stands below a node, or the parent is in its tree.
+    /// It is the root, or is below a node, or the parent is in its tree.
     fn is_bound(&self, parent: Key, key: Key) -> bool
         ensures { result ≡ (key == 0 || (is_some (lookups.parent_of self.now key) || lookups.is_within self.now key parent)) }
     {

@@ -28,7 +28,7 @@ fn set_prev(store: &mut Store<Node>, at: Option<Key>, prev: Option<Key>) -> Resu
     change_node(store, at, Change::Prev(prev))
 }
 
-/// Tells the key that it stands below nothing.
+/// Shows the key that it is below nothing.
 fn set_free(store: &mut Store<Node>, key: Key) -> Result<(), NoMemory>
     ensures { OnOk result (Differs (λ q. node_after (Place None None None) (q == key)) store.old store.new) }
 {
@@ -64,7 +64,7 @@ pub fn unlink(store: &mut Store<Node>, key: Key, parent: Key, gap: &Gap) -> Resu
     set_free(store, key)
 }
 
-/// Tells the key where it stands: below the parent, in the gap.
+/// Shows the key where it is: below the parent, in the gap.
 fn set_below(store: &mut Store<Node>, key: Key, parent: Key, gap: &Gap) -> Result<(), NoMemory>
     ensures { OnOk result (Differs (λ q. node_after (Place (Some parent) gap.now.prev gap.now.next) (q == key)) store.old store.new) }
 {

@@ -8,7 +8,7 @@ use lx_store::{Copies, Store};
 use std::alloc::Global;
 use std::marker::Model;
 
-/// Nodes that stand for a forest. Links that met want of memory in a call that changes them, or were made
+/// Nodes that stand for a forest. Links that ran out of memory in a call that changes them, or were made
 /// to fail, have failed: they have no nodes, not even a root, and each call that can want memory wants it.
 pub struct Links {
     pub(crate) alloc: Global,

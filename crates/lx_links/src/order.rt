@@ -56,7 +56,7 @@ impl Links {
         }
     }
 
-    /// Whether both stand below one parent, or both below none.
+    /// Whether both are below one parent, or both below none.
     fn are_siblings(&self, x: Key, y: Key) -> bool
         ensures { result ≡ same_named (lookups.parent_of self.now x) (lookups.parent_of self.now y) }
     {

@@ -14,7 +14,7 @@ use crate::sums::Sums;
 use lx_node::{Fields, Key, NoMemory, Node};
 use lx_store::{Copies, Edit, Store};
 
-/// A text that comes in the place of a piece of a node's text: so many bytes stand before the piece, and so many are in
+/// A text that comes in the place of a piece of a node's text: so many bytes come before the piece, and so many are in
 /// it.
 #[derive(Drop)]
 pub struct TextSplice<'a> {
@@ -36,7 +36,7 @@ impl<'a> Edit<Node> for TextSplice<'a> {
     }
 }
 
-/// Splices the text of a node where it stands.
+/// Splices the text of a node where it is.
 pub fn splice_node(
     store: &mut Store<Node>,
     key: Key,

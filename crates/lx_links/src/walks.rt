@@ -80,7 +80,7 @@ impl Links {
         self.has(outer)
     }
 
-    /// How many siblings stand before the node, where it stands below one. It walks the previous siblings.
+    /// How many siblings come before the node, where it is below one. It walks the previous siblings.
     pub fn index_of(&self, key: Key) -> Option<u32>
         ensures index { result ≡ lookups.index_of self.now key }
         ensures sound { Sound self.now }

@@ -2,7 +2,7 @@ use Rattle.std.proofs.Common.{◌≡◌, Some}
 use Rattle.lx_forest.specs.Lookups as lookups
 use Rattle.lx_links.proofs.links.Links.next_behind.Given as goal
 
--- behind the key reached is what is behind the one asked for
+-- after the key reached is what comes after the one asked for
 abbrev pub invariant-loop-next : goal.invariant-loop-next
 invariant-loop-next l = record {
   depth : lookups.depth l.self l.at ≡ Some l.above;
