@@ -117,7 +117,7 @@ set_again-element k l w h suited is element counts written =
     set_again k l.fields w h (own_fine k l.fields w.forest suited own) (within_limits (characters_of l.fields) w counts written) own
     ∙ ap (λ s. Ok (record (wrote (characters_of l.fields) w) { selection = s })) (element_points k l.kind l.fields w.selection element of_kind)
 
--- ---- what the calls of a draft tell of it
+-- ---- what the calls of a draft show of it
 
 fields_told : (f : Forest) (k : ℕ) (n : Node) → Some n ≡ option_map node_of (record_at f k) → fields_of f k ≡ Some n.fields
 fields_told f k n e = by_spot (spot f k) refl where

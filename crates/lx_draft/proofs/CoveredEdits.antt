@@ -207,7 +207,7 @@ told_take k f h known = record {
 
 -- ---- put
 
--- where k stands then
+-- where k is then
 record StandsIn (f : Forest) (p : ℕ) (before : Option ℕ) (k : ℕ) : Type 0 where
   pub parent : parent_of (put_in p before k f) k ≡ Some p
   pub previous : previous_of (put_in p before k f) k ≡ place_behind before (children_of f p)
@@ -244,7 +244,7 @@ put_apart p before k f q h c place a =
           (ap (λ o. is_named o q) (sym s.previous) ∙ a.previous) (ap (λ o. is_named o q) (sym s.next) ∙ a.next)),
     )
 
--- a key stands below the one that it stood below, or it is the one that is put
+-- a key is below the one that it was below, or it is the one that is put
 put_above : (p : ℕ) (before : Option ℕ) (k : ℕ) (f : Forest) (q r : ℕ) → IsForest f → CanPut p k f → parent_of (put_in p before k f) q ≡ Some r → (parent_of f q ≡ Some r) ⊎ (is_among q (near (put_in p before k f) k) ≡ true)
 put_above p before k f q r h c e =
     elim (eqb_tells q k) [

@@ -50,7 +50,7 @@ more_of f ks i k few at m own q d deep inside = elim (cases_Bool (is_within f k 
   | inr apart ↦ m q d deep (grind (arith, inside, apart, one_more f ks i k q few at))
 ]
 
--- a tree that goes down so far from where it stands
+-- a tree that goes down so far from where it is
 pub shallow_tree : (f : Forest) (ks : List ℕ) (i k n : ℕ) (o : Option ℕ) → Sound f → i < length ks → k ≡ get_or ks i k → o ≡ depth f k → o ≡ Some n → n ≤ most_depth → AreWithin (most_depth - n) f k → AreShallow f (take i ks) → AreShallow f (take (i + 1) ks)
 shallow_tree f ks i k n o s few at is some small within m = more_of f ks i k few at m (λ q d deep inside.
     omega (arith, steps_of f q d deep, within q inside, steps_of f k n (sym is ∙ some), small))

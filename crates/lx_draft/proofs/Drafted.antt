@@ -99,13 +99,13 @@ drafted_lost w old new f marks fresh e i =
     subst (λ g. IsDrafted (record w { forest = g; marks = marks; fresh = fresh }) new) (sym e)
     (record { working = working_marked (record w { forest = nil }) marks fresh (working_nil w i.working); moved = moved_nil new; raised = λ q p noted at. absurd (grind (arith, at)); raised_fresh = λ q p noted at. absurd (grind (arith, at)) })
 
--- after nodes were marked twice, or memory was wanting
+-- after nodes were marked twice, or memory ran out
 pub drafted_both : {E : Type 0} (r : Result Unit E) (w : Working) (ks : List ℕ) (f : Forest) (marks fresh a b : Marked) → OnOk r (f ≡ w.forest) → OnOk r ((marks ≡ a) × IsRaised w.forest marks) → OnOk r ((fresh ≡ b) × IsRaised w.forest fresh) → OnErr r (f ≡ nil)
     → IsDrafted w ks → IsDrafted (record w { forest = f; marks = marks; fresh = fresh }) ks
 drafted_both (Ok u) w ks f marks fresh a b same up up_fresh lost i = subst (λ g. IsDrafted (record w { forest = g; marks = marks; fresh = fresh }) ks) (sym same) (drafted_marked w ks marks fresh up.1 up_fresh.1 i)
 drafted_both (Err e) w ks f marks fresh a b same up up_fresh lost i = drafted_lost w ks ks f marks fresh lost i
 
--- the same behind a put
+-- the same after a put
 pub drafted_put_both : {E : Type 0} (r : Result Unit E) (w : Working) (ks : List ℕ) (p : ℕ) (before : Option ℕ) (k : ℕ) (mid f : Forest) (marks fresh a b : Marked) → IsForest w.forest → CanPut p k w.forest → mid ≡ put_in p before k w.forest
     → OnOk r (f ≡ mid) → OnOk r ((marks ≡ a) × IsRaised mid marks) → OnOk r ((fresh ≡ b) × IsRaised mid fresh) → OnErr r (f ≡ nil) → IsDrafted w ks → IsDrafted (record w { forest = f; marks = marks; fresh = fresh }) ks
 drafted_put_both (Ok u) w ks p before k mid f marks fresh a b h c made same up up_fresh lost i =

@@ -19,7 +19,7 @@ use Rattle.lx_draft.specs.Beside.{gap_index, before_at, put_before_step, behind_
 
 -- ---- in a list of names
 
--- the index of a gap is where what stands behind it is
+-- the index of a gap is where what comes after it is
 pub gap_at : (before : Option ℕ) (xs : List ℕ) → is_place before xs ≡ true → before ≡ slice_get xs (gap_index before xs)
 gap_at None xs e = sym (slice_get_past xs (length xs) (omega arith))
 gap_at (Some b) xs e = sym (slice_get-place_in xs b e)
@@ -28,7 +28,7 @@ pub gap_within : (before : Option ℕ) (xs : List ℕ) → is_place before xs �
 gap_within None xs e = omega arith
 gap_within (Some b) xs e = let h : place_in xs b < length xs = index_in-lt xs b (place_in xs b) (index_in-among xs b e) in omega (arith, h)
 
--- and what stands at an index tells the gap there
+-- and what is at an index shows the gap there
 gap_of : (xs : List ℕ) (i : ℕ) → NoRepeats xs → i ≤ length xs → gap_index (slice_get xs i) xs ≡ i
 gap_of xs i once within =
     elim (slice_get_cases xs i).1 [
@@ -104,7 +104,7 @@ gap_refused f k p before e = same_fault f k p 0 (gap_index before (children_of f
 
 -- ---- put
 
--- where a put isn't refused, the index is that of the gap before the child which stands there
+-- where a put isn't refused, the index is that of the gap before the child which is there
 pub gap_put : (f : Forest) (k p index : ℕ) → IsForest f → put_fault k p index f ≡ None → gap_index (slice_get (children_of f p) index) (children_of f p) ≡ index
 gap_put f k p index h e = gap_of (children_of f p) index (NoRepeats-children_of f p h) (put_within f k p index e)
 
@@ -120,7 +120,7 @@ behind_is w k p other next e h up =
     ap (λ i. put_step k p i w) (ap (λ o. gap_index o (children_of w.forest p)) (e ∙ next_here w.forest p other up) ∙ gap_behind (children_of w.forest p) other (NoRepeats-children_of w.forest p h) (child_of w.forest p other h up))
     ∙ sym (ap (λ o. behind_at k other o (index_of w.forest other) w) up ∙ ap (λ o. behind_at k other (Some p) o w) (index_here w.forest p other h up))
 
--- a node that stands below nothing has no place beside it
+-- a node that is below nothing has no place beside it
 pub before_none : (w : Working) (k other : ℕ) → parent_of w.forest other ≡ None → put_before_step k other w ≡ Err (BadPlace other)
 unfolding put_before_step
 before_none w k other top = ap (λ o. before_at k other o (index_of w.forest other) w) top

@@ -11,7 +11,7 @@ abbrev pub left_from : Forest → Option (ℕ × ℕ) → List ℕ
 left_from f None = []
 left_from f (Some at) = from f at.0
 
--- and it stands so deep
+-- and it is so deep
 abbrev pub IsAt : Forest → Option (ℕ × ℕ) → Type 0
 IsAt f None = Unit {0}
 IsAt f (Some at) = depth f at.0 ≡ Some at.1

@@ -1,4 +1,4 @@
--- A piece of a text that is replaced where it stands.
+-- A piece of a text that is replaced where it is.
 use Rattle.std.proofs.Common.{◌≡◌, ◌∙◌, ℕ, List, ◌++◌, Option, None, Some, Result, Ok, Err, option_map, refl, sym, ap, subst, inl, inr, ◌⊎◌}
 use Rattle.std.specs.Prelude.{not, OnOk, OnErr}
 use Rattle.std.proofs.lemmas.List.{append_cancel_left, append_cancel_right}

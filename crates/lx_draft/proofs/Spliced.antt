@@ -52,7 +52,7 @@ fault_by f k (Some l) t from to e here = rw (known_with_label f k l e, e, here) 
 pub fault_of_text : (f : Forest) (k : ℕ) (t : TextFields) (from to : ℕ) → text_in (label_of f k) ≡ Some t → splice_fault k from to f ≡ slice_fault t.text from to
 fault_of_text f k t from to here = fault_by f k (label_of f k) t from to refl here
 
--- what an error of the text's own call tells
+-- what an error of the text's own call says
 pub piece_refused : (f : Forest) (k : ℕ) (t : TextFields) (from to : ℕ) (fault : Fault) → text_in (label_of f k) ≡ Some t → TellsFirst (slice_fault t.text from to) fault → TellsFault fault (splice_fault k from to f)
 piece_refused f k t from to (the_fault.Cause cause) here told = fault_of_text f k t from to here ∙ told
 piece_refused f k t from to the_fault.Memory here told = tt

@@ -1,4 +1,4 @@
--- Places of points: those that offsets tell.
+-- Places of points: those that offsets can say.
 use Rattle.std.proofs.Common.{◌≡◌, ◌∙◌, ℕ, ◌<◌, ◌≤◌, ◌^◌, Bool, true, false, eqb, leb, ◌&&◌, List, [], refl, sym, ap, arith}
 use Rattle.std.proofs.lemmas.Bool.Decides.{nat_tests, eqb_tells}
 use Rattle.lx_text.specs.Texts.{is_offset, length_told}
@@ -14,7 +14,7 @@ none_place o = by_test (leb o 0) refl where
       let same : eqb o 0 ≡ true = grind (arith, start, eqb_tells o 0) in same ∙ sym here
   by_test false is = grind (arith, nat_tests, is, eqb_tells o 0)
 
--- an offset that a u32 tells is within the length that is told
+-- an offset that a u32 can say is within the length that one can
 pub text_place : (o : ℕ) (text : List ℕ) → o < 2 ^ 32 → is_offset o text ≡ (leb o (length_told text) && is_offset o text)
 text_place o text small = by_test (is_offset o text) refl where
   by_test : (b : Bool) → is_offset o text ≡ b → is_offset o text ≡ (leb o (length_told text) && is_offset o text)

@@ -5,8 +5,8 @@ use Rattle.lx_node.specs.Limits.{most_depth}
 use Rattle.lx_draft.specs.Working.{Working, IsWorking}
 use Rattle.lx_draft.specs.Raised.{IsRaised}
 
--- what holds of every draft; what stands below nothing, or too deep, was made or taken out, or is below such a node; and above
--- marked nodes all are marked
+-- what holds of every draft: what is below nothing or too deep was made or taken out, or is below such a node, and
+-- above marked nodes all are marked
 pub record IsDrafted (w : Working) (loose : List ℕ) : Type 0 where
   pub working : IsWorking w
   pub moved : AreMoved most_depth w.forest loose

@@ -25,7 +25,7 @@ use Rattle.lx_draft.specs.Working.{Working}
 abbrev pub over_at : Limit → ℕ → ℕ → Option Cause
 over_at limit most reached = if nat_lt most reached then Some (TooLarge limit reached) else None
 
--- one above 2 ^ 64 - 1 is told as that
+-- a number that was reached is beyond a limit, where one above 2 ^ 64 - 1 is given as that one
 abbrev pub over : Limit → ℕ → ℕ → Option Cause
 over limit most reached = over_at limit most (capped reached)
 
@@ -37,7 +37,7 @@ over_counts w = if w.counted == most_counts then Some StepLimit else None
 abbrev pub over_written : ℕ → Working → Option Cause
 over_written more w = over Written most_written (w.written + more)
 
--- a count is taken before anything is written
+-- one count more, and then so many more scalar values, would be too many
 abbrev pub over_limits : ℕ → Working → Option Cause
 over_limits more w = option_or (over_counts w) (over_written more w)
 
@@ -52,8 +52,8 @@ pub record IsAdmitted (n more : ℕ) (w : Working) : Type 0 where
 abbrev pub beyond : Forest → ℕ → ℕ → Option Cause
 beyond f p index = if nat_lt (size_of f p) index then Some (BadPlace index) else None
 
--- why a node isn't put, the first cause: one of the two isn't there, the key can't go below the parent, the parent may not
--- hold it, or has fewer children
+-- why a node isn't put, the first cause: one of the two isn't there, the key can't go below the parent, the parent may
+-- not hold it, or has fewer children
 abbrev pub put_fault : ℕ → ℕ → ℕ → Forest → Option Cause
 put_fault k p index f =
     option_or (unknown f k) (option_or (unknown f p)
@@ -66,19 +66,22 @@ abbrev pub text_fields : Kind → Fields → Option TextFields
 text_fields Text (fields.Text text) = Some text
 text_fields kind other = None
 
--- it isn't a text, or a piece of it can't be replaced
+-- why a piece of a node's text can't be replaced: it isn't a text, or the offsets are wrong
 abbrev pub piece_fault : Kind → Option TextFields → ℕ → ℕ → Option Cause
 piece_fault kind None from to = Some (WrongKind kind)
 piece_fault kind (Some text) from to = slice_fault text.text from to
 
+-- the fields of the text that a label is, if it is one and no tab
 abbrev pub text_in : Option Label → Option TextFields
 text_in None = None
 text_in (Some l) = text_fields l.kind l.fields
 
+-- why a piece of what a label is can't be replaced
 abbrev pub label_fault : Option Label → ℕ → ℕ → Option Cause
 label_fault None from to = None
 label_fault (Some l) from to = piece_fault l.kind (text_fields l.kind l.fields) from to
 
+-- why a piece of a node's text can't be replaced: there is no such node, it is no text, or the offsets are wrong
 abbrev pub splice_fault : ℕ → ℕ → ℕ → Forest → Option Cause
 splice_fault k from to f = option_or (unknown f k) (label_fault (label_of f k) from to)
 
@@ -89,24 +92,24 @@ abbrev pub answer : {A : Type 0} → Option Cause → A → Result A Cause
 answer None a = Ok a
 answer (Some cause) a = Err cause
 
--- An error of a call whose step is this: refused for the step's cause, or memory was wanting.
+-- an error of a call whose step is this: refused for the step's cause, or memory ran out
 abbrev pub TellsStep : {A : Type 0} → Fault → Result A Cause → Type 0
 TellsStep (fault.Cause cause) step = step ≡ Err cause
 TellsStep fault.Memory step = Unit {0}
 
--- What an error leaves of a draft: refused for a cause, it is as it was and hasn't failed; after want of memory it has failed
--- and has no nodes.
+-- what an error leaves of a draft: refused for a cause, it is as it was and hasn't failed; after memory ran out it has
+-- failed and has no nodes
 abbrev pub Leaves : Fault → Working → Working → Type 0
 Leaves (fault.Cause cause) old new = (new ≡ old) × (old.forest ≢ nil)
 Leaves fault.Memory old new = new.forest ≡ nil
 
--- An error of a call that looks for what refuses an edit: the first cause, in a draft that hasn't failed, or the draft has
--- failed.
+-- an error of a call that looks for what refuses an edit: the first cause, in a draft that hasn't failed, or the draft
+-- has failed
 abbrev pub StopsAt : Fault → Option Cause → Working → Type 0
 StopsAt (fault.Cause cause) first w = (first ≡ Some cause) × (w.forest ≢ nil)
 StopsAt fault.Memory first w = w.forest ≡ nil
 
--- An error of a call that this is the first cause to refuse: refused for it, or memory was wanting.
+-- an error of a call that this is the first cause to refuse: refused for it, or memory ran out
 abbrev pub TellsFault : Fault → Option Cause → Type 0
 TellsFault (fault.Cause cause) first = first ≡ Some cause
 TellsFault fault.Memory first = Unit {0}

@@ -19,6 +19,7 @@ use Rattle.lx_draft.specs.Faults.{answer, over}
 
 -- ---- the sweep
 
+-- these nodes selected, or nothing where there are none
 abbrev pub nodes_or_nothing : List ℕ → Selection
 nodes_or_nothing [] = selection.Nothing
 nodes_or_nothing (k ∷ ks) = selection.Nodes (k ∷ ks)
@@ -27,39 +28,44 @@ nodes_or_nothing (k ∷ ks) = selection.Nodes (k ∷ ks)
 abbrev pub kept_nodes : Forest → List ℕ → Selection
 kept_nodes f keys = nodes_or_nothing (filter (λ k. has k f) keys)
 
+-- the selection, where selected nodes that aren't there any more are selected no longer
 abbrev pub kept_selection : Forest → Selection → Selection
 kept_selection f (selection.Nodes keys) = kept_nodes f keys
 kept_selection f other = other
 
--- the root's tree is kept alone
+-- the draft with the root's tree alone
 unfoldable pub swept : Working → Working
 swept w = record w { forest = drop_detached w.forest; selection = kept_selection (drop_detached w.forest) w.selection }
 
 -- ---- the limits of a committed state
 
--- the greatest depth of the tree
+-- how deep a node is: 0 where it isn't attached
 abbrev pub depth_at : Forest → ℕ → ℕ
 depth_at f k = unwrap_or (depth f k) 0
 
+-- the greatest that any of these keys measures
 abbrev pub greatest : (ℕ → ℕ) → List ℕ → ℕ
 greatest measure [] = 0
 greatest measure (k ∷ ks) = max (measure k) (greatest measure ks)
 
+-- the greatest depth in the root's tree
 abbrev pub tree_depth : Forest → ℕ
 tree_depth f = greatest (depth_at f) (preorder f)
 
--- the scalar values in all strings of the tree
+-- how many scalar values are in all strings of fields, if there are fields
 abbrev pub characters_of_found : Option Fields → ℕ
 characters_of_found None = 0
 characters_of_found (Some fields) = characters_of fields
 
+-- how many scalar values are in all strings of a node
 abbrev pub characters_at : Forest → ℕ → ℕ
 characters_at f k = characters_of_found (fields_of f k)
 
+-- how many scalar values are in all strings of the root's tree
 abbrev pub tree_characters : Forest → ℕ
 tree_characters f = sum_by (characters_at f) (preorder f)
 
--- the limits on what there is in a state with this next key, the first that it is beyond
+-- the first of the limits on nodes, on characters and on keys that a state with this next key is beyond
 abbrev pub size_fault : Forest → ℕ → Option Cause
 size_fault f next_key =
     option_or (over Nodes most_nodes (total f))
@@ -69,18 +75,20 @@ size_fault f next_key =
 abbrev pub limits_fault : Forest → ℕ → Option Cause
 limits_fault f next_key = option_or (over Depth most_depth (tree_depth f)) (size_fault f next_key)
 
--- Why a state with this next key can't be committed, the first cause: what its selection has lost, and the limits that it
--- is beyond.
+-- why a state with this next key can't be committed, the first cause: what its selection has lost, and the limits that
+-- it is beyond
 abbrev pub state_fault : Forest → Selection → ℕ → Option Cause
 state_fault f selection next_key = option_or (selection_lost selection f) (limits_fault f next_key)
 
+-- why a draft can't be frozen, the first cause
 abbrev pub freeze_fault : Working → Option Cause
 freeze_fault w = state_fault w.forest w.selection w.next_key
 
+-- a draft frozen: swept, unless what is left can't be committed
 unfoldable pub freeze_step : Working → Result Working Cause
 freeze_step w = answer (freeze_fault (swept w)) (swept w)
 
--- what a frozen draft leaves
+-- a frozen draft leaves this forest, selection, marks and next key
 abbrev pub Freezes : Working → Forest → Selection → Marked → ℕ → Type 0
 Freezes w f selection marks next_key =
     freeze_step w ≡ Ok (record (swept w) { forest = f; selection = selection; marks = marks; next_key = next_key })

@@ -2,6 +2,7 @@
 use Rattle.lx_draft.specs.declared.draft.Draft.TheInside.{Inside}
 use Rattle.lx_draft.specs.Working.{Working}
 
+-- the draft that the fields of the code's draft stand for
 abbrev pub working_of : Inside → Working
 working_of d = record {
   forest = d.links;

@@ -1,4 +1,4 @@
--- The laws of drafts that work after an edit stands on.
+-- The laws of drafts on which work after an edit rests.
 use Rattle.std.specs.Prelude.{ℕ, List}
 use Rattle.lx_node.specs.declared.kind.Kind.{Kind}
 use Rattle.lx_node.specs.declared.fields.Fields.{Fields}
@@ -7,7 +7,7 @@ use Rattle.lx_draft.specs.Working.{Working}
 use Rattle.lx_draft.specs.Steps.{count_step, new_step, set_step, splice_step, take_step, put_step, mark_step, mark_uncounted_step, select_step}
 use Rattle.lx_draft.specs.Covering.{IsReady, AreCovered, IsCovering}
 
--- marks tell whatever the steps of a draft change, one step and several
+-- marks show whatever the steps of a draft change, one step or several
 pub record DraftsAreCovered : Type 0 where
   -- nothing is done, one thing after another, and another selection
   pub same : (w : Working) → IsReady w → AreCovered w w

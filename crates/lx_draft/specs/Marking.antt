@@ -21,6 +21,7 @@ mark_itself (Some kind) k m = if is_element kind then with_marked k true m else 
 unfoldable pub mark_node : Forest → ℕ → Marked → Marked
 mark_node f k m = mark_above (ancestors f k) (mark_itself (kind_of f k) k m)
 
+-- several nodes, one after another, each followed by its ancestors
 abbrev pub mark_nodes : Forest → List ℕ → Marked → Marked
 mark_nodes f [] m = m
 mark_nodes f (k ∷ ks) m = mark_nodes f ks (mark_node f k m)

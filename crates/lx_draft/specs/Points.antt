@@ -4,6 +4,7 @@ use Rattle.lx_select.specs.Rules as rules
 use Rattle.lx_draft.specs.declared.rules.PointRule.{PointRule}
 use Rattle.lx_draft.specs.declared.rules.PointRule.TheVariants.{Put, Take, Splice, Set, Split, Join, Children, Unwrap, Replace, Move}
 
+-- where each rule moves a point
 abbrev pub moved_by : PointRule → Point → Point
 moved_by (Put parent index) = rules.put_moves parent index
 moved_by (Take parent index) = rules.take_moves parent index

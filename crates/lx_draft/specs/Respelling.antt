@@ -1,4 +1,4 @@
--- A piece of a node's text, and where it stands.
+-- A piece of a node's text, and where it is.
 use Rattle.std.specs.Prelude.{ℕ, ◌≡◌, Some}
 use Rattle.lx_node.specs.Cuts.{Cuts}
 use Rattle.lx_node.specs.declared.fields.TextFields.{TextFields}

@@ -20,14 +20,15 @@ pub record MaySetAgain (more k : ℕ) (w : Working) : Type 0 where
   pub admitted : IsAdmitted more (characters_of fields) w
   pub in_order : IsForest w.forest
 
--- this is the first cause for which a set of the fields that the node has is refused; where there is no such node, of any
+-- this is the first cause for which a set of the fields that the node has is refused; where there is no such node, of
+-- any
 pub record RefusesAgain (cause : Cause) (k : ℕ) (w : Working) : Type 0 where
   pub lives : w.forest ≢ nil
   pub there : (fields : Fields) → fields_of w.forest k ≡ Some fields
       → option_or (set_fault k fields w.forest) (over_limits (characters_of fields) w) ≡ Some cause
   pub gone : has k w.forest ≡ false → unknown w.forest k ≡ Some cause
 
--- such a set is refused, or the draft has failed
+-- a set of the fields that the node has is refused, or the draft has failed
 abbrev pub StopsAgain : Fault → ℕ → Working → Type 0
 StopsAgain (fault.Cause cause) k w = RefusesAgain cause k w
 StopsAgain fault.Memory k w = w.forest ≡ nil

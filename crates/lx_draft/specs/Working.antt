@@ -7,9 +7,8 @@ use Rattle.lx_node.specs.Limits.{most_counts, most_written, most_depth, most_nod
 use Rattle.lx_forest.specs.Forest.{Forest}
 use Rattle.lx_forest.specs.Lookups.{has, is_attached, depth}
 
--- A draft: its forest and its selection, the key that the next new node gets, what the update has marked, and what of that
--- hasn't been handled yet; how many counts were taken, how many of them for primitive edits, and how many scalar values
--- were written.
+-- a draft: its forest and its selection, the next new node's key, all that was marked and what of it is still to be
+-- handled, and how many counts, primitive edits and written scalar values there were
 pub record Working : Type 0 where
   pub forest : Forest
   pub selection : Selection
@@ -20,8 +19,8 @@ pub record Working : Type 0 where
   pub edits : ℕ
   pub written : ℕ
 
--- An update may start from the forest with this next key: every key is below it, and it, the number of nodes and their depth
--- are within the limits of a committed state, in which nothing is detached.
+-- an update may start from the forest with this next key: every key is below it, and it, the number of nodes and their
+-- depth are within the limits of a committed state, in which nothing is detached
 pub record MayStart (f : Forest) (next_key : ℕ) : Type 0 where
   pub next : next_key ≤ most_key
   pub free : (q : ℕ) → next_key ≤ q → has q f ≡ false

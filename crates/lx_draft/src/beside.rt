@@ -6,7 +6,7 @@ use crate::draft::Draft;
 use crate::marking::mark_both_near;
 use lx_node::{Cause, Fault, Key, NoMemory};
 
-/// The other stands below nothing, so that nothing can be put beside it.
+/// The other is below nothing, so that nothing can be put beside it.
 fn no_place_beside(other: Key) -> Fault
     ensures { result ≡ fault.Cause (BadPlace other) }
 {
@@ -26,8 +26,8 @@ impl Draft {
     ghost use Rattle.lx_draft.specs.Steps.{put_step};
     ghost use Rattle.lx_draft.specs.Beside.{gap_index, put_before_step, put_behind_step};
 
-    /// Puts a node that stands below nothing, with all below it, right before another. It is refused as
-    /// `put` is, and where the other stands below nothing. No children are counted, unless a point counts them.
+    /// Puts a node that is below nothing, with all below it, right before another. It is refused as
+    /// `put` is, and where the other is below nothing. No children are counted, unless a point counts them.
     pub fn put_before(&mut self, key: Key, other: Key) -> Result<(), Fault>
         ensures ok { OnOk result (put_before_step key other self.old ≡ Ok self.new) }
         ensures err { IfErr result (λ e. TellsStep e (put_before_step key other self.old)) }
@@ -41,8 +41,8 @@ impl Draft {
         }
     }
 
-    /// Puts a node that stands below nothing, with all below it, right behind another. It is refused as
-    /// `put` is, and where the other stands below nothing. No children are counted, unless a point counts them.
+    /// Puts a node that is below nothing, with all below it, right after another. It is refused as
+    /// `put` is, and where the other is below nothing. No children are counted, unless a point counts them.
     pub fn put_behind(&mut self, key: Key, other: Key) -> Result<(), Fault>
         ensures ok { OnOk result (put_behind_step key other self.old ≡ Ok self.new) }
         ensures err { IfErr result (λ e. TellsStep e (put_behind_step key other self.old)) }
@@ -102,7 +102,7 @@ impl Draft {
         }
     }
 
-    /// How many children stand before the gap.
+    /// How many children come before the gap.
     fn index_of_gap(&self, parent: Key, before: Option<Key>) -> u32
         requires order { IsForest self.now.forest }
         requires place { is_place before (lookups.children_of self.now.forest parent) ≡ true }

@@ -10,7 +10,7 @@ use lx_marks::Marks;
 use lx_node::{Fault, Fields, Key, Kind, NoMemory};
 use lx_select::Selection;
 
-/// Notes that the key is made or taken out. Where memory is wanting the links have failed.
+/// Notes that the key is made or taken out. Where memory runs out the links have failed.
 fn loosen(loose: &mut Marks, links: &mut Links, key: Key) -> Result<(), NoMemory>
     ensures noted { OnOk result (loose.new ≡ with_leaf key loose.old) }
     ensures same { OnOk result (links.new ≡ links.old) }
@@ -38,7 +38,7 @@ impl Draft {
     ghost use Rattle.lx_draft.specs.Steps as steps;
     ghost use Rattle.lx_draft.specs.Steps.{new_step, set_step, splice_step, take_step, put_step, mark_step, mark_uncounted_step, select_step};
 
-    /// Makes a node without children that stands below nothing, and answers its key. It is refused where
+    /// Makes a node without children that is below nothing, and answers its key. It is refused where
     /// 100,000 counts were taken, and where the strings of the fields would bring what was written above
     /// 16,777,216 scalar values.
     #[tactic(auto, unfolding(crate::specs::Steps::new_step))]
@@ -132,7 +132,7 @@ impl Draft {
     }
 
     /// Takes a node, with all below it, out from below its parent. It is refused where there is no such
-    /// node, where it stands below nothing, and where 100,000 counts were taken.
+    /// node, where it is below nothing, and where 100,000 counts were taken.
     #[tactic(auto, unfolding(crate::specs::Steps::take_step))]
     pub fn take(&mut self, key: Key) -> Result<(), Fault>
         ensures ok { OnOk result (take_step key self.old ≡ Ok self.new) }
@@ -153,9 +153,9 @@ impl Draft {
         Ok(self.detach(key)?)
     }
 
-    /// Puts a node that stands below nothing, with all below it, among the children of a parent, at an
+    /// Puts a node that is below nothing, with all below it, among the children of a parent, at an
     /// index of at most their number. It is refused where one of the two isn't there; where the node is
-    /// the root, stands below another already, or has the parent in its tree; where the parent may not
+    /// the root, is below another already, or has the parent in its tree; where the parent may not
     /// hold it; where the index is above the number of children; and where 100,000 counts were taken.
     #[tactic(auto, unfolding(crate::specs::Steps::put_step))]
     pub fn put(&mut self, key: Key, parent: Key, index: u32) -> Result<(), Fault>

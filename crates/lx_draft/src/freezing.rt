@@ -161,7 +161,7 @@ impl Draft {
         size_fault(&self.links, self.next_key)
     }
 
-    /// The tree is too deep. It is measured only where a node that was made or taken out stands in it and
+    /// The tree is too deep. It is measured only where a node that was made or taken out is in it and
     /// has one too deep in its tree.
     fn depth_fault(&self) -> Option<Cause>
         ensures { result ≡ fault_over Depth most_depth (freezing.tree_depth self.now.forest) }

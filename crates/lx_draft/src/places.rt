@@ -7,7 +7,7 @@ impl Draft {
     ghost use Rattle.lx_links.specs.Faults as faults;
     ghost use Rattle.lx_draft.specs.Faults as refusals;
 
-    /// The node can't be taken: there is none, or it stands below nothing.
+    /// The node can't be taken: there is none, or it is below nothing.
     pub(crate) fn take_fault(&self, key: Key) -> Option<Cause>
         ensures { result ≡ faults.detach_fault key self.now.forest }
     {
@@ -17,7 +17,7 @@ impl Draft {
         self.links.not_below(key)
     }
 
-    /// The node can't be put there: one of the two isn't there; it is the root, or stands below a node
+    /// The node can't be put there: one of the two isn't there; it is the root, or is below a node
     /// already, or the parent is in its tree; the parent may not hold it; or the parent has fewer
     /// children.
     pub(crate) fn put_fault(&self, key: Key, parent: Key, index: u32) -> Option<Cause>

@@ -27,19 +27,19 @@ pub enum PointRule {
         key: Key,
         text: Txt,
     },
-    /// What is behind an offset of a text is in a new one now.
+    /// What comes after an offset of a text is in a new one now.
     Split {
         key: Key,
         at: u32,
         new: Key,
     },
-    /// The second text is behind the first, which was so long, in that one.
+    /// The second text is after the first, which was so long, in that one.
     Join {
         first: Key,
         len: u32,
         second: Key,
     },
-    /// The children of one element are behind those of another, which had so many.
+    /// The children of one element are after those of another, which had so many.
     Children {
         from: Key,
         to: Key,
@@ -109,8 +109,8 @@ impl Draft {
     }
 
     /// Brings points along with what a node had, after the edits that moved that elsewhere. The two points of the
-    /// range `before` those edits tell which were on the key `from`: such a point goes to the key `to`, where what
-    /// stood at 0 of the one is now at the offset `at`. Every other point stays where the edits left it.
+    /// range `before` those edits show which were on the key `from`: such a point goes to the key `to`, where what
+    /// was at 0 of the one is now at the offset `at`. Every other point stays where the edits left it.
     pub fn carry_points(&mut self, before: Option<(Point, Point)>, from: Key, to: Key, at: u32)
         ensures { self.new ≡ record self.old { selection = carried from (carry_moves from to at) before self.old.selection } }
     {

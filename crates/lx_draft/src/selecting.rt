@@ -34,7 +34,7 @@ fn is_in_text(links: &Links, key: Key, offset: u32) -> bool
     }
 }
 
-/// Whether the offset of a point is one of a place in its node: not behind the end, nor inside a surrogate pair of a
+/// Whether the offset of a point is one of a place in its node: not after the end, nor inside a surrogate pair of a
 /// text.
 pub fn is_place(links: &Links, point: &Point) -> bool
     ensures { result ≡ selecting.is_place links.now point.now point.now.kind }

@@ -50,7 +50,7 @@ fn text_fields(node: &Node) -> Option<&TextFields>
     }
 }
 
-/// The piece of a text from one offset to another: so many bytes stand before it, and so many are in it.
+/// The piece of a text from one offset to another: so many bytes come before it, and so many are in it.
 #[derive(Clone, Copy)]
 pub(crate) struct Piece {
     from: u32,
@@ -112,7 +112,7 @@ impl Draft {
         !text.text.has_piece(piece.front, piece.bytes, new)
     }
 
-    /// Puts another text in the place of the piece, where it stands.
+    /// Puts another text in the place of the piece, where it is.
     fn replace_piece(&mut self, key: Key, piece: Piece, new: &str) -> Result<(), NoMemory>
         requires order { IsForest self.old.forest }
         requires placed { IsPlaced key piece self.old.forest }

@@ -1,4 +1,4 @@
--- What stands in the trees of some keys stood there before, or is marked anew, as long as no other key is put anywhere.
+-- What is in the trees of some keys was there before, or is marked anew, as long as no other key is put anywhere.
 use Rattle.std.proofs.Common.{◌≡◌, ◌∙◌, ℕ, Bool, true, false, eqb, ◌||◌, ◌&&◌, List, [], ◌∷◌, ◌++◌, length, Option, None, Ok, refl, sym, ap, arith, inl, inr, ◌⊎◌}
 use Rattle.std.specs.Prelude.{slice_get}
 use Rattle.std.specs.Option.{option_or}

@@ -1,4 +1,4 @@
--- A text that is joined with what stands around it: each removal and each joining takes counts, so that the number of times
+-- A text that is joined with what is around it: each removal and each joining takes counts, so that the number of times
 -- is never used up.
 use Rattle.std.proofs.Common.{◌≡◌, ◌∙◌, ◌+◌, ◌<◌, ◌≤◌, ℕ, zero, suc, Bool, true, false, cond, List, [], ◌∷◌, Option, None, Some, Result, Ok, Err, refl, ap, sym, subst, arith, eqb}
 use Rattle.std.specs.Option.{option_or}
@@ -125,7 +125,7 @@ some_left (suc m) counted h few = (m, refl)
 still_enough : (m n c d : ℕ) → enough ≤ n + c → n ≡ suc m → c < d → enough ≤ m + d
 still_enough m n c d h is more = omega (arith, h, is, more)
 
--- ---- behind
+-- ---- with what comes after
 
 pub on_left : (k : ℕ) (w : Working) (whole : Result Working Cause) → w.counted ≤ most_counts → Left join_on k w whole
     → (m : ℕ) × (enough ≤ suc m + w.counted) × (joined_behind (found_behind w.forest k) k (join_on m k) w ≡ whole)

@@ -12,7 +12,7 @@ use Rattle.lx_edit.specs.Conditions.{is_inside, bad_offset}
 pub none_told : (text : List ℕ) → text ≡ [] → 0 ≡ length_told text
 none_told text is = sym (ap length_told is ∙ told.told-none)
 
--- Some of these offsets were passed: the first bad one is among those that are left, behind the last one passed, where the rest
+-- Some of these offsets were passed: the first bad one is among those that are left, after the last one passed, where the rest
 -- of the text begins.
 pub record ArePassed (offsets : List ℕ) (i low : ℕ) (text rest : List ℕ) : Type 0 where
   pub left : bad_offset low text (drop i offsets) ≡ bad_offset 0 text offsets

@@ -26,7 +26,7 @@ use Rattle.lx_edit.specs.Edits.{pointed, moved_before, moved_behind, moved_to_en
 use Rattle.lx_edit.specs.Texts.{tail_of, tail_made, cut_in_two, cut_at, split_step, keys_from, text_or_none, texts_joined, join_step, simple_at, found_before, found_behind, enough, joined_behind, join_on, joined_before, join_back, emptiness, join_simple, joined_around, join_around_step}
 use Rattle.lx_edit.proofs.Keyed.{cut-next_key}
 
--- A relation of a draft to what it became, that holds of each step and composes. A step may rely on D, which holds again behind
+-- A relation of a draft to what it became, that holds of each step and composes. A step may rely on D, which holds again after
 -- each, and puts a key only where P holds of it. What moves the selection alone counts as a step.
 pub record IsPath (D : Working → Type 0) (R : Working → Working → Type 0) (P : ℕ → Type 0) : Type 0 where
   pub ready : (w v : Working) → R w v → D v

@@ -26,13 +26,13 @@ pub text_of_kind : (t : TextFields) (text : List ℕ) → IsOfKind Text (fields.
 unfolding is_of_kind fits_kind is_text_of are_text_fields is_possible
 text_of_kind t text h = h
 
--- of a text, only the piece behind the offset can be refused
+-- of a text, only the piece after the offset can be refused
 pub tail_fault : (f : Forest) (k : ℕ) (t : TextFields) (offset : ℕ) → text_in (label_of f k) ≡ Some t
     → splice_fault k offset (length_at f k) f ≡ slice_fault t.text offset (length_told t.text)
 tail_fault f k t offset found =
     fault_of_text f k t offset (length_at f k) found ∙ ap (λ o. slice_fault t.text offset (length_in o)) found
 
--- and an error of the text's own call tells that
+-- and an error of the text's own call says that
 pub tail_refused : (f : Forest) (k : ℕ) (t : TextFields) (offset : ℕ) (fault : Fault) → text_in (label_of f k) ≡ Some t → TellsFirst (slice_fault t.text offset (length_told t.text)) fault
     → TellsFault fault (splice_fault k offset (length_at f k) f)
 tail_refused f k t offset fault found told =

@@ -10,12 +10,12 @@ use Rattle.lx_draft.specs.Beside.{put_before_step}
 use Rattle.lx_edit.specs.Edits.{remove_step, children_step, replace_step, wrap_step, unwrap_step}
 use Rattle.lx_edit.specs.Texts.{split_step, join_step, join_around_step, keys_from}
 
--- whether q stands in the tree of one of these keys
+-- whether q is in the tree of one of these keys
 abbrev pub is_under : Forest → List ℕ → ℕ → Bool
 is_under f [] q = false
 is_under f (k ∷ ks) q = is_within f k q || is_under f ks q
 
--- Of what a draft became: whatever stands in the trees of these keys stood there before, or is marked anew.
+-- of what a draft became: whatever is in the trees of these keys was there before, or is marked anew
 pub record IsHomed (ks : List ℕ) (w v : Working) : Type 0 where
   pub covered : AreCovered w v
   pub home : (q : ℕ) → is_under v.forest ks q ≡ true → (is_under w.forest ks q ≡ true) ⊎ (is_touched v.fresh q ≡ true)

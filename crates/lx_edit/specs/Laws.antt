@@ -1,4 +1,4 @@
--- The laws of composite edits that work after an edit stands on.
+-- The laws of composite edits on which work after an edit rests.
 use Rattle.std.specs.Prelude.{ℕ, Bool, List, Result}
 use Rattle.lx_node.specs.declared.cause.Cause.{Cause}
 use Rattle.lx_draft.specs.Working.{Working}
@@ -7,7 +7,7 @@ use Rattle.lx_edit.specs.InTurn.{in_turn}
 use Rattle.lx_edit.specs.Edits.{remove_step, children_step, replace_step, wrap_step, unwrap_step}
 use Rattle.lx_edit.specs.Texts.{split_step, join_step, join_around_step}
 
--- marks tell whatever an edit changes that is made of steps
+-- marks show whatever an edit changes that is made of steps
 pub record EditsAreCovered : Type 0 where
   -- a step for each key of a list
   pub turns : (step : ℕ → Working → Result Working Cause) → ((k : ℕ) → IsCovering (step k)) → (ks : List ℕ) → IsCovering (in_turn step ks)

@@ -26,10 +26,10 @@ pub enum Found {
     Alike(Key),
 }
 
-/// Joins a simple text with what stands around it. A text is simple if its mode is normal and it isn't
+/// Joins a simple text with what is around it. A text is simple if its mode is normal and it isn't
 /// unmergeable; any other node is left as it is. An empty one is removed. Otherwise, again and again, an empty
 /// simple text before it is removed, and one of its format and style is joined with it, where the earlier of
-/// the two stays and goes on; and then the same with what stands behind. It is refused where there is no such
+/// the two stays and goes on; and then the same with what comes after. It is refused where there is no such
 /// node, and as the edits are that it makes.
 #[tactic(auto, unfolding(crate::specs::Texts::join_around_step))]
 pub fn join_around(alloc: Global, draft: &mut Draft, key: Key) -> Result<(), Fault>
@@ -42,7 +42,7 @@ pub fn join_around(alloc: Global, draft: &mut Draft, key: Key) -> Result<(), Fau
     join_there(alloc, draft, key)
 }
 
-/// Joins a node that is there with what stands around it.
+/// Joins a node that is there with what is around it.
 fn join_there(alloc: Global, draft: &mut Draft, key: Key) -> Result<(), Fault>
     ensures ok { OnOk result (texts.joined_around key draft.old ≡ Ok draft.new) }
     ensures err { IfErr result (λ e. TellsStep e (texts.joined_around key draft.old)) }
@@ -55,7 +55,7 @@ fn join_there(alloc: Global, draft: &mut Draft, key: Key) -> Result<(), Fault>
     }
 }
 
-/// Joins a text with what stands before it, and then with what stands behind.
+/// Joins a text with what comes before it, and then with what comes after.
 fn join_back(alloc: Global, draft: &mut Draft, key: Key) -> Result<(), Fault>
     ensures ok { OnOk result (texts.join_back texts.enough key draft.old ≡ Ok draft.new) }
     ensures err { IfErr result (λ e. TellsStep e (texts.join_back texts.enough key draft.old)) }
@@ -78,7 +78,7 @@ fn join_back(alloc: Global, draft: &mut Draft, key: Key) -> Result<(), Fault>
     }
 }
 
-/// Joins a text with what stands behind it.
+/// Joins a text with what comes after it.
 fn join_on(alloc: Global, draft: &mut Draft, key: Key) -> Result<(), Fault>
     ensures ok { OnOk result (texts.join_on texts.enough key draft.old ≡ Ok draft.new) }
     ensures err { IfErr result (λ e. TellsStep e (texts.join_on texts.enough key draft.old)) }

@@ -12,7 +12,7 @@ use lx_node::{Fault, Key};
 use std::alloc::Global;
 
 /// Moves the children of one element, in order, to the end of another's. Points on the first go along: what
-/// stood before its child `i` stands before that child there. It is refused where one of the two isn't
+/// came before its child `i` comes before that child there. It is refused where one of the two isn't
 /// there, where one isn't an element, where the second is in the first's tree, and where the second may not
 /// hold one of the children; and as the draft's own edits are, where 100,000 counts were taken.
 #[tactic(auto, unfolding(crate::specs::Edits::children_step))]

@@ -52,7 +52,7 @@ fn no_element(links: &Links, key: Key) -> Option<Cause>
     }
 }
 
-/// What the node stands below is of this kind.
+/// What the node is below is of this kind.
 fn kind_above(links: &Links, key: Key) -> Option<Kind>
     ensures { result ≡ conditions.kind_above links.now key }
 {
@@ -106,7 +106,7 @@ fn keep_fault(links: &Links, key: Key, with: Key) -> Option<Cause>
         .or_else(|| misfit_child(links, links.kind(with), key))
 }
 
-/// The second can't stand where the first stands.
+/// The second can't be where the first is.
 fn instead_fault(links: &Links, key: Key, with: Key) -> Option<Cause>
     ensures { result ≡ conditions.instead_fault key with links.now }
 {
@@ -202,7 +202,7 @@ pub fn split_fault(draft: &Draft, key: Key, offsets: &[u32]) -> Option<Cause>
         .or_else(|| bad_offset_at(draft, key, offsets))
 }
 
-/// The second doesn't come right behind the first.
+/// The second doesn't come right after the first.
 fn no_next(links: &Links, first: Key, second: Key) -> Option<Cause>
     ensures { result ≡ conditions.no_next links.now first second }
 {

@@ -10,9 +10,9 @@ use lx_draft::{Draft, PointRule};
 use lx_node::{Fault, Key};
 use std::alloc::Global;
 
-/// Puts the text of the second text behind that of the first, and takes the second out. Points in the second
+/// Puts the text of the second text after that of the first, and takes the second out. Points in the second
 /// go along. It is refused where one of the two isn't there, where one isn't a text, and where the second
-/// doesn't come right behind the first; where 100,000 counts were taken, and where the second's text would
+/// doesn't come right after the first; where 100,000 counts were taken, and where the second's text would
 /// bring what was written above 16,777,216 scalar values.
 #[tactic(auto, unfolding(crate::specs::Texts::join_step))]
 pub fn join_texts(alloc: Global, draft: &mut Draft, first: Key, second: Key) -> Result<(), Fault>

@@ -1,4 +1,4 @@
-//! What stands where, and where points go.
+//! What is where, and where points go.
 
 ghost use Rattle.std.specs.Prelude.{◌≡◌, IfOk};
 ghost use Rattle.lx_forest.specs.Lookups as lookups;
@@ -22,7 +22,7 @@ pub fn children_of(alloc: Global, links: &Links, key: Key) -> Result<Vec<Key>, N
     Ok(keys)
 }
 
-/// A point before the child at this index of an element, or behind the last one.
+/// A point before the child at this index of an element, or after the last one.
 pub fn element_point(key: Key, offset: u32) -> Point
     ensures { result ≡ edits.element_point key offset }
 {
@@ -85,7 +85,7 @@ fn end_of(links: &Links, key: Key) -> Option<Point>
     }
 }
 
-/// Where points on a node go when it is removed, if that is a place in what stands beside it.
+/// Where points on a node go when it is removed, if that is a place in what is beside it.
 pub(crate) fn beside(links: &Links, key: Key) -> Option<Point>
     ensures { result ≡ edits.beside links.now (lookups.previous_of links.now key) (lookups.next_of links.now key) }
 {

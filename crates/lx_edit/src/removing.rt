@@ -16,9 +16,9 @@ use lx_node::{Fault, Key, Kind};
 
 /// Takes a node, with all below it, out from below its parent. Then the parent goes too where it has no
 /// children left and may not be so: where it is of a kind that may not be empty, or an item that had a list;
-/// and so on upwards, as far as there is a parent. Points on each go to the end of what stood before it, if
-/// that has characters or children; where nothing stood before it, to the start of what stood behind; and
-/// otherwise to where it stood in its parent. It is refused where there is no such node, where it stands
+/// and so on upwards, as far as there is a parent. Points on each go to the end of what came before it, if
+/// that has characters or children; where nothing came before it, to the start of what came after; and
+/// otherwise to where it was in its parent. It is refused where there is no such node, where it is
 /// below nothing, and where 100,000 counts were taken.
 pub fn remove(draft: &mut Draft, key: Key) -> Result<(), Fault>
     ensures ok { OnOk result (remove_step key draft.old ≡ Ok draft.new) }
@@ -53,7 +53,7 @@ fn remove_one(draft: &mut Draft, key: Key) -> Result<Option<Key>, Fault>
     Ok(goes_next(draft.links(), kind, parent))
 }
 
-/// Sends the points on a node to a place beside it. Where it stands is looked for only where there are any.
+/// Sends the points on a node to a place beside it. Its place is looked for only where there are any.
 #[tactic(auto, unfolding(crate::specs::Edits::sent_away))]
 fn send_points_away(draft: &mut Draft, key: Key)
     ensures { draft.new ≡ edits.sent_away key draft.old }

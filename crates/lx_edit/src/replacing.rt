@@ -14,11 +14,11 @@ use lx_links::Links;
 use lx_node::{Fault, Fields, Key, Kind, NoMemory, Txt};
 use std::alloc::Global;
 
-/// Puts the second node, which stands below nothing, in the place of the first, which is removed. With
+/// Puts the second node, which is below nothing, in the place of the first, which is removed. With
 /// `keep` the children of the first go into the second before. Points on a text go to the same offset of a
 /// text that replaces it, to its end where they are past that, and inside a surrogate pair to the pair's
-/// start. It is refused where one of the two isn't there; where the first stands below nothing; where the
-/// second is the root, stands below something, or has the first in its tree; where the parent may not hold it;
+/// start. It is refused where one of the two isn't there; where the first is below nothing; where the
+/// second is the root, is below something, or has the first in its tree; where the parent may not hold it;
 /// with `keep`, where one of the two isn't an element, and where the second may not hold one of the children;
 /// and where 100,000 counts were taken.
 #[tactic(auto, unfolding(crate::specs::Edits::replace_step))]
@@ -79,7 +79,7 @@ fn is_text(links: &Links, key: Key) -> bool
     matches!(links.kind(key), Some(Kind::Text))
 }
 
-/// Puts the outer node, which stands below nothing, in the place of the other, which goes to the end of the
+/// Puts the outer node, which is below nothing, in the place of the other, which goes to the end of the
 /// outer one's children. It is refused as a replacing is, and where the outer one may not hold the other.
 #[tactic(auto, unfolding(crate::specs::Edits::wrap_step))]
 pub fn wrap(draft: &mut Draft, key: Key, outer: Key) -> Result<(), Fault>

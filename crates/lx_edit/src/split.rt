@@ -11,10 +11,10 @@ use lx_draft::{Draft, PointRule};
 use lx_node::{Fault, Key, Kind, NoMemory};
 use std::alloc::Global;
 
-/// Cuts a text at offsets, and answers the keys of the new texts. The text keeps what stands before the first
-/// offset. Each new text has the fields of the cut one and what stands up to the next offset, and comes
-/// right behind the piece before it; points behind an offset go along. Offsets count UTF-16 code units from the
-/// text's start. It is refused where there is no such node, where it isn't a text, where it stands below
+/// Cuts a text at offsets, and answers the keys of the new texts. The text keeps what comes before the first
+/// offset. Each new text has the fields of the cut one and what comes up to the next offset, and comes
+/// right after the piece before it; points after an offset go along. Offsets count UTF-16 code units from the
+/// text's start. It is refused where there is no such node, where it isn't a text, where it is below
 /// nothing, and for the first offset that isn't above the one before it, above 0 and below the text's length, or
 /// that is inside a surrogate pair; where 100,000 counts were taken, and where the new texts would bring what was
 /// written above 16,777,216 scalar values.
@@ -58,7 +58,7 @@ fn keep_key(keys: &mut Vec<Key>, key: Key) -> Result<(), NoMemory>
     Ok(())
 }
 
-/// Cuts a text in two at an offset, and answers the key of the new text behind.
+/// Cuts a text in two at an offset, and answers the key of the new text after it.
 #[tactic(auto, unfolding(crate::specs::Texts::cut_in_two), using(crate::proofs::Tails::no_characters))]
 fn cut_in_two(alloc: Global, draft: &mut Draft, key: Key, offset: u32) -> Result<Key, Fault>
     ensures ok { OnOk result (texts.cut_in_two key offset draft.old ≡ Ok draft.new) }
@@ -74,7 +74,7 @@ fn cut_in_two(alloc: Global, draft: &mut Draft, key: Key, offset: u32) -> Result
     Ok(new)
 }
 
-/// Makes a new text of what stands behind an offset, with the points there, and answers its key.
+/// Makes a new text of what comes after an offset, with the points there, and answers its key.
 #[tactic(auto, unfolding(crate::specs::Texts::tail_made))]
 fn make_tail(alloc: Global, draft: &mut Draft, key: Key, offset: u32) -> Result<Key, Fault>
     ensures ok { OnOk result (texts.tail_made key offset draft.old ≡ Ok draft.new) }

@@ -25,7 +25,7 @@ pub(crate) fn text_at(draft: &Draft, key: Key) -> Option<&TextFields>
     }
 }
 
-/// The length of a text, in UTF-16 code units as far as a u32 tells them, and 0 of any other node.
+/// The length of a text, in UTF-16 code units as far as a u32 can say them, and 0 of any other node.
 pub fn length_at(draft: &Draft, key: Key) -> u32
     ensures { result ≡ conditions.length_at draft.now.forest key }
 {
@@ -46,7 +46,7 @@ pub(crate) fn text_of(alloc: Global, draft: &Draft, key: Key) -> Result<Txt, NoM
     }
 }
 
-/// The fields of a text, with what stands behind an offset. It is refused as cutting that off is.
+/// The fields of a text, with what comes after an offset. It is refused as cutting that off is.
 pub(crate) fn tail_of(alloc: Global, draft: &Draft, key: Key, offset: u32) -> Result<Fields, Fault>
     ensures allowed { IfOk result (λ _. splice_fault key offset (conditions.length_at draft.now.forest key) draft.now.forest ≡ None) }
     ensures tail { IfOk result (λ fields. fields ≡ texts.tail_of draft.now.forest key offset) }

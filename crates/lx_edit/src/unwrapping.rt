@@ -14,8 +14,8 @@ use lx_node::{Fault, Key, Point};
 use std::alloc::Global;
 
 /// Puts the children of an element, in order, in its place, and removes it. Points on it go along: what
-/// stood before its child `i` stands before that child in the parent. It is refused where there is no such
-/// node, where it isn't an element, where it stands below nothing, where the parent may not hold one of the
+/// came before its child `i` comes before that child in the parent. It is refused where there is no such
+/// node, where it isn't an element, where it is below nothing, where the parent may not hold one of the
 /// children, and where 100,000 counts were taken.
 #[tactic(auto, unfolding(crate::specs::Edits::unwrap_step))]
 pub fn unwrap(alloc: Global, draft: &mut Draft, key: Key) -> Result<(), Fault>
@@ -55,7 +55,7 @@ fn index_for_points(draft: &Draft, key: Key) -> Option<u32>
     }
 }
 
-/// Brings the points that were on a node to where it stood in its parent, if it stood in one.
+/// Brings the points that were on a node to where it was in its parent, if it was in one.
 fn bring_up(
     draft: &mut Draft,
     key: Key,
@@ -97,7 +97,7 @@ pub fn move_before(draft: &mut Draft, other: Key, key: Key) -> Result<(), Fault>
     draft.put_before(key, other)
 }
 
-/// Takes a node out, and puts it right behind another.
+/// Takes a node out, and puts it right after another.
 #[tactic(auto, unfolding(crate::specs::Edits::moved_behind))]
 pub fn move_behind(draft: &mut Draft, other: Key, key: Key) -> Result<(), Fault>
     ensures ok { OnOk result (edits.moved_behind other key draft.old ≡ Ok draft.new) }
