@@ -147,7 +147,7 @@ pub added_element : (w v : Working) (kind : Kind) (x : Fields) → IsAdded w v k
 added_element w v kind x a element =
     ap₂ ◌&&◌ a.attached (ap₂ ◌&&◌ (ap (is_counted_in point.Element) a.kind_is ∙ element) (least (size_of v.forest (newest v))))
 
--- the place behind a node in the tree
+-- the place after a node in the tree
 pub behind_lies : (f : Forest) (k p : ℕ) → IsForest f → IsHeld may_hold f → parent_of f k ≡ Some p → is_attached f k ≡ true → lies f (place_behind f k) ≡ true
 behind_lies f k p h held up place =
     let at = stands f k p h up in

@@ -1,4 +1,4 @@
--- What stands behind a node in preorder isn't above it.
+-- What comes after a node in preorder isn't above it.
 use Rattle.std.proofs.Common.{◌≡◌, ℕ, ◌<◌, false, List, [], ◌++◌, None, refl, arith}
 use Rattle.std.specs.Prelude.{unwrap_or}
 use Rattle.std.proofs.lemmas.Bool.Decides.{eqb_tells}
@@ -11,7 +11,7 @@ use Rattle.lx_node.proofs.Siblings.{is_among-append}
 use Rattle.lx_node.proofs.Subtrees.{count-alone-le}
 
 module _ {A : Type 0} (name : A → ℕ) where
-  -- what isn't in trees, nor behind them, is behind nothing in them
+  -- what isn't in trees, nor after them, is after nothing in them
   absent_behind : (after : List ℕ) (t : Trees A) (x q : ℕ) → count name x t ≡ 0 → is_among x after ≡ false → is_among x (unwrap_or (behind_before name after t q) []) ≡ false
   absent_behind after nil x q none out = refl
   absent_behind after (tree a below rest) x q none out =

@@ -1,4 +1,4 @@
--- Which nodes stand before a block, and which behind it.
+-- Which nodes come before a block, and which after it.
 use Rattle.std.proofs.Common.{◌≡◌, ◌∙◌, ℕ, Bool, true, false, not, ◌&&◌, ◌||◌, eqb, List, [], ◌∷◌, ◌++◌, Option, None, Some, refl, sym, ap, subst, inl, inr, arith}
 use Rattle.std.specs.Prelude.{find, filter}
 use Rattle.std.proofs.lemmas.Bool.{cases_Bool}
@@ -24,7 +24,7 @@ use Rattle.lx_caret.specs.Deleting.{is_leaf_in}
 
 -- ---- lists
 
--- where no name stands twice, none is in both parts
+-- where no name occurs twice, none is in both parts
 pub apart : (xs ys : List ℕ) (k : ℕ) → NoRepeats (xs ++ ys) → is_among k xs ≡ true → is_among k ys ≡ false
 apart [] ys k once e = cc
 apart (x ∷ xs) ys k once e = grind (arith, once, e, eqb_tells x k, is_among-append x xs ys, apart xs ys k once.1)
@@ -92,7 +92,7 @@ within_own f b k h attached inside =
 once_cut : (f : Forest) (b : ℕ) → IsForest f → is_attached f b ≡ true → NoRepeats (nodes_before f b ++ from f b)
 once_cut f b h attached = subst NoRepeats (cut_before f b h attached) (NoRepeats-preorder_of f h)
 
--- what stands before a node isn't in its tree
+-- what comes before a node isn't in its tree
 pub before_outside : (f : Forest) (b k : ℕ) → IsForest f → is_attached f b ≡ true → is_among k (nodes_before f b) ≡ true → is_within f b k ≡ false
 before_outside f b k h attached before = elim (cases_Bool (is_within f b k)) [
   | inl inside ↦
@@ -102,7 +102,7 @@ before_outside f b k h attached before = elim (cases_Bool (is_within f b k)) [
   | inr outside ↦ outside
 ]
 
--- and neither is what is behind that
+-- and neither is what comes after that
 pub behind_outside : (f : Forest) (b k : ℕ) → IsForest f → is_attached f b ≡ true → is_among k (behind f b) ≡ true → is_within f b k ≡ false
 behind_outside f b k h attached later = elim (cases_Bool (is_within f b k)) [
   | inl inside ↦
@@ -137,7 +137,7 @@ not_leaf f b k h attached outside = elim (cases_Bool (same_node (block_of f k) (
   and_not : (a b : Bool) → b ≡ false → (a && b) ≡ false
   and_not a b e = grind (arith, e)
 
--- no leaf of a block stands before it, or behind its tree
+-- no leaf of a block comes before it, or after its tree
 pub no_leaf_before : (f : Forest) (b : ℕ) → Sound f → is_attached f b ≡ true → (k : ℕ) → is_among k (nodes_before f b) ≡ true → is_leaf_in f b k ≡ false
 no_leaf_before f b s attached k before =
     let h = in_order_at f b s (there_within f 0 b attached) in

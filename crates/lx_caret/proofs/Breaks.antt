@@ -42,7 +42,7 @@ use Rattle.lx_caret.proofs.Cleared.{among_until, remove_text_fits}
 use Rattle.lx_caret.proofs.Adds.{new_kind, added, added_element, at_anchor_fits}
 use Rattle.lx_caret.proofs.Deletes.{found_passes}
 
--- ---- what stands above a node in the tree
+-- ---- what is above a node in the tree
 
 above_there : (f : Forest) (q a : ℕ) → IsForest f → has q f ≡ true → is_attached f q ≡ true → is_among a (q ∷ ancestors f q) ≡ true → is_attached f a ≡ true
 above_there f q a h known place among = attached_above f a q h place (is_within-ancestors f a q h known ∙ among)

@@ -47,7 +47,7 @@ use Rattle.lx_caret.proofs.Moves.{stays_each_moved}
 use Rattle.lx_caret.proofs.Parents.{no_children, characters_no_element}
 use Rattle.lx_caret.proofs.Removes.{Avoids, IsAvoiding, Kept, kept_self, kept_then, kept_ok, clear_leaf, clear_empty, clear_avoided, remove_keeps, remove_fits}
 
--- ---- what stands behind a point isn't above it
+-- ---- what comes after a point isn't above it
 
 alone_tree : (f : Forest) (a : ℕ) → IsForest f → is_attached f a ≡ true → alone a (alone 0 f) ≡ alone a f
 unfolding drop_detached
@@ -105,7 +105,7 @@ behind_place_outside f k o point.Element a h place among = by_child (slice_get (
       let up = child_up f k c o h is in
       from_outside f k c a h (is_attached-up f c k h up ∙ place) up among
 
--- the nodes behind a point
+-- the nodes after a point
 abbrev pub behind_it : Forest → Point → ℕ → Bool
 behind_it f start a = is_among a (nodes_behind f start)
 
@@ -113,7 +113,7 @@ start_avoids : (f : Forest) (start : Point) → IsForest f → is_attached f sta
 start_avoids f start h place a so inside =
     let bad : false ≡ true = sym (behind_place_outside f start.key start.offset start.kind a h place so) ∙ inside in absurd (cc)
 
--- what is covered is behind the start
+-- what is covered is after the start
 pub among_filter : (test : ℕ → Bool) (xs : List ℕ) (a : ℕ) → is_among a (filter test xs) ≡ true → is_among a xs ≡ true
 among_filter test [] a e = e
 among_filter test (x ∷ xs) a e = by_test (among_filter test xs a) (test x) e where

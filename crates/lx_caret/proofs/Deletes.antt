@@ -73,7 +73,7 @@ leaf_fits back reach k w v fit leaf e = by_test (eqb (characters_at w.forest k) 
   by_test true e = remove_leaf k w v fit leaf e
   by_test false e = erase_fits back reach k (edge back (characters_at w.forest k)) w v fit leaf e
 
--- what stands beside has no children
+-- what is beside has no children
 not_true : (b : Bool) → not b ≡ true → b ≡ false
 not_true false e = refl
 not_true true e = absurd (cc)

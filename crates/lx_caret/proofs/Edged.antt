@@ -1,4 +1,4 @@
--- Of the covered pieces only the first may begin behind the start of its text, and that inside it.
+-- Of the covered pieces only the first may begin after the start of its text, and that inside it.
 use Rattle.std.proofs.Common.{◌≡◌, ◌∙◌, ℕ, ◌<◌, ◌≤◌, zero, suc, Bool, true, false, cond, eqb, ◌&&◌, List, [], ◌∷◌, ◌++◌, map, Option, None, Some, Result, Ok, Err, refl, sym, ap, subst, arith, inl, inr}
 use Rattle.std.specs.Prelude.{filter, nat_lt, nat_le, ◌⊎◌}
 use Rattle.std.proofs.lemmas.Bool.{cases_lt}
@@ -150,7 +150,7 @@ lies_both f r e =
     let pair = both (lies f r.anchor) (lies f r.focus) (both (lies f r.anchor && lies f r.focus) _ e).0 in
     ((both (is_attached f r.anchor.key) (lies_in f r.anchor) pair.0).1, (both (is_attached f r.focus.key) (lies_in f r.focus) pair.1).1)
 
--- only the first piece may begin behind the start of its text, and that inside it
+-- only the first piece may begin after the start of its text, and that inside it
 pub edged : (w : Working) (r : Ranged) → range_of w ≡ Ok r → (i : ℕ) (p : Piece) → slice_get (pieces w.forest (start_of w.forest r) (end_of w.forest r)) i ≡ Some p → 0 < p.from
     → (i ≡ 0) × (p.from < characters_at w.forest p.key)
 edged w r e i p here behind = by_order (comes_first w.forest r.anchor r.focus) here where

@@ -64,12 +64,12 @@ pub find_without : (test : ℕ → Bool) (b : ℕ) (xs : List ℕ) → find (is_
 find_without test b [] = refl
 find_without test b (x ∷ xs) = grind (arith, find_without test b xs)
 
--- what the test of a walk for a stop tells
+-- what the test of a walk for a stop shows
 pub stop_told : (f : Forest) (block q : ℕ) (within : Option ℕ) (result told : Bool) → within ≡ frame_of f block → result ≡ (not (eqb q block) && is_stop f within q) → result ≡ told
     → is_other (is_stop f (frame_of f block)) block q ≡ told
 stop_told f block q within result told frame tests tells = ap (λ o. not (eqb q block) && is_stop f o q) (sym frame) ∙ sym tests ∙ tells
 
--- ---- the first leaf of a block behind a point
+-- ---- the first leaf of a block after a point
 
 named_is : (end : Option (ℕ × ℕ)) (q : ℕ) → is_named (key_of_step end) q ≡ true → (step : ℕ × ℕ) × (end ≡ Some step) × (q ≡ step.0)
 named_is None q e = absurd (cc)
@@ -79,7 +79,7 @@ ends_at : (end : Option (ℕ × ℕ)) (f : Forest) (b : ℕ) (step : ℕ × ℕ)
 ends_at None f b step e is = absurd (cc)
 ends_at (Some at) f b step e is = let same : at ≡ step = cc in e ∙ ap (λ (x : ℕ × ℕ). from f x.0) same
 
--- behind the block's tree none is left
+-- after the block's tree none is left
 pub leaf_passed : (end at : Option (ℕ × ℕ)) (f : Forest) (block q d : ℕ) (whole : Option ℕ) → Sound f → is_attached f block ≡ true → IfSome end (λ next. behind f block ≡ from f next.0)
     → IsForth (is_leaf_in f block) f at whole → is_named (key_of_step end) q ≡ true → at ≡ Some (q, d) → None ≡ whole
 leaf_passed end at f block q d whole s attached ends way here is =

@@ -20,7 +20,7 @@ use Rattle.lx_caret.specs.Formatting.{edges, isolate_step, isolated_key, Isolate
 abbrev pub and_ahead : List ℕ → Isolated → Result Isolated Cause
 and_ahead keys made = Ok (record { draft = made.draft; texts = keys ++ made.texts })
 
--- those of the pieces that are left come to what all come to, behind those so far
+-- those of the pieces that are left come to what all come to, after those so far
 abbrev pub IsOnTheWay : List Piece → ℕ → Working → List ℕ → Result Isolated Cause → Type 0
 IsOnTheWay all i w keys whole = after (isolated (drop i all) w) (and_ahead keys) ≡ whole
 

@@ -63,7 +63,7 @@ end_offset (Some x) = offset_start []
 pub end_in : (x : Option Fields) → is_place_in (length_of x) x ≡ true
 end_in x = ap₂ ◌&&◌ (full (length_of x)) (end_offset x)
 
--- a u32 tells each place
+-- a u32 can say each place
 pub place_small : (o : ℕ) (x : Option Fields) → leb o (length_of x) ≡ true → o ≤ last_u32
 place_small o (Some (fields.Text text)) e = let within : o ≤ length_told text.text = grind (arith, nat_tests, e) in omega (arith, within, told-small text.text)
 place_small o None e = grind (arith, nat_tests, e)
@@ -157,7 +157,7 @@ no_element f k kind o is leaf e =
     let bad : false ≡ true = sym leaf ∙ sym (ap (is_counted_in point.Element) is) ∙ first in
     cc
 
--- what a point in a text tells of it
+-- what a point in a text shows of it
 pub record IsIn (f : Forest) (k o : ℕ) : Type 0 where
   pub counted : is_counted_in point.Text (kind_of f k) ≡ true
   pub within : leb o (length_of (fields_of f k)) ≡ true

@@ -1,4 +1,4 @@
--- New nodes: their fields, their keys, and the place behind one.
+-- New nodes: their fields, their keys, and the place after one.
 use Rattle.std.proofs.Common.{◌≡◌, ◌+◌, ◌<◌, ◌^◌, ℕ, Bool, true, false, cond, List, [], ◌∷◌, length, Option, None, Some, Ok, refl, ap, sym, subst, arith}
 use Rattle.std.specs.Str.{chars}
 use Rattle.lx_node.specs.OfKind.{IsOfKind, is_of_kind, fits_kind, is_text_of, are_text_fields, are_tab_fields, are_bare, is_tab_text, is_normal}
@@ -63,7 +63,7 @@ pub put-next_key : (k : ℕ) (p : Point) (kind : PointKind) (w v : Working) → 
 put-next_key k p point.Text w v e = either-next_key _ k p.key w v e
 put-next_key k p point.Element w v e = keyed.put-next_key k p.key p.offset w v e
 
--- ---- the place behind a node
+-- ---- the place after a node
 
 -- an index of a child, and one more, fit an offset
 pub index_small : (f : Forest) (k p index : ℕ) → Sound f → parent_of f k ≡ Some p → index_of f k ≡ Some index → index + 1 < 2 ^ 32

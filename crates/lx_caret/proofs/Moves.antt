@@ -37,7 +37,7 @@ use Rattle.lx_caret.proofs.Lies.{both, lies_taken, lies_put, attached_moved, siz
 use Rattle.lx_caret.proofs.Fit.{each_moved, after_tells, Fit, Stays, Staying, stays_self, stays_then, stays_ok, stays_after, stays_put, puts, key_of_put}
 use Rattle.lx_caret.proofs.Short.{same-short}
 
--- ---- where a put node stands
+-- ---- where a put node is
 
 pub record WasPut (w v : Working) (k p index : ℕ) : Type 0 where
   pub up : parent_of v.forest k ≡ Some p
@@ -115,7 +115,7 @@ key_of_take p i x = by_test (is_behind p i x) where
   by_test true = refl
   by_test false = refl
 
--- a node with a parent stands at an index there
+-- a node with a parent is at an index there
 pub stands : (f : Forest) (k p : ℕ) → IsForest f → parent_of f k ≡ Some p → (i : ℕ) × (index_of f k ≡ Some i)
 stands f k p h up =
     let among : is_some (index_of f k) ≡ true = is_some-index_in (siblings f k) k ∙ ap (λ o. is_among k (children_below f o)) up ∙ is_among-children_of f k p h ∙ rw up (grind (arith, eqb_tells p p)) in
@@ -218,7 +218,7 @@ moved_attached parent k w v fit place e =
     let below = taken_below w.forest k (both_none (detach_fault k w.forest) (over_counts w) told.0).0 in
     placed_attached k parent (size_of (take_out k w.forest) parent) below.1.0 w v fit place below.0 below.1.1 (ap (λ u. put_step k parent (size_of u.forest parent) u) told.1 ∙ first.1.1)
 
--- each of a list moved to a place, one behind the other
+-- each of a list moved to a place, one after the other
 pub record MovedIn (w v : Working) (p index : ℕ) : Type 0 where
   pub stays : Stays w v
   pub reach : index ≤ size_of v.forest p

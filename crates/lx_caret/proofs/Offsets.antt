@@ -1,4 +1,4 @@
--- Where offsets of a text are after an edit of it, as far as a u32 tells them.
+-- Where offsets of a text are after an edit of it, as far as a u32 can say them.
 use Rattle.std.proofs.Common.{◌≡◌, ◌∙◌, ℕ, ◌+◌, ◌-◌, ◌≤◌, min, Bool, true, false, cond, leb, List, ◌++◌, refl, ap, arith}
 use Rattle.std.proofs.lemmas.Bool.Decides.{nat_tests}
 use Rattle.lx_node.specs.Limits.{last_u32}
@@ -8,7 +8,7 @@ use Rattle.lx_text.proofs.Told as told
 use Rattle.lx_text.proofs.Told.{IsPiece}
 use Rattle.lx_select.specs.Rules.{offset_sum, spliced_offset}
 
--- a place that offsets tell
+-- a place that offsets can say
 pub record IsPlace (o : ℕ) (text : List ℕ) : Type 0 where
   pub told : o ≤ length_told text
   pub place : is_offset o text ≡ true
@@ -33,7 +33,7 @@ module _ (from to : ℕ) (new text : List ℕ) (piece : IsPiece from to text) (f
   told_new : length_told new ≡ text_length new
   told_new = told.told-all new (omega (arith, new_few from to new text, few))
 
-  -- a sum that is an offset of the whole is one that a u32 tells
+  -- a sum that is an offset of the whole is one that a u32 can say
   summed : (a b sum : ℕ) → is_offset (a + b) (spliced_text from to new text) ≡ true → sum ≡ min (a + b) last_u32 → IsPlace sum (spliced_text from to new text)
   summed a b sum e is =
       let small : a + b ≤ last_u32 = omega (arith, told.offset_within (a + b) (spliced_text from to new text) e, few) in
@@ -67,7 +67,7 @@ within_place o text small = place_of (within text o) text (told.within-offset o 
 
 -- ---- a split
 
--- a place behind the one where a text is cut, in what is cut off
+-- a place after the one where a text is cut, in what is cut off
 pub tail_place : (o at to : ℕ) (text : List ℕ) → is_offset at text ≡ true → is_offset o text ≡ true → at ≤ o → o ≤ to → o ≤ last_u32
     → IsPlace (o - at) (slice_of at to text)
 unfolding slice_of

@@ -34,7 +34,7 @@ module _ {D : Working → Type 0} {R : Working → Working → Type 0} (way : Is
   new_like_path None w v r e = stays way w v r e
   new_like_path (Some l) w v r e = way.new l.kind l.fields w v r e
 
-  -- the last of some children go into a node that is put behind another
+  -- the last of some children go into a node that is put after another
   gone_behind : (k new : ℕ) (ks : List ℕ) → Leads D R (λ w. after (put_behind_step new k w) (in_turn (moved_to_end new) ks))
   gone_behind k new ks = chained way (put_behind_step new k) (λ u. in_turn (moved_to_end new) ks) (put_behind_path way new k tt) (λ u. all_moved_path way new ks)
 

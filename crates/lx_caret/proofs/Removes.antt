@@ -93,7 +93,7 @@ previous_other f k s p h up before = λ same.
     let bad : Some at.0 ≡ None = sym at.1 ∙ none in
     absurd (cc)
 
--- a sibling stands outside, and in the tree
+-- a sibling is outside, and in the tree
 sibling_outside : (f : Forest) (k s p : ℕ) → IsForest f → parent_of f k ≡ Some p → parent_of f s ≡ Some p → s ≢ k → is_within f k s ≡ false
 sibling_outside f k s p h up too other = is_within-up f k s p h too other ∙ is_within-parent f k p h up
 

@@ -120,7 +120,7 @@ no_room = refl
 
 -- ---- line breaks and tabs
 
--- a line break within a text, and the caret behind it
+-- a line break within a text, and the caret after it
 broken_text :
     shown (insert_line_break_step (started (line (codes "ab")) (caret 2 1) 3))
     ≡ seen (document (paragraph 1 (text 2 (codes "a") (node 4 Break fields.Bare nil (text 3 (codes "b") nil))) nil) nil) (caret_inside 1 2)
@@ -139,14 +139,14 @@ bold_tab = refl
 
 -- ---- paragraphs
 
--- behind a heading cut at its end comes a paragraph
+-- after a heading cut at its end comes a paragraph
 heading_ended :
     shown (draft_left (insert_paragraph_step (started (document (element 1 (Heading 2) (text 2 (codes "ab") nil) nil) nil) (caret 2 2) 3)))
     ≡ seen (document (element 1 (Heading 2) (text 2 (codes "ab") nil) (paragraph 3 nil nil)) nil) (caret_inside 3 0)
 unfolding commands
 heading_ended = refl
 
--- behind one cut within, another heading with the rest
+-- after one cut within, another heading with the rest
 heading_cut :
     shown (draft_left (insert_paragraph_step (started (document (element 1 (Heading 2) (text 2 (codes "ab") nil) nil) nil) (caret 2 1) 3)))
     ≡ seen (document (element 1 (Heading 2) (text 2 (codes "a") nil) (element 4 (Heading 2) (text 3 (codes "b") nil) nil)) nil) (caret 3 0)
@@ -186,7 +186,7 @@ checklist items = document (node 1 (ListKind Check) (fields.Element (element_wit
 abbrev item : ℕ → ℕ → Bool → Forest → Forest → Forest
 item k value checked below rest = node k Item (fields.Element (element_with (extra.Item value (Some checked)))) below rest
 
--- behind a checked item comes one that isn't
+-- after a checked item comes one that isn't
 item_ended :
     shown (draft_left (insert_paragraph_step (started (checklist (item 2 7 true (text 3 (codes "a") nil) nil)) (caret 3 1) 4)))
     ≡ seen (checklist (item 2 7 true (text 3 (codes "a") nil) (item 4 1 false nil nil))) (caret_inside 4 0)

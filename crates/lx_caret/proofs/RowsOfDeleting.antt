@@ -27,7 +27,7 @@ two_cut :
 unfolding commands
 two_cut = refl
 
--- from either end: the texts of a range are emptied, and the caret stands at its start
+-- from either end: the texts of a range are emptied, and the caret is at its start
 both_ways :
     shown (remove_text_step (started (lines (codes "a") (codes "b")) (between 4 1 2 0) 5))
     ≡ seen (document (paragraph 1 (text 2 [] (text 4 [] nil)) nil) (paragraph 3 nil nil)) (caret 2 0)
@@ -76,7 +76,7 @@ word_gone : shown (delete_word_step true (started (line (codes "ab cd  ")) (care
 unfolding commands unicode_segmentation
 word_gone = refl
 
--- forward, the white space goes with the word behind it
+-- forward, the white space goes with the word after it
 word_gone_on : shown (delete_word_step false (started (line (codes "ab cd  ")) (caret 2 2) 3)) ≡ seen (line (codes "ab  ")) (caret 2 2)
 unfolding commands unicode_segmentation
 word_gone_on = refl

@@ -46,7 +46,7 @@ bold_next = refl
 
 -- ---- everything
 
--- from the first character to behind the last
+-- from the first character to after the last
 all_selected :
     shown (select_all_step (started (lines (codes "ab") (codes "cd")) (caret_inside 0 1) 5))
     ≡ seen (lines (codes "ab") (codes "cd")) (between 2 0 4 2)

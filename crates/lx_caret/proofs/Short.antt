@@ -1,4 +1,4 @@
--- Texts that are short stay so with each step of a draft, and a u32 tells the length of each.
+-- Texts that are short stay so with each step of a draft, and a u32 can say the length of each.
 use Rattle.std.proofs.Common.{◌≡◌, ℕ, ◌+◌, ◌*◌, ◌≤◌, Bool, true, false, cond, eqb, List, length, Option, None, Some, refl, sym, subst, arith}
 use Rattle.std.specs.Prelude.{option_map}
 use Rattle.std.proofs.lemmas.Bool.Decides.{nat_tests}

@@ -174,7 +174,7 @@ half_splice n k from to new w b c half e =
       kept = record { each = λ q kind so. all.kinds.each q kind (half.kept.each q kind so) };
     })
 
--- ---- put behind
+-- ---- put right after
 
 near_put : (f : Forest) (n k p : ℕ) (before : Option ℕ) (q : ℕ) → IsForest f → CanPut p n f → parent_of f k ≡ Some p → IsNear f n k q → is_attached (put_in p before n f) q ≡ true
 near_put f n k p before q h can up near =

@@ -18,26 +18,27 @@ use Rattle.lx_draft.specs.Beside.{put_before_step, put_behind_step}
 use Rattle.lx_edit.specs.Texts.{split_step}
 use Rattle.lx_range.specs.Ranges.{normal_at, characters_at}
 
--- the kind of what a node goes into at a point: an element itself, or what a text stands below
+-- the kind of what a node goes into at a point: an element itself, or what a text is below
 abbrev pub kind_around : Forest → ℕ → PointKind → Option Kind
 kind_around f k point.Text = kind_above f k
 kind_around f k point.Element = kind_of f k
 
--- ... which may not hold it
+-- what a node goes into may not hold such a node
 abbrev pub no_room : Kind → Option Kind → Option Cause
 no_room inner None = None
 no_room inner (Some outer) = if may_hold outer inner then None else Some (WrongKind outer)
 
--- a text that holds the point strictly inside is split there
+-- a text holds the point strictly inside
 abbrev pub is_inside : Forest → Point → PointKind → Bool
 is_inside f p point.Text = nat_lt 0 p.offset && nat_lt p.offset (characters_at f p.key)
 is_inside f p point.Element = false
 
+-- a normal text that holds the point strictly inside is split there
 abbrev pub opened : Point → Working → Result Working Cause
 opened p w =
     if is_inside w.forest p p.kind && is_some (normal_at w.forest p.key) then split_step p.key (p.offset ∷ []) w else Ok w
 
--- put at a point: before a text at offset 0, else behind it; in an element at the offset
+-- a node put at a point: before a text at offset 0, else after it; in an element at the offset
 abbrev pub put_by : ℕ → Point → PointKind → Working → Result Working Cause
 put_by k p point.Text w = if p.offset == 0 then put_before_step k p.key w else put_behind_step k p.key w
 put_by k p point.Element w = put_step k p.key p.offset w
@@ -46,7 +47,7 @@ put_by k p point.Element w = put_step k p.key p.offset w
 abbrev pub newest : Working → ℕ
 newest w = w.next_key - 1
 
--- a new node, made after any split
+-- a new node at a point, made once the text there is split
 unfoldable pub add_step : Point → Kind → Fields → Working → Result Working Cause
 add_step p kind fields w =
     after (answer (no_room kind (kind_around w.forest p.key p.kind)) w) (λ v.

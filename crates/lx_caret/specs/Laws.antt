@@ -11,7 +11,7 @@ use Rattle.lx_caret.specs.Deleting.{delete_character_step, delete_word_step}
 use Rattle.lx_caret.specs.Formatting.{format_text_step}
 use Rattle.lx_caret.specs.SelectAll.{select_all_step}
 
--- the step of each command has a property
+-- the step of each caret command has a property
 pub record EachCommand (Holds : (Working → Result Working Cause) → Type 0) : Type 0 where
   pub insert_text : (text : List ℕ) → Holds (insert_text_step text)
   pub remove_text : Holds remove_text_step
@@ -23,7 +23,7 @@ pub record EachCommand (Holds : (Working → Result Working Cause) → Type 0) :
   pub format_text : (bit : ℕ) → Holds (format_text_step bit)
   pub select_all : Holds select_all_step
 
--- marks tell whatever a command changes
+-- marks show whatever a command changes
 abbrev pub CommandsAreCovered : Type 0
 CommandsAreCovered = EachCommand IsCovering
 

@@ -14,7 +14,7 @@ use Rattle.lx_draft.specs.Covering.{IsReady}
 use Rattle.lx_draft.specs.Selecting.{text_of}
 use Rattle.lx_range.specs.Ranges.{lies}
 
--- each point of a range is such
+-- each point of a range has a property
 abbrev pub EachPoint : (Point → Type 0) → Selection → Type 0
 EachPoint P (Range a b format) = P a × P b
 EachPoint P other = Unit {0}
@@ -23,16 +23,16 @@ EachPoint P other = Unit {0}
 abbrev pub IsLying : Working → Type 0
 IsLying w = EachPoint (λ p. lies w.forest p ≡ true) w.selection
 
--- No text is longer than one can be that is made of the scalar values of a committed state and of so many written since. A
--- scalar value has at most two code units, so a u32 tells the length of each text while what may be written is bounded.
+-- no text is longer than one made of a committed state's scalar values and so many written since, so that a u32 holds
+-- its length, as a scalar value has two code units at most
 pub record AreShort (f : Forest) (written : ℕ) : Type 0 where
   pub each : (q : ℕ) → text_length (text_of (fields_of f q)) ≤ 2 * (most_characters + written)
 
--- the texts of a draft are
+-- the texts of a draft are as short as what it has written makes them
 abbrev pub TextsAreShort : Working → Type 0
 TextsAreShort w = AreShort w.forest w.written
 
--- A command that isn't refused leaves a selection that lies in the tree, whatever was selected before. Every draft is ready
--- for it: it is in order, and its nodes hold what they may. Its texts are short where it started from a committed state.
+-- a command that isn't refused leaves a selection that lies in the tree, whatever was selected: the draft is in order,
+-- its nodes hold what they may, and its texts are short
 abbrev pub LeavesLying : (Working → Result Working Cause) → Type 0
 LeavesLying command = (w v : Working) → IsReady w → IsHeld may_hold w.forest → TextsAreShort w → command w ≡ Ok v → IsLying v

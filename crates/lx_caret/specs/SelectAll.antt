@@ -26,5 +26,6 @@ end_at f (Some k) =
     else if is_at is_element f k then element_point k 0
     else place_at 1 k (parent_of f k) (index_of f k)
 
+-- the command that selects the whole content
 unfoldable pub select_all_step : Working → Result Working Cause
 select_all_step w = select_step (Range (start_at w.forest (first_leaf w.forest 0)) (end_at w.forest (last_leaf w.forest 0)) 0) w

@@ -15,7 +15,7 @@ use lx_node::{Cause, Fault, Fields, Key, Kind, Point, PointKind};
 use lx_range::is_normal_at;
 use std::alloc::Global;
 
-/// The kind of what a node goes into at a point: an element itself, or what a text stands below.
+/// The kind of what a node goes into at a point: an element itself, or what a text is below.
 pub fn kind_around(links: &Links, point: &Point) -> Option<Kind>
     ensures { result ≡ adding.kind_around links.now point.now.key point.now.kind }
 {
@@ -40,7 +40,7 @@ pub fn no_room(inner: Kind, outer: Option<Kind>) -> Option<Cause>
     }
 }
 
-/// Whether a point lies strictly inside a text or tab: characters stand before it and behind it.
+/// Whether a point lies strictly inside a text or tab: characters come before it and after it.
 pub(crate) fn is_inside(draft: &Draft, point: &Point) -> bool
     ensures { result ≡ adding.is_inside draft.now.forest point.now point.now.kind }
 {
@@ -62,7 +62,7 @@ pub fn open(alloc: Global, draft: &mut Draft, point: &Point) -> Result<(), Fault
     Ok(())
 }
 
-/// Puts a node at a point: before a text at offset 0, else behind it; in an element at the offset.
+/// Puts a node at a point: before a text at offset 0, else after it; in an element at the offset.
 pub fn put_by(draft: &mut Draft, key: Key, point: &Point) -> Result<(), Fault>
     ensures ok { OnOk result (adding.put_by key point.now point.now.kind draft.old ≡ Ok draft.new) }
     ensures err { IfErr result (λ e. TellsStep e (adding.put_by key point.now point.now.kind draft.old)) }
@@ -81,7 +81,7 @@ pub fn put_by(draft: &mut Draft, key: Key, point: &Point) -> Result<(), Fault>
 }
 
 /// Adds a new node at a point, and answers its key, which is the newest. A normal text that holds the point strictly inside is
-/// split there; beside one that isn't normal the node goes before it at offset 0, and else behind it. It is refused with
+/// split there; beside one that isn't normal the node goes before it at offset 0, and else after it. It is refused with
 /// `WrongKind` and the kind of what may not hold the node, and as the edits of a draft are.
 #[tactic(auto, unfolding(crate::specs::Adding::add_step))]
 pub(crate) fn add(

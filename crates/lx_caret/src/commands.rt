@@ -26,10 +26,10 @@ use lx_draft::Draft;
 use lx_node::{Fault, Key};
 use std::alloc::Global;
 
-/// Puts a text in the place of what is selected, as `remove_text` removes it, and the caret behind it. Where the anchor is then
+/// Puts a text in the place of what is selected, as `remove_text` removes it, and the caret after it. Where the anchor is then
 /// in a normal text of the selection's format, the text goes into that. Otherwise it goes into a new text of that format, and
 /// of the style of the normal text there. The new one goes between the parts of a normal text that holds the anchor strictly
-/// inside; a text that isn't normal is never cut, and the new one goes before it at offset 0, and else behind it. An empty text
+/// inside; a text that isn't normal is never cut, and the new one goes before it at offset 0, and else after it. An empty text
 /// only removes. Offsets are those of `lx_text`, in UTF-16 code units.
 ///
 /// It is refused as `remove_text` is; with `WrongKind` and the kind of what may not hold a text; and with `StepLimit` and
@@ -67,16 +67,16 @@ pub fn remove_text(alloc: Global, draft: &mut Draft) -> Result<(), Fault>
 /// Inserts a paragraph at the caret. The selected text is removed first, as `remove_text` does it. Then the caret's block,
 /// which is the nearest paragraph, heading, quote or item from its node upwards, is cut in two: a text with the caret
 /// strictly inside is split, and then, upwards from there, each link below the block that has children on both sides.
-/// What is behind goes into a new block right behind the old one. The caret goes to the start of the new block: to offset
+/// What is after goes into a new block right after the old one. The caret goes to the start of the new block: to offset
 /// 0 of its first child where that is a text or tab, and otherwise before its children. The selection's format stays.
 ///
 /// What the new block is goes by the old one:
 ///
-/// * Behind a paragraph or a heading it is of the same kind, with the fields of the old one; but where nothing goes from a
+/// * After a paragraph or a heading it is of the same kind, with the fields of the old one; but where nothing goes from a
 ///   heading into it, it is a paragraph of which no field is set.
-/// * Behind a quote no field of it is set. It is a paragraph where no children but texts, tabs, line breaks, links and
+/// * After a quote no field of it is set. It is a paragraph where no children but texts, tabs, line breaks, links and
 ///   embeds go into it, and otherwise a quote.
-/// * Behind an item it is an item with the value 1, of which else nothing is set. Where the old one has a check mark, set
+/// * After an item it is an item with the value 1, of which else nothing is set. Where the old one has a check mark, set
 ///   or not, it has one that isn't set.
 ///
 /// Where the caret is in no block, an empty paragraph is added there, and the caret goes into it. Where it is in an item
@@ -98,9 +98,9 @@ pub fn insert_paragraph(alloc: Global, draft: &mut Draft) -> Result<Option<Key>,
     break_block(alloc, draft)
 }
 
-/// Puts a line break in the place of what is selected, as `remove_text` removes it, and the caret behind it in its parent. It
+/// Puts a line break in the place of what is selected, as `remove_text` removes it, and the caret after it in its parent. It
 /// goes between the parts of a normal text that holds the anchor strictly inside; a text that isn't normal is never cut, and the
-/// break goes before it at offset 0, and else behind it.
+/// break goes before it at offset 0, and else after it.
 ///
 /// It is refused as `remove_text` is; with `WrongKind` and the kind of what may not hold a line break; and with `StepLimit` and
 /// `TooLarge` as the edits of a draft are.
@@ -114,7 +114,7 @@ pub fn insert_line_break(alloc: Global, draft: &mut Draft) -> Result<(), Fault>
     put_line_break(alloc, draft)
 }
 
-/// Puts a tab in the place of what is selected, as `remove_text` removes it, in the selection's format, and the caret behind
+/// Puts a tab in the place of what is selected, as `remove_text` removes it, in the selection's format, and the caret after
 /// its character. It goes where `insert_line_break` puts a line break.
 ///
 /// It is refused as `remove_text` is; with `WrongKind` and the kind of what may not hold a tab; and with `StepLimit` and
@@ -130,23 +130,23 @@ pub fn insert_tab(alloc: Global, draft: &mut Draft) -> Result<(), Fault>
 }
 
 /// Deletes what is selected, or else a character beside the caret: the one before it where `back` is set, and the one
-/// behind it otherwise. A character is an extended grapheme cluster, so it may be several scalar values.
+/// after it otherwise. A character is an extended grapheme cluster, so it may be several scalar values.
 ///
 /// - In a text with characters on that side, the cluster there is cut out. A tab, and a text that isn't normal, is
 ///   removed whole.
-/// - Otherwise the last leaf of the block before the caret loses its last cluster, or the first leaf behind the caret its
-///   first one. A leaf without characters, as a line break, is removed, and so is a tab or a text that isn't normal.
+/// - Otherwise the last leaf of the block before the caret loses its last cluster, or the first leaf after the caret its
+///   first one. A leaf without characters, such as a line break, goes, and so does a tab or a text that isn't normal.
 /// - Where the block has no such leaf, it is joined back to the line before it in the same cell, or among those in no
 ///   cell. A line is a text block that is empty or has an inline child. The inline children with which the block begins go
-///   behind those of the line that stand before the block, a caret on the block goes along, and the block is removed if it
-///   is empty then. A horizontal rule that stands between is removed in place of all that, and a table stops it: nothing
-///   changes. Forward the line behind the block is joined so to the line before itself, and a rule or table behind the
+///   after those of the line that come before the block, a caret on the block goes along, and the block is removed if it
+///   is empty then. A horizontal rule that comes between is removed in place of all that, and a table stops it: nothing
+///   changes. Forward the line after the block is joined so to the line before itself, and a rule or table after the
 ///   block does the same as one before it.
 /// - Where there is no line, rule or table on that side, or the caret is in no block, nothing changes.
 ///
 /// It is refused with `NoSelection` where the selection is no range, where a point of it doesn't lie in the root's tree,
 /// and where one lies in another cell than the other; and with `StepLimit` where the update has taken its 100,000 counts.
-/// `Memory` tells that none was left. A draft on which it was refused is only fit to be dropped.
+/// `Memory` says that none was left. A draft on which it was refused is only fit to be dropped.
 #[tactic(auto, unfolding(crate::specs::Deleting::delete_character_step))]
 pub fn delete_character(alloc: Global, draft: &mut Draft, back: bool) -> Result<(), Fault>
     ensures ok { OnOk result (delete_character_step back draft.old ≡ Ok draft.new) }
@@ -158,7 +158,7 @@ pub fn delete_character(alloc: Global, draft: &mut Draft, back: bool) -> Result<
     delete(alloc, draft, Stretch::Cluster, back)
 }
 
-/// Deletes what is selected, or else a word beside the caret: the one before it where `back` is set, and the one behind it
+/// Deletes what is selected, or else a word beside the caret: the one before it where `back` is set, and the one after it
 /// otherwise, with the white space between it and the caret. Words are the pieces between the word bounds of Unicode in the
 /// text of the caret, or of the leaf, that loses them. All else is as `delete_character` does it, and it is refused for the
 /// same causes.
@@ -197,8 +197,8 @@ pub fn format_text(alloc: Global, draft: &mut Draft, bit: u16) -> Result<(), Fau
 }
 
 /// Selects the whole content, by a range of format 0 from the start of the first leaf, down first children from the root,
-/// to the end of the last one, down last children. A text begins before its characters and ends behind them. An element
-/// without children has both at 0, and a leaf of another kind before and behind it in its parent. Offsets of texts are
+/// to the end of the last one, down last children. A text begins before its characters and ends after them. An element
+/// without children has both at 0, and a leaf of another kind before and after it in its parent. Offsets of texts are
 /// those of `lx_text`, in UTF-16 code units. It is refused as `Draft::select` is.
 pub fn select_all(draft: &mut Draft) -> Result<(), Fault>
     ensures ok { OnOk result (select_all_step draft.old ≡ Ok draft.new) }

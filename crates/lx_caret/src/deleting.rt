@@ -237,7 +237,7 @@ fn is_leaf_in(links: &Links, block_key: Key, key: Key) -> bool
     !is_element_at(links, key) && same_node(block(links, key), Some(block_key))
 }
 
-/// The last leaf of the block before the point, or the first one behind it.
+/// The last leaf of the block before the point, or the first one after it.
 fn leaf_beside(links: &Links, back: bool, block: Key, point: &Point) -> Option<Key>
     requires point { lookups.is_attached links.now point.now.key ≡ true }
     requires block { lookups.is_attached links.now block ≡ true }
@@ -258,7 +258,7 @@ fn is_leaf_before(links: &Links, block: Key, point: &Point, key: Key) -> bool
     is_leaf_in(links, block, key) && !links.is_within(key, point.key)
 }
 
-/// The last leaf of the block before the point. What stands before the block isn't looked at.
+/// The last leaf of the block before the point. What comes before the block isn't looked at.
 fn leaf_before(links: &Links, block: Key, point: &Point) -> Option<Key>
     requires point { lookups.is_attached links.now point.now.key ≡ true }
     ensures { result ≡ deleting.leaf_beside true links.now block point.now }
@@ -276,7 +276,7 @@ fn leaf_before(links: &Links, block: Key, point: &Point) -> Option<Key>
     None
 }
 
-/// The first leaf of the block behind the point. What stands behind the block isn't looked at.
+/// The first leaf of the block after the point. What comes after the block isn't looked at.
 fn leaf_behind(links: &Links, block: Key, point: &Point) -> Option<Key>
     requires point { lookups.is_attached links.now point.now.key ≡ true }
     requires block { lookups.is_attached links.now block ≡ true }
@@ -297,7 +297,7 @@ fn leaf_behind(links: &Links, block: Key, point: &Point) -> Option<Key>
     None
 }
 
-/// The first node behind the tree of a key, with its depth.
+/// The first node after the tree of a key, with its depth.
 fn end_of(links: &Links, key: Key) -> Option<(Key, u32)>
     requires { lookups.is_attached links.now key ≡ true }
     ensures { IfSome result (λ next. lookups.behind links.now key ≡ lookups.from links.now next.0) }

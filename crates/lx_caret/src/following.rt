@@ -1,4 +1,4 @@
-//! The block that comes behind one that is cut.
+//! The block that comes after one that is cut.
 
 ghost use Rattle.std.specs.Prelude.{◌≡◌, ◌≢◌, true, if◌then◌else◌, OnOk, IfOk, IfErr};
 ghost use Rattle.std.specs.List.{list_all};
@@ -20,7 +20,7 @@ use lx_node::{ElementFields, Extra, Fault, Fields, Key, Kind, NoMemory, Node};
 use lx_range::{is_inline_at, node_at};
 use std::alloc::Global;
 
-/// Makes the block that comes behind one, into which these nodes go, and answers its key.
+/// Makes the block that comes after one, into which these nodes go, and answers its key.
 pub(crate) fn make_next(
     alloc: Global,
     draft: &mut Draft,
@@ -37,7 +37,7 @@ pub(crate) fn make_next(
     draft.new_node(kind, fields)
 }
 
-/// The kind and the fields of the block that comes behind one, into which these nodes go.
+/// The kind and the fields of the block that comes after one, into which these nodes go.
 fn next_of(
     alloc: Global,
     links: &Links,
@@ -79,7 +79,7 @@ fn next_of_node(
     }
 }
 
-/// What comes behind a quote: a paragraph, where what goes into it is a line of text.
+/// What comes after a quote: a paragraph, where what goes into it is a line of text.
 fn next_of_quote(links: &Links, moved: &[Key]) -> Kind
     ensures { result ≡ (if list_all (blocks.is_at kinds.is_inline links.now) moved.now then Paragraph else Quote) }
 {
@@ -96,7 +96,7 @@ fn are_inline(links: &Links, keys: &[Key]) -> bool
     keys.iter().all(|key| is_inline_at(links, *key))
 }
 
-/// The fields of the item that comes behind one. Only whether there is a check mark is taken over.
+/// The fields of the item that comes after one. Only whether there is a check mark is taken over.
 fn next_item(alloc: Global, fields: &Fields) -> Fields
     ensures { result ≡ paragraphs.item_like (Some fields.now) }
 {

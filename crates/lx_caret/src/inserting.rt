@@ -147,7 +147,7 @@ pub(crate) fn put_text(alloc: Global, draft: &mut Draft, text: &str) -> Result<(
     type_at(alloc, draft, text, &range.anchor, range.format)
 }
 
-/// The place behind a node in its parent.
+/// The place after a node in its parent.
 pub fn place_behind(links: &Links, key: Key) -> Point
     ensures { result ≡ inserting.place_behind links.now key }
 {
@@ -157,7 +157,7 @@ pub fn place_behind(links: &Links, key: Key) -> Point
     }
 }
 
-/// Puts a line break at a point, and the caret behind it.
+/// Puts a line break at a point, and the caret after it.
 #[tactic(auto, unfolding(crate::specs::Inserting::broken), using(crate::proofs::Made::break_suits, crate::proofs::Made::newest_is))]
 fn break_at(alloc: Global, draft: &mut Draft, point: &Point) -> Result<(), Fault>
     ensures ok { OnOk result ((format : ℕ) → inserting.broken point.now format draft.old ≡ Ok draft.new) }
@@ -196,7 +196,7 @@ fn tab_fields(alloc: Global, format: u16) -> Result<Fields, NoMemory>
     }))
 }
 
-/// Puts a tab at a point, and the caret behind its character.
+/// Puts a tab at a point, and the caret after its character.
 #[tactic(auto, unfolding(crate::specs::Inserting::tabbed), using(crate::proofs::Made::tab_suits, crate::proofs::Made::newest_is))]
 fn tab_at(alloc: Global, draft: &mut Draft, point: &Point, format: u16) -> Result<(), Fault>
     ensures ok { OnOk result (inserting.tabbed point.now format draft.old ≡ Ok draft.new) }

@@ -1,4 +1,4 @@
-//! Joining a block with the line before or behind it.
+//! Joining a block with the line before or after it.
 
 ghost use Rattle.std.specs.Prelude.{◌≡◌, ◌+◌, ◌<◌, ◌≤◌, ◌^◌, ◌==◌, ◌&&◌, not, if◌then◌else◌, true, length, Ok, OnOk, IfErr, IfSome};
 ghost use Rattle.lx_node.specs.Kinds as kinds;
@@ -20,7 +20,7 @@ use lx_range::{
 };
 use std::alloc::Global;
 
-/// Joins a block back to the line before it, or the line behind it to the line before that one. A rule that is met is
+/// Joins a block back to the line before it, or the line after it to the line before that one. A rule that is met is
 /// removed in place of that, and a table stops it.
 #[tactic(auto, unfolding(crate::specs::Deleting::join_step))]
 pub(crate) fn join(alloc: Global, draft: &mut Draft, back: bool, block: Key) -> Result<(), Fault>
@@ -63,7 +63,7 @@ fn join_with(alloc: Global, draft: &mut Draft, found: Key, block: Key) -> Result
     }
 }
 
-/// Joins the line behind a block back, or removes the rule behind it.
+/// Joins the line after a block back, or removes the rule after it.
 fn join_on(alloc: Global, draft: &mut Draft, block: Key) -> Result<(), Fault>
     requires { lookups.is_attached draft.old.forest block ≡ true }
     ensures ok { OnOk result (deleting.on_to (deleting.stop_behind draft.old.forest block) draft.old ≡ Ok draft.new) }
@@ -121,7 +121,7 @@ fn stop_before(links: &Links, block: Key) -> Option<Key>
     None
 }
 
-/// The first line, rule or table of the block's frame behind the block.
+/// The first line, rule or table of the block's frame after the block.
 fn stop_behind(links: &Links, block: Key) -> Option<Key>
     requires { lookups.is_attached links.now block ≡ true }
     ensures stop { result ≡ deleting.stop_behind links.now block }
@@ -149,7 +149,7 @@ fn with_depth(links: &Links, key: Key) -> Option<(Key, u32)>
     Some((key, depth))
 }
 
-/// The place behind a child if it is inline, or else the one so far.
+/// The place after a child if it is inline, or else the one so far.
 fn place_behind(links: &Links, child: Key, here: u32, so_far: u32) -> u32
     ensures { result ≡ (if blocks.is_at kinds.is_inline links.now child then here else so_far) }
 {
@@ -160,7 +160,7 @@ fn place_behind(links: &Links, child: Key, here: u32, so_far: u32) -> u32
     }
 }
 
-/// How many of the line's children stand before the last inline one before the block, itself among them.
+/// How many of the line's children come before the last inline one before the block, itself among them.
 fn inline_place(links: &Links, line: Key, block: Key) -> u32
     ensures place { result ≡ deleting.inline_place links.now line block }
     ensures within { result ≤ lookups.size_of links.now line }
@@ -177,7 +177,7 @@ fn inline_place(links: &Links, line: Key, block: Key) -> u32
     so_far
 }
 
-/// Moves the block's leading inline children, and the points on it, behind the line's inline children before it.
+/// Moves the block's leading inline children, and the points on it, after the line's inline children before it.
 #[tactic(auto, unfolding(crate::specs::Deleting::line_joined))]
 fn join_line(alloc: Global, draft: &mut Draft, line: Key, block: Key) -> Result<(), Fault>
     ensures ok { OnOk result (deleting.line_joined line block draft.old ≡ Ok draft.new) }

@@ -131,7 +131,7 @@ pub fn cut_text(alloc: Global, draft: &mut Draft, point: &Point) -> Result<(), F
     Ok(())
 }
 
-/// Moves nodes into a new block behind one, and the caret to its start.
+/// Moves nodes into a new block after one, and the caret to its start.
 #[tactic(auto, unfolding(crate::specs::Paragraphs::moved_on))]
 fn move_on(alloc: Global, draft: &mut Draft, block: Key, moved: &[Key]) -> Result<(), Fault>
     requires { blocks.is_at kinds.is_text_block draft.old.forest block ≡ true }

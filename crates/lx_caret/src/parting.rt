@@ -16,7 +16,7 @@ use lx_node::{Fault, Key, NoMemory, Point, PointKind};
 use lx_range::{children_from, is_link_at, make_like};
 use std::alloc::Global;
 
-/// How many children of its parent stand before an offset of a node: the node itself does so where it isn't 0.
+/// How many children of its parent come before an offset of a node: the node itself does so where it isn't 0.
 #[tactic(auto, using(lx_range::proofs::Passing::index_fits))]
 fn place_above(links: &Links, key: Key, offset: u32) -> u32
     ensures { result ≡ paragraphs.place_of (lookups.index_of links.now key) offset }
@@ -27,7 +27,7 @@ fn place_above(links: &Links, key: Key, offset: u32) -> u32
     }
 }
 
-/// How many children of what holds a point stand before it.
+/// How many children of what holds a point come before it.
 fn before_point(links: &Links, point: &Point) -> u32
     ensures { result ≡ paragraphs.before_point links.now point.now point.now.kind }
 {
@@ -76,7 +76,7 @@ fn has_both_sides(links: &Links, key: Key, index: u32) -> bool
     0 < index && index < links.size(key)
 }
 
-/// Moves the children of a link from an index on into a new one like it, behind it.
+/// Moves the children of a link from an index on into a new one like it, after it.
 #[tactic(auto, unfolding(crate::specs::Paragraphs::parted_at))]
 fn part_at(alloc: Global, draft: &mut Draft, key: Key, index: u32) -> Result<(), Fault>
     requires { blocks.is_at kinds.is_link draft.old.forest key ≡ true }
@@ -104,7 +104,7 @@ fn part_link(alloc: Global, draft: &mut Draft, key: Key, index: u32) -> Result<(
     }
 }
 
-/// Parts a node at a place among its children, and answers that place among its parent's: behind what stayed.
+/// Parts a node at a place among its children, and answers that place among its parent's: after what stayed.
 fn part(alloc: Global, draft: &mut Draft, key: Key, index: u32) -> Result<u32, Fault>
     ensures ok { OnOk result (paragraphs.link_parted key index draft.old ≡ Ok draft.new) }
     ensures place { IfOk result (λ place. place ≡ paragraphs.place_of (lookups.index_of draft.new.forest key) index) }
@@ -115,7 +115,7 @@ fn part(alloc: Global, draft: &mut Draft, key: Key, index: u32) -> Result<u32, F
     Ok(place_above(draft.links(), key, index))
 }
 
-/// Parts nodes at a place, the innermost first, and answers how many children of what is above them stand before it.
+/// Parts nodes at a place, the innermost first, and answers how many children of what is above them come before it.
 #[tactic(auto, using(crate::proofs::Parted::parts_done))]
 fn part_each(alloc: Global, draft: &mut Draft, keys: &[Key], index: u32) -> Result<u32, Fault>
     ensures ok { IfOk result (λ place. paragraphs.parted_up keys.now index draft.old ≡ Ok (record { draft = draft.new; index = place })) }
@@ -132,7 +132,7 @@ fn part_each(alloc: Global, draft: &mut Draft, keys: &[Key], index: u32) -> Resu
     Ok(place)
 }
 
-/// Parts what holds a point, up to the block, and answers how many of the block's children stand before it.
+/// Parts what holds a point, up to the block, and answers how many of the block's children come before it.
 pub fn part_up(alloc: Global, draft: &mut Draft, block: Key, point: &Point) -> Result<u32, Fault>
     ensures ok { IfOk result (λ place. paragraphs.parted_up (paragraphs.holders_in draft.old.forest block point.now) (paragraphs.before_point draft.old.forest point.now point.now.kind) draft.old ≡ Ok (record { draft = draft.new; index = place })) }
     ensures err { IfErr result (λ e. TellsStep e (paragraphs.parted_up (paragraphs.holders_in draft.old.forest block point.now) (paragraphs.before_point draft.old.forest point.now point.now.kind) draft.old)) }

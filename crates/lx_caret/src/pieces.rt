@@ -201,7 +201,7 @@ fn keep_key(keys: &mut Vec<Key>, key: Key) -> Result<(), NoMemory>
 }
 
 /// Brings each piece into a text by itself, and answers the keys of these texts. Only the first piece may begin
-/// behind the start of its text.
+/// after the start of its text.
 #[tactic(auto, using(crate::proofs::Isolating::way_begins))]
 pub(crate) fn isolate_each(
     alloc: Global,

@@ -27,7 +27,7 @@ fn last_leaf(links: &Links) -> Key
     at
 }
 
-/// The place behind a node in its parent.
+/// The place after a node in its parent.
 #[tactic(auto, using(lx_range::proofs::Passing::index_fits))]
 fn place_behind(links: &Links, key: Key) -> Point
     ensures { result ≡ selecting.place_at 1 key (lookups.parent_of links.now key) (lookups.index_of links.now key) }
@@ -38,7 +38,7 @@ fn place_behind(links: &Links, key: Key) -> Point
     }
 }
 
-/// Where a leaf ends: with its characters, at the start of an empty element, or behind any other in its parent.
+/// Where a leaf ends: with its characters, at the start of an empty element, or after any other in its parent.
 fn end_at(draft: &Draft, key: Key) -> Point
     ensures { result ≡ selecting.end_at draft.now.forest (Some key) }
 {

@@ -32,7 +32,7 @@ left_out-swap : (n : ℕ) (ns xs : List ℕ) → left_out ns (names_without n xs
 left_out-swap n [] xs = refl
 left_out-swap n (m ∷ ns) xs = ap (left_out ns) (names_without-swap m n xs) ∙ left_out-swap n ns (names_without m xs)
 
--- a new name behind another, left out again
+-- a new name after another, left out again
 names_without-in_place : (k n : ℕ) (xs : List ℕ) → k ≢ n → is_among n xs ≡ false → names_without n (in_place_of k (k ∷ n ∷ []) xs) ≡ xs
 names_without-in_place k n [] other absent = refl
 names_without-in_place k n (x ∷ xs) other absent =

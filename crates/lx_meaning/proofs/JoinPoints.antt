@@ -88,7 +88,7 @@ module _ (first second : ℕ) (w v : Working) (h : IsForest w.forest) (j : AreJo
   moved : Point → Point
   moved x = joined_point first second (length_at w.forest first) (length_told (text_at w.forest second)) j.place.parent j.place.index x
 
-  -- those in the first stay, and those in the second come behind its text
+  -- those in the first stay, and those in the second come after its text
   on_first : (x : Point) → x.key ≡ first → x.offset ≤ length_at w.forest x.key → moved x ≡ x
   unfolding moved
   on_first x own within =
@@ -117,7 +117,7 @@ module _ (first second : ℕ) (w v : Working) (h : IsForest w.forest) (j : AreJo
       ∙ ap (take_moves j.place.parent j.place.index) (join_stays first end second x far.1)
       ∙ take_stays j.place.parent j.place.index x (inl text)
 
-  -- the place in the second, behind all of the first
+  -- the place in the second, after all of the first
   place_second : (o : ℕ) → text_length (text_at w.forest first ++ text_at w.forest second) ≤ last_u32 → o ≤ length_at w.forest second → offset_sum (length_at w.forest first) o ≡ length_at w.forest first + o
   place_second o fits within =
       sum_within (length_at w.forest first) o

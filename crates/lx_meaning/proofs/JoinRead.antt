@@ -1,5 +1,5 @@
--- What is read after a join: below any node but the two the same as before, since the texts stand next to each other, and
--- nothing stands below them.
+-- What is read after a join: below any node but the two the same as before, since the texts come next to each other, and
+-- nothing is below them.
 use Rattle.lx_draft.proofs.Gaps.{parent_here}
 use Rattle.lx_draft.specs.Working.{Working}
 use Rattle.lx_forest.proofs.Lookups.{NoRepeats-children_of}
@@ -19,7 +19,7 @@ use Rattle.std.proofs.Common.{List, Some, [], ap, append_assoc, ap₂, arith, eq
 use Rattle.std.proofs.lemmas.Bool.Decides.{eqb_tells}
 use Rattle.lx_node.specs.declared.kind.Kind.TheVariants as kinds
 
--- two that stand next to each other are read as the one that has both texts
+-- two that come next to each other are read as the one that has both texts
 reads_joined : (f g : Forest) (first second : ℕ) (ks : List ℕ) → NoRepeats ks → next_in ks first ≡ Some second → read_below g first ≡ read_below f first ++ read_below f second
     → ((q : ℕ) → is_among q ks ≡ true → q ≢ first → q ≢ second → read_below g q ≡ read_below f q) → reads_of g (names_without second ks) ≡ reads_of f ks
 reads_joined f g first second [] once next both others = absurd (cc)

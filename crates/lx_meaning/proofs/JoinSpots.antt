@@ -1,4 +1,4 @@
--- Where each node stands after a join, and with which label.
+-- Where each node is after a join, and with which label.
 use Rattle.lx_draft.specs.Faults.{text_in}
 use Rattle.lx_draft.specs.Steps.{text_replaced}
 use Rattle.lx_draft.specs.Working.{Working}

@@ -1,4 +1,4 @@
--- What a join did: two texts stood beside each other, the first got the second's text behind its own, and the second was
+-- What a join did: two texts were beside each other, the first got the second's text after its own, and the second was
 -- taken out.
 use Rattle.lx_draft.proofs.Covered.{answered}
 use Rattle.lx_draft.proofs.Put.{both_none}
@@ -56,13 +56,13 @@ text_there f k from to (Some s) here e = by_text (text_fields s.label.kind s.lab
 pub text_spliced : (f : Forest) (k from to : ℕ) → splice_fault k from to f ≡ None → (t : TextFields) × (text_in (label_of f k) ≡ Some t)
 text_spliced f k from to e = text_there f k from to (spot f k) refl e
 
--- a text's fields with more behind its own text
+-- a text's fields with more after its own text
 abbrev pub with_behind : TextFields → List ℕ → Fields
 with_behind own more = text_replaced own (own.text ++ more)
 
 -- ---- two beside each other
 
--- two children of one node, the second right behind the first
+-- two children of one node, the second right after the first
 pub record AreBeside (f : Forest) (first second : ℕ) : Type 0 where
   pub parent : ℕ
   pub up : parent_of f first ≡ Some parent
@@ -72,7 +72,7 @@ pub record AreBeside (f : Forest) (first second : ℕ) : Type 0 where
   pub index : ℕ
   pub at : index_of f second ≡ Some index
 
--- what comes right behind a name is another
+-- what comes right after a name is another
 next_apart : (xs : List ℕ) (q n : ℕ) → NoRepeats xs → next_in xs q ≡ Some n → q ≢ n
 next_apart [] q n once e same = absurd (cc)
 next_apart (x ∷ xs) q n once e same =
@@ -81,7 +81,7 @@ next_apart (x ∷ xs) q n once e same =
       | inr other ↦ next_apart xs q n once.1 (grind (arith, other, e)) same
     ]
 
--- a node with a parent stands at an index there
+-- a node with a parent is at an index there
 stands : (f : Forest) (k p : ℕ) → IsForest f → parent_of f k ≡ Some p → (i : ℕ) × (index_of f k ≡ Some i)
 stands f k p h up =
     let among : is_some (index_of f k) ≡ true = is_some-index_in (siblings f k) k ∙ ap (λ o. is_among k (children_below f o)) up ∙ is_among-children_of f k p h ∙ rw up (grind (arith, eqb_tells p p)) in
@@ -116,7 +116,7 @@ beside f first second h e = beside_by f (parent_of f first) first second h refl 
 abbrev pub joined_point : ℕ → ℕ → ℕ → ℕ → ℕ → ℕ → Point → Point
 joined_point first second end len parent index x = take_moves parent index (join_moves first end second (splice_moves first end end len x))
 
--- two texts were joined, the second of which stood right behind the first: what the first has now, and where points went
+-- two texts were joined, the second of which came right after the first: what the first has now, and where points went
 pub record AreJoined (first second : ℕ) (w v : Working) : Type 0 where
   pub own : TextFields
   pub own_is : text_in (label_of w.forest first) ≡ Some own
@@ -145,7 +145,7 @@ none_of first second f e =
 known_there : (f : Forest) (k : ℕ) → unknown f k ≡ None → has k f ≡ true
 known_there f k e = grind (arith, e)
 
--- what these causes tell where they aren't there
+-- what these causes say where they aren't there
 next_is : (o : Option ℕ) (k : ℕ) → cond (is_key o k) None (Some (BadPlace k)) ≡ None → o ≡ Some k
 next_is None k e = absurd (cc)
 next_is (Some x) k e = grind (arith, e, eqb_tells x k)
@@ -182,7 +182,7 @@ spliced_of first second w s e =
       selection = ap (λ (x : Working). x.selection) (sym told.1);
     }
 
--- its new fields, where offsets tell every place of both texts
+-- its new fields, where offsets can say every place of both texts
 spliced_fields : (f : Forest) (k : ℕ) (t : TextFields) (more : List ℕ) → text_in (label_of f k) ≡ Some t → text_length (t.text ++ more) ≤ last_u32
     → label_with_piece (label_of f k) (length_at f k) (length_at f k) more ≡ with_behind t more
 spliced_fields f k t more is fits =
@@ -232,7 +232,7 @@ joined_of first second w s v h none fits spliced e =
           ∙ each_point-then (take_moves place.parent place.index) (λ x. join_moves first end second (splice_moves first end end (length_told text) x)) w.selection;
     }
 
--- what a join did that wasn't refused, where offsets tell every place of both texts
+-- what a join did that wasn't refused, where offsets can say every place of both texts
 pub are_joined : (first second : ℕ) (w v : Working) → IsForest w.forest → text_length (text_at w.forest first ++ text_at w.forest second) ≤ last_u32 → join_step first second w ≡ Ok v → AreJoined first second w v
 unfolding join_step
 are_joined first second w v h fits e =

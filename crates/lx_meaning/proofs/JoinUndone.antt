@@ -78,7 +78,7 @@ rejoined_then k n rest v w u h apart j more = record {
 fits_first : (a b c : List ℕ) → text_length (a ++ (b ++ c)) ≤ last_u32 → text_length (a ++ b) ≤ last_u32
 fits_first a b c fits = omega (arith, fits, length-append a (b ++ c), length-append b c, length-append a b)
 
--- all of them, where offsets tell every place of the whole
+-- all of them, where offsets can say every place of the whole
 rejoined : (k : ℕ) (new : List ℕ) (v u : Working) → IsReady v → is_among k new ≡ false → text_length (texts_of v.forest (k ∷ new)) ≤ last_u32 → in_turn (join_step k) new v ≡ Ok u → IsRejoined k new v u
 unfolding in_turn
 rejoined k [] v u r apart fits e = let same : v ≡ u = let f : ◌≡◌ {A = Result Working Cause} (Ok v) (Ok u) = e in cc in subst (IsRejoined k [] v) same (unjoined k v)

@@ -41,7 +41,7 @@ texts_of-append f [] ys = refl
 texts_of-append f (x ∷ xs) ys =
     ap (λ cs. text_at f x ++ cs) (texts_of-append f xs ys) ∙ sym (append_assoc (text_at f x) (texts_of f xs) (texts_of f ys))
 
--- what is read below nodes, one behind another
+-- what is read below nodes, one after another
 abbrev pub reads_of : Forest → List ℕ → List ℕ
 reads_of f [] = []
 reads_of f (k ∷ ks) = read_below f k ++ reads_of f ks
@@ -97,7 +97,7 @@ pub read-level_same : (f g : Forest) (b : ℕ) → IsForest f → IsForest g →
 read-level_same f g b h j label below =
     read-level g b j ∙ ap₂ (λ a b. a ++ b) (ap (λ l. text_or_none (text_in l)) label) below ∙ sym (read-level f b h)
 
--- others stand in the place of one of a list, and the same is read
+-- others are in the place of one of a list, and the same is read
 pub reads-in_place : (f g : Forest) (k : ℕ) (new ks : List ℕ) → NoRepeats ks → reads_of g new ≡ read_below f k
     → ((q : ℕ) → is_among q ks ≡ true → q ≢ k → read_below g q ≡ read_below f q) → reads_of g (in_place_of k new ks) ≡ reads_of f ks
 reads-in_place f g k new [] once same each = refl

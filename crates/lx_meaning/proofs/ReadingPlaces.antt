@@ -1,4 +1,4 @@
--- Names that stand in the place of one of a list.
+-- Names that are in the place of one of a list.
 use Rattle.std.proofs.Common.{◌≡◌, ◌≢◌, ◌∙◌, ℕ, zero, suc, ◌+◌, false, List, [], ◌∷◌, Some, refl, ap, arith, add-one}
 use Rattle.std.specs.Prelude.{slice_get}
 use Rattle.std.proofs.lemmas.Bool.Decides.{eqb_tells}
@@ -17,7 +17,7 @@ pub in_place_of-absent : (k : ℕ) (new ks : List ℕ) → is_among k ks ≡ fal
 in_place_of-absent k new [] e = refl
 in_place_of-absent k new (x ∷ xs) e = grind (arith, e, in_place_of-absent k new xs)
 
--- a name comes right behind another
+-- a name comes right after another
 behind_first : (n x : ℕ) (xs : List ℕ) → is_among x xs ≡ false → names_with (slice_get xs 0) (n ∷ []) (x ∷ xs) ≡ x ∷ n ∷ xs
 behind_first n x [] e = refl
 behind_first n x (y ∷ ys) e = grind (arith, e, eqb_tells x y, eqb_tells y x, eqb_tells y y)
@@ -31,7 +31,7 @@ behind_index n k (suc i) (x ∷ xs) once at =
 pub names_with-behind : (n k i : ℕ) (ks : List ℕ) → NoRepeats ks → index_in ks k ≡ Some i → names_with (slice_get ks (i + 1)) (n ∷ []) ks ≡ in_place_of k (k ∷ n ∷ []) ks
 names_with-behind n k i ks once at = ap (λ j. names_with (slice_get ks j) (n ∷ []) ks) (add-one i) ∙ behind_index n k i ks once at
 
--- what stands in the place of a name that came in the place of another
+-- what is in the place of a name that came in the place of another
 pub in_place_of-twice : (k n : ℕ) (new ks : List ℕ) → k ≢ n → is_among n ks ≡ false → in_place_of n new (in_place_of k (k ∷ n ∷ []) ks) ≡ in_place_of k (k ∷ new) ks
 in_place_of-twice k n new [] other absent = refl
 in_place_of-twice k n new (x ∷ xs) other absent =

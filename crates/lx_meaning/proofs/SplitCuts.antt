@@ -90,7 +90,7 @@ unfolding splice_step
 splice_is k from to new b c e =
     (answered (option_or (splice_fault k from to b.forest) (over_limits (length new) b)) (fields_written k (label_with_piece (label_of b.forest k) from to new) (length new) (splice_points k from to new) b) c e).1
 
--- what a put behind a node leaves
+-- what a put after a node leaves
 record IsBehind (n k : ℕ) (c d : Working) : Type 0 where
   parent : ℕ
   index : ℕ
@@ -213,7 +213,7 @@ cut_tells k offset t w v ready text e =
     let put : IsBehind n k (front_left k offset t w) v = behind_is n k (front_left k offset t w) v (ap (put_behind_step n k) c_is ∙ two.2) in
     behind_leaves k offset t w v ready text (cut_path covered_path k offset w v ready tt e).ready (cut-next_key k offset w v e) put
 
--- ---- keys before a cut and behind it
+-- ---- keys before a cut and after it
 
 module _ {k offset : ℕ} {t : TextFields} {w u : Working} (ready : IsReady w) (c : IsCut k offset t w u) where
   pub new_free : has w.next_key w.forest ≡ false

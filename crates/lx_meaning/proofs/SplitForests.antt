@@ -1,4 +1,4 @@
--- A forest in which a text was cut: what it leaves is written, and a new text that has the rest stands right behind it.
+-- A forest in which a text was cut: what it leaves is written, and a new text that has the rest comes right after it.
 use Rattle.std.proofs.Common.{◌≡◌, ◌≢◌, ◌∙◌, ℕ, ◌+◌, false, cond, eqb, ◌||◌, [], ◌∷◌, Option, None, Some, refl, sym, ap, arith}
 use Rattle.std.specs.Prelude.{option_map, slice_get}
 use Rattle.std.proofs.lemmas.Bool.Decides.{eqb_tells}
@@ -13,7 +13,7 @@ use Rattle.lx_forest.proofs.Lookups.{NoRepeats-children_of, key-label_of, has-ch
 use Rattle.lx_meaning.specs.Reading.{in_place_of}
 use Rattle.lx_meaning.proofs.ReadingPlaces.{names_with-behind}
 
--- in g the text k of f has the fields x, and a new node of the label l stands right behind it, below p
+-- in g the text k of f has the fields x, and a new node of the label l comes right after it, below p
 pub record CutsTo (f g : Forest) (k p : ℕ) (x : Fields) (l : Label) : Type 0 where
   pub in_order : IsForest g
   pub keys : (q : ℕ) → has q g ≡ (has q f || eqb q l.key)
@@ -68,7 +68,7 @@ module _ (f : Forest) (k p i : ℕ) (x : Fields) (l : Label) (h : IsForest f) (f
   spot_halved : (q : ℕ) → q ≢ k → q ≢ l.key → spot halved q ≡ spot f q
   spot_halved q other old = grind (arith, other, old, spot-with_fields k x a q, spot-with_new l f q h free, eqb_tells q l.key, eqb_tells q k)
 
-  -- put right behind k
+  -- put right after k
   pub cuts : CanPut p l.key halved → index_of halved k ≡ Some i → CutsTo f (put_in p (slice_get (children_of halved p) (i + 1)) l.key halved) k p x l
   cuts can at =
       let before : Option ℕ = slice_get (children_of halved p) (i + 1) in

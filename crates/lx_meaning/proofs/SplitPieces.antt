@@ -27,7 +27,7 @@ use Rattle.lx_meaning.proofs.ReadingPlaces.{in_place_of-self, in_place_of-twice}
 use Rattle.lx_meaning.proofs.SplitCuts.{text_label, label_is, IsCut, cut_tells, new_free, stays_there, not_new, text_there, parent_there, not_above, above_old, far_from, far_from_new}
 use Rattle.lx_meaning.proofs.SplitTexts.{IsCutAt, piece-front, piece-back, piece-parts, offsets}
 
--- The text k of the draft w, which has what is behind a place of a whole text, was cut at offsets of that, and the new ones
+-- The text k of the draft w, which has what is after a place of a whole text, was cut at offsets of that, and the new ones
 -- are these.
 pub record IsParted (k start : ℕ) (offsets new text : List ℕ) (t : TextFields) (w v : Working) : Type 0 where
   pub ready : IsReady v
@@ -131,7 +131,7 @@ module _ (k start o : ℕ) (rest new text : List ℕ) (t : TextFields) (w u v : 
 
 -- ---- the whole
 
--- a place that offsets are looked for behind
+-- a place that offsets are looked for after
 pub cut_place : (start o : ℕ) (rest text : List ℕ) → is_offset start text ≡ true → text_length text ≤ last_u32 → bad_offset start text (o ∷ rest) ≡ None → IsCutAt start o text
 cut_place start o rest text begin few none =
     let a = offsets start o text rest none in

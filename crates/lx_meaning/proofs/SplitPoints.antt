@@ -132,7 +132,7 @@ below_keys : (q k : ℕ) (count : ℕ) → q < k → is_among q (keys_from k cou
 below_keys q k zero less = refl
 below_keys q k (suc count) less = grind (arith, less, eqb_tells k q, below_keys q (k + 1) count (omega (arith, less)))
 
--- a point of a key that isn't the first of these is behind what the first has
+-- a point of a key that isn't the first of these is after what the first has
 behind_first : (f : Forest) (k : ℕ) (new : List ℕ) (x : Point) → is_among k new ≡ false → is_among x.key new ≡ true → place_among f (k ∷ new) x ≡ length_at f k + place_among f new x
 behind_first f k new x absent among =
     elim (eqb_tells x.key k) [
@@ -169,7 +169,7 @@ module _ (k start o : ℕ) (rest new text : List ℕ) (t : TextFields) (w u v : 
       ap go.moved (cut_moves-front k n (o - start) (length_told t.text) c.parent c.index x within apart)
       ∙ go.still x (ap (λ q. has q u.forest) own ∙ stays_there ready c k (text_there ready c)) other (inr (far_from_new ready c x.key apart))
 
-  -- and behind it, it goes to the rest
+  -- and after it, it goes to the rest
   pushed : Point → Point
   pushed x = record x { key = n; offset = x.offset - (o - start) }
 

@@ -9,14 +9,14 @@ use Rattle.lx_edit.specs.Conditions.{bad_offset}
 
 -- ---- lengths
 
--- a place in a text, behind another
+-- a place in a text, after another
 pub record IsCutAt (start o : ℕ) (text : List ℕ) : Type 0 where
   pub order : start ≤ o
   pub first : is_offset start text ≡ true
   pub second : is_offset o text ≡ true
   pub few : text_length text ≤ last_u32
 
--- the rest of a text is what is behind a place
+-- the rest of a text is what comes after a place
 pub rest-is : (start : ℕ) (text : List ℕ) → is_offset start text ≡ true → text_length text ≤ last_u32 → slice_of start (length_told text) text ≡ rest_of start text
 rest-is start text here few = ap (λ n. slice_of start n text) (told.told-all text few) ∙ told.slice-back start text here
 

@@ -1,4 +1,4 @@
--- All that is told of wrapping, unwrapping, moving children and replacing.
+-- All that is said of wrapping, unwrapping, moving children and replacing.
 use Rattle.std.proofs.Common.{◌≡◌, ◌∙◌, ℕ, [], ◌∷◌, Some, sym, subst}
 use Rattle.std.proofs.lemmas.Option.{same_Some}
 use Rattle.lx_forest.specs.Lookups.{parent_of, children_of}

@@ -110,7 +110,7 @@ module _ (f g : Forest) (p k outer : ℕ) (s : HasWrapped f g p k outer) where
       ∙ ap (λ b. cond b (names_with None (k ∷ []) (names_without k (children_of (beside p k outer f) outer))) (names_without k (children_of (beside p k outer f) outer))) (own outer)
       ∙ ap (λ xs. names_with None (k ∷ []) (names_without k xs)) none
 
-  -- .. which stands in the place of k
+  -- .. which is in the place of k
   pub outer_place : children_of g p ≡ in_place_of k (outer ∷ []) (children_of f p)
   outer_place =
       left_children p parent_other

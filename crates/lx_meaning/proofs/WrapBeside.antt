@@ -15,14 +15,14 @@ own q = grind (arith, eqb_tells q q)
 pub different : (q k : ℕ) → q ≢ k → eqb q k ≡ false
 different q k other = grind (arith, other, eqb_tells q k)
 
--- a node stands below one parent alone
+-- a node is below one parent alone
 pub not_child : (f : Forest) (k p q : ℕ) → IsForest f → parent_of f k ≡ Some p → p ≢ q → is_among k (children_of f q) ≡ false
 not_child f k p q h up other = is_among-children_of f k q h ∙ rw up (different q p (λ e. other (sym e)))
 
 abbrev pub beside : ℕ → ℕ → ℕ → Forest → Forest
 beside p k new f = put_in p (Some k) new f
 
--- the new one may stand before k, which is a child of p
+-- the new one may come before k, which is a child of p
 pub record MayStandBefore (f : Forest) (p k new : ℕ) : Type 0 where
   pub in_order : IsForest f
   pub up : parent_of f k ≡ Some p

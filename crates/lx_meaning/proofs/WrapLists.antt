@@ -13,7 +13,7 @@ use Rattle.lx_meaning.specs.Reading.{text_at, texts_of, in_place_of}
 
 -- ---- without repeats
 
--- what stands in the first of two lists doesn't stand in the second
+-- what is in the first of two lists isn't in the second
 pub apart : (xs ys : List ℕ) (q : ℕ) → NoRepeats (xs ++ ys) → is_among q xs ≡ true → is_among q ys ≡ false
 apart [] ys q u e = absurd (cc)
 apart (x ∷ xs) ys q u e = grind (arith, e, u.0, is_among-append x xs ys, eqb_tells x q, apart xs ys q u.1)
@@ -32,7 +32,7 @@ filter-gone keep (x ∷ xs) each =
 
 -- ---- names before another
 
--- of names that come before one in two parts, the second part comes behind the first
+-- of names that come before one in two parts, the second part comes after the first
 pub names_with-twice : (k c : ℕ) (new xs : List ℕ) → eqb c k ≡ false → names_with (Some k) new (names_with (Some k) (c ∷ []) xs) ≡ names_with (Some k) (c ∷ new) xs
 names_with-twice k c new [] other = grind (arith, other)
 names_with-twice k c new (x ∷ xs) other =
@@ -46,12 +46,12 @@ pub names_with-none : (k : ℕ) (xs : List ℕ) → names_with (Some k) [] xs �
 names_with-none k [] = refl
 names_with-none k (x ∷ xs) = grind (arith, names_with-none k xs)
 
--- and at the end they come one behind another
+-- and at the end they come one after another
 pub names_with-end : (c : ℕ) (xs : List ℕ) → names_with None (c ∷ []) xs ≡ xs ++ (c ∷ [])
 names_with-end c [] = refl
 names_with-end c (x ∷ xs) = ap (λ ys. x ∷ ys) (names_with-end c xs)
 
--- where the name itself leaves, those before it stand in its place
+-- where the name itself leaves, those before it are in its place
 pub in_its_place : (k : ℕ) (new xs : List ℕ) → NoRepeats xs → is_among k xs ≡ true → is_among k new ≡ false → names_without k (names_with (Some k) new xs) ≡ in_place_of k new xs
 in_its_place k new [] u among other = absurd (cc)
 in_its_place k new (x ∷ xs) u among other =
@@ -71,7 +71,7 @@ back_again k other (x ∷ xs) absent =
       | inr else ↦ grind (arith, else.0, absent, back_again k other xs)
     ]
 
--- of names in a row some leave that stand right behind one, and come before it
+-- of names in a row some leave that come right after one, and come before it
 pub moved_ahead : (keep : ℕ → Bool) (k : ℕ) (new rest front : List ℕ) → ((q : ℕ) → keep q ≡ not (is_among q new)) → NoRepeats (front ++ (k ∷ (new ++ rest)))
     → names_with (Some k) new (filter keep (front ++ (k ∷ (new ++ rest)))) ≡ front ++ (new ++ (k ∷ rest))
 moved_ahead keep k new rest [] says u =
@@ -104,7 +104,7 @@ pub texts_of-same : (f g : Forest) → ((q : ℕ) → text_at g q ≡ text_at f 
 texts_of-same f g same [] = refl
 texts_of-same f g same (x ∷ xs) = ap₂ ◌++◌ (same x) (texts_of-same f g same xs)
 
--- a name without a text may stand before others or behind them
+-- a name without a text may come before others or after them
 pub texts_of-swapped : (f : Forest) (k : ℕ) (front new rest : List ℕ) → text_at f k ≡ [] → texts_of f (front ++ (new ++ (k ∷ rest))) ≡ texts_of f (front ++ (k ∷ (new ++ rest)))
 texts_of-swapped f k front new rest silent =
     let one : texts_of f (k ∷ rest) ≡ texts_of f rest = ap (λ t. t ++ texts_of f rest) silent in

@@ -68,7 +68,7 @@ was_put_before k other p w v h up e =
     let put = was_put k p (gap_index (Some other) xs) w v (before_is w k p other h up ∙ e) in
     (put.0, put.1 ∙ ap (λ o. put_in p o k w.forest) (sym (gap_at (Some other) xs (child_of w.forest p other h up))))
 
--- what another is put before stands below something
+-- what another is put before is below something
 pub before_below : (k other : ℕ) (w v : Working) → put_before_step k other w ≡ Ok v → (p : ℕ) × (parent_of w.forest other ≡ Some p)
 before_below k other w v e =
     elim (cases_option (parent_of w.forest other)) [

@@ -176,7 +176,7 @@ read_unwrapped k w v b h e other =
     ∙ ap (λ f. read_below f b) u.same
     ∙ came.read u.silent b other
 
--- where there are children, they stand in the place of the node
+-- where there are children, they are in the place of the node
 in_place : (k p c : ℕ) (cs : List ℕ) (w v : Working) → IsForest w.forest → WasUnwrapped k w v → parent_of w.forest k ≡ Some p → children_of w.forest k ≡ c ∷ cs → children_of v.forest p ≡ in_place_of k (c ∷ cs) (children_of w.forest p)
 in_place k p c cs w v h u up below =
     let f : Forest = w.forest in

@@ -53,7 +53,7 @@ children_inside f b k h inside =
       by_spot None = refl
       by_spot (Some s) = refl
 
--- of a tree, what stands before a node in it, the node, the tree of its first child, and what is behind that
+-- of a tree, what comes before a node in it, the node, the tree of its first child, and what comes after that
 pub cut_at_first : (f : Forest) (b k c : ℕ) (cs : List ℕ) → IsForest f → is_within f b k ≡ true → is_within f b c ≡ true → children_of f k ≡ c ∷ cs
     → (front : List ℕ) × ((rest : List ℕ) × (keys_within f b ≡ front ++ (k ∷ (keys_within f c ++ rest))))
 cut_at_first f b k c cs h inside also below =

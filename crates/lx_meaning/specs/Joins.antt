@@ -16,13 +16,14 @@ use Rattle.lx_edit.specs.Texts.{join_step}
 use Rattle.lx_meaning.specs.Reading.{text_at, read_below, PlacesAreKept}
 use Rattle.lx_meaning.specs.Splits.{IsSplit}
 
--- a text of the draft w was joined with the one behind it, which left the draft v
+-- a text of the draft w was joined with the one after it, which left the draft v
 pub record IsJoined (first second : ℕ) (w v : Working) : Type 0 where
   pub ready : IsReady w
   pub joined : join_step first second w ≡ Ok v
-  -- offsets are numbers of a u32, and so tell every place of a text that is no longer
+  -- offsets are numbers of a u32, and so can say every place of a text that is no longer
   pub fits : text_length (text_at w.forest first ++ text_at w.forest second) ≤ last_u32
 
+-- what a join leaves: the first with both texts, the second gone, and all else as it was
 pub record JoinsAreTold : Type 0 where
   -- the first has both texts, one after the other ..
   pub text : (first second : ℕ) (w v : Working) → IsJoined first second w v →
@@ -38,7 +39,7 @@ pub record JoinsAreTold : Type 0 where
       is_among q (first ∷ second ∷ []) ≢ true → parent_of w.forest first ≢ Some q → spot v.forest q ≡ spot w.forest q
   -- each point in the two texts keeps its place in them
   pub points : (first second : ℕ) (w v : Working) → IsJoined first second w v → PlacesAreKept (first ∷ second ∷ []) (first ∷ []) w v
-  -- and below any other node the same is read, where each node holds what it may, so that nothing stands below a text
+  -- and below any other node the same is read, where each node holds what it may, so that nothing is below a text
   pub read : (first second : ℕ) (w v : Working) (b : ℕ) → IsJoined first second w v → IsHeld may_hold w.forest → has b w.forest ≡ true →
       is_among b (first ∷ second ∷ []) ≢ true → read_below v.forest b ≡ read_below w.forest b
   -- the pieces of a split that are joined again give the old tree

@@ -15,7 +15,7 @@ use Rattle.lx_draft.specs.Steps.{text_replaced}
 use Rattle.lx_edit.specs.Texts.{split_step, keys_from}
 use Rattle.lx_meaning.specs.Reading.{text_at, texts_of, read_below, in_place_of, PlacesAreKept}
 
--- a text cut at offsets, from one on: what stands up to each, and the rest
+-- a text cut at offsets, from one on: what comes up to each, and the rest
 abbrev pub cut_from : ℕ → List ℕ → List ℕ → List (List ℕ)
 cut_from start [] text = slice_of start (length_told text) text ∷ []
 cut_from start (o ∷ rest) text = slice_of start o text ∷ cut_from o rest text
@@ -25,9 +25,10 @@ pub record IsSplit (k : ℕ) (offsets pieces : List ℕ) (w v : Working) : Type 
   pub ready : IsReady w
   pub split : split_step k offsets w ≡ Ok v
   pub pieces_are : pieces ≡ k ∷ keys_from w.next_key (length offsets)
-  -- offsets are numbers of a u32, and so tell every place of a text that is no longer
+  -- offsets are numbers of a u32, and so can say every place of a text that is no longer
   pub fits : text_length (text_at w.forest k) ≤ last_u32
 
+-- what a split leaves: the pieces, which have the old text, in its place and like it, and all else as it was
 pub record SplitsAreTold : Type 0 where
   -- the pieces are the old text cut at the offsets, in order ..
   pub pieces : (k : ℕ) (offsets pieces : List ℕ) (w v : Working) → IsSplit k offsets pieces w v →
@@ -35,7 +36,7 @@ pub record SplitsAreTold : Type 0 where
   -- .. and one after another they are the old text
   pub whole : (k : ℕ) (offsets pieces : List ℕ) (w v : Working) → IsSplit k offsets pieces w v →
       texts_of v.forest pieces ≡ text_at w.forest k
-  -- they stand in its place
+  -- they are in its place
   pub order : (k : ℕ) (offsets pieces : List ℕ) (w v : Working) (p : ℕ) → IsSplit k offsets pieces w v → parent_of w.forest k ≡ Some p →
       children_of v.forest p ≡ in_place_of k pieces (children_of w.forest p)
   -- each is as the old text was, but for the characters

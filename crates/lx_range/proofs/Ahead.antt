@@ -29,7 +29,7 @@ passed : (stop : Option ℕ) (q : ℕ) (rest : List ℕ) → is_named stop q ≡
 passed None q rest other = refl
 passed (Some end) q rest other = rw other refl
 
--- the walk goes on behind a node that isn't the stop
+-- the walk goes on after a node that isn't the stop
 pub ahead_on : (test : ℕ → Bool) (stop : Option ℕ) (first at o : Option (ℕ × ℕ)) (f : Forest) (q d : ℕ) (made more : List ℕ) → IsAhead test stop f first at made
     → IfSome o (λ next. from f q ≡ q ∷ from f next.0) → IfNone o (from f q ≡ q ∷ []) → IfSome o (λ next. depth f next.0 ≡ Some next.1)
     → is_named stop q ≡ false → more ≡ made ++ filter test (q ∷ []) → at ≡ Some (q, d) → IsAhead test stop f first o more

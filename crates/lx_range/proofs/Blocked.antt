@@ -1,4 +1,4 @@
--- Where the block of a node stands.
+-- Where the block of a node is.
 use Rattle.std.proofs.Common.{◌≡◌, ◌∙◌, ℕ, Bool, true, eqb, List, [], ◌∷◌, Option, None, Some, refl, sym, inl, inr, arith}
 use Rattle.std.specs.Prelude.{find, IfSome}
 use Rattle.std.proofs.lemmas.Bool.{cases_Bool}

@@ -1,4 +1,4 @@
--- What is behind a point, which trees hold the point, and which nodes between two points stand below none of the others.
+-- What comes after a point, which trees hold the point, and which nodes between two points are below none of the others.
 use Rattle.std.proofs.Common.{◌≡◌, ◌≢◌, ◌∙◌, inl, inr, ℕ, ◌+◌, ◌<◌, ◌≤◌, true, false, ◌||◌, not, List, ◌++◌, length, Option, None, Some, refl, sym, ap, arith, append_assoc}
 use Rattle.std.specs.Prelude.{filter, option_map, unwrap_or, slice_get}
 use Rattle.lx_node.specs.Siblings.{is_among, first_of}
@@ -21,14 +21,14 @@ use Rattle.lx_range.proofs.Steps.{attached_there, in_order_with}
 use Rattle.lx_range.proofs.Until.{until_begins, filter_among, filter_alike}
 use Rattle.lx_range.proofs.Stretches.{place, size, back_of, stretches_through, before_and_from, length_before, length_through, same_place, within_tells}
 
--- a place in preorder behind a node: whose tree reaches over it holds the node
+-- a place in preorder after a node: whose tree reaches over it holds the node
 record IsCut (f : Forest) (s : ℕ) (back : List ℕ) : Type 0 where
   front : List ℕ
   split : preorder f ≡ front ++ back
   own : place f s < length front
   held : (p k : ℕ) → is_within f p k ≡ true → is_attached f p ≡ true → is_attached f k ≡ true → place f p < length front → length front ≤ place f k → is_within f p s ≡ true
 
--- a node below another comes behind it
+-- a node below another comes after it
 place_below : (f : Forest) (p k : ℕ) → IsForest f → is_attached f p ≡ true → is_attached f k ≡ true → is_within f p k ≡ true → k ≢ p → place f p < place f k
 place_below f p k h there here inside other =
     elim (within_tells f p k h there here) [
@@ -38,7 +38,7 @@ place_below f p k h there here inside other =
       | inr out ↦ absurd (grind (arith, inside, out.0))
     ]
 
--- whose tree reaches over the place behind a tree holds that one's node
+-- whose tree reaches over the place after a tree holds that one's node
 held_behind : (f : Forest) (s p k : ℕ) → IsForest f → is_attached f s ≡ true → is_within f p k ≡ true → is_attached f p ≡ true → is_attached f k ≡ true → place f p < place f s + size f s → place f s + size f s ≤ place f k → is_within f p s ≡ true
 held_behind f s p k h attached inside there here before behind =
     elim (within_tells f s p h attached there) [
@@ -57,7 +57,7 @@ held_behind f s p k h attached inside there here before behind =
       ]
     ]
 
--- behind a tree
+-- after a tree
 cut_behind : (f : Forest) (s : ℕ) → IsForest f → is_attached f s ≡ true → IsCut f s (behind f s)
 cut_behind f s h attached =
     let long : length (nodes_before f s ++ keys_within f s) ≡ place f s + size f s = length_through f s h attached in
@@ -170,7 +170,7 @@ cut_place : (f : Forest) (k offset : ℕ) (kind : PointKind) → Sound f → is_
 cut_place f k offset point.Text s attached = cut_behind f k (in_order_with f k s attached) attached
 cut_place f k offset point.Element s attached = cut_child f k offset (slice_get (children_of f k) offset) s attached refl
 
--- a covered node stands below none of them exactly where its parent's tree holds a point
+-- a covered node is below none of them exactly where its parent's tree holds a point
 pub outer_tie : (f : Forest) (start end : Point) → Sound f → is_attached f start.key ≡ true →
     filter (λ k. unwrap_or (option_map (λ p. is_within f p start.key || is_within f p end.key) (parent_of f k)) true) (covered f start end) ≡ outermost f (covered f start end)
 outer_tie f start end s attached = outermost_is f start end (in_order_with f start.key s attached) (cut_place f start.key start.offset start.kind s attached) attached

@@ -13,7 +13,7 @@ filter_first test q rest = by_test (test q) where
   by_test true = refl
   by_test false = refl
 
--- the walk goes on behind a node
+-- the walk goes on after a node
 gathered_on : (test : ℕ → Bool) (stop : Option ℕ) (q : ℕ) (rest made more whole : List ℕ) → is_named stop q ≡ false → more ≡ made ++ filter test (q ∷ [])
     → made ++ filter test (until stop (q ∷ rest)) ≡ whole → more ++ filter test (until stop rest) ≡ whole
 gathered_on test stop q rest made more whole other is so_far =

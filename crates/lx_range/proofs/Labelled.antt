@@ -1,4 +1,4 @@
--- What a node that is read tells.
+-- What a node that is read shows.
 use Rattle.std.proofs.Common.{◌≡◌, ◌≢◌, ◌∙◌, ℕ, true, Option, None, Some, option_map, Bor, refl, sym, ap, arith}
 use Rattle.std.specs.Option.{option_copied}
 use Rattle.std.specs.Prelude.{IfSome, IfNone}
@@ -39,7 +39,7 @@ label_read o n f k read is =
 label_suits : (f : Forest) (k : ℕ) (n : Node) → Sound f → label_of f k ≡ Some (labelled k n) → IsOfKind n.kind n.fields
 label_suits f k n s is = sym (ap is_suited is) ∙ s.suited.each k
 
--- a node that is read tells the label, and its fields are of its kind
+-- a node that is read shows the label, and its fields are of its kind
 pub labels : (o : Option (Bor Node)) (f : Forest) (k : ℕ) → option_copied o ≡ option_map node_of (record_at f k) → IfSome o (λ n. label_of f k ≡ Some (labelled k n.now))
 labels None f k read = tt
 labels (Some n) f k read = label_read (Some n) n f k read refl

@@ -13,7 +13,7 @@ use Rattle.lx_edit.specs.Texts.{split_step}
 use Rattle.lx_edit.proofs.Paths.{IsPath, Leads, self, then, ok, points, split_path}
 use Rattle.lx_range.specs.Ranges.{caret_at, at_anchor_of, at_anchor}
 
--- a relation of a draft to what it became, as of edits, whatever is put
+-- a relation of a draft to what it became, such as those of edits, whatever is put
 abbrev pub IsWay : (Working → Type 0) → (Working → Working → Type 0) → Type 0
 IsWay D R = IsPath D R (λ k. Unit {0})
 
@@ -55,7 +55,7 @@ module _ {D : Working → Type 0} {R : Working → Working → Type 0} (way : Is
 
   -- ---- points
 
-  -- both points go to a place that is found behind a step
+  -- both points go to a place that is found after a step
   pub placed : (step : Working → Result Working Cause) (there : Working → Point) → Leads D R step → Leads D R (λ w. after (step w) (λ v. Ok (caret_at (there v) v)))
   placed step there a w v r e =
       then way w v (step w) (λ u. Ok (caret_at (there u) u)) (λ u f. a w u r f)

@@ -83,7 +83,7 @@ last_alone f q h there e =
 
 -- ---- the node before
 
--- the name behind the previous one
+-- the name after the previous one
 next_back : (xs : List ℕ) (k m : ℕ) → NoRepeats xs → previous_in xs k ≡ Some m → is_among k xs ≡ true → next_in xs m ≡ Some k
 next_back xs k m u e there =
     let back : StepsBack xs k m = previous_in-place xs k m u e in
@@ -108,7 +108,7 @@ previous_is f k p h attached e =
           record { attached = there; behind = behind-next f p k h there next }
     ]
 
--- behind the tree of the previous sibling
+-- after the tree of the previous sibling
 before_sibling : (f : Forest) (k p l : ℕ) → IsForest f → is_attached f k ≡ true → previous_of f k ≡ Some p → last_of (keys_within f p) ≡ Some l → Some l ≡ node_before f k
 before_sibling f k p l h attached e last =
     let is = previous_is f k p h attached e in
@@ -190,7 +190,7 @@ none_if (Some x) no_such = absurd (no_such x refl)
 pub last_reached : (f : Forest) (at : ℕ) (o : Option ℕ) → Sound f → has at f ≡ true → o ≡ last_child f at → ((x : ℕ) → o ≢ Some x) → last_of (keys_within f at) ≡ Some at
 last_reached f at o s there e no_such = last_here f at s there (sym e ∙ none_if o no_such)
 
--- ---- what a caller is told
+-- ---- what a caller is answered
 
 pub sibling_there : (f : Forest) (k p : ℕ) → Sound f → is_attached f k ≡ true → previous_of f k ≡ Some p → has p f ≡ true
 sibling_there f k p s attached e = attached_there f p (previous_is f k p (in_order_with f k s attached) attached e).attached

@@ -1,4 +1,4 @@
--- The first node behind a point, as a step of a walk.
+-- The first node after a point, as a step of a walk.
 use Rattle.std.proofs.Common.{◌≡◌, ◌∙◌, ℕ, ◌+◌, ◌<◌, ◌^◌, true, [], ◌∷◌, Option, None, Some, refl, sym, ap, arith}
 use Rattle.std.specs.Prelude.{option_map, slice_get, drop, IfSome, IfNone}
 use Rattle.lx_node.specs.Siblings.{first_of}
@@ -49,7 +49,7 @@ pub left_until : (f : Forest) (start end : Point) (from_step stop : Option (ℕ 
 left_until f start end from_step stop at left is =
     ap (λ ks. until (key_of_step stop) ks) left ∙ ap (λ o. until o (nodes_behind f start)) (first_left f stop at ∙ ap first_of is)
 
--- the first node behind one, as a step that the walk takes from it
+-- the first node after one, as a step that the walk takes from it
 pub next_key : (o : Option (ℕ × ℕ)) (f : Forest) (q : ℕ) → IfSome o (λ next. from f q ≡ q ∷ from f next.0) → IfNone o (from f q ≡ q ∷ []) → IfSome o (λ next. depth f next.0 ≡ Some next.1) →
     key_of_step o ≡ first_of (drop 1 (from f q))
 next_key o f q next last deep =

@@ -1,4 +1,4 @@
--- Where the tree of a node lies in preorder: behind the nodes before it, and before those behind it.
+-- Where the tree of a node lies in preorder: after the nodes before it, and before those after it.
 use Rattle.std.proofs.Common.{◌≡◌, ◌∙◌, ◌⊎◌, inl, inr, ℕ, ◌+◌, ◌<◌, ◌≤◌, true, false, eqb, List, [], ◌∷◌, ◌++◌, length, length-append, Some, sym, ap, arith, append_assoc, subst}
 use Rattle.std.specs.Prelude.{unwrap_or, slice_get}
 use Rattle.std.proofs.lemmas.List.{append-nil}
@@ -22,7 +22,7 @@ use Rattle.lx_range.specs.Walks.{nodes_before}
 use Rattle.lx_range.proofs.Until.{until_ahead, until_past, until_without, until_front, back_tells}
 
 module _ {A : Type 0} (name : A → ℕ) where
-  -- a name below the first one, and one behind its tree
+  -- a name below the first one, and one after its tree
   split_below : (after : List ℕ) (a : A) (below rest : Trees A) (q : ℕ) → eqb (name a) q ≡ false → count name q rest ≡ 0 → is_among q (named.preorder name below) ≡ true → behind_before name after (tree a below rest) q ≡ behind_before name (named.preorder name rest ++ after) below q →
       named.preorder name below ++ (named.preorder name rest ++ after) ≡ until (Some q) (named.preorder name below) ++ (named.preorder name (named.alone name q below) ++ unwrap_or (behind_before name (named.preorder name rest ++ after) below q) []) →
       named.preorder name (tree a below rest) ++ after ≡ until (Some q) (named.preorder name (tree a below rest)) ++ (named.preorder name (named.alone name q (tree a below rest)) ++ unwrap_or (behind_before name after (tree a below rest) q) [])
@@ -38,7 +38,7 @@ module _ {A : Type 0} (name : A → ℕ) where
       (ap (λ ks. name a ∷ ks) (append_assoc (named.preorder name below) (named.preorder name rest) after ∙ ap (λ ks. named.preorder name below ++ ks) later
       ∙ sym (append_assoc (named.preorder name below) (until (Some q) (named.preorder name rest)) (named.preorder name (named.alone name q rest) ++ unwrap_or (behind_before name after rest q) []))))
 
-  -- the names up to one, those of its tree, and those behind it, where others follow
+  -- the names up to one, those of its tree, and those after it, where others follow
   split_trees : (after : List ℕ) (t : Trees A) (q : ℕ) → IsDistinct name t → 0 < count name q t → named.preorder name t ++ after ≡ until (Some q) (named.preorder name t) ++ (named.preorder name (named.alone name q t) ++ unwrap_or (behind_before name after t q) [])
   split_trees after nil q once some = absurd (omega arith)
   split_trees after (tree a below rest) q once some =
@@ -93,7 +93,7 @@ stretches f q h attached =
     sym (append-nil (preorder f)) ∙ split_trees key_of [] (alone 0 f) q (tree_distinct f h) (grind (arith, attached))
     ∙ ap (λ t. nodes_before f q ++ (named.preorder key_of t ++ behind f q)) (in_root f q h attached)
 
--- the nodes from one on are those of its tree, and those behind it
+-- the nodes from one on are those of its tree, and those after it
 from_is : (f : Forest) (q : ℕ) → IsForest f → is_attached f q ≡ true → from f q ≡ keys_within f q ++ behind f q
 from_is f q h attached = ap (λ t. named.preorder key_of t ++ behind f q) (in_root f q h attached)
 
@@ -117,7 +117,7 @@ before_is f q front h attached e =
 
 -- ---- places in numbers
 
--- how many nodes stand before one, and how many its tree has
+-- how many nodes come before one, and how many its tree has
 pub place : Forest → ℕ → ℕ
 place f x = place_in (preorder f) x
 
@@ -127,7 +127,7 @@ size f q = length (keys_within f q)
 there_in : (f : Forest) (x : ℕ) → is_attached f x ≡ true → is_among x (preorder f) ≡ true
 there_in f x attached = is_among-preorder_of f x ∙ attached
 
--- an attached node is in a front, or behind it
+-- an attached node is in a front, or after it
 pub back_of : (f : Forest) (xs ys : List ℕ) (x : ℕ) → IsForest f → preorder f ≡ xs ++ ys → is_attached f x ≡ true →
     ((is_among x xs ≡ true) × (is_among x ys ≡ false) × (place f x < length xs)) ⊎ ((is_among x xs ≡ false) × (is_among x ys ≡ true) × (length xs ≤ place f x))
 unfolding place
@@ -138,7 +138,7 @@ back_of f xs ys x h e attached =
 place_at : (xs ys : List ℕ) (q : ℕ) → is_among q xs ≡ false → place_in (xs ++ q ∷ ys) q ≡ length xs
 place_at xs ys q gone = grind (arith, gone, index_in-append xs (q ∷ ys) q, eqb_tells q q)
 
--- so many nodes stand before one, and before what is behind its tree
+-- so many nodes come before one, and before what comes after its tree
 pub length_before : (f : Forest) (q : ℕ) → IsForest f → is_attached f q ≡ true → length (nodes_before f q) ≡ place f q
 unfolding place
 length_before f q h attached =
@@ -156,7 +156,7 @@ pub length_through : (f : Forest) (q : ℕ) → IsForest f → is_attached f q �
 unfolding size
 length_through f q h attached = omega (arith, length-append (nodes_before f q) (keys_within f q), length_before f q h attached)
 
--- preorder, parted behind a tree
+-- preorder, parted after a tree
 pub stretches_through : (f : Forest) (q : ℕ) → IsForest f → is_attached f q ≡ true → preorder f ≡ (nodes_before f q ++ keys_within f q) ++ behind f q
 stretches_through f q h attached = stretches f q h attached ∙ sym (append_assoc (nodes_before f q) (keys_within f q) (behind f q))
 
@@ -169,7 +169,7 @@ not_second x xs ys e = grind (arith, e, is_among-append x xs ys)
 second : (x : ℕ) (xs ys : List ℕ) → is_among x xs ≡ false → is_among x (xs ++ ys) ≡ true → is_among x ys ≡ true
 second x xs ys e among = grind (arith, e, among, is_among-append x xs ys)
 
--- the tree of a node lies at places one behind another
+-- the tree of a node lies at places one after another
 pub within_tells : (f : Forest) (q x : ℕ) → IsForest f → is_attached f q ≡ true → is_attached f x ≡ true →
     ((is_within f q x ≡ true) × (place f q ≤ place f x) × (place f x < place f q + size f q)) ⊎ ((is_within f q x ≡ false) × ((place f x < place f q) ⊎ (place f q + size f q ≤ place f x)))
 within_tells f q x h attached there =

@@ -1,4 +1,4 @@
--- Nodes up to one: what is ahead of it and behind it, and the last of them.
+-- Nodes up to one: what is ahead of it and after it, and the last of them.
 use Rattle.std.proofs.Common.{◌≡◌, ◌∙◌, ◌⊎◌, inl, inr, ℕ, ◌<◌, ◌≤◌, Bool, true, false, cond, eqb, ◌&&◌, List, [], ◌∷◌, ◌++◌, length, Option, None, Some, refl, sym, ap, arith}
 use Rattle.std.specs.Prelude.{filter}
 use Rattle.std.proofs.lemmas.List.{append-nil}
@@ -11,7 +11,7 @@ use Rattle.lx_range.specs.Places.{until}
 
 -- ---- up to a node
 
--- the node in a front, and behind one
+-- the node in a front, and after one
 pub until_ahead : (end : ℕ) (xs ys : List ℕ) → is_among end xs ≡ true → until (Some end) (xs ++ ys) ≡ until (Some end) xs
 until_ahead end [] ys e = absurd (grind arith)
 until_ahead end (x ∷ xs) ys e = grind (arith, until_ahead end xs ys)
@@ -32,7 +32,7 @@ pub until_none : (xs : List ℕ) → until None xs ≡ xs
 until_none [] = refl
 until_none (x ∷ xs) = ap (λ ys. x ∷ ys) (until_none xs)
 
--- of names that stand once, those of a front aren't behind it
+-- of names that occur once, those of a front aren't after it
 apart : (xs ys : List ℕ) (q : ℕ) → NoRepeats (xs ++ ys) → is_among q xs ≡ true → is_among q ys ≡ false
 apart [] ys q u e = absurd (grind arith)
 apart (x ∷ xs) ys q u e = grind (arith, apart xs ys q u.1, u.0, eqb_tells x q, is_among-append x xs ys)
@@ -98,9 +98,9 @@ last_splits (x ∷ y ∷ xs) q u e =
     let other : eqb x q ≡ false = elim (last_among None (y ∷ xs) q e) [ inl own ↦ absurd (grind arith) | inr there ↦ grind (arith, there, u.0, eqb_tells x q) ] in
     ap (λ zs. x ∷ zs) later ∙ ap (λ b. cond b [] (x ∷ until (Some q) (y ∷ xs)) ++ q ∷ []) (sym other)
 
--- ---- where names stand
+-- ---- where names are
 
--- a name stands behind a front just where no fewer stand before it
+-- a name comes after a front just where no fewer come before it
 pub back_tells : (xs ys : List ℕ) (q : ℕ) → NoRepeats (xs ++ ys) → is_among q (xs ++ ys) ≡ true →
     ((is_among q xs ≡ true) × (is_among q ys ≡ false) × (place_in (xs ++ ys) q < length xs)) ⊎ ((is_among q xs ≡ false) × (is_among q ys ≡ true) × (length xs ≤ place_in (xs ++ ys) q))
 back_tells xs ys q u e = by_test (is_among q xs) refl where

@@ -7,7 +7,7 @@ use Rattle.lx_node.specs.declared.kind.Kind.TheVariants.{Table, Rule}
 use Rattle.lx_forest.specs.Forest.{Forest}
 use Rattle.lx_forest.specs.Lookups.{kind_of, children_of, size_of, ancestors}
 
--- what isn't a line, and yet stands among lines
+-- what is no line, and yet comes among lines
 abbrev pub is_rule_or_table : Kind → Bool
 is_rule_or_table Table = true
 is_rule_or_table Rule = true
@@ -18,6 +18,7 @@ abbrev pub passes : (Kind → Bool) → Option Kind → Bool
 passes test None = false
 passes test (Some kind) = test kind
 
+-- whether the kind of a node passes the test
 abbrev pub is_at : (Kind → Bool) → Forest → ℕ → Bool
 is_at test f k = passes test (kind_of f k)
 
@@ -48,5 +49,6 @@ abbrev pub leading_in : Forest → List ℕ → List ℕ
 leading_in f [] = []
 leading_in f (k ∷ ks) = if is_at is_inline f k then k ∷ leading_in f ks else []
 
+-- the inline children with which those of a node begin
 abbrev pub leading : Forest → ℕ → List ℕ
 leading f k = leading_in f (children_of f k)

@@ -9,17 +9,17 @@ use Rattle.lx_range.specs.Blocks.{is_line, block_of, frame_of, same_node}
 use Rattle.lx_range.specs.Places.{until, nodes_behind}
 use Rattle.lx_range.specs.Ranges.{start_of, end_of}
 
--- the nodes from a point's block on, in preorder: those behind the point where it has no block
+-- the nodes from a point's block on, in preorder: those after the point where it has no block
 abbrev pub from_block : Forest → Point → Option ℕ → List ℕ
 from_block f p None = nodes_behind f p
 from_block f p (Some block) = from f block
 
--- the first node behind a point's block, which may be one in it: the first behind the point where it has no block
+-- the first node after a point's block, which may be one in it: the first after the point where it has no block
 abbrev pub behind_block : Forest → Point → Option ℕ → Option ℕ
 behind_block f p None = first_of (nodes_behind f p)
 behind_block f p (Some block) = first_of (drop 1 (from f block))
 
--- of nodes in preorder, those before this one: all where none is named, and none where it isn't there
+-- those of a list of nodes that come before this one: all where none is named, and none where it isn't there
 abbrev pub up_to : Option ℕ → List ℕ → List ℕ
 up_to None ks = ks
 up_to (Some end) ks = if is_among end ks then until (Some end) ks else []
@@ -28,10 +28,11 @@ up_to (Some end) ks = if is_among end ks then until (Some end) ks else []
 abbrev pub is_line_beside : Forest → ℕ → ℕ → Bool
 is_line_beside f other k = is_line f k && same_node (frame_of f k) (frame_of f other)
 
--- The lines of the frame from the start's block to the end's block. Where the end's block holds the start's there are none.
+-- the lines of the frame from the start's block to the end's block: none where the end's block holds the start's
 abbrev pub lines_between : Forest → Point → Point → List ℕ
 lines_between f start end =
     filter (is_line_beside f start.key) (up_to (behind_block f end (block_of f end.key)) (from_block f start (block_of f start.key)))
 
+-- the lines that a range selects, from its start's block to its end's block
 unfoldable pub selected_lines : Forest → Ranged → List ℕ
 selected_lines f r = lines_between f (start_of f r) (end_of f r)

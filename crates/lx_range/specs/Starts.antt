@@ -11,7 +11,7 @@ use Rattle.lx_range.specs.Blocks.{is_at}
 abbrev pub first_leaf : Forest → ℕ → Option ℕ
 first_leaf f k = find (λ q. size_of f q == 0) (keys_within f k)
 
--- the place before a node in its parent, so many behind
+-- the place of a node in its parent, or so many after it
 abbrev pub place_at : ℕ → ℕ → Option ℕ → Option ℕ → Point
 place_at more k (Some p) (Some index) = element_point p (index + more)
 place_at more k _ _ = element_point k 0
@@ -24,5 +24,6 @@ start_at f (Some k) =
     else if is_at is_element f k then element_point k 0
     else place_at 0 k (parent_of f k) (index_of f k)
 
+-- where what a node has begins, which is with its first leaf
 abbrev pub start_within : Forest → ℕ → Point
 start_within f k = start_at f (first_leaf f k)

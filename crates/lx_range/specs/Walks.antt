@@ -10,14 +10,16 @@ abbrev pub left_from : Forest → Option (ℕ × ℕ) → List ℕ
 left_from f None = []
 left_from f (Some at) = from f at.0
 
+-- the depth with which the node comes is its own
 abbrev pub IsAt : Forest → Option (ℕ × ℕ) → Type 0
 IsAt f None = Unit {0}
 IsAt f (Some at) = depth f at.0 ≡ Some at.1
 
--- the nodes before one in the root's tree, each before those below it, and the last of them
+-- the nodes before one in the root's tree, in preorder
 abbrev pub nodes_before : Forest → ℕ → List ℕ
 nodes_before f k = until (Some k) (preorder f)
 
+-- the last of the nodes before one
 abbrev pub node_before : Forest → ℕ → Option ℕ
 node_before f k = last_of (nodes_before f k)
 

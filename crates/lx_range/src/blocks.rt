@@ -65,7 +65,7 @@ pub fn same_node(a: Option<Key>, b: Option<Key>) -> bool
     }
 }
 
-/// Whether one of the node's children stands in a line of text.
+/// Whether one of the node's children is in a line of text.
 fn has_inline(links: &Links, key: Key) -> bool
     ensures { result ≡ list_any (blocks.is_at kinds.is_inline links.now) (lookups.children_of links.now key) }
 {

@@ -73,7 +73,7 @@ pub fn is_element_at(links: &Links, key: Key) -> bool
     }
 }
 
-/// Whether it is a node that stands in a line of text.
+/// Whether it is a node that comes in a line of text.
 pub fn is_inline_at(links: &Links, key: Key) -> bool
     ensures { result ≡ blocks.is_at kinds.is_inline links.now key }
 {
@@ -124,7 +124,7 @@ pub(crate) fn is_cell_at(links: &Links, key: Key) -> bool
     }
 }
 
-/// Whether it is a horizontal rule or a table: what stands among lines, and is none.
+/// Whether it is a horizontal rule or a table: what comes among lines, and is none.
 pub fn is_rule_or_table_at(links: &Links, key: Key) -> bool
     ensures { result ≡ blocks.is_at blocks.is_rule_or_table links.now key }
 {

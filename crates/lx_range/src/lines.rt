@@ -29,7 +29,7 @@ fn from_block(links: &Links, point: &Point) -> Option<Step>
     }
 }
 
-/// The first node behind a point's block.
+/// The first node after a point's block.
 fn behind_block(links: &Links, point: &Point) -> Option<Step>
     requires { lookups.is_attached links.now point.now.key ≡ true }
     ensures { walks.key_of_step result ≡ lines.behind_block links.now point.now (blocks.block_of links.now point.now.key) }
@@ -83,7 +83,7 @@ fn collect_lines(
 }
 
 /// The lines that a range of the root's tree selects, in preorder: those of the frame of its first point from that point's
-/// block to the block of the other one. Where a point has no block, what is behind the point counts. There are none where
+/// block to the block of the other one. Where a point has no block, what is after the point counts. There are none where
 /// the last block holds the first one.
 #[tactic(auto, unfolding(crate::specs::Lines::selected_lines))]
 pub fn selected_lines(alloc: Global, links: &Links, range: &Ranged) -> Result<Vec<Key>, NoMemory>

@@ -22,7 +22,7 @@ pub fn node_at(links: &Links, key: Key) -> Option<&Node>
     links.node(key)
 }
 
-/// Makes a node with the kind and the fields of another, without children and standing nowhere yet, and answers its key.
+/// Makes a node with the kind and the fields of another, without children and placed nowhere yet, and answers its key.
 /// It is refused as `Draft::new_node` is.
 pub fn make_like(alloc: Global, draft: &mut Draft, key: Key) -> Result<Key, Fault>
     requires there { lookups.has key draft.old.forest ≡ true }

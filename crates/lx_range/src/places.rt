@@ -7,7 +7,7 @@ use lx_links::Links;
 use lx_node::{Key, Point};
 use std::cmp::Ordering;
 
-/// How many of a node's children stand before the one in whose tree the key is: all where it is in none.
+/// How many of a node's children come before the one in whose tree the key is: all where it is in none.
 pub fn children_before(links: &Links, outer: Key, key: Key) -> u32
     ensures { result ≡ length (places.children_before links.now outer key) }
 {

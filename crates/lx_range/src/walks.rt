@@ -1,4 +1,4 @@
-//! The nodes before and behind a point, in preorder.
+//! The nodes before and after a point, in preorder.
 
 ghost use Rattle.std.specs.Prelude.{◌≡◌, ◌++◌, ◌∷◌, ◌||◌, [], true, OnOk, IfOk, IfSome, IfNone, Some, filter, not, option_map, unwrap_or};
 ghost use Rattle.lx_node.specs.Siblings.{is_named, last_of};
@@ -12,7 +12,7 @@ use lx_links::Links;
 use lx_node::{Key, NoMemory, Point, PointKind};
 use std::alloc::Global;
 
-/// The first node behind a point in the root's tree, with its depth.
+/// The first node after a point in the root's tree, with its depth.
 pub fn first_behind(links: &Links, point: &Point) -> Option<(Key, u32)>
     requires { lookups.is_attached links.now point.now.key ≡ true }
     ensures left { left_from links.now result ≡ places.nodes_behind links.now point.now }
@@ -161,7 +161,7 @@ pub fn previous_in_tree(links: &Links, key: Key) -> Option<Key>
 }
 
 /// The last node that comes before a point in preorder: the last one in the tree of the text or tab that has it, or of
-/// the element where it is behind the children, or else the node before the child at the point.
+/// the element where it is after the children, or else the node before the child at the point.
 pub fn last_before(links: &Links, point: &Point) -> Option<Key>
     requires { lookups.is_attached links.now point.now.key ≡ true }
     ensures before { IfSome result (λ before. places.nodes_up_to links.now point.now ≡ nodes_before links.now before ++ before ∷ []) }

@@ -3,7 +3,7 @@ use Rattle.lx_forest.specs.Lookups.{size_of}
 use Rattle.lx_range.proofs.Passing.{IsPassing}
 use Rattle.lx_range.proofs.children.children_from.Given as goal
 
--- the child that is reached comes right behind those that were kept
+-- the child that is reached comes right after those that were kept
 abbrev pub invariant-loop-at : goal.invariant-loop-at
 invariant-loop-at l = IsPassing l.links l.fn.key l.index l.at l.keys.items
 
