@@ -21,7 +21,7 @@ use Rattle.lx_grids.proofs.Opened.{IsOpened}
 use Rattle.lx_grids.proofs.Own.{IsOwn, spots_own, spot_in_row, row_of_spot, above_is, same_row_own, same_height_own, height_at, height_found, among_passing, cells_in, among_spots}
 use Rattle.lx_grids.proofs.Spanned.{tell_spans, has_spans, IsSpanned}
 
--- ---- rows behind an inserted one have the next index
+-- ---- rows after an inserted one have the next index
 
 abbrev pub IsShifted : ℕ → ℕ → ℕ → Type 0
 IsShifted new i j = ((i < new) × (j ≡ i)) ⊎ ((new ≤ i) × (j ≡ i + 1))
@@ -45,7 +45,7 @@ shifted (y ∷ ys) (suc new) x (suc i) k at within =
 crossing_is : (c : Bool) (row height new : ℕ) → (nat_lt row new && is_among_from row height new) ≡ c → (c ≡ true → (row < new) × (new < row + height)) × (c ≡ false → row < new → row + height ≤ new)
 crossing_is c row height new e = (λ is. let t = e ∙ is in (grind (arith, nat_tests, t), grind (arith, nat_tests, t)), λ is low. let t = e ∙ is in grind (arith, nat_tests, t, low))
 
--- A cell that starts in front of the new row and goes on behind it gets a row, and loses it again. Any other stays as high.
+-- A cell that starts in front of the new row and goes on after it gets a row, and loses it again. Any other stays as high.
 back : (i j new most rows height high again : ℕ) (c d : Bool) → i < most → height ≡ min rows (most - i) → (nat_lt i new && is_among_from i height new) ≡ c → high ≡ cond c (height + 1) height
     → again ≡ min high (most + 1 - j) → (nat_lt j new && is_among_from j again new) ≡ d → IsShifted new i j → min (cond d (again - 1) again) (most - i) ≡ min rows (most - i)
 back i j new most rows height high again true true within is crossed higher lower crossed_again shift =
@@ -82,7 +82,7 @@ back i j new most rows height high again false false within is crossed higher lo
       | inr behind ↦ let next : j ≡ i + 1 = behind.1 in omega (arith, within, is, higher, lower, next)
     ]
 
--- a cell that tells no spans stays as it is
+-- a cell that has no spans stays as it is
 told : (b c d : Bool) (i j new most rows height high again : ℕ) (first second third fourth : ℕ) → i < most → height ≡ min rows (most - i) → (nat_lt i new && is_among_from i height new) ≡ c
     → first ≡ cond b height rows → second ≡ cond (c && b) (height + 1) first → high ≡ second → again ≡ min high (most + 1 - j) → third ≡ cond b again high
     → (nat_lt j new && is_among_from j again new) ≡ d → fourth ≡ cond (d && b) (again - 1) third → IsShifted new i j → min fourth (most - i) ≡ min rows (most - i)
@@ -114,7 +114,7 @@ at_insert xs zero x h = refl
 at_insert [] (suc i) x h = absurd (omega (arith, h))
 at_insert (y ∷ ys) (suc i) x h = at_insert ys i x (omega (arith, h))
 
--- in how many rows it stands from a row on, and whether it goes across another row's upper edge
+-- in how many rows it is from a row on, and whether it goes across another row's upper edge
 record Seen (f : Forest) (table new i q : ℕ) : Type 0 where
   pub height : ℕ
   pub among : is_among q (cells_in (spots_of f table)) ≡ true
@@ -225,7 +225,7 @@ module _ (f : Forest) (table new row : ℕ) (set grown opened : Forest) (way : H
           let named : is_named (parent_of f k) k ≡ true = ap (λ o. is_named o k) up ∙ ap (λ t. eqb k t) (sym same) ∙ grind (arith, eqb_tells k k) in
           absurd (cc (parent_of-self f k way.in_order, named))
 
-  -- where the new row stands
+  -- where the new row is
   pub new_row_at : slice_get (children_of opened table) new ≡ Some row
   new_row_at = ap (λ xs. slice_get xs new) inserted_rows ∙ at_insert (children_of f table) new row within
 

@@ -112,7 +112,7 @@ put_there k p index w v put =
 
 -- ---- new cells in a row
 
--- All nodes below a row's key are as they were, and each cell that the row has stands in one row.
+-- All nodes below a row's key are as they were, and each cell that the row has is in one row.
 record IsFilling (row : ℕ) (f : Forest) (w : Working) : Type 0 where
   pub ready : IsReady w
   pub next : row < w.next_key
@@ -174,7 +174,7 @@ columns_kept spots above like row (column ∷ columns) f w v was e =
 
 -- ---- the row
 
--- A new row stands among a table's rows at an index, and each of its cells stands in one row. All else below its key is as it was.
+-- A new row is among a table's rows at an index, and each of its cells is in one row. All else below its key is as it was.
 pub record IsOpened (table row index : ℕ) (f g : Forest) : Type 0 where
   pub rows : children_of g table ≡ names_with (slice_get (children_of f table) index) (row ∷ []) (children_of f table)
   pub within : index ≤ length (children_of f table)

@@ -19,7 +19,7 @@ use Rattle.lx_table.specs.Grid.{in_row, with_rows, cell_and_row, spot_behind, ro
 use Rattle.lx_table.specs.Shrinking.{cell_in}
 use Rattle.lx_table.proofs.Filled.{none_gone, grid_of-is}
 
--- a cell stands in the row of its index, with the size that its spans give
+-- a cell is in the row of its index, with the size that its spans give
 pub record IsOwn (f : Forest) (keys : List ℕ) (s : Spot) : Type 0 where
   pub key : ℕ
   pub row : slice_get keys s.row ≡ Some key
@@ -143,7 +143,7 @@ row_of_spot f table i k q s ordered at among own is =
 
 -- ---- what is read by a cell
 
--- in how many rows a cell stands
+-- in how many rows a cell is
 abbrev height_in : Option Spot → ℕ
 height_in None = 0
 height_in (Some s) = s.height
@@ -204,7 +204,7 @@ module _ (f : Forest) (table : ℕ) (ordered : IsForest f) where
         | inr fails ↦ none_passes test spots s all alike fails ∙ sym fails
       ]
 
--- what holds of each that stands at an index holds of all
+-- what holds of each that is at an index holds of all
 pub all_by : (Q P : Spot → Type 0) (spots : List Spot) → All P spots → ((i : ℕ) (s : Spot) → slice_get spots i ≡ Some s → P s → Q s) → All Q spots
 all_by Q P [] all each = All-nil Q
 all_by Q P (s ∷ spots) all each =

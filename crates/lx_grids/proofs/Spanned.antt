@@ -24,7 +24,7 @@ use Rattle.lx_grids.proofs.Own.{cells_in}
 
 -- ---- fields
 
--- whether fields tell spans
+-- whether fields have spans
 abbrev is_cell : Extra → Bool
 is_cell (extra.Cell header rows columns background) = true
 is_cell _ = false
@@ -74,7 +74,7 @@ set_forest k x w v taken = ap (λ (y : Working). y.forest) (answered _ _ v taken
 
 -- ---- one cell, and one after another
 
--- The same children stand below each node, and each cell has as many columns. Of these cells each has so many rows, where it tells
+-- The same children are below each node, and each cell has as many columns. Of these cells each has so many rows, where it says
 -- spans; any other has as many as before.
 pub record IsSpanned (f g : Forest) (cells : List ℕ) (rows_at : ℕ → ℕ) : Type 0 where
   pub children : (q : ℕ) → children_of g q ≡ children_of f q

@@ -9,13 +9,13 @@ use Rattle.lx_table.specs.Places.{Place, place_of}
 use Rattle.lx_table.specs.Growing.{insert_row_step}
 use Rattle.lx_table.specs.Shrinking.{delete_row_step}
 
--- the index of a row that comes before a cell, or behind it
+-- the index of a row that comes before a cell, or after it
 abbrev pub new_row : Bool → Spot → ℕ
 new_row false s = s.row
 new_row true s = s.row + s.height
 
--- A row is inserted at the caret's cell. Whichever of the new row's own cells is the caret's then, once its row is deleted the grid
--- of the table is as it was.
+-- once a row was inserted at the caret's cell and is deleted again by one of its own cells, the grid of the table is as
+-- it was
 abbrev pub RowsComeAndGo : Type 0
 RowsComeAndGo = (behind : Bool) (w v u : Working) (s : Selection) (p q : Place) → IsReady w
     → place_of w ≡ Ok p → insert_row_step behind w ≡ Ok v

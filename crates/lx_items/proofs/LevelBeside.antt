@@ -34,7 +34,7 @@ use Rattle.lx_items.proofs.LevelSteps.{chosen, unless, label_known, was_moved_be
 
 -- ---- lists of names
 
--- no name comes right behind itself, nor right before
+-- no name comes right after itself, nor right before
 pub not_behind_itself : (x : ℕ) (xs : List ℕ) → NoRepeats xs → next_in xs x ≢ Some x
 not_behind_itself x [] once e = absurd (cc)
 not_behind_itself x (y ∷ ys) once e =
@@ -51,7 +51,7 @@ before_itself before x (y ∷ ys) apart e =
       | inr other ↦ before_itself (Some y) x ys (grind (arith, other.0, eqb_tells x y, eqb_tells y x)) (grind (arith, other.0, e))
     ]
 
--- nothing comes behind what is put at the end
+-- nothing comes after what is put at the end
 last_behind : (x : ℕ) (xs : List ℕ) → is_among x xs ≡ false → next_in (xs ++ (x ∷ [])) x ≡ None
 last_behind x [] absent = grind (arith, eqb_tells x x)
 last_behind x (y ∷ ys) absent = grind (arith, absent, last_behind x ys)
@@ -136,7 +136,7 @@ module _ (x list p holder : ℕ) (w v : Working) (s : WentIn x list p holder w v
       let above : parent_of f p ≡ Some holder = sym (ap (parent_of f) e) ∙ list_up in
       absurd (grind (arith, is_within-parent f holder p s.in_order s.holder_up, is_within-up f holder p holder s.in_order above p_not_holder, is_within-self f holder, has-child f holder p s.holder_up))
 
-  -- x isn't the list, which stands in the neighbour
+  -- x isn't the list, which is in the neighbour
   list_not_x : list ≢ x
   list_not_x e = absurd (let same : Some holder ≡ Some p = sym list_up ∙ ap (parent_of f) e ∙ s.up in grind (arith, same, p_not_holder))
 
@@ -211,7 +211,7 @@ module _ (x list p holder : ℕ) (w v : Working) (s : WentIn x list p holder w v
             (first, sym (ap (λ (z : Working). z.selection) stays) ∙ last ∙ first),
       )
 
--- ---- behind a nesting item
+-- ---- after a nesting item
 
 back_behind : (x list p holder : ℕ) (w v u : Working) (s : WentIn x list p holder w v) → s.place ≡ None → previous_in (children_of w.forest p) x ≡ Some holder → outdented x v ≡ Ok u → (u.forest ≡ w.forest) × PointsStay x w v u
 unfolding out_of moved_out

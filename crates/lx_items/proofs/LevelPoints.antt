@@ -96,7 +96,7 @@ to_front_stays to k p w v e up off off_to =
     let taken = take_stays k p w a.0 a.1 up off in
     put_stays k to 0 a.0 v a.2 (ap (has_point_on to) taken ∙ off_to) ∙ taken
 
--- where the other stands once the node has left
+-- where the other is once the node has left
 left_order : (k : ℕ) (w v : Working) → IsForest w.forest → take_step k w ≡ Ok v → IsForest v.forest
 left_order k w v h e = subst IsForest (sym (taken-forest k w v e)) (IsForest-take_out k w.forest h)
 

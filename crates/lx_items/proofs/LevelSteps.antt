@@ -86,7 +86,7 @@ label_known f k there = by_spot (spot f k) refl where
 
 -- ---- moves
 
--- right behind another: before what comes behind that one when the node has left
+-- right after another: before what comes after that one when the node has left
 pub was_moved_behind : (other k p : ℕ) (w v : Working) → IsForest w.forest → parent_of w.forest other ≡ Some p → other ≢ k → moved_behind other k w ≡ Ok v
     → WasMoved w.forest v.forest p k (next_in (names_without k (children_of w.forest p)) other)
 unfolding moved_behind

@@ -1,4 +1,4 @@
--- All that is told of levels.
+-- All that is said of levels.
 use Rattle.lx_items.specs.Levels.{LevelsComeAndGo}
 use Rattle.lx_items.proofs.LevelAlone.{alone_and_back}
 use Rattle.lx_items.proofs.LevelBeside.{behind_and_back, ahead_and_back}

@@ -23,7 +23,7 @@ pub at_front : (x : ℕ) (xs : List ℕ) → names_with (first_of xs) (x ∷ [])
 at_front x [] = refl
 at_front x (y ∷ ys) = grind (arith, eqb_tells y y)
 
--- one that comes before the name that stood behind it is where it was
+-- one that comes before the name that came after it is where it was
 pub where_it_was : (x : ℕ) (xs : List ℕ) → NoRepeats xs → is_among x xs ≡ true → names_with (next_in xs x) (x ∷ []) (names_without x xs) ≡ xs
 where_it_was x [] once among = absurd (cc)
 where_it_was x (y ∷ ys) once among =
@@ -41,7 +41,7 @@ same_reads f g h l labels parents children = same_forest f g h l (λ q. same_spo
 
 -- ---- a node that goes below another, and comes back
 
--- the node x of p went below another, and then back to where it had stood
+-- the node x of p went below another, and then back to where it had been
 pub record CameBack (f g u : Forest) (p to x : ℕ) : Type 0 where
   pub in_order : IsForest f
   pub up : parent_of f x ≡ Some p

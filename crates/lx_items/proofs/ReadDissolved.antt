@@ -1,4 +1,4 @@
--- Lists whose lines become paragraphs read the same, where inline children stand first in each item.
+-- Lists whose lines become paragraphs read the same, where inline children come first in each item.
 use Rattle.std.proofs.Common.{◌≡◌, ◌≢◌, ◌∙◌, ℕ, Bool, true, false, eqb, not, ◌&&◌, ◌||◌, List, [], ◌∷◌, ◌++◌, Option, None, Some, Result, Ok, refl, sym, ap, ap₂, subst, arith, inl, inr, append-nil}
 use Rattle.std.specs.Prelude.{find}
 use Rattle.std.specs.List.{filter, list_any}
@@ -58,7 +58,7 @@ first false b e = absurd (cc)
 among_lines : (f : Forest) (list q : ℕ) → is_among q (lines_of f list) ≡ (is_within f list q && is_line f q)
 among_lines f list q = is_among-filter (is_line f) q (keys_within f list) ∙ ap (λ b. b && is_line f q) (is_among-preorder key_of q (alone list f))
 
--- what stands in a tree is in it
+-- what is in a tree is in it
 within_below : (f : Forest) (list c b : ℕ) → IsForest f → parent_of f c ≡ Some b → is_within f list b ≡ true → is_within f list c ≡ true
 within_below f list c b h up inside =
     elim (eqb_tells c list) [
@@ -187,7 +187,7 @@ module _ (f g : Forest) (p list : ℕ) (m : IsEmptied f g p list) where
       reads_by f g spared m.all.told emptied_level 0
       (ap₂ (λ x y. x || not y) (is_within-top f list 0 order (parent_of-root f order) root_other) (has-root f order))
 
-  -- inline children stand first in each item still
+  -- inline children come first in each item still
   emptied_first : is_at is_item f p ≡ false → InlinesFirst g
   emptied_first none = record {
     each = λ x item.
@@ -202,7 +202,7 @@ module _ (f g : Forest) (p list : ℕ) (m : IsEmptied f g p list) where
 
 -- ---- the list goes
 
--- what became of a draft is sound and reads the same, and inline children stand first in each item
+-- what became of a draft is sound and reads the same, and inline children come first in each item
 pub record KeepsFirst (w v : Working) : Type 0 where
   pub stays : StaysSound w v
   pub first : InlinesFirst v.forest
@@ -211,7 +211,7 @@ pub record KeepsFirst (w v : Working) : Type 0 where
 pub first_same : (w v : Working) → IsSound w → InlinesFirst w.forest → ◌≡◌ {A = Result Working Cause} (Ok w) (Ok v) → KeepsFirst w v
 first_same w v s first e = subst (KeepsFirst w) (was_same w v e) (record { stays = stays_selected w w s refl refl; first = first; read = refl })
 
--- a list that stands below nothing can't be removed, nor can anything come before it
+-- a list that is below nothing can't be removed, nor can anything come before it
 top_stays : (list : ℕ) (lines : List ℕ) (w u v : Working) → IsSound w → in_turn (paragraph_made list) lines w ≡ Ok u → remove_step list u ≡ Ok v → (p : ℕ) × (parent_of w.forest list ≡ Some p)
 unfolding in_turn paragraph_made remove_step
 top_stays list [] w u v s e f = elim (cases_option (parent_of w.forest list)) [

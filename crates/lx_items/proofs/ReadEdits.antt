@@ -1,4 +1,4 @@
--- What the edits leave of which lists are made: what is read, and whether inline children stand first in each item.
+-- What the edits leave of which lists are made: what is read, and whether inline children come first in each item.
 use Rattle.std.proofs.Common.{◌≡◌, ◌≢◌, ◌∙◌, ℕ, ◌⊎◌, Bool, true, false, cond, eqb, ◌&&◌, List, [], ◌∷◌, ◌++◌, length, Option, None, Some, Ok, refl, sym, ap, subst, arith, inl, inr}
 use Rattle.std.specs.Prelude.{is_some, option_map}
 use Rattle.std.specs.Option.{option_or}
@@ -138,7 +138,7 @@ kinds_born test w v kind p before b clear q = by_key (eqb_tells q w.next_key) wh
       new ∙ sym gone
   by_key (inr other) = ap (passes test) (b.kinds q ∙ ap (λ t. cond t (Some kind) (kind_of w.forest q)) other.0)
 
--- Inline children stand first in each item then: where the new node, which isn't inline, has no item as its parent, or comes
+-- Inline children come first in each item then: where the new node, which isn't inline, has no item as its parent, or comes
 -- before a node that isn't inline.
 pub first_born : (w v : Working) (kind : Kind) (p : ℕ) (before : Option ℕ) → IsBorn w v kind p before → is_inline kind ≡ false
     → (is_at is_item w.forest p ≡ false) ⊎ ((o : ℕ) × (before ≡ Some o) × (is_at is_inline w.forest o ≡ false)) → InlinesFirst w.forest → InlinesFirst v.forest
@@ -197,7 +197,7 @@ went_all from to w v h two e =
 pub kinds_went : (test : Kind → Bool) (f g : Forest) (from to : ℕ) (ks : List ℕ) → WentOver f g from to ks → (q : ℕ) → is_at test g q ≡ is_at test f q
 kinds_went test f g from to ks o q = ap (λ l. passes test (option_map (λ (x : Label). x.kind) l)) (o.label q)
 
--- Inline children stand first in each item then, where they do in the node to which all went.
+-- Inline children come first in each item then, where they do in the node to which all went.
 pub first_went : (f g : Forest) (from to : ℕ) → WentAll f g from to → (is_at is_item f to ≡ true → stand_first (is_at is_inline f) (children_of f to ++ children_of f from) ≡ true) → InlinesFirst f → InlinesFirst g
 first_went f g from to t there first = record { each = λ x item. same (children_of g x) ∙ by_key x (sym (kinds_went is_item f g from to (children_of f from) t.over x) ∙ item) (eqb_tells x from) (eqb_tells x to) } where
   same : (xs : List ℕ) → stand_first (is_at is_inline g) xs ≡ stand_first (is_at is_inline f) xs

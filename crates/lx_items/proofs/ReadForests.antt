@@ -1,4 +1,4 @@
--- What is read below the nodes of two forests, of which one came out of the other: the same, where it is of what stands below.
+-- What is read below the nodes of two forests, of which one came out of the other: the same, where it is of what is below.
 use Rattle.std.proofs.Common.{◌≡◌, ◌≢◌, ◌∙◌, ℕ, Bool, true, false, cond, eqb, List, [], ◌∷◌, ◌++◌, Option, None, Some, refl, sym, ap, ap₂, arith, append_assoc, inl, inr}
 use Rattle.std.specs.Prelude.{option_map}
 use Rattle.std.proofs.lemmas.Bool.{cases_Bool}

@@ -1,4 +1,4 @@
--- What is read below a list is what its lines say, one behind another, where inline children stand first in each item.
+-- What is read below a list is what its lines say, one after another, where inline children come first in each item.
 use Rattle.std.proofs.Common.{◌≡◌, ◌∙◌, ℕ, ◌⊎◌, Bool, true, false, cond, eqb, ◌&&◌, ◌||◌, List, [], ◌∷◌, ◌++◌, Option, None, Some, refl, sym, ap, ap₂, subst, arith, inl, inr, append_assoc, append-nil}
 use Rattle.std.specs.List.{filter, list_any}
 use Rattle.std.proofs.lemmas.Bool.{cases_Bool}
@@ -23,7 +23,7 @@ use Rattle.lx_meaning.proofs.WrapSteps.{silent}
 use Rattle.lx_items.specs.Reading.{stand_first, InlinesFirst}
 use Rattle.lx_items.proofs.ReadSaid.{inlines, said, at_there, both_kinds, inline_below}
 
--- ---- what nodes give, one behind another
+-- ---- what nodes give, one after another
 
 abbrev pub spread : (ℕ → List ℕ) → List ℕ → List ℕ
 spread give [] = []
@@ -85,7 +85,7 @@ said-lines f (k ∷ ks) = elim (cases_Bool (is_line f k)) [
 no_line : (f : Forest) (k : ℕ) → is_at is_text_block f k ≡ false → is_line f k ≡ false
 no_line f k none = ap (λ b. b && (eqb (size_of f k) 0 || list_any (is_at is_inline f) (children_of f k))) none
 
--- no inline node is a line, nor is what stands in it
+-- no inline node is a line, nor is what is in it
 by_kind : (test other : Kind → Bool) → ((kind : Kind) → test kind ≡ true → other kind ≡ false) → (f : Forest) (k : ℕ) → is_at test f k ≡ true → is_at other f k ≡ false
 by_kind test other apart f k is = by_option (kind_of f k) refl is where
   by_option : (o : Option Kind) → kind_of f k ≡ o → passes test o ≡ true → is_at other f k ≡ false
@@ -138,7 +138,7 @@ listed_below f q p held up is other =
 pub listed_silent : (f : Forest) (k : ℕ) → is_at is_listed f k ≡ true → text_at f k ≡ []
 listed_silent f k is = silent f k (λ kind at. listed_no_text kind (sym (ap (passes is_listed) at) ∙ is))
 
--- what stands in a list isn't inline
+-- what is in a list isn't inline
 item_holds_none : (outer inner : Kind) → may_hold outer inner ≡ true → is_list outer ≡ true → is_inline inner ≡ false
 unfolding may_hold is_list is_item is_inline
 item_holds_none (kinds.List type) kinds.Item h is = refl
@@ -157,7 +157,7 @@ none-any test (x ∷ xs) q none among = elim (eqb_tells x q) [
   | inr other ↦ none-any test xs q (grind (arith, none)) (grind (arith, among, other.0))
 ]
 
--- Of children that stand first some give nothing, and the others what is read below them.
+-- Of children that come first some give nothing, and the others what is read below them.
 mixed : (test : ℕ → Bool) (give read : ℕ → List ℕ) (xs : List ℕ) → stand_first test xs ≡ true → ((q : ℕ) → is_among q xs ≡ true → test q ≡ true → give q ≡ [])
     → ((q : ℕ) → is_among q xs ≡ true → test q ≡ false → read q ≡ give q) → spread read xs ≡ spread read (filter test xs) ++ spread give xs
 mixed test give read [] first none same = refl

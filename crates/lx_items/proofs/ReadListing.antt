@@ -49,7 +49,7 @@ use Rattle.lx_items.proofs.ReadEdits.{IsBorn, born_last, born_before, kinds_born
 
 -- ---- what an edit keeps
 
--- what became of a draft is sound and reads the same, and inline children stand first in each item if they did
+-- what became of a draft is sound and reads the same, and inline children come first in each item if they did
 pub record Keeps (w v : Working) : Type 0 where
   pub stays : StaysSound w v
   pub first : InlinesFirst w.forest → InlinesFirst v.forest
@@ -86,14 +86,14 @@ item_not_inline : is_inline Item ≡ false
 unfolding is_inline
 item_not_inline = refl
 
--- a line right behind a list, where all children of the line are inline
+-- a line right after a list, where all children of the line are inline
 pub record MayBeItem (f : Forest) (line list : ℕ) : Type 0 where
   pub parent : ℕ
   pub beside : StandBeside (children_of f parent) list line
   pub no_item : is_at is_item f list ≡ false
   pub inline : list_all (is_at is_inline f) (children_of f line) ≡ true
 
--- the new item stands last in the list, and nothing else has changed
+-- the new item comes last in the list, and nothing else has changed
 record HasItem (f u : Forest) (p line list item : ℕ) : Type 0 where
   beside : StandBeside (children_of u p) list line
   last : children_of u list ≡ children_of f list ++ (item ∷ [])
@@ -264,7 +264,7 @@ keeps_itemized type line (Some list) w v s clear inline at e = by_test (is_at (i
 
 -- ---- check marks
 
--- the same fields with a change of what only elements have tell the same text
+-- the same fields with a change of what only elements have give the same text
 changed_silent : (change : ElementFields → ElementFields) (kind : Kind) (x : Fields) → text_or_none (text_fields kind (changed change x)) ≡ text_or_none (text_fields kind x)
 changed_silent change kind (fields.Element element) = not_text kind where
   not_text : (kind : Kind) → text_or_none (text_fields kind (fields.Element (change element))) ≡ text_or_none (text_fields kind (fields.Element element))

@@ -1,4 +1,4 @@
--- Lists of names of which those that pass a test stand before the others; and names that stand beside each other.
+-- Lists of names of which those that pass a test come before the others; and names that are beside each other.
 use Rattle.std.proofs.Common.{◌≡◌, ◌∙◌, ℕ, Bool, true, false, eqb, not, ◌&&◌, List, [], ◌∷◌, ◌++◌, Some, refl, ap, ap₂, arith, inl, inr}
 use Rattle.std.specs.List.{filter, list_any, list_all}
 use Rattle.std.proofs.lemmas.Bool.{cases_Bool}
@@ -46,7 +46,7 @@ filter-others t xs =
 pub filter-all : (xs : List ℕ) → filter (λ q. not (is_among q xs)) xs ≡ []
 filter-all xs = filter-gone (λ q. not (is_among q xs)) xs (λ q among. ap not among)
 
--- ---- those that stand first
+-- ---- those that come first
 
 any-others : (t : ℕ → Bool) (xs : List ℕ) → list_any t (filter (λ q. not (t q)) xs) ≡ false
 any-others t [] = refl
@@ -115,7 +115,7 @@ first-with t n o (x ∷ xs) new old first = elim (cases_Bool (t x)) [
 
 -- ---- names beside each other
 
--- b stands right behind a
+-- b comes right after a
 pub record StandBeside (xs : List ℕ) (a b : ℕ) : Type 0 where
   pub front : List ℕ
   pub rest : List ℕ
@@ -152,7 +152,7 @@ no_repeats_back : (xs ys : List ℕ) → NoRepeats (xs ++ ys) → NoRepeats ys
 no_repeats_back [] ys u = u
 no_repeats_back (x ∷ xs) ys u = no_repeats_back xs ys u.1
 
--- neither of the two stands elsewhere
+-- neither of the two is elsewhere
 pub record StandApart (front rest : List ℕ) (a b : ℕ) : Type 0 where
   pub two : eqb a b ≡ false
   pub in_front : (q : ℕ) → is_among q front ≡ true → (eqb a q ≡ false) × (eqb b q ≡ false)

@@ -23,7 +23,7 @@ use Rattle.lx_meaning.proofs.WrapSteps.{was_same, WasMoved, was_moved_to_end, Is
 use Rattle.lx_items.proofs.ReadOrder.{filter-without, StandBeside, StandApart, beside-apart}
 use Rattle.lx_items.proofs.ReadForests.{AreTold, IsKnown, reads_by, reads_known, reads-pair}
 
--- Some children of a node went behind those of another, and nothing else changed.
+-- Some children of a node went after those of another, and nothing else changed.
 pub record WentOver (f g : Forest) (from to : ℕ) (ks : List ℕ) : Type 0 where
   pub in_order : IsForest g
   pub label : (q : ℕ) → label_of g q ≡ label_of f q
@@ -87,7 +87,7 @@ told_over f g from to ks h o = record { before = h; behind = o.in_order; texts =
 
 -- ---- all the children of a node
 
--- They go from a node that has no text, and that stands right behind another.
+-- They go from a node that has no text, and that comes right after another.
 pub record GoesBack (f g : Forest) (p ahead from to : ℕ) : Type 0 where
   pub in_order : IsForest f
   pub over : WentOver f g from to (children_of f from)

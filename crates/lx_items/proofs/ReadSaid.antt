@@ -47,7 +47,7 @@ inlines f k = filter (is_at is_inline f) (children_of f k)
 abbrev pub rest_of : Forest → ℕ → List ℕ
 rest_of f k = filter (λ q. not (is_at is_inline f q)) (children_of f k)
 
--- what is read of the inline children of lines, one line behind another
+-- what is read of the inline children of lines, one line after another
 abbrev pub said : Forest → List ℕ → List ℕ
 said f [] = []
 said f (l ∷ ls) = reads_of f (inlines f l) ++ said f ls
@@ -59,7 +59,7 @@ second false b e = absurd (cc)
 pub among_inlines : (f : Forest) (k q : ℕ) → is_among q (inlines f k) ≡ true → is_at is_inline f q ≡ true
 among_inlines f k q among = second (is_among q (children_of f k)) (is_at is_inline f q) (sym (is_among-filter (is_at is_inline f) q (children_of f k)) ∙ among)
 
--- ---- what stands in an inline node is inline
+-- ---- what is in an inline node is inline
 
 inline_holds : (outer inner : Kind) → is_inline outer ≡ true → may_hold outer inner ≡ true → is_inline inner ≡ true
 unfolding is_inline may_hold
@@ -226,7 +226,7 @@ is_said p list line w v s up there apart e =
 
 -- ---- one line after another
 
--- Lines whose inline children may go before the list, which stands below p.
+-- Lines whose inline children may go before the list, which is below p.
 pub record MaySay (f : Forest) (p list : ℕ) (ls : List ℕ) : Type 0 where
   pub up : parent_of f list ≡ Some p
   pub place : is_at is_inline f p ≡ false

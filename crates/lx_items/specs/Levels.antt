@@ -16,14 +16,16 @@ use Rattle.lx_list.specs.Nesting.{nested_in}
 use Rattle.lx_list.specs.Indenting.{indented, indent_step}
 use Rattle.lx_list.specs.Outdenting.{outdented, outdent_step}
 
--- the list in the item before, and in the one behind, where that is nesting
+-- the list in the item right before a node, where that is nesting
 abbrev pub nested_before : Forest → ℕ → Option ℕ
 nested_before f x = nested_in f (previous_of f x)
 
+-- the list in the item right after a node, where that is nesting
 abbrev pub nested_behind : Forest → ℕ → Option ℕ
 nested_behind f x = nested_in f (next_of f x)
 
--- an item of the draft w, in which each node holds what it may, went a level deeper, which left v, and up again, which left u
+-- an item of the draft w, in which each node holds what it may, went a level deeper, which left v, and up again, which
+-- left u
 pub record GoesAndComes (x : ℕ) (w v u : Working) : Type 0 where
   pub ready : IsReady w
   pub held : IsHeld may_hold w.forest
@@ -31,7 +33,7 @@ pub record GoesAndComes (x : ℕ) (w v u : Working) : Type 0 where
   pub deeper : indented x w ≡ Ok v
   pub up : outdented x v ≡ Ok u
 
--- both points of a range stand in the tree of a node; another selection has no points
+-- both points of a range are in the tree of a node; another selection has no points
 abbrev pub has_points_within : Forest → ℕ → Selection → Bool
 has_points_within f k (Range a b format) = is_within f k a.key && is_within f k b.key
 has_points_within f k other = true
@@ -47,7 +49,7 @@ pub record SelectsAlone (x : ℕ) (w : Working) : Type 0 where
   pub line : selected_lines w.forest range ≡ x ∷ []
   pub attached : is_attached w.forest x ≡ true
 
--- the same by the two commands, each of which goes by x
+-- an item went a level deeper and up again by the two commands, each of which goes by it alone
 pub record CommandsGoAndCome (x : ℕ) (w v u : Working) : Type 0 where
   pub ready : IsReady w
   pub held : IsHeld may_hold w.forest
@@ -57,11 +59,12 @@ pub record CommandsGoAndCome (x : ℕ) (w v u : Working) : Type 0 where
   pub between : SelectsAlone x v
   pub up : outdent_step v ≡ Ok u
 
+-- an item that goes a level deeper and comes up again is where it was, with the whole tree
 pub record LevelsComeAndGo : Type 0 where
   -- between items that aren't nesting: the tree is as it was
   pub alone : (x : ℕ) (w v u : Working) → GoesAndComes x w v u
       → nested_before w.forest x ≡ None → nested_behind w.forest x ≡ None → (drop_detached u.forest ≡ drop_detached w.forest) × PointsStay x w v u
-  -- behind a nesting item alone, or before one alone, whose list isn't empty: every node is where it was, as it was
+  -- after a nesting item alone, or before one alone, whose list isn't empty: every node is where it was, as it was
   pub behind : (x list : ℕ) (w v u : Working) → GoesAndComes x w v u
       → nested_before w.forest x ≡ Some list → nested_behind w.forest x ≡ None → children_of w.forest list ≢ [] → (u.forest ≡ w.forest) × PointsStay x w v u
   pub ahead : (x list : ℕ) (w v u : Working) → GoesAndComes x w v u

@@ -13,12 +13,12 @@ use Rattle.lx_list.specs.Listing.{make_list_step}
 use Rattle.lx_list.specs.Dissolving.{remove_list_step}
 use Rattle.lx_meaning.specs.Reading.{read_below}
 
--- whether those of a list that pass a test stand before all others
+-- whether those of a list that pass a test come before all others
 abbrev pub stand_first : (ℕ → Bool) → List ℕ → Bool
 stand_first test [] = true
 stand_first test (k ∷ ks) = if test k then stand_first test ks else not (list_any test ks)
 
--- in each item of a draft, also of trees beside the root's, the inline children stand before the lists
+-- in each item of a draft, also of trees beside the root's, the inline children come before the lists
 pub record InlinesFirst (f : Forest) : Type 0 where
   pub each : (item : ℕ) → is_at is_item f item ≡ true → stand_first (is_at is_inline f) (children_of f item) ≡ true
 
@@ -31,12 +31,13 @@ pub record IsSound (w : Working) : Type 0 where
 abbrev pub ReadsAs : Working → Working → Type 0
 ReadsAs w v = read_below v.forest 0 ≡ read_below w.forest 0
 
+-- lines that are made items read the same, and so do lists that are removed again
 pub record ListsComeAndGo : Type 0 where
   -- lines that are made items read the same, whatever is selected, and whatever lists there are
   pub made : (type : ListType) (w v : Working) → IsSound w → make_list_step type w ≡ Ok v → ReadsAs w v
-  -- and so do lists that are made paragraphs, where inline children stand first
+  -- and so do lists that are made paragraphs, where inline children come first
   pub removed : (w v : Working) → IsSound w → InlinesFirst w.forest → remove_list_step w ≡ Ok v → ReadsAs w v
-  -- neither brings an inline child behind a list
+  -- neither brings an inline child after a list
   pub made_first : (type : ListType) (w v : Working) → IsSound w → InlinesFirst w.forest → make_list_step type w ≡ Ok v → InlinesFirst v.forest
   pub removed_first : (w v : Working) → IsSound w → InlinesFirst w.forest → remove_list_step w ≡ Ok v → InlinesFirst v.forest
   -- so a list that is made and removed again reads the same, wherever the selection is by then

@@ -21,7 +21,7 @@ use Rattle.lx_draft.specs.Faults.{text_in, text_fields}
 use Rattle.lx_edit.specs.Texts.{if_simple, simple_at}
 use Rattle.lx_list.specs.Making.{changed, numbered, with_extra}
 
--- where a node stands, with an item's number put as 1
+-- where a node is, with an item's number put as 1
 abbrev pub seen_label : Label → Label
 seen_label l = record { key = l.key; kind = l.kind; fields = seen_fields l.fields }
 

@@ -1,4 +1,4 @@
--- Numbering leaves each item with its number, whatever stood there.
+-- Numbering leaves each item with its number, whatever was there.
 use Rattle.std.proofs.Common.{◌≡◌, ◌∙◌, ℕ, ◌+◌, Bool, true, false, cond, not, List, [], ◌∷◌, ◌++◌, length, take, Option, None, Some, Result, Ok, Err, refl, sym, ap, subst, append_assoc, arith, inl, inr, ◌⊎◌, eqb}
 use Rattle.std.specs.Prelude.{option_map, is_some, unwrap_or}
 use Rattle.std.specs.List.{slice_get, filter, count_by}
@@ -221,7 +221,7 @@ at-append (x ∷ before) q rest = at-append before q rest
 abbrev counts : Forest → List ℕ → ℕ
 counts f before = count_by (λ item. not (is_nesting f item)) before
 
--- the number that comes to an item behind others
+-- the number that comes to an item after others
 due-append : (f : Forest) (list q : ℕ) (before rest : List ℕ) → before ++ q ∷ rest ≡ children_of f list → due f list (length before) ≡ start_at (fields_of f list) + counts f before
 due-append f list q before rest whole =
     ap (λ xs. start_at (fields_of f list) + counts f xs) (ap (take (length before)) (sym whole) ∙ take-append_seam before (q ∷ rest))

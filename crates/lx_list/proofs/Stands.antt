@@ -79,7 +79,7 @@ pub none_loose : (w : Working) → BeganNumbered w → IsQuiet w → (q : ℕ) �
 none_loose w b quiet q =
     elim (cases_Bool (is_top w.forest q)) [ inl top ↦ (let clash : false ≡ true = no_top w b q quiet top in absurd (cc)) | inr none ↦ none ]
 
--- ---- lists stand
+-- ---- lists are as they were
 
 abbrev kind_in : Option (Spot Label) → Option Kind
 kind_in o = option_map (λ (l : Label). l.kind) (option_map (λ (s : Spot Label). s.label) o)

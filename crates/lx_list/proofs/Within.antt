@@ -22,7 +22,7 @@ use Rattle.lx_range.proofs.Gathered.{next_at}
 use Rattle.lx_range.proofs.Steps.{first_left, in_order_with}
 use Rattle.lx_range.proofs.Stretches.{before_and_from}
 
--- ---- a tree, up to what is behind it
+-- ---- a tree, up to what comes after it
 
 from_is : (f : Forest) (q : ℕ) → IsForest f → is_attached f q ≡ true → from f q ≡ keys_within f q ++ behind f q
 from_is f q h attached =
@@ -36,7 +36,7 @@ behind_left : (f : Forest) (q : ℕ) (stop : Option (ℕ × ℕ)) → IfSome sto
 behind_left f q None some none = sym none
 behind_left f q (Some next) some none = sym some
 
--- the nodes from one on, up to what is behind its tree, are those of its tree
+-- the nodes from one on, up to what comes after its tree, are those of its tree
 pub tree_walked : (test : ℕ → Bool) (f : Forest) (q : ℕ) (stop : Option (ℕ × ℕ)) → Sound f → is_attached f q ≡ true → IfSome stop (λ next. behind f q ≡ from f next.0) → IfNone stop (behind f q ≡ [])
     → IfSome stop (λ next. depth f next.0 ≡ Some next.1) → filter test (until (key_of_step stop) (from f q)) ≡ filter test (keys_within f q)
 tree_walked test f q stop s attached some none deep =

@@ -1,4 +1,4 @@
--- What numbering can rely on: the draft began with a forest whose items have their numbers, and its marks tell what changed
+-- What numbering can rely on: the draft began with a forest whose items have their numbers, and its marks show what changed
 -- since.
 use Rattle.std.specs.Prelude.{ℕ, ◌≡◌, ◌||◌, ◌&&◌, not, Bool, true}
 use Rattle.std.specs.List.{list_all}
@@ -12,8 +12,8 @@ use Rattle.lx_draft.specs.Covering.{Covers, KindsStay}
 use Rattle.lx_range.specs.Blocks.{is_at}
 use Rattle.lx_list.specs.Numbered.{IsNumbered}
 
--- There was a forest before in which nothing was detached and each item had its number. The marks of the draft cover all
--- that changed from there, and no node is of another kind since.
+-- there was a forest before in which nothing was detached and each item had its number; the draft's marks cover all
+-- that changed since, and no node is of another kind
 pub record BeganNumbered (w : Working) : Type 0 where
   pub before : Forest
   pub in_order : IsForest before
@@ -22,11 +22,11 @@ pub record BeganNumbered (w : Working) : Type 0 where
   pub marks : Covers before unmarked w.forest w.marks
   pub kinds : KindsStay before w.forest
 
--- whether a key is that of a list, of an item, or of a node that stands below nothing: where none is marked itself, the
+-- whether a key is that of a list, of an item, or of a node that is below nothing: where none is marked itself, the
 -- items have their numbers still
 abbrev pub may_renumber : Forest → ℕ → Bool
 may_renumber f k = is_at is_list f k || (is_at is_item f k || is_top f k)
 
--- no key that is marked itself is one of these
+-- no key that is marked itself is one after which numbers may change
 abbrev pub stand_still : Forest → Marked → Bool
 stand_still f m = list_all (λ k. not (may_renumber f k)) m.leaves && list_all (λ e. not (e.1 && may_renumber f e.0)) m.elements

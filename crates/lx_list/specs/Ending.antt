@@ -16,13 +16,14 @@ use Rattle.lx_range.specs.Ranges.{caret_at}
 use Rattle.lx_list.specs.Making.{with_new, with_like}
 use Rattle.lx_list.specs.Outdenting.{items_behind, out_of}
 
--- the items behind it, if there are some, go to a new list like theirs behind the paragraph
+-- items, if there are some, go to a new list like theirs after the paragraph
 abbrev pub rest_parted : ℕ → List ℕ → Option Label → Working → Result Working Cause
 rest_parted paragraph [] like w = Ok w
 rest_parted paragraph items like w =
     with_like like (λ rest v. after (put_behind_step rest paragraph v) (in_turn (moved_to_end rest) items)) w
 
--- a new paragraph behind the list takes its place, with the caret
+-- a new paragraph after the list takes the item's place, with the caret, and the items after it go to a list like
+-- theirs
 abbrev pub paragraph_behind_like : ℕ → ℕ → List ℕ → Option Label → Working → Result Working Cause
 paragraph_behind_like x list items like w =
     with_new Paragraph plain_element (λ paragraph v.
@@ -30,17 +31,20 @@ paragraph_behind_like x list items like w =
     after (rest_parted paragraph items like put) (λ left.
     remove_step x (caret_at (element_point paragraph 0) left)))) w
 
+-- an item ends its list: a new paragraph after the list takes its place, with the caret
 unfoldable pub paragraph_behind : ℕ → ℕ → Working → Result Working Cause
 paragraph_behind x list w = paragraph_behind_like x list (items_behind w.forest list x) (label_of w.forest list) w
 
--- by what its list stands in: out of an item it goes as by outdenting
+-- an item ends its list, by what that is in: out of an item it goes as by outdenting
 abbrev pub ended_by : ℕ → ℕ → Option ℕ → Working → Result Working Cause
 ended_by x list None w = Ok w
 ended_by x list (Some above) w = if is_at is_item w.forest above then out_of x list above w else paragraph_behind x list w
 
+-- an item ends its list, where it is in one
 abbrev pub ended_in : ℕ → Option ℕ → Working → Result Working Cause
 ended_in x None w = Ok w
 ended_in x (Some list) w = ended_by x list (parent_of w.forest list) w
 
+-- the command by which an item ends its list
 unfoldable pub paragraph_in_item_step : ℕ → Working → Result Working Cause
 paragraph_in_item_step x w = ended_in x (parent_of w.forest x) w

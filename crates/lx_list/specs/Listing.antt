@@ -22,13 +22,14 @@ use Rattle.lx_range.specs.Blocks.{is_at}
 use Rattle.lx_list.specs.Lines.{each_line}
 use Rattle.lx_list.specs.Making.{with_new, list_fields, item_fields, unchecked, check_item}
 
+-- two types of lists are one
 abbrev pub same_type : ListType → ListType → Bool
 same_type Bullet Bullet = true
 same_type Number Number = true
 same_type Check Check = true
 same_type _ _ = false
 
--- lists of this type
+-- this is the kind of lists of the type
 abbrev pub is_list_of : ListType → Kind → Bool
 is_list_of type (ListKind found) = same_type type found
 is_list_of type other = false
@@ -42,12 +43,12 @@ item_made type line list w =
     after (put_step item list (size_of v.forest list) v) (λ u.
     after (children_step line item u) (remove_step line))) w
 
--- ... of a new list before the line
+-- the line becomes the item of a new list before it
 unfoldable pub list_made : ListType → ℕ → Working → Result Working Cause
 list_made type line w =
     with_new (ListKind type) list_fields (λ list v. after (put_before_step list line v) (item_made type line list)) w
 
--- into the list before the line, where that is of the type, and else into a new one
+-- the line goes into the list before it, where that is of the type, and else into a new one
 abbrev pub itemized : ListType → ℕ → Option ℕ → Working → Result Working Cause
 itemized type line None w = list_made type line w
 itemized type line (Some list) w =
@@ -55,6 +56,7 @@ itemized type line (Some list) w =
 
 -- ---- a list becomes one of another type
 
+-- whether there is a check mark, set or not
 abbrev pub has_mark_in : Extra → Bool
 has_mark_in (extra.Item value (Some checked)) = true
 has_mark_in other = false
@@ -64,7 +66,7 @@ abbrev pub has_mark : Option Fields → Bool
 has_mark (Some (fields.Element element)) = has_mark_in element.extra
 has_mark other = false
 
--- In a check list an item gets a check mark where it has none. In another it loses its own.
+-- in a check list an item gets a check mark where it has none; in any other it loses its own
 abbrev pub remarked : ListType → ℕ → Working → Result Working Cause
 remarked Check item w = if has_mark (fields_of w.forest item) then Ok w else check_item (Some false) item w
 remarked type item w = check_item None item w
@@ -78,22 +80,24 @@ retyped_with type list (Some fields) w =
     after (children_step list new put) (λ moved.
     after (remove_step list moved) (λ left. in_turn (remarked type) (children_of left.forest new) left)))) w
 
+-- a list becomes one of the type
 unfoldable pub retyped : ListType → ℕ → Working → Result Working Cause
 retyped type list w = retyped_with type list (fields_of w.forest list) w
 
--- unless it is of the type
+-- a list above becomes one of the type, unless it is of it
 abbrev pub retyped_above : ListType → Option ℕ → Working → Result Working Cause
 retyped_above type None w = Ok w
 retyped_above type (Some list) w = if is_at (is_list_of type) w.forest list then Ok w else retyped type list w
 
 -- ---- the command
 
--- An item's list gets the type. Any other line becomes an item, unless it has a child that isn't inline.
+-- an item's list gets the type, and any other line becomes an item, unless it has a child that isn't inline
 unfoldable pub listed : ListType → ℕ → Working → Result Working Cause
 listed type line w =
     if is_at is_item w.forest line then retyped_above type (parent_of w.forest line) w
     else if list_all (is_at is_inline w.forest) (children_of w.forest line) then itemized type line (previous_of w.forest line) w
     else Ok w
 
+-- the command that makes each selected line an item of a list of this type
 unfoldable pub make_list_step : ListType → Working → Result Working Cause
 make_list_step type w = each_line (listed type) w

@@ -23,14 +23,15 @@ use Rattle.lx_range.specs.Making.{new_like}
 abbrev pub with_new : Kind → Fields → (ℕ → Working → Result Working Cause) → Working → Result Working Cause
 with_new kind fields next w = after (new_step kind fields w) (next w.next_key)
 
--- the same with a node that is like another
+-- a new node like another, and then a step with its key
 abbrev pub with_like : Option Label → (ℕ → Working → Result Working Cause) → Working → Result Working Cause
 with_like l next w = after (new_like l w) (next w.next_key)
 
--- the fields of a list that begins with 1, and of an item with the number 1
+-- the fields of a list that begins with 1
 abbrev pub list_fields : Fields
 list_fields = fields.Element (element_with (extra.List 1))
 
+-- the fields of an item with the number 1 and this check mark
 abbrev pub item_fields : Option Bool → Fields
 item_fields checked = fields.Element (element_with (extra.Item 1 checked))
 
@@ -41,35 +42,42 @@ unchecked other = None
 
 -- ---- fields changed
 
+-- fields changed, if they are an element's
 abbrev pub changed : (ElementFields → ElementFields) → Fields → Fields
 changed change (fields.Element element) = fields.Element (change element)
 changed change other = other
 
+-- an element with its indent changed
 abbrev pub with_indent : (ℕ → ℕ) → ElementFields → ElementFields
 with_indent change e = record e { indent = change e.indent }
 
+-- an element with what it has of its own kind changed
 abbrev pub with_extra : (Extra → Extra) → ElementFields → ElementFields
 with_extra change e = record e { extra = change e.extra }
 
--- an item's number, and its check mark
+-- an item with this number
 abbrev pub numbered : ℕ → Extra → Extra
 numbered n (extra.Item value checked) = extra.Item n checked
 numbered n other = other
 
+-- an item with this check mark, or with none
 abbrev pub checked_as : Option Bool → Extra → Extra
 checked_as check (extra.Item value checked) = extra.Item value check
 checked_as check other = other
 
--- the fields of a node are set to what they become, also where that is what they were
+-- these fields of a node set to what they become, also where that is what they were
 abbrev pub set_changed : (ElementFields → ElementFields) → ℕ → Option Fields → Working → Result Working Cause
 set_changed change k None w = Ok w
 set_changed change k (Some fields) w = set_step k (changed change fields) w
 
+-- a node's fields set to what they become, also where that is what they were
 unfoldable pub change_step : (ElementFields → ElementFields) → ℕ → Working → Result Working Cause
 change_step change k w = set_changed change k (fields_of w.forest k) w
 
+-- an item gets a number
 unfoldable pub number_item : ℕ → ℕ → Working → Result Working Cause
 number_item n = change_step (with_extra (numbered n))
 
+-- an item gets a check mark, or loses it
 unfoldable pub check_item : Option Bool → ℕ → Working → Result Working Cause
 check_item check = change_step (with_extra (checked_as check))

@@ -19,7 +19,7 @@ use lx_node::{Fault, Fields, Key, Kind};
 use lx_range::{is_item_at, place_caret};
 use std::alloc::Global;
 
-/// Moves items, if there are any, into a new list of this kind and with these fields behind a paragraph.
+/// Moves items, if there are any, into a new list of this kind and with these fields after a paragraph.
 #[tactic(auto, using(crate::proofs::Made::no_root))]
 fn part_rest(
     draft: &mut Draft,
@@ -45,7 +45,7 @@ fn part_rest(
     }
 }
 
-/// Puts a paragraph behind a list in the place of an item, with the caret, and the items behind that into a list of
+/// Puts a paragraph after a list in the place of an item, with the caret, and the items after that into a list of
 /// their own.
 #[tactic(auto, unfolding(crate::specs::Ending::paragraph_behind), using(crate::proofs::Made::paragraph_suits))]
 fn put_paragraph(alloc: Global, draft: &mut Draft, item: Key, list: Key) -> Result<(), Fault>
@@ -63,7 +63,7 @@ fn put_paragraph(alloc: Global, draft: &mut Draft, item: Key, list: Key) -> Resu
     remove(draft, item)
 }
 
-/// Ends a list at an item, by what the list stands in.
+/// Ends a list at an item, by what the list is in.
 fn end_list(alloc: Global, draft: &mut Draft, item: Key, list: Key) -> Result<(), Fault>
     requires { blocks.is_at kinds.is_list draft.old.forest list ≡ true }
     ensures ok { OnOk result (ending.ended_by item list (lookups.parent_of draft.old.forest list) draft.old ≡ Ok draft.new) }
@@ -82,9 +82,9 @@ fn end_list(alloc: Global, draft: &mut Draft, item: Key, list: Key) -> Result<()
     }
 }
 
-/// Ends its list at an item without children. Where the list stands in another item, the item goes out of it as by
-/// `outdent`. Otherwise a new paragraph comes behind the list in the place of the item, with the caret in it; and the items
-/// that stood behind the item go into a new list behind the paragraph, with the kind and the fields of theirs. The
+/// Ends its list at an item without children. Where the list is in another item, the item goes out of it as by
+/// `outdent`. Otherwise a new paragraph comes after the list in the place of the item, with the caret in it; and the items
+/// that came after the item go into a new list after the paragraph, with the kind and the fields of theirs. The
 /// selection's format stays. What may not be left empty goes with the item.
 ///
 /// It is refused as the edits of a draft are: with `StepLimit` where 100,000 counts were taken, and with `TooLarge` where

@@ -48,7 +48,7 @@ fn wrap_in(alloc: Global, draft: &mut Draft, item: Key) -> Result<(), Fault>
     }
 }
 
-/// Moves the items of a further list behind those of a list, and removes what holds the further one.
+/// Moves the items of a further list after those of a list, and removes what holds the further one.
 fn take_from(alloc: Global, draft: &mut Draft, list: Key, further: Key) -> Result<(), Fault>
     ensures ok { OnOk result (indenting.taken_from list further (lookups.parent_of draft.old.forest further) draft.old ≡ Ok draft.new) }
     ensures err { IfErr result (λ e. TellsStep e (indenting.taken_from list further (lookups.parent_of draft.old.forest further) draft.old)) }
@@ -63,7 +63,7 @@ fn take_from(alloc: Global, draft: &mut Draft, list: Key, further: Key) -> Resul
     }
 }
 
-/// Moves an item to the end of a list, and the items of a further list behind it.
+/// Moves an item to the end of a list, and the items of a further list after it.
 #[tactic(auto, unfolding(crate::specs::Indenting::moved_between))]
 fn move_between(
     alloc: Global,
@@ -91,7 +91,7 @@ fn move_to_front(draft: &mut Draft, list: Key, item: Key) -> Result<(), Fault>
     draft.put(item, list, 0)
 }
 
-/// Moves an item into the lists that are nested before it and behind it, or else into a new one.
+/// Moves an item into the lists that are nested before it and after it, or else into a new one.
 fn nest(
     alloc: Global,
     draft: &mut Draft,

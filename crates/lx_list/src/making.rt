@@ -1,4 +1,4 @@
-//! New nodes, and the items behind one.
+//! New nodes, and the items after one.
 
 ghost use Rattle.std.specs.Prelude.{◌≡◌, ◌+◌, true, Some, IfOk, unwrap_or};
 ghost use Rattle.lx_node.specs.Kinds as kinds;
@@ -50,7 +50,7 @@ pub(crate) fn like(alloc: Global, links: &Links, list: Key) -> Result<(Kind, Fie
     }
 }
 
-/// How many items of its list stand before what is behind an item.
+/// How many items of its list come before what comes after an item.
 #[tactic(auto, using(lx_range::proofs::Passing::index_fits))]
 fn place_behind(links: &Links, item: Key) -> u32
     ensures { result ≡ unwrap_or (lookups.index_of links.now item) 0 + 1 }
@@ -61,7 +61,7 @@ fn place_behind(links: &Links, item: Key) -> u32
     }
 }
 
-/// The items of a list behind one of them.
+/// The items of a list after one of them.
 pub(crate) fn items_behind(
     alloc: Global,
     links: &Links,

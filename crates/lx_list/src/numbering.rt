@@ -124,7 +124,7 @@ fn number_lists(alloc: Global, draft: &mut Draft, lists: &[Key]) -> Result<(), F
     Ok(())
 }
 
-/// Takes the counts of all items at once, and what they write, where the lists stand as they did when the draft began: each
+/// Takes the counts of all items at once, and what they write, where the lists are as they were when the draft began: each
 /// item has its number then. It answers whether it did. Where it didn't, some list may not be numbered, or a limit would be
 /// passed on the way.
 #[tactic(auto, using(crate::proofs::Rewritten::number_rewritten))]

@@ -19,7 +19,7 @@ use lx_node::{Fault, Fields, Key, Kind};
 use lx_range::is_item_at;
 use std::alloc::Global;
 
-/// Puts a new item behind an outer one, with a list in it that takes items, and a node between the two.
+/// Puts a new item after an outer one, with a list in it that takes items, and a node between the two.
 #[tactic(auto, using(crate::proofs::Made::item_suits, crate::proofs::Made::no_root))]
 fn part_with(
     alloc: Global,
@@ -43,7 +43,7 @@ fn part_with(
     move_behind(draft, outer, item)
 }
 
-/// Moves an item behind the outer one, and between the two and what was behind it in its list.
+/// Moves an item after the outer one, and between the two and what was after it in its list.
 #[tactic(auto, unfolding(crate::specs::Outdenting::parted))]
 fn part(alloc: Global, draft: &mut Draft, item: Key, list: Key, outer: Key) -> Result<(), Fault>
     requires { blocks.is_at kinds.is_list draft.old.forest list ≡ true }
@@ -65,7 +65,7 @@ fn is_first(links: &Links, parent: Key, key: Key) -> bool
     }
 }
 
-/// Moves an item out of its list: before the outer item, or behind it.
+/// Moves an item out of its list: before the outer item, or after it.
 #[tactic(auto, unfolding(crate::specs::Outdenting::moved_out))]
 fn move_out(alloc: Global, draft: &mut Draft, item: Key, list: Key, outer: Key) -> Result<(), Fault>
     requires { blocks.is_at kinds.is_list draft.old.forest list ≡ true }

@@ -1,4 +1,4 @@
-//! Whether lists stand as they did when the draft began.
+//! Whether lists are as they were when the draft began.
 
 ghost use Rattle.std.specs.Prelude.{◌≡◌, ◌&&◌, not};
 ghost use Rattle.std.specs.List.{list_all};
@@ -12,14 +12,14 @@ use lx_marks::Marks;
 use lx_node::Key;
 use lx_range::is_item_at;
 
-/// Whether the node stands below nothing and isn't the root.
+/// Whether the node is below nothing and isn't the root.
 fn is_top(links: &Links, key: Key) -> bool
     ensures { result ≡ loose.is_top links.now key }
 {
     links.has(key) && links.parent(key).is_none() && key != Key::root()
 }
 
-/// Whether numbers may change where this key is marked itself: it is a list's or an item's, or its node stands below nothing.
+/// Whether numbers may change where this key is marked itself: it is a list's or an item's, or its node is below nothing.
 fn may_renumber(links: &Links, key: Key) -> bool
     ensures { result ≡ began.may_renumber links.now key }
 {

@@ -23,8 +23,8 @@ covered_by (x ∷ spots) (suc i) (suc n) s row c at low e =
     or_true true = refl
     or_true false = refl
 
--- The later of two spots stands in its own row where the earlier one doesn't. Below, they keep apart, since both go straight
--- down: what the earlier one covers at a row that both stand in, it covers at the later one's row.
+-- The later of two spots is in its own row where the earlier one isn't. Below, they keep apart, since both go straight
+-- down: what the earlier one covers at a row that both are in, it covers at the later one's row.
 own_row : (a b : Spot) (row c : ℕ) → a.row ≤ b.row → covers row c a ≡ true → covers row c b ≡ true → covers b.row c a ≡ true
 own_row a b row c before e g = grind (arith, nat_tests, before, e, g)
 

@@ -1,4 +1,4 @@
--- The spots that are found one behind another are the grid.
+-- The spots that are found one after another are the grid.
 use Rattle.std.proofs.Common.{◌≡◌, ◌∙◌, ℕ, zero, suc, ◌+◌, List, [], ◌∷◌, ◌++◌, length, take, Some, refl, sym, ap, subst, append_assoc, append-nil}
 use Rattle.std.specs.Prelude.{map, filter, not}
 use Rattle.std.specs.List.{slice_get}
@@ -19,7 +19,7 @@ spot_behind-is f rows row earlier cell = record {
   least = λ c free. first_free_least earlier row (column_span f cell) c (room_by_free earlier row (column_span f cell) c free);
 }
 
--- each of these stands behind those before it
+-- each of these comes after those before it
 abbrev pub AreSpots : Forest → ℕ → List Spot → List Spot → Type 0
 AreSpots f rows earlier [] = Unit {0}
 AreSpots f rows earlier (s ∷ spots) = IsSpot f rows earlier s × AreSpots f rows (earlier ++ s ∷ []) spots

@@ -30,7 +30,7 @@ use Rattle.lx_table.proofs.Filled.{none_gone}
 
 -- ---- the cells of a grid, each in its row
 
--- a cell stands in the row of its index, with the size that its spans give
+-- a cell is in the row of its index, with the size that its spans give
 record IsOwn (f : Forest) (keys : List ℕ) (s : Spot) : Type 0 where
   pub key : ℕ
   pub row : slice_get keys s.row ≡ Some key

@@ -21,6 +21,7 @@ use Rattle.lx_table.specs.Places.{focus_of, caret_in_step}
 
 -- ---- cells
 
+-- the fields of a new cell, with this header
 abbrev pub cell_fields : ℕ → Fields
 cell_fields header = fields.Element (element_with (extra.Cell header 1 1 None))
 
@@ -31,7 +32,7 @@ cell_made header row index w =
     after (new_step Paragraph plain_element v) (λ u.
     after (put_step v.next_key w.next_key 0 u) (put_step w.next_key row index)))
 
--- so many, from an index on
+-- so many new cells in a row, from an index on
 abbrev pub cells_made : ℕ → ℕ → ℕ → ℕ → Working → Result Working Cause
 cells_made header row index n w = in_turn (cell_made header row) (keys_from index n) w
 
@@ -42,25 +43,27 @@ abbrev pub headers_at : Bool → ℕ → ℕ → ℕ
 headers_at false row column = 0
 headers_at true row column = (if row == 0 then 1 else 0) + (if column == 0 then 2 else 0)
 
+-- the new cell of a row and a column
 abbrev pub cell_made_at : Bool → ℕ → ℕ → ℕ → Working → Result Working Cause
 cell_made_at headers row key column w = cell_made (headers_at headers row column) key column w
 
--- a new row with so many cells comes behind the rows of a table
+-- a new row with so many cells comes after the rows of a table
 unfoldable pub row_made : Bool → ℕ → ℕ → ℕ → Working → Result Working Cause
 row_made headers columns table row w =
     after (new_step Row plain_element w) (λ v.
     after (in_turn (cell_made_at headers row w.next_key) (keys_from 0 columns) v) (put_step w.next_key table row))
 
+-- what holds tables: the root and cells
 abbrev pub holds_tables : Kind → Bool
 holds_tables Root = true
 holds_tables Cell = true
 holds_tables other = false
 
--- whether a node stands in the root or in a cell
+-- whether a node is a child of the root or of a cell
 abbrev pub stands_beside_tables : Forest → ℕ → Bool
 stands_beside_tables f k = passes holds_tables (option_and_then (kind_of f) (parent_of f k))
 
--- behind which node a table comes: the nearest of a node and those above it that stands in the root or in a cell
+-- after which node a table comes: the nearest of a node and those above it that is a child of the root or of a cell
 abbrev pub neighbour_of : Forest → ℕ → Option ℕ
 neighbour_of f k = find (stands_beside_tables f) (k ∷ ancestors f k)
 
@@ -68,26 +71,29 @@ neighbour_of f k = find (stands_beside_tables f) (k ∷ ancestors f k)
 abbrev pub first_cell : Forest → ℕ → Option ℕ
 first_cell f table = option_and_then (first_child f) (first_child f table)
 
+-- the caret at the start of a cell, if there is one
 abbrev pub caret_in_cell : Option ℕ → Working → Result Working Cause
 caret_in_cell None w = Ok w
 caret_in_cell (Some cell) w = caret_in_step cell w
 
--- a new table comes behind a node
+-- a new table comes after a node, with the caret in its first cell
 unfoldable pub table_made : ℕ → ℕ → Bool → ℕ → Working → Result Working Cause
 table_made rows columns headers place w =
     after (new_step Table plain_element w) (λ v.
     after (in_turn (row_made headers columns w.next_key) (keys_from 0 rows) v) (λ u.
     after (put_behind_step w.next_key place u) (λ put. caret_in_cell (first_cell put.forest w.next_key) put)))
 
--- where nothing stands in the root or in a cell there is no place
+-- there is no place for a table where the focus is in no child of the root or of a cell
 abbrev pub place_fault : Option Kind → Option Cause
 place_fault None = None
 place_fault (Some kind) = Some (WrongKind kind)
 
+-- a new table comes after the neighbour of the focus
 abbrev pub table_behind : ℕ → ℕ → Bool → ℕ → Option ℕ → Working → Result Working Cause
 table_behind rows columns headers focus None w = answer (place_fault (kind_of w.forest focus)) w
 table_behind rows columns headers focus (Some place) w = table_made rows columns headers place w
 
+-- the command that inserts a table
 unfoldable pub insert_table_step : ℕ → ℕ → Bool → Working → Result Working Cause
 insert_table_step rows columns headers w =
     after (focus_of w) (λ k. table_behind rows columns headers k (neighbour_of w.forest k) w)

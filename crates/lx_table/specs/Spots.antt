@@ -1,4 +1,4 @@
--- Where the cells of a table stand.
+-- Where the cells of a table are.
 use Rattle.std.specs.Prelude.{ℕ, ◌+◌, ◌≤◌, ◌==◌, ◌&&◌, Bool, true, false, nat_lt, nat_le, max, List, [], ◌∷◌, find, Option}
 use Rattle.std.specs.List.{list_any}
 use Rattle.lx_table.specs.declared.spots.Spot.{Spot}
@@ -7,26 +7,31 @@ use Rattle.lx_table.specs.declared.spots.Spot.{Spot}
 abbrev pub is_among_from : ℕ → ℕ → ℕ → Bool
 is_among_from first count n = nat_le first n && nat_lt n (first + count)
 
--- a spot stands in so many rows from its row on, and in so many columns from its column on
+-- a spot covers places of a row
 abbrev pub stands_in_row : ℕ → Spot → Bool
 stands_in_row row s = is_among_from s.row s.height row
 
+-- a spot covers places of a column
 abbrev pub stands_in_column : ℕ → Spot → Bool
 stands_in_column column s = is_among_from s.column s.width column
 
+-- a spot covers a place
 abbrev pub covers : ℕ → ℕ → Spot → Bool
 covers row column s = stands_in_row row s && stands_in_column column s
 
+-- one of these spots covers a place
 abbrev pub is_covered : List Spot → ℕ → ℕ → Bool
 is_covered spots row column = list_any (covers row column) spots
 
--- the spot of a cell, and the one that covers a place: none where the place is free
+-- a spot is that of a cell
 abbrev pub is_of_cell : ℕ → Spot → Bool
 is_of_cell cell s = s.cell == cell
 
+-- the spot of a cell, if it is among these
 abbrev pub spot_of : List Spot → ℕ → Option Spot
 spot_of spots cell = find (is_of_cell cell) spots
 
+-- the spot that covers a place: none where the place is free
 abbrev pub spot_at : List Spot → ℕ → ℕ → Option Spot
 spot_at spots row column = find (covers row column) spots
 
@@ -40,14 +45,16 @@ abbrev pub kept_if : Bool → Spot → List Spot
 kept_if true s = s ∷ []
 kept_if false s = []
 
--- The most nodes among which a table is looked for. Its spots are small then, since no cell spans more than 1000 columns.
+-- the most nodes among which a table is looked for: so few that spots are small, as no cell spans more than 1000
+-- columns
 abbrev pub most_cells : ℕ
 most_cells = 1048576
 
--- it ends far below the last number of a machine
+-- a number far below the last one of a machine
 abbrev pub most_end : ℕ
 most_end = 2000000000
 
+-- a spot ends before that number
 pub record IsSmall (s : Spot) : Type 0 where
   pub rows : s.row + s.height ≤ most_end
   pub columns : s.column + s.width ≤ most_end

@@ -44,7 +44,7 @@ fn is_in_row_alone(spot: &Spot, row: u32) -> bool
     spot.row == row && spot.height == 1
 }
 
-/// Whether each cell stands in a row and in no other.
+/// Whether each cell is in a row and in no other.
 fn are_in_row_alone(spots: &[Spot], row: u32) -> bool
     ensures { result ≡ list_all (spec.is_in_row_alone row) spots.now }
 {
@@ -170,7 +170,7 @@ fn move_all_down(
     }
 }
 
-/// A list without what stands at an index.
+/// A list without what is at an index.
 #[tactic(auto, using(crate::proofs::Without::all_left))]
 fn take_out(keys: &mut Vec<Key>, index: u32)
     ensures { keys.new.items ≡ spec.without_at index keys.old.items }

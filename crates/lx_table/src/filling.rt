@@ -24,7 +24,7 @@ use lx_links::Links;
 use lx_node::{Cause, Fault, Key, Kind, NoMemory};
 use std::alloc::Global;
 
-/// The first column from which on so many have room between cells that stand in a row, by their columns.
+/// The first column from which on so many have room between cells that are in a row, by their columns.
 fn column_between(standing: &[Spot], width: u32) -> u32
     requires small { All IsSmall standing.now }
     requires width { width ≤ 1000 }
@@ -40,7 +40,7 @@ fn column_between(standing: &[Spot], width: u32) -> u32
     column
 }
 
-/// How many of the cells that stand in a row, by their columns, are in front of that column.
+/// How many of the cells that are in a row, by their columns, are in front of that column.
 fn passed_between(standing: &[Spot], width: u32) -> usize
     requires small { All IsSmall standing.now }
     requires width { width ≤ 1000 }
@@ -58,14 +58,14 @@ fn passed_between(standing: &[Spot], width: u32) -> usize
     passed
 }
 
-/// The cells that stand in a row too, of those that stand in the one above.
+/// The cells that are in a row too, of those that are in the one above.
 fn keep_standing(standing: &mut Vec<Spot>, row: u32)
     ensures { standing.new.items ≡ filling.still_standing row standing.old.items }
 {
     standing.retain(|spot| stands_in_row(spot, row));
 }
 
-/// Where a cell of a row stands: at the first column where it has room between those that stand there.
+/// Where a cell of a row is: at the first column where it has room between those that are there.
 fn place_cell(standing: &[Spot], links: &Links, rows: u32, row: u32, cell: Key) -> Spot
     requires small { All IsSmall standing.now }
     requires row { row < rows }
@@ -83,7 +83,7 @@ fn place_cell(standing: &[Spot], links: &Links, rows: u32, row: u32, cell: Key) 
     }
 }
 
-/// Puts a cell between those that stand in a row, by their columns.
+/// Puts a cell between those that are in a row, by their columns.
 #[tactic(auto, using(crate::proofs::Standing::passed_within))]
 fn put_standing(standing: &mut Vec<Spot>, spot: &Spot) -> Result<(), NoMemory>
     requires small { All IsSmall standing.old.items }
@@ -225,8 +225,8 @@ fn no_table(links: &Links, key: Key) -> Option<Cause>
     }
 }
 
-/// The grid of a table: each cell, in preorder, stands at the first column at which its places in its own row are free. It
-/// stands in as many columns as it spans, and in as many rows, at most down to the last.
+/// The grid of a table: each cell, in preorder, is at the first column at which its places in its own row are free. It
+/// is in as many columns as it spans, and in as many rows, at most down to the last.
 ///
 /// It is refused with `UnknownNode` where there is no such node, and with `WrongKind` and its kind where it isn't a table.
 pub fn grid(alloc: Global, links: &Links, table: Key) -> Result<Grid, Fault>

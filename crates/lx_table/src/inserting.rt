@@ -76,7 +76,7 @@ fn make_row_cells(
     Ok(())
 }
 
-/// Makes a row with so many cells, and puts it behind the rows of a new table.
+/// Makes a row with so many cells, and puts it after the rows of a new table.
 #[tactic(auto, unfolding(crate::specs::Making::row_made), using(crate::proofs::Suits::row_suits))]
 fn make_row(
     alloc: Global,
@@ -124,7 +124,7 @@ fn holds_tables(kind: Kind) -> bool
     matches!(kind, Kind::Root | Kind::Cell)
 }
 
-/// Whether a node stands in the root or in a cell.
+/// Whether a node is in the root or in a cell.
 fn stands_beside_tables(links: &Links, key: Key) -> bool
     ensures { result ≡ spec.stands_beside_tables links.now key }
 {
@@ -137,7 +137,7 @@ fn stands_beside_tables(links: &Links, key: Key) -> bool
     }
 }
 
-/// Behind which node a table comes: the nearest of a node and those above it that stands in the root or in a cell.
+/// After which node a table comes: the nearest of a node and those above it that is in the root or in a cell.
 fn neighbour_of(links: &Links, key: Key) -> Option<Key>
     ensures { result ≡ spec.neighbour_of links.now key }
 {
@@ -170,7 +170,7 @@ fn set_caret_in_cell(draft: &mut Draft, cell: Option<Key>) -> Result<(), Fault>
     }
 }
 
-/// Makes a table, puts it behind a node, and the caret into its first cell.
+/// Makes a table, puts it after a node, and the caret into its first cell.
 #[tactic(auto, unfolding(crate::specs::Making::table_made), using(crate::proofs::Suits::table_suits))]
 fn make_table(
     alloc: Global,
@@ -191,14 +191,14 @@ fn make_table(
     set_caret_in_cell(draft, cell)
 }
 
-/// Nothing that holds the focus stands in the root or in a cell.
+/// Nothing that holds the focus is in the root or in a cell.
 fn no_place(links: &Links, focus: Key) -> Option<Cause>
     ensures { result ≡ spec.place_fault (lookups.kind_of links.now focus) }
 {
     Some(Cause::WrongKind(links.kind(focus)?))
 }
 
-/// Inserts a table behind the node of the focus, or the nearest above it, that stands in the root or in a cell.
+/// Inserts a table after the node of the focus, or the nearest above it, that is in the root or in a cell.
 #[tactic(auto, unfolding(crate::specs::Making::insert_table_step))]
 pub(crate) fn insert_table_at(
     alloc: Global,

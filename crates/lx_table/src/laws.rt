@@ -9,13 +9,13 @@ pub fn grids_are_told()
     ensures { GridsAreTold }
 {}
 
-/// Each cell of a table gets the rows in which it stands, as every command but `insert_table` begins, and the grid of the
+/// Each cell of a table gets the rows that it covers, as every command but `insert_table` begins, and the grid of the
 /// table stays as it was. This function does nothing, and its contract is this law.
 pub fn heights_keep_grids()
     ensures { HeightsKeepGrids }
 {}
 
-/// Marks tell whatever a command changes, as they do of the edits that commands are made of. This function does nothing,
+/// Marks show whatever a command changes, as they do of the edits that commands are made of. This function does nothing,
 /// and its contract is these laws.
 pub fn tables_are_covered()
     ensures { TablesAreCovered }

@@ -1,8 +1,8 @@
-//! Tables: where their cells stand, and commands that change rows, columns and cells at the selection. A cell may span several
+//! Tables: where their cells are, and commands that change rows, columns and cells at the selection. A cell may span several
 //! rows and columns, and rows may be ragged. Each command is made of the edits of a draft and of those in `lx_edit`, and is
 //! refused only for a cause that its step names. A draft on which one was refused is only fit to be dropped.
 //!
-//! * `grid` tells where each cell of a table stands.
+//! * `grid` says where each cell of a table is.
 //! * `insert_table` goes by the focus of a range, or of cells that are selected.
 //! * `insert_row`, `insert_column`, `delete_row`, `delete_column` and `unmerge` go by the cell of that focus.
 //! * `merge_cells` goes by the cells that are selected.

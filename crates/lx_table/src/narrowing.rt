@@ -24,21 +24,21 @@ use lx_links::Links;
 use lx_node::{Fault, Key, NoMemory};
 use std::alloc::Global;
 
-/// Whether a cell stands in a column and in others too.
+/// Whether a cell is in a column and in others too.
 fn is_wide_at(spot: &Spot, column: u32) -> bool
     ensures { result ≡ spec.is_wide_at column spot.now }
 {
     stands_in_column(spot, column) && spot.width != 1
 }
 
-/// Whether a cell stands in a column and in no other.
+/// Whether a cell is in a column and in no other.
 fn is_narrow_at(spot: &Spot, column: u32) -> bool
     ensures { result ≡ spec.is_narrow_at column spot.now }
 {
     stands_in_column(spot, column) && spot.width == 1
 }
 
-/// The cells that stand in a column and in others too.
+/// The cells that are in a column and in others too.
 fn wide_at(alloc: Global, spots: &[Spot], column: u32) -> Result<Vec<Spot>, NoMemory>
     ensures { IfOk result (λ found. found.items ≡ filter (spec.is_wide_at column) spots.now) }
 {
@@ -49,7 +49,7 @@ fn wide_at(alloc: Global, spots: &[Spot], column: u32) -> Result<Vec<Spot>, NoMe
     Ok(found)
 }
 
-/// The cells that stand in a column and in no other.
+/// The cells that are in a column and in no other.
 fn narrow_at(alloc: Global, spots: &[Spot], column: u32) -> Result<Vec<Spot>, NoMemory>
     ensures { IfOk result (λ found. found.items ≡ filter (spec.is_narrow_at column) spots.now) }
 {
@@ -67,7 +67,7 @@ fn cells_of(alloc: Global, spots: &[Spot]) -> Result<Vec<Key>, NoMemory>
     Ok(spots.iter().map(|spot| spot.cell).collect(alloc)?)
 }
 
-/// The keys of the cells that stand in a column and in no other.
+/// The keys of the cells that are in a column and in no other.
 fn narrow_cells(alloc: Global, spots: &[Spot], column: u32) -> Result<Vec<Key>, NoMemory>
     ensures { IfOk result (λ found. found.items ≡ spec.narrow_cells column spots.now) }
 {
@@ -149,7 +149,7 @@ fn remove_each(draft: &mut Draft, cells: &[Key]) -> Result<(), Fault>
     Ok(())
 }
 
-/// Takes a column out: its cells lose it, and those that stand in no other are removed.
+/// Takes a column out: its cells lose it, and those that are in no other are removed.
 #[tactic(auto, unfolding(crate::specs::Shrinking::column_taken))]
 fn take_column(
     alloc: Global,

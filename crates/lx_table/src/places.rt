@@ -18,7 +18,7 @@ use lx_range::{cell_from, no_range, range_of};
 use lx_select::Selection;
 use std::alloc::Global;
 
-/// A table, where its cells stand, and one of these spots.
+/// A table, where its cells are, and one of these spots.
 #[derive(Drop)]
 pub(crate) struct Place {
     pub table: Key,

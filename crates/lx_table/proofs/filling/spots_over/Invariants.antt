@@ -4,7 +4,7 @@ use Rattle.lx_table.specs.Grid.{filled, spots_over}
 use Rattle.lx_table.specs.Filling.{IsFilled, cells_among}
 use Rattle.lx_table.proofs.filling.spots_over.Given as goal
 
--- the rows that are left, behind those that are filled, come to all
+-- the rows that are left, after those that are filled, come to all
 abbrev pub invariant-loop-key : goal.invariant-loop-key
 invariant-loop-key l = record {
   on : filled l.links l.gone (length l.keys) l.row (drop l.key-index l.keys) l.spots.items ≡ spots_over l.links l.gone l.keys;
