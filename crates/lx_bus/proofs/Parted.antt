@@ -1,4 +1,4 @@
--- The offers of a name are those above the built-in command, and then those behind it.
+-- The offers of a name are those above the built-in command, and then those after it.
 use Rattle.std.proofs.Common.{◌≡◌, ◌++◌, ℕ, List, refl, append_assoc}
 use Rattle.lx_step.specs.declared.listener.Listener.{Listener}
 use Rattle.lx_bus.specs.Offers.{offers, above, behind}

@@ -88,7 +88,7 @@ impl Bus {
     }
 
     /// Registers a listener, and answers its number, from 1 to 256. It is refused with `TooManyRules` where 256
-    /// are registered. The bus is then as it was, and so it is after want of memory.
+    /// are registered. The bus is then as it was, and so it is after memory ran out.
     pub fn register(&mut self, listener: Listener) -> Result<u32, Fault>
         requires { IsSoundListener listener }
         ensures ok { IfOk result (λ number. (self.new ≡ self.old ++ listener ∷ []) × (number ≡ length self.old + 1)) }
@@ -105,7 +105,7 @@ impl Bus {
     }
 
     /// The listeners of the name, in the order in which they are offered a command: from priority 4, critical,
-    /// to 0, editor, which is those above the built-in command and then those behind it.
+    /// to 0, editor, which is those above the built-in command and then those after it.
     pub fn order<'a>(&'a self, name: &'a str) -> Offers<'a>
         ensures order { result ≡ offers (chars name.now) self.now }
         ensures parts { result ≡ above (chars name.now) self.now ++ behind (chars name.now) self.now }
@@ -123,7 +123,7 @@ impl Bus {
         self.offers(name, 1, 3)
     }
 
-    /// Those of them that come behind it: of priority 0, editor.
+    /// Those of them that come after it: of priority 0, editor.
     pub fn behind<'a>(&'a self, name: &'a str) -> Offers<'a>
         ensures order { result ≡ behind (chars name.now) self.now }
         ensures sound { All IsSoundListener result }

@@ -119,7 +119,7 @@ detached_hub h n is = record {
 
 -- ---- deliveries
 
--- the batch behind the one that a view has reached fits its tree, and the view lags behind the tip with it
+-- the batch after the one that a view has reached fits its tree, and the view lags behind the tip with it
 pub next_fits : (h : Hub) (v : View) (ops : List Op) → IsLagging h v → v.reached < h.commits → slice_get h.kept (h.commits - v.reached - 1) ≡ Some ops
     → FitInTurn v.tree ops × IsLagging h (taken ops v)
 next_fits h v ops lags behind read =
@@ -148,7 +148,7 @@ with_taken h at v is lags = record {
 
 -- ---- what a delivery does and answers
 
--- an item that is put where it stands changes nothing
+-- an item that is put where it is changes nothing
 module _ {X : Type 0} where
   set_read : (xs : List X) (m : ℕ) (x : X) → slice_get xs m ≡ Some x → slice_set xs m x ≡ xs
   set_read [] m x read = refl

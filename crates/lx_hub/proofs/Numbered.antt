@@ -5,7 +5,7 @@ use Rattle.std.proofs.lemmas.Bool.Decides.{nat_tests}
 use Rattle.lx_hub.specs.Hub.{View, is_numbered, view_in, changed_at, without_view}
 use Rattle.lx_hub.specs.Places.{IsAt, IsNowhere, IsPlaceOf}
 
--- the first view of the number stands at this place
+-- the first view of the number is at this place
 abbrev IsFirst : ℕ → List View → ℕ → Type 0
 IsFirst n [] i = ⊥
 IsFirst n (v ∷ vs) zero = is_numbered n v ≡ true

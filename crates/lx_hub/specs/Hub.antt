@@ -14,8 +14,8 @@ pub record View : Type 0 where
   pub reached : ℕ
   pub tree : HostTree
 
--- The tip, how many batches were published, the newest of them, the newest in front, the views that are attached, and how
--- many ever were.
+-- the tip, how many batches were published, the newest of them (newest first), the attached views, and how many ever
+-- were
 pub record Hub : Type 0 where
   pub tip : HostTree
   pub commits : ℕ
@@ -23,13 +23,15 @@ pub record Hub : Type 0 where
   pub views : List View
   pub made : ℕ
 
+-- a new hub: the tip is a new host tree, nothing was published, and no view is attached
 abbrev pub new_hub : Hub
 new_hub = record { tip = new_tree; commits = 0; kept = []; views = []; made = 0 }
 
--- the most batches that are kept, and the most views that are attached at a time
+-- the most batches that are kept
 abbrev pub most_kept : ℕ
 most_kept = 100
 
+-- the most views that are attached at a time
 abbrev pub most_views : ℕ
 most_views = 32
 
@@ -46,6 +48,7 @@ published ops h = record h { tip = effects ops h.tip; commits = h.commits + 1; k
 
 -- ---- views by their numbers
 
+-- a view has the number
 abbrev pub is_numbered : ℕ → View → Bool
 is_numbered n v = v.number == n
 
@@ -54,6 +57,7 @@ abbrev pub view_in : ℕ → List View → Option View
 view_in n [] = None
 view_in n (v ∷ vs) = if is_numbered n v then Some v else view_in n vs
 
+-- whether a view of that number is attached
 abbrev pub has_view : ℕ → Hub → Bool
 has_view n h = is_some (view_in n h.views)
 
@@ -69,26 +73,31 @@ without_view n (v ∷ vs) = if is_numbered n v then vs else v ∷ without_view n
 
 -- ---- what comes and goes
 
+-- whether as many views are attached as may be
 abbrev pub is_full : Hub → Bool
 is_full h = nat_lt 31 (length h.views)
 
--- the answer to an attachment, and the hub after it: the new view is equal to the tip
+-- the answer to an attachment
 abbrev pub attachment : Hub → Attached
 attachment h = if is_full h then attached_as.Full else attached_as.View (h.made + 1)
 
+-- the view that is attached then, which is equal to the tip
 abbrev pub next_view : Hub → View
 next_view h = record { number = h.made + 1; reached = h.commits; tree = h.tip }
 
+-- the hub after an attachment
 abbrev pub attached : Hub → Hub
 attached h = if is_full h then h else record h { views = h.views ++ next_view h ∷ []; made = h.made + 1 }
 
+-- the hub once the view of that number was let go
 abbrev pub detached : ℕ → Hub → Hub
 detached n h = record h { views = without_view n h.views }
 
--- the HTML of a view, where one of that number is attached
+-- the HTML of a view
 abbrev pub html_of_view : View → List ℕ
 html_of_view v = html_of (first_tree (shape_of v.tree.hosts))
 
+-- the HTML of the view of that number, where one is attached
 abbrev pub html_at : ℕ → Hub → Option (List ℕ)
 html_at n h = option_map html_of_view (view_in n h.views)
 
@@ -108,10 +117,12 @@ delivery_to h v =
     if v.reached == h.commits then Level v.reached else
     (if is_kept h (v.reached + 1) then Applied (v.reached + 1) else Behind v.reached (oldest h))
 
+-- the answer to a delivery to a view that may be missing
 abbrev pub delivery_if : Hub → Option View → Delivery
 delivery_if h None = Unknown
 delivery_if h (Some v) = delivery_to h v
 
+-- the answer to a delivery to a number
 abbrev pub delivery : ℕ → Hub → Delivery
 delivery n h = delivery_if h (view_in n h.views)
 
@@ -119,12 +130,12 @@ delivery n h = delivery_if h (view_in n h.views)
 abbrev pub taken : List Op → View → View
 taken ops v = record { number = v.number; reached = v.reached + 1; tree = effects ops v.tree }
 
+-- a view after a batch, if there is one
 abbrev pub taken_if : Option (List Op) → View → View
 taken_if None v = v
 taken_if (Some ops) v = taken ops v
 
--- the batch behind that of this number, where there is one that is kept: as many stand in front of it as the tip is ahead of
--- it
+-- the batch after that of this number, where it is kept: as many are newer as the tip is ahead of it
 abbrev pub batch_behind : ℕ → Hub → Option (List Op)
 batch_behind n h = if n == h.commits then None else slice_get h.kept (h.commits - n - 1)
 
@@ -132,5 +143,6 @@ batch_behind n h = if n == h.commits then None else slice_get h.kept (h.commits 
 abbrev pub advanced : Hub → View → View
 advanced h v = taken_if (batch_behind v.reached h) v
 
+-- the hub after a delivery to a number
 abbrev pub delivered : ℕ → Hub → Hub
 delivered n h = record h { views = changed_at n (advanced h) h.views }

@@ -11,8 +11,8 @@ raised count = min (count + 1) last_count
 abbrev pub is_listed : List ℕ → ℕ → Bool
 is_listed numbers number = list_any (λ listed. listed == number) numbers
 
--- A source: the bytes that are left, the most bytes that a read gives, the numbers of the reads that fail, how
--- often it was read, and how often that failed.
+-- a source: the bytes that are left, the most bytes that a read gives, the numbers of the reads that fail, how often it
+-- was read, and how often that failed
 pub record SourceState : Type 0 where
   pub left : List ℕ
   pub at_most : ℕ
@@ -41,8 +41,8 @@ after_read s count = record s { left = drop count s.left; calls = raised s.calls
 abbrev pub after_failed_read : SourceState → SourceState
 after_failed_read s = record s { calls = raised s.calls; faults = raised s.faults }
 
--- A sink: the bytes that it took, how many bytes it takes in all, the most bytes that a write takes, the numbers
--- of the writes that fail, how often it was written to, and how often that failed.
+-- a sink: the bytes that it took, how many bytes it takes in all, the most bytes that a write takes, the numbers of the
+-- writes that fail, how often it was written to, and how often that failed
 pub record SinkState : Type 0 where
   pub taken : List ℕ
   pub room : ℕ

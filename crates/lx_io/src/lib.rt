@@ -1,6 +1,6 @@
 //! Where bytes come from and go to: sources and sinks, in memory and over std's readers and writers.
 //!
-//! A source may tell the bytes that it has left, and a sink the bytes that it took. Each has a count of
+//! A source may show the bytes that it has left, and a sink the bytes that it took. Each has a count of
 //! faults, which never falls, so that a fault that is answered can be held against it.
 #![tactic(auto)]
 

@@ -5,13 +5,13 @@ use crate::fault::Failed;
 
 /// Where bytes go to.
 pub trait Sink {
-    /// The bytes that it took so far, where it tells them.
+    /// The bytes that it took so far, where it shows them.
     ghost taken: { Self → Option (List ℕ) };
 
     /// How often it has failed. The count stands still at 2^64 - 1.
     ghost faults: { Self → ℕ };
 
-    /// How often it was written to, where it tells that.
+    /// How often it was written to, where it shows that.
     ghost writes: { Self → Option ℕ };
 
     /// Takes a front of the piece, and answers how many bytes that is: at least one of a piece that isn't

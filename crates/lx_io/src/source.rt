@@ -5,13 +5,13 @@ use crate::fault::Failed;
 
 /// Where bytes come from.
 pub trait Source {
-    /// The bytes that it has left, where it tells them.
+    /// The bytes that it has left, where it shows them.
     ghost left: { Self → Option (List ℕ) };
 
     /// How often it has failed. The count stands still at 2^64 - 1.
     ghost faults: { Self → ℕ };
 
-    /// How often it was read, where it tells that.
+    /// How often it was read, where it shows that.
     ghost reads: { Self → Option ℕ };
 
     /// Reads bytes into the front of a buffer, and answers how many. None into a buffer that isn't empty is

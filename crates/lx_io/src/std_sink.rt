@@ -43,12 +43,12 @@ impl<W: Write + Drop> Sink for StdSink<W> {
 
     ghost writes = { λ _. None };
 
-    /// Writes once. Where the writer tells its bytes, those that are answered went behind them, and no
+    /// Writes once. Where the writer shows its bytes, those that are answered went after them, and no
     /// others.
     fn write(&mut self, piece: &[u8]) -> Result<usize, Failed>
         ensures known { WriteAppends self.old.known self.new.known result piece.now }
 
-        // What each sink promises. The rest of that says nothing of one that tells no bytes and no writes.
+        // What each sink promises. The rest of that says nothing of one that shows no bytes and no writes.
         ensures within { IfOk result (λ n. n ≤ length piece.now) }
         ensures some { IfOk result (λ n. 0 < length piece.now → 0 < n) }
         ensures cause { HasCause self.old.faults self.new.faults result }

@@ -42,11 +42,11 @@ impl<R: Read + Drop> Source for StdSource<R> {
 
     ghost reads = { λ _. None };
 
-    /// Reads once. Where the reader tells its bytes, those that are given are the front of them.
+    /// Reads once. Where the reader shows its bytes, those that are given are the front of them.
     fn read(&mut self, into: &mut [u8]) -> Result<usize, Failed>
         ensures known { ReadConsumes self.old.known self.new.known result into.new }
 
-        // What each source promises. The rest of that says nothing of one that tells no bytes and no reads.
+        // What each source promises. The rest of that says nothing of one that shows no bytes and no reads.
         ensures within { IfOk result (λ n. n ≤ length into.old) }
         ensures cause { HasCause self.old.faults self.new.faults result }
     {

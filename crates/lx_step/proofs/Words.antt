@@ -1,4 +1,4 @@
--- A test of two texts tells whether they have the same characters.
+-- A test of two texts says whether they have the same characters.
 use Rattle.std.proofs.Common.{◌≡◌, ℕ, List, Bool, true, false, refl}
 use Rattle.std.specs.Prelude.{IsTrue, ◌↔◌, if◌then◌else◌}
 use Rattle.std.proofs.lemmas.Bool.Decides.{same_from_decides}

@@ -13,15 +13,16 @@ use Rattle.lx_step.specs.declared.built_in.TableCommand.TheVariants.{InsertTable
 use Rattle.lx_step.specs.declared.built_in.Turn.{Turn}
 use Rattle.lx_step.specs.declared.built_in.Turn.TheVariants.{Undo, Redo}
 
--- a table of names, and what the row of a name tells
+-- what a table of names says of a name
 abbrev pub row_of : {A : Type 0} → List (List ℕ × A) → List ℕ → Option A
 row_of [] name = None
 row_of (row ∷ rows) name = if same_text row.0 name then Some row.1 else row_of rows name
 
--- the commands of the history, those of the caret, those of lists, and those of tables
+-- the commands of the history
 abbrev pub turns : List (List ℕ × Turn)
 turns = (chars (codes "undo"), Undo) ∷ (chars (codes "redo"), Redo) ∷ []
 
+-- the commands of the caret
 abbrev pub caret_commands : List (List ℕ × CaretCommand)
 caret_commands =
     (chars (codes "insert-text"), InsertText)
@@ -37,6 +38,7 @@ caret_commands =
     ∷ (chars (codes "paste"), Paste)
     ∷ []
 
+-- the commands of lists
 abbrev pub list_commands : List (List ℕ × ListCommand)
 list_commands =
     (chars (codes "make-list"), MakeList)
@@ -46,6 +48,7 @@ list_commands =
     ∷ (chars (codes "toggle-checked"), ToggleChecked)
     ∷ []
 
+-- the commands of tables
 abbrev pub table_commands : List (List ℕ × TableCommand)
 table_commands =
     (chars (codes "insert-table"), InsertTable)

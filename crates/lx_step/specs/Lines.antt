@@ -2,10 +2,10 @@
 use Rattle.std.specs.Prelude.{false, ◌||◌}
 use Rattle.lx_step.specs.declared.line.Tags.{Tags}
 
--- those of a line that says nothing
+-- the tags of a line that says nothing
 abbrev pub untagged : Tags
 untagged = record { historic = false; merge = false; push = false }
 
--- what those of two lines say together
+-- what the tags of two lines say together
 abbrev pub both_tags : Tags → Tags → Tags
 both_tags a b = record { historic = a.historic || b.historic; merge = a.merge || b.merge; push = a.push || b.push }

@@ -18,8 +18,7 @@ use Rattle.lx_step.specs.declared.member.Member.TheVariants.{Direction, Align, I
 
 -- ---- which kinds have a member that may be set
 
--- A format is an alignment in elements, and a number in texts and tabs. A tab's text, detail and mode can't be set, nor
--- can an item's value, a heading's level and the type of a list.
+-- which kinds have a member that may be set: not a tab's text, an item's value, a heading's level nor a list's type
 unfoldable pub has : Kind → Member → Bool
 has kind (Direction direction) = is_element kind
 has kind (Align align) = is_element kind
@@ -46,6 +45,7 @@ has kind (Other name) = false
 
 -- ---- fields with a member written
 
+-- a member written in what an element has of its own kind
 unfoldable pub with_extra : Member → Extra → Extra
 with_extra (Start start) (extra.List old) = extra.List start
 with_extra (Checked checked) (extra.Item value old) = extra.Item value checked
@@ -59,6 +59,7 @@ with_extra (ColSpan col_span) (extra.Cell header row_span old background) = extr
 with_extra (Background background) (extra.Cell header row_span col_span old) = extra.Cell header row_span col_span background
 with_extra member extra = extra
 
+-- a member written in an element
 unfoldable pub element_with_member : Member → ElementFields → ElementFields
 element_with_member (Direction direction) old = record old { direction = direction }
 element_with_member (Align align) old = record old { format = align }
@@ -67,6 +68,7 @@ element_with_member (TextFormat format) old = record old { text_format = format 
 element_with_member (TextStyle style) old = record old { text_style = style }
 element_with_member member old = record old { extra = with_extra member old.extra }
 
+-- a member written in a text or tab
 unfoldable pub text_with_member : Member → TextFields → TextFields
 text_with_member (Text text) old = record old { text = text }
 text_with_member (Format format) old = record old { format = format }
@@ -75,10 +77,12 @@ text_with_member (Detail detail) old = record old { detail = detail }
 text_with_member (Mode mode) old = record old { mode = mode }
 text_with_member member old = old
 
+-- a member written in an embed's source
 unfoldable pub with_source : Member → List ℕ → List ℕ
 with_source (Src source) old = source
 with_source member old = old
 
+-- a member written in fields: those that have none such stay as they are
 unfoldable pub with_member : Member → Fields → Fields
 with_member member (fields.Element old) = fields.Element (element_with_member member old)
 with_member member (fields.Text old) = fields.Text (text_with_member member old)
@@ -96,13 +100,14 @@ with_members (member ∷ members) old = with_members members (with_member member
 unfoldable pub patched : Kind → List Member → Fields → Option Fields
 patched kind members old = if list_all (has kind) members then Some (with_members members old) else None
 
--- Refused for the kind, where a member can't be set on it; or memory was wanting.
+-- refused for the kind, where a member can't be set on it, or memory ran out
 abbrev pub RefusesKind : Kind → Option Fields → Fault → Type 0
 RefusesKind kind made Memory = Unit {0}
 RefusesKind kind made (Refused cause) = (cause ≡ WrongKind kind) × (made ≡ None)
 
 -- ---- values within their ranges: those that a field of its type may have, and no kind's fields
 
+-- whether a member's value is within the range that the fields of every kind keep
 unfoldable pub is_in_range : Member → Bool
 is_in_range (Start start) = leb start 1000000
 is_in_range (HeaderState header) = leb header 3
@@ -111,5 +116,6 @@ is_in_range (RowSpan span) = is_span span
 is_in_range (Detail detail) = leb detail 3
 is_in_range member = true
 
+-- a member's value is within the range that the fields of every kind keep
 abbrev pub IsInRange : Member → Type 0
 IsInRange member = IsTrue (is_in_range member)

@@ -25,23 +25,24 @@ IsSoundHead (script.new kind fields name) = MayBeNew kind fields
 IsSoundHead (script.set node patch) = All IsInRange patch.members
 IsSoundHead _ = Unit {0}
 
+-- all new nodes of a script may be new, and all members that it sets have values within their ranges
 abbrev pub IsSoundScript : Script → Type 0
 IsSoundScript nil = Unit {0}
 IsSoundScript (tree head below rest) = IsSoundHead head × IsSoundScript below × IsSoundScript rest
 
+-- what one step makes may be new, and what it sets is within the ranges, with all that it queues
 abbrev pub IsSound : Step → Type 0
 IsSound (New kind fields name) = MayBeNew kind fields
 IsSound (Set node patch) = All IsInRange patch.members
 IsSound (Later steps) = IsSoundScript steps
 IsSound _ = Unit {0}
 
--- a listener's priority is from 0 to 4
+-- a listener has a priority from 0 to 4, and sound steps
 pub record IsSoundListener (l : Listener) : Type 0 where
   pub priority : l.priority ≤ 4
   pub steps : IsSoundScript l.steps
 
--- The steps of an update are sound, also where it waits, and so is a listener. Of a rule nothing is asked, since an edit that doesn't suit its node
--- has no work there, and of a document nothing, since it is read as it is loaded.
+-- the steps of an update are sound, also where it waits, and so is a listener: of rules and documents nothing is asked
 abbrev pub IsSoundForm : Form → Type 0
 IsSoundForm (Update steps) = IsSoundScript steps
 IsSoundForm (Defer steps) = IsSoundScript steps

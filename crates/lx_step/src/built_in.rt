@@ -24,7 +24,7 @@ pub enum CaretCommand {
     DeleteWord,
     FormatText,
     SelectAll,
-    /// The slice that a text tells, in the place of what is selected.
+    /// The slice that a text is, in the place of what is selected.
     Paste,
 }
 

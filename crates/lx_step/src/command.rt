@@ -12,7 +12,7 @@ pub enum Payload {
         columns: u16,
         headers: bool,
     },
-    /// What the dispatch was given that offers the command to the listener in whose steps this stands.
+    /// What the dispatch was given that offers the command to the listener in whose steps this is.
     Given,
 }
 

@@ -7,7 +7,7 @@ use serde_json::Value;
 /// What a line of input asks for.
 #[derive(Debug, Drop)]
 pub struct Line {
-    /// The moment of the line in milliseconds, if it tells one.
+    /// The time of the line in milliseconds, if it has one.
     pub at: Option<u64>,
     pub tags: Tags,
     pub form: Form,

@@ -5,7 +5,7 @@ use crate::step::Steps;
 use lx_node::{NoMemory, Txt};
 use std::alloc::Global;
 
-/// What has to hold for a listener to run its steps: each of these that it tells. A word that names no kind of selection,
+/// What has to hold for a listener to run its steps: each of these that it has. A word that names no kind of selection,
 /// or no type of nodes, never holds.
 #[derive(Debug, Drop)]
 pub struct When {
@@ -26,7 +26,7 @@ pub struct Listener {
     pub on: Txt,
     pub when: When,
     pub steps: Steps,
-    /// Whether no listener behind this one is offered the command.
+    /// Whether no listener after this one is offered the command.
     pub handled: bool,
 }
 

@@ -116,7 +116,7 @@ impl Member {
     }
 
     /// Writes the member into fields, and leaves them as they are if they don't have it, or where memory for
-    /// its text is wanting.
+    /// its text runs out.
     #[tactic(auto, unfolding(crate::specs::Patches::with_member))]
     pub fn write(&self, alloc: Global, fields: &mut Fields) -> Result<(), NoMemory>
         ensures ok { OnOk result (fields.new ≡ patches.with_member self.now fields.old) }
@@ -148,7 +148,7 @@ impl Patch {
         self.members.items().iter().all(|member| member.is_of(kind))
     }
 
-    /// Writes the members into fields. After want of memory some of them are written.
+    /// Writes the members into fields. After memory ran out some of them are written.
     fn write(&self, alloc: Global, fields: &mut Fields) -> Result<(), NoMemory>
         ensures { OnOk result (fields.new ≡ patches.with_members self.now.members fields.old) }
     {

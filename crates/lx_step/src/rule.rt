@@ -62,7 +62,7 @@ pub enum Condition {
     Parent(TypeRow),
     /// The sibling right before is of this type, or there is none.
     Previous(Option<TypeRow>),
-    /// The sibling right behind is of this type, or there is none.
+    /// The sibling right after is of this type, or there is none.
     Next(Option<TypeRow>),
     /// There are no children.
     Childless,
@@ -92,7 +92,7 @@ pub enum SelfEdit {
     Unwrap,
     /// A new sibling right before it.
     Before(NewNode),
-    /// A new sibling right behind it.
+    /// A new sibling right after it.
     After(NewNode),
     /// A new last child.
     Child(NewNode),

@@ -47,7 +47,7 @@ pub enum Step {
         offsets: Offsets,
         name: Option<Txt>,
     },
-    /// Joins a text with the one behind it.
+    /// Joins a text with the one after it.
     Join {
         node: Reference,
         with: Reference,

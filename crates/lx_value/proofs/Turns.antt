@@ -56,7 +56,7 @@ pub passed : {A B : Type 0} (f : A → B) (r : List Token) (o : Option A) → op
 passed f r None = refl
 passed f r (Some a) = refl
 
--- what follows a value goes on behind it, if it is one
+-- what follows a value goes on after it, if it is one
 onward : {B : Type 0} (next : Data → List Token → Option B) (r : List Token) (o : Option Data) → option_and_then (λ d. next d r) o ≡ option_and_then (λ (q : Data × List Token). next q.0 q.1) (option_map (λ d. (d, r)) o)
 onward next r None = refl
 onward next r (Some d) = refl

@@ -54,7 +54,7 @@ ahead_nothing depth = ap (converted of_json) (value_is depth [])
 
 -- ---- a list that grows at its end
 
--- items behind those that were found
+-- items after those that were found
 abbrev pub behind : List Value → Items → Items
 behind [] rest = rest
 behind (v ∷ vs) rest = item (view v) (behind vs rest)

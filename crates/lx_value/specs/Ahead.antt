@@ -1,4 +1,4 @@
--- What tokens begin with, and what is behind it; for private clauses.
+-- What tokens begin with, and what comes after it; for private clauses.
 use Rattle.std.specs.Prelude.{◌≡◌, ℕ, zero, suc, List, length, Option, Some, None, option_map, Result, Ok, Err}
 use Rattle.json.specs.Token.{Token}
 use Rattle.json.specs.Json as json
@@ -15,7 +15,7 @@ scalar_of (Token.boolean b) = Some (boolean b)
 scalar_of Token.null = Some null
 scalar_of other = None
 
--- a value in which others nest so deep, and the tokens behind it
+-- a value in which others nest so deep, and the tokens after it
 abbrev pub value_ahead : ℕ → List Token → Option (Data × List Token)
 value_ahead depth ts = converted of_json (json.value depth ts)
 
@@ -27,21 +27,22 @@ items_from depth ts = converted of_items (json.items (json.value depth) (length 
 abbrev pub members_from : ℕ → Members → List Token → Option (Members × List Token)
 members_from depth found ts = converted (λ ms. of_members ms found) (json.members (json.value depth) (length ts) ts)
 
--- the items of an array and the members of an object that may nest so deep, behind the bracket or the brace that opens it
+-- the items of an array that may nest so deep, after the bracket that opens it
 abbrev pub items_ahead : ℕ → List Token → Option (Items × List Token)
 items_ahead zero ts = None
 items_ahead (suc depth) ts = items_from depth ts
 
+-- the members of an object that may nest so deep, after the brace that opens it
 abbrev pub members_ahead : ℕ → List Token → Option (Members × List Token)
 members_ahead zero ts = None
 members_ahead (suc depth) ts = members_from depth no_members ts
 
--- nothing is told, unless memory was wanting
+-- there is nothing to read, unless memory ran out
 abbrev pub Refuses : {B : Type 0} → Option B → Unread → Type 0
 Refuses told NoJson = told ≡ None
 Refuses told Memory = Unit {0}
 
--- an outcome gives what is told, as it is seen, or refuses
+-- an outcome gives what there is to read, as it is seen, or refuses
 abbrev pub Gives : {A B : Type 0} → (A → B) → Option B → Result A Unread → Type 0
 Gives seen told (Ok found) = told ≡ Some (seen found)
 Gives seen told (Err unread) = Refuses told unread

@@ -15,7 +15,7 @@ fn begins_with_minus(bytes: &[u8]) -> bool
     !bytes.is_empty() && bytes[0] == b'-'
 }
 
-/// The number that a number's text tells: an integer of 64 bits where it is written as one, and the nearest float
+/// The number that a number's text says: an integer of 64 bits where it is written as one, and the nearest float
 /// otherwise, unless that is infinite.
 #[tactic(auto, unfolding(serde_json::specs::Read::number_of))]
 pub(crate) fn number_of(text: &str) -> Option<Number>

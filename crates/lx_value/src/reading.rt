@@ -24,7 +24,7 @@ const MOST_KEPT: usize = 65_536;
 pub enum Unread {
     /// They are no JSON: not UTF-8, not of its grammar, nested deeper than 127, or with a number too large for a float.
     NoJson,
-    /// Memory was wanting.
+    /// Memory ran out.
     Memory,
 }
 
@@ -129,7 +129,7 @@ fn next_value(alloc: Global, reader: &mut Reader<'_>, depth: usize) -> Result<Va
     }
 }
 
-/// Takes the items of an array behind its bracket, to the bracket that closes it.
+/// Takes the items of an array after its bracket, to the bracket that closes it.
 #[cycle(next)]
 fn next_array(alloc: Global, reader: &mut Reader<'_>, depth: usize) -> Result<Vec<Value>, Unread>
     ensures gives { Gives (λ found. (items_view found.items, reader.new)) (items_ahead depth reader.old) result }
@@ -148,7 +148,7 @@ fn next_array(alloc: Global, reader: &mut Reader<'_>, depth: usize) -> Result<Ve
     Ok(found)
 }
 
-/// Takes the members of an object behind its brace, to the brace that closes it.
+/// Takes the members of an object after its brace, to the brace that closes it.
 #[cycle(next)]
 fn next_object(
     alloc: Global,

@@ -1,4 +1,4 @@
--- From what clap says of a parse to what the words ask for.
+-- From what clap says of a parse to what the arguments ask for.
 use Rattle.std.proofs.Common.{◌≡◌, ◌≢◌, ◌∙◌, ap, ap₂, ℕ, ◌≤◌, ◌<◌, ◌^◌, ◌&&◌, Bool, true, false, List, [], ◌∷◌, Option, Some, None, refl, sym, subst, inl, inr, arith, codes}
 use Rattle.std.specs.Prelude.{Result, Ok, Err, IfOk, IfErr, IfSome, unwrap_or, is_some}
 use Rattle.std.specs.Str.{bytes_eq}
@@ -66,7 +66,7 @@ flag_read E (Some u) (Some true) none some = sym ((bytes_eq-Decides u (codes "tr
 flag_read E (Some u) (Some false) none some = rw (some u refl) refl
 flag_read E (Some u) None none some = sym (not_same u (codes "true") (some u refl).1.0)
 
--- ---- the words
+-- ---- the arguments
 
 is_simple_app : is_simple lexical_app ≡ true
 unfolding lexical_app view_rule delay_rule hub_rule outline_rule generate_rule seed_rule
@@ -76,14 +76,14 @@ is_free_app : is_simple_and_free lexical_app ≡ true
 unfolding lexical_app view_rule delay_rule hub_rule outline_rule generate_rule seed_rule
 is_free_app = refl
 
--- what the matches have under a name is what the words have
+-- what the matches have under a name is what the arguments have
 text_is : (a : App) (words : List Text) (m : ArgMatches) → a ≡ lexical_app → HasMatchesOf a words m → (name : Text)
     → one_text (found_of m) name ≡ one_of name (matches_of lexical_app words)
 text_is a words m is has name =
     let rows = (subst (λ (b : App). HasMatchesOf b words m) is has is_simple_app).0 in
     one_text-rows (found_of m) name ∙ ap (one_of name) rows
 
--- the mode of the matches is that of the words
+-- the mode of the matches is that of the arguments
 mode_is : (a : App) (words : List Text) (m : ArgMatches) → a ≡ lexical_app → HasMatchesOf a words m → mode_found (found_of m) ≡ mode_in words
 unfolding mode_in view_in hub_in outline_in number_in
 mode_is a words m is has =
@@ -97,7 +97,7 @@ taken a words mode is ok one =
     let none : fault_of lexical_app words ≡ [] = subst (λ (b : App). is_simple_and_free b ≡ true → fault_of b words ≡ []) is ok is_free_app in
     ap₂ (λ x y. x && y) (ap is_empty none) (ap is_some one)
 
--- words that ask for no mode aren't taken
+-- arguments that ask for no mode aren't taken
 no_mode : (words : List Text) → mode_in words ≡ None → are_taken words ≡ false
 unfolding are_taken
 no_mode words none = grind (arith, ap is_some none)

@@ -425,7 +425,7 @@ are_numbers c m p is id least most k a lt at named own_id number = λ j y high h
     same_number least most a y (subst (λ (x : Arg). SameRules x y) at
     (same_rules_by_id c m p k a lt unique own j y high here (rw id_at same))) number
 
--- a parse of the program's words has numbers that their parsers took
+-- a parse of the program's arguments has numbers that their parsers took
 pub has_numbers : (c : Command) (m : ArgMatches) → app_of c ≡ lexical_app → IsParsedFrom c m → HasNumbers (found_of m)
 has_numbers c m e p =
     let is = is_program c e in

@@ -1,4 +1,4 @@
--- What the program's words ask for, and which words it takes, by clap's stated meaning of a simple command.
+-- What the program's arguments ask for, and which it takes, by clap's stated meaning of a simple command.
 use Rattle.std.specs.Prelude.{◌≡◌, ◌≤◌, ◌&&◌, ◌⊎◌, ℕ, Bool, pos, true, false, is_some, unwrap_or, List, [], ◌∷◌, Option, None, Some, option_map, codes, ⊤}
 use Rattle.std.specs.Option.{option_map_or}
 use Rattle.std.specs.Str.{bytes_eq}
@@ -67,7 +67,7 @@ seed_rule = record (new_rule (codes "seed")) {
   parser = Some (vp.Signed (pos 0) (pos most_seed));
 }
 
--- the program, passed the words behind its name; it has no flag for help and none for a version
+-- the program, passed the arguments after its name; it has no flag for help and none for a version
 unfoldable pub lexical_app : App
 lexical_app =
     with_rule (with_rule (with_rule (with_rule (with_rule (with_rule
@@ -82,11 +82,11 @@ says_true text = option_map_or (λ t. bytes_eq t (codes "true")) text false
 unfoldable pub number_said : Option Text → ℕ
 number_said text = option_map_or (λ t. digits_value 10 (without_leading_plus t)) text 0
 
--- the same of a text that may be missing
+-- the number that a text says that may be missing
 unfoldable pub number_if_said : Option Text → Option ℕ
 number_if_said text = option_map (λ t. digits_value 10 (without_leading_plus t)) text
 
--- whether the words ask for the view, by clap's matches
+-- whether the arguments ask for the view, by clap's matches
 unfoldable pub view_in : List Text → Bool
 view_in words = says_true (one_of (codes "view") (matches_of lexical_app words))
 
@@ -98,17 +98,16 @@ hub_in words = says_true (one_of (codes "hub") (matches_of lexical_app words))
 unfoldable pub outline_in : List Text → Bool
 outline_in words = says_true (one_of (codes "outline") (matches_of lexical_app words))
 
--- the delay that the words ask for, by clap's matches
+-- the delay that the arguments ask for, by clap's matches
 unfoldable pub delay_in : List Text → ℕ
 delay_in words = number_said (one_of (codes "delay") (matches_of lexical_app words))
 
--- the number of an option that the words may have, by clap's matches
+-- the number of an option that the arguments may have, by clap's matches
 unfoldable pub number_in : Text → List Text → Option ℕ
 number_in name words = number_if_said (one_of name (matches_of lexical_app words))
 
--- The mode that is asked for, by whether the view is, by whether views that lag behind are, by whether an outline is, and by the
--- numbers of lines and of the seed. The two numbers stand together, and beside no flag. Views that lag behind and an outline don't
--- stand together, and either may beside the view.
+-- the mode that is asked for: the two numbers come together and with no flag, and views that lag behind and an outline
+-- not together, but either may come with the view
 abbrev pub mode_of : Bool → Bool → Bool → Option ℕ → Option ℕ → Option Mode
 mode_of view false false None None = Some mode.Plain
 mode_of view true false None None = Some mode.Hub
@@ -123,20 +122,20 @@ HasLines mode.Hub = ⊤
 HasLines mode.Outline = ⊤
 HasLines (mode.Generate session) = (1 ≤ session.lines) × (session.lines ≤ most_lines)
 
--- the mode that the words ask for, by clap's matches
+-- the mode that the arguments ask for, by clap's matches
 unfoldable pub mode_in : List Text → Option Mode
 mode_in words =
     mode_of (view_in words) (hub_in words) (outline_in words) (number_in (codes "generate") words) (number_in (codes "seed") words)
 
--- clap lists no kind of error at the words, and they ask for a mode
+-- clap lists no kind of error at the arguments, and they ask for a mode
 unfoldable pub are_taken : List Text → Bool
 are_taken words = is_empty (fault_of lexical_app words) && is_some (mode_in words)
 
--- what the words ask for
+-- what the arguments ask for
 abbrev pub asked_for : List Text → Options
 asked_for words = record { mode = unwrap_or (mode_in words) mode.Plain; view = view_in words; delay = delay_in words }
 
--- words are refused as usage only where they are not taken
+-- arguments are refused as usage only where they are not taken
 abbrev pub IsRefusal : Refused → List Text → Type 0
 IsRefusal refused.Usage words = are_taken words ≡ false
 IsRefusal refused.Memory words = ⊤
@@ -146,7 +145,7 @@ abbrev pub HasNumber : Text → ℕ → ℕ → Found → Type 0
 HasNumber name least most f = (text : Text) × (one_text f name ≡ Some (without_minus text))
     × IsSignedIn (pos least) (pos most) text
 
--- they have nothing under this name, or such a number
+-- the matches have nothing under this name, or such a number
 abbrev pub MayHaveNumber : Text → ℕ → ℕ → Found → Type 0
 MayHaveNumber name least most f = (one_text f name ≡ None) ⊎ HasNumber name least most f
 
