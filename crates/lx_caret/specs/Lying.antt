@@ -14,7 +14,7 @@ use Rattle.lx_draft.specs.Covering.{IsReady}
 use Rattle.lx_draft.specs.Selecting.{text_of}
 use Rattle.lx_range.specs.Ranges.{lies}
 
--- each point of a range has a property
+-- each point of a range has a property, and of other selections nothing is asked
 abbrev pub EachPoint : (Point → Type 0) → Selection → Type 0
 EachPoint P (Range a b format) = P a × P b
 EachPoint P other = Unit {0}

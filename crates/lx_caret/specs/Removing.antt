@@ -16,7 +16,7 @@ use Rattle.lx_range.specs.Blocks.{block_of, leading}
 use Rattle.lx_range.specs.Places.{covered, outermost}
 use Rattle.lx_range.specs.Ranges.{range_of, is_collapsed, start_of, end_of, caret_at, normal_at, characters_at}
 
--- a piece of a normal text is cut out; another text goes whole
+-- a piece cut out of a normal text; another text goes whole, and an empty piece takes no edit
 unfoldable pub cut_step : ℕ → ℕ → ℕ → Working → Result Working Cause
 cut_step k from to w =
     if from == to then Ok w

@@ -21,19 +21,19 @@ use Rattle.lx_links.specs.Faults.{unknown, bound_to, misfit}
 use Rattle.lx_node.specs.Limits.{most_counts, most_written}
 use Rattle.lx_draft.specs.Working.{Working}
 
--- a number that was reached is beyond a limit
+-- `TooLarge`, where a number that was reached is beyond a limit
 abbrev pub over_at : Limit → ℕ → ℕ → Option Cause
 over_at limit most reached = if nat_lt most reached then Some (TooLarge limit reached) else None
 
--- a number that was reached is beyond a limit, where one above 2 ^ 64 - 1 is given as that one
+-- `TooLarge`, where a number that was reached is beyond a limit: one above 2 ^ 64 - 1 is given as that one
 abbrev pub over : Limit → ℕ → ℕ → Option Cause
 over limit most reached = over_at limit most (capped reached)
 
--- the update has taken all its counts
+-- `StepLimit`, where the update has taken all its counts
 abbrev pub over_counts : Working → Option Cause
 over_counts w = if w.counted == most_counts then Some StepLimit else None
 
--- so many more scalar values would be too many
+-- `TooLarge`, where so many more scalar values would be too many
 abbrev pub over_written : ℕ → Working → Option Cause
 over_written more w = over Written most_written (w.written + more)
 
@@ -48,7 +48,7 @@ pub record IsAdmitted (n more : ℕ) (w : Working) : Type 0 where
   pub counts : w.counted < most_counts
   pub written : w.written + more ≤ most_written
 
--- the parent has fewer children
+-- `BadPlace`, where the parent has fewer children than the index
 abbrev pub beyond : Forest → ℕ → ℕ → Option Cause
 beyond f p index = if nat_lt (size_of f p) index then Some (BadPlace index) else None
 
@@ -61,7 +61,7 @@ put_fault k p index f =
 
 -- ---- texts
 
--- the fields of a text that isn't a tab
+-- the fields of a text that isn't a tab, by its kind and what it has
 abbrev pub text_fields : Kind → Fields → Option TextFields
 text_fields Text (fields.Text text) = Some text
 text_fields kind other = None

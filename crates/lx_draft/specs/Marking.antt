@@ -7,21 +7,21 @@ use Rattle.lx_forest.specs.Forest.{Forest}
 use Rattle.lx_forest.specs.Lookups.{kind_of, parent_of, previous_of, next_of, ancestors}
 use Rattle.lx_draft.specs.Working.{Working}
 
--- ancestors, from the nearest: something below them is marked
+-- ancestors marked, from the nearest, since something below them is
 abbrev pub mark_above : List ℕ → Marked → Marked
 mark_above [] m = m
 mark_above (k ∷ ks) m = mark_above ks (with_marked k false m)
 
--- a leaf, or an element itself, if there is one
+-- a node marked itself, as a leaf or as an element, if it is there
 abbrev pub mark_itself : Option Kind → ℕ → Marked → Marked
 mark_itself None k m = m
 mark_itself (Some kind) k m = if is_element kind then with_marked k true m else with_leaf k m
 
--- a node, and then its ancestors
+-- a node marked, and then its ancestors
 unfoldable pub mark_node : Forest → ℕ → Marked → Marked
 mark_node f k m = mark_above (ancestors f k) (mark_itself (kind_of f k) k m)
 
--- several nodes, one after another, each followed by its ancestors
+-- several nodes marked, one after another, each followed by its ancestors
 abbrev pub mark_nodes : Forest → List ℕ → Marked → Marked
 mark_nodes f [] m = m
 mark_nodes f (k ∷ ks) m = mark_nodes f ks (mark_node f k m)

@@ -8,7 +8,7 @@ use Rattle.lx_forest.specs.Lookups.{label_of}
 use Rattle.lx_draft.specs.Faults.{text_in}
 use Rattle.lx_draft.specs.declared.texts.Piece.{Piece}
 
--- the node is a text, and no tab, and between the two offsets its bytes are cut
+-- the node is a text, and no tab, whose bytes are cut where the piece between two offsets begins and ends
 pub record IsPlaced (key : ℕ) (piece : Piece) (f : Forest) : Type 0 where
   pub text : TextFields
   pub text_is : text_in (label_of f key) ≡ Some text

@@ -19,7 +19,7 @@ use Rattle.lx_forest.specs.Forest.{Forest}
 use Rattle.lx_forest.specs.Lookups.{has, kind_of, fields_of, size_of, is_within}
 use Rattle.lx_links.specs.Faults.{unknown}
 
--- a point counts code units in a text or tab, and children in an element
+-- a point may count in a node of the kind: code units in a text or tab, and children in an element
 abbrev pub counts_in : PointKind → Kind → Bool
 counts_in point.Text kind = has_characters kind
 counts_in point.Element kind = is_element kind
@@ -46,24 +46,24 @@ is_place f p point.Element = nat_le p.offset (extent f p point.Element)
 
 -- ---- why a selection is refused
 
--- the kind of the node, where it isn't one that passes the test
+-- `WrongKind`, where the node's kind doesn't pass the test
 abbrev pub unlike : (Kind → Bool) → Option Kind → Option Cause
 unlike test None = None
 unlike test (Some kind) = if test kind then None else Some (WrongKind kind)
 
--- the point doesn't count what its node has
+-- `WrongKind`, where the point doesn't count what its node has
 abbrev pub misfit_point : Forest → Point → Option Cause
 misfit_point f p = unlike (counts_in p.kind) (kind_of f p.key)
 
--- the offset isn't one of a place in the node
+-- `BadPlace`, where the offset isn't one of a place in the node
 abbrev pub outside_point : Forest → Point → Option Cause
 outside_point f p = if is_place f p p.kind then None else Some (BadPlace p.offset)
 
--- the cell isn't below the table
+-- `BadPlace`, where the cell isn't below the table
 abbrev pub outside_table : Forest → ℕ → ℕ → Option Cause
 outside_table f table cell = if is_within f table cell then None else Some (BadPlace cell)
 
--- the first of these nodes that isn't there
+-- `UnknownNode`, of the first of these nodes that isn't there
 abbrev pub unknown_among : Forest → List ℕ → Option Cause
 unknown_among f [] = None
 unknown_among f (k ∷ ks) = option_or (unknown f k) (unknown_among f ks)
@@ -100,15 +100,15 @@ is_counted_in kind (Some found) = counts_in kind found
 abbrev pub lies_in : Forest → Point → Bool
 lies_in f p = is_counted_in p.kind (kind_of f p.key) && is_place f p p.kind
 
--- the point doesn't lie in the forest
+-- `SelectionLost`, where the point doesn't lie in the forest
 abbrev pub lost_point : Forest → Point → Option Cause
 lost_point f p = if lies_in f p then None else Some (SelectionLost (lost.Point p))
 
--- the node isn't in the forest
+-- `SelectionLost`, where the node isn't in the forest
 abbrev pub lost_key : Forest → ℕ → Option Cause
 lost_key f k = if has k f then None else Some (SelectionLost (lost.Key k))
 
--- the first of a table and two cells that isn't in the forest
+-- `SelectionLost`, of the first of a table and two cells that isn't in the forest
 abbrev pub lost_cells : Forest → ℕ → ℕ → ℕ → Option Cause
 lost_cells f table a b = option_or (lost_key f table) (option_or (lost_key f a) (lost_key f b))
 

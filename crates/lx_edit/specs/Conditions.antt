@@ -17,12 +17,12 @@ use Rattle.lx_draft.specs.Faults.{text_in}
 abbrev pub kind_above : Forest → ℕ → Option Kind
 kind_above f k = option_and_then (kind_of f) (parent_of f k)
 
--- the first of these nodes that such a parent may not hold
+-- `WrongKind`, of the first of these nodes that such a parent may not hold
 abbrev pub misfit_among : Forest → Option Kind → List ℕ → Option Cause
 misfit_among f outer [] = None
 misfit_among f outer (k ∷ ks) = option_or (misfit outer (kind_of f k)) (misfit_among f outer ks)
 
--- the one is in the other's tree
+-- `BadPlace`, where the one has the other in its tree
 abbrev pub inside : Forest → ℕ → ℕ → Option Cause
 inside f k other = if is_within f k other then Some (BadPlace other) else None
 
@@ -100,7 +100,7 @@ abbrev pub is_key : Option ℕ → ℕ → Bool
 is_key None k = false
 is_key (Some found) k = found == k
 
--- the second doesn't come right after the first
+-- `BadPlace`, where the second doesn't come right after the first
 abbrev pub no_next : Forest → ℕ → ℕ → Option Cause
 no_next f first second = if is_key (next_of f first) second then None else Some (BadPlace second)
 

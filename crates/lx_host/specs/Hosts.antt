@@ -40,7 +40,7 @@ shape_of (tree host below rest) = tree host.face (shape_of below) (shape_of rest
 
 -- ---- hosts by their ids
 
--- the id of a host
+-- the id of a host, which is its name among trees
 abbrev pub id_of : Host → ℕ
 id_of host = host.id
 

@@ -62,7 +62,7 @@ ending_html ending = if ending then codes "<br>" else []
 
 -- ---- hosts
 
--- the HTML of shapes, one after another
+-- the HTML of shapes: of each its text or its children, with a line break after them where one ends it
 unfoldable pub html_of : Trees Face → List ℕ
 html_of nil = []
 html_of (tree face below rest) =

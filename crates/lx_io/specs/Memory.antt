@@ -3,7 +3,7 @@ use Rattle.std.specs.Prelude.{ℕ, ◌+◌, ◌-◌, ◌==◌, ◌&&◌, ◌||�
 use Rattle.std.specs.List.{list_any}
 use Rattle.lx_io.specs.Devices.{last_count}
 
--- one more, until the last count
+-- a count after one more, which ends at the last
 abbrev pub raised : ℕ → ℕ
 raised count = min (count + 1) last_count
 

@@ -59,7 +59,8 @@ pub record CommandsGoAndCome (x : ℕ) (w v u : Working) : Type 0 where
   pub between : SelectsAlone x v
   pub up : outdent_step v ≡ Ok u
 
--- an item that goes a level deeper and comes up again is where it was, with the whole tree
+-- an item that goes a level deeper and comes up again is where it was, with the whole tree, unless the items before it
+-- and after it are both nesting
 pub record LevelsComeAndGo : Type 0 where
   -- between items that aren't nesting: the tree is as it was
   pub alone : (x : ℕ) (w v u : Working) → GoesAndComes x w v u

@@ -22,16 +22,17 @@ stand_first test (k ∷ ks) = if test k then stand_first test ks else not (list_
 pub record InlinesFirst (f : Forest) : Type 0 where
   pub each : (item : ℕ) → is_at is_item f item ≡ true → stand_first (is_at is_inline f) (children_of f item) ≡ true
 
--- a draft that hasn't failed, in which each node holds what it may
+-- a draft hasn't failed, its next key and those above are free, and each node holds what it may
 pub record IsSound (w : Working) : Type 0 where
   pub ready : IsReady w
   pub held : IsHeld may_hold w.forest
 
--- the same characters are read in both, in one order
+-- below the root the same characters are read in two drafts, in the same order
 abbrev pub ReadsAs : Working → Working → Type 0
 ReadsAs w v = read_below v.forest 0 ≡ read_below w.forest 0
 
--- lines that are made items read the same, and so do lists that are removed again
+-- lines that are made items read the same, and so do lists that are removed where inline children come first in each
+-- item
 pub record ListsComeAndGo : Type 0 where
   -- lines that are made items read the same, whatever is selected, and whatever lists there are
   pub made : (type : ListType) (w v : Working) → IsSound w → make_list_step type w ≡ Ok v → ReadsAs w v

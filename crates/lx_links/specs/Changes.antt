@@ -31,7 +31,7 @@ node_after (Joined key behind before) here n =
       size = (if here then n.size + 1 else n.size);
     }
 
--- a node's size stays below 2 ^ 32
+-- a node's size stays below 2 ^ 32, also with one child more
 abbrev pub Fits : Change → Node → Type 0
 Fits (Joined key behind before) n = n.size + 1 < 2 ^ 32
 Fits _ n = Unit {0}

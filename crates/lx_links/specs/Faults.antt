@@ -15,16 +15,16 @@ use Rattle.lx_node.specs.declared.cause.Fault.TheVariants as fault
 use Rattle.lx_forest.specs.Forest.{Forest}
 use Rattle.lx_forest.specs.Lookups.{has, kind_of, parent_of, children_of, is_within}
 
--- there is no such node
+-- `UnknownNode`, where there is no node of the key
 abbrev pub unknown : Forest → ℕ → Option Cause
 unknown f k = if has k f then None else Some (UnknownNode (Key k))
 
--- there is no such node, if one is named
+-- `UnknownNode`, where a key is named of which there is no node
 abbrev pub unknown_before : Forest → Option ℕ → Option Cause
 unknown_before f None = None
 unknown_before f (Some k) = unknown f k
 
--- the fields aren't of the kind
+-- `WrongKind`, where the fields aren't of the kind
 abbrev pub wrong_fields : Option Kind → Fields → Option Cause
 wrong_fields None fields = None
 wrong_fields (Some kind) fields = if is_of_kind kind fields then None else Some (WrongKind kind)
@@ -33,7 +33,7 @@ wrong_fields (Some kind) fields = if is_of_kind kind fields then None else Some 
 abbrev pub set_fault : ℕ → Fields → Forest → Option Cause
 set_fault k fields f = option_or (unknown f k) (wrong_fields (kind_of f k) fields)
 
--- the node is below nothing
+-- `BadPlace`, where the node is below nothing
 abbrev pub not_below : Forest → ℕ → Option Cause
 not_below f k = if is_some (parent_of f k) then None else Some (BadPlace k)
 
@@ -41,16 +41,16 @@ not_below f k = if is_some (parent_of f k) then None else Some (BadPlace k)
 abbrev pub detach_fault : ℕ → Forest → Option Cause
 detach_fault k f = option_or (unknown f k) (not_below f k)
 
--- the parent may not hold such a child
+-- `WrongKind`, where a parent of the one kind may not hold a child of the other
 abbrev pub misfit : Option Kind → Option Kind → Option Cause
 misfit (Some outer) (Some inner) = if may_hold outer inner then None else Some (WrongKind inner)
 misfit _ _ = None
 
--- the node is the root, or is below something, or the parent is in its tree
+-- `BadPlace`, where the node is the root, or is below something, or the parent is in its tree
 abbrev pub bound_to : Forest → ℕ → ℕ → Option Cause
 bound_to f p k = if k == 0 || (is_some (parent_of f k) || is_within f k p) then Some (BadPlace k) else None
 
--- what it is to come before isn't a child of the parent
+-- `BadPlace`, where what it is to come before isn't a child of the parent
 abbrev pub no_child : Forest → ℕ → Option ℕ → Option Cause
 no_child f p None = None
 no_child f p (Some before) = if is_among before (children_of f p) then None else Some (BadPlace before)

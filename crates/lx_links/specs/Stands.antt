@@ -116,7 +116,8 @@ forest_in-stands held s = s.stands
 pub forest_in-is : (held : Option Nodes) (s : Standing held) (f : Forest) → Stands held f → forest_in held s ≡ f
 forest_in-is held s f h = Stands-unique held (forest_in held s) f (forest_in-stands held s) h
 
--- what a reader may take of the forest of any links
+-- what callers may take of the forest of any links: it is in order, children are where they may be, and fields are of
+-- their kinds
 pub record Sound (f : Forest) : Type 0 where
   pub in_order : f ≢ nil → IsForest f
   pub held : IsHeld may_hold f

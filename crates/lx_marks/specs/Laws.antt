@@ -3,7 +3,7 @@ use Rattle.std.specs.Prelude.{ℕ, ◌≡◌, ◌==◌, ◌&&◌, ◌||◌, Bool
 use Rattle.lx_node.specs.Siblings.{is_among}
 use Rattle.lx_marks.specs.Marks.{Marked, unmarked, flag_in, with_leaf, with_marked, absorbed, is_touched, is_noted, IsMarked}
 
--- the flag that two tables give a key: true where either has it so
+-- of the flags that two tables give a key the one that is there, and of two whether either is true
 abbrev pub either_flag : Option Bool → Option Bool → Option Bool
 either_flag None flag = flag
 either_flag (Some mine) None = Some mine

@@ -23,7 +23,8 @@ pub record IsJoined (first second : ℕ) (w v : Working) : Type 0 where
   -- offsets are numbers of a u32, and so can say every place of a text that is no longer
   pub fits : text_length (text_at w.forest first ++ text_at w.forest second) ≤ last_u32
 
--- what a join leaves: the first with both texts, the second gone, and all else as it was
+-- what a join leaves: the first with both texts, the second gone, all else as it was, points at their places and the
+-- same to be read; and pieces of a split that are joined again give the old tree
 pub record JoinsAreTold : Type 0 where
   -- the first has both texts, one after the other ..
   pub text : (first second : ℕ) (w v : Working) → IsJoined first second w v →

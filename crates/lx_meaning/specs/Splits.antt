@@ -20,7 +20,7 @@ abbrev pub cut_from : ℕ → List ℕ → List ℕ → List (List ℕ)
 cut_from start [] text = slice_of start (length_told text) text ∷ []
 cut_from start (o ∷ rest) text = slice_of start o text ∷ cut_from o rest text
 
--- a text of the draft w was split at offsets, and these are its pieces in the draft v
+-- a text of the draft w was split at offsets, and these are its pieces in the draft v: itself, and the new texts
 pub record IsSplit (k : ℕ) (offsets pieces : List ℕ) (w v : Working) : Type 0 where
   pub ready : IsReady w
   pub split : split_step k offsets w ≡ Ok v
@@ -28,7 +28,8 @@ pub record IsSplit (k : ℕ) (offsets pieces : List ℕ) (w v : Working) : Type 
   -- offsets are numbers of a u32, and so can say every place of a text that is no longer
   pub fits : text_length (text_at w.forest k) ≤ last_u32
 
--- what a split leaves: the pieces, which have the old text, in its place and like it, and all else as it was
+-- what a split leaves: pieces that have the old text, in its place and like it, all other nodes as they were, points at
+-- their places, and the same to be read
 pub record SplitsAreTold : Type 0 where
   -- the pieces are the old text cut at the offsets, in order ..
   pub pieces : (k : ℕ) (offsets pieces : List ℕ) (w v : Working) → IsSplit k offsets pieces w v →

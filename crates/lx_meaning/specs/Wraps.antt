@@ -12,7 +12,8 @@ pub record IsWrapped (k outer : ℕ) (w v : Working) : Type 0 where
   pub empty : children_of w.forest outer ≡ []
   pub wrapped : wrap_step k outer w ≡ Ok v
 
--- what wrapping, unwrapping, replacing and moving children leave: which children are where, and the same to be read
+-- what wrapping, unwrapping, replacing and moving children leave: which children are where, and the same to be read;
+-- and unwrapping undoes wrapping
 pub record WrapsAreTold : Type 0 where
   -- a wrapped node is the outer one's only child, and the outer one is in its place
   pub within : (k outer : ℕ) (w v : Working) → IsWrapped k outer w v → children_of v.forest outer ≡ k ∷ []

@@ -57,7 +57,7 @@ unfoldable pub is_normal : Mode → Bool
 is_normal Normal = true
 is_normal _ = false
 
--- the one character U+0009
+-- the text is the one character U+0009
 unfoldable pub is_tab_text : List ℕ → Bool
 is_tab_text [] = false
 is_tab_text (c ∷ []) = eqb c 9

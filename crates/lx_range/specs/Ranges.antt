@@ -38,7 +38,7 @@ range_in f other = Err (NoSelection (kind_of_selection other))
 unfoldable pub range_of : Working → Result Ranged Cause
 range_of w = range_in w.forest w.selection
 
--- the range that a selection is
+-- the range that a selection is, if it is one
 abbrev pub shown_range : Selection → Option Ranged
 shown_range (Range a b format) = Some (record { anchor = a; focus = b; format = format })
 shown_range other = None
@@ -61,7 +61,7 @@ end_of f r = if comes_first f r.anchor r.focus then r.focus else r.anchor
 abbrev pub caret_at : Point → Working → Working
 caret_at there w = record w { selection = each_point (λ p. there) w.selection }
 
--- a step that goes by the anchor and the format of a range
+-- a step that goes by the anchor and the format of a range, refused as `NoSelection` for any other selection
 abbrev pub at_anchor_of : Selection → (Point → ℕ → Working → Result Working Cause) → Working → Result Working Cause
 at_anchor_of (Range a b format) step w = step a format w
 at_anchor_of other step w = Err (NoSelection (kind_of_selection other))
@@ -72,7 +72,7 @@ at_anchor step w = at_anchor_of w.selection step w
 
 -- ---- what a point lies in
 
--- the fields of a normal text
+-- the fields of a text, if its mode is normal
 abbrev pub if_normal : Option TextFields → Option TextFields
 if_normal None = None
 if_normal (Some text) = if is_normal text.mode then Some text else None

@@ -8,7 +8,7 @@ use Rattle.lx_step.specs.declared.step.Step.{Step}
 use Rattle.lx_step.specs.declared.step.Step.TheVariants as step
 use Rattle.lx_step.specs.declared.step.Steps.TheDeep.{deep-Step}
 
--- what a step queues is no larger than a script in which it is
+-- a script is no smaller than each that it queues, by which recursion over steps ends
 pub most_le-script_size : (steps : List Step) → max (most (λ s. deep-Step s) steps) 0 ≤ script_size (script_of steps)
 most_le-script_size [] = omega arith
 most_le-script_size (step.Later script ∷ steps) = omega (arith, most_le-script_size steps)

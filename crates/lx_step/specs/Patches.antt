@@ -77,7 +77,7 @@ text_with_member (Detail detail) old = record old { detail = detail }
 text_with_member (Mode mode) old = record old { mode = mode }
 text_with_member member old = old
 
--- a member written in an embed's source
+-- a member written in an embed's source: where it has none such, all stays
 unfoldable pub with_source : Member → List ℕ → List ℕ
 with_source (Src source) old = source
 with_source member old = old

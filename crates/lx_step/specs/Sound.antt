@@ -19,7 +19,8 @@ pub record MayBeNew (kind : Kind) (fields : Fields) : Type 0 where
   pub other : kind ≢ Root
   pub of_kind : IsOfKind kind fields
 
--- a new node may be new, and members that are set have values within their ranges
+-- of a step but for those that it queues, a new node may be new, and members that are set have values within their
+-- ranges
 abbrev pub IsSoundHead : Head → Type 0
 IsSoundHead (script.new kind fields name) = MayBeNew kind fields
 IsSoundHead (script.set node patch) = All IsInRange patch.members

@@ -22,7 +22,7 @@ module _ {X : Type 0} where
   abbrev pub fitted : List (Option X) → List (Option X)
   fitted slots = take 32 (slots ++ replicate 32 None)
 
-  -- the slots of pages, one page's after another's
+  -- the slots of a chapter: those of its pages, one page's after another's
   abbrev pub joined : List (List (Option X)) → List (Option X)
   joined [] = []
   joined (page ∷ pages) = fitted page ++ joined pages

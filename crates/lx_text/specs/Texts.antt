@@ -43,7 +43,7 @@ slice_of from to text = front_of (to - from) (rest_of from text)
 unfoldable pub spliced_text : ℕ → ℕ → List ℕ → List ℕ → List ℕ
 spliced_text from to new text = front_of from text ++ new ++ rest_of to text
 
--- the offset is none of the text
+-- `BadPlace`, where the offset is none of the text
 abbrev pub no_offset : List ℕ → ℕ → Option Cause
 no_offset text offset = if is_offset offset text then None else Some (BadPlace offset)
 
