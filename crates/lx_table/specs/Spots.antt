@@ -1,4 +1,5 @@
--- Where the cells of a table are.
+-- Where the cells of a table are. A spot is a cell with its row and its column, and the numbers of rows and columns that it
+-- covers from there; commands know a table by its spots.
 use Rattle.std.specs.Prelude.{ℕ, ◌+◌, ◌≤◌, ◌==◌, ◌&&◌, Bool, true, false, nat_lt, nat_le, max, List, [], ◌∷◌, find, Option}
 use Rattle.std.specs.List.{list_any}
 use Rattle.lx_table.specs.declared.spots.Spot.{Spot}
