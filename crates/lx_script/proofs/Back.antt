@@ -89,7 +89,7 @@ up_to n most is = both_true (leb 0 n) (leb n most) (le-leb 0 n (omega arith)) is
 pub short : (n : ℕ) → IsShort n → IsTrue (leb 0 n && leb n 65535)
 short n is = up_to n 65535 (le-leb n 65535 is)
 
--- ---- what each element tells
+-- ---- what each element includes
 
 pub direction_on : {kind : Kind} {a : Align} {i t : ℕ} {s : List ℕ} {x : Extra} {rest : Members} (d : Direction) → is_element kind ≡ true
     → GoesOn kind (member (codes "direction") (direction_data d) rest) (made direction.Unset a i t s x) rest (made d a i t s x)
@@ -139,7 +139,7 @@ text_style_on {kind = kind} {d = d} {a = a} {i = i} {t = t} {x = x} {rest = rest
     subst P (sym (none refl)) unmoved
 text_style_on false s element text none = taken (codes "textStyle") name.TextStyle _ _ _ (rw element refl) refl (rw (element, text) refl)
 
--- ---- what headings, lists and items tell
+-- ---- what headings, lists and items include
 
 level_given : (level : ℕ) (old : Fields) → IsTrue (leb 1 level && leb level 6) → with_given (kind.Heading level) name.Tag (string (level_word level)) old ≡ Some old
 unfolding with_given
@@ -174,7 +174,7 @@ pub start_on : {type : ListType} {d : Direction} {a : Align} {i t : ℕ} {s : Li
 unfolding takes is_list with_given settable has with_member element_with_member with_extra
 start_on n range = taken (codes "start") name.Start _ _ _ refl refl (rw (up_to n 1000000 range) refl)
 
--- what an item tells of being checked
+-- what an item says of being checked
 abbrev pub checked_before : Option Bool → Members → Members
 checked_before None rest = rest
 checked_before (Some checked) rest = member (codes "checked") (boolean checked) rest
@@ -190,7 +190,7 @@ pub value_on : {d : Direction} {a : Align} {i t : ℕ} {s : List ℕ} {old : ℕ
 unfolding takes is_item with_given item_with_value
 value_on n range = taken (codes "value") name.Value _ _ _ refl refl (rw (up_to n 1200000 range) refl)
 
--- ---- what links tell
+-- ---- what links include
 
 pub rel_on : {d : Direction} {a : Align} {i t : ℕ} {s : List ℕ} {target title : Option (List ℕ)} {url : List ℕ} {rest : Members} (rel : Option (List ℕ)) → IsTextIfAny rel
     → GoesOn kind.Link (member (codes "rel") (or_null text_data rel) rest) (made d a i t s (extra.Link None target title url)) rest (made d a i t s (extra.Link rel target title url))
@@ -215,7 +215,7 @@ pub url_on : {d : Direction} {a : Align} {i t : ℕ} {s : List ℕ} {rel target 
 unfolding takes is_link with_given settable has with_member element_with_member with_extra
 url_on url text = taken (codes "url") name.Url _ _ _ refl refl (rw text refl)
 
--- ---- what cells tell
+-- ---- what cells include
 
 pub background_on : {d : Direction} {a : Align} {i t : ℕ} {s : List ℕ} {header rows columns : ℕ} {rest : Members} (background : Option (List ℕ)) → IsTextIfAny background
     → GoesOn kind.Cell (member (codes "backgroundColor") (or_null text_data background) rest) (made d a i t s (extra.Cell header rows columns None)) rest (made d a i t s (extra.Cell header rows columns background))
@@ -238,7 +238,7 @@ pub rows_on : {d : Direction} {a : Align} {i t : ℕ} {s : List ℕ} {header old
 unfolding takes is_cell with_given settable has with_member element_with_member with_extra is_span
 rows_on n range = taken (codes "rowSpan") name.RowSpan _ _ _ refl refl (rw range refl)
 
--- ---- what texts, tabs and embeds tell
+-- ---- what texts, tabs and embeds include
 
 pub detail_on : {text style : List ℕ} {format old : ℕ} {m : Mode} {rest : Members} (n : ℕ) → IsTrue (leb n 3)
     → GoesOn kind.Text (member (codes "detail") (natural n) rest) (told text format old m style) rest (told text format n m style)

@@ -1,4 +1,4 @@
--- What the object of a node tells: its type, its children, and its kind.
+-- What the object of a node includes: its type, its children, and its kind.
 use Rattle.std.proofs.Common.{◌≡◌, ◌∙◌, refl, ap, codes, ℕ, zero, suc, List, [], ◌∷◌, ◌++◌, Bool, true, false, not, ◌&&◌, ◌==◌, leb, IsTrue, Option, None, Some, option_map, is_some, bytes_eq, arith}
 use Rattle.std.proofs.lemmas.Bool.{leb-true}
 use Rattle.serde_json.specs.Data.{Data, string, array, Items, Members, no_members, put}
@@ -94,13 +94,13 @@ lacks-children-element kind e =
     (lacks-children-kind kind))
     (lacks-children-extra e.extra)
 
--- ---- what a node tells
+-- ---- what a node includes
 
 -- what a node's type and version are put to
 abbrev begun : Kind → Members
 begun kind = put (codes "version") (natural 1) (put (codes "type") (string (type_name kind)) no_members)
 
--- a node tells its type
+-- a node includes its type
 pub type-there : (kind : Kind) (f : Fields) (below : Items) → get (codes "type") (node_data kind f below) ≡ Some (string (type_name kind))
 unfolding node_data
 type-there kind f below = get-onto (codes "type") (begun kind) (field_members kind f below) (lacks-type kind f below)
@@ -132,13 +132,13 @@ children_by kind (fields.Text t) below of = absurd (cc)
 children_by kind (fields.Embed source) below of = absurd (cc)
 children_by kind fields.Bare below of = absurd (cc)
 
--- an element tells its children
+-- an element includes its children
 pub children-there : (kind : Kind) (f : Fields) (below : Items) → is_element kind ≡ true → IsOfKind kind f → get (codes "children") (node_data kind f below) ≡ Some (array below)
 children-there kind f below element of = children_by kind f below (element_of kind f element of)
 
 -- ---- the kind
 
--- what is put between two others is found, where nothing behind it has its name
+-- what is put between two others is found, where nothing after it has its name
 found-between : (name : List ℕ) (d : Data) (found : Members) (before more last : Written) → lacks name more ≡ true → lacks name last ≡ true
     → get_member name (written_onto found (before ++ ((name, d) ∷ more) ++ last)) ≡ Some d
 found-between name d found before more last of_more of_last =
@@ -169,7 +169,7 @@ lacks-list-extra (extra.Item value checked) = lacks-list-checked checked
 lacks-list-extra (extra.Link rel target title url) = refl
 lacks-list-extra (extra.Cell header row_span col_span background) = refl
 
--- what an element tells before what its kind tells
+-- what an element includes before what its kind adds
 abbrev layout_onto : Kind → ElementFields → Items → Members
 layout_onto kind e below =
     put (codes "indent") (natural e.indent)
@@ -226,7 +226,7 @@ unfolding kind_told is_element
 list_back type f below of =
     ap (told_by (λ type. kind.List type) (kind.List list_type.Bullet) list_types) (list_by type f below (element_of (kind.List type) f refl of)) ∙ list_told type
 
--- a node tells its kind
+-- a node says its kind
 pub kind-back : (kind : Kind) (f : Fields) (below : Items) → IsOfKind kind f → option_map (λ base. kind_told base (node_data kind f below)) (kind_of_type (type_name kind)) ≡ Some kind
 unfolding kind_told type_name
 kind-back (kind.Heading level) f below of = ap (λ k. Some k) (heading_back level f below of)

@@ -1,4 +1,4 @@
--- From what a value tells of itself to what the grammar asks of it.
+-- From what a value says of itself to what the grammar asks of it.
 use Rattle.std.proofs.Common.{◌≡◌, refl, subst, codes, ℕ, List, [], ◌∷◌, length, slice_get, string_bytes, arith, Bool, true, false, Some, None, option_map, ◌==◌, Result, Ok, Err, IsUtf8}
 use Rattle.serde_json.proofs.Views.{Entry, items_len-items_view, members_len-members_view}
 use Rattle.serde_json.specs.Data.{Data, null, boolean, number, string, array, object}
@@ -130,7 +130,7 @@ asks_for d form is = asks d form (form_of-no_load d form is) is
 
 -- ---- what the bytes ask for
 
--- what is made of the value that the bytes are tells what they ask for
+-- what is made of the value that the bytes are says what they ask for
 pub tells_of_json : (bytes : List ℕ) (d : Data) (result : Result Line Fault) → IsJson bytes d → Makes d result → TellsLine bytes result
 unfolding Reads
 tells_of_json bytes d (Ok line) is made = (d, is, made)
@@ -139,7 +139,7 @@ tells_of_json bytes d (Err (Refused BadCommand)) is made = (d, is, made)
 tells_of_json bytes d (Err (Refused other)) is made = absurd made
 tells_of_json bytes d (Err Memory) is made = tt
 
--- bytes that are no JSON value tell nothing else
+-- bytes that are no JSON value say nothing else
 pub tells_of_no_json : (bytes : List ℕ) (fault : Fault) → TellsNoJson bytes fault → TellsLine bytes (Err fault)
 unfolding Reads
 tells_of_no_json bytes (Refused BadLine) refused = refused

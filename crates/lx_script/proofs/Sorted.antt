@@ -7,7 +7,8 @@ use Rattle.lx_script.specs.Exporting.{Written, written_onto, kept, checked_membe
 use Rattle.lx_script.specs.Replies.{natural, text_data, or_null}
 use Rattle.lx_script.proofs.Back.{unless, checked_before}
 
--- what an element of a type tells in the order in which it is written, where its texts' format and style may be left out
+-- what an element of a type includes in the order in which it is written, where its texts' format and style may be left
+-- out
 abbrev told : List ℕ → ElementFields → Items → Bool → Bool → Written → Written → Written
 told type e below no_format no_style of_kind of_extra =
     (codes "type", string type) ∷ (codes "version", natural 1) ∷ (codes "children", array below) ∷ (codes "direction", direction_data e.direction)

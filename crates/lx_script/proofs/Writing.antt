@@ -45,7 +45,7 @@ pub has_float-or_null : {A : Type 0} (data_of : A → Data) → ((a : A) → has
 has_float-or_null data_of of_some None = refl
 has_float-or_null data_of of_some (Some a) = of_some a
 
--- the reply that tells a document without a float has none
+-- the reply that shows a document without a float has none
 has_float-state_data : (document : Data) → has_float document ≡ false → has_float (state_data document) ≡ false
 has_float-state_data document whole = rw whole refl
 

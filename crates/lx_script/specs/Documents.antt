@@ -21,6 +21,7 @@ use Rattle.lx_script.specs.Words.{names, levels, list_types}
 
 -- ---- the fields of a kind where nothing is given
 
+-- what an element has of its own kind where nothing is given
 unfoldable pub default_extra : Kind → Extra
 default_extra (kind.List type) = extra.List 1
 default_extra kind.Item = extra.Item 1 None
@@ -28,7 +29,7 @@ default_extra kind.Link = extra.Link None None None []
 default_extra kind.Cell = extra.Cell 0 1 1 None
 default_extra kind = extra.Plain
 
--- a tab has the text U+0009 and detail 2, whatever is given
+-- the fields of a kind where nothing is given; a tab has the text U+0009 and detail 2, whatever is given
 unfoldable pub default_fields : Kind → Fields
 default_fields kind.Text = fields.Text (text_with [] 0)
 default_fields kind.Tab = fields.Text (text_with (9 ∷ []) 2)
@@ -39,6 +40,7 @@ default_fields kind = fields.Element (element_with (default_extra kind))
 
 -- ---- which members an object gives a kind, and what they give
 
+-- whether an object can give a node of the kind such a member
 unfoldable pub takes : Kind → Name → Bool
 takes kind name.Direction = is_element kind
 takes kind name.Format = is_element kind || has_characters kind
@@ -64,6 +66,7 @@ takes kind name.Detail = is_text kind
 takes kind name.Mode = is_text kind
 takes kind name.Src = is_embed kind
 
+-- an item's value written into what it has of its own kind
 abbrev pub extra_with_value : ℕ → Extra → Extra
 extra_with_value value (extra.Item old checked) = extra.Item value checked
 extra_with_value value extra = extra
@@ -90,6 +93,7 @@ unfoldable pub given_by : Kind → Option Name → Data → Fields → Option Fi
 given_by kind None d old = Some old
 given_by kind (Some known) d old = if is_some (as_null d) then Some old else with_given kind known d old
 
+-- what goes on with fields, if there are any; else the member of this name is the bad one
 abbrev pub or_bad : List ℕ → (Fields → Result Fields (List ℕ)) → Option Fields → Result Fields (List ℕ)
 or_bad text go_on None = Err (chars text)
 or_bad text go_on (Some fields) = go_on fields
@@ -100,6 +104,7 @@ abbrev pub fields_with : Kind → Members → Fields → Result Fields (List ℕ
 fields_with kind no_members old = Ok old
 fields_with kind (member text d rest) old = or_bad text (fields_with kind rest) (given_by kind (name_in kind text) d old)
 
+-- the members of an object; any other value has none
 abbrev pub members_in : Data → Members
 members_in (object members) = members
 members_in d = no_members
@@ -108,7 +113,7 @@ members_in d = no_members
 unfoldable pub document_fields : Kind → Data → Result Fields (List ℕ)
 document_fields kind d = fields_with kind (members_in d) (default_fields kind)
 
--- An object gives no fields for the first of its bad members; or memory was wanting.
+-- An object gives no fields for the first of its bad members; or memory ran out.
 abbrev pub TellsBad : Result Fields (List ℕ) → FieldFault → Type 0
 TellsBad given Memory = Unit {0}
 TellsBad given (Bad text) = given ≡ Err text

@@ -9,25 +9,27 @@ use Rattle.lx_step.specs.declared.listener.When.{When}
 use Rattle.lx_script.specs.Steps.{script_in}
 use Rattle.lx_script.specs.Values.{string_of, number_within, has_only, required, optional}
 
+-- these conditions: on the payload, on the kind of selection, and on the type of the block
 abbrev pub when_with : Option (List ℕ) → Option (List ℕ) → Option (List ℕ) → When
 when_with sent selection block = record { payload = sent; selection = selection; block = block }
 
--- {"payload"?:TEXT,"selection"?:WORD,"block"?:WORD}
+-- the conditions of a listener: {"payload"?:TEXT,"selection"?:WORD,"block"?:WORD}
 abbrev pub when_of : Data → Option When
 when_of d =
     if has_only (codes "payload" ∷ codes "selection" ∷ codes "block" ∷ []) d then option_map (λ p. when_with p.0.0 p.0.1 p.1)
     (option_zip (option_zip (optional string_of (codes "payload") d) (optional string_of (codes "selection") d)) (optional string_of (codes "block") d))
     else None
 
--- no conditions, where none are told
+-- the conditions by their member: none where it is missing
 abbrev pub when_in : Option Data → Option When
 when_in None = Some (when_with None None None)
 when_in (Some d) = when_of d
 
+-- a listener of these parts
 abbrev pub listener_with : List ℕ → ℕ → When → Script → Bool → Listener
 listener_with on priority when steps handled = record { priority = priority; on = on; when = when; steps = steps; handled = handled }
 
--- {"on":NAME,"priority":0 to 4,"when"?:WHEN,"steps":[STEP..],"handled":TRUTH}
+-- a listener: {"on":NAME,"priority":0 to 4,"when"?:WHEN,"steps":[STEP..],"handled":TRUTH}
 abbrev pub listener_of : Data → Option Listener
 listener_of d =
     if has_only (codes "on" ∷ codes "priority" ∷ codes "when" ∷ codes "steps" ∷ codes "handled" ∷ []) d then

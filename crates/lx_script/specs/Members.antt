@@ -15,7 +15,7 @@ use Rattle.lx_script.specs.Words.{names, directions, aligns, modes, levels, list
 
 -- ---- values
 
--- null, or the word of a direction
+-- a direction: null, or a word
 abbrev pub direction_of : Data → Option Direction
 direction_of null = Some direction.Unset
 direction_of d = named directions d
@@ -57,10 +57,11 @@ patch_member (Some name.ListType) text d = option_map (λ type. Other (chars tex
 patch_member (Some name.Value) text d = option_map (λ value. Other (chars text)) (number_within 0 1200000 d)
 patch_member (Some known) text d = settable known d
 
+-- the members of a patch, each of which is read
 abbrev pub patch_members : Members → Option (List Member)
 patch_members no_members = Some []
 patch_members (member text d rest) = option_map (λ p. p.0 ∷ p.1) (option_zip (patch_member (word_in names text) text d) (patch_members rest))
 
--- an object, each of whose members is read, in byte order of their names
+-- a patch: an object, each of whose members is read, in byte order of their names
 abbrev pub patch_of : Data → Option (List Member)
 patch_of d = option_and_then patch_members (as_object d)

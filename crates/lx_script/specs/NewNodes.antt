@@ -33,6 +33,7 @@ may_be_given None d = false
 may_be_given (Some name.Value) d = is_some (as_null d)
 may_be_given (Some known) d = true
 
+-- whether a new node of the kind may be given each of these members
 abbrev pub may_all_be_given : Kind → Members → Bool
 may_all_be_given kind no_members = true
 may_all_be_given kind (member text d rest) = may_be_given (name_in kind text) d && may_all_be_given kind rest

@@ -1,4 +1,4 @@
--- The bytes of a reply: compact JSON, whose members stand in byte order, as serde_json writes a value.
+-- The bytes of a reply: compact JSON, whose members are in byte order, as serde_json writes a value.
 use Rattle.std.specs.Prelude.{ℕ, Bool, true, List, [], ◌∷◌, codes, map, encode_utf8_all, Option, None, Some}
 use Rattle.serde_json.specs.Data.{Data, null, boolean, number, unsigned, string, array, object, Members, no_members, member, put}
 use Rattle.serde_json.specs.View.{items_of}
@@ -29,16 +29,20 @@ use Rattle.lx_script.specs.declared.reply.Reply.TheVariants.{Committed, Refused,
 
 -- ---- parts of replies
 
+-- a number as JSON
 abbrev pub natural : ℕ → Data
 natural n = number (unsigned n)
 
+-- a text as JSON, its characters in UTF-8
 abbrev pub text_data : List ℕ → Data
 text_data text = string (encode_utf8_all text)
 
+-- a value as JSON, or null where there is none
 abbrev pub or_null : {A : Type 0} → (A → Data) → Option A → Data
 or_null data_of None = null
 or_null data_of (Some a) = data_of a
 
+-- a list as JSON
 abbrev pub list_data : List Data → Data
 list_data items = array (items_of items)
 
@@ -50,6 +54,7 @@ attributes_onto members [] = members
 attributes_onto members (attribute ∷ attributes) =
     attributes_onto (put (name_word attribute.0) (text_data attribute.1) members) attributes
 
+-- attributes as an object with one member for each
 abbrev pub attributes_data : List (Name × List ℕ) → Data
 attributes_data attributes = object (attributes_onto no_members attributes)
 
@@ -68,6 +73,7 @@ op_data (Break id ending) = list_data (string (codes "break") ∷ natural id ∷
 
 -- ---- causes
 
+-- the name by which a refusal gives its cause
 abbrev pub cause_name : Cause → List ℕ
 cause_name BadLine = codes "BadLine"
 cause_name BadCommand = codes "BadCommand"
@@ -86,20 +92,23 @@ cause_name EmptyState = codes "EmptyState"
 cause_name HistoryInside = codes "HistoryInside"
 cause_name TooManyRules = codes "TooManyRules"
 
+-- the word for what a point's offset counts
 abbrev pub point_kind_name : PointKind → List ℕ
 point_kind_name point.Text = codes "text"
 point_kind_name point.Element = codes "element"
 
--- [key,offset,kind]
+-- a point as JSON: [key,offset,kind]
 abbrev pub point_data : Point → Data
 point_data p = list_data (natural p.key ∷ natural p.offset ∷ string (point_kind_name p.kind) ∷ [])
 
+-- the word for a kind of selection, as a refusal gives it
 abbrev pub selection_name : SelectionKind → List ℕ
 selection_name Nothing = codes "none"
 selection_name Range = codes "range"
 selection_name Nodes = codes "nodes"
 selection_name Cells = codes "cells"
 
+-- the word for a limit
 abbrev pub limit_name : Limit → List ℕ
 limit_name limit.Depth = codes "depth"
 limit_name limit.Nodes = codes "nodes"
@@ -108,19 +117,21 @@ limit_name limit.KeyCount = codes "key"
 limit_name limit.Written = codes "written"
 limit_name limit.Hosts = codes "hosts"
 
+-- what is said to be unknown, as JSON: a key or a name
 abbrev pub named_data : Named → Data
 named_data (named.Key key) = natural key
 named_data (named.Name name) = text_data name
 
+-- what a selection has lost, as JSON: a point or a key
 abbrev pub lost_data : Lost → Data
 lost_data (lost.Point p) = point_data p
 lost_data (lost.Key key) = natural key
 
--- [limit,number reached]
+-- a limit that was passed, as JSON: [limit,number reached]
 abbrev pub reached_data : Limit → ℕ → Data
 reached_data limit reached = list_data (string (limit_name limit) ∷ natural reached ∷ [])
 
--- what a cause tells beside its name
+-- what a cause says beside its name
 abbrev pub detail_of : Cause → Data
 detail_of BadLine = null
 detail_of BadCommand = null
@@ -141,7 +152,7 @@ detail_of TooManyRules = natural 256
 
 -- ---- selections
 
--- {"anchor":[key,offset,kind],"focus":[key,offset,kind],"format":F,"kind":"range"}
+-- a range as JSON: {"anchor":[key,offset,kind],"focus":[key,offset,kind],"format":F,"kind":"range"}
 abbrev pub range_data : Point → Point → ℕ → Data
 range_data anchor focus format =
     object
@@ -150,14 +161,14 @@ range_data anchor focus format =
     (member (codes "format") (natural format)
     (member (codes "kind") (string (codes "range")) no_members))))
 
--- {"keys":[..],"kind":"nodes"}
+-- selected nodes as JSON: {"keys":[..],"kind":"nodes"}
 abbrev pub nodes_data : List ℕ → Data
 nodes_data keys =
     object
     (member (codes "keys") (list_data (map natural keys))
     (member (codes "kind") (string (codes "nodes")) no_members))
 
--- {"anchor":KEY,"focus":KEY,"kind":"cells","table":KEY}
+-- selected cells as JSON: {"anchor":KEY,"focus":KEY,"kind":"cells","table":KEY}
 abbrev pub cells_data : ℕ → ℕ → ℕ → Data
 cells_data table anchor focus =
     object
@@ -166,6 +177,7 @@ cells_data table anchor focus =
     (member (codes "kind") (string (codes "cells"))
     (member (codes "table") (natural table) no_members))))
 
+-- a selection as JSON: null where nothing is selected
 abbrev pub selection_data : Selection → Data
 selection_data selection.Nothing = null
 selection_data (selection.Range anchor focus format) = range_data anchor focus format
@@ -174,22 +186,23 @@ selection_data (selection.Cells table anchor focus) = cells_data table anchor fo
 
 -- ---- replies
 
--- whether a command was handled, where one was dispatched, before other members
+-- members with one in front that says whether a command was handled, where one was dispatched
 abbrev pub with_handled : Option Bool → Members → Members
 with_handled None members = members
 with_handled (Some handled) members = member (codes "handled") (boolean handled) members
 
--- the view, where replies tell it, behind other members
+-- the view as a last member, where replies include it
 abbrev pub told_view : Option (List ℕ) → Members
 told_view None = no_members
 told_view (Some html) = member (codes "view") (text_data html) no_members
 
--- {"commit":N,"ops":[..]}, with "handled" between them, and "view" behind them
+-- the reply to a commit: {"commit":N,"ops":[..]}, with "handled" between them, and "view" after them
 abbrev pub commit_data : ℕ → List Op → Option Bool → Option (List ℕ) → Data
 commit_data commit ops handled html =
     object (member (codes "commit") (natural commit) (with_handled handled (member (codes "ops") (list_data (map op_data ops)) (told_view html))))
 
--- {"refused":{"cause":NAME,"code":C,"detail":D,"step":I}}, where the step is an index or null
+-- the reply to what is refused: {"refused":{"cause":NAME,"code":C,"detail":D,"step":I}}, where the step is an index or
+-- null
 abbrev pub refusal_data : Cause → Option ℕ → Data
 refusal_data cause step =
     object (member (codes "refused") (object
@@ -198,43 +211,44 @@ refusal_data cause step =
     (member (codes "detail") (detail_of cause)
     (member (codes "step") (or_null natural step) no_members))))) no_members)
 
--- {"idle":true}, with "handled" before
+-- the reply to what is nothing new: {"idle":true}, with "handled" before
 abbrev pub idle_data : Option Bool → Data
 idle_data handled = object (with_handled handled (member (codes "idle") (boolean true) no_members))
 
--- {"gathered":N}
+-- the reply to an update that waits: {"gathered":N}, with how many wait
 abbrev pub gathered_data : ℕ → Data
 gathered_data n = object (member (codes "gathered") (natural n) no_members)
 
--- {"registered":N}
+-- the reply to a listener: {"registered":N}, with its number
 abbrev pub registered_data : ℕ → Data
 registered_data n = object (member (codes "registered") (natural n) no_members)
 
--- {"cleared":true}
+-- the reply to what clears the history: {"cleared":true}
 abbrev pub cleared_data : Data
 cleared_data = object (member (codes "cleared") (boolean true) no_members)
 
--- {"history":{"redo":R,"undo":U}}
+-- the reply that says how many entries the history has: {"history":{"redo":R,"undo":U}}
 abbrev pub history_data : ℕ → ℕ → Data
 history_data redo undo =
     object (member (codes "history") (object (member (codes "redo") (natural redo) (member (codes "undo") (natural undo) no_members))) no_members)
 
--- {"state":DOCUMENT}
+-- the reply that shows a document: {"state":DOCUMENT}
 abbrev pub state_data : Data → Data
 state_data document = object (member (codes "state") document no_members)
 
--- {"slice":SLICE or null}
+-- the reply that shows a slice, if there is one: {"slice":SLICE or null}
 abbrev pub shown_slice_data : Option Data → Data
 shown_slice_data slice = object (member (codes "slice") (or_null (λ d. d) slice) no_members)
 
--- {"view":HTML}
+-- the reply that shows the view: {"view":HTML}
 abbrev pub view_data : List ℕ → Data
 view_data html = object (member (codes "view") (text_data html) no_members)
 
--- {"selection":S}
+-- the reply that shows the selection: {"selection":S}
 abbrev pub shown_selection_data : Selection → Data
 shown_selection_data selection = object (member (codes "selection") (selection_data selection) no_members)
 
+-- a reply as JSON
 unfoldable pub reply_data : Reply → Data
 reply_data (Committed commit ops handled html) = commit_data commit ops handled html
 reply_data (Refused cause step) = refusal_data cause step
@@ -246,13 +260,14 @@ reply_data (View html) = view_data html
 reply_data (Selected selection) = shown_selection_data selection
 reply_data (History redo undo) = history_data redo undo
 
+-- the bytes of a reply: its JSON, written compactly
 unfoldable pub reply_text : Reply → List ℕ
 reply_text reply = compact_text (reply_data reply)
 
--- the text of the reply that tells a document
+-- the text of the reply that shows a document
 unfoldable pub state_text : Data → List ℕ
 state_text document = compact_text (state_data document)
 
--- the text of the reply that tells a slice, or that there is none
+-- the text of the reply that shows a slice, or says that there is none
 unfoldable pub slice_text : Option Data → List ℕ
 slice_text slice = compact_text (shown_slice_data slice)

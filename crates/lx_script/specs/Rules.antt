@@ -33,9 +33,11 @@ where_true meant d = option_and_then (λ truth. if truth then Some meant else No
 
 -- ---- conditions
 
+-- the type whose name a string is, with its number in the table of types
 abbrev pub row_named : Data → Option TypeRow
 row_named d = option_map type_of (type_named d)
 
+-- a condition by the word that asks it, and the value that goes with it
 unfoldable pub condition_for : ConditionWord → Data → Option Condition
 condition_for asks.Text d = option_map (λ text. condition.Text text) (string_of d)
 condition_for asks.Contains d = option_map (λ piece. condition.Contains piece) (string_of d)
@@ -46,6 +48,7 @@ condition_for asks.Previous d = option_map (λ row. condition.Previous row) (or_
 condition_for asks.Next d = option_map (λ row. condition.Next row) (or_null_of row_named d)
 condition_for asks.Childless d = where_true condition.Childless d
 
+-- a condition of a rule: {WORD:VALUE}
 unfoldable pub condition_of : Data → Option Condition
 condition_of d = option_and_then (λ p. condition_for p.0 p.1) (only_member condition_words d)
 
@@ -64,19 +67,22 @@ abbrev pub added_on : Kind → Data → Option (List ℕ)
 added_on kind d =
     if is_text kind then option_and_then (λ text. if nat_le (length_told text) most_added then Some text else None) (string_of d) else None
 
+-- a new node of the kind, with the fields that an object gives it
 abbrev pub new_node_in : Kind → Data → Option NewNode
 new_node_in kind d = option_map (λ fields. record { kind = kind; fields = fields }) (new_fields kind d)
 
+-- a new node of the kind, where the object gives a heading's level or a list's type too
 abbrev pub new_node_with : Kind → Data → Option NewNode
 new_node_with kind d = option_and_then (λ kind. new_node_in kind d) (kind_with kind d)
 
--- {"type":TYPE,"fields"?:FIELDS}
+-- a new node of a rule: {"type":TYPE,"fields"?:FIELDS}
 abbrev pub new_node_of : Data → Option NewNode
 new_node_of d =
     if has_only (codes "type" ∷ codes "fields" ∷ []) d then
     option_and_then (λ p. new_node_with p.0 p.1) (option_zip (required type_named (codes "type") d) (fields_in (get (codes "fields") d)))
     else None
 
+-- an edit of nodes of the kind's type, by the word that says what is done, and the value that goes with it
 unfoldable pub edit_for : Kind → EditWord → Data → Option SelfEdit
 edit_for kind does.Set d = option_map (λ patch. edit.Set patch) (patch_on kind d)
 edit_for kind does.Add d = option_map (λ text. edit.Add text) (added_on kind d)
@@ -95,12 +101,13 @@ edit_of kind d = option_and_then (λ p. edit_for kind p.0 p.1) (only_member edit
 
 -- ---- rules
 
+-- a rule on nodes of the kind's type, by its conditions and its edits
 abbrev pub rule_on : Kind → Data → Option Rule
 rule_on kind d =
     option_map (λ p. record { on = type_of kind; conditions = p.0; edits = p.1 })
     (option_zip (required (list_of condition_of) (codes "if") d) (required (list_of (edit_of kind)) (codes "do") d))
 
--- {"on":TYPE,"if":[CONDITION..],"do":[EDIT..]}
+-- a rule: {"on":TYPE,"if":[CONDITION..],"do":[EDIT..]}
 abbrev pub rule_of : Data → Option Rule
 rule_of d =
     if has_only (codes "on" ∷ codes "if" ∷ codes "do" ∷ []) d then option_and_then (λ kind. rule_on kind d) (required type_named (codes "on") d)

@@ -11,16 +11,17 @@ use Rattle.lx_script.specs.Words.{kind_in, made_kinds, levels, list_types}
 abbrev pub kind_of_type : List ℕ → Option Kind
 kind_of_type text = kind_in (Root ∷ made_kinds) text
 
+-- the kind that was given, or else the kind as it was
 abbrev pub or_kept : Kind → Option Kind → Kind
 or_kept kind None = kind
 or_kept kind (Some told) = told
 
--- what a member tells of a kind, where it is a word of the table
+-- the kind that a member gives, where it is a word of the table; else the kind as it was
 abbrev pub told_by : {A : Type 0} → (A → Kind) → Kind → List (List ℕ × A) → Option Data → Kind
 told_by make kind rows None = kind
 told_by make kind rows (Some d) = or_kept kind (option_map make (named rows d))
 
--- a heading is of the level that its tag says, and a list of its type
+-- the kind of a node, where a heading is of the level that its tag says, and a list of its type
 unfoldable pub kind_told : Kind → Data → Kind
 kind_told (Heading level) d = told_by (λ level. Heading level) (Heading level) levels (get (codes "tag") d)
 kind_told (ListKind type) d = told_by (λ type. ListKind type) (ListKind type) list_types (get (codes "listType") d)

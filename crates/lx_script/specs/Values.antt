@@ -24,6 +24,7 @@ first_member (row ∷ rows) d = if is_some (get row.0 d) then Some row.1 else fi
 
 -- ---- texts and numbers
 
+-- the characters of a string
 abbrev pub string_of : Data → Option (List ℕ)
 string_of d = option_map chars (as_str d)
 
@@ -31,10 +32,11 @@ string_of d = option_map chars (as_str d)
 abbrev pub whole_of : Data → Option ℕ
 whole_of d = option_and_then as_u64 (as_number d)
 
+-- a whole number within these bounds
 abbrev pub number_within : ℕ → ℕ → Data → Option ℕ
 number_within least most d = option_and_then (λ n. if leb least n && leb n most then Some n else None) (whole_of d)
 
--- null for none, or a value that is read
+-- a value that is read, or null for none
 abbrev pub or_null_of : {A : Type 0} → (Data → Option A) → Data → Option (Option A)
 or_null_of reads null = Some None
 or_null_of reads d = option_map (λ a. Some a) (reads d)
@@ -46,20 +48,21 @@ abbrev pub present : List (List ℕ) → Data → ℕ
 present [] d = 0
 present (name ∷ names) d = (if is_some (get name d) then 1 else 0) + present names d
 
--- an object that has no members but those of these names, which all differ
+-- whether an object has no members but those of these names, which all differ
 abbrev pub has_only : List (List ℕ) → Data → Bool
 has_only names (object members) = members_len members == present names (object members)
 has_only names d = false
 
--- a member that has to be there
+-- what is read of a member that has to be there
 abbrev pub required : {A : Type 0} → (Data → Option A) → List ℕ → Data → Option A
 required reads name d = option_and_then reads (get name d)
 
+-- what is read of a value that may be missing
 abbrev pub optional_in : {A : Type 0} → (Data → Option A) → Option Data → Option (Option A)
 optional_in reads None = Some None
 optional_in reads (Some d) = option_map (λ a. Some a) (reads d)
 
--- a member that may be missing
+-- what is read of a member that may be missing
 abbrev pub optional : {A : Type 0} → (Data → Option A) → List ℕ → Data → Option (Option A)
 optional reads name d = optional_in reads (get name d)
 
@@ -70,10 +73,11 @@ only_member rows d = None
 
 -- ---- lists
 
+-- what is read of items, where each of them can be read
 abbrev pub all_of : {A : Type 0} → (Data → Option A) → Items → Option (List A)
 all_of reads no_items = Some []
 all_of reads (item d ds) = option_map (λ p. p.0 ∷ p.1) (option_zip (reads d) (all_of reads ds))
 
--- a list, each of whose items is read
+-- what is read of a list, where each of its items can be read
 abbrev pub list_of : {A : Type 0} → (Data → Option A) → Data → Option (List A)
 list_of reads d = option_and_then (all_of reads) (as_array d)

@@ -32,7 +32,7 @@ abbrev pub made_kinds : List Kind
 made_kinds =
     Paragraph ∷ Heading 1 ∷ Quote ∷ ListKind Bullet ∷ Item ∷ Link ∷ Table ∷ Row ∷ Cell ∷ Text ∷ Tab ∷ Break ∷ Rule ∷ Embed ∷ []
 
--- the kind of a type among these
+-- the kind whose type the text is, among these kinds
 abbrev pub kind_in : List Kind → List ℕ → Option Kind
 kind_in [] text = None
 kind_in (kind ∷ kinds) text = if bytes_eq (type_name kind) text then Some kind else kind_in kinds text
@@ -49,29 +49,35 @@ type_named d = option_and_then (kind_in (Root ∷ made_kinds)) (as_str d)
 abbrev pub levels : List (List ℕ × ℕ)
 levels = (codes "h1", 1) ∷ (codes "h2", 2) ∷ (codes "h3", 3) ∷ (codes "h4", 4) ∷ (codes "h5", 5) ∷ (codes "h6", 6) ∷ []
 
+-- the words for the types of lists
 abbrev pub list_types : List (List ℕ × ListType)
 list_types = (codes "bullet", Bullet) ∷ (codes "number", Number) ∷ (codes "check", Check) ∷ []
 
+-- the words for directions of writing
 abbrev pub directions : List (List ℕ × Direction)
 directions = (codes "ltr", direction.Ltr) ∷ (codes "rtl", direction.Rtl) ∷ []
 
+-- the words for alignments
 abbrev pub aligns : List (List ℕ × Align)
 aligns =
     (codes "", align.Unset) ∷ (codes "left", align.Left) ∷ (codes "center", align.Center) ∷ (codes "right", align.Right)
     ∷ (codes "justify", align.Justify) ∷ (codes "start", align.Start) ∷ (codes "end", align.End) ∷ []
 
+-- the words for the modes of texts
 abbrev pub modes : List (List ℕ × Mode)
 modes = (codes "normal", Normal) ∷ (codes "token", Token) ∷ (codes "segmented", Segmented) ∷ []
 
+-- the words for what a point's offset counts
 abbrev pub point_kinds : List (List ℕ × PointKind)
 point_kinds = (codes "text", point.Text) ∷ (codes "element", point.Element) ∷ []
 
+-- the words for what a line may ask to be shown
 abbrev pub questions : List (List ℕ × Shown)
 questions =
     (codes "state", shown.State) ∷ (codes "view", shown.View) ∷ (codes "selection", shown.Selection)
     ∷ (codes "history", shown.History) ∷ (codes "slice", shown.Slice) ∷ []
 
--- the members of nodes that documents and scripts name
+-- the words for the members of nodes that documents and scripts name
 abbrev pub names : List (List ℕ × Name)
 names =
     (codes "direction", name.Direction) ∷ (codes "format", name.Format) ∷ (codes "indent", name.Indent)
@@ -90,13 +96,14 @@ verbs =
     ∷ (codes "join", verb.Join) ∷ (codes "wrap", verb.Wrap) ∷ (codes "unwrap", verb.Unwrap) ∷ (codes "children", verb.Children)
     ∷ (codes "select", verb.Select) ∷ (codes "do", verb.Do) ∷ (codes "dispatch", verb.Dispatch) ∷ (codes "later", verb.Later) ∷ []
 
--- the words by which the conditions of rules are told apart, and their edits
+-- the words by which the conditions of rules are told apart
 abbrev pub condition_words : List (List ℕ × ConditionWord)
 condition_words =
     (codes "text", condition.Text) ∷ (codes "contains", condition.Contains) ∷ (codes "shorter", condition.Shorter)
     ∷ (codes "format", condition.Format) ∷ (codes "parent", condition.Parent) ∷ (codes "previous", condition.Previous)
     ∷ (codes "next", condition.Next) ∷ (codes "childless", condition.Childless) ∷ []
 
+-- the words by which the edits of rules are told apart
 abbrev pub edit_words : List (List ℕ × EditWord)
 edit_words =
     (codes "set", edit.Set) ∷ (codes "add", edit.Add) ∷ (codes "remove", edit.Remove) ∷ (codes "replace", edit.Replace)

@@ -1,4 +1,4 @@
-//! What a refusal tells of its cause: a name, and a detail that says more.
+//! What a refusal says of its cause: a name, and a detail that says more.
 
 ghost use Rattle.std.specs.Prelude.{◌≡◌, OnOk};
 ghost use Rattle.lx_script.specs.Replies.{cause_name as word_of_cause, selection_name as word_of_selection, limit_name as word_of_limit, point_kind_name as word_of_point_kind, point_data, named_data, lost_data, reached_data, detail_of};
@@ -103,7 +103,7 @@ fn put_reached(writer: &mut Writer, limit: Limit, reached: u64) -> Result<(), Al
     Ok(())
 }
 
-// A cause that has one limit tells one number.
+// A cause that has one limit gives one number.
 pub(crate) fn put_detail(writer: &mut Writer, cause: &Cause) -> Result<(), AllocError>
     ensures { OnOk result (Tells (detail_of cause.now) writer.old writer.new) }
 {

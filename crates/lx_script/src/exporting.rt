@@ -91,7 +91,7 @@ fn direction_value(alloc: Global, direction: Direction) -> Result<Value, AllocEr
 
 // ---- texts
 
-/// A text, which it also tells to be of scalar values.
+/// A text, which it also says to be of scalar values.
 fn string_value(alloc: Global, text: &Txt) -> Result<Value, AllocError>
     ensures written { IfOk result (λ v. view v ≡ text_data text.now) }
     ensures scalar { IsText text.now }
@@ -111,7 +111,7 @@ fn string_or_null(alloc: Global, text: &Option<Txt>) -> Result<Value, AllocError
 
 // ---- members
 
-/// A number, which it also tells to have 16 bits.
+/// A number, which it also says to have 16 bits.
 fn put_short(
     members: &mut Map<String, Value>,
     alloc: Global,
@@ -124,7 +124,7 @@ fn put_short(
     put(members, alloc, name, Value::from(number))
 }
 
-/// Direction, format and indentation, which each element tells.
+/// Direction, format and indentation, which each element has.
 fn put_layout(
     members: &mut Map<String, Value>,
     alloc: Global,
@@ -141,7 +141,7 @@ fn put_layout(
     put_short(members, alloc, "indent", element.indent)
 }
 
-/// A member that a paragraph always tells, and another element only where it isn't the default.
+/// A member that a paragraph always includes, and another element only where it isn't the default.
 fn put_kept(
     members: &mut Map<String, Value>,
     alloc: Global,
@@ -200,7 +200,7 @@ fn put_text_style(
     put_kept(members, alloc, kind, is_default, "textStyle", text)
 }
 
-/// What a heading's tag tells, or a list's type and tag.
+/// What a heading's tag says, or a list's type and tag.
 fn put_kind(members: &mut Map<String, Value>, alloc: Global, kind: Kind) -> Result<(), AllocError>
     ensures { OnOk result (members_view members.new.entries ≡ written_onto (members_view members.old.entries) (kind_members kind)) }
 {
@@ -279,7 +279,7 @@ fn put_cell(
     put(members, alloc, "backgroundColor", background)
 }
 
-/// What only some kinds of elements tell.
+/// The members that only some kinds of elements have.
 fn put_extra(
     members: &mut Map<String, Value>,
     alloc: Global,
@@ -307,7 +307,7 @@ fn put_extra(
     }
 }
 
-/// What an element tells.
+/// The members of an element.
 fn put_element(
     members: &mut Map<String, Value>,
     alloc: Global,
@@ -324,7 +324,7 @@ fn put_element(
     put_extra(members, alloc, &element.extra)
 }
 
-/// What a text or a tab tells.
+/// The members of a text or a tab.
 fn put_text(
     members: &mut Map<String, Value>,
     alloc: Global,
@@ -343,7 +343,7 @@ fn put_text(
     put(members, alloc, "style", style)
 }
 
-/// What the fields tell, and for an element what is written for its children.
+/// The members for the fields, and for an element what is written for its children.
 fn put_fields(
     members: &mut Map<String, Value>,
     alloc: Global,
@@ -368,7 +368,7 @@ fn put_fields(
     }
 }
 
-/// The object of a node, which also tells its fields to be such as code has them.
+/// The object of a node, which also says that its fields are such as code has them.
 #[tactic(auto, unfolding(crate::specs::Exporting::node_data))]
 fn node_object(
     alloc: Global,

@@ -2,7 +2,7 @@
 //! written.
 //!
 //! A line is an update by steps, a command that is dispatched, a rule, a listener, a document that is loaded, a
-//! question, or what clears the history. It may tell its moment, and an update, a dispatch and a load may have tags,
+//! question, or what clears the history. It may carry its time, and an update, a dispatch and a load may have tags,
 //! which say how the commit is recorded. Steps hold steps where they queue them, and so does a listener. Each step is
 //! an object that names its members and has no others; `specs/Grammar.antt` begins the grammar, which is stated over
 //! JSON values. The fields of nodes are read from the same table for new nodes, for patches and for documents.

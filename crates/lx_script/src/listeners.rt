@@ -36,7 +36,7 @@ fn when_of(alloc: Global, value: &Value) -> Result<Option<When>, NoMemory>
     }
 }
 
-/// What has to hold for a listener to run its steps, where it tells that.
+/// What has to hold for a listener to run its steps, where it says so.
 fn when_in(alloc: Global, value: &Value) -> Result<Option<When>, NoMemory>
     ensures { IfOk result (λ made. made ≡ listeners.when_in (get (codes "when") (view value.now))) }
 {
@@ -60,7 +60,7 @@ fn priority_in(value: &Value) -> Option<u8>
     }
 }
 
-/// Whether no listener behind is offered the command.
+/// Whether no later listener is offered the command.
 fn handled_in(value: &Value) -> Option<bool>
     ensures { result ≡ values.required as_bool (codes "handled") (view value.now) }
 {

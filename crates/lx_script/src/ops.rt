@@ -1,4 +1,4 @@
-//! What a reply tells of operations.
+//! What a reply says of operations.
 
 ghost use Rattle.std.specs.Prelude.{◌≡◌, IfOk, OnOk, ◌∷◌, [], decimal, map};
 ghost use Rattle.json.specs.Token as token;
@@ -142,7 +142,7 @@ fn begin_op(writer: &mut Writer, word: &str, id: u32) -> Result<(), AllocError>
     Ok(())
 }
 
-/// The attributes of a host as an object, whose members stand in byte order of their names.
+/// The attributes of a host as an object, whose members are in byte order of their names.
 fn put_attributes(
     alloc: Global,
     writer: &mut Writer,

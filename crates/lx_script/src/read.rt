@@ -28,7 +28,7 @@ use std::alloc::Global;
 ///
 /// An update waits for a line that commits it where `defer` is true beside it.
 ///
-/// Any line may tell its moment as `at`, a whole number of milliseconds from 0 to 9,007,199,254,740,991. An update,
+/// Any line may carry its time as `at`, a whole number of milliseconds from 0 to 9,007,199,254,740,991. An update,
 /// a flush, a dispatch and a load may have `tags`, a list of strings: `historic`, `history-merge` and `history-push` say how the
 /// commit is recorded, and others say nothing. A line that has any member beside these and those of its form is refused
 /// as `BadCommand`.
@@ -221,7 +221,7 @@ fn load_of(value: Value) -> Option<Value>
     taken_load(value)
 }
 
-/// A line. A value that is none is refused as no command. A load takes its document out of the value, so the moment and
+/// A line. A value that is none is refused as no command. A load takes its document out of the value, so the time and
 /// the tags are read before.
 pub fn line_of(alloc: Global, value: Value) -> Result<Line, Fault>
     ensures makes { grammar.Makes (view value) result }

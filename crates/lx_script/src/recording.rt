@@ -1,4 +1,4 @@
-//! How a line is recorded: its moment, and its tags.
+//! How a line is recorded: its time, and its tags.
 
 ghost use Rattle.std.specs.Prelude.{◌≡◌, ◌||◌, codes, option_map};
 ghost use Rattle.std.specs.Str.{bytes_eq};
@@ -11,10 +11,10 @@ use crate::values::number_within;
 use lx_step::Tags;
 use serde_json::Value;
 
-/// The greatest moment, 2^53 - 1: up to it a number of double precision holds each whole number.
+/// The greatest time, 2^53 - 1: up to it a number of double precision holds each whole number.
 const MOST_MOMENT: u64 = 9_007_199_254_740_991;
 
-/// The moment of a line, in milliseconds, which may be missing.
+/// The time of a line, in milliseconds, which may be missing.
 pub(crate) fn moment_of(value: &Value) -> Option<Option<u64>>
     ensures { result ≡ grammar.moment_of (view value.now) }
 {

@@ -5,8 +5,8 @@ use lx_select::Selection;
 /// The answer to a line.
 #[derive(Drop)]
 pub enum Reply {
-    /// The line made commit `number`, and these operations bring a view up to date. For a dispatch it is told
-    /// whether the command was handled. Where replies tell the view, it is the HTML after the commit.
+    /// The line made commit `number`, and these operations bring a view up to date. For a dispatch it says
+    /// whether the command was handled. Where replies include the view, it is the HTML after the commit.
     Committed {
         number: u32,
         ops: Ops,
@@ -18,7 +18,7 @@ pub enum Reply {
         cause: Cause,
         step: Option<u32>,
     },
-    /// The line asked for nothing that isn't so already. For a dispatch it is told whether the command was handled.
+    /// The line asked for nothing that isn't so already. For a dispatch it says whether the command was handled.
     Idle {
         handled: Option<bool>,
     },

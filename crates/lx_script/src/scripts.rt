@@ -18,7 +18,7 @@ use lx_step::{Step, Steps};
 use serde_json::Value;
 use std::alloc::Global;
 
-/// A step, by the word that tells it from others.
+/// A step, by the word that sets it apart from others.
 #[cycle(read)]
 #[tactic(auto, unfolding(crate::specs::Steps::step_for))]
 fn step_for(

@@ -1,4 +1,4 @@
-//! What a reply tells of a selection.
+//! What a reply says of a selection.
 
 ghost use Rattle.std.specs.Prelude.{◌≡◌, OnOk, map};
 ghost use Rattle.lx_script.specs.Replies.{selection_data, range_data, nodes_data, cells_data, natural, list_data};

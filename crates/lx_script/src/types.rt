@@ -19,8 +19,8 @@ pub fn kind_of_type(text: &str) -> Option<Kind>
     made_kind(text)
 }
 
-/// A node's kind with what the members of its object tell of that: a heading's `tag` its level, and a list's `listType`
-/// its type. Where they tell nothing it stays what it is.
+/// A node's kind with what the members of its object say of that: a heading's `tag` its level, and a list's `listType`
+/// its type. Where they say nothing it stays what it is.
 #[tactic(auto, unfolding(crate::specs::Types::kind_told))]
 pub fn kind_told(kind: Kind, object: &Value) -> Kind
     ensures { result ≡ types.kind_told kind (view object.now) }

@@ -39,7 +39,7 @@ pub(crate) enum Name {
     Src,
 }
 
-/// What a step does, by the word that tells it from others.
+/// What a step does, by the word that sets it apart from others.
 #[derive(Clone, Copy)]
 pub(crate) enum Verb {
     Append,
@@ -60,7 +60,7 @@ pub(crate) enum Verb {
     Later,
 }
 
-/// What a condition of a rule asks, by the word that tells it from others.
+/// What a condition of a rule asks, by the word that sets it apart from others.
 #[derive(Clone, Copy)]
 pub(crate) enum ConditionWord {
     Text,
@@ -73,7 +73,7 @@ pub(crate) enum ConditionWord {
     Childless,
 }
 
-/// What an edit of a rule does, by the word that tells it from others.
+/// What an edit of a rule does, by the word that sets it apart from others.
 #[derive(Clone, Copy)]
 pub(crate) enum EditWord {
     Set,

@@ -23,7 +23,7 @@ use std::alloc::{AllocError, Global};
 /// How many bytes there is room for when a reply is begun. A commit made by typing rarely has more.
 const FIRST_ROOM: usize = 256;
 
-/// The bytes of a reply, without a line end: compact JSON whose members stand in byte order.
+/// The bytes of a reply, without a line end: compact JSON whose members are in byte order.
 pub fn write_reply(alloc: Global, reply: &Reply) -> Result<Vec<u8>, NoMemory>
     ensures { IfOk result (λ bytes. bytes.items ≡ reply_text reply.now) }
 {
@@ -32,7 +32,7 @@ pub fn write_reply(alloc: Global, reply: &Reply) -> Result<Vec<u8>, NoMemory>
     Ok(writer.into_inner())
 }
 
-/// The bytes of the reply that tells a commit, as of `Reply::Committed`. The operations aren't copied.
+/// The bytes of the reply to a commit, as of `Reply::Committed`. The operations aren't copied.
 pub fn write_commit(
     alloc: Global,
     number: u32,
@@ -47,7 +47,7 @@ pub fn write_commit(
     Ok(writer.into_inner())
 }
 
-/// The bytes of the reply that tells a document, which has no number with a fraction.
+/// The bytes of the reply that shows a document, which has no number with a fraction.
 pub fn write_state(alloc: Global, document: Value) -> Result<Vec<u8>, NoMemory>
     requires whole { has_float (view document) ≡ false }
     ensures { IfOk result (λ bytes. bytes.items ≡ state_text (view document)) }
@@ -56,7 +56,7 @@ pub fn write_state(alloc: Global, document: Value) -> Result<Vec<u8>, NoMemory>
     Ok(value.to_vec(alloc)?)
 }
 
-/// The bytes of the reply that tells a slice, which has no number with a fraction, or that there is none.
+/// The bytes of the reply that shows a slice, which has no number with a fraction, or says that there is none.
 pub fn write_slice(alloc: Global, slice: Option<Value>) -> Result<Vec<u8>, NoMemory>
     requires whole { (d : Data) → option_map view slice ≡ Some d → has_float d ≡ false }
     ensures { IfOk result (λ bytes. bytes.items ≡ slice_text (option_map view slice)) }
@@ -132,7 +132,7 @@ fn put_handled(writer: &mut Writer, handled: Option<bool>) -> Result<(), AllocEr
     }
 }
 
-/// The view as a member, where replies tell it.
+/// The view as a member, where replies include it.
 fn put_told_view(writer: &mut Writer, html: &Option<Txt>) -> Result<(), AllocError>
     ensures { OnOk result (Sends (view_tokens html.now) writer.old writer.new) }
 {
