@@ -1,4 +1,4 @@
--- Nodes put one behind another, seen from a place among them; and what may not hold one of some nodes.
+-- Nodes put one after another, seen from a place among them; and what may not hold one of some nodes.
 use Rattle.std.proofs.Common.{◌≡◌, ◌∙◌, ℕ, zero, suc, ◌+◌, ◌≤◌, List, [], ◌∷◌, length, drop, Some, Result, Ok, Err, refl, sym, ap, arith}
 use Rattle.std.specs.List.{slice_get}
 use Rattle.lx_node.specs.declared.cause.Cause.{Cause}

@@ -35,7 +35,7 @@ use Rattle.lx_json.proofs.BackWritten.{IsRead, written, items_of-written, writte
 use Rattle.lx_clip.specs.Extents.{AreAlike}
 use Rattle.lx_clip.specs.Covers.{Extent, from_in, to_in, is_covered_text, cut_to, part_cover, text_cover, is_nil, element_cover, leaf_cover, cover, covers, are_inline, item_if, label_for}
 
--- ---- one behind another
+-- ---- one after another
 
 joined_assoc : (a b c : Forest) → joined (joined a b) c ≡ joined a (joined b c)
 joined_assoc nil b c = refl
@@ -264,7 +264,7 @@ covered_more e f all left rest k values new inline then v m first is then_is own
       ∙ m.alike;
 }
 
--- what the call for a child wants
+-- what the call for a child needs
 pub record IsChildLeft (f : Forest) (key child : ℕ) : Type 0 where
   pub there : has child f ≡ true
   pub smaller : total (alone child f) < total (alone key f)

@@ -14,7 +14,7 @@ use Rattle.lx_json.specs.Reading.{Piece, and_then, told_under, child_place, piec
 use Rattle.lx_json.specs.Nodes.{put_below, node_new, made_with, node_made, children_made, list_made, items_made, Made, index_place, with_first, nodes_made, nodes_read}
 use Rattle.lx_range.proofs.Paths.{IsWay, stays, either, chained, LeadsTo, then_to, ok_to}
 
--- what is told from elsewhere is made all the same
+-- what is said from elsewhere is made all the same
 told_ok : {A : Type 0} (place : List ℕ) (r : Result A Cause) (v : A) → told_under place r ≡ Ok v → r ≡ Ok v
 told_ok place (Ok u) v e = e
 told_ok place (Err cause) v e = absurd (cc)

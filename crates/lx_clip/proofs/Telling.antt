@@ -1,4 +1,4 @@
--- The characters of the place where the nodes of a slice stand.
+-- The characters of the place where the nodes of a slice are.
 use Rattle.std.proofs.Common.{◌≡◌, codes, refl}
 use Rattle.std.specs.Str.{chars}
 

@@ -4,7 +4,7 @@ use Rattle.serde_json.specs.Data.{Data}
 use Rattle.lx_draft.specs.Covering.{IsCovering}
 use Rattle.lx_clip.specs.Pasting.{insert_step, paste_step}
 
--- marks tell whatever it changes
+-- marks show whatever inserting or pasting a slice changes
 pub record PastesAreCovered : Type 0 where
   pub insert : (slice : Data) → IsCovering (insert_step slice)
   pub paste : (text : List ℕ) → IsCovering (paste_step text)

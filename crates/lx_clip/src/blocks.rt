@@ -18,7 +18,7 @@ use lx_node::{Fault, Key, Kind, Point};
 use lx_range::{block, children_from, make_like};
 use std::alloc::Global;
 
-/// Makes a new block like another of what stays behind the point, if anything does.
+/// Makes a new block like another of what stays after the point, if anything does.
 #[tactic(auto, using(crate::proofs::BlockKinds::block_there, crate::proofs::BlockKinds::block_below))]
 fn make_tail(
     alloc: Global,
@@ -38,7 +38,7 @@ fn make_tail(
     Ok(Some(new))
 }
 
-/// Puts the new block behind the last of the nodes.
+/// Puts the new block after the last of the nodes.
 fn put_tail(draft: &mut Draft, tail: Option<Key>, keys: &[Key]) -> Result<(), Fault>
     ensures ok { OnOk result (pasting.tail_put tail (last_of keys.now) draft.old ≡ Ok draft.new) }
     ensures err { IfErr result (λ e. TellsStep e (pasting.tail_put tail (last_of keys.now) draft.old)) }
@@ -52,8 +52,8 @@ fn put_tail(draft: &mut Draft, tail: Option<Key>, keys: &[Key]) -> Result<(), Fa
     }
 }
 
-/// Puts nodes behind a block, and behind them a new one of those of its children that stand behind the point. The block goes if
-/// it is empty then.
+/// Puts nodes after a block, and after them a new one of those of its children that are after the point. The block goes
+/// if it is empty then.
 #[tactic(auto, unfolding(crate::specs::Pasting::put_around))]
 fn put_around(
     alloc: Global,
@@ -100,7 +100,7 @@ fn holds_blocks(kind: Kind) -> bool
     matches!(kind, Kind::Root | Kind::Cell)
 }
 
-/// Whether a node stands below the root or a cell.
+/// Whether a node is below the root or a cell.
 fn stands_among_blocks(links: &Links, key: Key) -> bool
     ensures { result ≡ pasting.stands_among_blocks links.now key }
 {
@@ -113,7 +113,7 @@ fn stands_among_blocks(links: &Links, key: Key) -> bool
     }
 }
 
-/// A node, or the nearest above it that stands below the root or a cell.
+/// A node, or the nearest above it that is below the root or a cell.
 fn outer_block(links: &Links, key: Key) -> Key
     ensures { result ≡ pasting.outer_block links.now key }
 {
@@ -127,7 +127,7 @@ fn outer_block(links: &Links, key: Key) -> Key
     at
 }
 
-/// Puts nodes behind a node, which isn't parted.
+/// Puts nodes after a node, which isn't parted.
 #[tactic(auto, unfolding(crate::specs::Pasting::put_beyond))]
 fn put_beyond(draft: &mut Draft, outer: Key, keys: &[Key]) -> Result<(), Fault>
     ensures ok { OnOk result (pasting.put_beyond outer keys.now draft.old ≡ Ok draft.new) }
@@ -158,9 +158,9 @@ fn put_at_block(
     }
 }
 
-/// Puts blocks that stand below nothing at a point, and the caret to the end of the last. A block that stands below the root or
-/// a cell is parted at the point, and they go between. A block that stands elsewhere stays whole, and they go behind the nearest
-/// node above it that stands below the root or a cell. Without a block they go where the point is.
+/// Puts blocks that are below nothing at a point, and the caret to the end of the last. A block that is below the root
+/// or a cell is parted at the point, and they go between. A block that is elsewhere stays whole, and they go after the
+/// nearest node above it that is below the root or a cell. Without a block they go where the point is.
 #[tactic(auto, using(crate::proofs::BlockKinds::block_is))]
 pub(crate) fn add_blocks(
     alloc: Global,

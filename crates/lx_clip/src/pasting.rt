@@ -105,7 +105,7 @@ fn insert_list(alloc: Global, draft: &mut Draft, list: &Value, inline: bool) -> 
 /// Puts the nodes of a slice into a draft at the caret, and the caret to the end of the last. A slice is an object with a list of
 /// nodes, which are read as those of a document: as the children of a paragraph where the first is an inline by its type, and as
 /// those of the root otherwise. Inlines go where the caret is; blocks between the parts of the block that holds the caret, where
-/// that stands below the root or a table cell, and else behind what holds it there. With no nodes nothing happens.
+/// that is below the root or a table cell, and else after what holds it there. With no nodes nothing happens.
 ///
 /// It is refused with `BadCommand` where the value is no such object; with `BadState` and the place in the slice, or
 /// `UnknownType`, as a document is; with `WrongKind` and the kind of what may not hold one of the nodes; and as the edits of a
@@ -124,7 +124,7 @@ pub fn insert(alloc: Global, draft: &mut Draft, slice: &Value) -> Result<(), Fau
     }
 }
 
-/// The value that a text tells as JSON.
+/// The JSON value that a text is.
 fn value_of(alloc: Global, text: &str) -> Result<Value, Fault>
     ensures ok { IfOk result (λ value. pasting.json_of (chars text.now) ≡ Ok (view value)) }
     ensures err { IfErr result (λ e. TellsStep e (pasting.json_of (chars text.now))) }
@@ -139,8 +139,8 @@ fn value_of(alloc: Global, text: &str) -> Result<Value, Fault>
     }
 }
 
-/// Puts the slice that a text tells, which is the JSON of one, in the place of what is selected, as `remove_text` removes it. It
-/// is refused as that is, as `insert` is, and with `BadCommand` where the text is no JSON.
+/// Puts the slice of a text, which is the JSON of one, in the place of what is selected, as `remove_text` removes it.
+/// It is refused as that is, as `insert` is, and with `BadCommand` where the text is no JSON.
 #[tactic(auto, unfolding(crate::specs::Pasting::paste_step))]
 pub fn paste(alloc: Global, draft: &mut Draft, text: &str) -> Result<(), Fault>
     ensures ok { OnOk result (paste_step (chars text.now) draft.old ≡ Ok draft.new) }

@@ -62,7 +62,7 @@ pub weight-keyed : (key : ℕ) (f : Forest) → weight characters_in (keyed key 
 weight-keyed key nil = refl
 weight-keyed key (tree l below rest) = omega (arith, weight-keyed (key + 1) below, weight-keyed (key + 1 + total (pieces_of below)) rest)
 
--- the greatest depth in trees that stand so deep
+-- the greatest depth in trees that are so deep
 abbrev pub deepest : {A : Type 0} → ℕ → Trees A → ℕ
 deepest d nil = 0
 deepest d (tree a below rest) = max d (max (deepest (d + 1) below) (deepest d rest))

@@ -45,7 +45,7 @@ greatest-agree m n (x ∷ xs) same =
     let own : m x ≡ n x = same x (grind (arith, eqb_tells x x)) in
     omega (arith, own, greatest-agree m n xs (λ k e. same k (grind (arith, e))))
 
--- how many keys stand above one, in trees that stand below these
+-- how many keys are above one, in trees that are below these
 abbrev above_in : List ℕ → Forest → ℕ → ℕ
 above_in above t k = length (unwrap_or (ancestors_below key_of above t k) [])
 

@@ -35,7 +35,7 @@ use Rattle.lx_script.proofs.Exported.{type-there, children-there, kind-back, is-
 
 -- ---- the kind
 
--- what a kind is told to be, a parent may hold as it may hold the kind
+-- what a kind is said to be, a parent may hold as it may hold the kind
 heading_held : (parent : Kind) (level : ℕ) (o : Option ℕ) → may_hold parent (or_kept (Heading level) (option_map (λ level. Heading level) o)) ≡ may_hold parent (Heading level)
 unfolding may_hold is_block is_inline is_paragraph is_heading is_list is_item is_link is_row is_cell
 heading_held parent level None = refl
@@ -81,7 +81,7 @@ holder_is_element _ child e = refl
 
 -- ---- one node
 
--- the node of a label, which the label's object tells
+-- the node of a label, which the label's object describes
 abbrev piece_in : Label → Piece
 piece_in l = record { kind = l.kind; fields = l.fields }
 
@@ -154,7 +154,7 @@ trees-back kind i (tree l below rest) told held =
 
 -- ---- a forest whose kinds its parents hold
 
--- where a node stands, by the kinds of all
+-- where a node is, by the kinds of all
 record IsFit (kinds : ℕ → Option Kind) (s : Spot Label) : Type 0 where
   kind : kinds s.label.key ≡ Some s.label.kind
   held : (p : ℕ) → s.parent ≡ Some p → holds may_hold (kinds p) (Some s.label.kind) ≡ true

@@ -37,7 +37,7 @@ label_from key n = record { key = key; kind = n.kind; fields = n.fields }
 label_same : (l : Label) (key : ℕ) (kind : Kind) (fields : Fields) → l.key ≡ key → kind ≡ l.kind → fields ≡ l.fields → l ≡ record { key = key; kind = kind; fields = fields }
 label_same l key kind fields e f g = rw (← e, f, g) refl
 
--- what a read tells of a node
+-- what a read says of a node
 pub record IsRead (f : Forest) (key : ℕ) (n : Node) : Type 0 where
   pub of_kind : IsOfKind n.kind n.fields
   pub tree_is : alone key f ≡ tree (label_from key n) (trees_of f (children_of f key)) nil
@@ -58,7 +58,7 @@ is_read f key n s e = from_spot (spot f key) refl e where
             ∙ sym (ap (λ o. tree (label_from key n) (trees_of f (children_at o)) nil) at);
       }
 
--- a key that stands is found
+-- a key that is there is found
 pub is_found : (f : Forest) (key : ℕ) → has key f ≡ true → None ≡ option_map node_of (record_at f key) → ⊥
 is_found f key there none = grind (arith, there, none, is_some-spot f key)
 
@@ -89,7 +89,7 @@ told-joined (tree l below rest) t told more = (told.0, told.1, told-joined rest 
 
 -- ---- the children one after another
 
--- The objects for some of the children are written, and these are left: the objects for them come behind those.
+-- The objects for some of the children are written, and these are left: the objects for them come after those.
 pub record IsWrittenUpTo (f : Forest) (all left : List ℕ) (values : List Value) : Type 0 where
   pub part : (q : ℕ) → is_among q left ≡ true → is_among q all ≡ true
   pub objects : map view values ++ written (trees_of f left) ≡ written (trees_of f all)
@@ -122,7 +122,7 @@ written_more f all left rest k values new v m first is own told = record {
   told = λ others. m.told (subst (λ ks. AreGivenBack (trees_of f ks)) (sym first) (told-joined (alone k f) (trees_of f rest) told others));
 }
 
--- what the call for a child wants
+-- what the call for a child needs
 pub record IsChildLeft (f : Forest) (key child : ℕ) : Type 0 where
   pub there : has child f ≡ true
   pub smaller : total (alone child f) < total (alone key f)

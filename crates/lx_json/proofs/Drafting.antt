@@ -68,7 +68,7 @@ whole_rooted next (tree root below rest) = refl
 pub whole_growth : (d : Data) (next : ℕ) (g : Growth) → rooted_by next (document_of d) ≡ Ok g → drop_detached g.links ≡ g.links
 whole_growth d next g e = by_trees (λ g. drop_detached g.links ≡ g.links) next (document_of d) g (whole_rooted next) e
 
--- nothing stands beside the root, and other keys are new
+-- nothing is beside the root, and other keys are new
 record IsRooted (next : ℕ) (g : Growth) : Type 0 where
   alone : IsForest g.links → roots g.links ≡ 0 ∷ []
   rises : next ≤ g.next

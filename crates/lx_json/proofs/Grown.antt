@@ -64,7 +64,7 @@ grown-below p piece below g i low =
     sums : (n m : ℕ) → n + 1 + m ≡ n + (1 + m + 0)
     sums n m = omega arith
 
--- trees behind the one that was just put there
+-- trees after the one that was just put there
 grown-behind : (p : ℕ) (piece : Piece) (below others : Trees Piece) (g : Growth) → p < g.next → grown p others (grown p (tree piece below nil) g) ≡ grown p (tree piece below others) g
 unfolding grown
 grown-behind p piece below others g low =
@@ -183,7 +183,7 @@ refuses p r g cause e = ap (λ r. grown_by p r g) e
 
 -- ---- nodes one after another
 
--- those that are left, behind those that were read, come to what all come to
+-- those that are left, after those that were read, come to what all come to
 pub record IsReadTo (p : ℕ) (left : Result (Trees Piece) Cause) (g : Growth) (all : Result (Trees Piece) Cause) (first : Growth) : Type 0 where
   pub same : grown_by p left g ≡ grown_by p all first
   pub growing : IsGrowing g
@@ -198,7 +198,7 @@ read_on {p} {v} {g = g} {h = h} vs i n kind read is e growing = record {
   below = omega (arith, read.below, next_up p _ g h e);
 }
 
--- what refuses it, told from one place further up, refuses all
+-- what refuses it, said from one place further up, refuses all
 pub tells_all : {p : ℕ} {v : Value} {all : Result (Trees Piece) Cause} {g first : Growth} (vs : List Value) (i n : ℕ) (kind : Kind) (e up : Fault) → IsReadTo p (trees_of (items_view (drop i vs)) n kind) g all first
     → slice_get vs i ≡ Some v → IsUnder (child_place n) e up → TellsStep e (tree_of (view v) (Some kind)) → TellsStep up all
 tells_all {p} {v} {all} {g} {first} vs i n kind e up read is above told =

@@ -1,4 +1,4 @@
--- What a node's type tells of its kind.
+-- What a node's type says of its kind.
 use Rattle.std.proofs.Common.{◌≡◌, ◌≢◌, ◌∙◌, ℕ, Bool, true, false, ◌&&◌, is_some, codes, List, [], ◌∷◌, if◌then◌else◌, Option, None, Some, option_map, option_and_then, Result, Ok, Err, refl, ap, sym, IsUtf8, Ordering}
 use Rattle.serde_json.specs.Data.{Data, null, boolean, number, string, array, object}
 use Rattle.serde_json.specs.Find.{get, as_null, as_str}

@@ -155,7 +155,7 @@ children_told-leaf kind d same leaf = ap (λ b. if b then listed_in (get (codes 
 
 -- ---- items
 
--- the items from one on are that one and those behind it
+-- the items from one on are that one and those after it
 pub trees_left : (vs : List Value) (i n : ℕ) (v : Value) (kind : Kind) → slice_get vs i ≡ Some v → trees_of (items_view (drop i vs)) n kind ≡ with_rest (told_under (child_place n) (tree_of (view v) (Some kind))) (trees_of (items_view (drop (i + 1) vs)) (n + 1) kind)
 unfolding trees_of
 trees_left [] zero n v kind is = absurd (grind (arith, is))

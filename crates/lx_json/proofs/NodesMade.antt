@@ -142,7 +142,7 @@ below_refused d above parent w u piece key e told made is refused = tells_same e
 next_place : (i : ℕ) → suc (i + 1) ≡ suc i + 1
 next_place i = omega arith
 
--- the items from one on are that one and those behind it
+-- the items from one on are that one and those after it
 pub items_left : (vs : List Value) (i : ℕ) (v : Value) → slice_get vs i ≡ Some v → items_view (drop i vs) ≡ item (view v) (items_view (drop (i + 1) vs))
 items_left [] zero v is = absurd (grind (arith, is))
 items_left [] (suc i) v is = absurd (grind (arith, is))
@@ -171,13 +171,13 @@ pub made_done : (vs : List Value) (i : ℕ) (kind : Kind) (parent : ℕ) (w : Wo
 unfolding items_made
 made_done vs i kind parent w past = ap (λ ds. items_made ds i kind parent w) (items_none vs i past)
 
--- ---- nodes that stand below nothing
+-- ---- nodes that are below nothing
 
 -- the keys so far, before those of the nodes that are left
 abbrev pub and_ahead : List ℕ → Made → Result Made Cause
 and_ahead keys made = Ok (record { draft = made.draft; keys = keys ++ made.keys })
 
--- what is left comes to what all comes to, behind the keys so far
+-- what is left comes to what all comes to, after the keys so far
 abbrev pub IsMadeUpTo : List Value → ℕ → Kind → Working → List ℕ → Result Made Cause → Type 0
 IsMadeUpTo vs i kind w keys whole = after (nodes_made (items_view (drop i vs)) i kind w) (and_ahead keys) ≡ whole
 

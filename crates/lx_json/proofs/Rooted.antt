@@ -69,7 +69,7 @@ empty next piece (Ok (tree other below rest)) made h is e none =
     absurd (omega (arith, ap (λ (g : Growth). g.next) (ok_is (grown 0 (tree other below rest) made) h e), ap (λ (g : Growth). g.next) is, none))
 empty next piece (Err cause) made h is e none = absurd (cc)
 
--- the root's tree is its piece, with what the object tells of the children
+-- the root's tree is its piece, with what the object says of the children
 pub root_told : {piece : Piece} (d : Data) → is_some (as_object d) ≡ true → piece_of None d ≡ Ok piece → piece.kind ≡ Root → tree_of d None ≡ with_children d (root_piece piece.fields)
 root_told {piece} d is of top =
     tree_of-object d None is ∙ ap (λ r. and_then r (with_children d)) (of ∙ ap (λ k. Ok (record { kind = k; fields = piece.fields })) top)

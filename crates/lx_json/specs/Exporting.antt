@@ -10,10 +10,11 @@ unfoldable pub trees_data : Forest → Items
 trees_data nil = no_items
 trees_data (tree l below rest) = item (node_data l.kind l.fields (trees_data below)) (trees_data rest)
 
+-- the first of some values, or null where there is none
 abbrev pub first_data : Items → Data
 first_data no_items = null
 first_data (item d ds) = d
 
--- {"root":NODE}, of the first tree, which is the root's
+-- the document of a tree: {"root":NODE}, of the first tree, which is the root's
 unfoldable pub exported : Forest → Data
 exported f = object (member (codes "root") (first_data (trees_data f)) no_members)

@@ -13,7 +13,8 @@ pub record IsGivenBack (l : Label) (below : Items) : Type 0 where
   pub of_kind : IsOfKind l.kind l.fields
   pub fields : document_fields l.kind (node_data l.kind l.fields below) ≡ Ok l.fields
 
--- How wide numbers are is known of nodes in links alone, so that this is said of the trees that a value is written for.
+-- Each node of the trees is given back. It is said of the trees that a value is written for, since how wide numbers are
+-- is known of nodes in links alone.
 abbrev pub AreGivenBack : Forest → Type 0
 AreGivenBack nil = Unit {0}
 AreGivenBack (tree l below rest) = IsGivenBack l (trees_data below) × AreGivenBack below × AreGivenBack rest

@@ -19,7 +19,7 @@ use std::alloc::{AllocError, Global};
 
 /// The document of a state's tree, in which nothing is detached. Where the root has children, and the tree is within the
 /// limits of a document, `import` reads it back as the same tree, up to keys, with any next key for which there are keys
-/// enough: the next key behind the tree's nodes is at most 1,048,576.
+/// enough: the next key after the tree's nodes is at most 1,048,576.
 pub fn export(alloc: Global, state: &State) -> Result<Value, NoMemory>
     requires order { IsForest state.now.links }
     requires alone { roots state.now.links ≡ 0 ∷ [] }

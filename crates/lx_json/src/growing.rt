@@ -15,8 +15,8 @@ pub(crate) struct Growth {
     pub(crate) next: u32,
 }
 
-/// Puts a node that stands below nothing behind the children of a parent. Where the links refuse it, which they don't
-/// below a parent that may hold it, the answer is want of memory.
+/// Puts a node that is below nothing after the children of a parent. Where the links refuse it, which they don't
+/// below a parent that may hold it, the answer is that memory ran out.
 fn place_last(links: &mut Links, parent: Key, key: Key) -> Result<(), NoMemory>
     ensures { OnOk result ((place_fault parent None key links.old ≡ None) × (links.new ≡ put_in parent None key links.old)) }
 {
@@ -34,7 +34,7 @@ impl Growth {
     ghost use Rattle.lx_node.specs.declared.kind.Kind.TheVariants.{Root};
     ghost use Rattle.lx_json.specs.Growing.{grown, rooted_growth, IsGrowing};
 
-    /// The root alone, with these fields. Where they aren't a root's, the answer is want of memory.
+    /// The root alone, with these fields. Where they aren't a root's, the answer is that memory ran out.
     pub(crate) fn new(alloc: Global, fields: Fields, next: u32) -> Result<Growth, NoMemory>
         requires { 0 < next }
         ensures grown { IfOk result (λ growth. growth ≡ rooted_growth next (tree (record { kind = Root; fields = fields }) nil nil)) }
@@ -47,7 +47,7 @@ impl Growth {
         }
     }
 
-    /// Adds a node without children behind the children of a parent, and answers its key. Where the keys have run out,
+    /// Adds a node without children after the children of a parent, and answers its key. Where the keys have run out,
     /// memory has.
     pub(crate) fn add(&mut self, parent: Key, kind: Kind, fields: Fields) -> Result<Key, NoMemory>
         requires growing { IsGrowing self.old }

@@ -15,12 +15,12 @@ use lx_select::Selection;
 use serde_json::Value;
 use std::alloc::Global;
 
-/// The draft of the tree that a document tells: nothing is selected, its new nodes have keys from `next_key` on, each
-/// before those below it, and every node is marked. Nothing is counted, and nothing told as written. The document is
-/// refused at the first thing in it that isn't as it has to be: as `BadState` with the place as a JSON pointer, as
-/// `UnknownType` with the type, or as `EmptyState` where the root has no children; and behind all these as `TooLarge`
-/// where the tree is deeper than 48, has more than 16,384 nodes or more than 1,048,576 scalar values in its strings, or
-/// its next key is above 1,048,576.
+/// The draft of the tree that a document describes: nothing is selected, its new nodes have keys from `next_key` on,
+/// each before those below it, and every node is marked. Nothing is counted, and nothing counts as written. The
+/// document is refused at the first thing in it that isn't as it has to be: as `BadState` with the place as a JSON
+/// pointer, as `UnknownType` with the type, or as `EmptyState` where the root has no children; and after all these as
+/// `TooLarge` where the tree is deeper than 48, has more than 16,384 nodes or more than 1,048,576 scalar values in its
+/// strings, or its next key is above 1,048,576.
 #[tactic(auto, unfolding(crate::specs::Importing::imported))]
 pub fn import(alloc: Global, document: &Value, next_key: u32) -> Result<Draft, Fault>
     requires first { 0 < next_key }

@@ -1,6 +1,6 @@
-//! Documents: a JSON value is read as a draft of the tree that it tells, and a tree is written as the one value that tells
-//! it. `import` names the first thing in the value that isn't as it has to be, with its place as a JSON pointer; `export`
-//! writes what `import` reads back as the same tree, up to keys.
+//! Documents: a JSON value is read as a draft of the tree that it describes, and a tree is written as the value that
+//! describes it. `import` names the first thing in the value that isn't as it has to be, with its place as a JSON
+//! pointer; `export` writes what `import` reads back as the same tree, up to keys.
 #![tactic(auto)]
 
 mod exporting;

@@ -8,7 +8,7 @@ use lx_draft::Draft;
 use lx_node::{Key, NoMemory};
 
 /// Marks every node of the root's tree, in preorder. It takes no count. Each key that the walk comes to is there, so that
-/// nothing but want of memory stops it.
+/// nothing stops it but running out of memory.
 pub(crate) fn mark_tree(draft: &mut Draft) -> Result<(), NoMemory>
     ensures { OnOk result (draft.new ≡ marked_in draft.old.forest (preorder draft.old.forest) draft.old) }
 {

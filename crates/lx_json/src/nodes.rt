@@ -14,7 +14,7 @@ use lx_node::{Fault, Key, Kind, NoMemory};
 use serde_json::Value;
 use std::alloc::Global;
 
-/// Puts a node behind the children of a parent, where there is one.
+/// Puts a node after the children of a parent, where there is one.
 fn put_below(draft: &mut Draft, parent: Option<Key>, key: Key) -> Result<(), Fault>
     ensures ok { OnOk result (spec.put_below parent key draft.old ≡ Ok draft.new) }
     ensures err { IfErr result (λ e. TellsStep e (spec.put_below parent key draft.old)) }
@@ -28,7 +28,7 @@ fn put_below(draft: &mut Draft, parent: Option<Key>, key: Key) -> Result<(), Fau
     }
 }
 
-/// Makes a node from what is told of it, behind the children of a parent where there is one, and answers its key.
+/// Makes a node from what was read of it, after the children of a parent where there is one, and answers its key.
 fn make(draft: &mut Draft, parent: Option<Key>, told: Told) -> Result<Key, Fault>
     requires other { told.kind ≢ Root }
     requires of_kind { IsOfKind told.kind told.fields }
@@ -41,7 +41,7 @@ fn make(draft: &mut Draft, parent: Option<Key>, told: Told) -> Result<Key, Fault
     Ok(key)
 }
 
-/// Makes the node that a value tells below one of this kind, with all below it, and answers its key. It goes behind the
+/// Makes the node that a value is below one of this kind, with all below it, and answers its key. It goes after the
 /// children of a parent, where there is one.
 #[cycle(make)]
 fn make_node(
@@ -94,7 +94,7 @@ fn make_children(
     }
 }
 
-/// Makes nodes, each with all below it, one after another behind the children of a parent of this kind.
+/// Makes nodes, each with all below it, in their order after the children of a parent of this kind.
 #[cycle(make)]
 fn make_each(
     alloc: Global,
@@ -123,7 +123,7 @@ fn keep_key(keys: &mut Vec<Key>, key: Key) -> Result<(), NoMemory>
     Ok(())
 }
 
-/// Makes nodes, each with all below it, that stand below nothing, and answers their keys.
+/// Makes nodes, each with all below it, that are below nothing, and answers their keys.
 fn make_apart(
     alloc: Global,
     draft: &mut Draft,
@@ -143,10 +143,10 @@ fn make_apart(
     Ok(keys)
 }
 
-/// Reads a list of nodes, each with all below it, as the children of a node of the kind, and answers their keys. They stand
-/// below nothing, and get keys in preorder from the next one on. A node is made as soon as its members are read. It is
-/// refused as a document is, at the first thing that isn't as it has to be, with `place` in front of the place of that; and as
-/// the edits of a draft are. A draft on which it was refused is only fit to be dropped.
+/// Reads a list of nodes, each with all below it, as the children of a node of the kind, and answers their keys. They
+/// are below nothing, and get keys in preorder from the next one on. A node is made as soon as its members are read. It
+/// is refused as a document is, at the first thing that isn't as it has to be, with `place` in front of the place of
+/// that; and as the edits of a draft are. A draft on which it was refused is only fit to be dropped.
 #[tactic(auto, unfolding(crate::specs::Nodes::nodes_read))]
 pub fn read_nodes(
     alloc: Global,

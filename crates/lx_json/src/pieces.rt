@@ -1,4 +1,4 @@
-//! What a node's object tells of the node alone: its kind and its fields.
+//! What a node's object says of the node alone: its kind and its fields.
 
 ghost use Rattle.std.specs.Prelude.{◌≡◌, ◌&&◌, Ok, Err, None, Some, chars, IfOk, IfErr, IsTrue, option_map, option_and_then, codes};
 ghost use Rattle.serde_json.specs.Find.{get, as_array};
@@ -17,7 +17,7 @@ use serde_json::Value;
 use std::alloc::Global;
 use std::cmp::Ordering;
 
-/// What an object tells of a node.
+/// What an object says of a node.
 #[derive(Drop)]
 pub(crate) struct Told {
     pub(crate) kind: Kind,
@@ -105,7 +105,7 @@ fn has_bad_children(kind: Kind, object: &Value) -> bool
 }
 
 /// The fields that an object gives a node of the kind. The list of its children counts among the members, the first of
-/// which that is bad is told.
+/// which that is bad is said.
 fn fields_told(alloc: Global, kind: Kind, object: &Value) -> Result<Fields, Fault>
     ensures ok { IfOk result (λ fields. reading.fields_told kind (view object.now) ≡ Ok fields) }
     ensures err { IfErr result (λ e. TellsStep e (reading.fields_told kind (view object.now))) }

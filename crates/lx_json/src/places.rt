@@ -40,7 +40,7 @@ pub(crate) fn unknown_type(alloc: Global, text: &str) -> Fault
     }
 }
 
-/// A fault of what stands at this place, told from one place further up.
+/// A fault at this place, said from one place further up.
 pub(crate) fn under(alloc: Global, place: &str, fault: Fault) -> Fault
     ensures { IsUnder (chars place.now) fault result }
 {
@@ -53,7 +53,7 @@ pub(crate) fn under(alloc: Global, place: &str, fault: Fault) -> Fault
     }
 }
 
-/// A fault of the child at this index, told from its parent.
+/// A fault of the child at this index, said from its parent.
 pub(crate) fn under_child(alloc: Global, index: usize, fault: Fault) -> Fault
     ensures { IsUnder (child_place index) fault result }
 {
@@ -63,7 +63,7 @@ pub(crate) fn under_child(alloc: Global, index: usize, fault: Fault) -> Fault
     }
 }
 
-/// A fault of the item at this index of a list, told from that list.
+/// A fault of the item at this index of a list, said from that list.
 pub(crate) fn under_index(alloc: Global, index: usize, fault: Fault) -> Fault
     ensures { IsUnder (index_place index) fault result }
 {
@@ -73,7 +73,7 @@ pub(crate) fn under_index(alloc: Global, index: usize, fault: Fault) -> Fault
     }
 }
 
-/// A text behind another.
+/// A text after another.
 fn joined(alloc: Global, front: &str, rest: &str) -> Result<Txt, NoMemory>
     ensures { IfOk result (λ made. made ≡ chars front.now ++ chars rest.now) }
 {

@@ -14,7 +14,7 @@ use lx_node::{Cause, Fault, Key, Kind};
 use serde_json::Value;
 use std::alloc::Global;
 
-/// Reads a node, with all below it, behind the children of a parent of this kind.
+/// Reads a node, with all below it, after the children of a parent of this kind.
 #[cycle(read)]
 fn read_node(
     alloc: Global,
@@ -41,7 +41,7 @@ fn read_node(
     }
 }
 
-/// Reads the children that an object gives a node of the kind, behind those that it has.
+/// Reads the children that an object gives a node of the kind, after those that it has.
 #[cycle(read)]
 fn read_children(
     alloc: Global,
@@ -68,7 +68,7 @@ fn read_children(
     }
 }
 
-/// Reads nodes, each with all below it, one after another behind the children of a parent of this kind.
+/// Reads nodes, each with all below it, in their order after the children of a parent of this kind.
 #[cycle(read)]
 fn read_nodes(
     alloc: Global,

@@ -10,7 +10,7 @@ use Rattle.lx_forest.proofs.Lookups.{is_among-children_of, NoRepeats-children_of
 use Rattle.lx_links.specs.Stands.{Sound}
 use Rattle.lx_links.proofs.Up.{in_order}
 
--- one less than all, where it stands below that node
+-- one less than all, where it is below that node
 in_all : (f : Forest) (k p : ℕ) → IsForest f → length (names_without k (children_of f p)) + cond (is_named (parent_of f k) p) 1 0 ≡ size_of f p
 in_all f k p h = subst (λ b. length (names_without k (children_of f p)) + cond b 1 0 ≡ size_of f p) (is_among-children_of f k p h) (length-names_without k (children_of f p) (NoRepeats-children_of f p h))
 
@@ -24,7 +24,7 @@ beside_other (tree l below rest) k p s other =
     let all = in_all f k p (s.in_order (λ none. cc)) in
     grind (arith, all, other)
 
--- the parent that a test tells
+-- the parent that a test finds
 pub parent_told : (o p : Option ℕ) (a q : ℕ) (t : Bool) → o ≡ p → o ≡ Some a → t ≡ eqb a q → t ≡ true → p ≡ Some q
 parent_told o p a q t same some test so = grind (arith, eqb_tells a q, same, some, test, so)
 

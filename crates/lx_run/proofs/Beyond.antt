@@ -1,4 +1,4 @@
--- Points whose offsets a u32 doesn't tell.
+-- Points whose offsets no u32 can be.
 use Rattle.std.proofs.Common.{◌≡◌, ◌<◌, ◌≤◌, false, cond, leb, Option, None, Some, ap, arith}
 use Rattle.std.proofs.lemmas.Bool.Decides.{nat_tests}
 use Rattle.lx_node.specs.Limits.{last_u32}

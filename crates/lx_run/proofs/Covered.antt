@@ -1,4 +1,4 @@
--- Marks tell whatever a line changes.
+-- Marks show whatever a line changes.
 use Rattle.std.proofs.Common.{◌≡◌, Result, Ok, subst}
 use Rattle.lx_node.specs.declared.cause.Cause.{Cause}
 use Rattle.lx_draft.specs.Covering.{IsReady, AreCovered}

@@ -13,7 +13,7 @@ use Rattle.lx_run.specs.Scripts.{Scripted, resolved, all_resolved}
 one_more : (i : ℕ) → i + 1 ≡ suc i
 one_more i = omega arith
 
--- behind these keys, those of the references that are left
+-- after these keys, those of the references that are left
 abbrev pub gathered : List ℕ → List Reference → Scripted → Result (List ℕ) Cause
 gathered keys rest s = after (all_resolved rest s) (λ more. Ok (keys ++ more))
 

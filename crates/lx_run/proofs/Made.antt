@@ -36,7 +36,7 @@ unfolding script_from
 script_refused at ls left rest step m cause is refused =
     ap (λ steps. script_from at ls steps m) is ∙ ap (λ r. and_then (at_step at r) (script_from (at + 1) ls rest)) refused
 
--- what a step tells of an error, all tell, with the step's index
+-- what a step says of an error, all say, with the step's index
 pub script_told : (at : ℕ) (ls : List Listener) (sent : Payload) (left rest : List Step) (step : Step) (m : Running) (fault : Fault) (r : Refusal) (whole : Result Running Refused) → sent ≡ Nothing → left ≡ step ∷ rest
     → script_from at ls left m ≡ whole → TellsStep fault (step_in (dispatched most_nested ls) sent step m) → IsRefusal fault (Some at) r → TellsRefusal r whole
 script_told at ls sent left rest step m (fault.Cause cause) r whole nothing is same told refused =
@@ -122,7 +122,7 @@ steps_end ls steps w few =
 
 -- ---- steps that wait
 
--- behind their count they do what they do at once
+-- after their count they do what they do at once
 pub deferred_runs : (ls : List Listener) (steps : List Step) (w v : Working) → count_step w ≡ Ok v → deferred_run ls steps w ≡ steps_run ls steps v
 unfolding deferred_run
 deferred_runs ls steps w v taken = ap (λ r. and_then (at_none r) (steps_run ls steps)) taken
@@ -146,7 +146,7 @@ unfolding steps_run
 steps_come_to ls steps w first m n is ran rest =
     ap (λ x. and_then (script_from 0 ls steps x) (queue_run ls)) (sym is) ∙ ap (λ r. and_then r (queue_run ls)) ran ∙ rest
 
--- what a part of a line tells of a refusal, the line tells, where it is refused as the part is
+-- what a part of a line says of a refusal, the line says, where it is refused as the part is
 pub refusal_of : {A B : Type 0} (r : Refusal) (part : Result A Refused) (whole : Result B Refused) → ((refused : Refused) → part ≡ Err refused → whole ≡ Err refused) → TellsRefusal r part → TellsRefusal r whole
 refusal_of (refusal.Cause cause index) part whole goes told = goes (cause, index) told
 refusal_of refusal.Memory part whole goes told = tt

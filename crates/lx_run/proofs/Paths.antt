@@ -21,7 +21,7 @@ use Rattle.lx_run.specs.Naming.{Naming, names_bound}
 use Rattle.lx_run.specs.Scripts.{Scripted, scripted, resolved, on_draft, naming, at_node, at_nodes, move_fault, loosened, index_or, script_put_step, repatched, script_set_step, name_of_first, selection_for, effect_of}
 
 -- A relation of a draft to what it became, that holds of each step of drafts and composes. A step may rely on D, which holds
--- again behind each.
+-- again after each.
 pub record IsScriptPath (D : Working → Type 0) (R : Working → Working → Type 0) : Type 0 where
   pub path : IsPath D R (λ k. Unit {0})
   pub count : Leads D R count_step

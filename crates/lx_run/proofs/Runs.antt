@@ -20,7 +20,7 @@ use Rattle.lx_run.specs.Running.{Running, Dispatching, take_count, done_by, unle
 next_place : (i : ℕ) → suc i ≡ i + 1
 next_place i = omega arith
 
--- what is left from an item on is the item and what is behind it
+-- what is left from an item on is the item and what is after it
 pub left_from : {A : Type 0} (all : List A) (i : ℕ) (a : A) → i < length all → a ≡ slice_index_or all i a → drop i all ≡ a ∷ drop (i + 1) all
 left_from all i a within is = left_at all i a (item_at all i a within is) ∙ ap (λ n. a ∷ drop n all) (next_place i)
 
@@ -30,7 +30,7 @@ none_left [] (suc i) h = refl
 none_left (x ∷ xs) zero h = absurd (omega (arith, h))
 none_left (x ∷ xs) (suc i) h = none_left xs i (omega (arith, h))
 
--- what a part tells of an error, the whole tells, where it is refused for each cause for which the part is
+-- what a part says of an error, the whole says, where it is refused for each cause for which the part is
 pub told_of : {A B : Type 0} (fault : Fault) (part : Result A Cause) (whole : Result B Cause) → ((cause : Cause) → part ≡ Err cause → whole ≡ Err cause) → TellsStep fault part → TellsStep fault whole
 told_of (fault.Cause cause) part whole goes told = goes cause told
 told_of fault.Memory part whole goes told = tt

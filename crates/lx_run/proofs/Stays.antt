@@ -44,7 +44,7 @@ pub makes_then : {A B : Type 0} (P : A → Type 0) (Q : B → Type 0) (first : R
 makes_then P Q (Ok a) next p each = each a p
 makes_then P Q (Err cause) next p each = tt
 
--- A relation of what a line works on to what it became. A step may rely on D, which holds again behind each.
+-- A relation of what a line works on to what it became. A step may rely on D, which holds again after each.
 pub record IsKept (D : Running → Type 0) (R : Running → Running → Type 0) : Type 0 where
   pub ready : (m n : Running) → R m n → D n
   pub same : (m : Running) → D m → R m m

@@ -20,27 +20,30 @@ use Rattle.lx_clip.specs.Pasting.{paste_step}
 
 -- ---- what a command is given: nothing, a text, or a word; anything else is no payload of it
 
+-- a command that takes nothing
 abbrev pub with_none : (Working → Result Working Cause) → Payload → Working → Result Working Cause
 with_none command payload.Nothing w = command w
 with_none command sent w = Err BadCommand
 
+-- a command that takes a text
 abbrev pub with_text : (List ℕ → Working → Result Working Cause) → Payload → Working → Result Working Cause
 with_text command (payload.Text text) w = command text w
 with_text command sent w = Err BadCommand
 
--- what a word means, by a table of words
+-- a command that takes what a word means, if it means anything
 abbrev pub meant : {A : Type 0} → (A → Working → Result Working Cause) → Option A → Working → Result Working Cause
 meant command None w = Err BadCommand
 meant command (Some a) w = command a w
 
+-- a command that takes a word of a table
 abbrev pub with_word : {A : Type 0} → List (List ℕ × A) → (A → Working → Result Working Cause) → Payload → Working → Result Working Cause
 with_word table command sent w = with_text (λ text. meant command (row_of table text)) sent w
 
--- whether a deletion goes back
+-- the words for the two ways of a deletion, and whether each goes back
 abbrev pub ways : List (List ℕ × Bool)
 ways = (chars (codes "back"), true) ∷ (chars (codes "forward"), false) ∷ []
 
--- the formats of texts, each with its bit
+-- the later formats of texts, each with its bit
 abbrev pub further_formats : List (List ℕ × ℕ)
 further_formats =
     (chars (codes "code"), 16)
@@ -49,6 +52,7 @@ further_formats =
     ∷ (chars (codes "highlight"), 128)
     ∷ []
 
+-- the formats of texts, each with its bit
 abbrev pub formats : List (List ℕ × ℕ)
 formats =
     (chars (codes "bold"), 1)
@@ -59,15 +63,16 @@ formats =
 
 -- ---- the commands
 
--- an item without children isn't cut in two: it ends its list
+-- an item without children, if there is one, isn't cut in two: it ends its list
 abbrev pub ended_at : Option ℕ → Working → Result Working Cause
 ended_at None w = Ok w
 ended_at (Some item) w = paragraph_in_item_step item w
 
+-- the command `insert-paragraph`, which in an item without children ends the list
 abbrev pub paragraph_step : Working → Result Working Cause
 paragraph_step w = after (insert_paragraph_step w) (λ broken. ended_at broken.item broken.draft)
 
--- those that take no payload
+-- what a caret command does that takes no payload
 abbrev pub plain_step : CaretCommand → Working → Result Working Cause
 plain_step RemoveText w = remove_text_step w
 plain_step InsertParagraph w = paragraph_step w
@@ -76,7 +81,7 @@ plain_step InsertTab w = insert_tab_step w
 plain_step SelectAll w = select_all_step w
 plain_step other w = Err BadCommand
 
--- what a command does with what is sent
+-- what a caret command does with what is sent
 unfoldable pub caret_step : CaretCommand → Payload → Working → Result Working Cause
 caret_step InsertText sent w = with_text insert_text_step sent w
 caret_step DeleteCharacter sent w = with_word ways delete_character_step sent w

@@ -12,7 +12,7 @@ use Rattle.lx_step.specs.declared.listener.When.{When}
 use Rattle.lx_draft.specs.Working.{Working}
 use Rattle.lx_run.specs.Scripts.{anchor_of, block_around}
 
--- the payload is this text
+-- whether the payload is this text
 abbrev pub is_text : List ℕ → Payload → Bool
 is_text text (payload.Text other) = same_text text other
 is_text text other = false
@@ -24,7 +24,7 @@ selection_word (selection.Range anchor focus format) = codes "range"
 selection_word (selection.Nodes keys) = codes "nodes"
 selection_word (selection.Cells table anchor focus) = codes "cells"
 
--- there is a kind, and its type is this text
+-- whether there is a kind, and its type is this text
 abbrev pub is_type : List ℕ → Option Kind → Bool
 is_type text None = false
 is_type text (Some kind) = same_text text (chars (type_name kind))
@@ -33,12 +33,12 @@ is_type text (Some kind) = same_text text (chars (type_name kind))
 abbrev pub block_kind : Working → Option Kind
 block_kind w = option_and_then (kind_of w.forest) (block_around w.forest (anchor_of w.selection))
 
--- a condition that isn't told asks nothing
+-- whether a condition holds, if it is given: one that isn't given asks nothing
 abbrev pub if_told : (List ℕ → Bool) → Option (List ℕ) → Bool
 if_told test None = true
 if_told test (Some text) = test text
 
--- each condition that is told holds
+-- whether each condition of a listener that is given holds
 unfoldable pub holds : When → Payload → Working → Bool
 holds when sent w =
     if_told (λ text. is_text text sent) when.payload

@@ -28,11 +28,11 @@ use Rattle.lx_run.specs.declared.ending.Ended.TheVariants as told
 use Rattle.lx_run.specs.declared.ending.Ending.{Ending}
 use Rattle.lx_run.specs.declared.ending.Ending.TheVariants.{Left, Turned}
 
--- no node has a name, and nothing is queued
+-- a draft as a line finds it: no node has a name, and nothing is queued
 abbrev pub at_first : Working → Running
 at_first w = running (scripted w no_names) []
 
--- the steps of the line's own script, the first of which has this index
+-- the steps of the line's own script run, the first of which has this index
 unfoldable pub script_from : ℕ → List Listener → List Step → Running → Result Running Refused
 script_from index ls [] m = Ok m
 script_from index ls (first ∷ rest) m =
@@ -43,7 +43,7 @@ script_from index ls (first ∷ rest) m =
 abbrev pub queue_run : List Listener → Running → Result Running Refused
 queue_run ls m = at_none (emptied most_counts ls m)
 
--- steps of a line, with these listeners
+-- the steps of a line run, with these listeners, and then what they have queued
 unfoldable pub steps_run : List Listener → List Step → Working → Result Running Refused
 steps_run ls steps w = and_then (script_from 0 ls steps (at_first w)) (queue_run ls)
 
@@ -53,12 +53,13 @@ deferred_run ls steps w = and_then (at_none (count_step w)) (steps_run ls steps)
 
 -- ---- a dispatch that is a line
 
--- What it comes to: what is worked on, and whether the dispatch was handled; or the history goes to another state.
+-- What a dispatch that is a line comes to: what is worked on, and whether it was handled; or the history goes to
+-- another state.
 pub data Ended : Type 0 where
   ran : Running → Bool → Ended
   turned : Turn → Ended
 
--- the same, read from what a call answers and what is worked on behind it
+-- what a dispatch that is a line comes to, read from what a call answers and what is worked on after it
 abbrev pub ended_with : Told → Running → Ended
 ended_with (told.Ran handled) m = ran m handled
 ended_with (told.Turned turn) m = turned turn
@@ -71,7 +72,7 @@ turn_of (Some (built_in.Caret command)) = None
 turn_of (Some (built_in.List command)) = None
 turn_of (Some (built_in.Table command)) = None
 
--- no edit was taken, the selection is the one that is committed, and nothing is queued
+-- whether no edit was taken, the selection is the one that is committed, and nothing is queued
 abbrev pub is_untouched : Selection → Running → Bool
 is_untouched committed m =
     (m.script.draft.edits == 0) && (same_selection m.script.draft.selection committed && is_empty m.queue)
@@ -102,11 +103,11 @@ ended_by (Some turn) ls c m =
     after (offered (dispatched most_inside ls) c.payload (above c.name ls) m)
     (unless_stopped (λ n. after (take_count n) (reached turn c.payload m.script.draft.selection)))
 
--- the dispatch behind its count
+-- the dispatch of a line once it has taken its count
 abbrev pub dispatch_begun : List Listener → Command → Running → Result Ended Cause
 dispatch_begun ls c m = after (take_count m) (ended_by (turn_of (built_in_of c.name)) ls c)
 
--- what is queued meanwhile runs last, and whether the dispatch was handled stays
+-- what a dispatch has queued runs last, and whether it was handled stays
 abbrev pub dispatch_ended : List Listener → Ended → Result Ended Refused
 dispatch_ended ls (ran m handled) = and_then (queue_run ls m) (λ n. Ok (ran n handled))
 dispatch_ended ls (turned turn) = Ok (turned turn)
@@ -117,15 +118,17 @@ dispatch_run ls c w = and_then (at_step 0 (dispatch_begun ls c (at_first w))) (d
 
 -- ---- what is left
 
--- the draft that is left
+-- the draft that steps leave, unless they are refused
 abbrev pub drafted : Result Running Refused → Result Working Refused
 drafted (Ok m) = Ok m.script.draft
 drafted (Err refused) = Err refused
 
+-- what is left of a dispatch: a draft, with whether it was handled, or the turn of the history
 abbrev pub ending_of : Ended → Ending
 ending_of (ran m handled) = Left m.script.draft handled
 ending_of (turned turn) = Turned turn
 
+-- what is left of a dispatch that may have been refused
 abbrev pub answer_drafted : Result Ended Refused → Result Ending Refused
 answer_drafted (Ok ended) = Ok (ending_of ended)
 answer_drafted (Err refused) = Err refused
@@ -135,11 +138,12 @@ abbrev pub IsEndingCovered : Working → Ending → Type 0
 IsEndingCovered w (Left v handled) = IsReady w → AreCovered w v
 IsEndingCovered w (Turned turn) = Unit {0}
 
--- nothing is queued any more
+-- nothing is queued any more after steps that weren't refused
 abbrev pub IsEmptied : Result Running Refused → Type 0
 IsEmptied (Ok m) = m.queue ≡ []
 IsEmptied (Err refused) = Unit {0}
 
+-- nothing is queued any more after a dispatch that wasn't refused
 abbrev pub IsAnswerEmptied : Result Ended Refused → Type 0
 IsAnswerEmptied (Ok (ran m handled)) = m.queue ≡ []
 IsAnswerEmptied (Ok (turned turn)) = Unit {0}

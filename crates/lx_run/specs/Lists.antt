@@ -19,7 +19,7 @@ use Rattle.lx_run.specs.Carets.{with_none, with_word}
 abbrev pub list_types : List (List ℕ × ListType)
 list_types = (chars (codes "bullet"), Bullet) ∷ (chars (codes "number"), Number) ∷ (chars (codes "check"), Check) ∷ []
 
--- those that take no payload
+-- what a command of lists does that takes no payload
 abbrev pub plain_list_step : ListCommand → Working → Result Working Cause
 plain_list_step RemoveList w = remove_list_step w
 plain_list_step Indent w = indent_step w
@@ -27,7 +27,7 @@ plain_list_step Outdent w = outdent_step w
 plain_list_step ToggleChecked w = toggle_checked_step w
 plain_list_step MakeList w = Err BadCommand
 
--- what a command does with what is sent: the word of a type, or nothing
+-- what a command of lists does with what is sent: the word of a type, or nothing
 unfoldable pub list_step : ListCommand → Payload → Working → Result Working Cause
 list_step MakeList sent w = with_word list_types make_list_step sent w
 list_step plain sent w = with_none (plain_list_step plain) sent w

@@ -4,10 +4,11 @@ use Rattle.std.specs.Ordering.{nat_cmp}
 use Rattle.std.specs.Cmp.Lexicographic.{slice_cmp}
 use Rattle.std.specs.FinMap.{FinMap, empty, insert}
 
--- a name is a text
+-- a map from names, which are texts, to nodes
 abbrev pub Naming : Type 0
 Naming = FinMap (slice_cmp nat_cmp) ℕ
 
+-- no node has a name
 abbrev pub no_names : Naming
 no_names = empty
 

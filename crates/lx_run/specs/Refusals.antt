@@ -10,11 +10,12 @@ use Rattle.lx_run.specs.declared.refusal.Refusal.TheVariants as refusal
 abbrev pub Refused : Type 0
 Refused = Cause × Option ℕ
 
--- what is refused at this step, or at none
+-- what was made, or a refusal at this step
 abbrev pub at_step : {A : Type 0} → ℕ → Result A Cause → Result A Refused
 at_step index (Ok a) = Ok a
 at_step index (Err cause) = Err (cause, Some index)
 
+-- what was made, or a refusal at no step
 abbrev pub at_none : {A : Type 0} → Result A Cause → Result A Refused
 at_none (Ok a) = Ok a
 at_none (Err cause) = Err (cause, None)
@@ -24,12 +25,12 @@ abbrev pub and_then : {A B : Type 0} → Result A Refused → (A → Result B Re
 and_then (Ok a) next = next a
 and_then (Err refused) next = Err refused
 
--- It is refused for this cause and at this step, or memory was wanting.
+-- It is refused for this cause and at this step, or memory ran out.
 abbrev pub TellsRefusal : {A : Type 0} → Refusal → Result A Refused → Type 0
 TellsRefusal (refusal.Cause cause step) made = made ≡ Err (cause, step)
 TellsRefusal refusal.Memory made = Unit {0}
 
--- a refusal for the fault's cause, at this step or at none, or want of memory where it is that
+-- a refusal for the fault's cause, at this step or at none, or for memory where it runs out
 abbrev pub IsRefusal : Fault → Option ℕ → Refusal → Type 0
 IsRefusal (fault.Cause cause) step r = r ≡ refusal.Cause cause step
 IsRefusal fault.Memory step r = r ≡ refusal.Memory

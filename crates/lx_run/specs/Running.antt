@@ -31,13 +31,15 @@ pub record Running : Type 0 where
   pub script : Scripted
   pub queue : List Queued
 
+-- what a script works on, with this queue
 abbrev pub running : Scripted → List Queued → Running
 running s queue = record { script = s; queue = queue }
 
--- what leaves the queue as it is
+-- an edit that leaves the queue as it is
 abbrev pub on_script : (Scripted → Result Scripted Cause) → Running → Result Running Cause
 on_script edit m = after (edit m.script) (λ s. Ok (running s m.queue))
 
+-- a count is taken, of which a line has at most 100,000
 unfoldable pub take_count : Running → Result Running Cause
 take_count m = on_script (on_draft count_step) m
 
@@ -45,13 +47,13 @@ take_count m = on_script (on_draft count_step) m
 abbrev pub queued : List Step → Payload → Running → Running
 queued steps sent m = running m.script (m.queue ++ record { steps = steps; sent = sent } ∷ [])
 
--- steps stand at its front
+-- steps go to the front of the queue
 abbrev pub queued_first : List Step → Payload → Running → Running
 queued_first steps sent m = running m.script (record { steps = steps; sent = sent } ∷ m.queue)
 
 -- ---- steps
 
--- nothing is sent with the command
+-- whether nothing is sent with the command
 abbrev pub is_nothing : Payload → Bool
 is_nothing payload.Nothing = true
 is_nothing other = false
@@ -68,7 +70,7 @@ abbrev pub done_if : Option BuiltIn → Payload → Running → Result Running C
 done_if None sent m = Err BadCommand
 done_if (Some command) sent m = done_by command sent m
 
--- a payload, where "@payload" stands for another
+-- the payload of a command, where "@payload" means the one that was sent
 abbrev pub payload_for : Payload → Payload → Payload
 payload_for sent payload.Given = sent
 payload_for sent other = other
@@ -77,6 +79,7 @@ payload_for sent other = other
 abbrev pub Dispatching : Type 0
 Dispatching = List ℕ → Payload → Running → Result (Running × Bool) Cause
 
+-- what a step does that dispatches a command
 abbrev pub dispatched_by : Dispatching → Payload → Command → Running → Result Running Cause
 dispatched_by dispatching sent c m = after (dispatching c.name (payload_for sent c.payload) m) (λ r. Ok r.0)
 
@@ -87,7 +90,7 @@ effect_in dispatching sent (step.Dispatch c) m = dispatched_by dispatching sent 
 effect_in dispatching sent (step.Later script) m = Ok (queued (steps_of script) sent m)
 effect_in dispatching sent other m = on_script (effect_of other) m
 
--- each step that begins takes a count
+-- a step that takes a count and then does what it does, where a dispatch does this
 unfoldable pub step_in : Dispatching → Payload → Step → Running → Result Running Cause
 step_in dispatching sent begun m = after (take_count m) (effect_in dispatching sent begun)
 
@@ -103,7 +106,7 @@ abbrev pub answered : Dispatching → Payload → Listener → Running → Resul
 answered dispatching sent l m =
     if holds l.when sent m.script.draft then after (steps_in dispatching sent (steps_of l.steps) m) (λ n. Ok (n, l.handled)) else Ok (m, false)
 
--- each offer takes a count
+-- a listener is offered a command, which takes a count
 unfoldable pub offer : Dispatching → Payload → Listener → Running → Result (Running × Bool) Cause
 offer dispatching sent l m = after (take_count m) (answered dispatching sent l)
 
@@ -116,7 +119,8 @@ unfoldable pub offered : Dispatching → Payload → List Listener → Running �
 offered dispatching sent [] m = Ok (m, false)
 offered dispatching sent (l ∷ ls) m = after (offer dispatching sent l m) (unless_handled (offered dispatching sent ls))
 
--- The built-in command, if there is one, takes its count and handles the command. Else those behind it are offered it.
+-- The built-in command, if there is one, takes its count and handles the command. Else the listeners after it are
+-- offered it.
 abbrev pub built_in_or : Option BuiltIn → Dispatching → Payload → List Listener → Running → Result (Running × Bool) Cause
 built_in_or None dispatching sent ls m = offered dispatching sent ls m
 built_in_or (Some command) dispatching sent ls m = after (take_count m) (λ n. after (done_by command sent n) (λ o. Ok (o, true)))
@@ -130,12 +134,13 @@ dispatched (suc left) ls name sent m =
     after (offered (dispatched left ls) sent (above name ls) m)
     (unless_handled (built_in_or (built_in name) (dispatched left ls) sent (behind name ls)))
 
+-- how deep dispatches may nest
 abbrev pub most_nested : ℕ
 most_nested = 64
 
 -- ---- the queue
 
--- the first that is queued, and then the rest
+-- the first list of steps that is queued runs, and then the rest
 abbrev pub in_turn : (Payload → List Step → Running → Result Running Cause) → (Running → Result Running Cause) → List Queued → Running → Result Running Cause
 in_turn runs next [] m = Ok m
 in_turn runs next (q ∷ queue) m = after (runs q.sent q.steps (running m.script queue)) next

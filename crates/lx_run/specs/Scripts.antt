@@ -39,16 +39,18 @@ pub record Scripted : Type 0 where
   pub draft : Working
   pub names : Naming
 
+-- a draft with these names
 abbrev pub scripted : Working → Naming → Scripted
 scripted w names = record { draft = w; names = names }
 
 -- ---- references
 
--- the anchor and the focus of a range
+-- the node of a range's anchor
 abbrev pub anchor_of : Selection → Option ℕ
 anchor_of (selection.Range anchor focus format) = Some anchor.key
 anchor_of other = None
 
+-- the node of a range's focus
 abbrev pub focus_of : Selection → Option ℕ
 focus_of (selection.Range anchor focus format) = Some focus.key
 focus_of other = None
@@ -58,7 +60,7 @@ abbrev pub block_around : Forest → Option ℕ → Option ℕ
 block_around f None = None
 block_around f (Some k) = block_of f k
 
--- the node of a reference, if it has one, and what is said to be unknown where it has none
+-- the key of the node that a reference means, if it means one
 abbrev pub key_for : Reference → Scripted → Option ℕ
 key_for (reference.Key k) s = Some k
 key_for reference.Anchor s = anchor_of s.draft.selection
@@ -66,6 +68,7 @@ key_for reference.Focus s = focus_of s.draft.selection
 key_for reference.Block s = block_around s.draft.forest (anchor_of s.draft.selection)
 key_for (reference.Name name) s = get s.names name
 
+-- what is said to be unknown where a reference means no node that is there
 abbrev pub said_of : Reference → Named
 said_of (reference.Key k) = named.Key k
 said_of reference.Anchor = named.Name (codes "@anchor")
@@ -73,10 +76,12 @@ said_of reference.Focus = named.Name (codes "@focus")
 said_of reference.Block = named.Name (codes "@block")
 said_of (reference.Name name) = named.Name name
 
+-- a node that is there, or else the refusal with what is said to be unknown
 abbrev pub if_there : Forest → Option ℕ → Named → Result ℕ Cause
 if_there f None said = Err (UnknownNode said)
 if_there f (Some k) said = if has k f then Ok k else Err (UnknownNode said)
 
+-- the node that a reference means, or the refusal
 unfoldable pub resolved : Reference → Scripted → Result ℕ Cause
 resolved r s = if_there s.draft.forest (key_for r s) (said_of r)
 
@@ -90,39 +95,42 @@ on_draft edit s = after (edit s.draft) (λ w. Ok (scripted w s.names))
 abbrev pub naming : Option (List ℕ) → (Working → Result Working Cause) → Scripted → Result Scripted Cause
 naming name edit s = after (edit s.draft) (λ w. Ok (scripted w (names_bound name (Some s.draft.next_key) s.names)))
 
--- the node of a reference, and those of two, from left to right
+-- an edit of the draft at the node of a reference
 abbrev pub at_node : Reference → (ℕ → Working → Result Working Cause) → Scripted → Result Scripted Cause
 at_node r edit s = after (resolved r s) (λ k. on_draft (edit k) s)
 
+-- an edit of the draft at the nodes of two references, which are resolved from left to right
 abbrev pub at_nodes : Reference → Reference → (ℕ → ℕ → Working → Result Working Cause) → Scripted → Result Scripted Cause
 at_nodes r q edit s = after (resolved r s) (λ k. after (resolved q s) (λ p. on_draft (edit k p) s))
 
 -- ---- put
 
--- the index is above the number of children beside it
+-- why an index is refused: it is above the number of children beside the node
 abbrev pub too_far : Option ℕ → ℕ → Option Cause
 too_far None size = None
 too_far (Some index) size = if nat_lt size index then Some (BadPlace index) else None
 
--- it is the root, or the place is in its tree
+-- why a place is refused for a node: the node is the root, or has the place in its tree
 abbrev pub inside_itself : Forest → ℕ → ℕ → Option Cause
 inside_itself f k p = if k == 0 || is_within f k p then Some (BadPlace k) else None
 
--- why a node isn't put there, the first cause; the place may not hold it, too
+-- why a node can't be put at a place, the first cause: also where the place may not hold it
 abbrev pub move_fault : ℕ → ℕ → Option ℕ → Forest → Option Cause
 move_fault k p index f =
     option_or (inside_itself f k p) (option_or (misfit (kind_of f p) (kind_of f k))
     (too_far index (length (names_without k (children_of f p)))))
 
--- taken out, where it stands below something
+-- a node is taken out, where it is below something
 abbrev pub loosened : Option ℕ → ℕ → Working → Result Working Cause
 loosened None k w = Ok w
 loosened (Some p) k w = take_step k w
 
+-- the index that is given, or else the end
 abbrev pub index_or : Option ℕ → ℕ → ℕ
 index_or None size = size
 index_or (Some index) size = index
 
+-- the step `put`: a node goes below another, at an index or at the end
 unfoldable pub script_put_step : ℕ → ℕ → Option ℕ → Working → Result Working Cause
 script_put_step k p index w =
     after (answer (move_fault k p index w.forest) w) (λ v.
@@ -135,66 +143,76 @@ abbrev pub patched_or : Kind → Option Fields → Result Fields Cause
 patched_or kind None = Err (WrongKind kind)
 patched_or kind (Some made) = Ok made
 
--- the node's fields with a patch's members written
+-- a node's fields with a patch's members written
 abbrev pub repatched : List Member → Option Label → Result Fields Cause
 repatched members None = Ok fields.Bare
 repatched members (Some l) = patched_or l.kind (patched l.kind members l.fields)
 
+-- the step `set`: a node's fields get the members of a patch
 unfoldable pub script_set_step : List Member → ℕ → Working → Result Working Cause
 script_set_step members k w = after (repatched members (label_of w.forest k)) (λ made. set_step k made w)
 
 -- ---- split
 
--- without an offset there is no new text that could get the name
+-- the name for the first new text of a split: without an offset there is none that could get it
 abbrev pub name_of_first : List ℕ → Option (List ℕ) → Option (List ℕ)
 name_of_first [] name = None
 name_of_first (o ∷ offsets) name = name
 
+-- the step `split`: a text is split at offsets, and the first new text gets the name
 abbrev pub script_split_step : Reference → List ℕ → Option (List ℕ) → Scripted → Result Scripted Cause
 script_split_step node offsets name s = after (resolved node s) (λ k. naming (name_of_first offsets name) (split_step k offsets) s)
 
 -- ---- select
 
+-- the point on a node of this key
 abbrev pub point_at : ℕ → PointRef → Point
 point_at k p = record { key = k; offset = p.offset; kind = p.kind }
 
--- the format of a text or tab
+-- the format of a text or tab, and 0 of any other node
 abbrev pub format_in : Option Fields → ℕ
 format_in (Some (fields.Text text)) = text.format
 format_in other = 0
 
+-- the format that is given, or else that of a node
 abbrev pub format_or : Option ℕ → Forest → ℕ → ℕ
 format_or None f k = format_in (fields_of f k)
 format_or (Some format) f k = format
 
+-- the nodes of references, from left to right
 abbrev pub all_resolved : List Reference → Scripted → Result (List ℕ) Cause
 all_resolved [] s = Ok []
 all_resolved (r ∷ rs) s = after (resolved r s) (λ k. after (all_resolved rs s) (λ ks. Ok (k ∷ ks)))
 
--- the selection that is named: the nodes of a range from anchor to focus, and of cells from the table on
+-- the range that is named, whose nodes are resolved from anchor to focus
 abbrev pub range_for : PointRef → PointRef → Option ℕ → Scripted → Result Selection Cause
 range_for anchor focus format s =
     after (resolved anchor.node s) (λ a. after (resolved focus.node s) (λ b.
     Ok (selection.Range (point_at a anchor) (point_at b focus) (format_or format s.draft.forest a))))
 
+-- the cells that are named, whose nodes are resolved from the table on
 abbrev pub cells_for : Reference → Reference → Reference → Scripted → Result Selection Cause
 cells_for table anchor focus s =
     after (resolved table s) (λ t. after (resolved anchor s) (λ a. after (resolved focus s) (λ b. Ok (selection.Cells t a b))))
 
+-- the selection that is named
 abbrev pub selection_for : SelectionRef → Scripted → Result Selection Cause
 selection_for chosen.Nothing s = Ok selection.Nothing
 selection_for (chosen.Range anchor focus format) s = range_for anchor focus format s
 selection_for (chosen.Nodes nodes) s = after (all_resolved nodes s) (λ keys. Ok (selection.Nodes keys))
 selection_for (chosen.Cells table anchor focus) s = cells_for table anchor focus s
 
+-- the selection is made, unless it was refused
 abbrev pub then_selected : Result Selection Cause → Scripted → Result Scripted Cause
 then_selected named s = after named (λ sel. on_draft (select_step sel) s)
 
+-- the step `select`
 abbrev pub script_select_step : SelectionRef → Scripted → Result Scripted Cause
 script_select_step named s = then_selected (selection_for named s) s
 
--- ---- the steps, but for those that do a command, dispatch one or queue others, which stand with the running of a line
+-- ---- the steps, but for those that do a command, dispatch one or queue others, which are defined where a line runs
 
+-- what a step does to what a script works on
 abbrev pub effect_of : Step → Scripted → Result Scripted Cause
 effect_of (step.Append text) s = on_draft (appended text) s
 effect_of (step.New kind fields name) s = naming name (new_step kind fields) s

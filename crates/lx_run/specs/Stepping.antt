@@ -11,12 +11,14 @@ use Rattle.lx_run.specs.declared.stepping.PairEdit.{PairEdit}
 use Rattle.lx_run.specs.declared.stepping.PairEdit.TheVariants as pair
 use Rattle.lx_run.specs.Scripts.{script_put_step, script_set_step}
 
+-- what a step does to the node that it names
 abbrev pub of_node : NodeEdit → ℕ → Working → Result Working Cause
 of_node node.Remove = remove_step
 of_node (node.Set patch) = script_set_step patch.now.members
 of_node node.Mark = mark_step
 of_node node.Unwrap = unwrap_step
 
+-- what a step does to the two nodes that it names
 abbrev pub of_pair : PairEdit → ℕ → ℕ → Working → Result Working Cause
 of_pair (pair.Put index) = λ k p. script_put_step k p index
 of_pair (pair.Replace keep) = λ k o. replace_step k o keep

@@ -83,7 +83,7 @@ pub(crate) fn bad_command() -> Fault
     Fault::Cause(Cause::BadCommand)
 }
 
-/// Deletes a cluster on the side that a payload tells.
+/// Deletes a cluster on the side that a payload names.
 fn delete_character(alloc: Global, draft: &mut Draft, sent: &Payload) -> Result<(), Fault>
     ensures ok { OnOk result (carets.with_word carets.ways delete_character_step sent.now draft.old ≡ Ok draft.new) }
     ensures err { IfErr result (λ e. TellsStep e (carets.with_word carets.ways delete_character_step sent.now draft.old)) }
@@ -97,7 +97,7 @@ fn delete_character(alloc: Global, draft: &mut Draft, sent: &Payload) -> Result<
     }
 }
 
-/// Deletes a word on the side that a payload tells.
+/// Deletes a word on the side that a payload names.
 fn delete_word(alloc: Global, draft: &mut Draft, sent: &Payload) -> Result<(), Fault>
     ensures ok { OnOk result (carets.with_word carets.ways delete_word_step sent.now draft.old ≡ Ok draft.new) }
     ensures err { IfErr result (λ e. TellsStep e (carets.with_word carets.ways delete_word_step sent.now draft.old)) }
@@ -136,7 +136,7 @@ fn insert_text(alloc: Global, draft: &mut Draft, sent: &Payload) -> Result<(), F
     }
 }
 
-/// Puts the slice that the text tells which is sent in the place of what is selected.
+/// Puts the slice whose text is sent in the place of what is selected.
 fn paste(alloc: Global, draft: &mut Draft, sent: &Payload) -> Result<(), Fault>
     ensures ok { OnOk result (carets.with_text paste_step sent.now draft.old ≡ Ok draft.new) }
     ensures err { IfErr result (λ e. TellsStep e (carets.with_text paste_step sent.now draft.old)) }

@@ -31,7 +31,7 @@ pub(crate) fn is_nothing(sent: &Payload) -> bool
     matches!(sent, Payload::Nothing)
 }
 
-/// Does a built-in command behind its count. Those of the history take no payload, and are refused among steps.
+/// Does a built-in command after its count. Those of the history take no payload, and are refused among steps.
 fn do_built_in(running: &mut Running<'_>, command: BuiltIn, sent: &Payload) -> Result<(), Fault>
     ensures ok { OnOk result (spec.done_by command sent.now running.old ≡ Ok running.new) }
     ensures err { IfErr result (λ e. TellsStep e (spec.done_by command sent.now running.old)) }

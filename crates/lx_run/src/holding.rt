@@ -11,7 +11,7 @@ use lx_range::block;
 use lx_select::Selection;
 use lx_step::{Payload, When};
 
-/// Whether each condition holds that is told, of the payload that was sent and of the draft.
+/// Whether each condition holds that is given, of the payload that was sent and of the draft.
 #[tactic(auto, unfolding(crate::specs::Holding::holds))]
 pub(crate) fn holds(when: &When, sent: &Payload, draft: &Draft) -> bool
     ensures { result ≡ holding.holds when.now sent.now draft.now }
@@ -21,7 +21,7 @@ pub(crate) fn holds(when: &When, sent: &Payload, draft: &Draft) -> bool
         && block_holds(&when.block, draft)
 }
 
-/// The payload is this text, if one is told.
+/// The payload is this text, if one is given.
 fn payload_holds(told: &Option<Txt>, sent: &Payload) -> bool
     ensures { result ≡ holding.if_told (λ text. holding.is_text text sent.now) told.now }
 {
@@ -40,7 +40,7 @@ fn is_text(text: &Txt, payload: &Payload) -> bool
     }
 }
 
-/// The selection is of this kind, if one is told.
+/// The selection is of this kind, if one is given.
 fn selection_holds(told: &Option<Txt>, selection: &Selection) -> bool
     ensures { result ≡ holding.if_told (λ text. same_text text (chars (holding.selection_word selection.now))) told.now }
 {
@@ -68,7 +68,7 @@ fn selection_word(selection: &Selection) -> &'static str
     }
 }
 
-/// The text block in which the anchor lies is of this type, if one is told.
+/// The text block in which the anchor lies is of this type, if one is given.
 fn block_holds(told: &Option<Txt>, draft: &Draft) -> bool
     ensures { result ≡ holding.if_told (λ text. holding.is_type text (holding.block_kind draft.now)) told.now }
 {

@@ -21,7 +21,7 @@ use lx_step::{Command, Payload, Step};
 use std::alloc::Global;
 
 /// Runs steps one after another on a draft, each of which takes a count. What they queue runs last, first in, first
-/// out. A refusal tells the step of these that was running, or none where what they had queued was. The draft is
+/// out. A refusal gives the step of these that was running, or none where what they had queued was. The draft is
 /// dropped with it.
 #[tactic(auto, unfolding(crate::specs::Lines::steps_run))]
 pub fn run_steps(alloc: Global, bus: &Bus, draft: Draft, steps: &[Step]) -> Result<Draft, Refusal>
@@ -67,7 +67,7 @@ pub fn run_deferred(
     }
     match run_steps(alloc, bus, begun, steps) {
         Ok(left) => {
-            // What links tell holds of every draft, as that it has taken at most 100,000 counts.
+            // What links say holds of every draft, such as that it has taken at most 100,000 counts.
             let _links = left.links();
             Ok(left)
         }
@@ -102,11 +102,11 @@ fn run_script<'a>(
 /// What is queued meanwhile runs last, first in, first out.
 ///
 /// `undo` and `redo` reach the history where no listener above priority editor has handled them: the command takes a
-/// second count, the answer tells which way the history goes, and the draft is dropped. It is refused at step 0 with
+/// second count, the answer says which way the history goes, and the draft is dropped. It is refused at step 0 with
 /// `BadCommand` where it has a payload, and else with `HistoryInside` where an edit was taken on the way, steps are
 /// queued, or the selection isn't the one that the draft came with.
 ///
-/// A refusal tells step 0 where the dispatch was running, or none where what was queued was. The draft is dropped
+/// A refusal gives step 0 where the dispatch was running, or none where what was queued was. The draft is dropped
 /// with it.
 #[tactic(auto, unfolding(crate::specs::Lines::dispatch_run))]
 pub fn run_dispatch(
@@ -161,7 +161,7 @@ fn run_rest<'a>(bus: &'a Bus, running: &mut Running<'a>) -> Result<(), Refusal>
     }
 }
 
-/// Refused for the fault's cause, at a step or at none, or want of memory.
+/// Refused for the fault's cause, at a step or at none, or for memory where that ran out.
 fn refused(fault: Fault, step: Option<u32>) -> Refusal
     ensures { IsRefusal fault step result }
 {

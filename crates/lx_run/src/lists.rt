@@ -31,7 +31,7 @@ fn type_of(text: &Txt) -> Option<ListType>
     None
 }
 
-/// Makes lists of the type that a payload tells.
+/// Makes lists of the type that a payload names.
 fn make_list(alloc: Global, draft: &mut Draft, sent: &Payload) -> Result<(), Fault>
     ensures ok { OnOk result (carets.with_word lists.list_types make_list_step sent.now draft.old ≡ Ok draft.new) }
     ensures err { IfErr result (λ e. TellsStep e (carets.with_word lists.list_types make_list_step sent.now draft.old)) }

@@ -12,7 +12,7 @@ use lx_links::{Links, misfit};
 use lx_node::{Cause, Fault, Key};
 
 /// Puts a node among another's children, at an index that is counted without the node itself, or at their end.
-/// What stands below something is taken out before. It is refused where the node is the root, or the place is
+/// What is below something is taken out before. It is refused where the node is the root, or the place is
 /// in its tree, where the place may not hold it, and where the index is above the number of children; and as
 /// the draft's own edits are, where 100,000 counts were taken.
 #[tactic(auto, unfolding(crate::specs::Scripts::script_put_step))]
@@ -37,7 +37,7 @@ pub(crate) fn put_node(
     draft.put(key, parent, index.unwrap_or(size))
 }
 
-/// Takes a node out, where it stands below something.
+/// Takes a node out, where it is below something.
 fn loosen(draft: &mut Draft, key: Key) -> Result<(), Fault>
     ensures ok { OnOk result (scripts.loosened (lookups.parent_of draft.old.forest key) key draft.old ≡ Ok draft.new) }
     ensures err { IfErr result (λ e. TellsStep e (scripts.loosened (lookups.parent_of draft.old.forest key) key draft.old)) }

@@ -38,7 +38,7 @@ pub(crate) fn resolve(
     }
 }
 
-/// The key that a reference tells, if it tells one.
+/// The key of the node that a reference means, if it means one.
 fn key_for(draft: &Draft, names: &Names, reference: &Reference) -> Option<Key>
     ensures { result ≡ scripts.key_for reference.now (scripted draft.now names.now) }
 {

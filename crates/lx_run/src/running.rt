@@ -70,7 +70,7 @@ impl<'a> Running<'a> {
         ensures first { result ≡ at_first draft }
         ensures few { draft.counted ≤ most_counts }
     {
-        // What links tell holds of every draft, as that it has taken at most 100,000 counts.
+        // What links say holds of every draft, such as that it has taken at most 100,000 counts.
         let _links = draft.links();
         Running {
             alloc,
@@ -128,7 +128,7 @@ impl<'a> Running<'a> {
         take_effect(self.alloc, &mut self.draft, &mut self.names, step)
     }
 
-    /// What a caret command does behind its count, with what is sent.
+    /// What a caret command does after its count, with what is sent.
     pub(crate) fn do_caret(&mut self, command: CaretCommand, sent: &Payload) -> Result<(), Fault>
         ensures ok { OnOk result (on_script (on_draft (caret_step command sent.now)) self.old ≡ Ok self.new) }
         ensures err { IfErr result (λ e. TellsStep e (on_script (on_draft (caret_step command sent.now)) self.old)) }
@@ -136,7 +136,7 @@ impl<'a> Running<'a> {
         do_caret(self.alloc, &mut self.draft, command, sent)
     }
 
-    /// What a command of lists does behind its count, with what is sent.
+    /// What a command of lists does after its count, with what is sent.
     pub(crate) fn do_list(&mut self, command: ListCommand, sent: &Payload) -> Result<(), Fault>
         ensures ok { OnOk result (on_script (on_draft (list_step command sent.now)) self.old ≡ Ok self.new) }
         ensures err { IfErr result (λ e. TellsStep e (on_script (on_draft (list_step command sent.now)) self.old)) }
@@ -144,7 +144,7 @@ impl<'a> Running<'a> {
         do_list(self.alloc, &mut self.draft, command, sent)
     }
 
-    /// What a command of tables does behind its count, with what is sent.
+    /// What a command of tables does after its count, with what is sent.
     pub(crate) fn do_table(&mut self, command: TableCommand, sent: &Payload) -> Result<(), Fault>
         ensures ok { OnOk result (on_script (on_draft (table_step command sent.now)) self.old ≡ Ok self.new) }
         ensures err { IfErr result (λ e. TellsStep e (on_script (on_draft (table_step command sent.now)) self.old)) }
@@ -152,7 +152,7 @@ impl<'a> Running<'a> {
         do_table(self.alloc, &mut self.draft, command, sent)
     }
 
-    /// Queues steps behind all that are queued.
+    /// Queues steps after all that are queued.
     pub(crate) fn queue(&mut self, steps: &'a Steps, sent: &'a Payload) -> Result<(), NoMemory>
         requires sound { IsSoundScript steps.now }
         ensures { OnOk result (self.new ≡ queued (steps_of steps.now) sent.now self.old) }

@@ -228,7 +228,7 @@ fn point_at(links: &Links, key: Key, point: &PointRef) -> Result<Point, Cause>
     }
 }
 
-/// What refuses a point whose offset a u32 doesn't tell. No text has such a place, and no node so many children.
+/// What refuses a point whose offset no u32 can be. No text has such a place, and no node so many children.
 fn beyond(links: &Links, key: Key, point: &PointRef) -> Cause
     requires { last_u32 < point.now.offset }
     ensures { selecting.outside_point links.now (scripts.point_at key point.now) ≡ Some result }
@@ -238,7 +238,7 @@ fn beyond(links: &Links, key: Key, point: &PointRef) -> Cause
     Cause::BadPlace(point.offset)
 }
 
-/// The same of a point whose offset a u32 tells.
+/// The same of a point whose offset is a u32.
 fn placed(links: &Links, point: Point) -> Result<Point, Cause>
     ensures ok { IfOk result (λ made. made ≡ point) }
     ensures within { OnOk result (selecting.outside_point links.now point ≡ None) }

@@ -88,11 +88,11 @@ pub(crate) enum PairEdit {
     Put(Option<u64>),
     /// The second is put in the first's place, and with `true` it gets that node's children.
     Replace(bool),
-    /// The second's text goes behind the first's.
+    /// The second's text goes after the first's.
     Join,
     /// The second is put in the first's place, and the first into it.
     Wrap,
-    /// The first's children go behind the second's.
+    /// The first's children go after the second's.
     Children,
 }
 

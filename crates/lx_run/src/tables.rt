@@ -16,7 +16,7 @@ use lx_node::{Fault, Txt};
 use lx_step::{Payload, TableCommand};
 use std::alloc::Global;
 
-/// Whether a row or column comes behind the caret's cell, by the word for its side.
+/// Whether a row or column comes after the caret's cell, by the word for its side.
 fn side_of(text: &Txt) -> Option<bool>
     ensures { result ≡ row_of tables.sides text.now }
 {
@@ -29,7 +29,7 @@ fn side_of(text: &Txt) -> Option<bool>
     None
 }
 
-/// Inserts a table of the size that a payload tells.
+/// Inserts a table of the size that a payload gives.
 fn insert_table(alloc: Global, draft: &mut Draft, sent: &Payload) -> Result<(), Fault>
     ensures ok { OnOk result (tables.with_size insert_table_step sent.now draft.old ≡ Ok draft.new) }
     ensures err { IfErr result (λ e. TellsStep e (tables.with_size insert_table_step sent.now draft.old)) }
@@ -44,7 +44,7 @@ fn insert_table(alloc: Global, draft: &mut Draft, sent: &Payload) -> Result<(), 
     }
 }
 
-/// Inserts a row on the side that a payload tells.
+/// Inserts a row on the side that a payload names.
 fn insert_row(alloc: Global, draft: &mut Draft, sent: &Payload) -> Result<(), Fault>
     ensures ok { OnOk result (carets.with_word tables.sides insert_row_step sent.now draft.old ≡ Ok draft.new) }
     ensures err { IfErr result (λ e. TellsStep e (carets.with_word tables.sides insert_row_step sent.now draft.old)) }
@@ -58,7 +58,7 @@ fn insert_row(alloc: Global, draft: &mut Draft, sent: &Payload) -> Result<(), Fa
     }
 }
 
-/// Inserts a column on the side that a payload tells.
+/// Inserts a column on the side that a payload names.
 fn insert_column(alloc: Global, draft: &mut Draft, sent: &Payload) -> Result<(), Fault>
     ensures ok { OnOk result (carets.with_word tables.sides insert_column_step sent.now draft.old ≡ Ok draft.new) }
     ensures err { IfErr result (λ e. TellsStep e (carets.with_word tables.sides insert_column_step sent.now draft.old)) }

@@ -15,7 +15,7 @@ use Rattle.lx_json.proofs.reading.+read.Goals.{read_children-After-deref}
 list : {t : ℕ} (c : read_children-After-deref t) → option_and_then as_array (get (codes "children") (view c.args.object.now)) ≡ Some (items_view c.deref.result.now)
 list c = sym c.in-Some.ensures ∙ ap (λ vs. Some (items_view vs)) (sym c.deref.ensures.value)
 
--- so it tells the trees of that list's items
+-- so it gives the trees of that list's items
 told : {t : ℕ} (c : read_children-After-deref t) → children_told c.args.kind (view c.args.object.now) ≡ trees_of (items_view c.deref.result.now) 0 c.args.kind
 told c = children_told-list _ _ _ c.is_element.ensures c.if-not-is_element.false (list c)
 

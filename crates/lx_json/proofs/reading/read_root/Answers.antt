@@ -10,7 +10,7 @@ use Rattle.lx_json.proofs.Told.{tells_at}
 use Rattle.lx_json.proofs.reading.read_root.Goals as goal
 use Rattle.lx_json.proofs.reading.read_root.Goals.{In-Ok}
 
--- the value tells the root's fields, and then its children
+-- the value gives the root's fields, and then its children
 told : (c : In-Ok) → tree_of (view c.args.value.now) None ≡ with_children (view c.args.value.now) (root_piece c.in-Ok.told.fields)
 told c = root_told _ (sym c.is_object.ensures ∙ c.if-not-is_object.false) c.in-Ok.ensures.ok (c.in-Ok.ensures.kind.top refl)
 

@@ -58,7 +58,7 @@ goes_on c answers = dispatched_first _ _ _ _ _ c.if-left-eq0.false (c.above.ensu
 passed : {t : ℕ} (c : dispatch-After-named t) → IsPassed c.args.left c.args.bus.now c.args.name.now c.args.payload.now c.args.running.now c.offer_all.new.running c.named.result
 passed c = passed_to _ _ _ _ _ _ (goes_on (goal.at.dispatch-After-named _ c).After-offer_all (flagged c.in-Ok-false.ensures.ok c.in-Ok-false.field-0-test)) c.named.ensures c.as_str-2.ensures.text
 
--- nor is there a built-in command of the name, and what those behind it answer is the answer
+-- nor is there a built-in command of the name, and what those after it answer is the answer
 behind_it : {t : ℕ} (c : dispatch-After-offer_all-in-None t)
     → offered (dispatched (c.args.left - 1) c.args.bus.now) c.args.payload.now c.behind.result c.offer_all.new.running ≡ dispatched c.args.left c.args.bus.now c.args.name.now c.args.payload.now c.args.running.now
 behind_it c = dispatched_behind (passed (goal.at.dispatch-After-offer_all-in-None _ c).After-named) c.in-None.is c.behind.ensures.order c.as_str-in-None.ensures.text
