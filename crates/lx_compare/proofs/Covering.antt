@@ -85,7 +85,7 @@ module _ (old new : Forest) (old_order : IsForest old) (new_order : IsForest new
 
 -- ---- the two trees
 
--- marks that grow tell what they told
+-- marks that grow say what they said
 pub told_grown : (old new : Forest) (m n : Marked) → Grows m n → EachIs new (IsUnchanged old new) (IsTold old new m) → EachIs new (IsUnchanged old new) (IsTold old new n)
 told_grown old new m n grows each q there = elim (each q there) [
   | inl same ↦ inl same

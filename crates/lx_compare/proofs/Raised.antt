@@ -135,7 +135,7 @@ affected_there old new _ (itself q differs) = differs.there
 affected_there old new _ (parent_before q p differs up) = in_either old new p (inl (has-parent_of old q p up))
 affected_there old new _ (parent_after q p differs up) = in_either old new p (inr (has-parent_of new q p up))
 
--- what stands above it may be missing yet
+-- what is above it may be missing yet
 pub raised_but : (f : Forest) (k : ℕ) (m n : Marked) → IsRaised f m → Adds k m n → IsRaisedBut f k n
 raised_but f k m n raised adds q p noted other up = elim (noted_once k m n q adds noted) [
   | inl was ↦ adds.noted p ∙ or_left (is_noted m p) (eqb p k) (raised q p was up)

@@ -1,4 +1,4 @@
--- What two nodes that were read tell of the two trees.
+-- What two nodes that were read say of the two trees.
 use Rattle.std.proofs.Common.{◌∙◌, ℕ, Some, sym, ap}
 use Rattle.std.proofs.lemmas.Option.{same_Some}
 use Rattle.lx_node.specs.declared.node.Node.{Node}

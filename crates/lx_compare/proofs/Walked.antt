@@ -19,7 +19,7 @@ abbrev pub left_from : Forest → Option (ℕ × ℕ) → List ℕ
 left_from f None = []
 left_from f (Some at) = from f at.0
 
--- and it stands so deep
+-- and it is so deep
 abbrev pub IsAt : Forest → Option (ℕ × ℕ) → Type 0
 IsAt f None = Unit {0}
 IsAt f (Some at) = depth f at.0 ≡ Some at.1
@@ -47,7 +47,7 @@ walked_none f P Q order only = record {
 walked_all : (f : Forest) (P Q : ℕ → Type 0) (at : Option (ℕ × ℕ)) → IsWalked f P Q at → at ≡ None → EachIs f P Q
 walked_all f P Q at w end q there = w.each q there (ap (λ x. is_among q (left_from f x)) end)
 
--- a node with a depth stands in the tree
+-- a node with a depth is in the tree
 there_at : (f : Forest) (q d : ℕ) → depth f q ≡ Some d → has q f ≡ true
 there_at f q d deep = elim (cases_Bool (has q f)) [
   | inl there ↦ there
@@ -64,7 +64,7 @@ step_at : (o : Option (ℕ × ℕ)) (f : Forest) → IfSome o (λ next. depth f 
 step_at None f h = tt
 step_at (Some at) f h = h
 
--- what is asked of the next one, and what was told of those before still holds
+-- what is asked of the next one, and what was said of those before still holds
 walked_more : (f : Forest) (P Q R : ℕ → Type 0) (at o : Option (ℕ × ℕ)) (q d : ℕ) → IsWalked f P Q at → at ≡ Some (q, d) → P q ⊎ R q → ((x : ℕ) → Q x → R x)
     → IfSome o (λ next. from f q ≡ q ∷ from f next.0) → IfNone o (from f q ≡ q ∷ []) → IfSome o (λ next. depth f next.0 ≡ Some next.1) → IsWalked f P R o
 walked_more f P Q R at o q d w is own keeps next last deep = record { each = each; here = step_at o f deep } where
@@ -81,7 +81,7 @@ walked_more f P Q R at o q d w is own keeps next last deep = record { each = eac
     | inr other ↦ kept x (w.each x stands (left x ∙ grind (arith, other, apart)))
   ]
 
--- what marks tell stays told where they grow
+-- what marks show stays shown where they grow
 pub told_still : (old new : Forest) (m n : Marked) (q : ℕ) → Grows m n → IsTold old new m q → IsTold old new n q
 told_still old new m n q grows told = record {
   itself = grows q told.itself;

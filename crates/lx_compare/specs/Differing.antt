@@ -18,7 +18,7 @@ pub record IsUnchanged (old new : Forest) (key : ℕ) : Type 0 where
   pub previous : previous_of old key ≡ previous_of new key
   pub next : next_of old key ≡ next_of new key
 
--- the same of two nodes that were read
+-- two nodes that were read have the same fields, the same parent and the same neighbours
 pub record IsSameNode (a b : Node) : Type 0 where
   pub fields : a.fields ≡ b.fields
   pub parent : a.parent ≡ b.parent

@@ -5,10 +5,11 @@ use Rattle.lx_forest.specs.Lookups.{has, parent_of}
 use Rattle.lx_marks.specs.Marks.{Marked, is_touched, is_noted}
 use Rattle.lx_compare.specs.Differing.{IsAffected}
 
--- the parent of each noted node is noted, but maybe not that of k
+-- the parent of each noted node is noted, except perhaps that of one node
 abbrev pub IsRaisedBut : Forest → ℕ → Marked → Type 0
 IsRaisedBut f k m = (q p : ℕ) → is_noted m q ≡ true → q ≢ k → parent_of f q ≡ Some p → is_noted m p ≡ true
 
+-- the parent of each noted node is noted
 abbrev pub IsRaised : Forest → Marked → Type 0
 IsRaised f m = (q p : ℕ) → is_noted m q ≡ true → parent_of f q ≡ Some p → is_noted m p ≡ true
 
@@ -19,11 +20,11 @@ pub record AreFounded (old new : Forest) (m : Marked) : Type 0 where
   pub known : (q : ℕ) → is_noted m q ≡ true → (has q old || has q new) ≡ true
   pub affected : (q : ℕ) → is_touched m q ≡ true → IsAffected old new q
 
--- what was touched still is
+-- what was touched before still is after
 abbrev pub Grows : Marked → Marked → Type 0
 Grows before after = (q : ℕ) → is_touched before q ≡ true → is_touched after q ≡ true
 
--- the marks tell of a node that differs: it is touched, and its parent in either tree
+-- the marks show a node that differs: it is touched, and its parent in either tree
 pub record IsTold (old new : Forest) (m : Marked) (q : ℕ) : Type 0 where
   pub itself : is_touched m q ≡ true
   pub before : (p : ℕ) → parent_of old q ≡ Some p → is_touched m p ≡ true

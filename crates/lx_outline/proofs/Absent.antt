@@ -1,4 +1,4 @@
--- What is told of a key that a tree doesn't have.
+-- What is read of a key that a tree doesn't have.
 use Rattle.std.proofs.Common.{◌≡◌, ◌∙◌, ℕ, false, None, ap}
 use Rattle.std.specs.Prelude.{option_map}
 use Rattle.lx_node.specs.Spots.{Spot, parent_at}

@@ -111,7 +111,7 @@ module _ (worth : Label → Forest → ℕ) where
   head_worth nil = 0
   head_worth (tree l below rest) = worth l below
 
-  -- what a node that stands once is worth, by its tree
+  -- what a node that is there once is worth, by its tree
   pub worth_alone : (f : Forest) (q : ℕ) → count q f < 2 → worth_at worth q f ≡ head_worth (alone q f)
   worth_alone nil q once = refl
   worth_alone (tree l below rest) q once = elim (eqb_tells l.key q) [

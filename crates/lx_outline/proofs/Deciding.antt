@@ -1,4 +1,4 @@
--- Whether a node is the same in two trees can be told.
+-- Whether a node is the same in two trees can be decided.
 use Rattle.std.proofs.Common.{◌≡◌, ◌∙◌, ◌⊎◌, ℕ, Bool, true, false, cond, eqb, ◌&&◌, Decides, inl, inr, refl, sym, ap}
 use Rattle.std.proofs.lemmas.Bool.Decides.{Decides-eqb, Decides-and, Decides-like}
 use Rattle.lx_node.specs.Same.{same_fields}

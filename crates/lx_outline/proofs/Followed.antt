@@ -1,4 +1,4 @@
--- What the events between two trees tell of each key.
+-- What the events between two trees say of each key.
 use Rattle.std.proofs.Common.{◌≡◌, ◌∙◌, ◌⊎◌, ℕ, ◌<◌, Bool, true, false, ◌||◌, ◌&&◌, ltb, eqb, List, [], ◌∷◌, ◌++◌, inl, inr, refl, sym, ap, arith}
 use Rattle.std.specs.Prelude.{map}
 use Rattle.std.proofs.lemmas.Bool.{cases_Bool}
@@ -74,7 +74,7 @@ about_destroyed : (ks : List ℕ) (q : ℕ) → is_changed (map (λ q. Destroyed
 about_destroyed [] q = refl
 about_destroyed (k ∷ ks) q = about_destroyed ks q
 
--- ---- what they tell
+-- ---- what they say
 
 pub record AreFollowed (old new : Forest) (events : List Event) : Type 0 where
   pub once : NoRepeats (map key_in events)

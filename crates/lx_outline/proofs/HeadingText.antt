@@ -70,7 +70,7 @@ silent level (fields.Text t) fits = absurd (let h : false ≡ true = right_of _ 
 silent level (fields.Embed s) fits = refl
 silent level fields.Bare fits = refl
 
--- ---- what stands where
+-- ---- what is where
 
 pub record IsThere (f : Forest) (q : ℕ) : Type 0 where
   pub at : Spot Label

@@ -1,4 +1,4 @@
--- A walk through the tree that tells its headings.
+-- A walk through the tree that lists its headings.
 use Rattle.std.proofs.Common.{◌≡◌, ◌∙◌, ℕ, true, false, List, [], ◌++◌, Option, Some, sym, ap, arith}
 use Rattle.std.proofs.lemmas.Bool.Decides.{nat_tests}
 use Rattle.lx_node.specs.NamedTrees as named
@@ -22,7 +22,7 @@ pub none_left : (f : Forest) (root : ℕ) → root ≡ 0 → has root f ≡ fals
 none_left f root is out =
     sym (ap (named.preorder key_of) (alone-absent key_of 0 f (let none : has 0 f ≡ false = sym (ap (λ k. has k f) is) ∙ out in grind (arith, nat_tests, none))))
 
--- what was told, with what is left from there on, is all
+-- what was listed, with what is left from there on, is all
 pub record IsListed (f : Forest) (entries : List Entry) (at : Option (ℕ × ℕ)) : Type 0 where
   pub listed : entries ++ entries_among f (left_from f at) ≡ entries_among f (preorder f)
   pub here : IsAt f at

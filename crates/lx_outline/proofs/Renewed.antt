@@ -21,7 +21,7 @@ use Rattle.lx_outline.proofs.Absent.{no_heading}
 use Rattle.lx_outline.proofs.SameBelow.{heading_kept}
 
 module _ (old new : Forest) (events : List Event) (before : Sound old) (after : Sound new) (told : AreFollowed old new events) where
-  -- a heading of which no event tells, and of nothing below it, is as it was
+  -- a heading is as it was where no event is about it, or about anything below it
   heading_stays : (q : ℕ) → is_named_in events q ≡ false → is_over_one new events q ≡ false → heading_at old q ≡ heading_at new q
   heading_stays q apart over = elim (cases_Bool (has q new)) [
     | inr out ↦ no_heading old q (told.gone q apart out) ∙ sym (no_heading new q out)
@@ -56,7 +56,7 @@ module _ (old new : Forest) (events : List Event) (before : Sound old) (after : 
           | inl named ↦ ap (λ b. cond b None (lookup (nat_eq q) was)) named ∙ sym (no_own q named none)
         ]
   ] where
-    -- of a node of which an event tells, and which isn't over itself, nothing is a heading
+    -- of a node that an event is about, and which isn't over itself, nothing is a heading
     no_own : (q : ℕ) → is_named_in events q ≡ true → is_over_one new events q ≡ false → heading_at new q ≡ None
     no_own q named none = elim (cases_Bool (has q new)) [
       | inr out ↦ no_heading new q out

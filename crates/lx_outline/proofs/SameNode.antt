@@ -1,4 +1,4 @@
--- What two nodes that were read tell of the two trees.
+-- What two nodes that were read say of the two trees.
 use Rattle.std.proofs.Common.{◌≡◌, ◌∙◌, ℕ, Bool, true, false, not, Some, inl, inr, sym, ap}
 use Rattle.std.specs.Prelude.{IsTrue, ◌↔◌}
 use Rattle.std.proofs.lemmas.Bool.{cases_Bool}

@@ -20,7 +20,7 @@ use Rattle.lx_outline.specs.declared.keys.Change.TheVariants as change
 use Rattle.lx_outline.specs.Events.{IsDestroyed, IsCreated, IsUpdated, ascends, event_of, AreAll, AreEvents}
 use Rattle.lx_outline.specs.Parts.{IsPart, AreGone, HasLeft}
 
--- ---- which keys the marks tell
+-- ---- which keys the marks show
 
 true_is_some : (o : Option Bool) → is_true_flag o ≡ true → is_some o ≡ true
 true_is_some None e = absurd (cc)

@@ -68,7 +68,7 @@ module _ (old new : Forest) (events : List Event) (before : Sound old) (after : 
     | inr is ↦ omega (arith, below_top new k (grind (arith, nat_tests, is)))
   ]
 
-  -- of each tree those that events tell of weigh no more than all
+  -- of each tree the nodes that events are about weigh no more than all
   pub old_part : (of : Label → ℕ) → weight_among of old events ≤ weight of old
   unfolding top
   old_part of = omega (arith, among_keys of old events, with_others (own_weight of old) (map key_in events) top told.once within, weight_by_keys of old top before (omega arith))

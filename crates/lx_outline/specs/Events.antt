@@ -9,24 +9,26 @@ use Rattle.lx_outline.specs.declared.keys.Change.{Change}
 use Rattle.lx_outline.specs.declared.keys.Change.TheVariants as change
 
 -- The node is the same in both trees, beside what is below its children. Its kind is part of that, since the level of a
--- heading and the type of a list stand there.
+-- heading and the type of a list are there.
 pub record IsSame (old new : Forest) (q : ℕ) : Type 0 where
   pub kind : kind_of old q ≡ kind_of new q
   pub fields : fields_of old q ≡ fields_of new q
   pub parent : parent_of old q ≡ parent_of new q
   pub children : children_of old q ≡ children_of new q
 
--- it is in the first alone, in the second alone, and in both with other fields, another parent or another list of children
+-- the node is in the first tree alone
 abbrev pub IsDestroyed : Forest → Forest → ℕ → Type 0
 IsDestroyed old new q = (has q old ≡ true) × (has q new ≡ false)
 
+-- the node is in the second tree alone
 abbrev pub IsCreated : Forest → Forest → ℕ → Type 0
 IsCreated old new q = (has q old ≡ false) × (has q new ≡ true)
 
+-- the node is in both, with other fields, another parent or another list of children
 abbrev pub IsUpdated : Forest → Forest → ℕ → Type 0
 IsUpdated old new q = (has q old ≡ true) × (has q new ≡ true) × (IsSame old new q → ⊥)
 
--- each key is greater than the one before it
+-- whether each key is greater than the one before it
 abbrev pub ascends : List ℕ → Bool
 ascends [] = true
 ascends (k ∷ keys) = rises_from k keys

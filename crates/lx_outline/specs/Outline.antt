@@ -20,11 +20,12 @@ abbrev pub own_text : Fields → List ℕ
 own_text (fields.Text text) = text.text
 own_text other = []
 
--- what it puts into the text of a heading: its text, or a line end for a line break
+-- what a node puts into the text of a heading: its text, or a line end for a line break
 abbrev pub piece_of : Kind → Fields → List ℕ
 piece_of kind.Break own = 10 ∷ []
 piece_of k own = own_text own
 
+-- the level of a heading's kind
 abbrev pub level_of : Kind → Option ℕ
 level_of (kind.Heading level) = Some level
 level_of other = None
@@ -36,6 +37,7 @@ abbrev pub text_of : Forest → List ℕ
 text_of nil = []
 text_of (tree l below rest) = piece_of l.kind l.fields ++ text_of below ++ text_of rest
 
+-- a heading of this text and level
 abbrev pub heading_with : List ℕ → ℕ → Heading
 heading_with text level = record { level = level; text = text }
 
@@ -44,17 +46,20 @@ abbrev pub heading_by : Option Kind → List ℕ → Option Heading
 heading_by None text = None
 heading_by (Some k) text = option_map (heading_with text) (level_of k)
 
+-- the heading of a key, whose text is that of its tree
 abbrev pub heading_at : Forest → ℕ → Option Heading
 heading_at f q = heading_by (kind_of f q) (text_of (alone q f))
 
--- the headings among keys, in their order, as they are told
+-- a heading with its key, as the outline gives it
 abbrev pub entry_of : ℕ → Heading → Entry
 entry_of q h = record { key = q; level = h.level; text = h.text }
 
+-- entries with one in front, if there is one
 abbrev pub with_entry : Option Entry → List Entry → List Entry
 with_entry None entries = entries
 with_entry (Some entry) entries = entry ∷ entries
 
+-- the headings among keys, in their order
 abbrev pub entries_among : Forest → List ℕ → List Entry
 entries_among f [] = []
 entries_among f (q ∷ qs) = with_entry (option_map (entry_of q) (heading_at f q)) (entries_among f qs)
@@ -76,7 +81,7 @@ pub record OutlineView : Type 0 where
 abbrev pub new_outline : OutlineView
 new_outline = record { nodes = 1; characters = 0; headings = [] }
 
--- It is the outline of this tree.
+-- An outline is that of this tree.
 pub record IsOutlineOf (o : OutlineView) (f : Forest) : Type 0 where
   pub nodes : o.nodes ≡ total f
   pub characters : o.characters ≡ weight characters_in f

@@ -6,7 +6,7 @@ use Rattle.lx_forest.specs.Forest.{Forest}
 use Rattle.lx_forest.specs.Lookups.{has, parent_of}
 use Rattle.lx_outline.specs.Events.{IsDestroyed}
 
--- what two nodes that were read have in common, beside their children
+-- two nodes that were read have the same kind, fields and parent
 pub record IsSameNode (old new : Node) : Type 0 where
   pub kind : old.kind ≡ new.kind
   pub fields : old.fields ≡ new.fields
@@ -22,7 +22,7 @@ pub record AreGone (old new : Forest) (keys : List ℕ) : Type 0 where
   pub each : (q : ℕ) → is_among q keys ≡ true → IsDestroyed old new q
   pub closed : (q p : ℕ) → parent_of old q ≡ Some p → has q new ≡ false → is_among p keys ≡ true → is_among q keys ≡ true
 
--- the node is gone, and the one below which it stood is there
+-- the node is gone, and its former parent is still there
 pub record HasLeft (old new : Forest) (q : ℕ) : Type 0 where
   pub parent : ℕ
   pub parent_is : parent_of old q ≡ Some parent

@@ -15,7 +15,7 @@ use Rattle.lx_outline.specs.Outline.{piece_of, level_of}
 
 -- ---- events
 
--- the key of which an event tells
+-- the key that an event is about
 abbrev pub key_in : Event → ℕ
 key_in (Destroyed k) = k
 key_in (Created k) = k
@@ -25,23 +25,26 @@ key_in (Updated k) = k
 abbrev pub is_named_in : List Event → ℕ → Bool
 is_named_in events q = list_any (λ e. key_in e == q) events
 
--- what the nodes that events tell of weigh in a tree
+-- what the nodes that events are about weigh in a tree
 abbrev pub weight_among : (Label → ℕ) → Forest → List Event → ℕ
 weight_among of f events = sum_by (λ e. own_weight of f (key_in e)) events
 
+-- a weight of 1 for each node
 abbrev pub one_in : Label → ℕ
 one_in l = 1
 
 -- ---- the text of a heading, as it is read
 
+-- what a node puts into a heading's text, if it is there
 abbrev pub label_piece : Option Label → List ℕ
 label_piece None = []
 label_piece (Some l) = piece_of l.kind l.fields
 
+-- what the node of a key puts into a heading's text
 abbrev pub piece_at : Forest → ℕ → List ℕ
 piece_at f k = label_piece (label_of f k)
 
--- what each of these gives, one behind another
+-- what each of these gives, one after another
 abbrev pub gathered : (ℕ → List ℕ) → List ℕ → List ℕ
 gathered piece [] = []
 gathered piece (k ∷ ks) = piece k ++ gathered piece ks
@@ -50,23 +53,27 @@ gathered piece (k ∷ ks) = piece k ++ gathered piece ks
 abbrev pub with_below : Forest → ℕ → List ℕ
 with_below f k = piece_at f k ++ gathered (piece_at f) (children_of f k)
 
--- how many reads that takes, and how many a heading takes
+-- how many reads a node's piece and those of its children take
 abbrev pub reads_of : Forest → ℕ → ℕ
 reads_of f k = 1 + length (children_of f k)
 
+-- how many reads a heading takes
 abbrev pub heading_reads : Forest → ℕ → ℕ
 heading_reads f k = 1 + sum_by (reads_of f) (children_of f k)
 
 -- ---- the heading that has a node at or below it
 
+-- the key, where its kind is a heading's
 abbrev pub if_heading : ℕ → Option Kind → Option ℕ
 if_heading q (Some (kind.Heading level)) = Some q
 if_heading q other = None
 
+-- the heading in which a link is, if it is in one
 abbrev pub over_link : Forest → Option ℕ → Option ℕ
 over_link f None = None
 over_link f (Some q) = if_heading q (kind_of f q)
 
+-- the heading that a parent of this kind is, or that the parent is in where it is a link
 abbrev pub holder_by : Forest → ℕ → Option Kind → Option ℕ
 holder_by f p (Some kind.Link) = over_link f (parent_of f p)
 holder_by f p k = if_heading p k
@@ -76,24 +83,27 @@ abbrev pub heading_over : Forest → Option ℕ → Option ℕ
 heading_over f None = None
 heading_over f (Some p) = holder_by f p (kind_of f p)
 
+-- the key where its kind is a heading's, or else the heading over it
 abbrev pub heading_by : Forest → ℕ → Option Kind → Option ℕ
 heading_by f q (Some (kind.Heading level)) = Some q
 heading_by f q k = heading_over f (parent_of f q)
 
+-- the heading that has a node at or below it, if there is one
 abbrev pub heading_of : Forest → ℕ → Option ℕ
 heading_of f q = heading_by f q (kind_of f q)
 
--- whether it has one of the nodes that events tell of at or below it
+-- whether a heading has one of the nodes that events are about at or below it
 abbrev pub is_over_one : Forest → List Event → ℕ → Bool
 is_over_one f events q = list_any (λ e. is_named (heading_of f (key_in e)) q) events
 
 -- ---- a walk through a tree
 
--- the keys from this one on, if there is one, which stands so deep
+-- the keys from this one on in preorder, if there is one, which is so deep
 abbrev pub left_from : Forest → Option (ℕ × ℕ) → List ℕ
 left_from f None = []
 left_from f (Some at) = from f at.0
 
+-- the key is so deep in the tree, if there is one
 abbrev pub IsAt : Forest → Option (ℕ × ℕ) → Type 0
 IsAt f None = Unit {0}
 IsAt f (Some at) = depth f at.0 ≡ Some at.1
@@ -106,6 +116,7 @@ is_about q (Destroyed k) = false
 is_about q (Created k) = k == q
 is_about q (Updated k) = k == q
 
+-- whether one of the events says of a node that it was created or updated
 abbrev pub is_changed : List Event → ℕ → Bool
 is_changed events q = list_any (is_about q) events
 
@@ -121,6 +132,6 @@ headings_size test (tree l below rest) =
     (if is_some (level_of l.kind) && (test l.key || has_one test below) then 1 + total below else 0)
     + headings_size test below + headings_size test rest
 
--- the most reads by which it follows these events to this tree
+-- the most reads by which an outline follows these events to this tree
 abbrev pub most_reads : List Event → Forest → ℕ
 most_reads events new = 64 * (length events + headings_size (is_changed events) new + 1)

@@ -8,7 +8,7 @@ ghost use Rattle.lx_outline.specs.Reading as reading;
 use lx_links::Records;
 use lx_node::{Key, Kind, Node};
 
-/// The heading right above a node, or above the link in which it stands. A heading holds inline nodes, and a link no other
+/// The heading right above a node, or above the link in which it is. A heading holds inline nodes, and a link no other
 /// link, so there is none further up.
 fn heading_above<'a, R: Records<'a>>(records: &mut R, node: &Node) -> Option<Key>
     ensures heading { result ≡ reading.heading_over (R.forest records.old) node.now.parent }

@@ -15,7 +15,7 @@ use lx_links::Records;
 use lx_node::{Key, NoMemory};
 use std::alloc::Global;
 
-/// Reads the root of a tree, and so tells that the tree is in order.
+/// Reads the root of a tree, and so shows that the tree is in order.
 pub(crate) fn look<'a, R: Records<'a>>(records: &mut R)
     ensures sound { Sound (R.forest records.old) }
     ensures same { R.forest records.new ≡ R.forest records.old }
@@ -24,7 +24,7 @@ pub(crate) fn look<'a, R: Records<'a>>(records: &mut R)
     let _root = records.read(Key::root());
 }
 
-/// The headings of a tree that have one of the nodes at or below them of which events tell.
+/// The headings of a tree that have one of the nodes at or below them that events are about.
 pub(crate) fn touched_by<'a, R: Records<'a>>(
     alloc: Global,
     events: &[Event],
@@ -42,7 +42,7 @@ pub(crate) fn touched_by<'a, R: Records<'a>>(
     Ok(keys)
 }
 
-/// Takes out the headings of which events tell.
+/// Takes out the headings that events are about.
 pub(crate) fn forget(headings: &mut Headings, events: &[Event])
     ensures { (q : ℕ) → lookup (nat_eq q) headings.new ≡ (if is_named_in events.now q then None else lookup (nat_eq q) headings.old) }
 {

@@ -11,7 +11,8 @@ use lx_node::{Key, NoMemory, Txt};
 use std::alloc::Global;
 use std::marker::Model;
 
-/// A text as far as it was read, as the list of its scalar values. After want of memory it is only fit to be dropped.
+/// A text as far as it was read, as the list of its scalar values. Once memory has run out it is only fit to be
+/// dropped.
 #[derive(Drop)]
 pub(crate) struct Gathered {
     text: String,

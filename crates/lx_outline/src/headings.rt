@@ -20,7 +20,7 @@ pub struct Heading {
     pub text: Txt,
 }
 
-/// A heading with its key, as an outline tells it.
+/// A heading with its key, as an outline gives it.
 #[derive(Debug, Drop)]
 pub struct Entry {
     pub key: Key,

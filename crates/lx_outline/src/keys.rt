@@ -29,7 +29,7 @@ impl Change {
     }
 }
 
-/// Keys, each once. They are told in ascending order.
+/// Keys, each once. They are listed in ascending order.
 #[derive(Drop)]
 pub(crate) struct Keys {
     held: BTreeSet<u32>,

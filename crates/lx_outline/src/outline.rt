@@ -73,7 +73,7 @@ impl Outline {
 
     /// Follows a commit by its events, of whose two trees this is the outline of the first: it is then that of the second.
     /// It reads the root, the nodes of the events, two nodes above each at most, and the headings that have one of them at or
-    /// below, each with its children and theirs. After want of memory it is only fit to be dropped.
+    /// below, each with its children and theirs. Once memory has run out it is only fit to be dropped.
     pub fn apply<'a, R: Records<'a>>(
         &mut self,
         events: &[Event],
@@ -104,7 +104,7 @@ impl Outline {
         Ok(())
     }
 
-    /// Adds the heading of a key as it is told, where it is one.
+    /// Adds the heading of a key as an entry, where it is one.
     fn add_entry(&self, key: Key, entries: &mut Vec<Entry>) -> Result<(), NoMemory>
         ensures { OnOk result (entries.new.items ≡ entries.old.items ++ with_entry (option_map (entry_of key) (lookup (nat_eq key) self.now.headings)) []) }
     {
@@ -120,7 +120,7 @@ impl Outline {
         Ok(())
     }
 
-    /// The headings in document order, which the state tells, whose outline this is.
+    /// The headings in document order, which is that of the state whose outline this is.
     pub fn entries(&self, state: &State) -> Result<Vec<Entry>, NoMemory>
         requires { IsOutlineOf self.now state.now.links }
         ensures { IfOk result (λ entries. entries.items ≡ entries_among state.now.links (preorder state.now.links)) }

@@ -1,4 +1,4 @@
-//! How many nodes and characters the nodes have of which events tell.
+//! How many nodes and characters the nodes have that events are about.
 
 ghost use Rattle.std.specs.Prelude.{◌≡◌, ◌+◌, ◌<◌, ◌≤◌, ◌^◌, length};
 ghost use Rattle.lx_node.specs.Limits.{most_nodes, most_characters};

@@ -1,4 +1,4 @@
--- Which operations a commit may tell: those that turn the view of the old tree into the view of the new one, keep the
+-- Which operations a commit may have: those that turn the view of the old tree into the view of the new one, keep the
 -- hosts of kept nodes, and touch no other hosts than those of marked nodes, and of children of those that stay.
 use Rattle.std.specs.Prelude.{◌≡◌, ◌≢◌, ◌↔◌, ℕ, ◌+◌, ◌*◌, ◌==◌, ◌&&◌, ◌++◌, if◌then◌else◌, Bool, true, false, List, [], ◌∷◌, length, filter, Option, None, Some}
 use Rattle.std.specs.List.{AllByRecursion}
@@ -25,7 +25,7 @@ Shows view forest = shape_of view.hosts ≡ render forest
 
 -- ---- kept nodes
 
--- where the node of that key stands in trees below this parent: below which parent, and as which tag
+-- where the node of that key is in trees below this parent: below which parent, and as which tag
 abbrev pub places_of : ℕ → Option ℕ → Forest → List (Option ℕ × Tag)
 places_of key parent nil = []
 places_of key parent (tree label below rest) =
@@ -110,7 +110,7 @@ pub data MayChange (old new : Forest) (touched : ℕ → Bool) (before : HostTre
 abbrev pub common : List ℕ → List ℕ → List ℕ
 common xs ys = filter (λ k. is_among k ys) xs
 
--- the children that an element has in both trees stand in one order in both
+-- the children that an element has in both trees are in one order in both
 abbrev pub KeepsOrder : Forest → Forest → ℕ → Type 0
 KeepsOrder old new key = common (children_of old key) (children_of new key) ≡ common (children_of new key) (children_of old key)
 
@@ -121,19 +121,19 @@ MayPlace old new before (Place parent child at) =
     (key up : ℕ) → IsKept old new key → parent_of new key ≡ Some up → KeepsOrder old new up → is_among child (hosts_of key before.hosts) ≡ false
 MayPlace old new before _ = Unit {0}
 
--- What it drops is one of the view's hosts, and so none that these operations create.
+-- What an operation drops is one of the view's hosts, and so none that these operations create.
 abbrev pub MayDrop : HostTree → Op → Type 0
 MayDrop before (Drop id) = hosts.has id before.hosts ≡ true
 MayDrop before _ = Unit {0}
 
--- What it writes doesn't stand there.
+-- What an operation writes isn't there already.
 abbrev pub WritesAnew : HostTree → Op → Type 0
 WritesAnew w (Text id text) = effect (Text id text) w ≢ w
 WritesAnew w (Attr id name value) = effect (Attr id name value) w ≢ w
 WritesAnew w (Break id ending) = effect (Break id ending) w ≢ w
 WritesAnew w _ = Unit {0}
 
--- each of the operations, in its turn
+-- each of the operations writes something new in its turn
 abbrev pub AllWriteAnew : HostTree → List Op → Type 0
 AllWriteAnew w [] = Unit {0}
 AllWriteAnew w (op ∷ ops) = WritesAnew w op × AllWriteAnew (effect op w) ops
@@ -147,7 +147,7 @@ pub record IsDue (old new : Forest) (touched : ℕ → Bool) (before : HostTree)
 -- The operations are allowed between two trees, from a host tree that shows the old one: each fits in turn, what they
 -- lead to shows the new one, and each kept node is shown by the host that showed it before. Each is about a host that is new
 -- or that showed a touched node or a child of one that stays; none places a kept child where the kept children keep their
--- order, none drops a new host, and none writes what stands there.
+-- order, none drops a new host, and none writes what is there.
 pub record AreAllowed (old new : Forest) (touched : ℕ → Bool) (before : HostTree) (ops : List Op) (after : HostTree) : Type 0 where
   pub leads : Leads before ops after
   pub shows : Shows after new
@@ -157,6 +157,7 @@ pub record AreAllowed (old new : Forest) (touched : ℕ → Bool) (before : Host
 
 -- ---- how many nodes aren't kept
 
+-- the number of an outer element, 0 where there is none
 abbrev pub outer_number : Option Outer → ℕ
 outer_number None = 0
 outer_number (Some Code) = 1
@@ -164,6 +165,7 @@ outer_number (Some Mark) = 2
 outer_number (Some Sub) = 3
 outer_number (Some Sup) = 4
 
+-- the number of an inner element
 abbrev pub inner_number : Inner → ℕ
 inner_number Strong = 0
 inner_number Em = 1
@@ -192,18 +194,19 @@ tag_number Br = 17
 tag_number Hr = 18
 tag_number (Inline outer inner) = 19 + 3 * outer_number outer + inner_number inner
 
+-- whether two parents are one, or both are missing
 abbrev pub is_parent : Option ℕ → Option ℕ → Bool
 is_parent None None = true
 is_parent (Some p) (Some q) = p == q
 is_parent _ _ = false
 
--- whether these places are that one alone
+-- whether a place is the only one of a list
 abbrev pub is_only : Option ℕ → Tag → List (Option ℕ × Tag) → Bool
 is_only parent tag [] = false
 is_only parent tag (place ∷ []) = is_parent place.0 parent && (tag_number place.1 == tag_number tag)
 is_only parent tag (place ∷ more ∷ rest) = false
 
--- how many nodes of these trees, which stand below a kept node, aren't kept: none below one that isn't is
+-- how many nodes of these trees, which are below a kept node, aren't kept: none below one that isn't is
 abbrev pub unkept : Forest → Option ℕ → Forest → ℕ
 unkept old parent nil = 0
 unkept old parent (tree label below rest) =

@@ -27,7 +27,7 @@ found_none kids first last at keys place here none = record {
   list = ap (λ ks. ks ++ between_names at last kids) none ∙ ap (λ o. between_names o last kids) here;
 }
 
--- the next one and those behind it
+-- the next one and those after it
 between-step : (kids : List ℕ) (child : ℕ) (last next : Option ℕ) → NoRepeats kids → is_among child kids ≡ true → next ≡ cond (is_named last child) None (next_in kids child)
     → between_names (Some child) last kids ≡ child ∷ between_names next last kids
 between-step kids child None next once among is = from_name-step kids child once among ∙ ap (λ o. child ∷ from_name o kids) (sym is)
@@ -59,7 +59,7 @@ pub found_all : (kids : List ℕ) (first last at : Option ℕ) (keys : List ℕ)
 found_all kids first last at keys none f =
     sym (append-nil keys) ∙ sym (ap (λ ks. keys ++ ks) (ap (λ o. between_names o last kids) none ∙ between-none last kids)) ∙ f.list
 
--- fewer are left behind the next one
+-- fewer are left after the next one
 pub found_fewer : (kids : List ℕ) (last at next : Option ℕ) (child : ℕ) → NoRepeats kids → at ≡ Some child → is_place at kids ≡ true → next ≡ cond (is_named last child) None (next_in kids child)
     → length (from_name next kids) < length (from_name at kids)
 found_fewer kids last at next child once here place is =

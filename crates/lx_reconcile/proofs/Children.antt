@@ -39,7 +39,7 @@ label_from key n = record { key = key; kind = n.kind; fields = n.fields }
 label_same : (l : Label) (key : ℕ) (kind : Kind) (fields : Fields) → l.key ≡ key → kind ≡ l.kind → fields ≡ l.fields → l ≡ record { key = key; kind = kind; fields = fields }
 label_same l key kind fields e f g = rw (← e, f, g) refl
 
--- what a read tells of a node
+-- what a read says of a node
 pub record IsRead (f : Forest) (key : ℕ) (n : Node) : Type 0 where
   pub ordered : IsForest f
   pub at : Spot Label
@@ -76,7 +76,7 @@ tree_read f key n r =
     ∙ ap (λ l. tree l (trees_of f r.at.children) nil) r.label
     ∙ sym (ap (λ o. tree (label_from key n) (trees_of f (children_at o)) nil) r.at_is)
 
--- ---- the tree of a key that stands
+-- ---- the tree of a key that is there
 
 pub record StandsThere (f : Forest) (k : ℕ) : Type 0 where
   pub label : Label
@@ -135,7 +135,7 @@ last_among xs q e = elim (last_from_among None xs q e) [
   | inr among ↦ among
 ]
 
--- the last child of a node that was read stands
+-- the last child of a node that was read is there
 pub last_there : (f : Forest) (key : ℕ) (n : Node) → Sound f → Some n ≡ option_map node_of (record_at f key) → (k : ℕ) → n.last ≡ Some k → has k f ≡ true
 last_there f key n s e k is =
     let r = is_read f key n s e in
@@ -156,7 +156,7 @@ total_read f key n r = ap total (tree_read f key n r) ∙ omega arith
 pub sound_still : (f g : Forest) → g ≡ f → Sound f → Sound g
 sound_still f g same s = subst Sound (sym same) s
 
--- a key that stands is found
+-- a key that is there is found
 pub is_found : (f : Forest) (key : ℕ) → has key f ≡ true → None ≡ option_map node_of (record_at f key) → ⊥
 is_found f key there none = grind (arith, there, none, is_some-spot f key)
 
@@ -177,7 +177,7 @@ made_tree f g key id n old mid new same s read first then =
     ∙ sym (ap (λ last. old ++ create_op id (label_from key n) last ∷ creations id (id + 1) below) (last_kind_read f key n s r))
     ∙ sym (ap (λ t. old ++ creation_of id t) (tree_read f key n r))
 
--- what the call for its children wants
+-- what the call for its children needs
 pub record ChildrenFit (f g : Forest) (key id : ℕ) (n : Node) : Type 0 where
   pub sound : Sound g
   pub first : n.first ≡ first_child g key
@@ -205,7 +205,7 @@ next_same (Err x) a b e h = tt
 -- ---- the children one after another
 
 -- The operations for some of the children are made, and `at` is the first of those that are left: with the operations for
--- these behind them they are those for all.
+-- these after them they are those for all.
 pub record IsMadeUpTo (f : Forest) (key host : ℕ) (start : List Op) (at : Option ℕ) (id : ℕ) (ops : List Op) : Type 0 where
   pub place : is_place at (children_of f key) ≡ true
   pub made : ops ++ creations host id (trees_of f (from_name at (children_of f key))) ≡ start ++ creations host (host + 1) (trees_of f (children_of f key))
@@ -301,7 +301,7 @@ made_child f g key host start child id at next next_id ops new same s here m nex
       next = omega (arith, m.next, id_after, ap (λ ks. total (trees_of f ks)) then, ap (λ ks. total (trees_of f ks)) left, total-joined (alone child f) (trees_of f rest));
     }
 
--- what the call for a child wants
+-- what the call for a child needs
 pub record ChildFits (f g : Forest) (key child id : ℕ) (at : Option ℕ) : Type 0 where
   pub sound : Sound g
   pub there : has child g ≡ true
@@ -332,7 +332,7 @@ fewer_left f g key child at next same s here place next_is =
     let c = child_left f key child s (sym (ap (λ o. is_place o kids) here) ∙ place) in
     omega (arith, ap length (ap (λ o. from_name o kids) (next_is ∙ ap (λ f. next_of f child) same ∙ c.next)), ap length (ap (λ o. from_name o kids) here ∙ c.left))
 
--- how much is left, before a child and behind it
+-- how much is left, before a child and after it
 pub left_with : (f g : Forest) (key child : ℕ) (at next : Option ℕ) → g ≡ f → Sound f → at ≡ Some child → is_place at (children_of f key) ≡ true → next ≡ next_of g child
     → total (trees_of f (from_name at (children_of f key))) ≡ total (alone child g) + total (trees_of f (from_name next (children_of f key)))
 left_with f g key child at next same s here place next_is =

@@ -30,7 +30,7 @@ use Rattle.lx_reconcile.proofs.UnkeptNodes.{same_tag, same_parent, unkept-joined
 
 -- ---- a node as it was
 
--- what a read tells of the place of a node
+-- what a read says of the place of a node
 record IsSeen (f : Forest) (key : ℕ) (n : Node) : Type 0 where
   at : Spot Label
   at_is : spot f key ≡ Some at
@@ -51,7 +51,7 @@ unseen f key e = from_spot (spot f key) e where
   from_spot None e = refl
   from_spot (Some x) e = absurd (cc)
 
--- where a node stands in the root's tree
+-- where a node is in the root's tree
 module _ (f : Forest) (parent : Option ℕ) (q : ℕ) (s : Sound f) (above : IsInTree f parent q) where
   order : IsForest f
   order = by_parent parent above where
@@ -208,7 +208,7 @@ pub counted_all : (kept : Bool) (old f : Forest) (key : ℕ) (at : Option ℕ) (
 counted_all kept old f key at counted none m =
     omega (arith, m.sum, ap (λ o. unkept_in kept old (Some key) (trees_of f (from_name o (children_of f key)))) none, nothing_in kept old (Some key))
 
--- the next child stands, with a smaller tree
+-- the next child is there, with a smaller tree
 pub record IsChildNext (f f_now : Forest) (key child : ℕ) : Type 0 where
   pub there : has child f_now ≡ true
   pub smaller : total (alone child f_now) < total (alone key f)

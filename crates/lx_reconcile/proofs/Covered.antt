@@ -22,7 +22,7 @@ touched_noted m q e = by_flag (is_among q m.leaves) (flag_in m.elements q) e whe
   by_flag false None e = absurd (cc)
   by_flag false (Some flag) e = refl
 
--- the neighbours that a record tells
+-- the neighbours that a record gives
 previous_told : Option Record → Option ℕ
 previous_told None = None
 previous_told (Some r) = r.prev

@@ -74,13 +74,13 @@ put_below-nil p (tree h below rest) =
       same true t = refl
       same false t = refl
 
--- what is put behind a host's children, and more behind that
+-- what is put after a host's children, and more after that
 pub put_below-twice : (p : ℕ) (new more t : Trees Host) → put_below p None more (put_below p None new t) ≡ put_below p None (joined new more) t
 put_below-twice p new more nil = refl
 put_below-twice p new more (tree h below rest) =
     grind (arith, put_below-twice p new more below, put_below-twice p new more rest, inserted-None new below, inserted-None more (joined below new), inserted-None (joined new more) below, joined-assoc below new more)
 
--- what new hosts need: the ids from the next one on are free, there are so many, and the parent stands once
+-- what new hosts need: the ids from the next one on are free, there are so many, and the parent is there once
 pub record IsReadyFor (parent more : ℕ) (hosts : Trees Host) (next : ℕ) : Type 0 where
   pub free : (q : ℕ) → next < q + 1 → count q hosts ≡ 0
   pub once : count parent hosts ≡ 1
@@ -180,7 +180,7 @@ ready_below parent next hosts label below rest ready =
       room = omega (arith, ready.room);
     }
 
--- behind a host that was just placed
+-- after a host that was just placed
 ready_behind : (parent next : ℕ) (hosts : Trees Host) (label : Label) (below rest : Forest) → IsReadyFor parent (total (tree label below rest)) hosts next
     → IsReadyFor parent (total rest) (put_below parent None (host_over next (face_of label (last_kind below)) (numbered (next + 1) (render below))) hosts) (next + 1 + total below)
 ready_behind parent next hosts label below rest ready =
@@ -279,7 +279,7 @@ module _ (w : HostTree) (w_is : IsNumbered w) (parent : ℕ) (there : 0 < count 
         below = λ q h. omega (arith, counted q, w_is.below q (omega (arith, h)), count-numbered_behind q w.next (render f) (omega (arith, h, total-render f)));
       }
 
--- One tree, behind all others: its host isn't placed.
+-- One tree, after all others: its host isn't placed.
 module _ (w : HostTree) (w_is : IsNumbered w) (label : Label) (below : Forest) where
   abbrev pub with_created : HostTree
   with_created = host_tree (joined w.hosts (numbered w.next (render (tree label below nil)))) (w.next + total (tree label below nil))

@@ -16,7 +16,7 @@ pub each_append : (P : Op → Type 0) (a b : List Op) → AllByRecursion P a →
 each_append P [] b first then = then
 each_append P (op ∷ a) b first then = (first.0, each_append P a b first.1 then)
 
--- ---- operations that write what doesn't stand there
+-- ---- operations that write what isn't there
 
 pub writes_append : (a b : List Op) (u v : HostTree) → Leads u a v → AllWriteAnew u a → AllWriteAnew v b → AllWriteAnew u (a ++ b)
 writes_append [] b u v leads first then = subst (λ x. AllWriteAnew x b) leads then

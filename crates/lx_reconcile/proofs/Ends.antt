@@ -47,7 +47,7 @@ pub old-left : (o : ℕ) (olds news old back done : List ℕ) (moves : List Move
 old-left o olds news old back done moves w =
     is_among-uncommon (o ∷ old) news o w.even (grind (arith, eqb_tells o o))
 
--- each child stands where none before is left
+-- each child is in place where none before is left
 stood : (q : ℕ) (olds news new back done : List ℕ) (moves : List Move) → (w : IsWalking olds news [] new back done moves) →
     is_among q (w.front ++ back) ≡ true → is_among q done ≡ true
 stood q olds news new back done moves w e =

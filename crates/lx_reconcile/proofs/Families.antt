@@ -1,4 +1,4 @@
--- The trees of some keys, one behind another: what is read of them, and what edits make of them.
+-- The trees of some keys, one after another: what is read of them, and what edits make of them.
 use Rattle.std.proofs.Common.{◌≡◌, ◌≢◌, ◌∙◌, ◌+◌, ◌<◌, ◌≤◌, ℕ, Bool, true, false, cond, eqb, List, [], ◌∷◌, map, Option, option_map, inl, inr, refl, sym, ap, arith, ne_eqb, eq-eqb}
 use Rattle.std.proofs.lemmas.Bool.Decides.{eqb_tells}
 use Rattle.lx_node.specs.Trees.{Trees, nil, tree, joined}
@@ -161,7 +161,7 @@ replaced-flat ids family (k ∷ ks) c to at apart =
       | inr other ↦ replaced-absent (ids c) to (family k) (apart k (among_first k ks) other.1) ∙ rw other.0 refl
     ])
 
--- one more tree, before that of a key or behind all
+-- one more tree, before that of a key or after all
 inserted-at : (h : ℕ) (before : Option ℕ) (new t rest : Trees Host) → IsAt h t
     → inserted before new (joined t rest) ≡ cond (is_named before h) (joined new (joined t rest)) (joined t (inserted before new rest))
 inserted-at h before new t rest at =

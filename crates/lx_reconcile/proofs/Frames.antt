@@ -1,4 +1,4 @@
--- What operations make of one host with what is below it, whatever stands around it.
+-- What operations make of one host with what is below it, whatever is around it.
 use Rattle.std.proofs.Common.{◌≡◌, ◌≢◌, ◌∙◌, ◌+◌, ◌<◌, ◌≤◌, ◌⊎◌, ℕ, Bool, true, false, refl, sym, ap, subst, arith, inl, inr, eqb, IsTrue, List, [], ◌∷◌, ◌++◌, append-nil, Option, None, Some}
 use Rattle.std.proofs.lemmas.Bool.{cases_lt, ne_eqb, eq-eqb, ltb-true}
 use Rattle.std.proofs.lemmas.Bool.Decides.{eqb_tells}
@@ -24,7 +24,7 @@ use Rattle.lx_plain.specs.Allowed.{AllWriteAnew, WritesAnew}
 use Rattle.lx_reconcile.proofs.Due.{writes_append, creation_writes}
 use Rattle.lx_reconcile.proofs.Created.{host_tree, Leads-append, has_if, has_not, host_over, count_here, alone_last, without_last, count-numbered_before, count-numbered_behind, count-numbered, created_alone, total-render}
 
--- ---- where a host stands that stands once
+-- ---- where a host is, if it is there once
 
 pub record IsFirst (h : ℕ) (x : Host) (below rest : Trees Host) : Type 0 where
   pub here : eqb x.id h ≡ true
@@ -101,7 +101,7 @@ replaced-same h (tree x below rest) once =
       ]
     ]
 
--- ---- what stands outside the tree at a host
+-- ---- what is outside the tree at a host
 
 outside-first : (q h : ℕ) (x : Host) (below rest : Trees Host) → IsFirst h x below rest → count q (without h (tree x below rest)) ≡ 0 → count q rest ≡ 0
 outside-first q h x below rest p e = ap (count q) (sym (without-absent h rest p.rest_none)) ∙ rw p.here at e
@@ -119,7 +119,7 @@ outside q h x below rest other e =
       | inr differ ↦ record { other = differ.0; below_none = omega (arith, rw differ.0 at sum); rest_none = omega (arith, rw differ.0 at sum) }
     ]
 
--- another host that stands nowhere else is found in the new trees
+-- another host that is there nowhere else is found in the new trees
 pub alone-replaced : (q h : ℕ) (new t : Trees Host) → count h t ≡ 1 → count q (without h t) ≡ 0 → alone q (replaced h new t) ≡ alone q new
 alone-replaced q h new nil once e = absurd (omega arith)
 alone-replaced q h new (tree x below rest) once e =
@@ -205,7 +205,7 @@ replaced_done q new = record {
   other = λ x below rest e. rw e refl;
 }
 
--- ---- a host tree where a host stands with this below it
+-- ---- a host tree where a host is with this below it
 
 children_of-alone : (h : ℕ) (t : Trees Host) → count h t ≡ 1 → children_of h t ≡ children_of h (alone h t)
 children_of-alone h nil once = absurd (omega arith)
@@ -247,7 +247,7 @@ done_here : (q h : ℕ) (change : Trees Host → Trees Host) (a : Host) (kids to
 done_here q h change a kids to w p d outside is =
     inside q h change w.hosts d p.once outside ∙ ap (λ b. replaced h b w.hosts) (ap change p.is ∙ is)
 
--- no id stands more often
+-- no id is there more often
 numbered_less : (w : HostTree) (hosts : Trees Host) → IsNumbered w → ((q : ℕ) → count q hosts ≤ count q w.hosts) → IsNumbered (host_tree hosts w.next)
 numbered_less w hosts w_is less = record {
   once = λ q. omega (arith, w_is.once q, less q);
@@ -287,7 +287,8 @@ at_then h a n ops b m more c l first then b_at w w_is next there is =
     ap (λ t. host_tree t l) (replaced-twice h b c w.hosts inner) in
     (Leads-append ops more w mid _ f.0 (subst (λ v. Leads mid more v) same t.0), subst IsNumbered same t.1, writes_append ops more w mid f.0 f.2 t.2)
 
--- where these operations lead may be shown from this: in the tree at the host no id stands twice, and each is below the next one
+-- where these operations lead may be shown from this: in the tree at the host no id is there twice, and each is below
+-- the next one
 pub at_numbered : (h : ℕ) (from : Trees Host) (n : ℕ) (ops : List Op) (to : Trees Host) (m : ℕ) → (IsNumbered (host_tree from n) → LeadsAt h from n ops to m) → LeadsAt h from n ops to m
 at_numbered h from n ops to m leads w w_is next there is =
     leads (record {
@@ -506,7 +507,7 @@ fits_new new None kids free place = refl
 fits_new new (Some before) kids free place =
     rw (place, ne_eqb before new (λ e. omega (arith, free, some_among before kids place, ap (λ q. count q kids) e))) refl
 
--- with the new tree behind all others, not placed yet
+-- with the new tree after all others, not placed yet
 fits_made : (h : ℕ) (a : Host) (kids : Trees Host) (w : HostTree) (face : Face) (inner : Trees Host) (before : Option ℕ) (m : ℕ) → IsHere h a kids w → count w.next inner ≡ 0 → count h (host_over w.next face inner) ≡ 0 → has_before before (ids_of kids) ≡ true
     → fits (Place h w.next before) (host_tree (joined w.hosts (host_over w.next face inner)) m) ≡ true
 fits_made h a kids w face inner before m p free_inside outside place =

@@ -46,7 +46,7 @@ is_less Less e = refl
 is_less Equal e = absurd (cc)
 is_less Greater e = absurd (cc)
 
--- the last of rising names comes behind the first
+-- the last of rising names comes after the first
 rise_to_last : (a b : Name × List ℕ) (xs : List (Name × List ℕ)) → names_rise (a ∷ xs ++ b ∷ []) ≡ true → name_order a.0 b.0 ≡ Less
 rise_to_last a b [] e = is_less (name_order a.0 b.0) (both (is_lt (name_order a.0 b.0)) true e).0
 rise_to_last a b (c ∷ xs) e =
@@ -144,7 +144,7 @@ shows_root label below key kind =
 
 -- ---- the root's tree of links
 
--- the root as it stands in a forest
+-- the root as it is in a forest
 pub record IsRooted (f : Forest) : Type 0 where
   pub label : Label
   pub below : Forest

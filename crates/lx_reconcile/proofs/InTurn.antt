@@ -10,7 +10,7 @@ use Rattle.lx_reconcile.specs.declared.moves.Move.TheVariants.{Stay, Leave, Make
 use Rattle.lx_reconcile.specs.Walk.{child_of, before_of, moved, can_move, all_moved, CanAllMove, standing, leaving, is_waiting, BeforeUnhandled}
 use Rattle.lx_reconcile.proofs.Lists.{NoRepeats-names_with}
 
--- no child comes to stand twice
+-- no child comes to be there twice
 pub NoRepeats-moved : (m : Move) (ks : List ℕ) → can_move m ks ≡ true → NoRepeats ks → NoRepeats (moved m ks)
 NoRepeats-moved (Stay k) ks can once = once
 NoRepeats-moved (Leave k) ks can once = NoRepeats-names_without k ks once
@@ -48,7 +48,7 @@ pub children-push : (ms : List Move) (m : Move) (q : ℕ) → is_among q (map ch
 children-push [] m q = grind arith
 children-push (x ∷ ms) m q = grind (arith, children-push ms m q)
 
--- who stands was moved
+-- a child that is there in the end was moved
 pub standing-children : (ms : List Move) (q : ℕ) → is_among q (standing ms) ≡ true → is_among q (map child_of ms) ≡ true
 standing-children [] q e = e
 standing-children (Stay k ∷ ms) q e = grind (arith, e, standing-children ms q)

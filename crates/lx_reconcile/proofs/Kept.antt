@@ -77,7 +77,7 @@ kept_up old new k _ h (kept_below q p tag kept was is) inside = elim (cases_eq q
   | inr other ↦ kept_up old new k p h kept (sym (is_within-up new k q p h (has_place new q p tag h is).parent other) ∙ inside)
 ]
 
--- a kept node stands in both trees
+-- a kept node is in both trees
 pub kept_there : (old new : Forest) (q : ℕ) → IsForest old → IsForest new → IsKept old new q → (has q old ≡ true) × (has q new ≡ true)
 kept_there old new _ g h kept_root = (has-root old g, has-root new h)
 kept_there old new _ g h (kept_below q p tag kept was is) = (

@@ -129,7 +129,7 @@ shorter x (y ∷ ys) e = elim (eqb_tells y x) [
     | inr other ↦ rw other.0 (omega (arith, no_longer x ys))
   ]
 
--- what stands once in one list, and all of it in another one, is no longer than that
+-- what is once in one list, and all of it in another one, is no longer than that
 no_longer : (xs ys : List ℕ) → NoRepeats xs → ((q : ℕ) → is_among q xs ≡ true → is_among q ys ≡ true) → length xs ≤ length ys
 no_longer [] ys once there = omega arith
 no_longer (x ∷ xs) ys once there =
@@ -198,7 +198,7 @@ module _ (old new : Forest) (mk : Marking) (v : HostTree) (b : IsBetween old new
           by_parent None up named = absurd (cc)
           by_parent (Some p) up named = omega (arith, b.view.numbered.once q, some_counted q v.hosts (lookups.has-child id_of v.hosts q p up))
 
-  -- the host of a node that stands
+  -- the host of a node that is there
   host_found : (c : ℕ) → forest.has c old ≡ true → host_of c (first_tree v.hosts) ≡ Some (host_in v c)
   host_found c there =
       ap (host_of c) b.whole
@@ -227,7 +227,7 @@ module _ (old new : Forest) (mk : Marking) (v : HostTree) (b : IsBetween old new
     | inr other ↦ grind (arith, among_hosts c ks there (λ q e. all q (grind (arith, e))) (rw other.0 at e))
   ]
 
-  -- whose hosts stand right below a node's are its children
+  -- whose hosts are right below a node's are its children
   pub child_above : (c k : ℕ) → forest.has k old ≡ true → is_named (host_above v c) (host_in v k) ≡ true → is_among c (children_of old k) ≡ true
   child_above c k up e = elim (cases_lt 0 (forest.count c old)) [
     | inl some ↦

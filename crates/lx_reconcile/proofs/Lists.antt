@@ -68,7 +68,7 @@ NoRepeats-names_with before k (x ∷ xs) none once =
       )
     ]
 
--- before the first of those behind is between both
+-- what is before the first of those after is between both
 pub names_with-first : (new xs ys : List ℕ) → NoRepeats (xs ++ ys) → names_with (first_of ys) new (xs ++ ys) ≡ (xs ++ new) ++ ys
 names_with-first new [] [] once = sym (append-nil new)
 names_with-first new [] (y ∷ ys) once = grind (arith, eqb_tells y y)

@@ -1,4 +1,4 @@
--- The children of a host, one move after another: what its operations lead to, and which children stand after it.
+-- The children of a host, one move after another: what its operations lead to, and which children are after it.
 use Rattle.std.proofs.Common.{◌≡◌, ◌≢◌, ◌∙◌, ◌+◌, ◌<◌, ◌≤◌, ℕ, true, false, cond, List, [], ◌∷◌, ◌++◌, Option, None, Some, option_map, inl, inr, refl, sym, ap, subst, arith, ne_eqb, eq-eqb}
 use Rattle.std.proofs.lemmas.Bool.Decides.{eqb_tells}
 use Rattle.std.proofs.lemmas.Bool.{cases_lt, cases_Bool}
@@ -24,7 +24,7 @@ use Rattle.lx_reconcile.proofs.Frames.{replaced-absent, at_then, at_numbered, at
 
 -- ---- what is known of the ids where operations lead
 
--- wherever the host stands, no id stands twice among its children, and none is the next one or behind it
+-- wherever the host is, no id is there twice among its children, and none is the next one or after it
 pub at_kids : (h : ℕ) (a : Host) (kids : Trees Host) (n : ℕ) (ops : List Op) (to : Trees Host) (m : ℕ)
     → (((q : ℕ) → count q kids < 2) → ((q : ℕ) → n ≤ q → count q kids ≡ 0) → LeadsAt h (tree a kids nil) n ops to m) → LeadsAt h (tree a kids nil) n ops to m
 at_kids h a kids n ops to m given =
@@ -42,7 +42,7 @@ no_repeats ids family (k ∷ ks) at once = (
   no_repeats ids family ks (λ c e. at c (among_rest c k ks e)) (λ q. omega (arith, once q, count-joined q (family k) (flat family ks))),
 )
 
--- what stands where a family is read
+-- what is there where a family is read
 among_kids : (ids : ℕ → ℕ) (family : ℕ → Trees Host) (cs : List ℕ) (c : ℕ) → AreAt ids family cs → is_among c cs ≡ true → is_among (ids c) (ids_of (flat family cs)) ≡ true
 among_kids ids family cs c at here = ap (is_among (ids c)) (ids_of-flat ids family cs at) ∙ is_among-ids ids c cs here
 
@@ -132,7 +132,7 @@ first_stands t i here = elim (cases_lt 0 (count i t)) [
   | inr none ↦ absurd (let out = is_among-names id_of t i (omega (arith, none)) in cc)
 ]
 
--- what comes before a tree that then leaves stands in its place
+-- what comes before a tree that then leaves is in its place
 without_inserted : (i : ℕ) (new t : Trees Host) → count i t < 2 → count i new ≡ 0 → is_among i (ids_of t) ≡ true → without i (inserted (Some i) new t) ≡ replaced i new t
 without_inserted i new nil once free here = absurd (cc)
 without_inserted i new (tree x b r) once free here = elim (eqb_tells x.id i) [

@@ -1,5 +1,5 @@
--- Children without a mark that stay in front of some moves and behind them: nothing is done for them, so these moves do what
--- all do.
+-- Children without a mark that stay in front of some moves and after them: nothing is done for them, so these moves do
+-- what all do.
 use Rattle.std.proofs.Common.{◌≡◌, ◌∙◌, ◌+◌, ◌≤◌, ℕ, Bool, true, false, List, [], ◌∷◌, ◌++◌, map, Some, option_map, sym, ap, subst, arith, append-nil}
 use Rattle.std.proofs.lemmas.Bool.Decides.{eqb_tells}
 use Rattle.lx_node.specs.Limits.{last_u32}
@@ -50,7 +50,7 @@ module _ (old new : Forest) (mk : Marking) (v : HostTree) (b : IsBetween old new
   skip_all k from ops a (c ∷ front) more n plain w =
       skip_all k from ops a front more n (λ q e. plain q (grind (arith, e))) (skip_one k c from ops a (map Stay front ++ more) n (plain c (grind (arith, eqb_tells c c))) w)
 
-  -- the moves behind it are next
+  -- the moves after it are next
   pub skip_next : (k : ℕ) (front : List ℕ) (more : List Move) (n : ℕ) → ArePlain mk.noted front → AreNext old new v k (map Stay front ++ more) n → AreNext old new v k more n
   skip_next k front more n plain x = record { from = x.from; ops = x.ops; a = x.a; walk = skip_all k x.from x.ops x.a front more n plain x.walk; behind = x.behind; room = x.room; there = x.there }
 

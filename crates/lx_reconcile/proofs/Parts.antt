@@ -223,7 +223,7 @@ BeforeUnhandled-append : (ms ns : List Move) (old handled : List ℕ) → Before
 BeforeUnhandled-append [] ns old handled waits then = then handled
 BeforeUnhandled-append (m ∷ ms) ns old handled waits then = (waits.0, BeforeUnhandled-append ms ns old (child_of m ∷ handled) waits.1 then)
 
--- behind a front that stays, which is handled by then
+-- after a front that stays, which is handled by then
 BeforeUnhandled-behind : (front : List ℕ) (ms : List Move) (old handled : List ℕ) → ((now : List ℕ) → AreHandled now handled front → BeforeUnhandled old now ms) → BeforeUnhandled old handled (map Stay front ++ ms)
 BeforeUnhandled-behind [] ms old handled then = then handled (λ q. grind arith)
 BeforeUnhandled-behind (x ∷ front) ms old handled then =
@@ -273,7 +273,7 @@ common-between front old back new once =
 
 -- ---- the whole walk
 
--- who is moved stands in the end or leaves
+-- a child that is moved is there in the end or leaves
 child_known : (ms : List Move) (q : ℕ) → is_among q (map child_of ms) ≡ true → (is_among q (standing ms) || is_among q (leaving ms)) ≡ true
 child_known [] q e = absurd (grind (arith, e))
 child_known (Stay k ∷ ms) q e = grind (arith, e, child_known ms q)

@@ -80,7 +80,7 @@ get_alike [] i x y e = absurd (omega arith)
 get_alike (z ∷ xs) zero x y e = refl
 get_alike (z ∷ xs) (suc i) x y e = get_alike xs i x y (omega arith)
 
--- where no name stands twice, the one at a place isn't among those before
+-- where no name is there twice, the one at a place isn't among those before
 pub get_fresh : (xs : List ℕ) (i : ℕ) → NoRepeats xs → i < length xs → is_among (get_or xs i 0) (take i xs) ≡ false
 get_fresh [] i once e = absurd (omega arith)
 get_fresh (x ∷ xs) zero once e = refl

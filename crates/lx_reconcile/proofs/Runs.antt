@@ -120,7 +120,7 @@ taken_behind noted children old new child marked once w here before keys behind 
 
 -- ---- the first child
 
--- what stands before a name of a list, and behind it
+-- what is before a name of a list, and after it
 record StandsIn (xs : List ℕ) (x : ℕ) : Type 0 where
   front : List ℕ
   back : List ℕ
@@ -157,7 +157,7 @@ pub none_of : (xs : List ℕ) → length xs ≡ 0 → xs ≡ []
 none_of [] e = refl
 none_of (x ∷ xs) e = absurd (omega (arith, e))
 
--- where a child stands beside it, it isn't all of them
+-- where a child is beside it, it isn't all of them
 pub window_open : (children : List ℕ) (w : Window) → IsWindow children w → (is_some w.before || is_some w.behind) ≡ true → length w.keys.items + 1 ≤ length children
 window_open children w is opened = by_ends is.front is.back refl refl where
   by_ends : (front back : List ℕ) → is.front ≡ front → is.back ≡ back → length w.keys.items + 1 ≤ length children
@@ -181,7 +181,7 @@ all_in noted children w is all some =
       none = λ e. absurd (omega (arith, ap length e, some));
     }
 
--- or nothing stands beside it
+-- or nothing is beside it
 pub all_of : (noted : ℕ → Bool) (children : List ℕ) (w : Window) → IsWindow children w → (is_some w.before || is_some w.behind) ≡ false → 0 < length w.keys.items → IsWindowOfMarks noted children w
 all_of noted children w is closed some =
     let front : is.front ≡ [] = no_last is.front (grind (arith, closed, ap is_some is.before)) in

@@ -37,12 +37,12 @@ ends (b ∷ back) xs once back_once there same =
     ∙ ap (λ o. b ∷ from_name o xs) next
     ∙ ap (λ ks. b ∷ ks) (ends back xs once back_once.1 (λ k e. there k (grind (arith, e))) (λ k e. grind (arith, e, same k, back_once.0, eqb_tells b k)))
 
--- a name that isn't in the front comes behind it
+-- a name that isn't in the front comes after it
 pub from_name-behind : (k : ℕ) (front xs : List ℕ) → is_among k front ≡ false → from_name (Some k) (front ++ xs) ≡ from_name (Some k) xs
 from_name-behind k [] xs e = refl
 from_name-behind k (f ∷ front) xs e = grind (arith, e, from_name-behind k front xs)
 
--- what stands before a name
+-- what is before a name
 pub record StandsBefore (o : Option ℕ) (xs : List ℕ) : Type 0 where
   pub before : List ℕ
   pub list : xs ≡ before ++ from_name o xs
@@ -75,7 +75,7 @@ pub last_from-append : (o : Option ℕ) (xs : List ℕ) (y : ℕ) (ys : List ℕ
 last_from-append o [] y ys = refl
 last_from-append o (x ∷ xs) y ys = last_from-append (Some x) xs y ys
 
--- the first behind the front comes right after its last
+-- the first after the front comes right after its last
 pub next_in-last : (l : ℕ) (front xs : List ℕ) → NoRepeats (front ++ xs) → last_of front ≡ Some l → next_in (front ++ xs) l ≡ first_of xs
 next_in-last l [] xs once e = absurd (grind (arith, e))
 next_in-last l (f ∷ []) xs once e = grind (arith, e, eqb_tells f l)
@@ -115,7 +115,7 @@ first_shared f front rest news once there same =
       | inr other ↦ absurd (grind (arith, other.0, same, eqb_tells f f, is_none-previous_in news f once there))
     ]
 
--- it goes on behind this front
+-- it goes on after this front
 record GoesBehind (front news : List ℕ) : Type 0 where
   behind : List ℕ
   list : news ≡ front ++ behind
@@ -153,7 +153,7 @@ shared front old back news once news_once agree full =
 
 -- ---- the run of the second list
 
--- from the first name behind the front on
+-- from the first name after the front on
 run_begins : (front old back new : List ℕ) (from : Option ℕ) → NoRepeats (front ++ (old ++ back)) → NoRepeats (front ++ (new ++ back)) → AgreeAround front old back (front ++ (new ++ back)) →
     (old ≡ [] → (front ≡ []) × (back ≡ [])) → (front ≡ [] → from ≡ first_of (front ++ (new ++ back))) → ((x : ℕ) → last_of front ≡ Some x → from ≡ first_of old) →
     from_name from (front ++ (new ++ back)) ≡ new ++ back
@@ -182,7 +182,7 @@ first_behind b front ks back once =
       apart ks (b ∷ back) b (NoRepeats-right front (ks ++ b ∷ back) once),
     )
 
--- a name that is last between stays so where it comes last behind the front
+-- a name that is last between stays so where it comes last after the front
 last_behind : (w : ℕ) (front old new back : List ℕ) → NoRepeats (front ++ (old ++ back)) → last_of (front ++ new) ≡ Some w → last_of old ≡ Some w → last_of new ≡ Some w
 last_behind w front old [] back once e own =
     absurd (grind (
@@ -214,7 +214,7 @@ run_ends front (o ∷ old) (b ∷ back) new to once news_once agree full at_end 
     ∙ up_to_name-behind last.0 new (b ∷ back) (NoRepeats-right front (new ++ b ∷ back) news_once)
     (last_behind last.0 front (o ∷ old) new (b ∷ back) once (sym before_new ∙ (agree b (grind (arith, eqb_tells b b))).1 ∙ before_old) last.1)
 
--- what stands in the second list between the front and the back is what is read from the first name to the last
+-- what is in the second list between the front and the back is what is read from the first name to the last
 pub shared_run : (front old back news : List ℕ) → NoRepeats (front ++ (old ++ back)) → NoRepeats news → AgreeAround front old back news → (old ≡ [] → (front ≡ []) × (back ≡ [])) →
     (s : IsShared front old back news) (from to : Option ℕ) →
     (front ≡ [] → from ≡ first_of news) → ((x : ℕ) → last_of front ≡ Some x → from ≡ first_of old) →

@@ -1,4 +1,4 @@
--- Host trees that show a forest: where each node's host stands, and what it shows.
+-- Host trees that show a forest: where each node's host is, and what it shows.
 use Rattle.std.proofs.Common.{◌≡◌, ◌∙◌, ◌+◌, ◌<◌, ℕ, Bool, true, false, cond, eqb, List, [], ◌∷◌, ◌++◌, length, length-append, Option, Some, option_map, inl, inr, refl, sym, ap, arith, eq-eqb, append_assoc, append-nil}
 use Rattle.std.specs.Prelude.{unwrap_or}
 use Rattle.std.specs.Option.{option_or}
@@ -23,7 +23,7 @@ use Rattle.lx_plain.specs.Allowed.{hosts_of}
 abbrev pub key_in : Host → ℕ
 key_in host = host.face.key
 
--- ---- one behind another
+-- ---- one after another
 
 pub shape_of-joined : (s t : Trees Host) → shape_of (joined s t) ≡ joined (shape_of s) (shape_of t)
 shape_of-joined nil t = refl
@@ -137,7 +137,7 @@ host_at q t = unwrap_or (first_of (hosts_of q t)) 0
 pub hosts_of-one : (q : ℕ) (t : Trees Host) → named.count key_in q t ≡ 1 → hosts_of q t ≡ host_at q t ∷ []
 hosts_of-one q t e = list_one (hosts_of q t) (length-hosts_of q t ∙ e)
 
--- it stands
+-- it is there
 pub count-hosts_of : (k i : ℕ) (t : Trees Host) → is_among i (hosts_of k t) ≡ true → 0 < count i t
 count-hosts_of k i nil e = absurd (cc)
 count-hosts_of k i (tree h b r) e =
@@ -185,7 +185,7 @@ alone-host k i (tree h b r) once one is =
       ]
     ]
 
--- where a key stands only in the tree of another, its hosts are there
+-- where a key is only in the tree of another, its hosts are there
 pub hosts_of-alone : (q c : ℕ) (t : Trees Host) → named.count key_in q (named.without key_in c t) ≡ 0 → hosts_of q (named.alone key_in c t) ≡ hosts_of q t
 hosts_of-alone q c nil e = refl
 hosts_of-alone q c (tree h b r) e = elim (eqb_tells h.face.key c) [

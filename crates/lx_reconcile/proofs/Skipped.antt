@@ -1,4 +1,4 @@
--- What stands below a node without a mark is the same in both trees.
+-- What is below a node without a mark is the same in both trees.
 use Rattle.std.proofs.Common.{◌≡◌, ◌∙◌, ◌+◌, ◌<◌, ℕ, true, false, List, [], ◌∷◌, Option, None, Some, is_some, option_map, zero, suc, inl, inr, refl, sym, ap, arith, append-nil}
 use Rattle.std.proofs.lemmas.Bool.{cases_Bool}
 use Rattle.std.proofs.lemmas.Bool.Decides.{eqb_tells}
@@ -21,7 +21,7 @@ use Rattle.lx_reconcile.specs.Making.{IsBetween, Reconciles}
 use Rattle.lx_reconcile.proofs.StartEnd.{child_stands}
 use Rattle.lx_reconcile.proofs.Turns.{reconciled_same}
 
--- a node that stands, by its label and its children
+-- a node that is there, by its label and its children
 record IsNode (f : Forest) (k : ℕ) : Type 0 where
   pub label : Label
   pub label_is : label_of f k ≡ Some label

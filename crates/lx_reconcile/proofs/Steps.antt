@@ -26,7 +26,7 @@ missing-in k xs ys e = ap (λ b. cond (not b) (k ∷ missing xs ys) (missing xs 
 missing-out : (k : ℕ) (xs ys : List ℕ) → is_among k ys ≡ false → missing (k ∷ xs) ys ≡ k ∷ missing xs ys
 missing-out k xs ys e = ap (λ b. cond (not b) (k ∷ missing xs ys) (missing xs ys)) e
 
--- one more that stands comes behind those that stand
+-- one more that is in place comes after those that are
 in_order-behind : (k : ℕ) (front passed done : List ℕ) → common front done ≡ done → is_among k front ≡ false →
     ((q : ℕ) → is_among q passed ≡ true → (is_among q done || eqb k q) ≡ false) →
     common (front ++ (passed ++ k ∷ [])) (done ++ k ∷ []) ≡ done ++ k ∷ []
@@ -63,13 +63,13 @@ waiting-push : {olds news old new back done : List ℕ} {moves : List Move} → 
 waiting-push {moves = moves} w m rest shrinks q e =
     grind (arith, shrinks q e, w.waiting q, children-push moves m q)
 
--- none of those behind the cursor is handled
+-- none of those after the cursor is handled
 pub back-undone : {olds news old new back done : List ℕ} {moves : List Move} → (w : IsWalking olds news old new back done moves) →
     (q : ℕ) → is_among q back ≡ true → is_among q done ≡ false
 back-undone {done = done} {moves = moves} w q e =
     grind (arith, w.waiting q e, standing-children moves q, ap (is_among q) w.stands)
 
--- the next of those after doesn't stand yet
+-- the next of those after isn't in place yet
 pub next-undone : (k : ℕ) (news done new : List ℕ) → NoRepeats news → news ≡ done ++ k ∷ new → is_among k done ≡ false
 next-undone k news done new once e =
     grind (arith, apart done (k ∷ new) k (subst NoRepeats e once), eqb_tells k k)
@@ -81,7 +81,7 @@ next-known k news done new e =
 done-known : (q : ℕ) (news done new : List ℕ) → news ≡ done ++ new → is_among q done ≡ true → is_among q news ≡ true
 done-known q news done new e h = ap (is_among q) e ∙ is_among-append q done new ∙ grind (arith, h)
 
--- ---- both next children are the same: it stays, and the cursor goes behind it
+-- ---- both next children are the same: it stays, and the cursor goes after it
 
 kept_order-same : (k : ℕ) (old new news olds : List ℕ) → is_among k news ≡ true → is_among k olds ≡ true →
     common (k ∷ old) news ≡ common (k ∷ new) olds → common old news ≡ common new olds
@@ -134,7 +134,7 @@ step-same k olds news old new back done moves news_once w =
 
 -- ---- the next child before is none of those after: it leaves, and the cursor goes to where it was
 
--- without a name that stands in the middle alone
+-- without a name that is in the middle alone
 names_without-middle : (k : ℕ) (xs ys zs : List ℕ) → NoRepeats (xs ++ (ys ++ k ∷ zs)) → names_without k (xs ++ (ys ++ k ∷ zs)) ≡ (xs ++ ys) ++ zs
 names_without-middle k xs ys zs once =
     let inner : NoRepeats (ys ++ k ∷ zs) = NoRepeats-right xs (ys ++ k ∷ zs) once in
@@ -253,7 +253,7 @@ first_of-other : (n : ℕ) (xs : List ℕ) → is_named (first_of xs) n ≡ fals
 first_of-other n [] e = refl
 first_of-other n (x ∷ xs) e = grind (arith, e, eqb_tells x n, eqb_tells n x)
 
--- what holds behind the cursor, once n stands
+-- what holds after the cursor, once n is in place
 back-without : (n o : ℕ) (old done passed back : List ℕ) → back ≡ passed ++ missing (o ∷ old) done →
     names_without n back ≡ names_without n (passed ++ missing (o ∷ []) done) ++ missing old (done ++ n ∷ [])
 back-without n o old done passed back e =
@@ -261,7 +261,7 @@ back-without n o old done passed back e =
     ∙ names_without-append n (passed ++ missing (o ∷ []) done) (missing old done)
     ∙ ap (λ xs. names_without n (passed ++ missing (o ∷ []) done) ++ xs) (sym (missing-push n old done))
 
--- that this child comes to stand in front of the cursor, by a move of it that can be made
+-- that this child comes to be in front of the cursor, by a move of it that can be made
 settled : (o n : ℕ) (olds news old new back done front : List ℕ) (moves : List Move) (m : Move) → NoRepeats news →
     is_among o news ≡ true → is_among n olds ≡ true → eqb o n ≡ false → (w : IsWalking olds news (o ∷ old) (n ∷ new) back done moves) →
     child_of m ≡ n → standing (m ∷ []) ≡ n ∷ [] → leaving (m ∷ []) ≡ [] → suits_children olds m ≡ true → can_move m (w.front ++ back) ≡ true →

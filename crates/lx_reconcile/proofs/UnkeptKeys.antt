@@ -30,7 +30,7 @@ unkept_keys old parent nil = []
 unkept_keys old parent (tree l below rest) =
     cond (kept_here old parent l) (unkept_keys old (Some l.key) below) (l.key ∷ preorder key_of below) ++ unkept_keys old parent rest
 
--- of one tree, where it is told whether its first node stays
+-- of one tree, where it is known whether its first node stays
 abbrev own_keys : Bool → Forest → Label → Forest → List ℕ
 own_keys stays old l below = cond stays (unkept_keys old (Some l.key) below) (l.key ∷ preorder key_of below)
 
@@ -96,9 +96,9 @@ is_own k q = elim (eqb_tells k q) [
   | inr other ↦ inr (ap {B = ℕ} (λ c. cond c 1 0) other.0)
 ]
 
--- ---- where nodes stand
+-- ---- where nodes are
 
--- these trees stand below this parent
+-- these trees are below this parent
 abbrev StandBelow : Forest → Option ℕ → Forest → Type 0
 StandBelow new p g = (q : ℕ) → 0 < count q g → places_of q None new ≡ places_of q p g
 

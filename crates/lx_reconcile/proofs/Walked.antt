@@ -184,12 +184,12 @@ module _ (old new : Forest) (v : HostTree) where
       ∙ unkept-all old (Some k) s.label s.below (other_unkept old k x s.label g (ap (label_of old) s.key ∙ was) (λ e. other (e ∙ ap (λ (l : Label). tag_of l.kind l.fields) own)))
       ∙ ap total (sym s.tree_is)
 
-  -- there are ids left for the next child that stands in the end
+  -- there are ids left for the next child that is there in the end
   pub walk_room : (k n : ℕ) (ops : List Op) (a : Host) (c : ℕ) (s : Move) (ms : List Move) (m : ℕ) → IsInWalk old new v k n ops a (s ∷ ms) m → standing (s ∷ ms) ≡ c ∷ standing ms
       → m + unkept old (Some k) (forest.alone c new) ≤ n + unkept old (Some k) (trees_of new (children_of new k))
   walk_room k n ops a c s ms m w stands = omega (arith, w.grows, ap (λ ks. unkept old (Some k) (trees_of new ks)) stands, one_less k c (standing ms))
 
-  -- a child that stands in the end is one of the new node
+  -- a child that is there in the end is one of the new node
   pub walk_new : (k n : ℕ) (ops : List Op) (a : Host) (c : ℕ) (s : Move) (ms : List Move) (m : ℕ) → IsInWalk old new v k n ops a (s ∷ ms) m → standing (s ∷ ms) ≡ c ∷ standing ms
       → is_among c (children_of new k) ≡ true
   walk_new k n ops a c s ms m w stands = w.to_come.stays c (ap (is_among c) stands ∙ grind (arith, eqb_tells c c))

@@ -56,12 +56,12 @@ before_more : (name : Name) (done : Attributes) (a : Name × List ℕ) → AllBe
 before_more name [] a h e = (later a.0 name e, tt)
 before_more name (b ∷ rest) a h e = (h.0, before_more name rest a h.1 e)
 
--- what is written of that name comes behind them
+-- what is written of that name comes after them
 with_behind : (name : Name) (value : Option (List ℕ)) (done rest : Attributes) → AllBefore name done → with_attribute name value (done ++ rest) ≡ done ++ with_attribute name value rest
 with_behind name value [] rest h = refl
 with_behind name value (a ∷ done) rest h = rw h.0 (ap (λ l. a ∷ l) (with_behind name value done rest h.1))
 
--- the first of these, if there is one, comes behind those, and they rise
+-- the first of these, if there is one, comes after those, and they rise
 pub record IsBehind (done rest : Attributes) : Type 0 where
   pub rise : names_rise rest ≡ true
   pub first : (a : Name × List ℕ) (more : Attributes) → rest ≡ a ∷ more → AllBefore a.0 done
@@ -131,9 +131,10 @@ map_more host (first ∷ writes) write start =
     ∙ map_more host writes write (start ++ write_op host first ∷ [])
     ∙ ap (λ l. l ++ write_op host write ∷ []) (append_assoc start (write_op host first ∷ []) (map (write_op host) writes))
 
--- ---- where the writing stands
+-- ---- how far the writing has come
 
--- Of the attributes before, `old` are still there, behind those of the ones after that are done; `new` are still to come.
+-- Of the attributes before, `old` are still there, after those of the ones after that are done; `new` are still to
+-- come.
 pub record IsWriting (host : ℕ) (olds done old new : Attributes) (start now : List Op) : Type 0 where
   pub so_far : Writes host olds (done ++ old) start now
   pub old_behind : IsBehind done old
@@ -283,7 +284,7 @@ none_left [] (b ∷ ys) e = absurd (cc)
 none_left (a ∷ xs) [] e = absurd (cc)
 none_left (a ∷ xs) (b ∷ ys) e = absurd (cc)
 
--- what stands at a place
+-- what is at a place
 met : (xs : Attributes) (i : ℕ) (x : Name × List ℕ) → i < length xs → x ≡ get_or xs i x → drop i xs ≡ x ∷ drop (i + 1) xs
 met xs i x within item = drop_more xs i x within ∙ ap (λ y. y ∷ drop (i + 1) xs) (sym item)
 

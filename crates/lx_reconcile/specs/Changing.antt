@@ -38,7 +38,8 @@ next_order [] (b ∷ news) = Some Greater
 next_order (a ∷ olds) [] = Some Less
 next_order (a ∷ olds) (b ∷ news) = Some (name_order a.0 b.0)
 
--- behind those at the start stand operations that write attributes of a host, and that make the second ones of the first
+-- after the operations at the start there are others that write attributes of a host, and that make the second ones of
+-- the first
 pub record Writes (host : ℕ) (old new : List (Name × List ℕ)) (start end : List Op) : Type 0 where
   pub writes : List (Name × Option (List ℕ))
   pub list : end ≡ start ++ map (write_op host) writes
@@ -58,8 +59,8 @@ pub data IsWriteAt (host : ℕ) : Op → Type 0 where
   is_attr : (name : Name) (value : Option (List ℕ)) → IsWriteAt host (Attr host name value)
   is_break : (ending : Bool) → IsWriteAt host (Break host ending)
 
--- Behind the operations at the start stand others, which make a host show the second face in place of the first, whatever
--- is below it.
+-- After the operations at the start there are others, which make a host show the second face in place of the first,
+-- whatever is below it.
 pub record Changes (host : ℕ) (from to : Face) (start end : List Op) : Type 0 where
   pub pushed : List Op
   pub list : end ≡ start ++ pushed

@@ -40,13 +40,15 @@ creation_of id (tree label below rest) = creation id label below
 
 -- ---- a new host tree
 
--- the operations that give a host these attributes, and a text if there is one
+-- the operation that gives a host an attribute
 abbrev pub attribute_op : ℕ → Name × List ℕ → Op
 attribute_op id attribute = Attr id attribute.0 (Some attribute.1)
 
+-- the operations that give a host these attributes
 abbrev pub attribute_ops : ℕ → List (Name × List ℕ) → List Op
 attribute_ops id attributes = map (attribute_op id) attributes
 
+-- the operation that gives a host a text, if there is one
 abbrev pub text_ops : ℕ → Option (List ℕ) → List Op
 text_ops id None = []
 text_ops id (Some text) = Text id text ∷ []

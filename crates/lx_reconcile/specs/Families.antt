@@ -20,7 +20,7 @@ right_above v (Some id) = parent_of id_of v.hosts id
 abbrev pub host_above : HostTree → ℕ → Option ℕ
 host_above v key = right_above v (host_of key (first_tree v.hosts))
 
--- those of these keys whose hosts stand right below that one
+-- those of these keys whose hosts are right below that one
 abbrev pub shown_below : HostTree → ℕ → List ℕ → List ℕ
 shown_below v host keys = filter (λ key. is_named (host_above v key) host) keys
 

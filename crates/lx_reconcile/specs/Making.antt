@@ -16,7 +16,7 @@ use Rattle.lx_reconcile.specs.Handled.{IsReconciled}
 use Rattle.lx_reconcile.specs.ToCome.{IsView, IsInWalk}
 use Rattle.lx_reconcile.specs.Walk.{standing}
 
--- The host tree shows the old one of two trees, with nothing behind it.
+-- The host tree shows the old one of two trees, with nothing after it.
 pub record IsBetween (old new : Forest) (mk : Marking) (v : HostTree) : Type 0 where
   pub view : IsView old new v
   pub was_sound : Sound old
@@ -24,14 +24,14 @@ pub record IsBetween (old new : Forest) (mk : Marking) (v : HostTree) : Type 0 w
   pub whole : first_tree v.hosts ≡ v.hosts
   pub covered : AreCovered old new mk
 
--- Behind the operations at the start stand others that reconcile the host of k. They use the ids from n on, up to m.
+-- After the operations at the start there are others that reconcile the host of k. They use the ids from n on, up to m.
 pub record Reconciles (old new : Forest) (mk : Marking) (v : HostTree) (k n : ℕ) (start end : List Op) (m : ℕ) : Type 0 where
   pub pushed : List Op
   pub list : end ≡ start ++ pushed
   pub due : AllByRecursion (IsDue old new mk.touched v) pushed
   pub done : IsReconciled old new v k n pushed m
 
--- Behind them stand others that make these moves of the children of k, whatever has been done before.
+-- After them there are others that make these moves of the children of k, whatever has been done before.
 pub record MakesMoves (old new : Forest) (mk : Marking) (v : HostTree) (k : ℕ) (moves : List Move) (n : ℕ) (start end : List Op) (m : ℕ) : Type 0 where
   pub pushed : List Op
   pub list : end ≡ start ++ pushed
@@ -49,7 +49,7 @@ pub record AreNext (old new : Forest) (v : HostTree) (k : ℕ) (moves : List Mov
   pub room : from + unkept old (Some k) (trees_of new (children_of new k)) ≤ last_u32
   pub there : has k new ≡ true
 
--- the same for these moves with any others behind them
+-- the same for these moves with any others after them
 pub record AreComing (old new : Forest) (v : HostTree) (k : ℕ) (moves : List Move) (n : ℕ) : Type 0 where
   pub more : List Move
   pub are : AreNext old new v k (moves ++ more) n
@@ -58,6 +58,6 @@ pub record AreComing (old new : Forest) (v : HostTree) (k : ℕ) (moves : List M
 abbrev pub IsNext : Forest → Forest → HostTree → ℕ → Move → ℕ → Type 0
 IsNext old new v k m n = AreComing old new v k (m ∷ []) n
 
--- how many nodes stand in the end in the trees of the children that these moves are of
+-- how many nodes there are in the end in the trees of the children that these moves leave
 abbrev pub standing_total : Forest → List Move → ℕ
 standing_total new moves = total (trees_of new (standing moves))

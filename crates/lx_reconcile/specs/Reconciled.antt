@@ -1,4 +1,4 @@
--- What operations make of one host with what is below it, whatever stands around it.
+-- What operations make of one host with what is below it, whatever is around it.
 use Rattle.std.specs.Prelude.{ℕ, ◌≡◌, ◌==◌, if◌then◌else◌, true, false, List, [], ◌∷◌, unwrap_or}
 use Rattle.lx_node.specs.Trees.{Trees, nil, tree, joined}
 use Rattle.lx_node.specs.Siblings.{is_among, first_of}
@@ -14,14 +14,14 @@ abbrev pub replaced : ℕ → Trees Host → Trees Host → Trees Host
 replaced h new nil = nil
 replaced h new (tree a below rest) = if a.id == h then joined new (replaced h new rest) else tree a (replaced h new below) (replaced h new rest)
 
--- Wherever the host h stands with this tree below it, and the next id is n, the operations lead to the same host trees with
--- the other tree there, and to this next id. None writes what stands there.
+-- Wherever the host h is with this tree below it, and the next id is n, the operations lead to the same host trees with
+-- the other tree there, and to this next id. None writes what is there.
 abbrev pub LeadsAt : ℕ → Trees Host → ℕ → List Op → Trees Host → ℕ → Type 0
 LeadsAt h from n ops to m =
     (w : HostTree) → IsNumbered w → w.next ≡ n → has h w.hosts ≡ true → alone h w.hosts ≡ from
     → Leads w ops (record { hosts = replaced h to w.hosts; next = m }) × IsNumbered (record { hosts = replaced h to w.hosts; next = m }) × AllWriteAnew w ops
 
--- the trees of these keys, one behind another, where `family` says which tree a key has
+-- the trees of these keys, one after another, where `family` says which tree a key has
 abbrev pub flat : (ℕ → Trees Host) → List ℕ → Trees Host
 flat family [] = nil
 flat family (k ∷ ks) = joined (family k) (flat family ks)
@@ -44,8 +44,8 @@ pub record IsAt (h : ℕ) (t : Trees Host) : Type 0 where
   pub is : t ≡ tree host below nil
   pub id : host.id ≡ h
 
--- Some children of a node are handled, and the others stand as they did in the view: `ids` says which host each child of
--- this moment has, and `family` which tree.
+-- Some children of a node are handled, and the others are as they were in the view: `ids` says which host each child
+-- has now, and `family` which tree.
 pub record IsUnderWay (old new : Forest) (v : HostTree) (handled children : List ℕ) (ids : ℕ → ℕ) (family : ℕ → Trees Host) : Type 0 where
   pub at : (c : ℕ) → is_among c children ≡ true → IsAt (ids c) (family c)
   pub done : (c : ℕ) → is_among c children ≡ true → is_among c handled ≡ true → AreReconciled old new v c (family c)

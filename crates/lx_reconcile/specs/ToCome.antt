@@ -20,7 +20,7 @@ pub record IsView (old new : Forest) (v : HostTree) : Type 0 where
   pub numbered : IsNumbered v
   pub rooted : IsRooted v.hosts
 
--- These moves are still to come: some children are handled, and these stand now.
+-- These moves are still to come: some children are handled, and these are the children now.
 pub record AreToCome (olds news handled now : List ℕ) (moves : List Move) : Type 0 where
   pub can : CanAllMove moves now
   pub unhandled : BeforeUnhandled olds handled moves
@@ -32,7 +32,7 @@ pub record AreToCome (olds news handled now : List ℕ) (moves : List Move) : Ty
   pub each : (q : ℕ) → is_among q news ≡ true → (is_among q handled || is_among q (map child_of moves)) ≡ true
   pub stays : (q : ℕ) → is_among q (standing moves) ≡ true → is_among q news ≡ true
   pub gone : (q : ℕ) → is_among q (leaving moves) ≡ true → is_among q news ≡ false
-  -- where the children that are in both lists stand in one order, none is placed anew
+  -- where the children that are in both lists are in one order, none is placed anew
   pub order : common olds news ≡ common news olds → list_any is_placing moves ≡ false
 
 -- From the next id n these operations lead to this host, and to the next id m, with these moves of its children to come:

@@ -1,4 +1,4 @@
--- Where a walk over two lists of children stands. Only this crate's own contracts cite it.
+-- How far a walk over two lists of children has come. Only this crate's own contracts cite it.
 use Rattle.std.specs.Prelude.{ℕ, ◌≡◌, ◌==◌, ◌+◌, ◌-◌, ◌≤◌, ◌&&◌, ◌||◌, true, false, not, if◌then◌else◌, List, [], ◌∷◌, ◌++◌, Option, None, Some, map, length, drop}
 use Rattle.std.specs.List.{All, list_any}
 use Rattle.lx_node.specs.Siblings.{is_among, is_named, NoRepeats}
@@ -10,8 +10,8 @@ use Rattle.lx_reconcile.specs.declared.progress.Case.TheVariants as case
 use Rattle.lx_reconcile.specs.Walk.{child_of, suits_children, is_placing, all_moved, CanAllMove, standing, leaving, BeforeUnhandled, common, missing}
 
 -- Of the children before, `old` are still to be walked over, and of those after `new`; these moves were made so far, and `done`
--- of those after stand. The children now are a front, which ends at the cursor, and a back: those that were passed there, and
--- what of `old` isn't handled.
+-- are those of the ones after that are in place. The children now are a front, which ends at the cursor, and a back:
+-- those that were passed there, and what of `old` isn't handled.
 pub record IsWalking (olds news old new back done : List ℕ) (moves : List Move) : Type 0 where
   pub front : List ℕ
   pub passed : List ℕ
@@ -47,12 +47,13 @@ pub record IsAlong (olds news : List ℕ) (p : Progress) : Type 0 where
   pub reached_within : p.reached ≤ length news
   pub at_within : p.at ≤ length olds
 
--- what is next: both next children are the same, the one before leaves, the one after is new, or the one after is an old one
--- at another place
+-- what is next: both next children are the same, the one before leaves, the one after is new, or it is an old one
+-- elsewhere
 abbrev pub case_of_both : List ℕ → List ℕ → ℕ → ℕ → Case
 case_of_both olds news o n =
     if o == n then case.Same o else if not (is_among o news) then case.Gone o else if not (is_among n olds) then case.New n else case.Settled n
 
+-- the same where one of the lists, or both, may be at an end
 abbrev pub case_of : List ℕ → List ℕ → Option ℕ → Option ℕ → Case
 case_of olds news None None = case.Neither
 case_of olds news (Some o) None = case.Gone o

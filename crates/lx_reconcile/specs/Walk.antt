@@ -59,7 +59,7 @@ abbrev pub CanAllMove : List Move → List ℕ → Type 0
 CanAllMove [] ks = Unit {0}
 CanAllMove (m ∷ ms) ks = (can_move m ks ≡ true) × CanAllMove ms (moved m ks)
 
--- the children that stand in the end, in the order of their moves, and those that leave
+-- the children that are there in the end, in the order of their moves
 abbrev pub standing : List Move → List ℕ
 standing [] = []
 standing (Stay k ∷ ms) = k ∷ standing ms
@@ -67,6 +67,7 @@ standing (Leave k ∷ ms) = standing ms
 standing (Make k before ∷ ms) = k ∷ standing ms
 standing (Place k before ∷ ms) = k ∷ standing ms
 
+-- the children that leave, in the order of their moves
 abbrev pub leaving : List Move → List ℕ
 leaving [] = []
 leaving (Stay k ∷ ms) = leaving ms
@@ -99,7 +100,7 @@ pub record IsWalk (old new : List ℕ) (moves : List Move) : Type 0 where
   pub leaves : leaving moves ≡ missing old new
   pub suited : All (λ m. suits_children old m ≡ true) moves
   pub unhandled : BeforeUnhandled old [] moves
-  -- where the children that are in both stand in one order, none is placed anew
+  -- where the children that are in both are in one order, none is placed anew
   pub kept_order : common old new ≡ common new old → list_any is_placing moves ≡ false
 
 -- ---- a part of two lists

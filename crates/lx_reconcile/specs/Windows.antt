@@ -1,4 +1,4 @@
--- A run of children of a node, and what stands beside it. Only this crate's own contracts cite it.
+-- A run of children of a node, and what is beside it. Only this crate's own contracts cite it.
 use Rattle.std.specs.Prelude.{ℕ, ◌≡◌, ◌+◌, ◌++◌, Bool, false, true, is_none, if◌then◌else◌, List, [], length, map, filter, Option, None, Some}
 use Rattle.lx_node.specs.Siblings.{is_among, first_of, last_of, from_name, up_to_name}
 use Rattle.lx_reconcile.specs.declared.moves.Move.{Move}
@@ -19,7 +19,7 @@ pub record IsWindow (children : List ℕ) (w : Window) : Type 0 where
 abbrev pub marked_among : (ℕ → Bool) → List ℕ → ℕ
 marked_among noted keys = length (filter noted keys)
 
--- One more child was taken into a run, and it is told whether it carries a mark.
+-- One more child was taken into a run, and it is said whether it carries a mark.
 pub record Takes (noted : ℕ → Bool) (children : List ℕ) (old new : Window) (marked : Bool) : Type 0 where
   pub is : IsWindow children new
   pub marks : marked_among noted new.keys.items ≡ marked_among noted old.keys.items + (if marked then 1 else 0)
@@ -43,14 +43,15 @@ up_to_end (Some last) keys = up_to_name (Some last) keys
 abbrev pub between_names : Option ℕ → Option ℕ → List ℕ → List ℕ
 between_names first last keys = up_to_end last (from_name first keys)
 
--- where a run begins and ends among the children after, of which that is the first
+-- where a run begins among the children after, of which that is the first
 abbrev pub start_of : Window → Option ℕ → Option ℕ
 start_of w first = if is_none w.before then first else first_of w.keys.items
 
+-- where a run ends among the children after, if something comes after it
 abbrev pub end_of : Window → Option ℕ
 end_of w = if is_none w.behind then None else last_of w.keys.items
 
--- The moves are those of a walk over the run before and what stands in its place after.
+-- The moves are those of a walk over the run before and what is in its place after.
 pub record IsWalkIn (w : Window) (first : Option ℕ) (news : List ℕ) (moves : List Move) : Type 0 where
   pub walk : List Move
   pub is : IsWalk w.keys.items (between_names (start_of w first) (end_of w) news) walk

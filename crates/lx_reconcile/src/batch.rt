@@ -70,7 +70,7 @@ ghost use Rattle.lx_forest.specs.Lookups.{alone, has};
 /// children of those where these stay, and about new ones. Nodes without marks, and all below them, are skipped: the two
 /// readers count at most 8 reads for each child that a marked node has in the new tree, or had in the old one where it
 /// stays, for each node that isn't kept, and for one more. The new hosts' ids go on from the view's next one; `unkept`
-/// tells how many they can be.
+/// says how many they can be.
 pub fn operations<'a, R: Records<'a>>(
     alloc: Global,
     before: &mut R,

@@ -13,7 +13,7 @@ use crate::reconciling::has_same_tag;
 use lx_links::Records;
 use lx_node::{Key, NoMemory, Node};
 
-/// Whether a node stands below this parent, or below none.
+/// Whether a node is below this parent, or below none.
 fn is_below(node: &Node, parent: Option<Key>) -> bool
     ensures { result ≡ is_parent node.now.parent parent }
 {
@@ -32,7 +32,7 @@ fn was_here(was: &Node, parent: Option<Key>, now: &Node) -> bool
     is_below(was, parent) && has_same_tag(was, now)
 }
 
-/// Whether a node is kept, where it is told whether its parent is. It reads the node as it was.
+/// Whether a node is kept, where it is known whether its parent is. It reads the node as it was.
 fn is_kept<S, L: Look<S>>(
     before: &mut S,
     parent: Option<Key>,
@@ -55,8 +55,8 @@ fn is_kept<S, L: Look<S>>(
     }
 }
 
-/// How many nodes of a node's tree aren't kept, where it is told whether its parent is, if it has one; and the key of the
-/// node behind it.
+/// How many nodes of a node's tree aren't kept, where it is known whether its parent is, if it has one; and the key of
+/// the node after it.
 #[cycle(counting)]
 fn count_child<B, A, O: Look<B>, N: Look<A>>(
     before: &mut B,

@@ -73,7 +73,7 @@ fn are_equal(old: &(Name, Txt), new: &(Name, Txt)) -> bool
     old.0 == new.0 && old.1.is_equal(&new.1)
 }
 
-/// Adds the operations that make a host's attributes, which are the first of these lists, the second. Both stand in
+/// Adds the operations that make a host's attributes, which are the first of these lists, the second. Both are in
 /// byte order of the names, and so do the operations.
 fn push_attributes(
     alloc: Global,

@@ -12,7 +12,7 @@ use lx_marks::Marks;
 use lx_node::{Key, NoMemory};
 use std::alloc::Global;
 
-/// Of the marked nodes whose hosts stand right below one host: one of them, and how many they are.
+/// Of the marked nodes whose hosts are right below one host: one of them, and how many they are.
 #[derive(Clone, Copy, Drop)]
 pub(crate) struct Family {
     pub(crate) child: Key,

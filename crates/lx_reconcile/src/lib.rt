@@ -1,5 +1,5 @@
 //! From one tree to the next: the operations that make a view show a tree. `operations` finds those between two trees from
-//! the marks that cover them, and skips what carries no mark. `unkept` tells how many nodes of the later tree keep no
+//! the marks that cover them, and skips what carries no mark. `unkept` says how many nodes of the later tree keep no
 //! host, and so how many ids the operations may take. `fresh` makes a view from nothing.
 #![tactic(auto)]
 

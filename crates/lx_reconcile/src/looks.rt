@@ -37,10 +37,10 @@ pub trait Look<S> {
     /// The forest that is read.
     ghost forest: { S → Forest };
 
-    /// How many reads it tells of.
+    /// How many reads it has made.
     ghost count: { S → ℕ };
 
-    /// How many more the records themselves tell of.
+    /// How many more the records themselves have made.
     ghost lag: { S → ℕ };
 
     /// The forest of the records themselves.
@@ -147,7 +147,7 @@ pub(crate) fn found<S, L: Look<S>>(source: &mut S, key: Key) -> L::Item
     }
 }
 
-/// The key of the node behind the one of this key, which is there.
+/// The key of the node after the one of this key, which is there.
 pub(crate) fn next_after<S, L: Look<S>>(source: &mut S, key: Key) -> Option<Key>
     requires there { has key (L.forest source.old) ≡ true }
     ensures next { result ≡ next_of (L.forest source.old) key }

@@ -11,14 +11,14 @@ pub enum Move {
     Make {
         /// The child that is made.
         key: Key,
-        /// The child right behind it.
+        /// The child right after it.
         before: Option<Key>,
     },
     /// It was a child and is one, and comes before this child, or to the end where none is named.
     Place {
         /// The child that is placed.
         key: Key,
-        /// The child right behind it.
+        /// The child right after it.
         before: Option<Key>,
     },
 }

@@ -12,13 +12,13 @@ use std::alloc::Global;
 /// How far a walk over two lists of children has come.
 #[derive(Drop)]
 pub(crate) struct Progress {
-    /// How many of the children before are behind it.
+    /// How many of the children before have been passed.
     pub(crate) passed: usize,
-    /// How many of the children after are behind it.
+    /// How many of the children after have been passed.
     pub(crate) reached: usize,
     /// The place among the children before where the cursor is, or that of a handled child before there.
     pub(crate) at: usize,
-    /// Those of the children after that are behind it.
+    /// Those of the children after that have been passed.
     pub(crate) handled: IndexSet<Key>,
     /// What is to be done, in this order.
     pub(crate) moves: Vec<Move>,
@@ -53,7 +53,7 @@ fn is_in(keys: &IndexSet<Key>, key: Key) -> bool
     keys.contains(&key)
 }
 
-/// The keys with one more, behind the others unless it is there.
+/// The keys with one more, after the others unless it is there.
 pub(crate) fn add_key(keys: &mut IndexSet<Key>, key: Key) -> Result<(), NoMemory>
     ensures { OnOk result (keys.new.keys ≡ with_handled key keys.old.keys) }
 {
@@ -160,7 +160,7 @@ impl Progress {
         Ok(())
     }
 
-    /// The next child before is passed, and the cursor goes behind it.
+    /// The next child before is passed, and the cursor goes after it.
     fn pass(&mut self)
         requires { self.old.passed + 1 < 2 ^ 64 }
         ensures passed { self.new.passed ≡ self.old.passed + 1 }
@@ -173,7 +173,7 @@ impl Progress {
         self.at = self.passed;
     }
 
-    /// The next child of both lists stays, and the cursor goes behind it.
+    /// The next child of both lists stays, and the cursor goes after it.
     pub(crate) fn keep(&mut self, key: Key) -> Result<(), NoMemory>
         requires reached { self.old.reached + 1 < 2 ^ 64 }
         requires passed { self.old.passed + 1 < 2 ^ 64 }

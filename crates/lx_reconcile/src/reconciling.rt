@@ -152,7 +152,7 @@ pub(crate) struct Given<'v> {
 }
 
 /// What is to be done with the children of a node, of which these are the first ones before and after: with all that
-/// stand in the run of those with marks. The others stay, and nothing is to be done for them.
+/// are in the run of those with marks. The others stay, and nothing is to be done for them.
 fn moves_of<B, A, O: Look<B>, N: Look<A>>(
     given: &Given<'_>,
     before: &mut B,

@@ -20,7 +20,7 @@ use lx_render::describe;
 use std::alloc::Global;
 
 /// The view made from nothing: a host tree that shows the root's tree of the state, and nothing else. It
-/// gives as many ids as that tree has nodes. Links that have failed have no root, and want memory.
+/// gives as many ids as that tree has nodes. Links that have failed have no root, and are out of memory.
 pub fn fresh(alloc: Global, state: &State) -> Result<HostTree, NoMemory>
     ensures shows { IfOk result (λ view. Shows view.tree (alone 0 state.now.links)) }
     ensures rooted { IfOk result (λ view. IsRooted view.tree.hosts) }

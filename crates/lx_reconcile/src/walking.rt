@@ -12,10 +12,10 @@ use std::alloc::Global;
 
 /// What is done with each child of an element, in this order, so that these children become those.
 ///
-/// Both lists are walked over side by side, and a cursor goes along the children as they stand by then. A
-/// child that is next in both lists stays, and the cursor goes behind it. The next one before that is no
+/// Both lists are walked over side by side, and a cursor goes along the children as they are by then. A
+/// child that is next in both lists stays, and the cursor goes after it. The next one before that is no
 /// child any more leaves, and the cursor goes to where it was. The next one after that is new is made at the
-/// cursor. Any other one after stays if it is the one at the cursor, which goes behind it; else it is placed
+/// cursor. Any other one after stays if it is the one at the cursor, which goes after it; else it is placed
 /// at the cursor, and the next one before waits for its turn. What is left of the one list then leaves, or
 /// what is left of the other is made at the end.
 ///

@@ -1,4 +1,4 @@
-//! Runs of children of a node that hold all its marked ones. What stands before and behind such a run is the same in both
+//! Runs of children of a node that hold all its marked ones. What is before and after such a run is the same in both
 //! trees, and isn't read.
 
 ghost use Rattle.std.specs.Prelude.{◌≡◌, ◌+◌, ◌≤◌, ◌||◌, ◌∷◌, [], true, None, length, map, is_some, if◌then◌else◌, IfOk};
@@ -19,7 +19,7 @@ use lx_node::{Key, NoMemory};
 use std::alloc::Global;
 use std::collections::VecDeque;
 
-/// A run of children of a node, in their order, and the children right before and behind it.
+/// A run of children of a node, in their order, and the children right before and after it.
 #[derive(Drop)]
 pub(crate) struct Window {
     pub(crate) before: Option<Key>,
@@ -41,7 +41,7 @@ impl Window {
         }
     }
 
-    /// Whether a child stands before or behind it.
+    /// Whether a child is before or after it.
     fn is_open(&self) -> bool
         ensures { result ≡ (is_some self.now.before || is_some self.now.behind) }
     {
@@ -49,7 +49,7 @@ impl Window {
     }
 }
 
-/// Takes the child right before a run into it, and tells whether it carries a mark.
+/// Takes the child right before a run into it, and says whether it carries a mark.
 fn take_before<S, L: Look<S>>(
     source: &mut S,
     marks: &Marks,
@@ -75,7 +75,7 @@ fn take_before<S, L: Look<S>>(
     Ok(is_noted(marks, child))
 }
 
-/// Takes the child right behind a run into it, and tells whether it carries a mark.
+/// Takes the child right after a run into it, and says whether it carries a mark.
 fn take_behind<S, L: Look<S>>(
     source: &mut S,
     marks: &Marks,
@@ -101,7 +101,7 @@ fn take_behind<S, L: Look<S>>(
     Ok(is_noted(marks, child))
 }
 
-/// Takes one more child into a run, the one right behind it or right before it: in turns, where there are both. Tells
+/// Takes one more child into a run, the one right after it or right before it: in turns, where there are both. Says
 /// whether it carries a mark.
 fn take_one<S, L: Look<S>>(
     source: &mut S,
@@ -201,7 +201,7 @@ fn last_key(keys: &VecDeque<Key>) -> Option<Key>
     keys.back().copied()
 }
 
-/// The run that stands after in the place of the window, of a node whose first child after is this one.
+/// The later run that is in the place of the window, of a node whose first child after is this one.
 fn run_after(window: &Window, first: Option<Key>) -> Run
     ensures first { result.first ≡ start_of window.now first }
     ensures last { result.last ≡ end_of window.now }
@@ -218,7 +218,7 @@ fn run_after(window: &Window, first: Option<Key>) -> Run
     }
 }
 
-/// The key of the node behind this one, unless the run ends there.
+/// The key of the node after this one, unless the run ends there.
 fn next_in_run<S, L: Look<S>>(source: &mut S, run: &Run, key: Key) -> Option<Key>
     requires there { has key (L.forest source.old) ≡ true }
     ensures next { result ≡ (if is_named run.now.last key then None else next_of (L.forest source.old) key) }
@@ -259,7 +259,7 @@ fn keys_in<S, L: Look<S>>(
     Ok(keys)
 }
 
-/// A child before which a move brings another one: this one, or where it names none, the child behind the run.
+/// A child before which a move brings another one: this one, or where it names none, the child after the run.
 fn place_toward(before: Option<Key>, window: &Window) -> Option<Key>
     ensures { result ≡ option_or before window.now.behind }
 {
@@ -269,8 +269,8 @@ fn place_toward(before: Option<Key>, window: &Window) -> Option<Key>
     }
 }
 
-/// A move of a child of a run: where it brings the child to the end, to before the child behind the run instead, if there
-/// is one.
+/// A move of a child of a run: where it brings the child to the end, to before the child after the run instead, if
+/// there is one.
 fn toward(step: Move, window: &Window) -> Move
     ensures { result ≡ walks.toward window.now.behind step }
 {
@@ -288,7 +288,7 @@ fn toward(step: Move, window: &Window) -> Move
     }
 }
 
-/// Each of the moves, so that none brings a child of a run behind what stands behind it.
+/// Each of the moves, so that none brings a child of a run after what comes after the run.
 fn all_toward(alloc: Global, moves: &[Move], window: &Window) -> Result<Vec<Move>, NoMemory>
     ensures { IfOk result (λ made. made.items ≡ map (walks.toward window.now.behind) moves.now) }
 {

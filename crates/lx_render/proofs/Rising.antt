@@ -1,5 +1,5 @@
 -- The attributes that show a node rise by their names. Each list of them is gathered from a list of all the names that
--- may stand there, in which each name comes before all those behind it.
+-- may be there, in which each name comes before all those after it.
 use Rattle.std.proofs.Common.{◌≡◌, ℕ, ◌+◌, ◌≤◌, ◌++◌, Bool, true, false, ◌&&◌, List, [], ◌∷◌, length, Option, None, Some, refl, subst, append_assoc, arith, codes, decimal, nat_lt}
 use Rattle.std.proofs.lemmas.List.{append-nil}
 use Rattle.std.specs.Cmp.Lexicographic.{slice_cmp}
@@ -34,7 +34,7 @@ abbrev is_before_all : Name → Entries → Bool
 is_before_all name [] = true
 is_before_all name (entry ∷ entries) = is_before name entry.0 && is_before_all name entries
 
--- whether each name is before all those behind it
+-- whether each name is before all those after it
 abbrev in_order : Entries → Bool
 in_order [] = true
 in_order (entry ∷ entries) = is_before_all entry.0 entries && in_order entries
@@ -89,7 +89,7 @@ are-gathered entries order few =
 
 -- ---- of elements
 
--- Lists one behind another, as an element's attributes are put together.
+-- Lists one after another, as an element's attributes are put together.
 regroup : {X : Type 0} (a b c d e f : List X) → a ++ (b ++ (c ++ (d ++ (e ++ f)))) ≡ a ++ b ++ c ++ d ++ e ++ f
 regroup a b c d e f = simp append_assoc
 

@@ -25,14 +25,14 @@ chars_of_decimal number small = chars-IsAscii (decimal number) (IsAscii-decimal 
 
 -- ---- words
 
--- a word behind others comes behind a space
+-- a word after others comes after a space
 spaced-append : (words : List (List ℕ)) (word : List ℕ) → 0 < length words → spaced (words ++ (word ∷ [])) ≡ spaced words ++ codes " " ++ word
 spaced-append [] word some = absurd (omega arith)
 spaced-append (first ∷ []) word some = refl
 spaced-append (first ∷ next ∷ words) word some =
     rw (spaced-append (next ∷ words) word (omega arith)) (simp append_assoc)
 
--- what stands before a word that isn't the first
+-- what is before a word that isn't the first
 space_if : (place : ℕ) → 0 < place → (if nat_lt 0 place then codes " " else []) ≡ codes " "
 space_if place behind = rw (lt-ltb 0 place behind) refl
 

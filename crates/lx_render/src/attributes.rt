@@ -26,7 +26,7 @@ fn give(list: &mut Vec<(Name, Txt)>, name: Name, value: Option<Txt>) -> Result<(
     }
 }
 
-/// Adds what stands before the alignment.
+/// Adds what is before the alignment.
 fn give_first(alloc: Global, list: &mut Vec<(Name, Txt)>, extra: &Extra) -> Result<(), NoMemory>
     ensures { OnOk result (list.new.items ≡ list.old.items ++ shown.first_attributes extra.now) }
 {
@@ -43,7 +43,7 @@ fn give_first(alloc: Global, list: &mut Vec<(Name, Txt)>, extra: &Extra) -> Resu
     }
 }
 
-/// Adds what stands between the alignment and the indent.
+/// Adds what is between the alignment and the indent.
 fn give_middle(alloc: Global, list: &mut Vec<(Name, Txt)>, extra: &Extra) -> Result<(), NoMemory>
     ensures { OnOk result (list.new.items ≡ list.old.items ++ shown.middle_attributes extra.now) }
 {
@@ -79,7 +79,7 @@ fn give_link(
     give(list, Name::Title, title)
 }
 
-/// Adds the number of an item, behind its role.
+/// Adds the number of an item, after its role.
 fn give_item(
     alloc: Global,
     list: &mut Vec<(Name, Txt)>,
@@ -95,7 +95,7 @@ fn give_item(
     give(list, Name::Value, value)
 }
 
-/// Adds what stands behind the direction.
+/// Adds what is after the direction.
 fn give_last(
     alloc: Global,
     list: &mut Vec<(Name, Txt)>,

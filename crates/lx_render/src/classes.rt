@@ -53,7 +53,7 @@ fn push(text: &mut String, more: &str) -> Result<(), NoMemory>
     Ok(())
 }
 
-/// Adds what stands before the word at this place: a space, unless it is the first.
+/// Adds what is before the word at this place: a space, unless it is the first.
 fn push_space(text: &mut String, place: usize) -> Result<(), NoMemory>
     ensures { OnOk result (chars (string_bytes text.new) ≡ chars (string_bytes text.old)
         ++ (if nat_lt 0 place then codes " " else [])) }

@@ -1,6 +1,6 @@
 //! How a node is shown: its element, its attributes and its text, and whether a line break ends it.
 //!
-//! The attributes stand in byte order of their names. What has no value isn't among them.
+//! The attributes are in byte order of their names. What has no value isn't among them.
 #![tactic(auto)]
 
 mod attributes;
