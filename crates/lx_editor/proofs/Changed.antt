@@ -1,4 +1,5 @@
--- What a line has changed: it is told where the line committed, and where it committed nothing all that is committed stays.
+-- What a line has changed: it is answered where the line committed, and where it committed nothing all that is
+-- committed stays.
 use Rattle.std.proofs.Common.{◌≡◌, ◌∙◌, ℕ, ◌+◌, Bool, true, false, if◌then◌else◌, option_map, List, Option, None, Some, Result, Ok, Err, refl, sym, ap, subst}
 use Rattle.lx_node.specs.declared.cause.Cause.{Cause}
 use Rattle.lx_host.specs.declared.op.Op.{Op}
@@ -74,7 +75,7 @@ listening_uncommitted old listener (Err cause) new l = uncommitted_same old new 
 pub uncommitted_listener : (old : Editor) (listener : Listener) (bytes : List ℕ) (new : Editor) → IsReplyOfListener old listener bytes new → IsUncommitted old new
 uncommitted_listener old listener bytes new (answer, listening, text) = listening_uncommitted old listener answer new listening
 
--- then no change is told
+-- then no change is answered
 pub none_told : (asked : Bool) (old : Editor) (change : Option Change) (new : Editor) → change ≡ None → IsUncommitted old new → IsToldChange asked old change new
 unfolding IsToldChange
 none_told true old change new none same = subst (λ o. IsChange old o new) (sym none) same

@@ -50,7 +50,7 @@ may_conclude_answer (Err refused) e verdict handled judged = subst (MayConclude 
 may_conclude_answer (Ok (ending.Left w was_handled)) e verdict handled judged = may_conclude (rested_by e.rules w) e verdict judged.0
 may_conclude_answer (Ok (ending.Turned turn)) e verdict handled judged = may_conclude_turn turn e verdict judged.0
 
--- a refusal is judged as what it tells
+-- a refusal is judged as what it says
 pub refusal_judged : (e : Refusal) (left : Result Settled (Cause × Option ℕ)) (editor : Editor) (cause : Cause) (step : Option ℕ) → e ≡ refusal.Cause cause step → TellsRefusal e left → IsJudged left editor (Refused cause step)
 refusal_judged e left editor cause step is told =
     let refused : left ≡ Err (cause, step) = subst (λ x. TellsRefusal x left) is told in
@@ -212,7 +212,7 @@ answer_taken_in command old mid draft how all gathering verdict handled outcome 
 
 -- ---- a dispatch
 
--- a reply tells of a refusal nothing of whether the command was handled
+-- a reply says of a refusal nothing of whether the command was handled
 pub handled_told : (outcome : Outcome) (html : Option (List ℕ)) (handled : Bool) → reply_of (Some handled) html outcome ≡ reply_of (Some (unless_refused outcome handled)) html outcome
 handled_told (made.Committed number ops) html handled = refl
 handled_told (made.Refused cause step) html handled = refl
@@ -221,7 +221,7 @@ handled_told (made.Gathered count) html handled = refl
 
 -- ---- replies
 
--- the view that is told of a commit is that of what was left
+-- the view in the reply to a commit is that of what was left
 pub committed_view : (old : Editor) (how : Recording) (left : Left) (commit : ℕ) (ops : List Op) (new : Editor) → IsCommitted old how left commit ops new → view_told new ≡ html_told old.tells_view left.tree
 committed_view old how left commit ops new c = ap view_told c.made
 

@@ -25,7 +25,7 @@ use Rattle.lx_editor.proofs.Limits.{state_rises}
 
 -- ---- each entry of a history
 
--- what an answer tells, if it tells anything
+-- what an answer says, if it says anything
 abbrev told_or : History → Option History → History
 told_or h None = h
 told_or h (Some g) = g

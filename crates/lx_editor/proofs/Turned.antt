@@ -95,7 +95,7 @@ entry_kept e valid turn state next = entry_each (λ s. IsEntry e.next_key s × H
 state_same : (a b : State) → a.links ≡ b.links → a.selection ≡ b.selection → a ≡ b
 state_same a b links selection = ap (λ l. state_with l a.selection) links ∙ ap (λ s. state_with b.links s) selection
 
--- so a copy of the entry that the history tells is its next one
+-- so a copy of the entry that the history gives is its next one
 pub next_copied : (turn : Turn) (h : History) (told : Option State) (entry state : State) → told ≡ entry_of turn h → told ≡ Some entry → state.links ≡ entry.links → state.selection ≡ entry.selection
     → entry_of turn h ≡ Some state
 next_copied turn h told entry state tells is links selection = sym tells ∙ is ∙ ap (λ s. Some s) (sym (state_same state entry links selection))

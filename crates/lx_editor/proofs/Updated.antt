@@ -284,7 +284,7 @@ recorded_same before after entry marks how h mid g links selection same is =
     ∙ ap (λ k. noted before after marks how.tags how.moment k) same
 
 module _ (e : Editor) (how : Recording) (left : Left) (view : HostTree) (history : History) (is_recorded : history ≡ recorded e how left) (ops : List Op) (allowed : IsAllowed e.tree left.tree (marking left.marks) e.view ops) (leads : Leads e.view ops view) where
-  -- what stands between the trees and the view that it has come to
+  -- what is between the trees and the view that it has come to
   reached : AreAllowed e.tree left.tree (is_touched left.marks) e.view ops view
   reached = subst (λ w. AreAllowed e.tree left.tree (is_touched left.marks) e.view ops w) (same_end e.view allowed.0 view ops allowed.1.leads leads) allowed.1
 

@@ -167,9 +167,9 @@ deferred_refused old new steps tags cause step told dropped = subst (λ r. IsGat
 pub still_pending : (old mid : Editor) (p : Pending) → mid ≡ with_nothing_pending old → IsPending (started_of old) p → IsPending (started_of mid) p
 still_pending old mid p taken goes = subst (λ (e : Editor). IsPending (started_of e) p) (sym taken) goes
 
--- ---- the moment
+-- ---- the time
 
--- an editor whose moment a line has told, and is set back
+-- an editor whose time a line carried, and is set back
 pub moment_back : (old mid new : Editor) (at : Option ℕ) → IsLeftWithout (at_moment at old) mid → new ≡ record mid { moment = old.moment } → IsLeftWithout old new
 moment_back old mid new None (inl same) is = inl (is ∙ ap (λ (e : Editor). record e { moment = old.moment }) same)
 moment_back old mid new None (inr same) is = inr (is ∙ ap (λ (e : Editor). record e { moment = old.moment }) same)

@@ -1,4 +1,4 @@
--- What a line changed, as `line_with_change` tells it.
+-- What a line changed, as `line_with_change` answers it.
 use Rattle.std.specs.Prelude.{◌≡◌, ◌+◌, ℕ, Bool, true, false, List, Option, None, Some, option_map}
 use Rattle.lx_host.specs.declared.op.Op.{Op}
 use Rattle.lx_host.specs.Hosts.{Leads}
@@ -39,12 +39,12 @@ IsChange old (Some change) new = TellsChange old change new
 
 -- ---- on the way there, which only this crate's own contracts cite
 
--- a change is told where it is asked for
+-- a change is answered where it is asked for
 unfoldable pub IsToldChange : Bool → Editor → Option Change → Editor → Type 0
 IsToldChange true old change new = IsChange old change new
 IsToldChange false old change new = Unit {0}
 
--- where it is asked for it has these operations, this state before and these marks
+-- where a change is asked for, it has these operations, this state before and these marks
 unfoldable pub IsNoted : Bool → List Op → State → Marked → Option Change → Type 0
 IsNoted true ops before marks (Some change) = (change.ops.items ≡ ops) × (change.before ≡ before) × (change.marks ≡ marks)
 IsNoted true ops before marks None = ⊥

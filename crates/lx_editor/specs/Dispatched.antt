@@ -19,7 +19,7 @@ use Rattle.lx_editor.specs.Updated.{rested_by, IsMadeOf}
 
 -- ---- dispatches
 
--- While lines are gathered the history doesn't turn.
+-- what a dispatch comes to, where the history doesn't turn while lines are gathered
 abbrev pub unless_gathering : Bool → Result Ending (Cause × Option ℕ) → Result Ending (Cause × Option ℕ)
 unless_gathering gathering (Err refused) = Err refused
 unless_gathering gathering (Ok (Left w handled)) = Ok (Left w handled)
@@ -30,10 +30,11 @@ unless_gathering gathering (Ok (Turned turn)) = if gathering then Err (HistoryIn
 abbrev pub answer_by : Bool → List Listener → Command → Working → Result Ending (Cause × Option ℕ)
 answer_by gathering listeners command w = unless_gathering gathering (answer_drafted (dispatch_run listeners command w))
 
+-- what a dispatch to an editor comes to
 abbrev pub answer_to : Command → Editor → Result Ending (Cause × Option ℕ)
 answer_to command old = answer_by (is_gathering old) old.listeners command (begun old)
 
--- a command that is refused wasn't handled
+-- whether a command was handled, where one that is refused wasn't
 abbrev pub unless_refused : Outcome → Bool → Bool
 unless_refused (Refused cause step) handled = false
 unless_refused outcome handled = handled
@@ -54,7 +55,7 @@ IsDispatched old command how outcome handled new =
 
 -- ---- listeners
 
--- the listeners with one more behind them
+-- the listeners with one more after them
 abbrev pub with_listener : Listener → Editor → Editor
 with_listener listener e = record e { listeners = e.listeners ++ listener ∷ [] }
 

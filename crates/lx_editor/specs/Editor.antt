@@ -11,9 +11,10 @@ use Rattle.lx_step.specs.declared.listener.Listener.{Listener}
 use Rattle.lx_history.specs.History.{History, new_history}
 use Rattle.lx_editor.specs.declared.pending.Pending.{Pending}
 
--- the tree and the selection that are committed, the key that the next new node gets, what is pending, if anything is, how
--- often the editor has committed, the view, what the last commit told, the history, the moment of the line before, the rules
--- and listeners that are registered, each in the order of registration, and whether replies to commits tell the view
+-- the tree and the selection that are committed, the key that the next new node gets, what is pending, if anything is,
+-- how often the editor has committed, the view, what the last commit answered, the history, the time of the line
+-- before, the rules and listeners that are registered, each in the order of registration, and whether replies to
+-- commits include the view
 pub record Editor : Type 0 where
   pub tree : Forest
   pub selection : Selection
@@ -32,7 +33,7 @@ pub record Editor : Type 0 where
 abbrev pub built_in : List AnyRule
 built_in = merge_rule ∷ cell_rule ∷ []
 
--- a new one, whose replies to commits tell the view or not, and whose history has this delay, in milliseconds
+-- a new editor, whose replies to commits include the view or not, and whose history has this delay, in milliseconds
 abbrev pub new_editor : Bool → ℕ → Editor
 new_editor tells_view delay = record {
   tree = root_alone;

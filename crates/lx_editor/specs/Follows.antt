@@ -34,22 +34,23 @@ use Rattle.lx_editor.specs.Registered.{IsRegistered}
 use Rattle.lx_editor.specs.Turned.{with_nothing_recorded}
 use Rattle.lx_editor.specs.Updated.{IsUpdated, IsFlushed}
 
--- the HTML of a tree's rendering, where it is told
+-- the HTML of a tree's rendering, where it is asked for
 abbrev pub html_told : Bool → Forest → Option (List ℕ)
 html_told is_told f = if is_told then Some (html_of (render f)) else None
 
--- the HTML of the tree's rendering, where the editor's replies to commits tell the view
+-- the HTML of the tree's rendering, where the editor's replies to commits include the view
 abbrev pub view_told : Editor → Option (List ℕ)
 view_told editor = html_told editor.tells_view editor.tree
 
--- the reply that tells an outcome, of a dispatch whether it was handled, and of a commit the view where that is told
+-- the reply that gives an outcome, of a dispatch whether it was handled, and of a commit the view where that is asked
+-- for
 abbrev pub reply_of : Option Bool → Option (List ℕ) → Outcome → Reply
 reply_of handled html (Committed commit ops) = reply.Committed commit ops handled html
 reply_of handled html (Refused cause step) = reply.Refused cause step
 reply_of handled html Idle = reply.Idle handled
 reply_of handled html (Gathered count) = reply.Gathered count
 
--- the reply that tells a listener's number, or why there is none
+-- the reply that gives a listener's number, or why there is none
 abbrev pub number_reply : Result ℕ Cause → Reply
 number_reply (Ok number) = reply.Registered number
 number_reply (Err cause) = reply.Refused cause None
@@ -99,8 +100,8 @@ abbrev pub IsReplyOfListener : Editor → ListenerOf → List ℕ → Editor →
 IsReplyOfListener old listener bytes new =
     (answer : Result ℕ Cause) × IsListening old listener answer new × (bytes ≡ reply_text (number_reply answer))
 
--- The editor may answer a line of this form and with these tags, at its moment, with these bytes, and be the new one after. A
--- question changes nothing.
+-- The editor may answer a line of this form and with these tags, at its time, with these bytes, and be the new one
+-- after. A question changes nothing.
 unfoldable pub RepliesTo : Editor → Tags → Form → List ℕ → Editor → Type 0
 RepliesTo old tags (Update script) bytes new = IsReplyOfUpdate old (steps_of script) (recording tags old.moment) bytes new
 RepliesTo old tags (Defer script) bytes new = IsReplyOfDefer old (steps_of script) tags bytes new
@@ -112,7 +113,7 @@ RepliesTo old tags (Load document) bytes new = IsReplyOfLoad old (view document)
 RepliesTo old tags (Show shown) bytes new = (bytes ≡ shown_text shown old) × (new ≡ old)
 RepliesTo old tags Clear bytes new = (bytes ≡ reply_text reply.Cleared) × (new ≡ with_nothing_recorded old)
 
--- the editor at the moment that a line tells, or else at that of the line before
+-- the editor at the time that a line carries, or else at that of the line before
 abbrev pub at_moment : Option ℕ → Editor → Editor
 at_moment None e = e
 at_moment (Some moment) e = record e { moment = moment }
@@ -122,7 +123,7 @@ abbrev pub RepliesToLine : Editor → Line → List ℕ → Editor → Type 0
 RepliesToLine old line bytes new = RepliesTo (at_moment line.at old) line.tags line.form bytes new
 
 -- The editor may answer what was read with these bytes, and be the new one after. A line that is refused changes nothing that is
--- committed: only the moment, and what is pending where it ran on that. One that isn't read changes nothing at all.
+-- committed: only the time, and what is pending where it ran on that. One that isn't read changes nothing at all.
 abbrev pub Replies : Editor → Result Line Cause → List ℕ → Editor → Type 0
 Replies old (Ok line) bytes new = RepliesToLine old line bytes new
 Replies old (Err cause) bytes new = (bytes ≡ reply_text (reply.Refused cause None)) × (new ≡ old)
@@ -138,5 +139,6 @@ FollowsTo old (line ∷ lines) bytes new =
     (answer rest : List ℕ) × (mid : Editor) × Answers old line answer mid
     × (bytes ≡ answer ++ 10 ∷ rest) × FollowsTo mid lines rest new
 
+-- the bytes answer the lines, whatever editor is left
 abbrev pub Follows : Editor → List (List ℕ) → List ℕ → Type 0
 Follows old lines bytes = (new : Editor) × FollowsTo old lines bytes new

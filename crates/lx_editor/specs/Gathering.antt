@@ -39,19 +39,20 @@ is_gathering e = not ((pending_of e).lines == 0)
 abbrev pub with_nothing_pending : Editor → Editor
 with_nothing_pending e = record e { pending = None }
 
--- What want of memory leaves of an editor: it is as it was, or nothing is pending in it any more.
+-- What is left of an editor that runs out of memory: it is as it was, or nothing is pending in it any more.
 abbrev pub IsLeftWithout : Editor → Editor → Type 0
 IsLeftWithout old new = (new ≡ old) ⊎ (new ≡ with_nothing_pending old)
 
+-- how a commit is recorded: by its tags, and at its time
 abbrev pub recording : Tags → ℕ → Recording
 recording tags moment = record { tags = tags; moment = moment }
 
--- A commit that takes in lines which are gathered is recorded by the tags of all of them, and at the moment of the last.
+-- A commit that takes in lines which are gathered is recorded by the tags of all of them, and at the time of the last.
 abbrev pub recording_all : Editor → Recording → Recording
 recording_all e how = recording (both_tags (pending_of e).tags how.tags) how.moment
 
--- What is pending goes on from such a draft: the marks of its own draft tell all that the lines have changed, and each line
--- has taken a count.
+-- What is pending goes on from such a draft: the marks of its own draft show all that the lines have changed, and each
+-- line has taken a count.
 pub record IsPending (start : Working) (p : Pending) : Type 0 where
   pub covered : drafts.AreCovered start p.draft
   pub counted : p.lines ≤ p.draft.counted
@@ -62,6 +63,7 @@ pub record IsPending (start : Working) (p : Pending) : Type 0 where
 abbrev pub with_line : Tags → Pending → Working → Pending
 with_line tags p w = pending_with w (p.lines + 1) (both_tags p.tags tags)
 
+-- the editor with that pending
 abbrev pub with_pending : Editor → Pending → Editor
 with_pending e p = record e { pending = Some p }
 

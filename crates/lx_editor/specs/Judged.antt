@@ -39,7 +39,7 @@ pub record IsLeft (left : Left) : Type 0 where
 abbrev pub LeavesAtRest : Working → Left → Type 0
 LeavesAtRest w left = (settled : Marked) × (rested_by left.rules w ≡ Ok (record { left = left; marks = settled }))
 
--- all that it leaves is at rest
+-- all that a draft leaves is at rest
 abbrev pub IsSettledOf : Working → Left → Type 0
 IsSettledOf w left = (settled : Settled) → rested_by left.rules w ≡ Ok settled → IsAtRest settled
 
@@ -69,7 +69,7 @@ IsLeftOf w left =
 
 -- ---- what is left of a document
 
--- it was a child of a node that stays, and that is marked
+-- the node was a child of one that stays, and that is marked
 pub record IsChildOfMarked (old : Forest) (left : Left) (q : ℕ) : Type 0 where
   pub parent : ℕ
   pub up : parent_of old q ≡ Some parent
@@ -118,6 +118,7 @@ pub record MayCommit (old : Editor) (left : Left) (batch : Told) : Type 0 where
 abbrev pub covering : Frozen → Option Marked → Marked
 covering frozen shown = unwrap_or shown frozen.marks
 
+-- the marks cover the committed tree and the one after
 abbrev pub IsCoveredBy : Editor → Forest → Marked → Type 0
 IsCoveredBy old after marks = AreCovered old.tree after (marking marks)
 
@@ -129,7 +130,7 @@ IsWeighed old left (Turned turn state batch marks) = ⊥
 IsWeighed old left (Refused cause step) = IsUnshowable old left cause step old
 IsWeighed old left Idle = (left.rules ≡ old.rules) × IsNothingNew old left
 
--- it is refused, or what is left is at rest, and is weighed
+-- what steps come to: they are refused, or what is left is at rest, and is weighed
 abbrev pub IsJudged : Result Settled (Cause × Option ℕ) → Editor → Verdict → Type 0
 IsJudged (Err refused) old verdict = verdict ≡ Refused refused.0 refused.1
 IsJudged (Ok settled) old verdict = IsAtRest settled × IsWeighed old settled.left verdict
@@ -149,6 +150,7 @@ pub record MayTurn (old : Editor) (turn : Turn) (state : State) (batch : Told) :
   pub allowed : IsAllowed old.tree state.links (all_marked old.tree state.links) old.view batch.ops
   pub few : batch.reads ≤ most_reads old.tree state.links (is_in_either old.tree state.links)
 
+-- what an undo or a redo comes to
 abbrev pub IsTurnJudged : Turn → Editor → Verdict → Type 0
 IsTurnJudged turn old (Turned way state batch marks) = (way ≡ turn) × MayTurn old turn state batch × IsCoveredBy old state.links marks
 IsTurnJudged turn old (Refused cause step) = IsUnshowableEntry turn old cause step old
@@ -161,7 +163,7 @@ IsAnswerJudged (Err refused) old verdict handled = (verdict ≡ Refused refused.
 IsAnswerJudged (Ok (ending.Left w was_handled)) old verdict handled = IsJudged (rested_by old.rules w) old verdict × (handled ≡ was_handled)
 IsAnswerJudged (Ok (ending.Turned turn)) old verdict handled = IsTurnJudged turn old verdict × (handled ≡ true)
 
--- it is refused for a cause, and no memory was wanting
+-- a refusal is for a cause, and memory didn't run out
 abbrev pub IsForCause : Refusal → Type 0
 IsForCause (refusal.Cause cause step) = Unit {0}
 IsForCause refusal.Memory = ⊥
@@ -183,10 +185,12 @@ IsConcluded old how (Turned turn state batch marks) other new = ⊥
 IsConcluded old how (Refused cause step) outcome new = (outcome ≡ made.Refused cause step) × (new ≡ old)
 IsConcluded old how Idle outcome new = (outcome ≡ made.Idle) × (new ≡ old)
 
+-- whether the verdict refuses
 abbrev pub is_refused : Verdict → Bool
 is_refused (Refused cause step) = true
 is_refused verdict = false
 
+-- whether the verdict is that there is nothing new
 abbrev pub is_idle : Verdict → Bool
 is_idle Idle = true
 is_idle verdict = false

@@ -26,22 +26,24 @@ most_rules = 256 + length built_in
 abbrev pub of_type : TypeRow → Forest → List ℕ
 of_type row f = filter (λ q. is_of_row row.0 (kind_of f q)) (preorder f)
 
--- all of them marked, which takes no count
+-- the nodes of a type are marked, which takes no count
 abbrev pub marked_for : TypeRow → Working → Result Working Cause
 marked_for row w = in_turn mark_uncounted_step (of_type row w.forest) w
 
--- what is left for a commit where they were marked
+-- what is left for a commit where nodes were marked
 abbrev pub left_with : List AnyRule → Result Working Cause → Result Settled (Cause × Option ℕ)
 left_with rules (Ok w) = rested_by rules w
 left_with rules (Err cause) = Err (cause, None)
 
+-- what is left for a commit where the nodes of a type were marked
 unfoldable pub left_for : List AnyRule → TypeRow → Working → Result Settled (Cause × Option ℕ)
 left_for rules row w = left_with rules (marked_for row w)
 
--- the rules with one more behind them
+-- the rules with one more after them
 abbrev pub with_rule : List AnyRule → Rule → List AnyRule
 with_rule rules rule = rules ++ Script rule ∷ []
 
+-- the editor with one more rule
 abbrev pub with_one_more : Rule → Editor → Editor
 with_one_more rule e = record e { rules = with_rule e.rules rule }
 
@@ -50,15 +52,15 @@ abbrev pub left_by_rule : Editor → Rule → Result Settled (Cause × Option �
 left_by_rule old rule =
     if nat_lt (length old.rules) most_rules then left_for (with_rule old.rules rule) rule.on (begun old) else Err (TooManyRules, None)
 
--- what it makes of the state goes into the history's current entry
+-- the tags with which what a rule makes of the state goes into the history's current entry
 abbrev pub merging : Tags
 merging = record { historic = false; merge = true; push = false }
 
--- a registering takes in what is pending, but for the 257th
+-- the editor after a registering took in what is pending, which the 257th doesn't
 abbrev pub unless_full : Editor → Editor
 unless_full old = record old { pending = if nat_lt (length old.rules) most_rules then None else old.pending }
 
--- the outcome that a registering at this moment may have, and the editor that it may leave
+-- the outcome that a registering at this time may have, and the editor that it may leave
 unfoldable pub IsRegistered : Editor → Rule → ℕ → Outcome → Editor → Type 0
 IsRegistered old rule moment outcome new =
     IsMadeOf (left_by_rule old rule) (unless_full old) (recording_all old (recording merging moment)) outcome new

@@ -1,4 +1,4 @@
--- What the fields of an editor stand for, and what holds of them.
+-- What the fields of an editor mean, and what holds of them.
 use Rattle.std.specs.Prelude.{◌≡◌, ℕ, true, [], ◌∷◌, None, Some, All, IfSome}
 use Rattle.lx_node.specs.declared.kind.Kind.{Kind}
 use Rattle.lx_select.specs.declared.selection.Selection.{Selection}
@@ -16,6 +16,7 @@ use Rattle.lx_editor.specs.declared.editor.Editor.TheInside.{Inside}
 use Rattle.lx_editor.specs.Editor.{Editor}
 use Rattle.lx_editor.specs.Gathering.{IsPending, started_of}
 
+-- the editor that the code's fields mean
 abbrev pub editor_of : Inside → Editor
 editor_of a = record {
   tree = a.state.links;

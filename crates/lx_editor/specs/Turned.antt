@@ -17,7 +17,7 @@ use Rattle.lx_editor.specs.Editor.{Editor}
 use Rattle.lx_editor.specs.Gathering.{is_gathering, with_nothing_pending}
 use Rattle.lx_editor.specs.Updated.{hosts_fault, most_reads}
 
--- Every node of either tree counts as marked.
+-- whether a node is in either tree, each of which counts as marked
 abbrev pub is_in_either : Forest → Forest → ℕ → Bool
 is_in_either old new q = has q old || has q new
 
@@ -67,11 +67,12 @@ IsTurnedBy turn moment old (Refused cause step) new = IsUnshowableEntry turn old
 IsTurnedBy turn moment old Idle new = (entry_of turn old.history ≡ None) × (new ≡ old)
 IsTurnedBy turn moment old (Gathered count) new = ⊥
 
--- the same where lines may be gathered: then it is refused, and they are dropped
+-- the outcome of an undo or a redo where lines may be gathered: then it is refused, and they are dropped
 abbrev pub IsTurnedUnless : Bool → Turn → ℕ → Editor → Outcome → Editor → Type 0
 IsTurnedUnless true turn moment old outcome new = (outcome ≡ Refused HistoryInside None) × (new ≡ old)
 IsTurnedUnless false turn moment old outcome new = IsTurnedBy turn moment old outcome new
 
+-- the outcome that an undo or a redo by itself may have, and the editor that it may leave
 unfoldable pub IsTurnedAlone : Turn → ℕ → Editor → Outcome → Editor → Type 0
 IsTurnedAlone turn moment old outcome new = IsTurnedUnless (is_gathering old) turn moment (with_nothing_pending old) outcome new
 

@@ -47,14 +47,16 @@ pub record Left : Type 0 where
   pub next_key : ℕ
   pub rules : List AnyRule
 
+-- what is left for a commit in a draft
 abbrev pub left_in : List AnyRule → Working → Left
 left_in rules w = record { tree = w.forest; selection = w.selection; marks = w.marks; next_key = w.next_key; rules = rules }
 
+-- what is left for a commit in what was frozen
 abbrev pub left_of : List AnyRule → Frozen → Left
 left_of rules frozen =
     record { tree = frozen.state.links; selection = frozen.state.selection; marks = frozen.marks; next_key = frozen.next_key; rules = rules }
 
--- the same with what was marked when it had come to rest, before items got other numbers
+-- what is left, with what was marked when it had come to rest, before items got other numbers
 pub record Settled : Type 0 where
   pub left : Left
   pub marks : Marked
@@ -77,7 +79,7 @@ numbered_by rules (Err cause) = Err (cause, None)
 abbrev pub rested_by : List AnyRule → Working → Result Settled (Cause × Option ℕ)
 rested_by rules w = numbered_by rules (settle_step (answers_of rules) w)
 
--- It is at rest for its rules and for what was marked as it had come to rest.
+-- What is left is at rest for its rules and for what was marked as it had come to rest.
 abbrev pub IsAtRest : Settled → Type 0
 IsAtRest settled = IsRested (answers_of settled.left.rules) settled.left.tree settled.marks
 
@@ -88,6 +90,7 @@ left_by rules listeners steps w = and_then (drafted (steps_run listeners steps w
 
 -- ---- how a commit is recorded
 
+-- a state of this tree and selection
 abbrev pub state_with : Forest → Selection → State
 state_with f selection = record { links = f; selection = selection }
 
@@ -107,7 +110,7 @@ pub record IsNothingNew (old : Editor) (left : Left) : Type 0 where
 abbrev pub hosts_fault : Forest → Forest → HostTree → Option Cause
 hosts_fault old new view = over Hosts last_u32 (view.next + unkept old None new)
 
--- An error of a call that looks for that fault: it is this, or memory was wanting.
+-- An error of a call that looks for that fault: it is this, or memory ran out.
 abbrev pub TellsHosts : Fault → Option Cause → Type 0
 TellsHosts (fault.Cause cause) found = found ≡ Some cause
 TellsHosts fault.Memory found = Unit {0}
@@ -119,8 +122,8 @@ most_reads old new noted = 8 * (marked_children (staying noted new) old + marked
 
 -- It is something new, the view has ids for it, and it is committed: its texts are joined, its items are numbered, the
 -- operations are allowed between the two trees, and they were found by no more reads than that. The history has it as these
--- tags and this moment say, and nothing is pending any more. Of the new editor only the view's ids and the number of reads are
--- left open.
+-- tags and this time say, and nothing is pending any more. Of the new editor only the view's ids and the number of
+-- reads are left open.
 pub record IsCommitted (old : Editor) (how : Recording) (left : Left) (commit : ℕ) (ops : List Op) (new : Editor) : Type 0 where
   pub anew : IsNothingNew old left → ⊥
   pub ids : hosts_fault old.tree left.tree old.view ≡ None

@@ -10,8 +10,8 @@ use lx_value::Room;
 use std::alloc::Global;
 
 /// Answers a line of bytes, without its end, with the bytes of a reply. A line that is refused changes
-/// nothing that is committed. After want of memory the editor is as it was, but for what is pending, which is dropped where
-/// the line ran on it. The room is lent to any number of lines, one after another.
+/// nothing that is committed. Where memory runs out the editor is as it was, but for what is pending, which is dropped
+/// where the line ran on it. The room is lent to any number of lines, one after another.
 #[tactic(auto, unfolding(crate::specs::Follows::Answers))]
 pub fn answer_line(
     alloc: Global,

@@ -10,7 +10,7 @@ use lx_node::NoMemory;
 use lx_reconcile::Batch;
 use std::alloc::Global;
 
-/// What a commit changed: the operations that bring a view up to date, which its reply tells too, the state that was
+/// What a commit changed: the operations that bring a view up to date, which its reply lists too, the state that was
 /// committed before, and marks that cover the trees before and after.
 pub struct Change {
     pub ops: Vec<Op>,

@@ -24,9 +24,9 @@ impl Editor {
     /// rules and is committed, as an update is. `undo` and `redo` go to another state of the history, where the listeners
     /// above them have neither handled them nor done anything: with an edit, another selection or queued steps before them
     /// they are refused as `HistoryInside`, and so while lines are gathered; with a payload as `BadCommand`. The answer
-    /// tells whether a listener has handled the command, too; of a dispatch that is refused it tells that none has, and as
-    /// the step that was refused it tells step 0, or none. Updates that wait are taken in, as an update takes them in. After
-    /// want of memory nothing is pending, and the editor is as it was in all else.
+    /// says whether a listener has handled the command, too; of a dispatch that is refused it says that none has, and
+    /// as the step that was refused it gives step 0, or none. Updates that wait are taken in, as an update takes them
+    /// in. Where memory runs out nothing is pending, and the editor is as it was in all else.
     #[tactic(auto, unfolding(crate::specs::Dispatched::IsDispatched))]
     pub fn dispatch(
         &mut self,
@@ -71,8 +71,9 @@ impl Editor {
         self.reply(alloc, verdict, Some(handled), all, told)
     }
 
-    /// Registers a listener behind those that are registered, and answers its number, from 1. Nothing is committed. It
-    /// is refused as `TooManyRules` where 256 are registered. After a refusal or want of memory the editor is as it was.
+    /// Registers a listener after those that are registered, and answers its number, from 1. Nothing is committed. It
+    /// is refused as `TooManyRules` where 256 are registered. After a refusal, or where memory runs out, the editor is
+    /// as it was.
     pub fn register_listener(&mut self, listener: Listener) -> Result<Result<u32, Cause>, NoMemory>
         requires sound { IsSoundListener listener }
         ensures registered { IfOk result (λ answer. IsListening self.old listener answer self.new) }

@@ -19,8 +19,8 @@ use std::alloc::Global;
 use std::marker::Model;
 
 /// An editor: the state that is committed, the next key, what is pending, the number of commits, the view, which always
-/// shows the state's tree, the operations of the last commit, the history, the moment of the last line, the rules and
-/// listeners that are registered, and whether its replies to commits tell the view.
+/// shows the state's tree, the operations of the last commit, the history, the time of the last line, the rules and
+/// listeners that are registered, and whether its replies to commits include the view.
 pub struct Editor {
     pub(crate) state: State,
     pub(crate) next_key: u32,
@@ -92,8 +92,9 @@ impl Editor {
     ghost use Rattle.lx_editor.specs.Judged.{MayCommit, MayConclude, IsConcluded};
 
     /// A new editor: the root alone, nothing selected, no commit, no rule but the two that are built in, no listener,
-    /// nothing recorded, and a view that shows it. Its replies to commits tell the view, as HTML, where `tells_view` is true.
-    /// Typing goes on in one entry of the history while less than `delay` milliseconds lie between two commits.
+    /// nothing recorded, and a view that shows it. Its replies to commits include the view, as HTML, where `tells_view`
+    /// is true. Typing goes on in one entry of the history while less than `delay` milliseconds lie between two
+    /// commits.
     pub fn new(alloc: Global, tells_view: bool, delay: u64) -> Result<Editor, NoMemory>
         ensures { IfOk result (λ made. made ≡ new_editor tells_view delay) }
     {
@@ -114,7 +115,7 @@ impl Editor {
     }
 
     /// The state that is committed: one tree, in which the selection lies. Its texts are joined: no simple text is
-    /// empty, and no two that stand beside each other have one format and style. Its items are numbered: each has the
+    /// empty, and no two that are beside each other have one format and style. Its items are numbered: each has the
     /// number with which its list begins, and one more for each item before it whose first child isn't a list.
     pub fn state(&self) -> &State
         ensures tree { result.now.links ≡ self.now.tree }
@@ -150,12 +151,12 @@ impl Editor {
     }
 
     /// Runs steps one after another, lets what they leave come to rest under the rules, and commits it. What they dispatch
-    /// is offered to the listeners, and what is queued runs behind all of them. A refused update changes nothing: its
-    /// outcome tells the step that was refused, or none where what was queued was refused, where the rules didn't come
+    /// is offered to the listeners, and what is queued runs after all of them. A refused update changes nothing: its
+    /// outcome gives the step that was refused, or none where what was queued was refused, where the rules didn't come
     /// to rest, or where what is left is beyond a limit or has lost its selection. Steps that mark nothing and leave the
-    /// selection equal commit nothing. A commit is recorded in the history as the tags and the moment say, which is in
-    /// milliseconds. Updates that wait are taken in: the steps run behind theirs, and what all of them leave is committed,
-    /// or dropped. After want of memory nothing is pending, and the editor is as it was in all else.
+    /// selection equal commit nothing. A commit is recorded in the history as the tags and the time say, which is in
+    /// milliseconds. Updates that wait are taken in: the steps run after theirs, and what all of them leave is
+    /// committed, or dropped. Where memory runs out nothing is pending, and the editor is as it was in all else.
     #[tactic(auto, unfolding(crate::specs::Updated::IsUpdated))]
     pub fn update(
         &mut self,

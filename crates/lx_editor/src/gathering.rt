@@ -64,11 +64,12 @@ impl Editor {
     }
 
     /// Runs steps that wait for a call which commits them: nothing is committed, and what they leave is what the next
-    /// `defer`, `update`, `dispatch`, `register_rule` or `flush` begins with. The outcome tells how many updates wait
+    /// `defer`, `update`, `dispatch`, `register_rule` or `flush` begins with. The outcome says how many updates wait
     /// then. Each takes a count before its first step, and the limits of an update hold for all of them together. It is
-    /// refused as an update is, by a step, by what it queued or by that first count, and no step is told for the last two;
-    /// then all that was pending is dropped with it. The moment, in milliseconds, says nothing, since a commit has that of
-    /// the call which commits. After want of memory nothing is pending, and the editor is as it was in all else.
+    /// refused as an update is, by a step, by what it queued or by that first count, and no step is given for the last
+    /// two; then all that was pending is dropped with it. The time, in milliseconds, means nothing, since a commit has
+    /// that of the call which commits. Where memory runs out nothing is pending, and the editor is as it was in all
+    /// else.
     #[tactic(auto, unfolding(crate::specs::Gathering::IsDeferred))]
     pub fn defer(
         &mut self,
@@ -126,7 +127,7 @@ impl Editor {
         self.pending = Some(pending);
     }
 
-    /// What is pending with these steps behind it. Nothing is pending then, until this is.
+    /// What is pending with these steps after it. Nothing is pending then, until this is.
     fn gather(&mut self, alloc: Global, steps: &[Step], tags: Tags) -> Result<Pending, Refusal>
         requires sound { All IsSound steps.now }
         ensures gathered { IfOk result (λ pending. gathered_by self.old steps.now ≡ Ok pending.draft) }
@@ -153,10 +154,11 @@ impl Editor {
     }
 
     /// Commits what is pending, as an update without steps: it comes to rest under the rules, and is committed and
-    /// recorded with the tags of all that was gathered and with these, at this moment, in milliseconds. It is idle where
-    /// that marks nothing and leaves the selection equal, as where nothing is pending. It is refused, with no step, where
-    /// the rules don't come to rest, or where what is left is beyond a limit or has lost its selection, and what was
-    /// pending is dropped then. After want of memory nothing is pending, and the editor is as it was in all else.
+    /// recorded with the tags of all that was gathered and with these, at this time, in milliseconds. It is idle where
+    /// that marks nothing and leaves the selection equal, such as where nothing is pending. It is refused, with no
+    /// step, where the rules don't come to rest, or where what is left is beyond a limit or has lost its selection, and
+    /// what was pending is dropped then. Where memory runs out nothing is pending, and the editor is as it was in all
+    /// else.
     #[tactic(auto, unfolding(crate::specs::Updated::IsFlushed))]
     pub fn flush(&mut self, alloc: Global, tags: Tags, moment: u64) -> Result<Outcome, NoMemory>
         requires room { self.old.commits < last_u32 }

@@ -14,7 +14,7 @@ use lx_script::{Reply, write_commit, write_reply};
 use lx_step::{Form, Line, Step, Tags};
 use std::alloc::Global;
 
-/// The HTML of a state's rendering, where it is told.
+/// The HTML of a state's rendering, where it is asked for.
 fn view_of(alloc: Global, state: &State, is_told: bool) -> Result<Option<Txt>, NoMemory>
     requires alone { roots state.now.links ≡ 0 ∷ [] }
     requires order { IsForest state.now.links }
@@ -40,10 +40,10 @@ impl Editor {
 
     /// Does what a line asks for, and answers with the bytes of a reply: the outcome of an update, of a flush, of a
     /// dispatch, of registering a rule or of a load, the number of a listener, what is committed, or that the history is
-    /// cleared. The line's moment is the one that it tells, or else that of the line before. The reply to a commit tells
-    /// the view after it, where the editor was made so. The reply is made before anything is committed, gathered, registered or
-    /// forgotten, so after want of memory the editor is as it was, but for what is pending, which is dropped where the line
-    /// ran on it.
+    /// cleared. The line's time is the one that it carries, or else that of the line before. The reply to a commit
+    /// includes the view after it, where the editor was made so. The reply is made before anything is committed,
+    /// gathered, registered or forgotten, so where memory runs out the editor is as it was, but for what is pending,
+    /// which is dropped where the line ran on it.
     pub fn line(&mut self, alloc: Global, line: Line) -> Result<Vec<u8>, NoMemory>
         requires sound { IsSoundForm line.form }
         requires room { self.old.commits < last_u32 }
@@ -55,7 +55,7 @@ impl Editor {
         self.reply_to_line(alloc, line, &mut untold)
     }
 
-    /// The same, and what the line changed, where it committed: the operations that its reply tells, the state that was
+    /// The same, and what the line changed, where it committed: the operations that its reply lists, the state that was
     /// committed before, and marks that cover the trees before and after. With updates that waited it is all that they
     /// changed, too. It is there exactly where the line committed.
     pub fn line_with_change(
@@ -75,7 +75,7 @@ impl Editor {
         Ok((reply, told.change))
     }
 
-    /// Does what a line asks for, at its moment, and tells the change where that is asked for.
+    /// Does what a line asks for, at its time, and answers the change where that is asked for.
     fn reply_to_line(
         &mut self,
         alloc: Global,
@@ -101,7 +101,7 @@ impl Editor {
         }
     }
 
-    /// Takes the moment that a line tells, if it tells one.
+    /// Takes the time that a line carries, if it carries one.
     fn begin_at(&mut self, at: Option<u64>)
         ensures moment { self.new ≡ at_moment at self.old }
         ensures commits { self.new.commits ≡ self.old.commits }
@@ -124,7 +124,7 @@ impl Editor {
         self.moment = moment;
     }
 
-    /// Does what a line of this form asks for at its moment.
+    /// Does what a line of this form asks for at its time.
     #[tactic(auto, using(crate::proofs::Waiting::rule_left_without), unfolding(crate::specs::Follows::RepliesTo))]
     fn reply_to_form(
         &mut self,
@@ -156,7 +156,7 @@ impl Editor {
         }
     }
 
-    /// Runs steps and commits what they leave, with the reply that tells the outcome.
+    /// Runs steps and commits what they leave, with the reply that gives the outcome.
     fn reply_to_steps(
         &mut self,
         alloc: Global,
@@ -178,7 +178,8 @@ impl Editor {
         self.reply(alloc, verdict, None, all, told)
     }
 
-    /// Commits what is to be committed, with the reply that tells the outcome, and of a dispatch whether it was handled.
+    /// Commits what is to be committed, with the reply that gives the outcome, and of a dispatch whether it was
+    /// handled.
     pub(crate) fn reply(
         &mut self,
         alloc: Global,
@@ -224,7 +225,7 @@ impl Editor {
         }
     }
 
-    /// The reply that tells the commit of a state with these operations.
+    /// The reply to the commit of a state with these operations.
     fn tell(
         &self,
         alloc: Global,

@@ -48,11 +48,11 @@ impl Editor {
     ghost use Rattle.lx_editor.specs.Updated.{left_of};
 
     /// Loads a document, which takes the place of what is committed: its nodes get new keys, nothing is selected, and all
-    /// of it comes to rest under the rules and is committed, and recorded in the history as the tags and the moment say,
+    /// of it comes to rest under the rules and is committed, and recorded in the history as the tags and the time say,
     /// which is in milliseconds. It is refused, with no step, where the value isn't a
     /// document, as `UnknownType`, `BadState` with the place as a JSON pointer, or `EmptyState`; as `TooLarge` where it is
     /// beyond a limit; and else as an update is. It is never idle. Updates that wait are dropped where it is committed.
-    /// After a refusal or want of memory the editor is as it was.
+    /// After a refusal, or where memory runs out, the editor is as it was.
     #[tactic(auto, unfolding(crate::specs::Loaded::IsLoaded))]
     pub fn load(
         &mut self,
@@ -129,7 +129,7 @@ impl Editor {
 
     /// What is committed, as the one document that says it. Where the root has children, lx_json's `import`, with which
     /// `load` begins, reads it back as the same tree, up to keys, with any next key for which there are keys enough: the
-    /// next key behind the tree's nodes is at most 1,048,576.
+    /// next key after the tree's nodes is at most 1,048,576.
     pub fn export(&self, alloc: Global) -> Result<Value, NoMemory>
         ensures written { IfOk result (λ document. view document ≡ exported self.now.tree) }
         ensures back { (next : ℕ) → 0 < next → next + total self.now.tree ≤ most_key + 1 → children_of self.now.tree 0 ≢ [] → IfOk result (λ document. ReadsBack (view document) next self.now.tree) }

@@ -23,7 +23,7 @@ impl Outcome {
     ghost use Rattle.std.specs.Prelude.{◌≡◌};
     ghost use Rattle.lx_editor.specs.Dispatched as dispatched;
 
-    /// Whether a command is told as handled that has this outcome: not where it is refused.
+    /// Whether a command is said to be handled that has this outcome: not where it is refused.
     pub(crate) fn unless_refused(&self, handled: bool) -> bool
         ensures { result ≡ dispatched.unless_refused self.now handled }
     {

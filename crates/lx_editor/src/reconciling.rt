@@ -1,4 +1,4 @@
-//! What a commit tells of its change, and how the view follows it.
+//! What a commit says of its change, and how the view follows it.
 
 ghost use Rattle.std.specs.Prelude.{◌≡◌, ◌≤◌, ◌+◌, [], ◌∷◌, None, IfOk, OnOk, OnErr, IfErr};
 ghost use Rattle.lx_node.specs.Limits.{last_u32, most_nodes};

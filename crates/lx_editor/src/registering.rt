@@ -1,4 +1,4 @@
-//! Rules: how one comes to stand behind the others.
+//! Rules: how one is added after the others.
 
 ghost use Rattle.lx_node.specs.Limits.{last_u32};
 ghost use Rattle.std.specs.Prelude.{◌≡◌, IfOk};
@@ -52,14 +52,14 @@ impl Editor {
     ghost use Rattle.lx_editor.specs.Follows.{IsReplyOfRule};
     ghost use Rattle.lx_editor.specs.Changes.{IsToldChange};
 
-    /// Registers a rule behind those that are registered. All nodes of its type in the tree are marked, which
+    /// Registers a rule after those that are registered. All nodes of its type in the tree are marked, which
     /// takes no count, and come to rest under all rules; what that makes of the state is committed, and goes into the
-    /// history's current entry at this moment, in milliseconds. Where there
-    /// is no such node the answer is Idle, and the rule is registered. A refusal tells no step and leaves the
+    /// history's current entry at this time, in milliseconds. Where there
+    /// is no such node the answer is Idle, and the rule is registered. A refusal gives no step and leaves the
     /// rule unregistered: as `TooManyRules` where 256 are registered, as `NoRest`, `StepLimit` or `TooLarge`
     /// where the rules don't come to rest, and else as an update is. Updates that wait are taken in, as an update takes them
-    /// in, but where the rule is one too many. After want of memory nothing is pending, and the editor is as it was in all
-    /// else.
+    /// in, but where the rule is one too many. Where memory runs out nothing is pending, and the editor is as it was in
+    /// all else.
     #[tactic(auto, unfolding(crate::specs::Registered::IsRegistered))]
     pub fn register_rule(
         &mut self,
@@ -111,7 +111,7 @@ impl Editor {
         }
     }
 
-    /// What a rule comes to. It stands behind the others then, unless it is refused. What is pending is taken in, unless
+    /// What a rule comes to. It is after the others then, unless it is refused. What is pending is taken in, unless
     /// there are too many rules; nothing else is changed.
     fn judge_rule(&mut self, alloc: Global, rule: Rule) -> Result<Verdict, NoMemory>
         ensures judged { IfOk result (IsJudged (left_by_rule self.old rule) (with_one_more rule (unless_full self.old))) }
@@ -128,7 +128,7 @@ impl Editor {
         self.judge_behind(alloc, draft, rule)
     }
 
-    /// What a rule comes to that stands behind the others, and stays there unless it is refused. Nothing else is changed.
+    /// What a rule comes to that is after the others, and stays there unless it is refused. Nothing else is changed.
     fn judge_behind(&mut self, alloc: Global, draft: Draft, rule: Rule) -> Result<Verdict, NoMemory>
         requires covered { AreCovered (started_of self.old) draft }
         ensures judged { IfOk result (IsJudged (left_for (with_rule self.old.rules rule) rule.on draft) (with_one_more rule self.old)) }
@@ -151,7 +151,7 @@ impl Editor {
         }
     }
 
-    /// Puts a rule behind the others.
+    /// Puts a rule after the others.
     fn add_rule(&mut self, rule: Rule) -> Result<(), NoMemory>
         ensures added { OnOk result (self.new ≡ with_one_more rule self.old) }
         ensures unchanged { OnErr result (self.new ≡ self.old) }

@@ -27,10 +27,11 @@ impl Editor {
     ghost use Rattle.lx_editor.specs.Judged.{MayTurn, IsTurnJudged};
 
     /// Goes back: the history's next entry is committed as it was recorded, its tree and its selection, whatever was
-    /// written since. No rule is asked, and no key is given out again. The moment is in milliseconds; no typing goes on
-    /// behind an undo. It is idle exactly where there is no entry to go back to, and refused, as `TooLarge` with the limit
-    /// `hosts`, only where the view has no ids for the entry's nodes. While lines are gathered it is refused as
-    /// `HistoryInside`, and they are dropped. After a refusal or want of memory the editor is as it was in all else.
+    /// written since. No rule is asked, and no key is given out again. The time is in milliseconds; no typing goes on
+    /// after an undo. It is idle exactly where there is no entry to go back to, and refused, as `TooLarge` with the
+    /// limit `hosts`, only where the view has no ids for the entry's nodes. While lines are gathered it is refused as
+    /// `HistoryInside`, and they are dropped. After a refusal, or where memory runs out, the editor is as it was in all
+    /// else.
     pub fn undo(&mut self, alloc: Global, moment: u64) -> Result<Outcome, NoMemory>
         requires room { self.old.commits < last_u32 }
         ensures turned { IfOk result (λ outcome. IsTurnedAlone way.Undo moment self.old outcome self.new) }

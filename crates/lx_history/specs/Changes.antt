@@ -26,6 +26,7 @@ abbrev pub caret_of : Selection → Option Point
 caret_of (selection.Range anchor focus format) = if same_point anchor focus then Some anchor else None
 caret_of other = None
 
+-- whether the point counts characters
 abbrev pub is_in_text : Point → Bool
 is_in_text p = is_text p.kind
   where
@@ -33,79 +34,90 @@ is_in_text p = is_text p.kind
     is_text point.Text = true
     is_text point.Element = false
 
--- what a text or tab has
+-- the text in fields, if they have one
 abbrev pub text_in : Option Fields → Option TextFields
 text_in (Some (fields.Text text)) = Some text
 text_in other = None
 
+-- what a text or tab has, in a tree
 abbrev pub text_at : Forest → ℕ → Option TextFields
 text_at f k = text_in (fields_of f k)
 
+-- how many characters a text has, and 0 where there is none
 abbrev pub length_of : Option TextFields → ℕ
 length_of None = 0
 length_of (Some text) = length_told text.text
 
 -- ---- what changed: the marked texts and tabs, and the elements that were marked themselves, other than the root
 
+-- the elements that were marked themselves, other than the root
 abbrev pub marked_elements : List (ℕ × Bool) → List ℕ
 marked_elements [] = []
 marked_elements (e ∷ es) = if e.1 && not (e.0 == 0) then e.0 ∷ marked_elements es else marked_elements es
 
+-- what changed: the marked texts and tabs of a tree, and its elements that were marked themselves
 abbrev pub changed : Forest → Marked → List ℕ
 changed f m = filter (λ k. is_some (text_at f k)) m.leaves ++ filter (λ k. has k f) (marked_elements m.elements)
 
 -- ---- the kind of typing
 
--- a first letter: the text of the caret is new, and the caret is behind its one character
+-- the typing of a first letter: the text of the caret is new, and the caret is after its one character
 abbrev pub starts : Forest → Forest → Point → Change
 starts old new b = if not (has b.key old) && (length_of (text_at new b.key) == 1) && (b.offset == 1) then Insert else Other
 
--- from a text's length m and the caret's place a to the length n and the place b
+-- the kind of typing from a text's length m and the caret's place a to the length n and the place b
 abbrev pub grown : ℕ → ℕ → ℕ → ℕ → Change
 grown m n a b =
     if (n == m + 1) && (b == a + 1) then Insert else
     (if (n + 1 == m) && (a == b + 1) then DeleteBefore else (if (n + 1 == m) && (a == b) then DeleteAfter else Other))
 
--- a text that is in both states with equal mode
+-- the kind of typing in a text that is in both states with equal mode
 abbrev pub edited : Option TextFields → Option TextFields → Point → Point → Change
 edited (Some old) (Some new) a b =
     if same_mode old.mode new.mode && is_in_text a && (a.key == b.key) then grown (length_told old.text) (length_told new.text) a.offset b.offset else Other
 edited _ _ a b = Other
 
+-- the kind of typing by what changed: nothing, one node, or more
 abbrev pub typed : List ℕ → Forest → Forest → Point → Point → Change
 typed [] old new a b = Other
 typed (k ∷ []) old new a b = edited (text_at old k) (text_at new k) a b
 typed (k ∷ l ∷ others) old new a b = starts old new b
 
+-- the kind of typing between two carets, the second of which is in a text
 abbrev pub typed_between : Option Point → Option Point → State → State → Marked → Change
 typed_between (Some a) (Some b) before after marks = if is_in_text b then typed (changed after.links marks) before.links after.links a b else Other
 typed_between _ _ before after marks = Other
 
+-- what kind of typing a commit was
 unfoldable pub change_of : State → State → Marked → Change
 change_of before after marks = typed_between (caret_of before.selection) (caret_of after.selection) before after marks
 
 -- ---- what it does to the history
 
+-- whether two commits are typing of the same kind
 abbrev pub is_typing : Change → Change → Bool
 is_typing Insert Insert = true
 is_typing DeleteBefore DeleteBefore = true
 is_typing DeleteAfter DeleteAfter = true
 is_typing _ _ = false
 
--- exactly one leaf is marked, a text or tab of both states, with equal fields and in the same place of the tree
+-- whether two texts are there, and have equal fields
 abbrev pub is_same_text : Option TextFields → Option TextFields → Bool
 is_same_text (Some old) (Some new) = same_text_fields old new
 is_same_text _ _ = false
 
+-- whether exactly one leaf is marked, a text or tab of both states, with equal fields and in the same place of the tree
 abbrev pub is_touched_alone : List ℕ → Forest → Forest → Bool
 is_touched_alone (k ∷ []) old new =
     is_same_text (text_at old k) (text_at new k) && option_eq (λ p q. p == q) (parent_of old k) (parent_of new k)
 is_touched_alone _ old new = false
 
+-- whether nothing is selected
 abbrev pub is_nothing : Selection → Bool
 is_nothing selection.Nothing = true
 is_nothing other = false
 
+-- whether nothing is marked
 abbrev pub is_unmarked : Marked → Bool
 is_unmarked m = is_empty m.leaves && is_empty m.elements
   where

@@ -1,4 +1,4 @@
--- The first keys of a list, told as far as the kind of typing asks: whether there is none, one alone, or more.
+-- The first keys of a list, as far as the kind of typing asks for them: whether there is none, one alone, or more.
 use Rattle.std.specs.Prelude.{ℕ, List, [], ◌∷◌}
 use Rattle.lx_node.specs.declared.cause.Point.{Point}
 use Rattle.lx_forest.specs.Forest.{Forest}
@@ -8,23 +8,24 @@ use Rattle.lx_history.specs.declared.few.Few.{Few}
 use Rattle.lx_history.specs.declared.few.Few.TheVariants.{Empty, One, Several}
 use Rattle.lx_history.specs.Changes.{text_at, edited, starts}
 
+-- none, one or several of some keys
 abbrev pub few_of : List ℕ → Few
 few_of [] = Empty
 few_of (k ∷ []) = One k
 few_of (k ∷ l ∷ others) = Several
 
--- a key more
+-- none, one or several keys, with one more
 abbrev pub with_key : ℕ → Few → Few
 with_key k Empty = One k
 with_key k (One l) = Several
 with_key k Several = Several
 
--- these keys more, one after another
+-- none, one or several keys, with several more, one after another
 abbrev pub with_keys : List ℕ → Few → Few
 with_keys [] few = few
 with_keys (k ∷ ks) few = with_keys ks (with_key k few)
 
--- what was typed, where these few changed
+-- the kind of typing, where none, one or several nodes changed
 abbrev pub typed_few : Few → Forest → Forest → Point → Point → Change
 typed_few Empty old new a b = Other
 typed_few (One k) old new a b = edited (text_at old k) (text_at new k) a b

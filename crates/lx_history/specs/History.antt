@@ -11,7 +11,8 @@ use Rattle.lx_history.specs.declared.kinds.Change.{Change}
 use Rattle.lx_history.specs.declared.kinds.Change.TheVariants.{Other}
 use Rattle.lx_history.specs.Changes.{change_of, is_typing, is_touched_alone, is_nothing, is_unmarked}
 
--- an entry is a state: a tree with a selection. Of both lists the newest entry comes first.
+-- Entries to go back to and to go forth to, which are states, the newest first; the current state, if there is one; the
+-- last kind of typing and its time; and the delay, within which typing goes on.
 pub record History : Type 0 where
   pub delay : ℕ
   pub undo : List State
@@ -20,16 +21,18 @@ pub record History : Type 0 where
   pub last : Change
   pub moment : ℕ
 
+-- a history without entries, with this delay
 abbrev pub new_history : ℕ → History
 new_history delay = record { delay = delay; undo = []; redo = []; current = None; last = Other; moment = 0 }
 
+-- how many entries a history has at most
 abbrev pub most_entries : ℕ
 most_entries = 500
 
 -- ---- what a commit does: the first that fits
 
--- from the tags, and from: there is a current entry; nothing is marked; nothing is selected; the typing goes on in time; one
--- text was marked and is as before
+-- What a commit does to the history, by its tags and by: there is a current entry; nothing is marked; nothing is
+-- selected; the typing goes on in time; one text was marked and is as before.
 abbrev pub chosen : Tags → Bool → Bool → Bool → Bool → Bool → Action
 chosen tags has_current unmarked nothing goes_on touched =
     if tags.historic then Discard else
@@ -39,68 +42,79 @@ chosen tags has_current unmarked nothing goes_on touched =
     (if not tags.push && goes_on then Merge else
     (if touched then Merge else Push)))))
 
+-- what a commit of this kind of typing does to the history, by the states, the marks, the tags and the time
 abbrev pub action_by : History → State → State → Marked → Tags → ℕ → Change → Action
 action_by h before after marks tags moment change =
     chosen tags (is_some h.current) (is_unmarked marks) (is_nothing after.selection) (is_typing change h.last && nat_lt moment (h.moment + h.delay))
     (is_touched_alone marks.leaves before.links after.links)
 
+-- what a commit does to the history
 unfoldable pub action_of : History → State → State → Marked → Tags → ℕ → Action
 action_of h before after marks tags moment = action_by h before after marks tags moment (change_of before after marks)
 
 -- ---- recording
 
--- an entry more, in front of the others, if there is one
+-- entries with one more in front, if there is one
 abbrev pub with_entry : Option State → List State → List State
 with_entry None entries = entries
 with_entry (Some state) entries = state ∷ entries
 
--- with the new state after the current one, which is the newest entry then, and the oldest of too many goes; in its place; or as before
+-- The history with the new state after the current one, which is then the newest entry, and the oldest goes if there
+-- are too many; with it in its place; or as before.
 abbrev pub recorded : Action → State → History → History
 recorded Push after h = record h { undo = take most_entries (with_entry h.current h.undo); redo = []; current = Some after }
 recorded Merge after h = record h { current = Some after }
 recorded Discard after h = h
 
+-- the kind of typing that is kept: none of a historic commit
 abbrev pub change_told : Tags → Change → Change
 change_told tags change = if tags.historic then Other else change
 
+-- the history after a commit
 unfoldable pub noted : State → State → Marked → Tags → ℕ → History → History
 noted before after marks tags moment h =
     record (recorded (action_of h before after marks tags moment) after h) { last = change_told tags (change_of before after marks); moment = moment }
 
 -- ---- going back and forth
 
+-- what an undo makes of a history with these entries to go back to, if there are any
 abbrev pub undone_to : ℕ → List State → History → Option History
 undone_to moment [] h = None
 undone_to moment (state ∷ entries) h =
     Some (record h { undo = entries; redo = with_entry h.current h.redo; current = Some state; last = Other; moment = moment })
 
+-- the history after an undo
 unfoldable pub undone : ℕ → History → Option History
 undone moment h = undone_to moment h.undo h
 
+-- what a redo makes of a history with these entries to go forth to, if there are any
 abbrev pub redone_to : ℕ → List State → History → Option History
 redone_to moment [] h = None
 redone_to moment (state ∷ entries) h =
     Some (record h { undo = with_entry h.current h.undo; redo = entries; current = Some state; last = Other; moment = moment })
 
+-- the history after a redo
 unfoldable pub redone : ℕ → History → Option History
 redone moment h = redone_to moment h.redo h
 
--- the entry to which the history goes next, if there is one
+-- the first of some states, if there is one
 abbrev pub first : List State → Option State
 first [] = None
 first (state ∷ entries) = Some state
 
+-- the entry to which the history goes next, if there is one
 abbrev pub entry_of : Turn → History → Option State
 entry_of Undo h = first h.undo
 entry_of Redo h = first h.redo
 
--- one way or the other
+-- the history after an undo or a redo
 abbrev pub turned : Turn → ℕ → History → Option History
 turned Undo moment h = undone moment h
 turned Redo moment h = redone moment h
 
 -- ---- forgetting
 
+-- a history that has forgotten its entries
 abbrev pub cleared : History → History
 cleared h = record h { undo = []; redo = []; current = None; last = Other }
 

@@ -1,10 +1,11 @@
--- What the fields of a history stand for.
+-- What the fields of a history mean.
 use Rattle.std.specs.Prelude.{◌-◌}
 use Rattle.std.specs.VecDeque.{deque_len, deque_capacity}
 use Rattle.lx_history.specs.declared.history.History.TheInside.{Inside}
 use Rattle.lx_history.specs.History.{History}
 use Rattle.lx_history.specs.Kept.{Kept}
 
+-- the history that the code's fields mean
 abbrev pub history_in : Inside → History
 history_in h = record {
   delay = h.delay;
@@ -15,6 +16,7 @@ history_in h = record {
   moment = h.moment;
 }
 
+-- the same with the room that its lists have for further entries
 abbrev pub kept_of : Inside → Kept
 kept_of h = record {
   history = history_in h;

@@ -84,7 +84,7 @@ pub(crate) fn is_typing(a: Change, b: Change) -> bool
     }
 }
 
-/// The typing of a first letter: the text of the caret is new, and the caret is behind its one character.
+/// The typing of a first letter: the text of the caret is new, and the caret is after its one character.
 fn starts(old: &Links, new: &Links, caret: Point) -> Change
     ensures { result ≡ changes.starts old.now new.now caret }
 {
@@ -156,7 +156,7 @@ fn typed_between(a: Point, b: Point, before: &State, after: &State, marks: &Mark
     typed(few, &before.links, &after.links, a, b)
 }
 
-/// What kind of typing led from one state to the other, of which the marks tell what changed.
+/// What kind of typing led from one state to the other, of which the marks say what changed.
 #[tactic(auto, unfolding(crate::specs::Changes::change_of))]
 pub(crate) fn change_of(before: &State, after: &State, marks: &Marks) -> Change
     ensures { result ≡ changes.change_of before.now after.now marks.now }

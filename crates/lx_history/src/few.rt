@@ -1,4 +1,4 @@
-//! Which nodes a commit changed, told as far as the kind of typing asks.
+//! Which nodes a commit changed, as far as the kind of typing asks for them.
 
 ghost use Rattle.std.specs.Prelude.{◌≡◌, ◌==◌, ◌&&◌, not, is_some, filter, IsTrue, if◌then◌else◌};
 ghost use Rattle.lx_forest.specs.Lookups.{has};

@@ -12,7 +12,8 @@ use std::collections::VecDeque;
 use std::marker::Model;
 
 /// The states of an editor to which it can go back and forth. Of both lists the newest entry comes first. There are at
-/// most 500 entries in all, and none where no state is current. Times are numbers of milliseconds from any one moment on.
+/// most 500 entries in all, and none where no state is current. Times are numbers of milliseconds from any one point
+/// on.
 pub struct History {
     /// For how long after a commit typing goes on.
     pub(crate) delay: u64,
@@ -140,7 +141,7 @@ impl History {
         (self.undo.len() as u32, self.redo.len() as u32)
     }
 
-    /// Goes back by an entry, at a moment in milliseconds, and answers whether there was one. It takes no memory.
+    /// Goes back by an entry, at a time in milliseconds, and answers whether there was one. It takes no memory.
     #[tactic(auto, unfolding(crate::specs::History::undone))]
     pub fn undo(&mut self, moment: u64) -> bool
         requires { IsPrepared self.old }
@@ -156,7 +157,7 @@ impl History {
         true
     }
 
-    /// Goes forth by an entry, at a moment in milliseconds, and answers whether there was one. It takes no memory.
+    /// Goes forth by an entry, at a time in milliseconds, and answers whether there was one. It takes no memory.
     #[tactic(auto, unfolding(crate::specs::History::redone))]
     pub fn redo(&mut self, moment: u64) -> bool
         requires { IsPrepared self.old }
@@ -172,7 +173,7 @@ impl History {
         true
     }
 
-    /// Goes one way or the other by an entry, at a moment in milliseconds, and answers whether there was one. It takes no
+    /// Goes one way or the other by an entry, at a time in milliseconds, and answers whether there was one. It takes no
     /// memory.
     pub fn turn(&mut self, turn: Turn, moment: u64) -> bool
         requires { IsPrepared self.old }

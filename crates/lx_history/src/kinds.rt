@@ -14,10 +14,10 @@ pub enum Action {
 pub enum Change {
     /// No typing of a single character.
     Other,
-    /// A character was written, and the caret is behind it.
+    /// A character was written, and the caret is after it.
     Insert,
     /// The character before the caret was taken out.
     DeleteBefore,
-    /// The character behind the caret was taken out.
+    /// The character after the caret was taken out.
     DeleteAfter,
 }

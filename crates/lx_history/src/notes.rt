@@ -15,7 +15,7 @@ use lx_marks::Marks;
 use lx_select::Selection;
 use lx_step::Tags;
 
-/// A commit as typing: of what kind it was, and its moment in milliseconds.
+/// A commit as typing: of what kind it was, and its time in milliseconds.
 #[derive(Clone, Copy)]
 struct Typing {
     change: Change,
@@ -39,7 +39,7 @@ impl History {
         self.action_by(before, after, marks, tags, Typing { change, moment })
     }
 
-    /// Notes a commit that led from one state to the other at a moment, in milliseconds. The marks tell what the update
+    /// Notes a commit that led from one state to the other at a time, in milliseconds. The marks say what the update
     /// marked, and the tags what was asked for the commit. It takes no memory.
     #[tactic(auto, unfolding(crate::specs::History::noted, crate::specs::History::action_of))]
     pub fn note(&mut self, before: &State, after: State, marks: &Marks, tags: Tags, moment: u64)
@@ -128,7 +128,7 @@ fn is_unmarked(marks: &Marks) -> bool
     marks.is_empty()
 }
 
-/// Whether the moment is before the end of the delay after the last one.
+/// Whether the time is before the end of the delay after the last one.
 fn is_soon(moment: u64, last: u64, delay: u64) -> bool
     ensures { result ≡ nat_lt moment (last + delay) }
 {

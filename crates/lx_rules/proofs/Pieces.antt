@@ -1,4 +1,4 @@
--- A piece of a text stands in it by its characters just where it does by its bytes.
+-- A piece of a text is in it by its characters just where it does by its bytes.
 use Rattle.std.proofs.Common.{◌≡◌, ◌∙◌, ℕ, get_or, ◌==◌, ◌↔◌, Bool, true, false, ◌&&◌, ◌||◌, List, [], ◌∷◌, ◌++◌, length, take, refl, sym, ap, subst, None, encode_utf8_all, IsUtf8, arith, length-append}
 use Rattle.std.specs.Bool.{MatchBool}
 use Rattle.std.specs.Str.{chars, IsCharBoundary}
@@ -10,7 +10,7 @@ use Rattle.std.proofs.lemmas.Str.{chars-nil, chars-append, encodes-append, encod
 use Rattle.std.proofs.lemmas.Str.Pattern.{contains_text}
 use Rattle.lx_rules.specs.Pieces.{begins, has_piece}
 
--- ---- the test tells whether the text is something, the piece, and something
+-- ---- the test says whether the text is something, the piece, and something
 
 begins-told : (piece text : List ℕ) → begins piece text ≡ true → (back : List ℕ) × (text ≡ piece ++ back)
 begins-told [] text e = (text, refl)
@@ -64,7 +64,7 @@ has_piece-found piece text h = ap (has_piece piece) h.2 ∙ found piece h.0 h.1
 
 -- ---- bytes and characters
 
--- a piece that is a text, and has a byte, stands where a text may be cut
+-- a piece that is a text, and has a byte, is where a text may be cut
 cut_before : (bytes front back piece : List ℕ) (b : ℕ) → bytes ≡ front ++ (b ∷ piece ++ back) → IsUtf8 (b ∷ piece) → IsCharBoundary bytes (length front)
 cut_before bytes front back piece b e utf8 =
     let here : get_or bytes (length front) 0 ≡ b = ap (λ bs. get_or bs (length front) 0) e ∙ get_or-append_seam front b (piece ++ back) 0 in
@@ -91,7 +91,7 @@ bytes_piece bytes piece whole part h = (
       ∙ ap (λ bs. encode_utf8_all h.0 ++ bs) (encodes-append (chars piece) h.1 ∙ ap (λ bs. bs ++ encode_utf8_all h.1) (encodes-chars piece part)),
 )
 
--- ---- over the answer of std's search, which tells of bytes
+-- ---- over the answer of std's search, which is about bytes
 
 same_answers : (a b : Bool) → (a ≡ true → b ≡ true) → (b ≡ true → a ≡ true) → a ≡ b
 same_answers true b f g = sym (f refl)

@@ -26,16 +26,17 @@ text_meets (Shorter limit) own = nat_lt (length_told own.text) limit
 text_meets (Format format) own = own.format == format
 text_meets condition own = true
 
--- a neighbour of a type, or none where none is asked for
+-- whether a neighbour is of a type, or there is none where none is asked for
 abbrev pub is_beside : Option TypeRow → Option Kind → Bool
 is_beside None kind = is_none kind
 is_beside (Some row) kind = is_of_row row.0 kind
 
+-- whether there are no kinds, which are those of children
 abbrev pub has_no_kinds : List Kind → Bool
 has_no_kinds [] = true
 has_no_kinds (kind ∷ kinds) = false
 
--- a condition on a text holds of no other node, nor of a tab
+-- whether a condition holds at a view; one on a text holds of no other node, nor of a tab
 abbrev pub meets : View → Condition → Bool
 meets v (Parent row) = is_of_row row.0 v.parent
 meets v (Previous row) = is_beside row v.prev
@@ -49,13 +50,14 @@ meets v condition = is_text v.kind && is_text_of (text_meets condition) v.fields
 abbrev pub Answers : Type 0
 Answers = View → List SelfEdit
 
--- a rule of some types has no answer at others
+-- the answer of a rule of some types, which has none at others
 abbrev pub asked : ℕ → Answers → Answers
 asked rows acts v = if is_on rows v.kind then acts v else []
 
--- a rule of a script is of one type, and answers its edits where all its conditions hold
+-- the set of the one type that a rule of a script is of
 abbrev pub script_rows : Rule → ℕ
 script_rows rule = set_of_row rule.on.0
 
+-- what a rule of a script answers: its edits, where all its conditions hold
 unfoldable pub script_acts : Rule → Answers
 script_acts rule v = if list_all (meets v) rule.conditions then rule.edits else []

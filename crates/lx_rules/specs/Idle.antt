@@ -15,6 +15,7 @@ use Rattle.lx_step.specs.declared.rule.SelfEdit.{SelfEdit}
 use Rattle.lx_step.specs.declared.rule.SelfEdit.TheVariants.{Set, Add, Remove, Replace, Wrap, Unwrap, Before, After, Child, MergeNext}
 use Rattle.lx_rules.specs.Types.{same_kind, is_kind}
 
+-- whether a kind is the root's
 unfoldable pub is_root : Kind → Bool
 is_root kind.Root = true
 is_root _ = false
@@ -24,26 +25,28 @@ abbrev pub is_held : Option Kind → Kind → Bool
 is_held None inner = false
 is_held (Some outer) inner = may_hold outer inner
 
+-- whether a new node has fields of its kind
 abbrev pub is_suited : NewNode → Bool
 is_suited new = is_of_kind new.kind new.fields
 
 -- ---- what would happen
 
--- the fields are of the kind, and others than these
+-- whether fields were made, and are others than these
 abbrev pub differs : Option Fields → Fields → Bool
 differs None old = false
 differs (Some made) old = not (same_fields made old)
 
--- Members change the fields of a node: their numbers are within their ranges, all of them can be set on the kind, and what
--- they make of the fields is something else.
+-- Whether members change the fields of a node: their numbers are within their ranges, all of them can be set on the
+-- kind, and what they make of the fields is something else.
 abbrev pub changes : Kind → List Member → Fields → Bool
 changes kind members old = list_all is_in_range members && differs (patched kind members old) old
 
+-- whether a text has characters
 abbrev pub has_text : List ℕ → Bool
 has_text [] = false
 has_text (c ∷ text) = true
 
--- a new node may stand where this one stands, and this one isn't the root
+-- whether a new node may be where this one is, and this one isn't the root
 abbrev pub may_stand : View → NewNode → Bool
 may_stand v new = is_suited new && (not (is_root v.kind) && is_held v.parent new.kind)
 
@@ -60,6 +63,6 @@ has_work v (After new) = may_stand v new && not (is_kind v.next new.kind)
 has_work v (Child new) = is_suited new && (may_hold v.kind new.kind && not (list_any (same_kind new.kind) v.children))
 has_work v MergeNext = is_element v.kind && is_kind v.next v.kind
 
--- an edit is idle where it has nothing to do
+-- whether an edit has nothing to do at a view
 unfoldable pub idle_at : View → SelfEdit → Bool
 idle_at v edit = not (has_work v edit)

@@ -6,6 +6,7 @@ use Rattle.lx_node.specs.declared.kind.ListType.{ListType}
 use Rattle.lx_node.specs.declared.kind.ListType.TheVariants.{Bullet, Number, Check}
 use Rattle.lx_step.specs.Types.{rows_in_table, row_of}
 
+-- the number of a type of list, which no other has
 unfoldable pub place_of : ListType → ℕ
 place_of Bullet = 0
 place_of Number = 1

@@ -9,7 +9,7 @@ use std::alloc::Global;
 /// Any rule that an editor has.
 #[derive(Debug, Drop)]
 pub enum AnyRule {
-    /// A list takes in the list behind it.
+    /// A list takes in the list after it.
     Merge(ListMerge),
     /// A cell without children gets a paragraph.
     Fill(CellParagraph),

@@ -8,7 +8,7 @@ use lx_node::{Fields, Kind, ListType, NoMemory, View};
 use lx_step::{NewNode, SelfEdit, TypeRow};
 use std::alloc::Global;
 
-/// A list takes in the list behind it, where both are of one type.
+/// A list takes in the list after it, where both are of one type.
 #[derive(Clone, Copy, Debug)]
 pub struct ListMerge;
 

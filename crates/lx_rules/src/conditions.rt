@@ -9,7 +9,7 @@ use lx_node::{Fields, Kind, TextFields, View};
 use lx_step::{Condition, TypeRow};
 use lx_text::length_of;
 
-/// Whether a piece stands in a text, with all its characters one behind another.
+/// Whether a piece is in a text, with all its characters one after another.
 fn contains(text: &str, piece: &str) -> bool
     ensures same { result ≡ has_piece (chars piece.now) (chars text.now) }
     ensures told { IsTrue result ↔ HasSubslice (chars text.now) (chars piece.now) }

@@ -51,7 +51,7 @@ fn has_kind(kind: Kind, children: &[Kind]) -> bool
     children.iter().any(|child| same_kind(kind, *child))
 }
 
-/// Whether a new node may stand where this one stands, and this one isn't the root.
+/// Whether a new node may be where this one is, and this one isn't the root.
 fn may_stand(view: &View, new: &NewNode) -> bool
     ensures { result ≡ idles.may_stand view.now new.now }
 {

@@ -86,7 +86,7 @@ splice_exhausts k from to new w none =
     answered_for (option_or (splice_fault k from to w.forest) (over_limits (length new) w)) (fields_written k (label_with_piece (label_of w.forest k) from to new) (length new) (splice_points k from to new) w)
     (for_either (splice_fault k from to w.forest) (over_limits (length new) w) (for_none (splice_fault k from to w.forest) none) (for_limits (length new) w))
 
--- a node that stands below another
+-- a node that is below another
 detach_none : (f : Forest) (k p : ℕ) → parent_of f k ≡ Some p → detach_fault k f ≡ None
 detach_none f k p below = rw (has-child f k p below, below) refl
 

@@ -34,13 +34,13 @@ use Rattle.lx_edit.proofs.Paths.{IsPath, remove_path, points, join_path, join_on
 use Rattle.lx_edit.proofs.Homed.{homed_path}
 use Rattle.lx_settle.proofs.Owned.{top_path, taken_top, remove_top, next_of_none, ends, allowed_by, top_root, ready_path}
 
--- what a node that was neither marked nor taken out tells of the join step at it
+-- what a node that was neither marked nor taken out says of the join step at it
 pub record IsJoinedAt (k : ℕ) (w : Working) : Type 0 where
   pub full : is_empty_text (simple_at w.forest k) ≡ false
   pub behind : (own : TextFields) → simple_at w.forest k ≡ Some own → found_behind w.forest k ≡ Nothing
   pub before : (own : TextFields) → simple_at w.forest k ≡ Some own → found_before w.forest k ≡ Nothing
 
--- ---- what is found stands there
+-- ---- what is found is there
 
 found_in_key : (other x : ℕ) (own : TextFields) (o : Option TextFields) → (found_in other own o ≡ Empty x) ⊎ (found_in other own o ≡ Alike x) → other ≡ x
 found_in_key other x own None e = elim e [ inl a ↦ absurd (cc) | inr a ↦ absurd (cc) ]
@@ -215,7 +215,7 @@ alike_turned None (Some b) = refl
 alike_turned (Some a) None = refl
 alike_turned (Some a) (Some b) = alike_sym a b
 
--- the node isn't alike with the one behind it, nor with the one before it
+-- the node isn't alike with the one after it, nor with the one before it
 pub apart_behind : (k n : ℕ) (w : Working) → IsJoinedAt k w → next_of w.forest k ≡ Some n → are_alike (simple_at w.forest k) (simple_at w.forest n) ≡ false
 apart_behind k n w j next = by_own (simple_at w.forest k) refl where
   by_own : (o : Option TextFields) → simple_at w.forest k ≡ o → are_alike o (simple_at w.forest n) ≡ false

@@ -1,4 +1,4 @@
--- Children that are moved elsewhere: where kinds allow it, nothing but want of counts refuses that.
+-- Children that are moved elsewhere: where kinds allow it, nothing but a lack of counts refuses that.
 use Rattle.std.proofs.Common.{◌≡◌, ◌≢◌, ◌∙◌, ℕ, ◌+◌, ◌≤◌, Bool, true, false, cond, eqb, ◌&&◌, ◌||◌, List, [], ◌∷◌, Option, None, Some, Result, Ok, refl, sym, ap, subst, arith, inl, inr}
 use Rattle.std.specs.Prelude.{is_some, slice_get}
 use Rattle.std.specs.Option.{option_or}
@@ -72,7 +72,7 @@ behind_some : (made k p i : ℕ) (o x : Option ℕ) (w : Working) → o ≡ Some
 behind_some made k p i o x w e f c =
     subst (λ a. Exhausts (behind_at made k a x w)) (sym e) (subst (λ b. Exhausts (behind_at made k (Some p) b w)) (sym f) c)
 
--- where a child stands
+-- where a child is
 pub place_of : (f : Forest) (k p : ℕ) → IsForest f → parent_of f k ≡ Some p → (i : ℕ) × (index_of f k ≡ Some i) × (i + 1 ≤ size_of f p)
 place_of f k p h below =
     let among : is_among k (children_of f p) ≡ true = is_among-children_of f k p h ∙ ap (λ o. is_named o p) below ∙ grind (arith, eqb_tells p p) in

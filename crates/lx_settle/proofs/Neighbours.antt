@@ -1,4 +1,4 @@
--- Neighbours, and what stands above them.
+-- Neighbours, and what is above them.
 use Rattle.std.proofs.Common.{◌≡◌, ◌≢◌, ◌∙◌, ℕ, suc, ◌+◌, true, List, Option, None, Some, refl, sym, ap, arith, inl, inr}
 use Rattle.std.specs.Prelude.{slice_get}
 use Rattle.std.proofs.lemmas.Bool.Decides.{eqb_tells}
@@ -43,7 +43,7 @@ next_in_back xs k m once among e =
     next_in-slice_get xs m (place_in xs m) once (slice_get-place_in xs m back.among)
     ∙ ap (slice_get xs) (step_on (place_in xs m) ∙ back.place) ∙ slice_get-place_in xs k among
 
--- what stands before a node is followed by it
+-- what is before a node is followed by it
 pub previous_next : (f : Forest) (k n : ℕ) → IsForest f → previous_of f k ≡ Some n → next_of f n ≡ Some k
 previous_next f k n h e =
     let s = previous_siblings f k n h e in
@@ -64,7 +64,7 @@ next_other f k n h e =
     next_in_other (children_of f s.parent) k n (NoRepeats-children_of f s.parent h) (child_among f s.parent k h s.first)
     (sym (ap (λ o. next_in (children_below f o) k) s.first) ∙ e)
 
--- an attached node other than the root stands below another
+-- an attached node other than the root is below another
 pub attached_parent : (f : Forest) (k : ℕ) → IsForest f → is_attached f k ≡ true → k ≢ 0 → (p : ℕ) × (parent_of f k ≡ Some p)
 attached_parent f k h there other = elim (cases_option (parent_of f k)) [
   | inl none ↦ absurd (other (top_root f k h none there))

@@ -114,7 +114,7 @@ sent_ready : (k : ℕ) (w : Working) → IsReady w → IsReady (sent_away k w)
 unfolding sent_away
 sent_ready k w r = sent_from_path ready_path k (parent_of w.forest k) (index_of w.forest k) w r
 
--- where a chain of steps ends, the last one tells
+-- where a chain of steps ends, the last one shows it
 pub ends : {Q : Type 0} (w v : Working) (r : Result Working Cause) (next : Working → Result Working Cause) → ((u : Working) → r ≡ Ok u → IsReady u) → ((u : Working) → IsReady u → next u ≡ Ok v → Q) → after r next ≡ Ok v → Q
 ends w v (Ok u) next first second e = second u (first u refl) e
 ends w v (Err cause) next first second e = absurd (cc)
@@ -160,7 +160,7 @@ pub top_root : (f : Forest) (k : ℕ) → IsForest f → parent_of f k ≡ None 
 top_root f k h top there =
     elim (eqb_tells k 0) [ inl root ↦ root.1 | inr other ↦ absurd (grind (arith, there, is_within-top f 0 k h top other.1)) ]
 
--- ---- what a put tells
+-- ---- what a put shows
 
 pub put_parent : (k p index : ℕ) (w v : Working) → IsReady w → put_step k p index w ≡ Ok v → parent_of v.forest k ≡ Some p
 unfolding put_step
@@ -192,7 +192,7 @@ put_previous made p index k w v r there other at e =
       linked_before : (own before : Bool) (behind : Option ℕ) (made : ℕ) (prev : Option ℕ) → own ≡ false → before ≡ true → cond own behind (cond before (Some made) prev) ≡ Some made
       linked_before own before behind made prev e f = rw (e, f) refl
 
--- one that is put right behind k is the one behind it
+-- one that is put right after k is the one after it
 put_next : (made p index k : ℕ) (w v : Working) → IsReady w → has k w.forest ≡ true → k ≢ made → place_behind (slice_get (children_of w.forest p) index) (children_of w.forest p) ≡ Some k → put_step made p index w ≡ Ok v → next_of v.forest k ≡ Some made
 unfolding put_step
 put_next made p index k w v r there other at e =
@@ -215,7 +215,7 @@ last_index b (x ∷ []) zero k at none = at
 last_index b (x ∷ y ∷ ys) zero k at none = absurd (cc)
 last_index b (x ∷ xs) (suc i) k at none = last_index (Some x) xs i k at none
 
--- the place right behind an index
+-- the place right after an index
 behind_index : (xs : List ℕ) (i k : ℕ) → NoRepeats xs → slice_get xs i ≡ Some k → place_behind (slice_get xs (i + 1)) xs ≡ Some k
 behind_index xs i k once at =
     let step : slice_get xs (i + 1) ≡ slice_get xs (suc i) = ap (slice_get xs) (omega arith) in
@@ -234,7 +234,7 @@ Changes k w v = spot v.forest k ≡ spot w.forest k → record_at v.forest k ≡
 pub gone : (k : ℕ) (w v : Working) (x : View) → IsReady w → IsReady v → view_of w.forest k ≡ Some x → is_root x.kind ≡ false → parent_of v.forest k ≡ None → is_attached v.forest k ≡ true → ⊥
 gone k w v x r s seen other top there = grind (arith, root_at w.forest k x r.in_order (top_root v.forest k s.in_order top there) seen, other)
 
--- a node that stands below a new one now
+-- a node that is below a new one now
 pub below_new : (k : ℕ) (w v : Working) → IsReady w → parent_of v.forest k ≡ Some w.next_key → spot v.forest k ≡ spot w.forest k → ⊥
 below_new k w v r up same =
     let was : parent_of w.forest k ≡ Some w.next_key = ap parent_at (sym same) ∙ up in

@@ -1,4 +1,4 @@
--- New nodes of edits that have work: nothing but want of counts, or of room for text, refuses them and where they go.
+-- New nodes of edits that have work: nothing but a lack of counts, or of room for text, refuses them and where they go.
 use Rattle.std.proofs.Common.{◌≡◌, ◌∙◌, ℕ, Bool, true, false, cond, eqb, ◌&&◌, ◌||◌, List, [], ◌∷◌, Option, None, Some, option_map, Ok, refl, sym, ap, subst, arith, inl, inr}
 use Rattle.std.specs.List.{list_all}
 use Rattle.std.specs.Prelude.{is_some, slice_get}
@@ -47,7 +47,7 @@ first_of a b e = grind (arith, e)
 second_of : (a b : Bool) → (a && b) ≡ true → b ≡ true
 second_of a b e = grind (arith, e)
 
--- ---- what a view tells
+-- ---- what a view says
 
 pub record ViewTells (f : Forest) (k : ℕ) (x : View) : Type 0 where
   pub kind : kind_of f k ≡ Some x.kind
@@ -242,7 +242,7 @@ put-children made p q f g h m other =
 
 -- ---- one node for another
 
--- the second can stand where the first stands
+-- the second can be where the first is
 pub record CanStand (k made p : ℕ) (f : Forest) : Type 0 where
   pub below : parent_of f k ≡ Some p
   pub can : CanPut p made f
@@ -272,7 +272,7 @@ instead_none k made p f c =
 not_parent : (f : Forest) (k p : ℕ) → IsForest f → parent_of f k ≡ Some p → eqb k p ≡ false
 not_parent f k p h below = grind (arith, parent_of-self f k h, below, eqb_tells k p, eqb_tells p k)
 
--- behind the put, the first can give its children to the second
+-- after the put, the first can give its children to the second
 put_apart : (k made p : ℕ) (f g : Forest) → IsForest f → CanStand k made p f → HasPut made p f g → is_within g k made ≡ false
 put_apart k made p f g h c m =
     ap (λ x. is_within x k made) m.is ∙ is_within-put_in p m.before made f k made h m.can

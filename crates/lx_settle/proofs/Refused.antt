@@ -196,7 +196,7 @@ add_exhausts text k x w suited seen is =
 
 -- ---- the edits of rules
 
--- a node that isn't the root stands below another
+-- a node that isn't the root is below another
 node_parent : (f : Forest) (k : ℕ) (x : View) → IsForest f → view_of f k ≡ Some x → is_attached f k ≡ true → is_root x.kind ≡ false → (p : ℕ) × (parent_of f k ≡ Some p)
 node_parent f k x h seen here other = attached_parent f k h here (λ root. grind (arith, root_at f k x h root seen, other))
 
@@ -211,7 +211,7 @@ element_like f k e = by_kind (kind_of f k) e where
   by_kind None e = refl
   by_kind (Some kind) e = rw e refl
 
--- what a new node that stands where another stands rests on
+-- what a new node rests on that is where another is
 stands_held : (x : View) (new : NewNode) (rest : Bool) → (may_stand x new && rest) ≡ true → is_held x.parent new.kind ≡ true
 stands_held x new rest e =
     second_of (not (is_root x.kind)) (is_held x.parent new.kind) (second_of (is_suited new) (not (is_root x.kind) && is_held x.parent new.kind) (first_of (may_stand x new) rest e))

@@ -24,7 +24,7 @@ none_by (x ∷ xs) es e f = absurd (cc)
 none_rounded : (m : Marked) → m.leaves ≡ [] → m.elements ≡ [] → rounded m ≡ m
 none_rounded m e f = none_by m.leaves m.elements e f
 
--- what a round tells
+-- what a round shows
 same_pair : (a b : Bool × Working) → ◌≡◌ {A = Result (Bool × Working) Cause} (Ok a) (Ok b) → a ≡ b
 same_pair a b e = cc
 

@@ -1,5 +1,5 @@
--- What an error of settling tells: that no count was left, that too much would be written, that rest wasn't reached, or that
--- memory was wanting.
+-- What an error of settling says: that no count was left, that too much would be written, that rest wasn't reached, or
+-- that memory ran out.
 use Rattle.std.proofs.Common.{◌≡◌, ◌≢◌, ◌∙◌, ℕ, Bool, true, ◌&&◌, Result, Ok, Err, IfErr, sym, ap, arith}
 use Rattle.lx_node.specs.Trees.{nil}
 use Rattle.lx_node.specs.declared.cause.Cause.{Cause}

@@ -33,6 +33,7 @@ abbrev pub written : Option Fields → ℕ → Working → Result Working Cause
 written None k w = Ok w
 written (Some fields) k w = set_step k fields w
 
+-- a node's fields with a patch's members written, where its kind has all of them
 abbrev pub patched_in : Option Label → List Member → Option Fields
 patched_in None members = None
 patched_in (Some l) members = patched l.kind members l.fields
@@ -46,6 +47,7 @@ pub record CanBeMade (new : NewNode) : Type 0 where
 abbrev pub with_made : NewNode → (ℕ → Working → Result Working Cause) → Working → Result Working Cause
 with_made new next w = after (new_step new.kind new.fields w) (next w.next_key)
 
+-- whether there is a kind, and it is an element's
 abbrev pub is_element_at : Option Kind → Bool
 is_element_at None = false
 is_element_at (Some kind) = is_element kind
@@ -71,11 +73,13 @@ act_step MergeNext k w = merged k (next_of w.forest k) w
 
 -- ---- the rules at a node
 
+-- whether an edit has something to do at a view, if there is one
 abbrev pub has_work_at : Option View → SelfEdit → Bool
 has_work_at None edit = false
 has_work_at (Some v) edit = has_work v edit
 
--- an edit is passed over where it is idle at the view of the moment, and where the node isn't in the root's tree any more
+-- an edit at a node, passed over where it is idle at the node's present view, and where the node isn't in the root's
+-- tree any more
 unfoldable pub edit_step : ℕ → SelfEdit → Working → Result Working Cause
 edit_step k edit w =
     if is_attached w.forest k && has_work_at (view_of w.forest k) edit then act_step edit k w else Ok w
@@ -85,6 +89,7 @@ abbrev pub is_asked_at : ℕ → Option Kind → Bool
 is_asked_at rows None = false
 is_asked_at rows (Some kind) = is_on rows kind
 
+-- the edits that a rule answers at a view, if there is one
 abbrev pub answered_at : Option View → Answers → List SelfEdit
 answered_at None rule = []
 answered_at (Some v) rule = rule v
@@ -93,10 +98,10 @@ answered_at (Some v) rule = rule v
 unfoldable pub rule_step : ℕ → Answers → Working → Result Working Cause
 rule_step k rule w = in_turn (edit_step k) (answered_at (view_of w.forest k) rule) w
 
--- what rules of some types answer
+-- the answers of rules, each at its types alone
 abbrev pub all_asked : {T : Type 0} → (T → ℕ) → (T → Answers) → List T → List Answers
 all_asked rows answers rules = map (λ rule. asked (rows rule) (answers rule)) rules
 
--- the rules in their order
+-- all rules at a node, in their order
 unfoldable pub rules_step : List Answers → ℕ → Working → Result Working Cause
 rules_step rules k w = in_turn (rule_step k) rules w

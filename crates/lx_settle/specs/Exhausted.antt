@@ -7,18 +7,19 @@ use Rattle.lx_node.specs.declared.cause.Cause.TheVariants.{NoRest, StepLimit, To
 use Rattle.lx_node.specs.declared.cause.Fault.{Fault}
 use Rattle.lx_node.specs.declared.cause.Fault.TheVariants as fault
 
+-- whether the limit is that on what is written
 abbrev pub is_written : Limit → Bool
 is_written Written = true
 is_written _ = false
 
--- rest wasn't reached, no count was left, or too much would have been written
+-- whether rest wasn't reached, no count was left, or too much would have been written
 abbrev pub is_exhausted : Cause → Bool
 is_exhausted NoRest = true
 is_exhausted StepLimit = true
 is_exhausted (TooLarge limit reached) = is_written limit
 is_exhausted _ = false
 
--- an error for such a cause, or for want of memory
+-- an error for such a cause, or for running out of memory
 abbrev pub IsExhausted : Fault → Type 0
 IsExhausted (fault.Cause cause) = is_exhausted cause ≡ true
 IsExhausted fault.Memory = Unit {0}

@@ -13,7 +13,7 @@ use Rattle.lx_rules.specs.Idle.{has_work}
 abbrev pub is_due : Marked → ℕ → Bool
 is_due m q = if q == 0 then is_noted m q else is_touched m q
 
--- some rule answers an edit at a view that isn't idle there
+-- whether some rule answers an edit at a view that isn't idle there
 abbrev pub is_uneasy : List Answers → Option View → Bool
 is_uneasy rules None = false
 is_uneasy rules (Some v) = list_any (λ rule. list_any (has_work v) (rule v)) rules

@@ -70,7 +70,7 @@ fn patched(
     }
 }
 
-/// Puts a text behind that of the node.
+/// Puts a text after that of the node.
 #[tactic(auto, unfolding(crate::specs::Acting::act_step))]
 fn add_text(draft: &mut Draft, text: &Txt, key: Key) -> Result<(), Fault>
     ensures ok { OnOk result (act_step (edits.Add text.now) key draft.old ≡ Ok draft.new) }
@@ -99,7 +99,7 @@ fn unwrap_node(alloc: Global, draft: &mut Draft, key: Key) -> Result<(), Fault>
     unwrap(alloc, draft, key)
 }
 
-/// Makes a new node that stands below nothing yet, and answers its key.
+/// Makes a new node that is below nothing yet, and answers its key.
 fn make(alloc: Global, draft: &mut Draft, new: &NewNode) -> Result<Key, Fault>
     requires { CanBeMade new.now }
     ensures ok { OnOk result (new_step new.now.kind new.now.fields draft.old ≡ Ok draft.new) }
@@ -157,7 +157,7 @@ fn put_new_before(alloc: Global, draft: &mut Draft, new: &NewNode, key: Key) -> 
     draft.put_before(made, key)
 }
 
-/// Puts a new node right behind the node.
+/// Puts a new node right after the node.
 #[tactic(auto, unfolding(crate::specs::Acting::act_step))]
 fn put_new_behind(alloc: Global, draft: &mut Draft, new: &NewNode, key: Key) -> Result<(), Fault>
     requires { CanBeMade new.now }
@@ -169,7 +169,7 @@ fn put_new_behind(alloc: Global, draft: &mut Draft, new: &NewNode, key: Key) -> 
     draft.put_behind(made, key)
 }
 
-/// Puts a new node behind the node's children.
+/// Puts a new node after the node's children.
 #[tactic(auto, unfolding(crate::specs::Acting::act_step))]
 fn put_new_child(alloc: Global, draft: &mut Draft, new: &NewNode, key: Key) -> Result<(), Fault>
     requires { CanBeMade new.now }
@@ -182,7 +182,7 @@ fn put_new_child(alloc: Global, draft: &mut Draft, new: &NewNode, key: Key) -> R
     draft.put(made, key, size)
 }
 
-/// Brings the children of the next sibling behind those of the node, and removes that sibling.
+/// Brings the children of the next sibling after those of the node, and removes that sibling.
 #[tactic(auto, unfolding(crate::specs::Acting::act_step))]
 fn merge_next(alloc: Global, draft: &mut Draft, key: Key) -> Result<(), Fault>
     ensures ok { OnOk result (act_step edits.MergeNext key draft.old ≡ Ok draft.new) }

@@ -45,7 +45,7 @@ fn has_work_seen(view: &View, edit: &SelfEdit) -> bool
     !idle(view, edit)
 }
 
-/// An edit, passed over where it is idle at the view of the moment, and where the node isn't in the root's
+/// An edit, passed over where it is idle at its present view, and where the node isn't in the root's
 /// tree any more.
 #[tactic(auto, unfolding(crate::specs::Acting::edit_step))]
 fn run_edit(alloc: Global, draft: &mut Draft, edit: &SelfEdit, key: Key) -> Result<(), Fault>
@@ -140,7 +140,7 @@ pub(crate) fn run_rules<T: Transform>(
     Ok(())
 }
 
-/// A leaf in its turn, if it is in the root's tree: it is joined with what stands around it, and then the rules.
+/// A leaf in its turn, if it is in the root's tree: it is joined with what is around it, and then the rules.
 #[tactic(auto, unfolding(crate::specs::Passes::leaf_step))]
 fn take_leaf<T: Transform>(
     alloc: Global,

@@ -35,7 +35,7 @@ fn round<T: Transform>(alloc: Global, draft: &mut Draft, rules: &[T]) -> Result<
 }
 
 /// Rules and joins, round after round, until nothing is left to handle. A round takes the marked leaves, and
-/// joins each with what stands around it before the rules are asked there; or, where there are none, the
+/// joins each with what is around it before the rules are asked there; or, where there are none, the
 /// marked elements, and the root last. Rules are asked in their order, and an edit that is idle is passed
 /// over. It is refused as `NoRest` exactly where a 101st round would begin; where 100,000 counts were taken;
 /// where the edits would bring what was written above 16,777,216 scalar values; and for nothing else. A draft

@@ -9,7 +9,7 @@ use Rattle.lx_editor.proofs.Turned.{entry_kept, next_copied, keeps_kinds, known_
 use Rattle.lx_editor.proofs.editor.Editor.judge_turn.Goals as goal
 use Rattle.lx_editor.proofs.editor.Editor.judge_turn.Goals.{After-copy}
 
--- a copy of the entry that the history tells is its next one
+-- a copy of the entry that the history gives is its next one
 next : (c : After-copy) (state : State) → state.links ≡ c.in-Some.entry.now.links → state.selection ≡ c.in-Some.entry.now.selection
     → entry_of c.args.turn (editor_of c.self.inside).history ≡ Some state
 next c state links selection = next_copied c.args.turn _ (option_copied c.state_at.result) c.in-Some.entry.now state c.state_at.ensures (ap option_copied c.in-Some.is) links selection
