@@ -1,4 +1,4 @@
--- Runs as their words have them, and runs that generate a session.
+-- Runs as their arguments have them, and runs that generate a session.
 use Rattle.std.proofs.Common.{◌≡◌, ℕ, true, false, ◌+◌, inl, inr, List, [], ◌∷◌, ◌++◌, length, refl, ap, subst, arith}
 use Rattle.lx_words.specs.declared.options.Generated.{Generated}
 use Rattle.lx_words.specs.declared.options.Mode.{Mode}
@@ -16,14 +16,14 @@ use Rattle.lx_cli.specs.Generating.{GeneratedEnds, IsGeneratedRun, RunsAsAsked, 
 use Rattle.lx_cli.proofs.Devices.{Appends-none, IsCounted-none, IsCounted-within}
 use Rattle.lx_cli.proofs.Runs.{HasRisen-not, IsAnsweredRun-none, worded}
 
--- ---- runs as their words have them
+-- ---- runs as their arguments have them
 
--- words that are taken
+-- arguments that are taken
 pub RunsAsAsked-taken : (mode : Mode) (status : Status) (run : Seen) → are_taken run.words ≡ true → (asked_for run.words).mode ≡ mode
     → RunsBy mode status run → RunsAsAsked status run
 RunsAsAsked-taken mode status run taken is runs = rw (taken, is) runs
 
--- words that are refused
+-- arguments that are refused
 pub RunsAsAsked-refused : (status : Status) (run : Seen) → are_taken run.words ≡ false → IsRun status run → RunsAsAsked status run
 RunsAsAsked-refused status run refused runs = rw refused runs
 
@@ -64,11 +64,11 @@ answered_along A B goes status run p = record {
   complete = p.complete;
 }
 
--- words that ask for no mode have nothing beside the editor
+-- arguments that ask for no mode have nothing beside the editor
 served_plain : (words : List (List ℕ)) → (asked_for words).mode ≡ Plain → served_with words ≡ plain (begun_with words)
 served_plain words is = ap (λ (m : Mode). record { editor = begun_with words; layer = new_layer m }) is
 
--- words that are taken, and ask for no mode
+-- arguments that are taken, and ask for no mode
 pub RunsAsAsked-plain : (status : Status) (run : Seen) → are_taken run.words ≡ true → (asked_for run.words).mode ≡ Plain
     → IsServedRun status run → RunsAsAsked status run
 RunsAsAsked-plain status run taken is runs =
@@ -79,7 +79,7 @@ RunsAsAsked-plain status run taken is runs =
 
 -- ---- sessions that are generated
 
--- memory was wanting for the session
+-- memory ran out for the session
 pub IsGeneratedRun-none : (session : Generated) (words : List (List ℕ)) (q : SourceSeen) (s : SinkSeen)
     → IsGeneratedRun Memory session (worded words [] [] q q s s)
 unfolding GeneratedEnds
@@ -92,7 +92,7 @@ IsGeneratedRun-none session words q s = record {
   complete = λ faultless below. inr refl;
 }
 
--- memory was wanting before the words were read, whatever they ask for
+-- memory ran out before the arguments were read, whatever they ask for
 pub RunsAsAsked-none : (words : List (List ℕ)) (q : SourceSeen) (s : SinkSeen) → RunsAsAsked Memory (worded words [] [] q q s s)
 RunsAsAsked-none words q s = go (mode_for words)
   where

@@ -23,7 +23,7 @@ AreBrokenOff-failed a b left faults reads = record {
   reads = reads;
 }
 
--- bytes behind those that are unanswered
+-- bytes after those that are unanswered
 pub AreUnanswered-longer : (why : Unanswered) (served : Served) (s t : SinkSeen) (waits xs : List ℕ) (m n : ℕ) → m ≤ n
     → AreUnanswered why (ended (waits ++ take m xs)) served s t → AreUnanswered why (ended (waits ++ take n xs)) served s t
 AreUnanswered-longer why served s t waits xs m n le p =
@@ -102,7 +102,7 @@ Stops-behind TooLong a b c all left xs ys e p q = record {
       (AreTaken-append a.session b.session c.session a.sink b.sink c.sink xs (take left ys) p.taken q.taken);
 }
 
--- what is spent of the numbers, and what the bytes still may want
+-- what is spent of the numbers, and what the bytes may still need
 pub spent-behind : (a b : Moment) (all left : ℕ) (xs : List ℕ) → length xs + left ≡ all → ReadsOn all xs a b
     → spent b.session.served + length b.session.pending.items + left
     ≤ spent a.session.served + length a.session.pending.items + all

@@ -20,7 +20,7 @@ use Rattle.lx_cli.proofs.Lines.{IsUnended-none, length-ended-le}
 use Rattle.lx_cli.proofs.Devices.{Consumes-none, Appends-none, IsCounted-none, IsCounted-within, AreWritten-append}
 use Rattle.lx_cli.proofs.Answering.{FollowsInTo-append, AreUnanswered-append}
 
--- a run with words
+-- a run with arguments
 abbrev pub worded : List (List ℕ) → List ℕ → List ℕ → SourceSeen → SourceSeen → SinkSeen → SinkSeen → Seen
 worded words read written q r s t = record {
   words = words;

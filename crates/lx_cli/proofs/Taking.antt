@@ -9,7 +9,7 @@ use Rattle.lx_cli.specs.Steps.{AreAnswered, AreUnanswered, AreTaken, IsUnended, 
 use Rattle.lx_cli.proofs.Lines.{ended-append, unended-append, ended-push, unended-push}
 use Rattle.lx_cli.proofs.Answering.{AreAnswered-none, AreAnswered-append, AreUnanswered-append, AreUnanswered-later}
 
--- what later bytes end, behind what waits
+-- what later bytes end, after what waits
 ended-behind : (waits xs ys rest : List ℕ) → rest ≡ unended (waits ++ xs)
     → ended (waits ++ (xs ++ ys)) ≡ ended (waits ++ xs) ++ ended (rest ++ ys)
 ended-behind waits xs ys rest e =
@@ -50,7 +50,7 @@ AreTaken-append a b c s t u xs ys p q = record {
   waiting = q.waiting ∙ unended-behind a.pending.items xs ys b.pending.items p.waiting;
 }
 
--- bytes behind those that are taken, of which not all lines are answered
+-- bytes after those that are taken, of which not all lines are answered
 pub AreUnanswered-taken : (why : Unanswered) (a b : Session) (s t u : SinkSeen) (xs ys : List ℕ)
     → AreTaken xs a b s t → AreUnanswered why (ended (b.pending.items ++ ys)) b.served t u
     → AreUnanswered why (ended (a.pending.items ++ (xs ++ ys))) a.served s u
@@ -69,7 +69,7 @@ AreTaken-push a b c s t u xs byte p q waiting = record {
   waiting = waiting ∙ unended_push-behind a.pending.items xs b.pending.items byte p.waiting;
 }
 
--- a byte that ends a line which is not answered, and whatever comes behind it
+-- a byte that ends a line which is not answered, and whatever comes after it
 pub AreUnanswered-push : (why : Unanswered) (a b : Session) (s t u : SinkSeen) (xs rest : List ℕ) (byte : ℕ)
     → AreTaken xs a b s t → AreUnanswered why (ended_by byte b.pending.items) b.served t u
     → AreUnanswered why (ended (a.pending.items ++ ((xs ++ byte ∷ []) ++ rest))) a.served s u

@@ -3,6 +3,7 @@ use Rattle.std.specs.Prelude.{ℕ, List, Option, None, Some, codes}
 use Rattle.lx_cli.specs.declared.status.Status.{Status}
 use Rattle.lx_cli.specs.declared.status.Status.TheVariants.{Done, Usage, ReadFault, WriteFault, Memory, InputTooLong}
 
+-- the exit status of the process
 abbrev pub number_of_status : Status → ℕ
 number_of_status Done = 0
 number_of_status Usage = 2
@@ -11,7 +12,7 @@ number_of_status WriteFault = 4
 number_of_status Memory = 5
 number_of_status InputTooLong = 6
 
--- what is said of a run that isn't done: how the program is called, where its words weren't taken
+-- what is said of a run that isn't done: how the program is called, where its arguments weren't taken
 abbrev pub message_of : Status → Option (List ℕ)
 message_of Done = None
 message_of Usage = Some (codes "lexical: usage")

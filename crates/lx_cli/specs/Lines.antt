@@ -11,12 +11,12 @@ unfoldable pub ended : List ℕ → List (List ℕ)
 ended [] = []
 ended (byte ∷ bytes) = if byte == 10 then [] ∷ ended bytes else longer byte (ended bytes)
 
--- the byte in front of what isn't ended, if no line is ended behind it
+-- the byte in front of what isn't ended, if no line is ended after it
 abbrev pub with_front : List (List ℕ) → ℕ → List ℕ → List ℕ
 with_front [] byte rest = byte ∷ rest
 with_front (line ∷ lines) byte rest = rest
 
--- what stands behind the last line end
+-- what is after the last line end
 unfoldable pub unended : List ℕ → List ℕ
 unended [] = []
 unended (byte ∷ bytes) = if byte == 10 then unended bytes else with_front (ended bytes) byte (unended bytes)

@@ -9,12 +9,12 @@ use Rattle.lx_cli.specs.Lines.{ended, lines_of}
 use Rattle.lx_cli.specs.declared.status.Status.{Status}
 use Rattle.lx_cli.specs.declared.status.Status.TheVariants.{Done, Usage, ReadFault, WriteFault, Memory, InputTooLong}
 
--- the editor that a run begins with: its replies to commits tell the view where the words ask for it, and its history has the
--- delay that they ask for
+-- the editor that a run begins with: its replies to commits include the view where the arguments ask for it, and its
+-- history has the delay that they ask for
 abbrev pub begun_with : List (List ℕ) → Editor
 begun_with words = new_editor (view_in words) (delay_in words)
 
--- the same with what stands beside it in the mode that the words ask for
+-- the editor that a run begins with, and what is beside it in the mode that the arguments ask for
 abbrev pub served_with : List (List ℕ) → Served
 served_with words = new_served (asked_for words)
 
@@ -22,28 +22,30 @@ served_with words = new_served (asked_for words)
 abbrev pub input_limit : ℕ
 input_limit = 16777216
 
--- what can be seen of a source: the bytes that it has left and how often it was read, where it tells them, and its
--- count of faults
+-- what can be seen of a source: the bytes that it has left and how often it was read, where it says so, and its count
+-- of faults
 pub record SourceSeen : Type 0 where
   pub left : Option (List ℕ)
   pub faults : ℕ
   pub reads : Option ℕ
 
--- what can be seen of a sink: the bytes that it took and how often it was written to, where it tells them, and its
--- count of faults
+-- what can be seen of a sink: the bytes that it took and how often it was written to, where it says so, and its count
+-- of faults
 pub record SinkSeen : Type 0 where
   pub taken : Option (List ℕ)
   pub faults : ℕ
   pub writes : Option ℕ
 
+-- what can be seen of a source, by what is read of it
 abbrev pub source_seen : {S : Type 0} → (S → Option (List ℕ)) → (S → ℕ) → (S → Option ℕ) → S → SourceSeen
 source_seen left faults reads source = record { left = left source; faults = faults source; reads = reads source }
 
+-- what can be seen of a sink, by what is read of it
 abbrev pub sink_seen : {K : Type 0} → (K → Option (List ℕ)) → (K → ℕ) → (K → Option ℕ) → K → SinkSeen
 sink_seen taken faults writes sink = record { taken = taken sink; faults = faults sink; writes = writes sink }
 
--- A run as it is seen from outside: the words, the bytes that it read and wrote, and the source and the sink before it and
--- after it.
+-- A run as it is seen from outside: the arguments, the bytes that it read and wrote, and the source and the sink before
+-- it and after it.
 pub record Seen : Type 0 where
   pub words : List (List ℕ)
   pub read : List ℕ
@@ -69,8 +71,8 @@ pub record IsFrontOfReplies (AreReplies : List (List ℕ) → List ℕ → Type 
   pub follows : AreReplies answered replies
   pub begun : written ++ later_bytes ≡ replies
 
--- The lines that may be answered: those that ended in what was read, without the byte past the limit, and what stands
--- behind the last line end only where the input was read to its end and is within the limit.
+-- The lines that may be answered: those that ended in what was read, without the byte past the limit, and what is
+-- after the last line end only where the input was read to its end and is within the limit.
 abbrev pub MayAnswer : Seen → List (List ℕ) → Type 0
 MayAnswer run lines =
     (lines ≡ ended (take input_limit run.read))
@@ -84,7 +86,7 @@ pub record IsDone (AreReplies : List (List ℕ) → List ℕ → Type 0) (run : 
   pub follows : AreReplies (lines_of run.read) run.written
   pub faultless : IsFaultless run
 
--- The words aren't taken, and nothing was read or written: neither the source nor the sink was called.
+-- The arguments aren't taken, and nothing was read or written: neither the source nor the sink was called.
 pub record IsUsage (run : Seen) : Type 0 where
   pub refused : are_taken run.words ≡ false
   pub read : run.read ≡ []
@@ -109,8 +111,8 @@ pub record IsWriteFault (AreReplies : List (List ℕ) → List ℕ → Type 0) (
   pub source : run.source_after.faults ≡ run.source_before.faults
   pub sink : HasRisen run.sink_before.faults run.sink_after.faults
 
--- Memory was wanting, and a front of the replies to lines that may be answered is written. Where the words may not be
--- taken, it was wanting before they were looked at, and nothing was read or written.
+-- Memory ran out, and a front of the replies to lines that may be answered is written. Where the arguments may not be
+-- taken, it ran out before they were looked at, and nothing was read or written.
 pub record IsOutOfMemory (AreReplies : List (List ℕ) → List ℕ → Type 0) (run : Seen) : Type 0 where
   pub taken : (are_taken run.words ≡ true) ⊎ ((run.read ≡ []) × (run.written ≡ []))
   pub lines : List (List ℕ)
@@ -134,7 +136,7 @@ Ends AreReplies WriteFault run = IsWriteFault AreReplies run
 Ends AreReplies Memory run = IsOutOfMemory AreReplies run
 Ends AreReplies InputTooLong run = IsTooLong AreReplies run
 
--- Both counts of faults stand where they stood, and not at their last value.
+-- Both counts of faults are where they were, and not at their last value.
 pub record HasNoFault (run : Seen) : Type 0 where
   pub faultless : IsFaultless run
   pub source : run.source_before.faults < last_count
@@ -142,7 +144,7 @@ pub record HasNoFault (run : Seen) : Type 0 where
 
 -- A run that ended so, where it is said which bytes may be the replies to which lines. What it read is gone from the source, and what it wrote went to the sink. It reads at most one
 -- byte more than the limit. The calls are at most one more than the bytes: reads than were read, writes than were written.
--- Where the words are taken, and there are no fault and not too many bytes, it is done, unless memory was wanting.
+-- Where the arguments are taken, and there are no fault and not too many bytes, it is done, unless memory ran out.
 pub record IsAnsweredRun (AreReplies : List (List ℕ) → List ℕ → Type 0) (status : Status) (run : Seen) : Type 0 where
   pub ends : Ends AreReplies status run
   pub consumes : Consumes run.source_before.left run.source_after.left run.read
@@ -152,10 +154,10 @@ pub record IsAnsweredRun (AreReplies : List (List ℕ) → List ℕ → Type 0) 
   pub writes : IsCounted run.sink_before.writes run.sink_after.writes (length run.written + 1)
   pub complete : are_taken run.words ≡ true → HasNoFault run → length run.read ≤ input_limit → (status ≡ Done) ⊎ (status ≡ Memory)
 
--- a run in which the editor that the words ask for answers the lines
+-- a run in which the editor that the arguments ask for answers the lines
 abbrev pub IsRun : Status → Seen → Type 0
 IsRun status run = IsAnsweredRun (Follows (begun_with run.words)) status run
 
--- a run in which that editor answers them with what stands beside it
+-- a run in which that editor answers them with what is beside it
 abbrev pub IsServedRun : Status → Seen → Type 0
 IsServedRun status run = IsAnsweredRun (FollowsIn (served_with run.words)) status run

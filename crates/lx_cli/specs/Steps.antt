@@ -51,7 +51,7 @@ pub record AreLinesCutOff (lines : List (List ℕ)) (old : Served) (sink_old sin
   pub front : IsFrontOfReplies (FollowsIn old) lines written
   pub sink : AreCutOff written sink_old sink_new
 
--- A front of the replies is written, and then memory was wanting.
+-- A front of the replies is written, and then memory ran out.
 pub record LackMemory (lines : List (List ℕ)) (old : Served) (sink_old sink_new : SinkSeen) : Type 0 where
   pub written : List ℕ
   pub front : IsFrontOfReplies (FollowsIn old) lines written
@@ -67,11 +67,11 @@ abbrev pub LinesEnd : Result Unit Unanswered → List (List ℕ) → Served → 
 LinesEnd (Ok done) lines old new sink_old sink_new = AreAnswered lines old new sink_old sink_new
 LinesEnd (Err why) lines old new sink_old sink_new = AreUnanswered why lines old sink_old sink_new
 
--- the line that a byte ends, behind those that wait
+-- the line that a byte ends, after the bytes that wait
 abbrev pub ended_by : ℕ → List ℕ → List (List ℕ)
 ended_by byte waiting = if byte == 10 then waiting ∷ [] else []
 
--- what waits behind the byte
+-- what waits after the byte
 abbrev pub waiting_after : ℕ → List ℕ → List ℕ
 waiting_after byte waiting = if byte == 10 then [] else waiting ++ byte ∷ []
 
@@ -85,12 +85,12 @@ pub record IsUnended (bytes : List ℕ) : Type 0 where
   pub none : ended bytes ≡ []
   pub all : unended bytes ≡ bytes
 
--- The bytes came behind those that waited: the lines that they ended are answered, and the rest waits.
+-- The bytes came after those that waited: the lines that they ended are answered, and the rest waits.
 pub record AreTaken (bytes : List ℕ) (old new : Session) (sink_old sink_new : SinkSeen) : Type 0 where
   pub answered : AreAnswered (ended (old.pending.items ++ bytes)) old.served new.served sink_old sink_new
   pub waiting : new.pending.items ≡ unended (old.pending.items ++ bytes)
 
--- what comes of bytes behind those that wait
+-- what comes of bytes after those that wait
 abbrev pub BytesEnd : Result Unit Unanswered → List ℕ → Session → Session → SinkSeen → SinkSeen → Type 0
 BytesEnd (Ok done) bytes old new sink_old sink_new = AreTaken bytes old new sink_old sink_new
 BytesEnd (Err why) bytes old new sink_old sink_new =
@@ -115,7 +115,7 @@ pub record AreBrokenOff (bytes : List ℕ) (old new : SourceSeen) : Type 0 where
   pub faults : HasRisen old.faults new.faults
   pub reads : IsCounted old.reads new.reads (length bytes + 1)
 
--- what the session, the source and the sink are at one moment
+-- what the session, the source and the sink are at one time
 pub record Moment : Type 0 where
   pub session : Session
   pub source : SourceSeen
@@ -127,13 +127,13 @@ pub record ReadsOn (may_come : ℕ) (bytes : List ℕ) (old new : Moment) : Type
   pub source : AreRead bytes old.source new.source
   pub taken : AreTaken bytes old.session new.session old.sink new.sink
 
--- The input ended behind these bytes, and they are taken.
+-- The input ended after these bytes, and they are taken.
 pub record IsEnd (may_come : ℕ) (bytes : List ℕ) (old new : Moment) : Type 0 where
   pub within : length bytes ≤ may_come
   pub source : AreReadToEnd bytes old.source new.source
   pub taken : AreTaken bytes old.session new.session old.sink new.sink
 
--- A read failed behind these bytes, and they are taken.
+-- A read failed after these bytes, and they are taken.
 pub record IsBrokenOff (may_come : ℕ) (bytes : List ℕ) (old new : Moment) : Type 0 where
   pub within : length bytes ≤ may_come
   pub source : AreBrokenOff bytes old.source new.source
@@ -160,6 +160,7 @@ Stops WriteFault may_come bytes old new = IsUnanswered unanswered.WriteFault may
 Stops Memory may_come bytes old new = IsUnanswered unanswered.Memory may_come bytes old new
 Stops TooLong may_come bytes old new = IsPastLimit may_come bytes old new
 
+-- these three at one time
 abbrev pub moment : Session → SourceSeen → SinkSeen → Moment
 moment session source sink = record { session = session; source = source; sink = sink }
 
@@ -170,7 +171,7 @@ pub record GoesOnBy (count may_come : ℕ) (old new : Moment) : Type 0 where
   pub counted : length bytes ≡ count
   pub goes_on : ReadsOn may_come bytes old new
 
--- No more is read, behind some bytes.
+-- No more is read, after some bytes.
 pub record HasStopped (stop : Stop) (may_come : ℕ) (old new : Moment) : Type 0 where
   pub bytes : List ℕ
   pub stops : Stops stop may_come bytes old new

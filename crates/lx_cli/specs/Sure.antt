@@ -2,6 +2,6 @@
 use Rattle.std.specs.Prelude.{ℕ, List, None, Some}
 use Rattle.lx_cli.specs.Run.{SourceSeen}
 
--- it has these bytes left, and its count of faults stands at 0
+-- a source that never fails, with these bytes left
 abbrev pub sure_seen : List ℕ → SourceSeen
 sure_seen left = record { left = Some left; faults = 0; reads = None }

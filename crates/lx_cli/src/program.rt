@@ -15,13 +15,14 @@ use lx_node::NoMemory;
 use lx_words::{Generated, Mode, Options, Refused, options_of};
 use std::alloc::Global;
 
-/// Runs the program: answers each line of the source into the sink. The words are those of the command line behind the
-/// program's name: `--view`, under which replies to commits tell the view, and `--delay` with a number of milliseconds
-/// from 0 to 86,400,000, in which typing goes on in one entry of the history. With `--hub`, which may stand beside both,
-/// each commit is published to views that lag behind, and lines about views are answered too. With `--outline`, likewise, an
-/// outline follows each commit, and lines that ask about it are answered too. With `--generate`, a number of lines from 1 to
-/// 20,000, and `--seed`, a number up to 4,294,967,295, nothing is read: a session is generated and run, and its summary is
-/// written. Other words are refused, and nothing is read or written.
+/// Runs the program: answers each line of the source into the sink. The arguments are those of the command line after
+/// the program's name: `--view`, under which replies to commits include the view, and `--delay` with a number of
+/// milliseconds from 0 to 86,400,000, in which typing goes on in one entry of the history. With `--hub`, which may be
+/// beside both, each commit is published to views that lag behind, and lines about views are answered too. With
+/// `--outline`, likewise, an outline follows each commit, and lines that ask about it are answered too. With
+/// `--generate`, a number of lines from 1 to 20,000, and `--seed`, a number up to 4,294,967,295, nothing is read: a
+/// session is generated and run, and its summary is written. Other arguments are refused, and nothing is read or
+/// written.
 pub fn run<S: Source, K: Sink>(
     alloc: Global,
     words: &[String],
@@ -105,7 +106,7 @@ fn serve<S: Source, K: Sink>(
     answer_all(&mut session, &mut buffer, source, sink)
 }
 
-/// Reads the input to its end, and answers its lines and what stands behind the last line end.
+/// Reads the input to its end, and answers its lines and what is after the last line end.
 fn answer_all<S: Source, K: Sink>(
     session: &mut Session,
     buffer: &mut [u8],

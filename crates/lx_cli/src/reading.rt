@@ -24,7 +24,7 @@ pub(crate) enum Stop {
     ReadFault,
     /// A write failed. A front of the replies was written.
     WriteFault,
-    /// Memory was wanting. A front of the replies was written.
+    /// Memory ran out. A front of the replies was written.
     Memory,
     /// One byte more than the limit was read.
     TooLong,

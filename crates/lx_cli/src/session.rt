@@ -15,7 +15,7 @@ pub(crate) const LINE_END: u8 = b'\n';
 pub(crate) enum Unanswered {
     /// A write failed. A front of the reply was written.
     WriteFault,
-    /// Memory was wanting.
+    /// Memory ran out.
     Memory,
 }
 
@@ -34,7 +34,7 @@ impl Unanswered {
     }
 }
 
-/// What is kept between two bytes of the input: the editor with what stands beside it, the bytes that no line end has ended
+/// What is kept between two bytes of the input: the editor with what is beside it, the bytes that no line end has ended
 /// yet, and the room that lines are read in.
 #[derive(Drop)]
 pub(crate) struct Session {
@@ -99,7 +99,7 @@ impl Session {
         }
     }
 
-    /// Takes a byte behind those that wait.
+    /// Takes a byte after those that wait.
     fn take_byte<K: Sink>(&mut self, byte: u8, sink: &mut K) -> Result<(), Unanswered>
         requires { spent self.old.served < last_u32 }
         ensures lines { LinesEnd result (ended_by byte self.old.pending.items) self.old.served self.new.served
@@ -116,7 +116,7 @@ impl Session {
         }
     }
 
-    /// Takes bytes behind those that wait, and answers the lines that they end.
+    /// Takes bytes after those that wait, and answers the lines that they end.
     pub(crate) fn take_piece<K: Sink>(
         &mut self,
         piece: &[u8],

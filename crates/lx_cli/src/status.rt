@@ -3,13 +3,13 @@
 pub enum Status {
     /// The input was read to its end, and every reply was written.
     Done,
-    /// The words of the command line are none that the program takes. Nothing was read or written.
+    /// The arguments of the command line are none that the program takes. Nothing was read or written.
     Usage,
     /// A read failed. The lines that had ended before it are answered.
     ReadFault,
     /// A write failed. A front of the replies was written.
     WriteFault,
-    /// Memory was wanting. A front of the replies was written.
+    /// Memory ran out. A front of the replies was written.
     Memory,
     /// The input has more than 16,777,216 bytes. The lines that ended before the next byte are answered.
     InputTooLong,

@@ -1,4 +1,4 @@
--- What is told of the state at a session's end.
+-- What the summary says of the state at a session's end.
 use Rattle.std.proofs.Common.{◌≡◌, ◌∙◌, ℕ, false, List, length, subst, ◌-◌, ◌^◌, ◌<◌, ◌≤◌, [], ◌∷◌, Option, None, Some, refl, ap, arith}
 use Rattle.std.specs.Prelude.{min}
 use Rattle.serde_json.specs.Data.{Data}

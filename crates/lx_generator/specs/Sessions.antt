@@ -1,4 +1,4 @@
--- A session that is generated from a number: its lines, what they lead to, and what is told of it.
+-- A session that is generated from a number: its lines, what they lead to, and its summary.
 use Rattle.std.specs.Prelude.{◌≡◌, ℕ, zero, suc, ◌+◌, ◌-◌, ◌*◌, ◌/◌, ◌%◌, ◌==◌, if◌then◌else◌, Bool, false, List, [], ◌∷◌, length, codes, encode_utf8_all, None}
 use Rattle.lx_node.specs.NamedTrees.{total}
 use Rattle.lx_node.specs.declared.cause.PointKind.TheVariants.{Element}
@@ -27,10 +27,11 @@ use Rattle.lx_generator.specs.Summaries.{summary_text}
 
 -- ---- the lines
 
--- the steps of the first line: an empty paragraph, and the caret in it
+-- the start of the first paragraph
 abbrev pub caret_place : PointRef
 caret_place = record { node = Key 1; offset = 0; kind = Element }
 
+-- the steps of the first line: an empty paragraph, and the caret in it
 abbrev pub first_steps : List Step
 first_steps = Append [] ∷ Select (Range caret_place caret_place None) ∷ []
 
@@ -38,6 +39,7 @@ first_steps = Append [] ∷ Select (Range caret_place caret_place None) ∷ []
 unfoldable pub next_number : ℕ → ℕ
 next_number x = (1664525 * x + 1013904223) % 4294967296
 
+-- the command of this name, to which that is sent
 abbrev pub command_with : List ℕ → Payload → Command
 command_with name sent = record { name = name; payload = sent }
 
@@ -45,7 +47,7 @@ command_with name sent = record { name = name; payload = sent }
 abbrev pub letter : ℕ → List ℕ
 letter n = (97 + n) ∷ []
 
--- the command that the upper half of a number gives
+-- the command that the upper half of a line's number gives
 abbrev pub command_by : ℕ → Command
 command_by half =
     if half % 8 == 0 then command_with (codes "insert-paragraph") Nothing else
@@ -54,6 +56,7 @@ command_by half =
     if half % 8 == 3 then command_with (codes "undo") Nothing else
     command_with (codes "insert-text") (Text (letter ((half / 8) % 26)))
 
+-- the command of a line, by its number
 unfoldable pub command_of : ℕ → Command
 command_of x = command_by (x / 65536)
 
@@ -64,6 +67,7 @@ commands_behind (suc more) x = command_of (next_number x) ∷ commands_behind mo
 
 -- ---- the session
 
+-- no line was counted
 abbrev pub no_tally : Tally
 no_tally = record { commits = 0; idle = 0; refused = 0 }
 
@@ -74,7 +78,7 @@ counted (Refused cause step) t = record t { refused = t.refused + 1 }
 counted Idle t = record t { idle = t.idle + 1 }
 counted (Gathered count) t = t
 
--- The commands lead the editor and the tally there: each is dispatched without tags and at moment 0.
+-- The commands lead the editor and the tally there: each is dispatched without tags and at time 0.
 abbrev pub LeadTo : List Command → Editor → Tally → Editor → Tally → Type 0
 LeadTo [] old t new u = (new ≡ old) × (u ≡ t)
 LeadTo (command ∷ commands) old t new u =
@@ -90,13 +94,13 @@ pub record IsSession (session : Generated) (old last : Editor) (tally : Tally) :
   pub begins : IsUpdated old first_steps (recording untagged 0) outcome first
   pub goes_on : LeadTo (commands_behind (session.lines - 1) (next_number session.seed)) first (counted outcome no_tally) last tally
 
--- ---- what is told of it
+-- ---- its summary
 
 -- the bytes of the view, as HTML
 abbrev pub view_text : Editor → List ℕ
 view_text e = encode_utf8_all (html_of (render e.tree))
 
--- what is told of a session of so many lines that ended with this editor and this tally
+-- the summary of a session of so many lines that ended with this editor and this tally
 abbrev pub summary_of : ℕ → Editor → Tally → Summary
 summary_of lines e t = record {
   characters = tree_characters e.tree;
@@ -110,7 +114,7 @@ summary_of lines e t = record {
   view = length (view_text e);
 }
 
--- the bytes that a session on a new editor with this delay may be told with
+-- the bytes that a session on a new editor with this delay may be summed up in
 unfoldable pub IsTold : Generated → ℕ → List ℕ → Type 0
 IsTold session delay bytes = (last : Editor) × (tally : Tally) × IsSession session (new_editor false delay) last tally
     × (bytes ≡ summary_text (summary_of session.lines last tally))

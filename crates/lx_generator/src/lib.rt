@@ -1,5 +1,5 @@
-//! Sessions that are generated from a number, each run on a new editor and told as a whole: the same lines come of the same
-//! number on every machine.
+//! Sessions that are generated from a number, each run on a new editor and summed up as a whole: the same lines come of
+//! the same number on every machine.
 #![tactic(auto)]
 
 mod lines;

@@ -1,4 +1,5 @@
-//! The lines of a session: each has a number, which the number before it gives, and what it does is told by the upper half.
+//! The lines of a session: each has a number, which the number before it gives, and its upper half says what the line
+//! does.
 
 ghost use Rattle.std.specs.Prelude.{◌≡◌, ◌<◌, All, IfOk, chars, string_bytes};
 ghost use Rattle.lx_step.specs.Sound.{IsSound};

@@ -1,4 +1,4 @@
-//! A whole session: its lines run one after another, and what they lead to is told.
+//! A whole session: its lines run one after another, and what they lead to is summed up.
 
 ghost use Rattle.std.specs.Prelude.{◌≡◌, ◌+◌, ◌<◌, ◌≤◌, IfOk, OnOk};
 ghost use Rattle.lx_node.specs.Limits.{last_u32};
@@ -14,9 +14,10 @@ use lx_step::Tags;
 use lx_words::Generated;
 use std::alloc::Global;
 
-/// Runs the session on a new editor whose history has this delay, in milliseconds, and tells it: the bytes of a JSON object,
-/// without a line end. The lines are an update, which makes a paragraph with the caret in it, and dispatches of commands
-/// that its numbers give: a paragraph, bold, a deletion, an undo, or a letter. Each runs without tags and at moment 0.
+/// Runs the session on a new editor whose history has this delay, in milliseconds, and sums it up: the bytes of a JSON
+/// object, without a line end. The lines are an update, which makes a paragraph with the caret in it, and dispatches of
+/// commands that its numbers give: a paragraph, bold, a deletion, an undo, or a letter. Each runs without tags and at
+/// time 0.
 pub fn tell_session(alloc: Global, session: Generated, delay: u64) -> Result<Vec<u8>, NoMemory>
     requires some { 1 ≤ session.lines }
     ensures { IfOk result (λ bytes. IsTold session delay bytes.items) }
@@ -64,7 +65,7 @@ fn dispatch_all(
     Ok(())
 }
 
-/// What is told of a session of so many lines that ended so.
+/// The summary of a session of so many lines that ended so.
 fn summary_of(lines: u32, editor: &Editor, tally: Tally) -> Result<Summary, NoMemory>
     ensures { IfOk result (λ summary. summary ≡ summary_of lines editor.now tally) }
 {

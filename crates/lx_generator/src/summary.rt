@@ -1,4 +1,4 @@
-//! What is told of a whole session in the place of its replies.
+//! The summary of a whole session, which comes in the place of its replies.
 
 ghost use Rattle.std.specs.Prelude.{◌≡◌, IfOk};
 ghost use Rattle.serde_json.specs.View.{view};
@@ -23,7 +23,7 @@ pub(crate) struct Summary {
     pub(crate) view: u64,
 }
 
-/// The bytes of a summary, without a line end: compact JSON whose members stand in byte order.
+/// The bytes of a summary, without a line end: compact JSON whose members are in byte order.
 pub(crate) fn write_summary(alloc: Global, summary: Summary) -> Result<Vec<u8>, NoMemory>
     ensures { IfOk result (λ bytes. bytes.items ≡ summary_text summary) }
 {

@@ -11,7 +11,7 @@ use Rattle.lx_layers.specs.Served.{Served, plain, new_layer, new_served, Answers
 
 -- ---- nothing beside the editor
 
--- an answer where nothing stands beside the editor
+-- an answer where nothing is beside the editor
 record IsPlainly (old : Editor) (line bytes : List ℕ) (new : Served) : Type 0 where
   editor : Editor
   made : new ≡ plain editor

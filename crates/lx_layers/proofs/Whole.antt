@@ -1,4 +1,4 @@
--- What is told of an outline holds no float, so its bytes are its text.
+-- What is said of an outline holds no float, so its bytes are its text.
 use Rattle.std.proofs.Common.{◌≡◌, ◌∙◌, ap, refl, ℕ, List, [], ◌∷◌, false, map}
 use Rattle.serde_json.specs.Data.{Data}
 use Rattle.serde_json.specs.View.{items_of}

@@ -25,15 +25,17 @@ pub record IsOwn (name line : List ℕ) (asked : Data) : Type 0 where
   pub json : IsJson line value
   pub sole : sole_member name value ≡ Some asked
 
--- any other line, JSON or not
+-- any line that isn't a layer's own, JSON or not
 abbrev pub IsOther : List ℕ → List ℕ → Type 0
 IsOther name line = (value : Data) → IsJson line value → sole_member name value ≡ None
 
 -- ---- what they ask for: "attach", ["deliver",V], ["html",V] or ["detach",V], where V is from 0 to 4,294,967,295
 
+-- the word that asks for a new view
 abbrev pub attaching : List (List ℕ × AboutViews)
 attaching = (codes "attach", Attach) ∷ []
 
+-- the words that ask something of one view
 abbrev pub of_views : List (List ℕ × (ℕ → AboutViews))
 of_views = (codes "deliver", λ v. Deliver v) ∷ (codes "html", λ v. Html v) ∷ (codes "detach", λ v. Detach v) ∷ []
 
@@ -52,6 +54,7 @@ about_views d = option_or (named attaching d) (option_and_then about_one (as_arr
 
 -- ---- what lines about the outline ask for: "outline" or "events"
 
+-- the words that ask about the outline
 abbrev pub of_outline : List (List ℕ × AboutOutline)
 of_outline = (codes "outline", Headings) ∷ (codes "events", LastEvents) ∷ []
 

@@ -22,7 +22,7 @@ pub record OutlinedView : Type 0 where
   pub outline : OutlineView
   pub events : List Event
 
--- that of a new editor, which has committed nothing
+-- the outline of a new editor, which has committed nothing
 abbrev pub new_outlined : OutlinedView
 new_outlined = record { outline = new_outline; events = [] }
 
@@ -35,32 +35,34 @@ pub record IsWithin (f : Forest) : Type 0 where
 
 -- ---- replies
 
--- [key,level,text]
+-- a heading as JSON: [key,level,text]
 abbrev pub entry_data : Entry → Data
 entry_data e = list_data (natural e.key ∷ natural e.level ∷ text_data e.text ∷ [])
 
--- {"outline":{"characters":C,"entries":[..],"nodes":N}}, where the entries are the headings in document order
+-- the reply that shows the outline: {"outline":{"characters":C,"entries":[..],"nodes":N}}, with the headings in
+-- document order
 abbrev pub outline_data : Forest → Data
 outline_data f = single (codes "outline")
     (object (member (codes "characters") (natural (weight characters_in f))
     (member (codes "entries") (list_data (map entry_data (entries_among f (preorder f))))
     (member (codes "nodes") (natural (total f)) no_members))))
 
--- ["destroyed",key], ["created",key] or ["updated",key]
+-- an event as JSON: ["destroyed",key], ["created",key] or ["updated",key]
 abbrev pub event_data : Event → Data
 event_data (Destroyed k) = list_data (string (codes "destroyed") ∷ natural k ∷ [])
 event_data (Created k) = list_data (string (codes "created") ∷ natural k ∷ [])
 event_data (Updated k) = list_data (string (codes "updated") ∷ natural k ∷ [])
 
--- {"events":[..]}
+-- the reply that lists events: {"events":[..]}
 abbrev pub events_data : List Event → Data
 events_data events = single (codes "events") (list_data (map event_data events))
 
--- what is told of the tree that is committed and of the events of the last commit
+-- the reply about the tree that is committed, or the events of the last commit, as JSON
 abbrev pub about_data : AboutOutline → Forest → List Event → Data
 about_data Headings f events = outline_data f
 about_data LastEvents f events = events_data events
 
+-- the reply to what is asked about the outline, or the refusal where nothing is
 abbrev pub outline_text_by : Option AboutOutline → Forest → List Event → List ℕ
 outline_text_by None f events = refused_text
 outline_text_by (Some about) f events = compact_text (about_data about f events)

@@ -19,7 +19,7 @@ pub record IsAhead (e : Editor) (h : Hub) : Type 0 where
   pub number : e.commits ≡ h.commits + 1
   pub leads : Leads h.tip told.ops e.view
 
--- a line behind which there may be a commit more than before it
+-- a hub is level with an editor that has as many commits as before, and else one commit behind it
 pub record MayFollow (before : ℕ) (e : Editor) (h : Hub) : Type 0 where
   pub level : e.commits ≡ before → AreLevel e h
   pub ahead : e.commits ≢ before → IsAhead e h
@@ -29,6 +29,7 @@ abbrev pub AnswersMember : Option Data → Data → Editor → Hub → List ℕ 
 AnswersMember (Some asked) value old h bytes new g = (bytes ≡ views_text asked h) × (new ≡ old) × (g ≡ hub_after_line asked h)
 AnswersMember None value old h bytes new g = ((line : List ℕ) → IsJson line value → Answers old line bytes new) × IsFollowedBy old new h g
 
+-- what an editor and a hub may answer to a value
 abbrev pub AnswersValue : Data → Editor → Hub → List ℕ → Editor → Hub → Type 0
 AnswersValue value old h bytes new g = AnswersMember (sole_member (codes "hub") value) value old h bytes new g
 
@@ -39,5 +40,6 @@ abbrev pub NotesMember : Option Data → Data → Editor → OutlinedView → Li
 NotesMember (Some asked) value old o bytes new p = (bytes ≡ outline_text asked old.tree o.events) × (new ≡ old) × (p ≡ o)
 NotesMember None value old o bytes new p = ((line : List ℕ) → IsJson line value → Answers old line bytes new) × IsNotedBy old new o p
 
+-- what an editor and an outline may answer to a value
 abbrev pub NotesValue : Data → Editor → OutlinedView → List ℕ → Editor → OutlinedView → Type 0
 NotesValue value old o bytes new p = NotesMember (sole_member (codes "ask") value) value old o bytes new p

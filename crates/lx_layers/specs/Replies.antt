@@ -18,21 +18,22 @@ use Rattle.lx_layers.specs.declared.asking.AboutViews.TheVariants.{Attach, Deliv
 abbrev pub single : List ℕ → Data → Data
 single name d = object (member name d no_members)
 
--- a value of none of the forms is refused as no command, and for no step
+-- the reply to a value of none of the forms: it is refused as no command, and for no step
 abbrev pub refused_text : List ℕ
 refused_text = reply_text (Refused BadCommand None)
 
 -- ---- replies
 
--- {"attached":N} or {"full":32}
+-- the reply to what attaches a view: {"attached":N} or {"full":32}
 abbrev pub attached_data : Attached → Data
 attached_data (attached_as.View number) = single (codes "attached") (natural number)
 attached_data attached_as.Full = single (codes "full") (natural 32)
 
+-- the members that say how far a view has come, and which view that is
 abbrev pub reached_data : ℕ → ℕ → Members
 reached_data reached view = member (codes "reached") (natural reached) (member (codes "view") (natural view) no_members)
 
--- {"unknown":V}
+-- the reply about a view that isn't there: {"unknown":V}
 abbrev pub unknown_data : ℕ → Data
 unknown_data view = single (codes "unknown") (natural view)
 
@@ -44,12 +45,12 @@ delivery_data view (Level reached) = single (codes "level") (object (reached_dat
 delivery_data view (Behind reached oldest) = single (codes "behind") (object (member (codes "oldest") (natural oldest) (reached_data reached view)))
 delivery_data view Unknown = unknown_data view
 
--- {"html":HTML} or {"unknown":V}
+-- the reply that shows a view: {"html":HTML} or {"unknown":V}
 abbrev pub html_data : ℕ → Option (List ℕ) → Data
 html_data view None = unknown_data view
 html_data view (Some html) = single (codes "html") (text_data html)
 
--- {"detached":B}
+-- the reply to what detaches a view: {"detached":B}
 abbrev pub detached_data : Bool → Data
 detached_data was_there = single (codes "detached") (boolean was_there)
 
@@ -67,17 +68,20 @@ views_after (Deliver view) h = delivered view h
 views_after (Html view) h = h
 views_after (Detach view) h = detached view h
 
+-- the reply to what is asked about views, or the refusal where nothing is
 abbrev pub views_text_by : Option AboutViews → Hub → List ℕ
 views_text_by None h = refused_text
 views_text_by (Some about) h = compact_text (views_data about h)
 
+-- the hub after what is asked about views
 abbrev pub hub_by : Option AboutViews → Hub → Hub
 hub_by None h = h
 hub_by (Some about) h = views_after about h
 
--- the reply to a line about views with this value, and the hub after it
+-- the reply to a line about views with this value
 abbrev pub views_text : Data → Hub → List ℕ
 views_text asked h = views_text_by (about_views asked) h
 
+-- the hub after a line about views with this value
 abbrev pub hub_after_line : Data → Hub → Hub
 hub_after_line asked h = hub_by (about_views asked) h

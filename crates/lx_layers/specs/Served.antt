@@ -18,27 +18,31 @@ use Rattle.lx_layers.specs.Asked.{IsOwn, IsOther}
 use Rattle.lx_layers.specs.Outlining.{OutlinedView, new_outlined, outline_text}
 use Rattle.lx_layers.specs.Replies.{views_text, hub_after_line}
 
--- an editor, and what stands beside it
+-- an editor, and what is beside it
 pub record Served : Type 0 where
   pub editor : Editor
   pub layer : Layer
 
+-- an editor with nothing beside it
 abbrev pub plain : Editor → Served
 plain e = record { editor = e; layer = layer.Plain }
 
+-- an editor with a hub beside it
 abbrev pub with_hub : Editor → Hub → Served
 with_hub e h = record { editor = e; layer = layer.Hub h }
 
+-- an editor with an outline beside it
 abbrev pub with_outline : Editor → OutlinedView → Served
 with_outline e o = record { editor = e; layer = layer.Outline o }
 
--- what stands beside a new editor in a mode; a session that is generated has nothing there
+-- what is beside a new editor in a mode; a session that is generated has nothing there
 abbrev pub new_layer : Mode → Layer
 new_layer mode.Plain = layer.Plain
 new_layer mode.Hub = layer.Hub new_hub
 new_layer mode.Outline = layer.Outline new_outlined
 new_layer (mode.Generate session) = layer.Plain
 
+-- a new editor with what is beside it, by options
 abbrev pub new_served : Options → Served
 new_served options = record { editor = new_editor options.view options.delay; layer = new_layer options.mode }
 
@@ -49,12 +53,13 @@ pub record AreLevel (e : Editor) (h : Hub) : Type 0 where
   pub tip : h.tip ≡ e.view
   pub commits : h.commits ≡ e.commits
 
--- what holds of an editor and of what stands beside it: a hub is level with it, and an outline is that of its tree
+-- what holds of an editor and of what is beside it: a hub is level with it, and an outline is that of its tree
 abbrev pub IsBeside : Editor → Layer → Type 0
 IsBeside e (layer.Hub h) = AreLevel e h
 IsBeside e (layer.Outline o) = IsOutlineOf o.outline e.tree
 IsBeside e other = Unit {0}
 
+-- the operations of the last commit, if there was one
 abbrev pub ops_told : Option Told → List Op
 ops_told None = []
 ops_told (Some told) = told.ops
@@ -76,8 +81,8 @@ pub record IsNotedBy (old new : Editor) (o p : OutlinedView) : Type 0 where
 -- ---- answers
 
 -- A line may be answered with these bytes: with nothing beside the editor as the editor may. Beside a hub or an outline, a line
--- of the layer's own has the layer's reply and leaves the editor, its moment too; and any other line is answered as the editor
--- may.
+-- of the layer's own has the layer's reply and leaves the editor, its time too; and any other line is answered as the
+-- editor may.
 pub data AnswersIn : Served → List ℕ → List ℕ → Served → Type 0 where
   by_editor : (old new : Editor) (line bytes : List ℕ) → Answers old line bytes new → AnswersIn (plain old) line bytes (plain new)
   about_views : (e : Editor) (h : Hub) (line : List ℕ) (asked : Data) → IsOwn (codes "hub") line asked
@@ -96,26 +101,29 @@ FollowsInTo old (line ∷ lines) bytes new =
     (answer rest : List ℕ) × (mid : Served) × AnswersIn old line answer mid
     × (bytes ≡ answer ++ 10 ∷ rest) × FollowsInTo mid lines rest new
 
+-- the bytes answer the lines, whatever they leave
 abbrev pub FollowsIn : Served → List (List ℕ) → List ℕ → Type 0
 FollowsIn old lines bytes = (new : Served) × FollowsInTo old lines bytes new
 
 -- ---- numbers
 
--- how many commits there were, and how many views were attached: a line takes one of them at most
+-- how many views were ever attached: a line attaches at most one
 abbrev pub made_in : Layer → ℕ
 made_in (layer.Hub h) = h.made
 made_in other = 0
 
+-- how many commits there were, and views attached: a line takes one of them at most
 abbrev pub spent : Served → ℕ
 spent s = s.editor.commits + made_in s.layer
 
--- ---- want of memory
+-- ---- out of memory
 
--- What it leaves: with nothing beside the editor, what it leaves of an editor. Beside a hub or an outline nothing is answered any
--- more, since the layer may lack a commit.
+-- What is left without memory: with nothing beside the editor, what is left of an editor. Beside a hub or an outline
+-- nothing is answered any more, since the layer may lack a commit.
 abbrev pub IsLeftBeside : Layer → Editor → Served → Type 0
 IsLeftBeside layer.Plain old new = IsLeftWithout old new.editor × (new.layer ≡ layer.Plain)
 IsLeftBeside other old new = new.layer ≡ layer.Gone
 
+-- what is left of an editor with its layer where memory runs out
 abbrev pub IsLeftIn : Served → Served → Type 0
 IsLeftIn old new = IsLeftBeside old.layer old.editor new

@@ -6,9 +6,9 @@ ghost use Rattle.lx_layers.specs.Shown.{LeadsThrough, ViewsShow};
 
 use lx_hub::views_lag;
 
-/// Each view is the view that the editor had behind the commit that it has reached, ids included, and shows the tree of that
-/// commit, for every list of lines from a new editor and a new hub on. This function does nothing, and its contract is that
-/// law: lines that may be answered lead through something, and whatever they lead through shows it.
+/// Each view is the view that the editor had after the commit that it has reached, ids included, and shows the tree of
+/// that commit, for every list of lines from a new editor and a new hub on. This function does nothing, and its
+/// contract is that law: lines that may be answered lead through something, and whatever they lead through shows it.
 pub fn views_show()
     ensures led { (old s : Served) (lines : List (List ℕ)) (bytes : List ℕ) → FollowsInTo old lines bytes s
         → (earlier : List Served) × LeadsThrough old lines bytes [] (s ∷ earlier) }

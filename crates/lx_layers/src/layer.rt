@@ -4,7 +4,7 @@ use lx_node::NoMemory;
 use lx_words::Mode;
 use std::alloc::Global;
 
-/// What stands beside the editor.
+/// What is beside the editor.
 #[derive(Drop)]
 pub(crate) enum Layer {
     /// Nothing.
@@ -13,8 +13,8 @@ pub(crate) enum Layer {
     Hub(Hub),
     /// An outline that is kept by events.
     Outline(Outlined),
-    /// Nothing any more: memory was wanting for a line beside a hub or an outline, which may lack a commit. No line is answered
-    /// after it.
+    /// Nothing any more: memory ran out for a line beside a hub or an outline, which may lack a commit. No line is
+    /// answered after it.
     Gone,
 }
 
@@ -24,7 +24,7 @@ impl Layer {
     ghost use Rattle.lx_layers.specs.Served.{IsBeside, new_layer};
     ghost use Rattle.lx_layers.specs.declared.layer.Layer.TheVariants as layer;
 
-    /// What stands beside a new editor in a mode.
+    /// What is beside a new editor in a mode.
     pub(crate) fn new(alloc: Global, mode: Mode) -> Result<Layer, NoMemory>
         ensures made { IfOk result (λ made. made ≡ new_layer mode) }
         ensures beside { OnOk result ((view : Bool) (delay : ℕ) → IsBeside (new_editor view delay) (new_layer mode)) }
@@ -36,7 +36,7 @@ impl Layer {
         }
     }
 
-    /// Lets go what stands there.
+    /// Lets go of what is there.
     pub(crate) fn let_go(&mut self)
         ensures { self.new ≡ layer.Gone }
     {

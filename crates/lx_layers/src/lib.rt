@@ -1,7 +1,7 @@
-//! An editor with what stands beside it: nothing, views that lag, or an outline.
+//! An editor with what is beside it: nothing, views that lag, or an outline.
 //!
 //! A layer has lines of its own, objects with one member of its name, and answers those. All other lines go to the editor, and
-//! the layer is told of each commit. This is the one place where the modes of the program part.
+//! the layer learns of each commit. This is the one place where the modes of the program part.
 #![tactic(auto)]
 
 mod asking;

@@ -72,8 +72,8 @@ impl Outlined {
         self.events.as_slice()
     }
 
-    /// Takes what a commit changed: it is then the outline of the state after it, and the events are those of the commit. After
-    /// want of memory it is only fit to be dropped.
+    /// Takes what a commit changed: it is then the outline of the state after it, and the events are those of the commit. Once
+    /// memory has run out it is only fit to be dropped.
     pub(crate) fn follow(
         &mut self,
         alloc: Global,

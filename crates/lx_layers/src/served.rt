@@ -8,8 +8,8 @@ use lx_words::Options;
 use std::alloc::Global;
 use std::marker::Model;
 
-/// An editor, and what stands beside it: nothing; a hub, whose tip is the editor's view and which has taken a batch for each
-/// commit; or an outline, which is that of the committed tree.
+/// An editor, and what is beside it: nothing; a hub, whose tip is the editor's view and which has taken a batch for
+/// each commit; or an outline, which is that of the committed tree.
 pub struct Served {
     editor: Editor,
     layer: Layer,
@@ -44,8 +44,8 @@ impl Served {
     ghost use Rattle.lx_node.specs.Limits.{last_u32};
     ghost use Rattle.lx_layers.specs.Served.{AnswersIn, IsLeftIn, new_served, spent};
 
-    /// A new editor, and what stands beside it in the mode that is asked for: a new hub for `Mode::Hub`, the outline of the new
-    /// editor's tree for `Mode::Outline`, and else nothing.
+    /// A new editor, and what is beside it in the mode that is asked for: a new hub for `Mode::Hub`, the outline of the
+    /// new editor's tree for `Mode::Outline`, and else nothing.
     pub fn new(alloc: Global, options: Options) -> Result<Served, NoMemory>
         ensures { IfOk result (λ made. made ≡ new_served options) }
     {
@@ -56,9 +56,10 @@ impl Served {
 
     /// Answers a line of bytes, without its end, with the bytes of a reply. Beside a hub a line whose value is an object with
     /// the one member `hub` is the hub's own, and beside an outline one with the one member `ask` is about that: the editor stays
-    /// as it is, its moment too. Any other line is the editor's, and where it commits, its operations are published, or the
-    /// outline follows. After want of memory an editor with nothing beside it is as `answer_line` leaves it, and beside a hub or
-    /// an outline each later line is out of memory too. The room is lent to any number of lines, one after another.
+    /// as it is, its time too. Any other line is the editor's, and where it commits, its operations are published, or
+    /// the outline follows. Where memory runs out an editor with nothing beside it is as `answer_line` leaves it, and
+    /// beside a hub or an outline each later line is out of memory too. The room is lent to any number of lines, one
+    /// after another.
     pub fn answer(
         &mut self,
         alloc: Global,

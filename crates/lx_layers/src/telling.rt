@@ -60,7 +60,7 @@ fn value_about(
     }
 }
 
-/// What the outline tells, whose headings stand in the order that the state gives them.
+/// What the outline says, whose headings are in the order that the state gives them.
 fn outline_value(alloc: Global, outline: &Outline, state: &State) -> Result<Value, NoMemory>
     requires { IsOutlineOf outline.now state.now.links }
     ensures { IfOk result (λ value. data_of value ≡ outline_data state.now.links) }
@@ -91,7 +91,7 @@ fn entry_value(alloc: Global, entry: &Entry) -> Result<Value, AllocError>
     json!(in alloc; [entry.key.number(), entry.level, text])
 }
 
-/// What events tell.
+/// What events say.
 fn events_value(alloc: Global, events: &[Event]) -> Result<Value, NoMemory>
     ensures { IfOk result (λ value. data_of value ≡ events_data events.now) }
 {

@@ -11,7 +11,7 @@ use Rattle.lx_cli.proofs.reading.read_piece.Given.{Over}
 use Rattle.lx_cli.proofs.reading.read_piece.Goals as goal
 use Rattle.lx_cli.proofs.reading.read_piece.Goals.{After-take_piece}
 
--- what was read is not all answered, as what was taken of it tells
+-- what was read is not all answered, as what was taken of it shows
 unanswered : (g : Over) (c : After-take_piece g) (why : Unanswered)
     → BytesEnd (Err why) (take c.min-within.result c.read.new.into) c.args.session.now c.take_piece.new.self
     (sink_seen g.K.Sink.taken g.K.Sink.faults g.K.Sink.writes c.args.sink.now) (sink_seen g.K.Sink.taken g.K.Sink.faults g.K.Sink.writes c.take_piece.new.sink)
