@@ -1,12 +1,13 @@
-ghost use Rattle.std.specs.Prelude.{◌≡◌, ◌<◌, ◌≤◌, ◌+◌, ◌/◌, ◌%◌, ℕ, length, replicate, is_some, option_map, IfSome, IfOk, OnOk, OnErr, IsTrue};
+ghost use Rattle.std.specs.Prelude.{◌≡◌, ◌<◌, ◌≤◌, ◌+◌, ◌*◌, ◌/◌, ◌%◌, ℕ, length, replicate, is_some, option_map, IfSome, IfOk, OnOk, OnErr, IsTrue};
 ghost use Rattle.std.specs.Option.{option_copied};
 ghost use Rattle.std.specs.declared.option.Option.TheVariants.{None, Some};
+ghost use Rattle.lx_store.specs.Differing.{item_in};
 ghost use Rattle.lx_store.specs.Pages.{slot_at, written};
 
 use crate::edit::Edit;
 use crate::item::Item;
 use crate::leaf::Leaf;
-use crate::page;
+use crate::page::{self, Page};
 use lx_node::{Key, NoMemory};
 use std::alloc::Global;
 use std::marker::Model;
@@ -64,6 +65,14 @@ impl<V: Item> Chapter<V> {
         ensures size { length self.now ≡ 1024 }
     {
         self.leaves[(slot / page::SLOTS) as usize].get(slot % page::SLOTS)
+    }
+
+    /// The page at a place, where there is one: it has the slots from 32 times the place on.
+    pub fn page(&self, place: u32) -> Option<&Page<V>>
+        requires { place < 32 }
+        ensures { (slot : ℕ) → slot < 32 → item_in (option_copied result) slot ≡ slot_at self.now (place * 32 + slot) }
+    {
+        self.leaves[place as usize].page()
     }
 
     /// Puts the item into the slot, and answers what was there.

@@ -1,4 +1,4 @@
-ghost use Rattle.std.specs.Prelude.{◌≡◌, ℕ, IfOk};
+ghost use Rattle.std.specs.Prelude.{◌≡◌, ℕ, IfOk, IsTrue};
 ghost use Rattle.lx_store.specs.Counts.{next_count};
 
 use lx_node::NoMemory;
@@ -23,4 +23,8 @@ pub trait Item: Sized + Drop {
     fn twin(&self, alloc: Global, count: &mut Self::Count) -> Result<Self, NoMemory>
         ensures equal { IfOk result (λ made. made ≡ self.now) }
         ensures counted { Self.Count.total count.new ≡ next_count (Self.Count.total count.old) };
+
+    /// Whether the two are equal.
+    fn is_equal(&self, other: &Self) -> bool
+        ensures { IsTrue result → self.now ≡ other.now };
 }

@@ -1,6 +1,7 @@
-ghost use Rattle.std.specs.Prelude.{◌≡◌, [], ◌<◌, ◌≤◌, ◌+◌, length, replicate, is_some, option_map, IfSome, IfOk, OnOk, OnErr, IsTrue};
+ghost use Rattle.std.specs.Prelude.{◌≡◌, [], ◌<◌, ◌≤◌, ◌+◌, ℕ, length, replicate, is_some, option_map, IfSome, IfOk, OnOk, OnErr, IsTrue};
 ghost use Rattle.std.specs.Option.{option_copied};
 ghost use Rattle.std.specs.declared.option.Option.TheVariants.{None, Some};
+ghost use Rattle.lx_store.specs.Differing.{item_in};
 ghost use Rattle.lx_store.specs.Pages.{slot_at, written, fitted};
 
 use crate::edit::Edit;
@@ -57,6 +58,16 @@ impl<V: Item> Leaf<V> {
     {
         match &self.held {
             Some(page) => page.get(slot),
+            None => None,
+        }
+    }
+
+    /// The page, where there is one.
+    pub fn page(&self) -> Option<&Page<V>>
+        ensures { (slot : ℕ) → item_in (option_copied result) slot ≡ slot_at self.now slot }
+    {
+        match &self.held {
+            Some(page) => Some(page),
             None => None,
         }
     }

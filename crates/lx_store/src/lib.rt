@@ -9,6 +9,7 @@
 
 mod chapter;
 mod copies;
+mod differing;
 mod edit;
 mod item;
 mod leaf;

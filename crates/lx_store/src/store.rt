@@ -2,8 +2,10 @@ ghost use Rattle.std.specs.Prelude.{◌≡◌, ◌<◌, ◌≤◌, ◌+◌, is_s
 ghost use Rattle.std.specs.Option.{option_copied};
 ghost use Rattle.std.specs.FinMap as map;
 ghost use Rattle.lx_node.specs.Limits.{last_u32};
+ghost use Rattle.lx_store.specs.Differing.{AreSameTo};
 ghost use Rattle.lx_store.specs.Edits.{with_edit};
 
+use crate::differing;
 use crate::edit::Edit;
 use crate::item::Item;
 use crate::table::Table;
@@ -62,6 +64,14 @@ impl<V: Item> Store<V> {
         ensures { option_copied result ≡ map.get self.now key }
     {
         self.held.get(key)
+    }
+
+    /// The first key, from one on, under which two stores may have other items: under those before it they have
+    /// equal ones, and under all from the first on where none is answered. Pages that neither has cost nothing.
+    pub fn next_difference(&self, other: &Store<V>, from: Key) -> Option<Key>
+        ensures { AreSameTo (map.get self.now) (map.get other.now) from result }
+    {
+        differing::next_difference(&self.held, &other.held, from)
     }
 
     /// Puts the item under the key, and answers the one that was there. Every other key keeps its item. The

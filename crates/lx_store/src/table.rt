@@ -1,10 +1,11 @@
-ghost use Rattle.std.specs.Prelude.{◌≡◌, [], ◌∷◌, ◌<◌, ◌≤◌, ◌+◌, ◌*◌, ◌++◌, length, take, replicate, is_some, option_map, IfSome, IfOk, IfErr, OnOk, OnErr};
+ghost use Rattle.std.specs.Prelude.{◌≡◌, [], ◌∷◌, ◌<◌, ◌≤◌, ◌+◌, ◌*◌, ◌++◌, ℕ, length, take, replicate, is_some, option_map, IfSome, IfOk, IfErr, OnOk, OnErr};
 ghost use Rattle.std.specs.Option.{option_copied};
 ghost use Rattle.std.specs.declared.option.Option.TheVariants.{None, Some};
 ghost use Rattle.std.specs.Ordering.{nat_cmp};
 ghost use Rattle.std.specs.List.Sorted.{IsStrictlySortedBy};
 ghost use Rattle.std.specs.Map.{keys_of};
 ghost use Rattle.std.specs.FinMap as map;
+ghost use Rattle.lx_store.specs.Differing.{item_in};
 ghost use Rattle.lx_store.specs.Edits.{with_edit};
 ghost use Rattle.lx_store.specs.Pages.{slot_at, written};
 ghost use Rattle.lx_store.specs.Tables.{keyed, StandsAt, GoesAt};
@@ -69,6 +70,28 @@ impl<V: Item> Table<V> {
             Ok(place) => self.chapters[place].1.get(slot_of(key)),
             Err(_) => None,
         }
+    }
+
+    /// The chapter with the number, where there is one.
+    pub(crate) fn chapter(&self, number: u32) -> Option<&Chapter<V>>
+        ensures { (slot : ℕ) → slot < 1024 → item_in (option_copied result) slot ≡ map.get self.now (number * 1024 + slot) }
+    {
+        match place(&self.chapters, number) {
+            Ok(place) => Some(&self.chapters[place].1),
+            Err(_) => None,
+        }
+    }
+
+    /// A number after those of all chapters.
+    pub(crate) fn end(&self) -> u32
+        ensures small { result ≤ 4194304 }
+        ensures end { (key : ℕ) → result * 1024 ≤ key → map.get self.now key ≡ None }
+    {
+        let count = self.chapters.len();
+        if count == 0 {
+            return 0;
+        }
+        self.chapters[count - 1].0 + 1
     }
 
     /// Puts the item under the key, and answers the one that was there.
