@@ -54,7 +54,8 @@ impl Links {
     ghost use Rattle.lx_forest.specs.Forest.{root_alone};
     ghost use Rattle.std.specs.Option.{option_copied};
     ghost use Rattle.lx_forest.specs.Records.{record_at};
-    ghost use Rattle.lx_links.specs.Stands.{node_of, Sound};
+    ghost use Rattle.lx_links.specs.Stands.{node_of, node_at, Sound};
+    ghost use Rattle.lx_store.specs.Differing.{AreSameTo};
 
     /// Links of the root alone.
     pub fn new(alloc: Global) -> Result<Links, NoMemory>
@@ -132,6 +133,18 @@ impl Links {
         match &self.held {
             Some(store) => store.get(key),
             None => None,
+        }
+    }
+
+    /// The first key, from one on, under which two links may have other nodes: before it, and everywhere where no
+    /// key is answered, the two have equal nodes or none. Where they differ little this costs little.
+    pub fn next_difference(&self, other: &Links, from: Key) -> Option<Key>
+        ensures { AreSameTo (node_at self.now) (node_at other.now) from result }
+    {
+        match (&self.held, &other.held) {
+            (Some(nodes), Some(other)) => nodes.next_difference(other, from),
+            (None, None) => None,
+            _ => Some(from),
         }
     }
 }
