@@ -55,7 +55,7 @@ impl Links {
     ghost use Rattle.std.specs.Option.{option_copied};
     ghost use Rattle.lx_forest.specs.Records.{record_at};
     ghost use Rattle.lx_links.specs.Stands.{node_of, node_at, Sound};
-    ghost use Rattle.lx_store.specs.Differing.{AreSameTo};
+    ghost use Rattle.lx_store.specs.Differing.{first_after, AreSameTo};
 
     /// Links of the root alone.
     pub fn new(alloc: Global) -> Result<Links, NoMemory>
@@ -136,15 +136,19 @@ impl Links {
         }
     }
 
-    /// The first key, from one on, under which two links may have other nodes: before it, and everywhere where no
-    /// key is answered, the two have equal nodes or none. Where they differ little this costs little.
-    pub fn next_difference(&self, other: &Links, from: Key) -> Option<Key>
-        ensures { AreSameTo (node_at self.now) (node_at other.now) from result }
+    /// The first key after one, or the first of all, under which two links may have other nodes: before it, and
+    /// everywhere after that one where no key is answered, the two have equal nodes or none. Neither has failed.
+    pub fn next_difference(&self, other: &Links, after: Option<Key>) -> Option<Key>
+        requires living { self.now ≢ nil }
+        requires other_living { other.now ≢ nil }
+        ensures { AreSameTo (node_at self.now) (node_at other.now) (first_after after) result }
     {
-        match (&self.held, &other.held) {
-            (Some(nodes), Some(other)) => nodes.next_difference(other, from),
-            (None, None) => None,
-            _ => Some(from),
-        }
+        let Some(nodes) = &self.held else {
+            return None;
+        };
+        let Some(others) = &other.held else {
+            return None;
+        };
+        nodes.next_difference(others, after)
     }
 }
