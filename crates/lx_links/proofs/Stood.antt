@@ -1,5 +1,5 @@
 -- What is known of links whose nodes stand for a forest.
-use Rattle.std.proofs.Common.{ℕ, ◌≡◌, ◌≢◌, ◌<◌, ◌^◌, Option, None, Some, option_map, refl, sym, ap, subst, arith}
+use Rattle.std.proofs.Common.{ℕ, ◌≡◌, ◌≢◌, ◌<◌, ◌^◌, Option, None, Some, option_map, refl, sym, ap, ◌∙◌, subst, arith}
 use Rattle.std.specs.FinMap.{get}
 use Rattle.lx_node.specs.Trees.{nil}
 use Rattle.lx_node.specs.NamedTrees.{total}
@@ -11,7 +11,8 @@ use Rattle.lx_node.specs.declared.kind.Kind.TheVariants.{Root}
 use Rattle.lx_forest.specs.Records.{Record, record_at, StandsFor}
 use Rattle.lx_forest.specs.Suited.{IsSuited}
 use Rattle.lx_forest.proofs.Suited.{IsSuited-nil}
-use Rattle.lx_links.specs.Stands.{Nodes, node_of, record_of, records, Stands, Standing, Holds, Sound, forest_in, forest_in-stands, forest_in-is}
+use Rattle.lx_store.specs.Differing.{AreSameTo}
+use Rattle.lx_links.specs.Stands.{Nodes, node_of, node_at, record_of, records, Stands, Standing, Holds, Sound, forest_in, forest_in-stands, forest_in-is}
 
 pub stood : (held : Option Nodes) (s : Standing held) (f : Forest) → forest_in held s ≡ f → Stands held f
 stood held s f e = subst (Stands held) e (forest_in-stands held s)
@@ -63,3 +64,10 @@ is_now m s f h = forest_in-is (Some m) s f h
 
 pub same_stands : (m n : Nodes) (f : Forest) → Holds m f → n ≡ m → Holds n f
 same_stands m n f h e = let P : Nodes → Type 0 = λ x. Holds x f in subst P (sym e) h
+
+-- ---- where two links may differ
+
+-- what two maps say of equal items, the two forests say of equal nodes
+pub same_nodes : (m n : Nodes) (f g : Forest) (from : ℕ) (o : Option ℕ) → ((q : ℕ) → get m q ≡ node_at f q) → ((q : ℕ) → get n q ≡ node_at g q) → AreSameTo (get m) (get n) from o → AreSameTo (node_at f) (node_at g) from o
+same_nodes m n f g from None first second same = λ q up. sym (first q) ∙ same q up ∙ second q
+same_nodes m n f g from (Some to) first second same = (same.0, λ q up under. sym (first q) ∙ same.1 q up under ∙ second q)

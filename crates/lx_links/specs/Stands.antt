@@ -13,7 +13,7 @@ use Rattle.lx_forest.specs.Forest.{Forest}
 use Rattle.lx_forest.specs.Lookups.{IsForest, IsHeld}
 use Rattle.lx_node.specs.Kinds.{may_hold}
 use Rattle.lx_forest.specs.Suited.{IsSuited}
-use Rattle.lx_forest.specs.Records.{Record, StandsFor}
+use Rattle.lx_forest.specs.Records.{Record, StandsFor, record_at}
 use Rattle.lx_forest.proofs.Records.{StandsFor-unique}
 
 -- the nodes under their keys, in the order of the keys
@@ -46,6 +46,10 @@ node_of r =
       last = r.last;
       size = r.size;
     }
+
+-- the node of a key in a forest, with its links
+abbrev pub node_at : Forest → ℕ → Option Node
+node_at f q = option_map node_of (record_at f q)
 
 -- a node without links
 abbrev pub lone_node : Kind → Fields → Node

@@ -54,7 +54,8 @@ impl Links {
     ghost use Rattle.lx_forest.specs.Forest.{root_alone};
     ghost use Rattle.std.specs.Option.{option_copied};
     ghost use Rattle.lx_forest.specs.Records.{record_at};
-    ghost use Rattle.lx_links.specs.Stands.{node_of, Sound};
+    ghost use Rattle.lx_links.specs.Stands.{node_of, node_at, Sound};
+    ghost use Rattle.lx_store.specs.Differing.{first_after, AreSameTo};
 
     /// Links of the root alone.
     pub fn new(alloc: Global) -> Result<Links, NoMemory>
@@ -133,5 +134,21 @@ impl Links {
             Some(store) => store.get(key),
             None => None,
         }
+    }
+
+    /// The first key after one, or the first of all, under which two links may have other nodes: before it, and
+    /// everywhere after that one where no key is answered, the two have equal nodes or none. Neither has failed.
+    pub fn next_difference(&self, other: &Links, after: Option<Key>) -> Option<Key>
+        requires living { self.now ≢ nil }
+        requires other_living { other.now ≢ nil }
+        ensures { AreSameTo (node_at self.now) (node_at other.now) (first_after after) result }
+    {
+        let Some(nodes) = &self.held else {
+            return None;
+        };
+        let Some(others) = &other.held else {
+            return None;
+        };
+        nodes.next_difference(others, after)
     }
 }

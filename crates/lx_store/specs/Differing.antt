@@ -1,8 +1,13 @@
 -- Up to where two stores, or two pages, surely have equal items.
-use Rattle.std.specs.Prelude.{◌≡◌, ℕ, ◌<◌, ◌≤◌, List}
+use Rattle.std.specs.Prelude.{◌≡◌, ℕ, ◌<◌, ◌≤◌, ◌+◌, List}
 use Rattle.std.specs.declared.option.Option.{Option}
 use Rattle.std.specs.declared.option.Option.TheVariants.{None, Some}
 use Rattle.lx_store.specs.Pages.{slot_at}
+
+-- the first number after one, or the first of all
+abbrev pub first_after : Option ℕ → ℕ
+first_after None = 0
+first_after (Some key) = key + 1
 
 module _ {X : Type 0} where
   -- the item in a slot: no slot has one where there is no page

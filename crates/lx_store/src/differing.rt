@@ -3,21 +3,26 @@
 ghost use Rattle.std.specs.Prelude.{◌≡◌, ◌<◌, ◌≤◌, ◌+◌, ◌*◌, ℕ, IsTrue};
 ghost use Rattle.std.specs.Option.{option_copied};
 ghost use Rattle.std.specs.FinMap as map;
-ghost use Rattle.lx_store.specs.Differing.{item_in, AreSame, AreSameTo};
+ghost use Rattle.lx_store.specs.Differing.{item_in, first_after, AreSame, AreSameTo};
 
-use crate::chapter::{self, Chapter, number_of, slot_of};
+use crate::chapter::{self, Chapter};
 use crate::item::Item;
 use crate::page::{self, Page};
 use crate::table::Table;
 use lx_node::Key;
 
-/// The first key, from one on, under which two tables may have other items.
-pub(crate) fn next_difference<V: Item>(a: &Table<V>, b: &Table<V>, from: Key) -> Option<Key>
-    ensures { AreSameTo (map.get a.now) (map.get b.now) from result }
+/// The first key after one, or the first of all, under which two tables may have other items.
+pub(crate) fn next_difference<V: Item>(
+    a: &Table<V>,
+    b: &Table<V>,
+    after: Option<Key>,
+) -> Option<Key>
+    ensures { AreSameTo (map.get a.now) (map.get b.now) (first_after after) result }
 {
     let end = a.end().max(b.end());
-    let mut number = number_of(from);
-    let mut slot = slot_of(from);
+    let from = number_after(after);
+    let mut number = (from / chapter::SLOTS as u64) as u32;
+    let mut slot = (from % chapter::SLOTS as u64) as u32;
     while number < end {
         let at = same_in_chapters(a.chapter(number), b.chapter(number), slot);
         if at < chapter::SLOTS {
@@ -27,6 +32,17 @@ pub(crate) fn next_difference<V: Item>(a: &Table<V>, b: &Table<V>, from: Key) ->
         slot = 0;
     }
     None
+}
+
+// The number of the first key after one, or of the first of all.
+fn number_after(after: Option<Key>) -> u64
+    ensures after { result ≡ first_after after }
+    ensures small { result ≤ 4294967296 }
+{
+    match after {
+        Some(key) => key.number() as u64 + 1,
+        None => 0,
+    }
 }
 
 // Up to which slot, from one on, two chapters have equal items.

@@ -2,7 +2,7 @@ ghost use Rattle.std.specs.Prelude.{◌≡◌, ◌<◌, ◌≤◌, ◌+◌, is_s
 ghost use Rattle.std.specs.Option.{option_copied};
 ghost use Rattle.std.specs.FinMap as map;
 ghost use Rattle.lx_node.specs.Limits.{last_u32};
-ghost use Rattle.lx_store.specs.Differing.{AreSameTo};
+ghost use Rattle.lx_store.specs.Differing.{first_after, AreSameTo};
 ghost use Rattle.lx_store.specs.Edits.{with_edit};
 
 use crate::differing;
@@ -66,12 +66,13 @@ impl<V: Item> Store<V> {
         self.held.get(key)
     }
 
-    /// The first key, from one on, under which two stores may have other items: under those before it they have
-    /// equal ones, and under all from the first on where none is answered. Pages that neither has cost nothing.
-    pub fn next_difference(&self, other: &Store<V>, from: Key) -> Option<Key>
-        ensures { AreSameTo (map.get self.now) (map.get other.now) from result }
+    /// The first key after one, or the first of all, under which two stores may have other items: under those before
+    /// it they have equal ones, and under all after that one where no key is answered. It looks at each page of
+    /// either from there on, and costs nothing where neither has any.
+    pub fn next_difference(&self, other: &Store<V>, after: Option<Key>) -> Option<Key>
+        ensures { AreSameTo (map.get self.now) (map.get other.now) (first_after after) result }
     {
-        differing::next_difference(&self.held, &other.held, from)
+        differing::next_difference(&self.held, &other.held, after)
     }
 
     /// Puts the item under the key, and answers the one that was there. Every other key keeps its item. The
