@@ -1,5 +1,5 @@
 -- Marks of what differs cover the two trees: children that are the same, each with its neighbours, are one list.
-use Rattle.std.proofs.Common.{◌≡◌, ◌∙◌, ℕ, Bool, true, false, List, [], ◌∷◌, Option, None, Some, refl, sym, ap, inl, inr, arith}
+use Rattle.std.proofs.Common.{◌≡◌, ◌∙◌, ◌⊎◌, ℕ, Bool, true, false, List, [], ◌∷◌, Option, None, Some, refl, sym, ap, inl, inr, arith}
 use Rattle.std.specs.Prelude.{is_none, is_some}
 use Rattle.std.proofs.lemmas.Bool.Decides.{eqb_tells}
 use Rattle.lx_node.specs.Siblings.{is_named, is_among, NoRepeats, first_of, next_in, previous_in}
@@ -11,8 +11,7 @@ use Rattle.lx_forest.proofs.Lookups.{is_among-children_of, NoRepeats-children_of
 use Rattle.lx_forest.proofs.Walks.{cases_option}
 use Rattle.lx_plain.specs.Allowed.{IsAlike, AreCovered}
 use Rattle.lx_compare.specs.Differing.{KeepsKinds, IsUnchanged, AreKnown}
-use Rattle.lx_compare.specs.Marking.{AreFounded, Grows, IsTold, EachIs}
-use Rattle.lx_compare.proofs.Walked.{told_still}
+use Rattle.lx_compare.specs.Marking.{AreFounded, IsTold, IsSettled}
 
 true_noted : (o : Option Bool) → is_true_flag o ≡ true → is_some o ≡ true
 true_noted None e = absurd (cc)
@@ -85,14 +84,23 @@ module _ (old new : Forest) (old_order : IsForest old) (new_order : IsForest new
 
 -- ---- the two trees
 
--- marks that grow say what they said
-pub told_grown : (old new : Forest) (m n : Marked) → Grows m n → EachIs new (IsUnchanged old new) (IsTold old new m) → EachIs new (IsUnchanged old new) (IsTold old new n)
-told_grown old new m n grows each q there = elim (each q there) [
-  | inl same ↦ inl same
-  | inr told ↦ inr (told_still old new m n q grows told)
-]
 
-module _ (old new : Forest) (m : Marked) (old_order : IsForest old) (new_order : IsForest new) (founded : AreFounded old new m) (changed : EachIs new (IsUnchanged old new) (IsTold old new m)) (gone : EachIs old (λ q. has q new ≡ true) (IsTold old new m)) where
+module _ (old new : Forest) (m : Marked) (old_order : IsForest old) (new_order : IsForest new) (founded : AreFounded old new m) (settled : (q : ℕ) → IsSettled old new m q) where
+  changed : (q : ℕ) → has q new ≡ true → IsUnchanged old new q ⊎ IsTold old new m q
+  changed q there = elim (settled q) [
+    | inl absent ↦ absurd (let h : true ≡ false = sym there ∙ absent.1 in cc)
+    | inr either ↦ either
+  ]
+
+  gone : (q : ℕ) → has q old ≡ true → (has q new ≡ true) ⊎ IsTold old new m q
+  gone q there = elim (settled q) [
+    | inl absent ↦ absurd (let h : true ≡ false = sym there ∙ absent.0 in cc)
+    | inr either ↦ elim either [
+      | inl same ↦ inl same.stays
+      | inr told ↦ inr told
+    ]
+  ]
+
   plain : (q : ℕ) → has q new ≡ true → is_touched m q ≡ false → IsUnchanged old new q
   plain q there apart = elim (changed q there) [
     | inl same ↦ same

@@ -1,4 +1,4 @@
 mod Covering
 mod Raised
 mod SameNode
-mod Walked
+mod Settled

@@ -1,9 +1,9 @@
 -- What holds of the marks while two trees are compared. Only this crate's own contracts cite it.
-use Rattle.std.specs.Prelude.{◌≡◌, ◌≢◌, ◌||◌, ◌⊎◌, ℕ, true, Some}
+use Rattle.std.specs.Prelude.{◌≡◌, ◌≢◌, ◌||◌, ◌⊎◌, ℕ, true, false, Some}
 use Rattle.lx_forest.specs.Forest.{Forest}
 use Rattle.lx_forest.specs.Lookups.{has, parent_of}
 use Rattle.lx_marks.specs.Marks.{Marked, is_touched, is_noted}
-use Rattle.lx_compare.specs.Differing.{IsAffected}
+use Rattle.lx_compare.specs.Differing.{IsAffected, IsUnchanged}
 
 -- the parent of each noted node is noted, except perhaps that of one node
 abbrev pub IsRaisedBut : Forest → ℕ → Marked → Type 0
@@ -30,6 +30,6 @@ pub record IsTold (old new : Forest) (m : Marked) (q : ℕ) : Type 0 where
   pub before : (p : ℕ) → parent_of old q ≡ Some p → is_touched m p ≡ true
   pub after : (p : ℕ) → parent_of new q ≡ Some p → is_touched m p ≡ true
 
--- each node of a tree is the one or the other
-abbrev pub EachIs : Forest → (ℕ → Type 0) → (ℕ → Type 0) → Type 0
-EachIs f P Q = (q : ℕ) → has q f ≡ true → P q ⊎ Q q
+-- neither tree has the node, or it is the same in both, or the marks show it
+abbrev pub IsSettled : Forest → Forest → Marked → ℕ → Type 0
+IsSettled old new m q = ((has q old ≡ false) × (has q new ≡ false)) ⊎ (IsUnchanged old new q ⊎ IsTold old new m q)

@@ -1,9 +1,9 @@
 ghost use Rattle.std.specs.Prelude.{ℕ, ◌≡◌, true, [], ◌∷◌, OnOk, IfOk};
-ghost use Rattle.lx_forest.specs.Lookups.{has, roots, IsForest};
+ghost use Rattle.lx_forest.specs.Lookups.{roots, IsForest};
 ghost use Rattle.lx_marks.specs.Marks.{is_touched, is_noted};
 ghost use Rattle.lx_plain.specs.Allowed.{AreCovered};
-ghost use Rattle.lx_compare.specs.Differing.{KeepsKinds, IsUnchanged, IsAffected, AreKnown};
-ghost use Rattle.lx_compare.specs.Marking.{AreFounded, Grows, IsTold, EachIs};
+ghost use Rattle.lx_compare.specs.Differing.{KeepsKinds, IsAffected, AreKnown};
+ghost use Rattle.lx_compare.specs.Marking.{AreFounded, Grows, IsSettled};
 
 use crate::marking::mark_difference;
 use crate::same::is_unchanged;
@@ -14,7 +14,7 @@ use std::alloc::Global;
 
 /// Marks of what differs between two trees: each node that one of the two alone has, or whose fields, parent
 /// or neighbours are others, and its parent in either. They cover the two trees, unless a key has another
-/// kind in the new one. It costs a look at each node of both trees, and beside that what differs, with the
+/// kind in the new one. It costs a look at each page of nodes of the two, and beside that what differs, with the
 /// ways up from there. The marks take memory from the allocator.
 pub fn differences(alloc: Global, old: &Links, new: &Links) -> Result<Marks, NoMemory>
     requires old_order { IsForest old.now }
@@ -26,44 +26,37 @@ pub fn differences(alloc: Global, old: &Links, new: &Links) -> Result<Marks, NoM
     ensures due { IfOk result (λ marks. (key : ℕ) → is_touched marks key ≡ true → IsAffected old.now new.now key) }
 {
     let mut marks = Marks::new(alloc)?;
-    mark_changed(&mut marks, old, new)?;
-    mark_gone(&mut marks, old, new)?;
+    mark_differences(&mut marks, old, new)?;
     Ok(marks)
 }
 
-/// Marks what differs of the nodes of the new tree.
-fn mark_changed(marks: &mut Marks, old: &Links, new: &Links) -> Result<(), NoMemory>
-    requires order { IsForest new.now }
-    requires alone { roots new.now ≡ 0 ∷ [] }
+/// Marks what differs, key by key.
+fn mark_differences(marks: &mut Marks, old: &Links, new: &Links) -> Result<(), NoMemory>
+    requires old_alone { roots old.now ≡ 0 ∷ [] }
+    requires new_alone { roots new.now ≡ 0 ∷ [] }
     requires founded { AreFounded old.now new.now marks.old }
     ensures founded { OnOk result (AreFounded old.now new.now marks.new) }
-    ensures each { OnOk result (EachIs new.now (IsUnchanged old.now new.now) (IsTold old.now new.now marks.new)) }
+    ensures settled { OnOk result ((q : ℕ) → IsSettled old.now new.now marks.new q) }
 {
-    let mut at = Some((Key::root(), 0));
-    while let Some((key, depth)) = at {
-        if !is_unchanged(old, new, key) {
-            mark_difference(marks, old, new, key)?;
-        }
-        at = new.next_in_tree(key, depth);
+    let mut last = None;
+    while let Some(key) = old.next_difference(new, last) {
+        settle(marks, old, new, key)?;
+        last = Some(key);
     }
     Ok(())
 }
 
-/// Marks those nodes of the old tree that the new one hasn't any more.
-fn mark_gone(marks: &mut Marks, old: &Links, new: &Links) -> Result<(), NoMemory>
-    requires order { IsForest old.now }
-    requires alone { roots old.now ≡ 0 ∷ [] }
+/// Marks a node that differs. Where two nodes have other children alone, these differ and not the two.
+fn settle(marks: &mut Marks, old: &Links, new: &Links, key: Key) -> Result<(), NoMemory>
     requires founded { AreFounded old.now new.now marks.old }
     ensures founded { OnOk result (AreFounded old.now new.now marks.new) }
     ensures grows { OnOk result (Grows marks.old marks.new) }
-    ensures each { OnOk result (EachIs old.now (λ q. has q new.now ≡ true) (IsTold old.now new.now marks.new)) }
+    ensures settled { OnOk result (IsSettled old.now new.now marks.new key) }
 {
-    let mut at = Some((Key::root(), 0));
-    while let Some((key, depth)) = at {
-        if !new.has(key) {
-            mark_difference(marks, old, new, key)?;
-        }
-        at = old.next_in_tree(key, depth);
+    let is_there = old.has(key) || new.has(key);
+    if is_there && !is_unchanged(old, new, key) {
+        mark_difference(marks, old, new, key)
+    } else {
+        Ok(())
     }
-    Ok(())
 }
