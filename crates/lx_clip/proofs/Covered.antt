@@ -29,7 +29,7 @@ use Rattle.lx_draft.specs.Faults.{text_in}
 use Rattle.lx_draft.specs.Selecting.{length_told}
 use Rattle.lx_range.specs.Blocks.{is_at, passes}
 use Rattle.lx_range.specs.Ranges.{if_normal}
-use Rattle.lx_script.specs.Exporting.{node_data}
+use Rattle.lx_fields.specs.Exporting.{node_data}
 use Rattle.lx_json.specs.Exporting.{trees_data}
 use Rattle.lx_json.proofs.BackWritten.{IsRead, written, items_of-written, written-joined, map_more}
 use Rattle.lx_clip.specs.Extents.{AreAlike}

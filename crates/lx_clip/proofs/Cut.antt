@@ -20,7 +20,7 @@ use Rattle.lx_draft.specs.Faults.{text_fields}
 use Rattle.lx_draft.specs.Selecting.{length_told}
 use Rattle.lx_draft.specs.Steps.{text_replaced}
 use Rattle.lx_range.specs.Ranges.{if_normal}
-use Rattle.lx_script.specs.Exporting.{node_data}
+use Rattle.lx_fields.specs.Exporting.{node_data}
 use Rattle.lx_json.specs.Exporting.{trees_data}
 use Rattle.lx_clip.specs.Covers.{Extent, from_in, to_in, is_met, is_covered_text, cut_to, part_cover, text_cover, label_for}
 

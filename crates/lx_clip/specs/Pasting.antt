@@ -21,7 +21,7 @@ use Rattle.lx_edit.specs.InTurn.{in_turn}
 use Rattle.lx_range.specs.Blocks.{passes, block_of}
 use Rattle.lx_range.specs.Making.{new_like}
 use Rattle.lx_range.specs.Ranges.{at_anchor, caret_at}
-use Rattle.lx_script.specs.Types.{kind_of_type}
+use Rattle.lx_fields.specs.Types.{kind_of_type}
 use Rattle.lx_json.specs.Nodes.{nodes_read}
 use Rattle.lx_caret.specs.Adding.{kind_around, no_room, opened, put_by}
 use Rattle.lx_caret.specs.Inserting.{place_behind}

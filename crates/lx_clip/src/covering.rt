@@ -24,10 +24,10 @@ ghost use Rattle.lx_clip.specs.Slices as slices;
 
 use indexmap::IndexSet;
 use lx_draft::with_text;
+use lx_fields::node_value;
 use lx_links::Links;
 use lx_node::{Fields, Key, Kind, Mode, NoMemory, Node, Point, TextFields};
 use lx_range::{covered, is_inline_at};
-use lx_script::node_value;
 use serde_json::Value;
 use std::alloc::Global;
 

@@ -2,7 +2,7 @@
 use Rattle.std.specs.Prelude.{ℕ, List, codes}
 use Rattle.serde_json.specs.Data.{Data, object, no_members, member}
 use Rattle.serde_json.specs.Written.{compact_text}
-use Rattle.lx_script.specs.Replies.{natural}
+use Rattle.lx_fields.specs.Parts.{natural}
 use Rattle.lx_generator.specs.declared.summary.Summary.{Summary}
 
 -- a summary as JSON: {"characters":C,"commits":C,"idle":I,"lines":L,"nodes":N,"redo":R,"refused":R,"undo":U,"view":V}

@@ -13,8 +13,8 @@ use Rattle.lx_forest.specs.Lookups.{roots, alone, children_of, IsForest, IsHeld}
 use Rattle.lx_links.specs.Stands.{Sound}
 use Rattle.lx_draft.specs.Faults.{answer}
 use Rattle.lx_draft.specs.Freezing.{limits_fault}
-use Rattle.lx_script.specs.Types.{kind_of_type}
-use Rattle.lx_script.specs.Exporting.{node_data}
+use Rattle.lx_fields.specs.Types.{kind_of_type}
+use Rattle.lx_fields.specs.Exporting.{node_data}
 use Rattle.lx_json.specs.Reading.{Piece, and_then, told_under, placed_kind, tree_of}
 use Rattle.lx_json.specs.Importing.{if_filled, document_of, rooted, next_behind, drafted, draft_of, imported}
 use Rattle.lx_json.specs.Exporting.{trees_data, first_data, exported}

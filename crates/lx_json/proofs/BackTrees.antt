@@ -20,18 +20,18 @@ use Rattle.lx_node.proofs.Spots.{spot_below-absent}
 use Rattle.lx_forest.specs.Forest.{Forest, Label}
 use Rattle.lx_forest.specs.Lookups.{key_of, spot, kind_of, holds, IsForest, IsHeld}
 use Rattle.lx_forest.proofs.Edits.{key-spot}
-use Rattle.lx_script.specs.Documents.{document_fields}
-use Rattle.lx_script.specs.Exporting.{node_data}
-use Rattle.lx_script.specs.Types.{kind_of_type, kind_told, or_kept, told_by}
-use Rattle.lx_script.specs.Values.{named as word_named}
-use Rattle.lx_script.specs.Words.{levels, list_types}
+use Rattle.lx_fields.specs.Documents.{document_fields}
+use Rattle.lx_fields.specs.Exporting.{node_data}
+use Rattle.lx_fields.specs.Types.{kind_of_type, kind_told, or_kept, told_by}
+use Rattle.lx_fields.specs.Values.{named as word_named}
+use Rattle.lx_fields.specs.Words.{levels, list_types}
 use Rattle.lx_json.specs.Reading.{Piece, and_then, typed, typed_by, placed_kind, kind_by, are_bad, fields_told, fields_or_bad, first_bad, piece_of, with_tree, with_rest, told_under, child_place, tree_of, trees_of}
 use Rattle.lx_json.specs.Exporting.{trees_data}
 use Rattle.lx_json.specs.Growing.{children_told}
 use Rattle.lx_json.specs.GivenBack.{IsGivenBack, AreGivenBack}
 use Rattle.lx_json.specs.Back.{pieces_of}
 use Rattle.lx_json.proofs.Looked.{tree_of-object, with_children, children_told-list, children_told-leaf}
-use Rattle.lx_script.proofs.Exported.{type-there, children-there, kind-back, is-object}
+use Rattle.lx_fields.proofs.Exported.{type-there, children-there, kind-back, is-object}
 
 -- ---- the kind
 

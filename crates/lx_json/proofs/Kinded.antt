@@ -6,9 +6,9 @@ use Rattle.lx_node.specs.Kinds.{is_possible, may_hold, is_block, is_inline, is_i
 use Rattle.lx_node.specs.declared.kind.Kind.{Kind}
 use Rattle.lx_node.specs.declared.kind.Kind.TheVariants.{Root, Paragraph, Heading, Quote, List as ListKind, Item, Link, Table, Row, Cell, Text, Tab, Break, Rule, Embed}
 use Rattle.lx_node.specs.declared.cause.Cause.{Cause}
-use Rattle.lx_script.specs.Types.{kind_of_type, or_kept, told_by, kind_told}
-use Rattle.lx_script.specs.Values.{word_in, named}
-use Rattle.lx_script.specs.Words.{kind_in, made_kinds, levels, list_types}
+use Rattle.lx_fields.specs.Types.{kind_of_type, or_kept, told_by, kind_told}
+use Rattle.lx_fields.specs.Values.{word_in, named}
+use Rattle.lx_fields.specs.Words.{kind_in, made_kinds, levels, list_types}
 use Rattle.lx_json.specs.Pieces.{is_root, IsToldKind}
 use Rattle.std.specs.Str.{chars}
 use Rattle.std.specs.Ordering.{nat_cmp, match_ordering}

@@ -5,7 +5,7 @@ use Rattle.serde_json.specs.Written.{has_float, items_have_float}
 use Rattle.lx_node.specs.Trees.{nil, tree}
 use Rattle.lx_forest.specs.Forest.{Forest}
 use Rattle.lx_json.specs.Exporting.{trees_data, first_data, exported}
-use Rattle.lx_script.proofs.Exported.{no-float}
+use Rattle.lx_fields.proofs.Exported.{no-float}
 
 both : (a b : Bool) → a ≡ false → b ≡ false → (a || b) ≡ false
 both a b e g = ap (λ x. x || b) e ∙ g

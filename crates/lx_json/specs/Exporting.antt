@@ -3,7 +3,7 @@ use Rattle.serde_json.specs.Data.{Data, null, object, Items, no_items, item, no_
 use Rattle.std.specs.Prelude.{codes}
 use Rattle.lx_node.specs.Trees.{nil, tree}
 use Rattle.lx_forest.specs.Forest.{Forest}
-use Rattle.lx_script.specs.Exporting.{node_data}
+use Rattle.lx_fields.specs.Exporting.{node_data}
 
 -- what is written for trees, one after another
 unfoldable pub trees_data : Forest → Items

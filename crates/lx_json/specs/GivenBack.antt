@@ -4,8 +4,8 @@ use Rattle.serde_json.specs.Data.{Items}
 use Rattle.lx_node.specs.Trees.{nil, tree}
 use Rattle.lx_node.specs.OfKind.{IsOfKind}
 use Rattle.lx_forest.specs.Forest.{Forest, Label}
-use Rattle.lx_script.specs.Documents.{document_fields}
-use Rattle.lx_script.specs.Exporting.{node_data}
+use Rattle.lx_fields.specs.Documents.{document_fields}
+use Rattle.lx_fields.specs.Exporting.{node_data}
 use Rattle.lx_json.specs.Exporting.{trees_data}
 
 -- the fields of a node are of its kind, and its object gives them back

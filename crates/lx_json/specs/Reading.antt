@@ -12,8 +12,8 @@ use Rattle.lx_node.specs.declared.kind.Kind.TheVariants.{Root}
 use Rattle.lx_node.specs.declared.fields.Fields.{Fields}
 use Rattle.lx_node.specs.declared.cause.Cause.{Cause}
 use Rattle.lx_node.specs.declared.cause.Cause.TheVariants.{UnknownType, BadState}
-use Rattle.lx_script.specs.Documents.{document_fields}
-use Rattle.lx_script.specs.Types.{kind_of_type, kind_told}
+use Rattle.lx_fields.specs.Documents.{document_fields}
+use Rattle.lx_fields.specs.Types.{kind_of_type, kind_told}
 
 -- a node without its key
 pub record Piece : Type 0 where

@@ -11,9 +11,9 @@ ghost use Rattle.lx_json.specs.GivenBack.{AreGivenBack};
 ghost use Rattle.lx_json.specs.Back.{ReadsBack};
 
 use lx_draft::State;
+use lx_fields::node_value;
 use lx_links::Links;
 use lx_node::{Key, NoMemory};
-use lx_script::node_value;
 use serde_json::{Value, json};
 use std::alloc::{AllocError, Global};
 

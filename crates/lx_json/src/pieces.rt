@@ -6,13 +6,13 @@ ghost use Rattle.serde_json.specs.View.{view, items_view};
 ghost use Rattle.lx_node.specs.Kinds.{is_element, is_possible};
 ghost use Rattle.lx_node.specs.OfKind.{IsOfKind};
 ghost use Rattle.lx_draft.specs.Faults.{TellsStep};
-ghost use Rattle.lx_script.specs.Types as types;
+ghost use Rattle.lx_fields.specs.Types as types;
 ghost use Rattle.lx_json.specs.Pieces.{IsToldKind};
 ghost use Rattle.lx_json.specs.Reading as reading;
 
 use crate::places::{bad_member, bad_state, unknown_type};
+use lx_fields::{FieldFault, fields_of, kind_of_type, kind_told};
 use lx_node::{Fault, Fields, Kind};
-use lx_script::{FieldFault, fields_of, kind_of_type, kind_told};
 use serde_json::Value;
 use std::alloc::Global;
 use std::cmp::Ordering;

@@ -6,7 +6,7 @@ use Rattle.serde_json.specs.Data.{Data, object, no_members, member, Items, no_it
 use Rattle.serde_json.specs.Find.{as_array}
 use Rattle.lx_node.specs.Limits.{last_u32}
 use Rattle.lx_script.specs.Grammar.{IsJson}
-use Rattle.lx_script.specs.Values.{named, number_within}
+use Rattle.lx_fields.specs.Values.{named, number_within}
 use Rattle.lx_layers.specs.declared.asking.AboutViews.{AboutViews}
 use Rattle.lx_layers.specs.declared.asking.AboutViews.TheVariants.{Attach, Deliver, Html, Detach}
 use Rattle.lx_layers.specs.declared.asking.AboutOutline.{AboutOutline}

@@ -7,7 +7,8 @@ use Rattle.lx_node.specs.NamedTrees.{total}
 use Rattle.lx_forest.specs.Forest.{Forest}
 use Rattle.lx_forest.specs.Lookups.{roots, preorder, IsForest}
 use Rattle.lx_forest.specs.Weights.{weight}
-use Rattle.lx_script.specs.Replies.{natural, text_data, list_data}
+use Rattle.lx_fields.specs.Parts.{natural, text_data}
+use Rattle.lx_script.specs.Replies.{list_data}
 use Rattle.lx_outline.specs.Outline.{OutlineView, new_outline, characters_in, entries_among}
 use Rattle.lx_outline.specs.declared.event.Event.{Event}
 use Rattle.lx_outline.specs.declared.event.Event.TheVariants.{Destroyed, Created, Updated}

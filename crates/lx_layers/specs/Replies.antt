@@ -4,7 +4,8 @@ use Rattle.serde_json.specs.Data.{Data, boolean, object, Members, no_members, me
 use Rattle.serde_json.specs.Written.{compact_text}
 use Rattle.lx_node.specs.declared.cause.Cause.TheVariants.{BadCommand}
 use Rattle.lx_script.specs.declared.reply.Reply.TheVariants.{Refused}
-use Rattle.lx_script.specs.Replies.{natural, text_data, reply_text}
+use Rattle.lx_fields.specs.Parts.{natural, text_data}
+use Rattle.lx_script.specs.Replies.{reply_text}
 use Rattle.lx_hub.specs.Hub.{Hub, attachment, attached, delivery, delivered, html_at, has_view, detached}
 use Rattle.lx_hub.specs.declared.hub.Attached.{Attached}
 use Rattle.lx_hub.specs.declared.hub.Attached.TheVariants as attached_as

@@ -4,7 +4,7 @@ ghost use Rattle.std.specs.Prelude.{◌≡◌, option_and_then, option_map};
 ghost use Rattle.serde_json.specs.Find.{as_array};
 ghost use Rattle.serde_json.specs.View.{view, items_view};
 ghost use Rattle.lx_node.specs.Limits.{last_u32};
-ghost use Rattle.lx_script.specs.Values.{number_within};
+ghost use Rattle.lx_fields.specs.Values.{number_within};
 ghost use Rattle.lx_layers.specs.Asked as asked;
 
 use serde_json::Value;

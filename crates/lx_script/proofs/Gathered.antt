@@ -2,7 +2,7 @@
 use Rattle.std.proofs.Common.{◌≡◌, List, [], ◌∷◌, ◌++◌, Option, None, Some, option_map, refl, ap, append_assoc}
 use Rattle.std.specs.Option.{option_zip}
 use Rattle.serde_json.specs.Data.{Data, Items}
-use Rattle.lx_script.specs.Values.{all_of}
+use Rattle.lx_fields.specs.Values.{all_of}
 
 -- what is made so far, with what the items that are left will give, is what all will give
 abbrev pub IsGathered : {A : Type 0} → (Data → Option A) → List A → Items → Items → Type 0

@@ -1,14 +1,7 @@
-pub mod Back
-pub mod Characters
-pub mod Exported
 pub mod Gathered
 pub mod Listed
-pub mod ReadBack
 pub mod Reading
 pub mod Sent
-pub mod Sorted
-pub mod Sound
 pub mod SoundSteps
 pub mod Tagged
 pub mod Writing
-pub mod Written

@@ -16,7 +16,7 @@ use Rattle.serde_json.specs.Find.{get, get_member, as_array}
 use Rattle.lx_step.specs.declared.step.Step.{Step}
 use Rattle.lx_step.specs.Spelled.{with_first, script_of}
 use Rattle.lx_script.specs.Steps.{step_for, step_of, queued_in, script_in, script_from}
-use Rattle.lx_script.specs.Values.{all_of, first_member, required}
+use Rattle.lx_fields.specs.Values.{all_of, first_member, required}
 use Rattle.lx_script.specs.Words.{verbs}
 
 -- ---- depths

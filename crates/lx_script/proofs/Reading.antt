@@ -1,10 +1,10 @@
 -- From what a value says of itself to what the grammar asks of it.
-use Rattle.std.proofs.Common.{◌≡◌, refl, subst, codes, ℕ, List, [], ◌∷◌, length, slice_get, string_bytes, arith, Bool, true, false, Some, None, option_map, ◌==◌, Result, Ok, Err, IsUtf8}
-use Rattle.serde_json.proofs.Views.{Entry, items_len-items_view, members_len-members_view}
+use Rattle.std.proofs.Common.{◌≡◌, refl, subst, codes, ℕ, List, [], ◌∷◌, length, Bool, true, false, Some, None, ◌==◌, Result, Ok, Err, IsUtf8}
+use Rattle.serde_json.proofs.Views.{items_len-items_view}
 use Rattle.serde_json.specs.Data.{Data, null, boolean, number, string, array, object}
-use Rattle.serde_json.specs.Find.{get, as_array, as_bool, as_object}
+use Rattle.serde_json.specs.Find.{get, as_array, as_bool}
 use Rattle.serde_json.specs.Read.{read}
-use Rattle.serde_json.specs.View.{view, items_view, members_view}
+use Rattle.serde_json.specs.View.{items_view}
 use Rattle.serde_json.specs.declared.value.Value.{Value}
 use Rattle.lx_node.specs.declared.cause.Cause.TheVariants.{BadLine, BadCommand}
 use Rattle.lx_node.specs.declared.cause.Fault.{Fault}
@@ -20,17 +20,9 @@ use Rattle.lx_script.specs.Rules.{rule_of}
 use Rattle.lx_script.specs.Steps.{script_in, truth_in}
 use Rattle.lx_script.specs.Grammar.{IsJson, Asks, Makes, Reads, TellsLine, TellsNoJson, form_of, update_with, update_of, flush_told, flush_of, dispatch_form_of, rule_form_of, listener_form_of, show_of, clear_of, clearings}
 use Rattle.lx_script.specs.References.{has_three}
-use Rattle.lx_script.specs.Values.{has_only, named, only_member, present, required, word_in}
+use Rattle.lx_fields.specs.Values.{named, has_only, required}
 use Rattle.lx_script.specs.Words.{questions}
-use Rattle.lx_script.proofs.Sound.{mapped, either, chained, tested, named_holds}
-
-pub has_only-object : (names : List (List ℕ)) (d : Data) (es : List Entry) → Some (members_view es) ≡ as_object d → has_only names d ≡ (length es == present names d)
-has_only-object names (object ms) es is = let same : members_view es ≡ ms = cc in rw (← same, members_len-members_view es) refl
-has_only-object names null es is = absurd (cc)
-has_only-object names (boolean b) es is = absurd (cc)
-has_only-object names (number n) es is = absurd (cc)
-has_only-object names (string s) es is = absurd (cc)
-has_only-object names (array ds) es is = absurd (cc)
+use Rattle.lx_fields.proofs.Sound.{mapped, either, chained, tested, named_holds}
 
 pub has_three-array : (d : Data) (vs : List Value) → Some (items_view vs) ≡ as_array d → has_three d ≡ (length vs == 3)
 has_three-array (array ds) vs is = let same : items_view vs ≡ ds = cc in rw (← same, items_len-items_view vs) refl
@@ -39,39 +31,6 @@ has_three-array (boolean b) vs is = absurd (cc)
 has_three-array (number n) vs is = absurd (cc)
 has_three-array (string s) vs is = absurd (cc)
 has_three-array (object ms) vs is = absurd (cc)
-
--- an object of no members, or of more than one, has no only member
-only_member-members : {A : Type 0} (rows : List (List ℕ × A)) (es : List Entry) → (length es ≡ 1 → ⊥) → None ≡ only_member rows (object (members_view es))
-only_member-members rows [] other = refl
-only_member-members rows (e ∷ []) other = absurd (other refl)
-only_member-members rows (e ∷ f ∷ es) other = refl
-
-pub only_member-others : {A : Type 0} (rows : List (List ℕ × A)) (d : Data) (es : List Entry) → Some (members_view es) ≡ as_object d → (length es ≡ 1 → ⊥) → None ≡ only_member rows d
-only_member-others rows (object ms) es is other = let same : members_view es ≡ ms = cc in rw (← same) (only_member-members rows es other)
-only_member-others rows null es is other = refl
-only_member-others rows (boolean b) es is other = refl
-only_member-others rows (number n) es is other = refl
-only_member-others rows (string s) es is other = refl
-only_member-others rows (array ds) es is other = refl
-
--- an object of one member is read by that member's name
-only_member-member : {A : Type 0} (rows : List (List ℕ × A)) (es : List Entry) (e : Entry) → length es ≡ 1 → slice_get es 0 ≡ Some e
-    → option_map (λ word. (word, view e.1)) (word_in rows (string_bytes e.0)) ≡ only_member rows (object (members_view es))
-only_member-member rows [] e one first = absurd (cc)
-only_member-member rows (f ∷ []) e one first =
-    let same : f ≡ e = cc in
-    let P : Entry → Type 0 = λ x. option_map (λ word. (word, view x.1)) (word_in rows (string_bytes x.0)) ≡ only_member rows (object (members_view (f ∷ []))) in
-    subst P same refl
-only_member-member rows (f ∷ g ∷ es) e one first = absurd (omega arith)
-
-pub only_member-one : {A : Type 0} (rows : List (List ℕ × A)) (d : Data) (es : List Entry) (e : Entry) → Some (members_view es) ≡ as_object d → length es ≡ 1 → slice_get es 0 ≡ Some e
-    → option_map (λ word. (word, view e.1)) (word_in rows (string_bytes e.0)) ≡ only_member rows d
-only_member-one rows (object ms) es e is one first = let same : members_view es ≡ ms = cc in rw (← same) (only_member-member rows es e one first)
-only_member-one rows null es e is one first = absurd (cc)
-only_member-one rows (boolean b) es e is one first = absurd (cc)
-only_member-one rows (number n) es e is one first = absurd (cc)
-only_member-one rows (string s) es e is one first = absurd (cc)
-only_member-one rows (array ds) es e is one first = absurd (cc)
 
 -- ---- what a value asks for
 

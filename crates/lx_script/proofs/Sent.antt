@@ -15,7 +15,8 @@ use Rattle.serde_json.specs.Written.{items_outline, members_outline}
 use Rattle.lx_host.specs.Words.{before_others, name_order, name_word, with_attribute}
 use Rattle.lx_host.specs.declared.op.Op.{Op}
 use Rattle.lx_host.specs.declared.tag.Name.{Name}
-use Rattle.lx_script.specs.Replies.{attributes_onto, natural, op_data, text_data, told_view, with_handled}
+use Rattle.lx_fields.specs.Parts.{natural, text_data}
+use Rattle.lx_script.specs.Replies.{attributes_onto, op_data, told_view, with_handled}
 use Rattle.lx_script.specs.Sent.{handled_tokens, members_in_order, view_tokens}
 
 -- ---- what is left to write, with the closing bracket

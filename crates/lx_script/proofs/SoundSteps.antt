@@ -26,22 +26,23 @@ use Rattle.lx_step.specs.Spelled.{with_first}
 use Rattle.lx_step.specs.declared.listener.Listener.{Listener}
 use Rattle.lx_step.proofs.Sounds.{script_with}
 use Rattle.lx_node.specs.Trees.{nil}
-use Rattle.lx_script.specs.declared.words.Name.{Name}
-use Rattle.lx_script.specs.declared.words.Name.TheVariants as name
+use Rattle.lx_fields.specs.declared.words.Name.{Name}
+use Rattle.lx_fields.specs.declared.words.Name.TheVariants as name
 use Rattle.lx_script.specs.declared.words.Verb.{Verb}
 use Rattle.lx_script.specs.declared.words.Verb.TheVariants as verb
-use Rattle.lx_script.specs.Documents.{document_fields, members_in}
+use Rattle.lx_fields.specs.Documents.{document_fields, members_in}
 use Rattle.lx_script.specs.Commands.{built_in_name, command_with, command_in, command_of, payload_in}
 use Rattle.lx_script.specs.Grammar.{update_with, update_of, flush_told, flush_of, dispatch_form_of, rule_form_of, listener_form_of, show_of, clear_of, clearings, form_of}
 use Rattle.lx_script.specs.Listeners.{listener_of, listener_with, when_in}
-use Rattle.lx_script.specs.Members.{patch_member, patch_members, patch_of}
+use Rattle.lx_script.specs.Patches.{patch_member, patch_members, patch_of}
 use Rattle.lx_script.specs.NewNodes.{or_default, kind_with, may_all_be_given, new_fields}
 use Rattle.lx_script.specs.References.{reference_of, selection_of}
 use Rattle.lx_script.specs.Rules.{rule_of}
 use Rattle.lx_script.specs.Steps.{fields_in, new_in, new_with, new_of, set_of, patch_from, one_node, two_nodes, step_for, step_of, queued_in, script_in, script_from, truth_in}
-use Rattle.lx_script.specs.Values.{word_in, named, string_of, whole_of, number_within, has_only, required, optional, first_member, list_of}
-use Rattle.lx_script.specs.Words.{kind_in, kind_named, levels, list_types, made_kinds, names, questions, verbs}
-use Rattle.lx_script.proofs.Sound.{EachRow, mapped, either, chained, tested, named_holds, up_to, settable-ranged, document_fields_of_kind}
+use Rattle.lx_fields.specs.Values.{word_in, named, string_of, whole_of, number_within, has_only, required, optional, first_member, list_of}
+use Rattle.lx_fields.specs.Words.{kind_in, levels, list_types, made_kinds, names}
+use Rattle.lx_script.specs.Words.{kind_named, questions, verbs}
+use Rattle.lx_fields.proofs.Sound.{EachRow, mapped, either, chained, tested, named_holds, up_to, settable-ranged, document_fields_of_kind}
 
 -- ---- what two options hold, and what a result holds
 

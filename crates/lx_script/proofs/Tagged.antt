@@ -4,7 +4,7 @@ use Rattle.serde_json.specs.Data.{Items}
 use Rattle.serde_json.specs.Find.{as_str}
 use Rattle.lx_step.specs.declared.line.Tags.{Tags}
 use Rattle.lx_script.specs.Grammar.{is_tagged, tags_among}
-use Rattle.lx_script.specs.Values.{all_of}
+use Rattle.lx_fields.specs.Values.{all_of}
 
 -- what tags say with more words
 abbrev pub tags_with : Tags → List (List ℕ) → Tags

@@ -1,16 +1,13 @@
 -- The bytes of a reply are the text of its data, since each part of it has sent the tokens of its own.
-use Rattle.std.proofs.Common.{◌≡◌, ◌∙◌, ap, refl, ℕ, List, [], ◌++◌, Bool, true, false, ◌||◌, Option, None, Some}
-use Rattle.std.specs.Ordering.{nat_cmp, match_ordering}
-use Rattle.std.specs.declared.cmp.Ordering.{Ordering}
-use Rattle.std.specs.declared.cmp.Ordering.TheVariants.{Less, Equal, Greater}
-use Rattle.std.specs.Cmp.Lexicographic.{slice_cmp}
+use Rattle.std.proofs.Common.{◌≡◌, ◌∙◌, ap, refl, ℕ, List, [], ◌++◌, false, ◌||◌, Option, None, Some}
 use Rattle.json.specs.Print.{print}
 use Rattle.json.specs.Tree.{json_tokens}
 use Rattle.json.specs.Written.{Written}
 use Rattle.serde_json.proofs.Texts.{print-outline}
-use Rattle.serde_json.specs.Data.{Data, Members, no_members, member, put}
-use Rattle.serde_json.specs.Written.{compact_text, has_float, members_have_float, outline}
-use Rattle.lx_script.specs.Replies.{or_null, reply_data, reply_text, shown_slice_data, slice_text, state_data, state_text}
+use Rattle.serde_json.specs.Data.{Data}
+use Rattle.serde_json.specs.Written.{compact_text, has_float, outline}
+use Rattle.lx_fields.specs.Parts.{or_null}
+use Rattle.lx_script.specs.Replies.{reply_data, reply_text, shown_slice_data, slice_text, state_data, state_text}
 use Rattle.lx_script.specs.Sent.{Tells}
 use Rattle.lx_script.specs.declared.reply.Reply.{Reply}
 
@@ -24,26 +21,6 @@ text_of_reply reply begun done bytes nothing none told is =
     ∙ print-outline (reply_data reply)
 
 -- ---- documents, which are values first: their text is known where they have no float
-
-neither : (a b : Bool) → (a || b) ≡ false → (a ≡ false) × (b ≡ false)
-neither true b is = cc
-neither false b is = (refl, is)
-
-either_way : (order : Ordering) (less equal greater : Members) → members_have_float less ≡ false → members_have_float equal ≡ false → members_have_float greater ≡ false
-    → members_have_float (match_ordering order less equal greater) ≡ false
-either_way Less less equal greater of_less of_equal of_greater = of_less
-either_way Equal less equal greater of_less of_equal of_greater = of_equal
-either_way Greater less equal greater of_less of_equal of_greater = of_greater
-
-pub members_have_float-put : (name : List ℕ) (d : Data) (found : Members) → has_float d ≡ false → members_have_float found ≡ false → members_have_float (put name d found) ≡ false
-members_have_float-put name d no_members of_d of_found = rw of_d refl
-members_have_float-put name d (member other e rest) of_d of_found =
-    let parts = neither (has_float e) (members_have_float rest) of_found in
-    either_way (slice_cmp nat_cmp name other) _ _ _ (rw of_d of_found) (rw (of_d, parts.1) refl) (rw (parts.0, members_have_float-put name d rest of_d parts.1) refl)
-
-pub has_float-or_null : {A : Type 0} (data_of : A → Data) → ((a : A) → has_float (data_of a) ≡ false) → (option : Option A) → has_float (or_null data_of option) ≡ false
-has_float-or_null data_of of_some None = refl
-has_float-or_null data_of of_some (Some a) = of_some a
 
 -- the reply that shows a document without a float has none
 has_float-state_data : (document : Data) → has_float document ≡ false → has_float (state_data document) ≡ false

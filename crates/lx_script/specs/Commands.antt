@@ -11,7 +11,7 @@ use Rattle.lx_step.specs.declared.command.Payload.TheVariants as payload
 use Rattle.lx_step.specs.declared.step.Step.{Step}
 use Rattle.lx_step.specs.declared.step.Step.TheVariants as step
 use Rattle.lx_script.specs.References.{has_three}
-use Rattle.lx_script.specs.Values.{string_of, number_within, has_only, required}
+use Rattle.lx_fields.specs.Values.{string_of, number_within, has_only, required}
 
 -- A text. Among a listener's steps "@payload" is what the command was given with which the listener is reached; elsewhere it
 -- is a text like others.

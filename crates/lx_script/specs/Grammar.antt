@@ -20,7 +20,7 @@ use Rattle.lx_script.specs.Commands.{command_in}
 use Rattle.lx_script.specs.Listeners.{listener_of}
 use Rattle.lx_script.specs.Rules.{rule_of}
 use Rattle.lx_script.specs.Steps.{script_in, truth_in}
-use Rattle.lx_script.specs.Values.{named, has_only, required, optional, number_within, list_of}
+use Rattle.lx_fields.specs.Values.{named, has_only, required, optional, number_within, list_of}
 use Rattle.lx_script.specs.Words.{questions}
 
 -- the bytes are this JSON value: UTF-8 that serde_json reads, which nests at most 127 deep

@@ -1,16 +1,11 @@
 pub mod Commands
-pub mod Documents
-pub mod Exporting
 pub mod Grammar
 pub mod Listeners
-pub mod Members
 pub mod NewNodes
+pub mod Patches
 pub mod References
 pub mod Replies
 pub mod Rules
 pub mod Sent
 pub mod Steps
-pub mod Storable
-pub mod Types
-pub mod Values
 pub mod Words

@@ -7,7 +7,7 @@ use Rattle.lx_step.specs.Script.{Script}
 use Rattle.lx_step.specs.declared.listener.Listener.{Listener}
 use Rattle.lx_step.specs.declared.listener.When.{When}
 use Rattle.lx_script.specs.Steps.{script_in}
-use Rattle.lx_script.specs.Values.{string_of, number_within, has_only, required, optional}
+use Rattle.lx_fields.specs.Values.{string_of, number_within, has_only, required, optional}
 
 -- these conditions: on the payload, on the kind of selection, and on the type of the block
 abbrev pub when_with : Option (List ℕ) → Option (List ℕ) → Option (List ℕ) → When

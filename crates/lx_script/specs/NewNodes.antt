@@ -6,11 +6,11 @@ use Rattle.serde_json.specs.Find.{get, as_null}
 use Rattle.lx_node.specs.declared.kind.Kind.{Kind}
 use Rattle.lx_node.specs.declared.kind.Kind.TheVariants.{Heading, List as ListKind}
 use Rattle.lx_node.specs.declared.fields.Fields.{Fields}
-use Rattle.lx_script.specs.declared.words.Name.{Name}
-use Rattle.lx_script.specs.declared.words.Name.TheVariants as name
-use Rattle.lx_script.specs.Documents.{document_fields, members_in, name_in}
-use Rattle.lx_script.specs.Values.{named}
-use Rattle.lx_script.specs.Words.{levels, list_types}
+use Rattle.lx_fields.specs.declared.words.Name.{Name}
+use Rattle.lx_fields.specs.declared.words.Name.TheVariants as name
+use Rattle.lx_fields.specs.Documents.{document_fields, members_in, name_in}
+use Rattle.lx_fields.specs.Values.{named}
+use Rattle.lx_fields.specs.Words.{levels, list_types}
 
 -- ---- the kind
 

@@ -12,7 +12,7 @@ use Rattle.lx_step.specs.declared.reference.Reference.TheVariants as reference
 use Rattle.lx_step.specs.declared.reference.PointRef.{PointRef}
 use Rattle.lx_step.specs.declared.reference.SelectionRef.{SelectionRef}
 use Rattle.lx_step.specs.declared.reference.SelectionRef.TheVariants as selection
-use Rattle.lx_script.specs.Values.{whole_of, number_within, named, has_only, required, optional, list_of}
+use Rattle.lx_fields.specs.Values.{whole_of, number_within, named, has_only, required, optional, list_of}
 use Rattle.lx_script.specs.Words.{point_kinds}
 
 -- The node that a string names. A string that isn't one of the three that begin with @ is a name, whatever it begins with.

@@ -1,6 +1,6 @@
 -- The bytes of a reply: compact JSON, whose members are in byte order, as serde_json writes a value.
-use Rattle.std.specs.Prelude.{ℕ, Bool, true, List, [], ◌∷◌, codes, map, encode_utf8_all, Option, None, Some}
-use Rattle.serde_json.specs.Data.{Data, null, boolean, number, unsigned, string, array, object, Members, no_members, member, put}
+use Rattle.std.specs.Prelude.{ℕ, Bool, true, List, [], ◌∷◌, codes, map, Option, None, Some}
+use Rattle.serde_json.specs.Data.{Data, null, boolean, string, array, object, Members, no_members, member, put}
 use Rattle.serde_json.specs.View.{items_of}
 use Rattle.serde_json.specs.Written.{compact_text}
 use Rattle.lx_node.specs.Causes.{code_of}
@@ -24,25 +24,12 @@ use Rattle.lx_host.specs.declared.op.Op.{Op}
 use Rattle.lx_host.specs.declared.op.Op.TheVariants.{Create, Place, Drop, Text, Attr, Break}
 use Rattle.lx_select.specs.declared.selection.Selection.{Selection}
 use Rattle.lx_select.specs.declared.selection.Selection.TheVariants as selection
+use Rattle.lx_fields.specs.Parts.{natural, text_data, or_null}
 use Rattle.lx_script.specs.declared.reply.Reply.{Reply}
 use Rattle.lx_script.specs.declared.reply.Reply.TheVariants.{Committed, Refused, Idle, Gathered, Registered, Cleared, View, Selection as Selected, History}
 
 -- ---- parts of replies
 
--- a number as JSON
-abbrev pub natural : ℕ → Data
-natural n = number (unsigned n)
-
--- a text as JSON, its characters in UTF-8
-abbrev pub text_data : List ℕ → Data
-text_data text = string (encode_utf8_all text)
-
--- a value as JSON, or null where there is none
-abbrev pub or_null : {A : Type 0} → (A → Data) → Option A → Data
-or_null data_of None = null
-or_null data_of (Some a) = data_of a
-
--- a list as JSON
 abbrev pub list_data : List Data → Data
 list_data items = array (items_of items)
 

@@ -21,10 +21,10 @@ use Rattle.lx_script.specs.declared.words.ConditionWord.{ConditionWord}
 use Rattle.lx_script.specs.declared.words.ConditionWord.TheVariants as asks
 use Rattle.lx_script.specs.declared.words.EditWord.{EditWord}
 use Rattle.lx_script.specs.declared.words.EditWord.TheVariants as does
-use Rattle.lx_script.specs.Members.{patch_of}
+use Rattle.lx_script.specs.Patches.{patch_of}
 use Rattle.lx_script.specs.NewNodes.{kind_with, new_fields}
 use Rattle.lx_script.specs.Steps.{fields_in, patch_from}
-use Rattle.lx_script.specs.Values.{string_of, whole_of, or_null_of, has_only, only_member, required, list_of}
+use Rattle.lx_fields.specs.Values.{string_of, whole_of, or_null_of, has_only, only_member, required, list_of}
 use Rattle.lx_script.specs.Words.{type_named, condition_words, edit_words}
 
 -- what is meant where the value is true, which it has to be

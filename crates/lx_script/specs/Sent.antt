@@ -7,7 +7,7 @@ use Rattle.serde_json.specs.Data.{Data, Members, no_members, member}
 use Rattle.serde_json.specs.Written.{outline}
 use Rattle.lx_host.specs.Words.{name_word}
 use Rattle.lx_host.specs.declared.tag.Name.{Name}
-use Rattle.lx_script.specs.Replies.{text_data}
+use Rattle.lx_fields.specs.Parts.{text_data}
 
 -- a writer has taken these tokens, after those that it had
 abbrev pub Sends : List Token → Written → Written → Type 0

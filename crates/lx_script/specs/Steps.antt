@@ -17,10 +17,10 @@ use Rattle.lx_step.specs.Spelled.{with_first}
 use Rattle.lx_script.specs.Commands.{command_of, do_of}
 use Rattle.lx_script.specs.declared.words.Verb.{Verb}
 use Rattle.lx_script.specs.declared.words.Verb.TheVariants as verb
-use Rattle.lx_script.specs.Members.{patch_of}
+use Rattle.lx_script.specs.Patches.{patch_of}
 use Rattle.lx_script.specs.NewNodes.{kind_with, new_fields}
 use Rattle.lx_script.specs.References.{reference_of, selection_of}
-use Rattle.lx_script.specs.Values.{first_member, string_of, whole_of, has_only, required, optional, list_of}
+use Rattle.lx_fields.specs.Values.{first_member, string_of, whole_of, has_only, required, optional, list_of}
 use Rattle.lx_script.specs.Words.{kind_named, verbs}
 
 -- the step that appends a text: {"append":TEXT}

@@ -7,10 +7,10 @@ ghost use Rattle.std.specs.Prelude.{◌≡◌, IfOk, codes, option_and_then};
 ghost use Rattle.serde_json.specs.Find.{get};
 ghost use Rattle.serde_json.specs.View.{view};
 ghost use Rattle.lx_script.specs.Commands as commands;
-ghost use Rattle.lx_script.specs.Values as values;
+ghost use Rattle.lx_fields.specs.Values as values;
 
 use crate::references::has_three;
-use crate::values::{has_only, member_text, short_within};
+use lx_fields::{has_only, member_text, short_within};
 use lx_node::{NoMemory, Txt};
 use lx_step::{BuiltIn, Command, Payload, Step};
 use serde_json::Value;

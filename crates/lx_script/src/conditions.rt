@@ -3,10 +3,10 @@
 ghost use Rattle.std.specs.Prelude.{◌≡◌, IfOk, codes};
 ghost use Rattle.serde_json.specs.View.{view, items_view};
 ghost use Rattle.lx_script.specs.Rules as rules;
-ghost use Rattle.lx_script.specs.Values as values;
+ghost use Rattle.lx_fields.specs.Values as values;
 
-use crate::values::{number_of, text_of};
 use crate::words::{ConditionWord, condition_in, type_of};
+use lx_fields::{number_of, text_of};
 use lx_node::NoMemory;
 use lx_step::{Condition, Conditions, TypeRow};
 use serde_json::Value;

@@ -3,14 +3,14 @@
 ghost use Rattle.std.specs.Prelude.{◌≡◌, IfOk, codes};
 ghost use Rattle.serde_json.specs.View.{view, items_view};
 ghost use Rattle.lx_script.specs.Rules as rules;
-ghost use Rattle.lx_script.specs.Values as values;
+ghost use Rattle.lx_fields.specs.Values as values;
 
 use crate::conditions::where_true;
-use crate::members::patch_of;
 use crate::new_nodes::{kind_with, new_fields};
+use crate::patches::patch_of;
 use crate::steps::fields_or;
-use crate::values::has_only;
 use crate::words::{EditWord, edit_in, type_of};
+use lx_fields::has_only;
 use lx_node::{Kind, NoMemory, Txt};
 use lx_step::{NewNode, Patch, SelfEdit, SelfEdits};
 use lx_text::length;

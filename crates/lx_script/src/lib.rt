@@ -5,20 +5,18 @@
 //! question, or what clears the history. It may carry its time, and an update, a dispatch and a load may have tags,
 //! which say how the commit is recorded. Steps hold steps where they queue them, and so does a listener. Each step is
 //! an object that names its members and has no others; `specs/Grammar.antt` begins the grammar, which is stated over
-//! JSON values. The fields of nodes are read from the same table for new nodes, for patches and for documents.
+//! JSON values. What is asked of one value, and the fields that an object gives a new node, is `lx_fields`'s.
 #![tactic(auto)]
 
 mod causes;
 mod commands;
 mod conditions;
 mod edits;
-mod exporting;
-mod fields;
 mod listeners;
-mod members;
 mod new_nodes;
 mod ops;
 mod parts;
+mod patches;
 mod read;
 mod recording;
 mod references;
@@ -27,14 +25,9 @@ mod rules;
 mod scripts;
 mod selection;
 mod steps;
-mod types;
-mod values;
 mod words;
 mod write;
 
-pub use exporting::node_value;
-pub use fields::{FieldFault, fields_of};
 pub use read::{line_of, read_line, read_value};
 pub use reply::Reply;
-pub use types::{kind_of_type, kind_told};
 pub use write::{write_commit, write_reply, write_slice, write_state};

@@ -4,10 +4,10 @@ ghost use Rattle.std.specs.Prelude.{◌≡◌, IfOk, codes};
 ghost use Rattle.serde_json.specs.Find.{get, as_bool};
 ghost use Rattle.serde_json.specs.View.{view};
 ghost use Rattle.lx_script.specs.Listeners as listeners;
-ghost use Rattle.lx_script.specs.Values as values;
+ghost use Rattle.lx_fields.specs.Values as values;
 
 use crate::scripts::member_script;
-use crate::values::{has_only, member_text, optional_text, small_within};
+use lx_fields::{has_only, member_text, optional_text, small_within};
 use lx_node::NoMemory;
 use lx_step::{Listener, When};
 use serde_json::Value;

@@ -3,13 +3,12 @@
 ghost use Rattle.std.specs.Prelude.{◌≡◌, IfOk, codes, option_map};
 ghost use Rattle.serde_json.specs.View.{view, members_view};
 ghost use Rattle.serde_json.specs.Find.{get};
-ghost use Rattle.lx_script.specs.Documents.{members_in};
+ghost use Rattle.lx_fields.specs.Documents.{members_in};
 ghost use Rattle.lx_script.specs.NewNodes as new_nodes;
-ghost use Rattle.lx_script.specs.Values.{named};
-ghost use Rattle.lx_script.specs.Words.{levels, list_types};
+ghost use Rattle.lx_fields.specs.Values.{named};
+ghost use Rattle.lx_fields.specs.Words.{levels, list_types};
 
-use crate::fields::{FieldFault, fields_of, name_in};
-use crate::words::{Name, level_of, list_type_of};
+use lx_fields::{FieldFault, Name, fields_of, level_of, list_type_of, name_in};
 use lx_node::{Fields, Kind, ListType, NoMemory};
 use serde_json::{Map, Value};
 use std::alloc::Global;

@@ -2,7 +2,7 @@
 
 ghost use Rattle.std.specs.Prelude.{OnOk, ◌∷◌, [], decimal};
 ghost use Rattle.json.specs.Token as token;
-ghost use Rattle.lx_script.specs.Replies.{natural, or_null, text_data};
+ghost use Rattle.lx_fields.specs.Parts.{natural, or_null, text_data};
 ghost use Rattle.lx_script.specs.Sent.{Sends, Tells};
 
 use json::Writer;

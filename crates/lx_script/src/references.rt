@@ -2,11 +2,11 @@
 
 ghost use Rattle.std.specs.Prelude.{◌≡◌, IfOk, codes, option_map, option_and_then};
 ghost use Rattle.serde_json.specs.View.{view, items_view};
-ghost use Rattle.lx_script.specs.Values as values;
+ghost use Rattle.lx_fields.specs.Values as values;
 ghost use Rattle.lx_script.specs.References as references;
 
-use crate::values::{has_only, long_within, number_of, short_within};
 use crate::words::point_kind_of;
+use lx_fields::{has_only, long_within, number_of, short_within};
 use lx_node::{Key, NoMemory, Txt};
 use lx_step::{PointRef, Reference, References, SelectionRef};
 use serde_json::Value;

@@ -6,8 +6,8 @@ ghost use Rattle.lx_script.specs.Rules as rules;
 
 use crate::conditions::asked_by;
 use crate::edits::done_by;
-use crate::values::has_only;
 use crate::words::type_of;
+use lx_fields::has_only;
 use lx_node::{Kind, NoMemory};
 use lx_step::{Rule, TypeRow};
 use serde_json::Value;

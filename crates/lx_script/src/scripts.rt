@@ -5,14 +5,14 @@
 ghost use Rattle.std.specs.Prelude.{◌≡◌, IfOk, codes};
 ghost use Rattle.serde_json.specs.View.{view, items_view};
 ghost use Rattle.lx_script.specs.Steps as steps;
-ghost use Rattle.lx_script.specs.Values as values;
+ghost use Rattle.lx_fields.specs.Values as values;
 
 use crate::commands::{command_of, do_of};
 use crate::steps::{
     append_of, new_of, one_of, put_of, replace_of, select_of, set_of, split_of, two_of,
 };
-use crate::values::{has_only, items_in};
 use crate::words::{Verb, verb_of};
+use lx_fields::{has_only, items_in};
 use lx_node::NoMemory;
 use lx_step::{Step, Steps};
 use serde_json::Value;

@@ -1,7 +1,8 @@
 //! What a reply says of a selection.
 
 ghost use Rattle.std.specs.Prelude.{◌≡◌, OnOk, map};
-ghost use Rattle.lx_script.specs.Replies.{selection_data, range_data, nodes_data, cells_data, natural, list_data};
+ghost use Rattle.lx_fields.specs.Parts.{natural};
+ghost use Rattle.lx_script.specs.Replies.{selection_data, range_data, nodes_data, cells_data, list_data};
 ghost use Rattle.lx_script.specs.Sent.{Tells};
 
 use crate::causes::put_point;

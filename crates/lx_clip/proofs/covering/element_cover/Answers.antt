@@ -1,6 +1,6 @@
 use Rattle.std.proofs.Common.{◌≡◌, ◌∙◌, length, ap, sym, rules}
 use Rattle.std.specs.Vec.{vec_len}
-use Rattle.lx_script.specs.Exporting.{node_data}
+use Rattle.lx_fields.specs.Exporting.{node_data}
 use Rattle.lx_clip.specs.Covers.{label_for}
 use Rattle.lx_clip.specs.Extents.{seen}
 use Rattle.lx_clip.proofs.Covered.{is_kept, lies_between, has_some}

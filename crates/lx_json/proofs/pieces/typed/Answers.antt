@@ -2,7 +2,7 @@ use Rattle.std.proofs.Common.{◌∙◌, ap, sym, codes, None, Some, Ok, Err, if
 use Rattle.std.specs.Str.{chars}
 use Rattle.serde_json.specs.View.{view}
 use Rattle.lx_node.specs.declared.cause.Cause.TheVariants.{BadState}
-use Rattle.lx_script.specs.Types.{kind_of_type, kind_told}
+use Rattle.lx_fields.specs.Types.{kind_of_type, kind_told}
 use Rattle.lx_json.specs.Reading.{placed_kind}
 use Rattle.lx_json.proofs.Spelled.{chars-type}
 use Rattle.lx_json.proofs.Kinded.{placed_top}

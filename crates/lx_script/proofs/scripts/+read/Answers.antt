@@ -3,7 +3,7 @@ use Rattle.std.proofs.lemmas.Grind.{common_steps}
 use Rattle.serde_json.specs.View.{view, items_view}
 use Rattle.lx_step.specs.Spelled.{script_of}
 use Rattle.lx_script.specs.Steps.{script_from, script_in, step_for, step_of}
-use Rattle.lx_script.specs.Values.{all_of, required}
+use Rattle.lx_fields.specs.Values.{all_of, required}
 use Rattle.lx_script.proofs.Listed.{depth-listed, depth-item, step_of-found, member-listed, script_from-all}
 use Rattle.lx_script.proofs.scripts.+read.Goals as goal
 

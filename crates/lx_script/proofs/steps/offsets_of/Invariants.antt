@@ -1,6 +1,6 @@
 use Rattle.std.proofs.Common.{drop}
 use Rattle.serde_json.specs.View.{items_view}
-use Rattle.lx_script.specs.Values.{whole_of}
+use Rattle.lx_fields.specs.Values.{whole_of}
 use Rattle.lx_script.proofs.Gathered.{IsGathered}
 use Rattle.lx_script.proofs.steps.offsets_of.Given as goal
 

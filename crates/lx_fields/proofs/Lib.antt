@@ -1,0 +1,8 @@
+pub mod Back
+pub mod Characters
+pub mod Exported
+pub mod Objects
+pub mod ReadBack
+pub mod Sorted
+pub mod Sound
+pub mod Written

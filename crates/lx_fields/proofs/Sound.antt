@@ -1,0 +1,194 @@
+-- What an object gives is sound: fields of their kinds, and members that are within their ranges.
+use Rattle.std.proofs.Common.{◌≡◌, refl, subst, ℕ, List, [], ◌∷◌, Bool, true, false, ◌&&◌, leb, IsTrue, if◌then◌else◌, Option, None, Some, option_map, option_and_then, is_some, Result, Ok}
+use Rattle.std.specs.Option.{option_or}
+use Rattle.std.specs.Str.{bytes_eq}
+use Rattle.std.proofs.lemmas.Option.{cond_some}
+use Rattle.serde_json.specs.Data.{Data, Members, no_members, member}
+use Rattle.serde_json.specs.Find.{as_bool, as_null, as_str}
+use Rattle.lx_node.specs.declared.kind.Kind.{Kind}
+use Rattle.lx_node.specs.declared.kind.Kind.TheVariants as kind
+use Rattle.lx_node.specs.declared.fields.Extra.{Extra}
+use Rattle.lx_node.specs.declared.fields.Extra.TheVariants as extra
+use Rattle.lx_node.specs.declared.fields.Fields.{Fields}
+use Rattle.lx_node.specs.declared.fields.Fields.TheVariants as fields
+use Rattle.lx_node.specs.Kinds.{is_possible}
+use Rattle.lx_node.specs.OfKind.{IsOfKind, is_of_kind, fits_kind, is_element_of, is_text_of, are_text_fields, are_tab_fields, are_embed_fields, are_bare, is_tab_text, is_normal, is_extra_of, is_plain, is_list_extra, is_item_extra, is_link_extra, is_cell_extra, is_span}
+use Rattle.lx_step.specs.declared.member.Member.{Member}
+use Rattle.lx_step.specs.declared.member.Member.TheVariants as set
+use Rattle.lx_step.specs.Patches.{has, with_member, is_in_range, IsInRange}
+use Rattle.lx_step.proofs.Kept.{keeps_kind_with}
+use Rattle.lx_fields.specs.declared.words.Name.{Name}
+use Rattle.lx_fields.specs.declared.words.Name.TheVariants as name
+use Rattle.lx_fields.specs.Documents.{default_extra, default_fields, extra_with_value, item_with_value, with_given, given_by, name_in, or_bad, fields_with, document_fields, members_in}
+use Rattle.lx_fields.specs.Members.{direction_of, settable}
+use Rattle.lx_fields.specs.Values.{word_in, named, string_of, whole_of, number_within, or_null_of}
+use Rattle.lx_fields.specs.Words.{levels, list_types, aligns, modes}
+
+-- ---- what holds of all that an option can be
+
+pub mapped : {A B : Type 0} (P : B → Type 0) (f : A → B) (o : Option A) → ((a : A) → o ≡ Some a → P (f a)) → (b : B) → option_map f o ≡ Some b → P b
+mapped P f None holds b is = absurd (cc)
+mapped P f (Some a) holds b is = let same : f a ≡ b = cc in subst P same (holds a refl)
+
+pub either : {B : Type 0} (P : B → Type 0) (o p : Option B) → ((b : B) → o ≡ Some b → P b) → ((b : B) → p ≡ Some b → P b) → (b : B) → option_or o p ≡ Some b → P b
+either P None p holds_o holds_p b is = holds_p b is
+either P (Some a) p holds_o holds_p b is = holds_o b is
+
+pub chained : {A B : Type 0} (P : B → Type 0) (f : A → Option B) (o : Option A) → ((a : A) → o ≡ Some a → (b : B) → f a ≡ Some b → P b) → (b : B) → option_and_then f o ≡ Some b → P b
+chained P f None holds b is = absurd (cc)
+chained P f (Some a) holds b is = holds a refl b is
+
+pub tested : {B : Type 0} (P : B → Type 0) (test : Bool) (o : Option B) → ((b : B) → o ≡ Some b → P b) → (b : B) → (if test then o else None) ≡ Some b → P b
+tested P true o holds b is = holds b is
+tested P false o holds b is = absurd (cc)
+
+-- ---- tables of words
+
+abbrev pub EachRow : {A : Type 0} → (A → Type 0) → List (List ℕ × A) → Type 0
+EachRow P [] = Unit {0}
+EachRow P (row ∷ rows) = P row.1 × EachRow P rows
+
+-- what holds of each row of a table holds of what a word stands for, and of what a string stands for
+word_holds : {A : Type 0} (P : A → Type 0) (rows : List (List ℕ × A)) → EachRow P rows → (text : List ℕ) (a : A) → word_in rows text ≡ Some a → P a
+word_holds P [] each text a is = absurd (cc)
+word_holds {A = A} P (row ∷ rows) each text a is = here (bytes_eq row.0 text) each.0 (word_holds P rows each.1 text a) is
+  where
+    here : (test : Bool) → P row.1 → (word_in rows text ≡ Some a → P a) → (if test then Some row.1 else word_in rows text) ≡ Some a → P a
+    here true holds rest is = let same : row.1 ≡ a = cc in subst P same holds
+    here false holds rest is = rest is
+
+pub named_holds : {A : Type 0} (P : A → Type 0) (rows : List (List ℕ × A)) → EachRow P rows → (d : Data) (a : A) → named rows d ≡ Some a → P a
+named_holds P rows each d a is = chained P (word_in rows) (as_str d) (λ text at. word_holds P rows each text) a is
+
+-- ---- numbers within bounds
+
+within : (least most : ℕ) (o : Option ℕ) (n : ℕ) → option_and_then (λ n. if leb least n && leb n most then Some n else None) o ≡ Some n → IsTrue (leb least n && leb n most)
+within least most None n is = absurd (cc)
+within least most (Some m) n is =
+    let parts = cond_some (leb least m && leb m most) m n is in
+    let P : ℕ → Type 0 = λ k. IsTrue (leb least k && leb k most) in
+    subst P parts.1 parts.0
+
+left : (a b : Bool) → IsTrue (a && b) → IsTrue a
+left true b is = refl
+left false b is = absurd (cc)
+
+right : (a b : Bool) → IsTrue (a && b) → IsTrue b
+right true b is = is
+right false b is = absurd (cc)
+
+and : (a b : Bool) → IsTrue a → IsTrue b → IsTrue (a && b)
+and true b of_a of_b = of_b
+and false b of_a of_b = absurd (cc)
+
+pub up_to : (most : ℕ) (d : Data) (n : ℕ) → number_within 0 most d ≡ Some n → IsTrue (leb n most)
+up_to most d n is = right (leb 0 n) (leb n most) (within 0 most (whole_of d) n is)
+
+-- ---- members that are read
+
+any : {A : Type 0} (f : A → Member) → ((a : A) → IsInRange (f a)) → (o : Option A) (m : Member) → option_map f o ≡ Some m → IsInRange m
+any f holds o m is = mapped IsInRange f o (λ a at. holds a) m is
+
+pub settable-ranged : (known : Name) (d : Data) (m : Member) → settable known d ≡ Some m → IsInRange m
+unfolding settable is_in_range is_span
+settable-ranged name.Direction d m is = any (λ direction. set.Direction direction) (λ direction. refl) (direction_of d) m is
+settable-ranged name.Format d m is =
+    either IsInRange (option_map (λ align. set.Align align) (named aligns d)) (option_map (λ format. set.Format format) (number_within 0 65535 d))
+    (any (λ align. set.Align align) (λ align. refl) (named aligns d)) (any (λ format. set.Format format) (λ format. refl) (number_within 0 65535 d)) m is
+settable-ranged name.Indent d m is = any (λ indent. set.Indent indent) (λ indent. refl) (number_within 0 65535 d) m is
+settable-ranged name.TextFormat d m is = any (λ format. set.TextFormat format) (λ format. refl) (number_within 0 65535 d) m is
+settable-ranged name.TextStyle d m is = any (λ style. set.TextStyle style) (λ style. refl) (string_of d) m is
+settable-ranged name.Tag d m is = absurd (cc)
+settable-ranged name.ListType d m is = absurd (cc)
+settable-ranged name.Start d m is = mapped IsInRange (λ start. set.Start start) (number_within 0 1000000 d) (λ n at. up_to 1000000 d n at) m is
+settable-ranged name.Checked d m is = any (λ checked. set.Checked checked) (λ checked. refl) (or_null_of as_bool d) m is
+settable-ranged name.Value d m is = absurd (cc)
+settable-ranged name.Rel d m is = any (λ rel. set.Rel rel) (λ rel. refl) (or_null_of string_of d) m is
+settable-ranged name.Target d m is = any (λ target. set.Target target) (λ target. refl) (or_null_of string_of d) m is
+settable-ranged name.Title d m is = any (λ title. set.Title title) (λ title. refl) (or_null_of string_of d) m is
+settable-ranged name.Url d m is = any (λ url. set.Url url) (λ url. refl) (string_of d) m is
+settable-ranged name.HeaderState d m is = mapped IsInRange (λ header. set.HeaderState header) (number_within 0 3 d) (λ n at. up_to 3 d n at) m is
+settable-ranged name.ColSpan d m is = mapped IsInRange (λ span. set.ColSpan span) (number_within 1 1000 d) (λ n at. within 1 1000 (whole_of d) n at) m is
+settable-ranged name.RowSpan d m is = mapped IsInRange (λ span. set.RowSpan span) (number_within 1 1000 d) (λ n at. within 1 1000 (whole_of d) n at) m is
+settable-ranged name.Background d m is = any (λ background. set.Background background) (λ background. refl) (or_null_of string_of d) m is
+settable-ranged name.Text d m is = any (λ text. set.Text text) (λ text. refl) (string_of d) m is
+settable-ranged name.Style d m is = any (λ style. set.Style style) (λ style. refl) (string_of d) m is
+settable-ranged name.Detail d m is = mapped IsInRange (λ detail. set.Detail detail) (number_within 0 3 d) (λ n at. up_to 3 d n at) m is
+settable-ranged name.Mode d m is = any (λ mode. set.Mode mode) (λ mode. refl) (named modes d) m is
+settable-ranged name.Src d m is = any (λ source. set.Src source) (λ source. refl) (string_of d) m is
+
+-- ---- fields that an object gives
+
+member_keeps : (kind : Kind) (o : Option Member) (old new : Fields) → ((m : Member) → o ≡ Some m → IsInRange m)
+    → option_and_then (λ member. if has kind member then Some (with_member member old) else None) o ≡ Some new → IsOfKind kind old → IsOfKind kind new
+member_keeps kind None old new ranged is of = absurd (cc)
+member_keeps kind (Some m) old new ranged is of =
+    let parts = cond_some (has kind m) (with_member m old) new is in
+    subst (IsOfKind kind) parts.1 (keeps_kind_with kind m old (ranged m refl) parts.0 of)
+
+extra_keeps : (kind : Kind) (value : ℕ) (old : Extra) → IsTrue (leb value 1200000) → IsTrue (is_extra_of kind old) → IsTrue (is_extra_of kind (extra_with_value value old))
+unfolding is_extra_of is_plain is_list_extra is_item_extra is_link_extra is_cell_extra
+extra_keeps kind.Item value (extra.Item old checked) ranged of = ranged
+extra_keeps _ value (extra.Item old checked) ranged of = absurd (cc)
+extra_keeps kind value extra.Plain ranged of = of
+extra_keeps kind value (extra.List start) ranged of = of
+extra_keeps kind value (extra.Link rel target title url) ranged of = of
+extra_keeps kind value (extra.Cell header row_span col_span background) ranged of = of
+
+fitting : (kind : Kind) (value : ℕ) (old : Fields) → IsTrue (leb value 1200000) → IsTrue (fits_kind kind old) → IsTrue (fits_kind kind (item_with_value value old))
+unfolding fits_kind is_element_of is_text_of are_embed_fields are_bare item_with_value
+fitting kind.Text value (fields.Element old) ranged of = absurd (cc)
+fitting kind.Tab value (fields.Element old) ranged of = absurd (cc)
+fitting kind.Break value (fields.Element old) ranged of = absurd (cc)
+fitting kind.Rule value (fields.Element old) ranged of = absurd (cc)
+fitting kind.Embed value (fields.Element old) ranged of = absurd (cc)
+fitting kind value (fields.Element old) ranged of = extra_keeps kind value old.extra ranged of
+fitting kind value (fields.Text old) ranged of = of
+fitting kind value (fields.Embed old) ranged of = of
+fitting kind value fields.Bare ranged of = of
+
+value_keeps : (kind : Kind) (value : ℕ) (old : Fields) → IsTrue (leb value 1200000) → IsOfKind kind old → IsOfKind kind (item_with_value value old)
+unfolding is_of_kind
+value_keeps kind value old ranged of =
+    and (is_possible kind) _ (left (is_possible kind) (fits_kind kind old) of) (fitting kind value old ranged (right (is_possible kind) (fits_kind kind old) of))
+
+given_keeps : (kind : Kind) (known : Name) (d : Data) (old new : Fields) → with_given kind known d old ≡ Some new → IsOfKind kind old → IsOfKind kind new
+unfolding with_given
+given_keeps kind name.Tag d old new is of = mapped (IsOfKind kind) (λ level. old) (named levels d) (λ level at. of) new is
+given_keeps kind name.ListType d old new is of = mapped (IsOfKind kind) (λ type. old) (named list_types d) (λ type at. of) new is
+given_keeps kind name.Value d old new is of =
+    mapped (IsOfKind kind) (λ value. item_with_value value old) (number_within 0 1200000 d) (λ value at. value_keeps kind value old (up_to 1200000 d value at) of) new is
+given_keeps kind known d old new is of = member_keeps kind (settable known d) old new (settable-ranged known d) is of
+
+given_by_keeps : (kind : Kind) (found : Option Name) (d : Data) (old new : Fields) → given_by kind found d old ≡ Some new → IsOfKind kind old → IsOfKind kind new
+unfolding given_by
+given_by_keeps kind None d old new is of = let same : old ≡ new = cc in subst (IsOfKind kind) same of
+given_by_keeps kind (Some known) d old new is of = null_keeps (is_some (as_null d)) is
+  where
+    null_keeps : (test : Bool) → (if test then Some old else with_given kind known d old) ≡ Some new → IsOfKind kind new
+    null_keeps true is = let same : old ≡ new = cc in subst (IsOfKind kind) same of
+    null_keeps false is = given_keeps kind known d old new is of
+
+after : (kind : Kind) (text : List ℕ) (go_on : Fields → Result Fields (List ℕ)) (new : Fields) → ((mid : Fields) → go_on mid ≡ Ok new → IsOfKind kind mid → IsOfKind kind new)
+    → (o : Option Fields) → ((mid : Fields) → o ≡ Some mid → IsOfKind kind mid) → or_bad text go_on o ≡ Ok new → IsOfKind kind new
+after kind text go_on new keeps None of is = absurd (cc)
+after kind text go_on new keeps (Some mid) of is = keeps mid is (of mid refl)
+
+pub fields_keep : (kind : Kind) (members : Members) (old new : Fields) → fields_with kind members old ≡ Ok new → IsOfKind kind old → IsOfKind kind new
+fields_keep kind no_members old new is of = let same : old ≡ new = cc in subst (IsOfKind kind) same of
+fields_keep kind (member text d rest) old new is of =
+    after kind text (fields_with kind rest) new (λ mid. fields_keep kind rest mid new)
+    (given_by kind (name_in kind text) d old) (λ mid at. given_by_keeps kind (name_in kind text) d old mid at of) is
+
+pub default_of_kind : (kind : Kind) → IsTrue (is_possible kind) → IsOfKind kind (default_fields kind)
+unfolding is_of_kind fits_kind is_element_of is_text_of are_text_fields are_tab_fields are_embed_fields are_bare is_tab_text is_normal is_extra_of is_plain is_list_extra is_item_extra is_link_extra is_cell_extra is_span default_fields default_extra
+default_of_kind of possible = and (is_possible of) _ possible (fit of)
+  where
+    fit : (of : Kind) → IsTrue (fits_kind of (default_fields of))
+    fit kind.Text = refl
+    fit _ = refl
+
+-- what an object gives a node of a kind that a node can be are fields of the kind
+pub document_fields_of_kind : (kind : Kind) (d : Data) (new : Fields) → IsTrue (is_possible kind) → document_fields kind d ≡ Ok new → IsOfKind kind new
+unfolding document_fields
+document_fields_of_kind kind d new possible is = fields_keep kind (members_in d) (default_fields kind) new is (default_of_kind kind possible)

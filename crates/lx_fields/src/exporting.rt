@@ -1,0 +1,404 @@
+//! The object that is written for a node, as documents have it.
+
+ghost use Rattle.std.specs.Prelude.{◌≡◌, ◌==◌, [], ◌∷◌, Option, codes, Ok, IfOk, OnOk};
+ghost use Rattle.serde_json.specs.Data.{Data, null, string, array, put as with_member};
+ghost use Rattle.serde_json.specs.View.{view, items_view, members_view};
+ghost use Rattle.lx_node.specs.OfKind.{IsOfKind};
+ghost use Rattle.lx_fields.specs.Documents.{document_fields};
+ghost use Rattle.lx_fields.specs.Exporting as exporting;
+ghost use Rattle.lx_fields.specs.Exporting.{written_onto, kept, is_paragraph, is_empty, direction_data, checked_members, extra_members, kind_members, element_members, text_members, field_members};
+ghost use Rattle.lx_fields.specs.Parts.{natural, text_data, or_null};
+ghost use Rattle.lx_fields.specs.Storable.{IsText, IsTextIfAny, IsShort, IsExtraStorable, IsLinkStorable, IsElementStorable, IsTextStorable, IsStorable};
+ghost use Rattle.lx_node.specs.declared.fields.Extra.TheVariants as extra;
+
+use lx_node::{
+    Align, Direction, ElementFields, Extra, Fields, Kind, ListType, Mode, NoMemory, TextFields, Txt,
+};
+use serde_json::{Map, Value, put};
+use std::alloc::{AllocError, Global};
+
+/// The version of the objects that are written.
+const VERSION: u8 = 1;
+
+// ---- words
+
+fn align_word(align: Align) -> &'static str
+    ensures { result.now ≡ exporting.align_word align }
+{
+    match align {
+        Align::Unset => "",
+        Align::Left => "left",
+        Align::Center => "center",
+        Align::Right => "right",
+        Align::Justify => "justify",
+        Align::Start => "start",
+        Align::End => "end",
+    }
+}
+
+fn mode_word(mode: Mode) -> &'static str
+    ensures { result.now ≡ exporting.mode_word mode }
+{
+    match mode {
+        Mode::Normal => "normal",
+        Mode::Token => "token",
+        Mode::Segmented => "segmented",
+    }
+}
+
+fn list_word(list_type: ListType) -> &'static str
+    ensures { result.now ≡ exporting.list_word list_type }
+{
+    match list_type {
+        ListType::Bullet => "bullet",
+        ListType::Number => "number",
+        ListType::Check => "check",
+    }
+}
+
+fn list_tag(list_type: ListType) -> &'static str
+    ensures { result.now ≡ exporting.list_tag list_type }
+{
+    match list_type {
+        ListType::Number => "ol",
+        ListType::Bullet | ListType::Check => "ul",
+    }
+}
+
+fn level_word(level: u8) -> &'static str
+    ensures { result.now ≡ exporting.level_word level }
+{
+    match level {
+        1 => "h1",
+        2 => "h2",
+        3 => "h3",
+        4 => "h4",
+        5 => "h5",
+        6 => "h6",
+        _ => "",
+    }
+}
+
+fn direction_value(alloc: Global, direction: Direction) -> Result<Value, AllocError>
+    ensures { IfOk result (λ v. view v ≡ exporting.direction_data direction) }
+{
+    match direction {
+        Direction::Unset => Ok(Value::Null),
+        Direction::Ltr => Value::try_from_str(alloc, "ltr"),
+        Direction::Rtl => Value::try_from_str(alloc, "rtl"),
+    }
+}
+
+// ---- texts
+
+/// A text, which it also says to be of scalar values.
+fn string_value(alloc: Global, text: &Txt) -> Result<Value, AllocError>
+    ensures written { IfOk result (λ v. view v ≡ text_data text.now) }
+    ensures scalar { IsText text.now }
+{
+    Value::try_from_str(alloc, text.as_str())
+}
+
+fn string_or_null(alloc: Global, text: &Option<Txt>) -> Result<Value, AllocError>
+    ensures written { IfOk result (λ v. view v ≡ or_null text_data text.now) }
+    ensures scalar { IsTextIfAny text.now }
+{
+    match text {
+        Some(text) => string_value(alloc, text),
+        None => Ok(Value::Null),
+    }
+}
+
+// ---- members
+
+/// A number, which it also says to have 16 bits.
+fn put_short(
+    members: &mut Map<String, Value>,
+    alloc: Global,
+    name: &str,
+    number: u16,
+) -> Result<(), AllocError>
+    ensures written { OnOk result (members_view members.new.entries ≡ with_member name.now (natural number) (members_view members.old.entries)) }
+    ensures short { IsShort number }
+{
+    put(members, alloc, name, Value::from(number))
+}
+
+/// Direction, format and indentation, which each element has.
+fn put_layout(
+    members: &mut Map<String, Value>,
+    alloc: Global,
+    element: &ElementFields,
+) -> Result<(), AllocError>
+    ensures written { OnOk result (members_view members.new.entries ≡ written_onto (members_view members.old.entries)
+        ((codes "direction", direction_data element.now.direction) ∷ (codes "format", string (exporting.align_word element.now.format)) ∷ (codes "indent", natural element.now.indent) ∷ [])) }
+    ensures indent { OnOk result (IsShort element.now.indent) }
+{
+    let direction = direction_value(alloc, element.direction)?;
+    put(members, alloc, "direction", direction)?;
+    let format = Value::try_from_str(alloc, align_word(element.format))?;
+    put(members, alloc, "format", format)?;
+    put_short(members, alloc, "indent", element.indent)
+}
+
+/// A member that a paragraph always includes, and another element only where it isn't the default.
+fn put_kept(
+    members: &mut Map<String, Value>,
+    alloc: Global,
+    kind: Kind,
+    is_default: bool,
+    name: &str,
+    value: Value,
+) -> Result<(), AllocError>
+    ensures { OnOk result (members_view members.new.entries ≡ written_onto (members_view members.old.entries) (kept (is_paragraph kind) is_default name.now (view value))) }
+{
+    match kind {
+        Kind::Paragraph => put(members, alloc, name, value),
+        _ => {
+            if is_default {
+                return Ok(());
+            }
+            put(members, alloc, name, value)
+        }
+    }
+}
+
+/// The format of texts that are put into an element.
+fn put_text_format(
+    members: &mut Map<String, Value>,
+    alloc: Global,
+    kind: Kind,
+    format: u16,
+) -> Result<(), AllocError>
+    ensures written { OnOk result (members_view members.new.entries ≡ written_onto (members_view members.old.entries) (kept (is_paragraph kind) (format == 0) (codes "textFormat") (natural format))) }
+    ensures short { IsShort format }
+{
+    let is_default = format == 0;
+    put_kept(
+        members,
+        alloc,
+        kind,
+        is_default,
+        "textFormat",
+        Value::from(format),
+    )
+}
+
+/// The style of texts that are put into an element.
+#[tactic(auto, using(crate::proofs::Written::is_empty_told))]
+fn put_text_style(
+    members: &mut Map<String, Value>,
+    alloc: Global,
+    kind: Kind,
+    style: &Txt,
+) -> Result<(), AllocError>
+    ensures written { OnOk result (members_view members.new.entries ≡ written_onto (members_view members.old.entries) (kept (is_paragraph kind) (is_empty style.now) (codes "textStyle") (text_data style.now))) }
+    ensures scalar { OnOk result (IsText style.now) }
+{
+    let text = string_value(alloc, style)?;
+    let is_default = style.is_empty();
+    put_kept(members, alloc, kind, is_default, "textStyle", text)
+}
+
+/// What a heading's tag says, or a list's type and tag.
+fn put_kind(members: &mut Map<String, Value>, alloc: Global, kind: Kind) -> Result<(), AllocError>
+    ensures { OnOk result (members_view members.new.entries ≡ written_onto (members_view members.old.entries) (kind_members kind)) }
+{
+    match kind {
+        Kind::Heading(level) => {
+            let tag = Value::try_from_str(alloc, level_word(level))?;
+            put(members, alloc, "tag", tag)
+        }
+        Kind::List(list_type) => {
+            let word = Value::try_from_str(alloc, list_word(list_type))?;
+            put(members, alloc, "listType", word)?;
+            let tag = Value::try_from_str(alloc, list_tag(list_type))?;
+            put(members, alloc, "tag", tag)
+        }
+        _ => Ok(()),
+    }
+}
+
+/// An item's number, and whether it is checked where it says anything of that.
+fn put_item(
+    members: &mut Map<String, Value>,
+    alloc: Global,
+    value: u32,
+    checked: Option<bool>,
+) -> Result<(), AllocError>
+    ensures { OnOk result (members_view members.new.entries ≡ written_onto (members_view members.old.entries)
+        ((codes "value", natural value) ∷ checked_members checked)) }
+{
+    put(members, alloc, "value", Value::from(value))?;
+    match checked {
+        None => Ok(()),
+        Some(checked) => put(members, alloc, "checked", Value::from(checked)),
+    }
+}
+
+/// Where a link leads, and what else it says.
+fn put_link(
+    members: &mut Map<String, Value>,
+    alloc: Global,
+    rel: &Option<Txt>,
+    target: &Option<Txt>,
+    title: &Option<Txt>,
+    url: &Txt,
+) -> Result<(), AllocError>
+    ensures written { OnOk result (members_view members.new.entries ≡ written_onto (members_view members.old.entries)
+        ((codes "rel", or_null text_data rel.now) ∷ (codes "target", or_null text_data target.now) ∷ (codes "title", or_null text_data title.now) ∷ (codes "url", text_data url.now) ∷ [])) }
+    ensures scalar { OnOk result (IsLinkStorable rel.now target.now title.now url.now) }
+{
+    let rel = string_or_null(alloc, rel)?;
+    put(members, alloc, "rel", rel)?;
+    let target = string_or_null(alloc, target)?;
+    put(members, alloc, "target", target)?;
+    let title = string_or_null(alloc, title)?;
+    put(members, alloc, "title", title)?;
+    let url = string_value(alloc, url)?;
+    put(members, alloc, "url", url)
+}
+
+/// A cell's header, its spans and its background.
+fn put_cell(
+    members: &mut Map<String, Value>,
+    alloc: Global,
+    header: u8,
+    row_span: u16,
+    col_span: u16,
+    background: &Option<Txt>,
+) -> Result<(), AllocError>
+    ensures written { OnOk result (members_view members.new.entries ≡ written_onto (members_view members.old.entries)
+        ((codes "headerState", natural header) ∷ (codes "rowSpan", natural row_span) ∷ (codes "colSpan", natural col_span) ∷ (codes "backgroundColor", or_null text_data background.now) ∷ [])) }
+    ensures scalar { OnOk result (IsTextIfAny background.now) }
+{
+    put(members, alloc, "headerState", Value::from(header))?;
+    put(members, alloc, "rowSpan", Value::from(row_span))?;
+    put(members, alloc, "colSpan", Value::from(col_span))?;
+    let background = string_or_null(alloc, background)?;
+    put(members, alloc, "backgroundColor", background)
+}
+
+/// The members that only some kinds of elements have.
+fn put_extra(
+    members: &mut Map<String, Value>,
+    alloc: Global,
+    extra: &Extra,
+) -> Result<(), AllocError>
+    ensures written { OnOk result (members_view members.new.entries ≡ written_onto (members_view members.old.entries) (extra_members extra.now)) }
+    ensures scalar { OnOk result (IsExtraStorable extra.now) }
+{
+    match extra {
+        Extra::Plain => Ok(()),
+        Extra::List { start } => put(members, alloc, "start", Value::from(*start)),
+        Extra::Item { value, checked } => put_item(members, alloc, *value, *checked),
+        Extra::Link {
+            rel,
+            target,
+            title,
+            url,
+        } => put_link(members, alloc, rel, target, title, url),
+        Extra::Cell {
+            header,
+            row_span,
+            col_span,
+            background,
+        } => put_cell(members, alloc, *header, *row_span, *col_span, background),
+    }
+}
+
+/// The members of an element.
+fn put_element(
+    members: &mut Map<String, Value>,
+    alloc: Global,
+    kind: Kind,
+    element: &ElementFields,
+) -> Result<(), AllocError>
+    ensures written { OnOk result (members_view members.new.entries ≡ written_onto (members_view members.old.entries) (element_members kind element.now)) }
+    ensures storable { OnOk result (IsElementStorable element.now) }
+{
+    put_layout(members, alloc, element)?;
+    put_text_format(members, alloc, kind, element.text_format)?;
+    put_text_style(members, alloc, kind, &element.text_style)?;
+    put_kind(members, alloc, kind)?;
+    put_extra(members, alloc, &element.extra)
+}
+
+/// The members of a text or a tab.
+fn put_text(
+    members: &mut Map<String, Value>,
+    alloc: Global,
+    text: &TextFields,
+) -> Result<(), AllocError>
+    ensures written { OnOk result (members_view members.new.entries ≡ written_onto (members_view members.old.entries) (text_members text.now)) }
+    ensures storable { OnOk result (IsTextStorable text.now) }
+{
+    let characters = string_value(alloc, &text.text)?;
+    put(members, alloc, "text", characters)?;
+    put_short(members, alloc, "format", text.format)?;
+    put(members, alloc, "detail", Value::from(text.detail))?;
+    let mode = Value::try_from_str(alloc, mode_word(text.mode))?;
+    put(members, alloc, "mode", mode)?;
+    let style = string_value(alloc, &text.style)?;
+    put(members, alloc, "style", style)
+}
+
+/// The members for the fields, and for an element what is written for its children.
+fn put_fields(
+    members: &mut Map<String, Value>,
+    alloc: Global,
+    kind: Kind,
+    fields: &Fields,
+    children: Vec<Value>,
+) -> Result<(), AllocError>
+    ensures written { OnOk result (members_view members.new.entries ≡ written_onto (members_view members.old.entries) (field_members kind fields.now (items_view children.items))) }
+    ensures storable { OnOk result (IsStorable fields.now) }
+{
+    match fields {
+        Fields::Element(element) => {
+            put(members, alloc, "children", Value::Array(children))?;
+            put_element(members, alloc, kind, element)
+        }
+        Fields::Text(text) => put_text(members, alloc, text),
+        Fields::Embed(source) => {
+            let source = string_value(alloc, source)?;
+            put(members, alloc, "src", source)
+        }
+        Fields::Bare => Ok(()),
+    }
+}
+
+/// The object of a node, which also says that its fields are such as code has them.
+#[tactic(auto, unfolding(crate::specs::Exporting::node_data))]
+fn node_object(
+    alloc: Global,
+    kind: Kind,
+    fields: &Fields,
+    children: Vec<Value>,
+) -> Result<Value, AllocError>
+    ensures written { IfOk result (λ v. view v ≡ exporting.node_data kind fields.now (items_view children.items)) }
+    ensures storable { OnOk result (IsStorable fields.now) }
+{
+    let mut members = Map::new(alloc);
+    let name = Value::try_from_str(alloc, kind.type_name())?;
+    put(&mut members, alloc, "type", name)?;
+    put(&mut members, alloc, "version", Value::from(VERSION))?;
+    put_fields(&mut members, alloc, kind, fields, children)?;
+    Ok(Value::Object(members))
+}
+
+/// The object that is written for a node of the kind with these fields, and for an element with what is written for its
+/// children: its type, the version 1, and its fields. `fields_of` reads the same fields from it.
+pub fn node_value(
+    alloc: Global,
+    kind: Kind,
+    fields: &Fields,
+    children: Vec<Value>,
+) -> Result<Value, NoMemory>
+    requires of_kind { IsOfKind kind fields.now }
+    ensures written { IfOk result (λ v. view v ≡ exporting.node_data kind fields.now (items_view children.items)) }
+    ensures fields { IfOk result (λ v. document_fields kind (view v) ≡ Ok fields.now) }
+{
+    let value = node_object(alloc, kind, fields, children)?;
+    Ok(value)
+}
