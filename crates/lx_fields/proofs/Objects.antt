@@ -1,4 +1,4 @@
--- From what an object tells of itself to what is asked of it.
+-- From what an object says of itself to what is asked of it.
 use Rattle.std.proofs.Common.{◌≡◌, refl, subst, ℕ, List, [], ◌∷◌, length, slice_get, string_bytes, arith, Some, None, option_map, ◌==◌}
 use Rattle.serde_json.proofs.Views.{Entry, members_len-members_view}
 use Rattle.serde_json.specs.Data.{Data, null, boolean, number, string, array, object}

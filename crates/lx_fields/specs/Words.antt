@@ -29,17 +29,21 @@ kind_in (kind ∷ kinds) text = if bytes_eq (type_name kind) text then Some kind
 abbrev pub levels : List (List ℕ × ℕ)
 levels = (codes "h1", 1) ∷ (codes "h2", 2) ∷ (codes "h3", 3) ∷ (codes "h4", 4) ∷ (codes "h5", 5) ∷ (codes "h6", 6) ∷ []
 
+-- the words for the types of lists
 abbrev pub list_types : List (List ℕ × ListType)
 list_types = (codes "bullet", Bullet) ∷ (codes "number", Number) ∷ (codes "check", Check) ∷ []
 
+-- the words for directions of writing
 abbrev pub directions : List (List ℕ × Direction)
 directions = (codes "ltr", direction.Ltr) ∷ (codes "rtl", direction.Rtl) ∷ []
 
+-- the words for alignments
 abbrev pub aligns : List (List ℕ × Align)
 aligns =
     (codes "", align.Unset) ∷ (codes "left", align.Left) ∷ (codes "center", align.Center) ∷ (codes "right", align.Right)
     ∷ (codes "justify", align.Justify) ∷ (codes "start", align.Start) ∷ (codes "end", align.End) ∷ []
 
+-- the words for the modes of texts
 abbrev pub modes : List (List ℕ × Mode)
 modes = (codes "normal", Normal) ∷ (codes "token", Token) ∷ (codes "segmented", Segmented) ∷ []
 

@@ -20,6 +20,7 @@ patch_member (Some name.ListType) text d = option_map (λ type. Other (chars tex
 patch_member (Some name.Value) text d = option_map (λ value. Other (chars text)) (number_within 0 1200000 d)
 patch_member (Some known) text d = settable known d
 
+-- the members of a patch, each of which is read
 abbrev pub patch_members : Members → Option (List Member)
 patch_members no_members = Some []
 patch_members (member text d rest) = option_map (λ p. p.0 ∷ p.1) (option_zip (patch_member (word_in names text) text d) (patch_members rest))

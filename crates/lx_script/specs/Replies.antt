@@ -30,6 +30,7 @@ use Rattle.lx_script.specs.declared.reply.Reply.TheVariants.{Committed, Refused,
 
 -- ---- parts of replies
 
+-- a list as JSON
 abbrev pub list_data : List Data → Data
 list_data items = array (items_of items)
 

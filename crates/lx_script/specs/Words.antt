@@ -24,6 +24,7 @@ kind_named d = option_and_then (kind_in made_kinds) (as_str d)
 abbrev pub type_named : Data → Option Kind
 type_named d = option_and_then (kind_in (Root ∷ made_kinds)) (as_str d)
 
+-- the words for what a point's offset counts
 abbrev pub point_kinds : List (List ℕ × PointKind)
 point_kinds = (codes "text", point.Text) ∷ (codes "element", point.Element) ∷ []
 
