@@ -6,7 +6,7 @@ ghost use Rattle.lx_fields.specs.Values as values;
 ghost use Rattle.lx_script.specs.References as references;
 
 use crate::words::point_kind_of;
-use lx_fields::{has_only, long_within, number_of, short_within};
+use lx_fields::{has_only, long_within, short_within};
 use lx_node::{Key, NoMemory, Txt};
 use lx_step::{PointRef, Reference, References, SelectionRef};
 use serde_json::Value;
@@ -79,7 +79,7 @@ fn point_of(alloc: Global, value: &Value) -> Result<Option<PointRef>, NoMemory>
     if !has_three(value) {
         return Ok(None);
     }
-    let offset = value.get(1usize).and_then(number_of);
+    let offset = value.get(1usize).and_then(Value::as_u64);
     let kind = value.get(2usize).and_then(point_kind_of);
     let node = reference_in(alloc, value.get(0usize))?;
     match node.zip(offset).zip(kind) {
