@@ -84,7 +84,6 @@ module _ (old new : Forest) (old_order : IsForest old) (new_order : IsForest new
 
 -- ---- the two trees
 
-
 module _ (old new : Forest) (m : Marked) (old_order : IsForest old) (new_order : IsForest new) (founded : AreFounded old new m) (settled : (q : ℕ) → IsSettled old new m q) where
   changed : (q : ℕ) → has q new ≡ true → IsUnchanged old new q ⊎ IsTold old new m q
   changed q there = elim (settled q) [

@@ -1,18 +1,17 @@
 -- Two trees are compared key by key: what is settled so far, and what is in the end.
-use Rattle.std.proofs.Common.{◌≡◌, ◌≢◌, ◌∙◌, ◌⊎◌, ◌||◌, ◌<◌, ◌≤◌, ◌+◌, ℕ, true, false, nat_lt, [], ◌∷◌, Option, None, Some, refl, sym, ap, subst, inl, inr, arith}
-use Rattle.std.specs.Prelude.{IsTrue, is_some}
+use Rattle.std.proofs.Common.{◌≡◌, ◌≢◌, ◌∙◌, ◌<◌, ◌+◌, ℕ, true, false, nat_lt, [], ◌∷◌, Option, None, Some, refl, sym, ap, subst, inl, inr, arith}
+use Rattle.std.specs.Prelude.{is_some}
 use Rattle.std.proofs.lemmas.Bool.{cases_eq}
 use Rattle.lx_node.specs.Trees.{nil}
 use Rattle.lx_node.specs.declared.node.Node.{Node}
 use Rattle.lx_marks.specs.Marks.{Marked}
 use Rattle.lx_forest.specs.Forest.{Forest}
-use Rattle.lx_forest.specs.Lookups.{has, roots, parent_of}
+use Rattle.lx_forest.specs.Lookups.{has, roots}
 use Rattle.lx_forest.specs.Records.{record_at}
 use Rattle.lx_forest.proofs.Records.{is_some-record_at}
 use Rattle.lx_store.specs.Differing.{AreSameTo}
 use Rattle.lx_links.specs.Stands.{node_at, node_of}
 use Rattle.lx_links.proofs.Seen.{seen, is_some-map}
-use Rattle.lx_compare.specs.Differing.{IsUnchanged, Differs}
 use Rattle.lx_compare.specs.Marking.{AreFounded, Grows, IsTold, IsSettled}
 use Rattle.lx_compare.proofs.SameNode.{unchanged_by}
 
