@@ -75,12 +75,12 @@ unfolding put_before_step
 before-next_key k other w v e = before_at-next_key k other (parent_of w.forest other) (index_of w.forest other) w v e
 
 -- what a put at a point leaves
-record IsPutBy (w v : Working) (k : ℕ) : Type 0 where
+pub record IsPutBy (w v : Working) (k : ℕ) : Type 0 where
   pub stays : Stays w v
   pub beside : IsBesideIn w v k
   pub next : v.next_key ≡ w.next_key
 
-put_by_tells : (k : ℕ) (p : Point) (kind : PointKind) (w v : Working) → Fit w → is_attached w.forest p.key ≡ true → put_by k p kind w ≡ Ok v → IsPutBy w v k
+pub put_by_tells : (k : ℕ) (p : Point) (kind : PointKind) (w v : Working) → Fit w → is_attached w.forest p.key ≡ true → put_by k p kind w ≡ Ok v → IsPutBy w v k
 put_by_tells k p point.Text w v fit place e = by_test (eqb p.offset 0) e where
   by_test : (b : Bool) → cond b (put_before_step k p.key w) (put_behind_step k p.key w) ≡ Ok v → IsPutBy w v k
   by_test true e = record { stays = stays_before k p.key w v fit e; beside = put_before_in k p.key w v fit place e; next = before-next_key k p.key w v e }
@@ -103,7 +103,7 @@ pub record IsAdded (w v : Working) (kind : Kind) (x : Fields) : Type 0 where
   pub kind_is : kind_of v.forest (newest v) ≡ Some kind
   pub fields_are : fields_of v.forest (newest v) ≡ Some x
 
-stays_opened : (p : Point) → Staying (opened p)
+pub stays_opened : (p : Point) → Staying (opened p)
 stays_opened p w v fit e = stays_if (is_inside w.forest p p.kind && is_some (normal_at w.forest p.key)) (split_step p.key (p.offset ∷ [])) w v fit (λ a b f g. stays_split p.key (p.offset ∷ []) a b f g) e
 
 is_newest : (a b c : ℕ) → a ≡ b → b ≡ c + 1 → a - 1 ≡ c

@@ -44,17 +44,17 @@ use Rattle.lx_caret.proofs.Deletes.{found_passes}
 
 -- ---- what is above a node in the tree
 
-above_there : (f : Forest) (q a : ℕ) → IsForest f → has q f ≡ true → is_attached f q ≡ true → is_among a (q ∷ ancestors f q) ≡ true → is_attached f a ≡ true
+pub above_there : (f : Forest) (q a : ℕ) → IsForest f → has q f ≡ true → is_attached f q ≡ true → is_among a (q ∷ ancestors f q) ≡ true → is_attached f a ≡ true
 above_there f q a h known place among = attached_above f a q h place (is_within-ancestors f a q h known ∙ among)
 
 -- what is attached is known
-attached_known : (f : Forest) (q : ℕ) → IsForest f → is_attached f q ≡ true → has q f ≡ true
+pub attached_known : (f : Forest) (q : ℕ) → IsForest f → is_attached f q ≡ true → has q f ≡ true
 attached_known f q h place = grind (arith, nat_tests, place, count-alone-le key_of q 0 f)
 
 pub block_place : (f : Forest) (q block : ℕ) → IsForest f → is_attached f q ≡ true → block_of f q ≡ Some block → is_attached f block ≡ true
 block_place f q block h place e = above_there f q block h (attached_known f q h place) place (found_among (is_at is_text_block f) (q ∷ ancestors f q) block e)
 
-holder_place : (f : Forest) (p : Point) (kind : PointKind) (a : ℕ) → IsForest f → is_attached f p.key ≡ true → is_among a (holders f p kind) ≡ true → is_attached f a ≡ true
+pub holder_place : (f : Forest) (p : Point) (kind : PointKind) (a : ℕ) → IsForest f → is_attached f p.key ≡ true → is_among a (holders f p kind) ≡ true → is_attached f a ≡ true
 holder_place f p point.Text a h place among = above_there f p.key a h (attached_known f p.key h place) place (later a p.key (ancestors f p.key) among) where
   later : (a x : ℕ) (xs : List ℕ) → is_among a xs ≡ true → is_among a (x ∷ xs) ≡ true
   later a x xs among = grind (arith, among)
@@ -62,10 +62,10 @@ holder_place f p point.Element a h place among = above_there f p.key a h (attach
 
 -- ---- parted
 
-stays_open : (p : Point) → Staying (cut_open p)
+pub stays_open : (p : Point) → Staying (cut_open p)
 stays_open p w v fit e = stays_if (is_inside w.forest p p.kind) (split_step p.key (p.offset ∷ [])) w v fit (λ a b f g. stays_split p.key (p.offset ∷ []) a b f g) e
 
-stays_like : (l : Option Label) → Staying (new_like l)
+pub stays_like : (l : Option Label) → Staying (new_like l)
 stays_like None w v fit e = stays_ok w w v (stays_self w fit) e
 stays_like (Some l) w v fit e = stays_new l.kind l.fields w v fit e
 
@@ -87,7 +87,7 @@ stays_link k index w v fit place e = by_test (is_at is_link w.forest k && (ltb 0
   by_test true e = stays_parted_at k index w v fit place e
   by_test false e = stays_ok w w v (stays_self w fit) e
 
-stays_parted_up : (ks : List ℕ) (index : ℕ) (w : Working) (made : Parted) → Fit w → ((k : ℕ) → is_among k ks ≡ true → is_attached w.forest k ≡ true) → parted_up ks index w ≡ Ok made → Stays w made.draft
+pub stays_parted_up : (ks : List ℕ) (index : ℕ) (w : Working) (made : Parted) → Fit w → ((k : ℕ) → is_among k ks ≡ true → is_attached w.forest k ≡ true) → parted_up ks index w ≡ Ok made → Stays w made.draft
 unfolding parted_up
 stays_parted_up [] index w made fit place e = let is : w ≡ made.draft = cc in subst (Stays w) is (stays_self w fit)
 stays_parted_up (k ∷ ks) index w made fit place e =
