@@ -4,7 +4,10 @@ pub mod BlockKinds
 pub mod Covered
 pub mod Cut
 pub mod Lasts
+pub mod Lying
+pub mod Parted
 pub mod PathsOfNodes
 pub mod PathsOfPasting
 pub mod Sets
+pub mod Sound
 pub mod Telling

@@ -23,7 +23,7 @@ use Rattle.lx_caret.proofs.Paths.{opened_path, put_by_path}
 use Rattle.lx_caret.proofs.PathsOfTexts.{all_moved_path, removed_empty_path, remove_text_path}
 use Rattle.lx_caret.proofs.PathsOfParagraphs.{cut_open_path, new_like_path, parted_up_path}
 use Rattle.lx_clip.specs.Pasting.{put_behind_each, end_below, caret_by, caret_after, no_room_for, put_all_by, nodes_added, Tailed, tail_made, tail_put, put_around, block_opened, outer_block, put_beyond, blocks_added, begins_inline, holder, placed_at, placed, list_inserted, inserted, insert_step, json_of, paste_step}
-use Rattle.lx_clip.proofs.PathsOfNodes.{nodes_read_path}
+use Rattle.lx_clip.proofs.PathsOfNodes.{making_of, nodes_read_path}
 
 module _ {D : Working → Type 0} {R : Working → Working → Type 0} (way : IsWay D R) where
   -- ---- places
@@ -120,7 +120,7 @@ module _ {D : Working → Type 0} {R : Working → Working → Type 0} (way : Is
   list_inserted_path : (inline : Bool) (list : Data) → Leads D R (list_inserted inline list)
   list_inserted_path inline list w v r e =
       then_to way {A = Made} {B = Working} (λ m. m.draft) (λ x. x) w v (nodes_read (codes "/nodes") list (holder inline) w) (λ m. placed inline m.keys m.draft)
-      (λ m f. nodes_read_path way (codes "/nodes") list (holder inline) w m r f)
+      (λ m f. nodes_read_path (making_of way) (codes "/nodes") list (holder inline) w m r f)
       (λ m s f. placed_path inline m.keys m.draft v s f) e
 
   inserted_path : (o : Option Data) → Leads D R (inserted o)

@@ -12,6 +12,6 @@ mod pasting;
 mod ready;
 mod slicing;
 
-pub use laws::pastes_are_covered;
+pub use laws::{pastes_are_covered, pastes_lie};
 pub use pasting::{insert, paste};
 pub use slicing::slice;

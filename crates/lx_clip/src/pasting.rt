@@ -5,11 +5,13 @@ ghost use Rattle.serde_json.specs.View.{view, items_view};
 ghost use Rattle.lx_node.specs.declared.cause.Cause.TheVariants.{BadCommand};
 ghost use Rattle.lx_node.specs.declared.cause.Fault.TheVariants as fault;
 ghost use Rattle.lx_draft.specs.Faults.{TellsStep};
+ghost use Rattle.lx_caret.specs.Lying.{IsLying, TextsAreShort};
 ghost use Rattle.lx_clip.specs.Pasting as pasting;
 ghost use Rattle.lx_clip.specs.Pasting.{insert_step, paste_step};
 
 use crate::adding::add_nodes;
 use crate::blocks::add_blocks;
+use crate::ready::ready;
 use lx_caret::{anchored, remove_text};
 use lx_draft::Draft;
 use lx_fields::kind_of_type;
@@ -102,16 +104,9 @@ fn insert_list(alloc: Global, draft: &mut Draft, list: &Value, inline: bool) -> 
     place(alloc, draft, inline, &keys)
 }
 
-/// Puts the nodes of a slice into a draft at the caret, and the caret to the end of the last. A slice is an object with a list of
-/// nodes, which are read as those of a document: as the children of a paragraph where the first is an inline by its type, and as
-/// those of the root otherwise. Inlines go where the caret is; blocks between the parts of the block that holds the caret, where
-/// that is below the root or a table cell, and else after what holds it there. With no nodes nothing happens.
-///
-/// It is refused with `BadCommand` where the value is no such object; with `BadState` and the place in the slice, or
-/// `UnknownType`, as a document is; with `WrongKind` and the kind of what may not hold one of the nodes; and as the edits of a
-/// draft are. The nodes are made before anything is parted.
+/// Puts the nodes of a slice at the caret.
 #[tactic(auto, unfolding(crate::specs::Pasting::insert_step))]
-pub fn insert(alloc: Global, draft: &mut Draft, slice: &Value) -> Result<(), Fault>
+fn put_slice(alloc: Global, draft: &mut Draft, slice: &Value) -> Result<(), Fault>
     ensures ok { OnOk result (insert_step (view slice.now) draft.old ≡ Ok draft.new) }
     ensures err { IfErr result (λ e. TellsStep e (insert_step (view slice.now) draft.old)) }
 {
@@ -122,6 +117,23 @@ pub fn insert(alloc: Global, draft: &mut Draft, slice: &Value) -> Result<(), Fau
         Some(items) => insert_list(alloc, draft, nodes, begins_inline(items)),
         None => Err(bad_command()),
     }
+}
+
+/// Puts the nodes of a slice into a draft at the caret, and the caret to the end of the last. A slice is an object with a list of
+/// nodes, which are read as those of a document: as the children of a paragraph where the first is an inline by its type, and as
+/// those of the root otherwise. Inlines go where the caret is; blocks between the parts of the block that holds the caret, where
+/// that is below the root or a table cell, and else after what holds it there. With no nodes nothing happens.
+///
+/// It is refused with `BadCommand` where the value is no such object; with `BadState` and the place in the slice, or
+/// `UnknownType`, as a document is; with `WrongKind` and the kind of what may not hold one of the nodes; and as the edits of a
+/// draft are. The nodes are made before anything is parted.
+pub fn insert(alloc: Global, draft: &mut Draft, slice: &Value) -> Result<(), Fault>
+    ensures ok { OnOk result (insert_step (view slice.now) draft.old ≡ Ok draft.new) }
+    ensures lying { OnOk result (TextsAreShort draft.old → IsLying draft.old → IsLying draft.new) }
+    ensures err { IfErr result (λ e. TellsStep e (insert_step (view slice.now) draft.old)) }
+{
+    ready(draft)?;
+    put_slice(alloc, draft, slice)
 }
 
 /// The JSON value that a text is.
@@ -139,14 +151,24 @@ fn value_of(alloc: Global, text: &str) -> Result<Value, Fault>
     }
 }
 
-/// Puts the slice of a text, which is the JSON of one, in the place of what is selected, as `remove_text` removes it.
-/// It is refused as that is, as `insert` is, and with `BadCommand` where the text is no JSON.
+/// Puts the slice of a text in the place of what is selected.
 #[tactic(auto, unfolding(crate::specs::Pasting::paste_step))]
-pub fn paste(alloc: Global, draft: &mut Draft, text: &str) -> Result<(), Fault>
+fn put_text(alloc: Global, draft: &mut Draft, text: &str) -> Result<(), Fault>
     ensures ok { OnOk result (paste_step (chars text.now) draft.old ≡ Ok draft.new) }
     ensures err { IfErr result (λ e. TellsStep e (paste_step (chars text.now) draft.old)) }
 {
     remove_text(alloc, draft)?;
     let slice = value_of(alloc, text)?;
     insert(alloc, draft, &slice)
+}
+
+/// Puts the slice of a text, which is the JSON of one, in the place of what is selected, as `remove_text` removes it. It
+/// is refused as that is, as `insert` is, and with `BadCommand` where the text is no JSON.
+pub fn paste(alloc: Global, draft: &mut Draft, text: &str) -> Result<(), Fault>
+    ensures ok { OnOk result (paste_step (chars text.now) draft.old ≡ Ok draft.new) }
+    ensures lying { OnOk result (TextsAreShort draft.old → IsLying draft.new) }
+    ensures err { IfErr result (λ e. TellsStep e (paste_step (chars text.now) draft.old)) }
+{
+    ready(draft)?;
+    put_text(alloc, draft, text)
 }
