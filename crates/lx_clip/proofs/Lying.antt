@@ -112,7 +112,7 @@ blocks_added_fits (Some block) p k ks w v is fit place e = by_test (eqb outer bl
 
 -- ---- slices
 
--- nodes that are read stand below nothing, so all in the tree stays there
+-- nodes that are read are below nothing, so all in the tree stays there
 making_stays : IsMaking Fit Stays
 making_stays = record {
   ready = λ w v s. s.fit;

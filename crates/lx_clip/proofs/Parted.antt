@@ -1,4 +1,4 @@
--- A block in the tree stays there while those of its children that are behind a point go to a new one, which stands below
+-- A block in the tree stays there while those of its children that come after a point go to a new one, which is below
 -- nothing yet.
 use Rattle.std.proofs.Common.{◌≡◌, ◌∙◌, ℕ, zero, suc, true, false, List, [], ◌∷◌, drop, Option, None, Some, Result, Ok, sym, ap, subst, arith}
 use Rattle.std.specs.Prelude.{slice_get}

@@ -1,4 +1,4 @@
--- Drafts whose selection may lie outside the tree, as while what is to go back into it stands below nothing: what each step
+-- Drafts whose selection may lie outside the tree, as while what is to go back into it is below nothing: what each step
 -- leaves in the tree, and the caret that is put back there.
 use Rattle.std.proofs.Common.{◌≡◌, ◌≢◌, ◌∙◌, ℕ, ◌+◌, Bool, true, false, cond, ◌&&◌, List, [], ◌∷◌, Option, None, Some, Result, Ok, refl, sym, ap, ap₂, subst, arith, inl, inr}
 use Rattle.std.specs.Prelude.{slice_get, unwrap_or}
@@ -93,7 +93,7 @@ sound_put k p index w v s e =
       attached = λ q so. attached_put w.forest k p before q h is.may so;
     })
 
--- ---- put behind a node
+-- ---- put after a node
 
 sound_behind_at : (k other : ℕ) (p index : Option ℕ) (w v : Working) → IsSound w → behind_at k other p index w ≡ Ok v → StaysSound w v
 sound_behind_at k other (Some p) (Some index) w v s e = sound_put k p (index + 1) w v s e
@@ -129,7 +129,7 @@ pub record IsRow (w v : Working) (ks : List ℕ) : Type 0 where
   pub stays : StaysSound w v
   pub place : AreIn v ks
 
--- each behind the one before
+-- each after the one before
 pub row_in : (other : ℕ) (ks : List ℕ) (w v : Working) → IsSound w → is_attached w.forest other ≡ true → put_behind_each other ks w ≡ Ok v → IsRow w v ks
 unfolding put_behind_each
 row_in other [] w v s place e = record { stays = sound_ok w v s e; place = λ q among. absurd (cc) }
