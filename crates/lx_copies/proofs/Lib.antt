@@ -1,0 +1,5 @@
+pub mod Growing
+pub mod Apart
+pub mod Kept
+pub mod Covering
+pub mod ReadBack
