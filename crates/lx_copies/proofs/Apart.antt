@@ -24,7 +24,7 @@ use Rattle.lx_json.specs.Importing.{label_for, keyed}
 use Rattle.lx_json.specs.Nodes.{put_below as put_where, node_new, made_with, node_made, children_made, Made, index_place, with_first, nodes_made}
 use Rattle.lx_json.proofs.Grown.{keyed-low}
 use Rattle.lx_json.proofs.BackKeys.{keyed-behind}
-use Rattle.lx_copies.proofs.Growing.{Makes, makes_after, makes_as, makes_under, makes_answer, AreFit, HasParent, Grows, IsNew, new_made, kind_new, next_free, key_low, IsOne, one_told, lone_node, AreParts, parted, MakesTold, children_make, by_piece, members_make}
+use Rattle.lx_copies.proofs.Growing.{Makes, makes_after, makes_as, makes_under, AreFit, HasParent, Grows, IsNew, new_made, own_key, kind_new, next_free, key_low, IsOne, one_told, lone_node, AreParts, parted, MakesTold, children_make, by_piece, members_make}
 
 -- ---- a tree among the first ones
 
@@ -98,7 +98,7 @@ comes-own piece below w v ready a =
     let n : ℕ = w.next_key in
     let free : count n w.forest ≡ 0 = grind (arith, nat_tests, next_free w ready) in
     ap (alone n) a.forest ∙ alone-among_roots_inside n n (keyed n (tree piece below nil)) w.forest free
-    ∙ grind (arith, eqb_tells n n)
+    ∙ ap (λ b. cond b (tree (label_for n piece) (keyed (n + 1) below) nil) (joined (alone n (keyed (n + 1) below)) nil)) (own_key n)
 
 comes-stays : (trees : Trees Piece) (w v : Working) (q : ℕ) → Comes trees w v → q < w.next_key → alone q v.forest ≡ alone q w.forest
 comes-stays trees w v q a low =

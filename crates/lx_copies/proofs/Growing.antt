@@ -1,5 +1,5 @@
 -- What nodes that are read make below a parent: the trees that are told, behind its children; or a limit refuses them.
-use Rattle.std.proofs.Common.{◌≡◌, ◌≢◌, ◌∙◌, ◌+◌, ◌≤◌, ◌<◌, ℕ, Bool, true, false, cond, eqb, ltb, List, [], codes, length, Option, None, Some, Result, Ok, Err, refl, ap, sym, subst, arith, inl, inr, if◌then◌else◌}
+use Rattle.std.proofs.Common.{◌≡◌, ◌≢◌, ◌∙◌, ◌+◌, ◌≤◌, ◌<◌, ℕ, Bool, true, false, cond, eqb, ltb, ◌||◌, List, [], codes, length, Option, None, Some, Result, Ok, Err, refl, ap, sym, subst, arith, inl, inr, if◌then◌else◌}
 use Rattle.std.specs.Prelude.{is_some, slice_get, option_map}
 use Rattle.std.specs.Option.{option_or}
 use Rattle.std.specs.Str.{bytes_eq}
@@ -14,7 +14,7 @@ use Rattle.lx_node.specs.Kinds.{is_element, may_hold}
 use Rattle.lx_node.specs.Strings.{characters_of}
 use Rattle.lx_node.specs.declared.kind.Kind.{Kind}
 use Rattle.lx_node.specs.declared.cause.Cause.{Cause}
-use Rattle.lx_node.specs.declared.cause.Cause.TheVariants.{StepLimit, TooLarge}
+use Rattle.lx_node.specs.declared.cause.Cause.TheVariants.{StepLimit, TooLarge, BadPlace}
 use Rattle.lx_forest.specs.Forest.{Forest, Label}
 use Rattle.lx_forest.specs.Lookups.{key_of, has, spot, count, kind_of, parent_of, children_of, size_of, is_within}
 use Rattle.lx_forest.specs.Edits.{with_new, put_in, last_below}
@@ -46,12 +46,12 @@ Makes P (Ok a) = P a
 Makes P (Err cause) = is_limit cause ≡ true
 
 pub makes_after : {A B : Type 0} (P : A → Type 0) (Q : B → Type 0) (r : Result A Cause) (next : A → Result B Cause) → Makes P r → ((a : A) → P a → Makes Q (next a)) → Makes Q (after r next)
-makes_after P Q (Ok a) next m then = then a m
-makes_after P Q (Err cause) next m then = m
+makes_after P Q (Ok a) next m so = so a m
+makes_after P Q (Err cause) next m so = m
 
 pub makes_as : {A : Type 0} (P Q : A → Type 0) (r : Result A Cause) → Makes P r → ((a : A) → P a → Q a) → Makes Q r
-makes_as P Q (Ok a) m then = then a m
-makes_as P Q (Err cause) m then = m
+makes_as P Q (Ok a) m so = so a m
+makes_as P Q (Err cause) m so = m
 
 limit_under : (place : List ℕ) (cause : Cause) → is_limit cause ≡ true → is_limit (under place cause) ≡ true
 limit_under place StepLimit is = refl
@@ -82,8 +82,8 @@ new_limits : (more : ℕ) (w : Working) → AreLimits (over_limits more w)
 new_limits more w = limits_or (over_counts w) _ (counts_limit w) (limits_if _ (TooLarge _ _) refl)
 
 makes_answer : {A : Type 0} (P : A → Type 0) (o : Option Cause) (a : A) → AreLimits o → (o ≡ None → P a) → Makes P (answer o a)
-makes_answer P None a limits then = then refl
-makes_answer P (Some cause) a limits then = limits
+makes_answer P None a limits so = so refl
+makes_answer P (Some cause) a limits so = limits
 
 -- ---- a new node
 
@@ -112,7 +112,7 @@ key_low q w ready there = elim (cases_lt q w.next_key) [
   | inr high ↦ absurd (let none = ready.free q high in cc)
 ]
 
-next_free : (w : Working) → IsReady w → has w.next_key w.forest ≡ false
+pub next_free : (w : Working) → IsReady w → has w.next_key w.forest ≡ false
 next_free w ready = ready.free w.next_key (omega arith)
 
 -- a new node that stands below nothing
@@ -130,15 +130,25 @@ new_made piece w ready =
       covered = covered-new piece.kind piece.fields w (made piece.kind piece.fields w) ready (ap (λ o. answer o (made piece.kind piece.fields w)) none);
     })
 
+pub own_key : (n : ℕ) → eqb n n ≡ true
+own_key n = grind (arith, eqb_tells n n)
+
 pub kind_new : (piece : Piece) (w u : Working) → IsReady w → IsNew piece w u → kind_of u.forest w.next_key ≡ Some piece.kind
 kind_new piece w u ready new =
     let l : Label = label_for w.next_key piece in
-    let own : eqb w.next_key w.next_key ≡ true = grind (arith, eqb_tells w.next_key w.next_key) in
     ap (λ f. kind_of f w.next_key) new.forest ∙ kind_of-with_new l w.forest w.next_key ready.in_order (next_free w ready)
-    ∙ ap (λ b. cond b (Some l.kind) (kind_of w.forest w.next_key)) own
+    ∙ ap (λ b. cond b (Some l.kind) (kind_of w.forest w.next_key)) (own_key w.next_key)
 
 kind_stays : (p : ℕ) (kind : Kind) (w u : Working) → AreCovered w u → kind_of w.forest p ≡ Some kind → kind_of u.forest p ≡ Some kind
 kind_stays p kind w u a is = a.kinds.each p kind is
+
+not_bound : (n : ℕ) (o : Option ℕ) (b : Bool) → 0 < n → o ≡ None → b ≡ false → cond (eqb n 0 || (is_some o || b)) (Some (BadPlace n)) None ≡ None
+not_bound n None false some top out = grind (arith, some, eqb_tells n 0)
+not_bound n (Some p) b some top out = absurd (cc)
+not_bound n None true some top out = absurd (cc)
+
+not_beyond : (n : ℕ) → cond (ltb n n) (Some (BadPlace n)) None ≡ None
+not_beyond n = grind (arith, nat_tests)
 
 -- nothing refuses to put it behind the children of a parent
 no_fault : (p : ℕ) (above : Kind) (piece : Piece) (w u : Working) → HasParent p above w → may_hold above piece.kind ≡ true → IsNew piece w u
@@ -157,8 +167,8 @@ no_fault p above piece w u parent held new =
     let first : 0 < w.next_key = key_low 0 w ready (has-root w.forest ready.in_order) in
     let out : is_within u.forest w.next_key p ≡ false = outside p piece w u ready low new in
     let fits : misfit (kind_of u.forest p) (kind_of u.forest w.next_key) ≡ None = rw (outer, inner, held) refl in
-    let bound : bound_to u.forest p w.next_key ≡ None = grind (arith, first, top, out, eqb_tells w.next_key 0) in
-    let within : beyond u.forest p (size_of u.forest p) ≡ None = grind (arith, nat_tests) in
+    let bound : bound_to u.forest p w.next_key ≡ None = not_bound w.next_key (parent_of u.forest w.next_key) (is_within u.forest w.next_key p) first top out in
+    let within : beyond u.forest p (size_of u.forest p) ≡ None = not_beyond (size_of u.forest p) in
     rw (key_there, there, bound, fits, within) refl
   where
     outside : (p : ℕ) (piece : Piece) (w u : Working) → IsReady w → p < w.next_key → IsNew piece w u → is_within u.forest w.next_key p ≡ false
