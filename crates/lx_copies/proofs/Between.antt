@@ -85,7 +85,7 @@ came_none p before behind w ready was = record {
   covered = covered-self w ready;
 }
 
-came_then : (p : ℕ) (before keys more behind : List ℕ) (w u v : Working) → Came p before keys behind w u → Came p (before ++ keys) more behind u v → Came p before (keys ++ more) behind w v
+pub came_then : (p : ℕ) (before keys more behind : List ℕ) (w u v : Working) → Came p before keys behind w u → Came p (before ++ keys) more behind u v → Came p before (keys ++ more) behind w v
 came_then p before keys more behind w u v a b = record {
   was = a.was;
   now = b.now ∙ append_assoc before keys (more ++ behind) ∙ ap (λ xs. before ++ xs) (sym (append_assoc keys more behind));

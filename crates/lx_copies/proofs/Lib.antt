@@ -1,5 +1,9 @@
-pub mod Growing
 pub mod Apart
-pub mod Kept
+pub mod Between
 pub mod Covering
+pub mod Gaps
+pub mod Growing
+pub mod Kept
+pub mod Pasted
+pub mod Placing
 pub mod ReadBack

@@ -25,7 +25,7 @@ use Rattle.lx_caret.proofs.PathsOfTexts.{all_moved_path}
 use Rattle.lx_caret.proofs.PathsOfParagraphs.{new_like_path}
 use Rattle.lx_clip.specs.Pasting.{put_behind_each, caret_by, caret_after, no_room_for, put_all_by, nodes_added, Tailed, tail_made, tail_put, put_around, put_beyond}
 use Rattle.lx_copies.specs.Between.{StandBetween, IsPlaceOf, AreAdded, AreBeyond, key_if, AreAround, PastedStandBetween}
-use Rattle.lx_copies.proofs.Between.{Came, came_none, came_then, put_came, put_behind_came, behind_each_came, StandsIn, behind_stands, before_stands, put_before_came, StandsAt, put_stands}
+use Rattle.lx_copies.proofs.Between.{Came, came_then, put_came, put_behind_came, behind_each_came, StandsIn, behind_stands, before_stands, put_before_came, StandsAt, put_stands}
 
 -- ---- said of what is left
 
