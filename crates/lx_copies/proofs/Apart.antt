@@ -1,9 +1,10 @@
 -- What nodes that are read make where they stand below nothing: the trees that are told.
-use Rattle.std.proofs.Common.{◌≡◌, ◌∙◌, ◌+◌, ◌≤◌, ◌<◌, ℕ, Bool, true, false, cond, eqb, ltb, List, [], ◌∷◌, Option, None, Some, Result, Ok, Err, refl, ap, sym, subst, arith, if◌then◌else◌}
+use Rattle.std.proofs.Common.{◌≡◌, ◌∙◌, ◌+◌, ◌≤◌, ◌<◌, ℕ, Bool, true, false, cond, eqb, ltb, ◌||◌, List, [], ◌∷◌, Option, None, Some, Result, Ok, Err, refl, ap, sym, subst, arith, if◌then◌else◌}
 use Rattle.std.proofs.lemmas.Bool.Decides.{eqb_tells, nat_tests}
 use Rattle.serde_json.specs.Data.{Data, null, boolean, number, string, array, object, Items, no_items, item}
 use Rattle.lx_node.specs.Trees.{Trees, nil, tree, joined}
 use Rattle.lx_node.specs.NamedTrees.{total, inserted, put_below}
+use Rattle.lx_node.specs.Siblings.{is_among}
 use Rattle.lx_node.specs.Kinds.{is_element}
 use Rattle.lx_node.proofs.NamedTrees.{put_below-absent, joined-nil}
 use Rattle.lx_node.specs.declared.kind.Kind.{Kind}
@@ -13,7 +14,7 @@ use Rattle.lx_forest.specs.Forest.{Forest, Label}
 use Rattle.lx_forest.specs.Lookups.{key_of, has, count, alone, kind_of}
 use Rattle.lx_forest.specs.Lookups as lookups
 use Rattle.lx_forest.specs.Edits.{with_new, last_below, among_roots}
-use Rattle.lx_forest.proofs.Within.{alone-among_roots_inside, alone-among_roots_outside}
+use Rattle.lx_forest.proofs.Within.{alone-among_roots_inside, alone-among_roots_outside, is_within-self}
 use Rattle.lx_draft.specs.Working.{Working}
 use Rattle.lx_draft.specs.Faults.{after}
 use Rattle.lx_draft.specs.Steps.{new_step}
@@ -86,11 +87,12 @@ node_comes (array ds) above trees w e fit ready = absurd (cc)
 
 -- ---- one after another
 
--- These trees were made with these keys, each of which stands where none did. What there was before is as it was.
+-- These trees were made, with the new nodes of these keys on top. What there was before is as it was.
 pub record AreMade (trees : Trees Piece) (w : Working) (made : Made) : Type 0 where
   pub are : lookups.trees_of made.draft.forest made.keys ≡ keyed w.next_key trees
   pub next : made.draft.next_key ≡ w.next_key + total trees
   pub stays : (q : ℕ) → q < w.next_key → alone q made.draft.forest ≡ alone q w.forest
+  pub there : (k : ℕ) → is_among k made.keys ≡ true → has k made.draft.forest ≡ true
   pub covered : AreCovered w made.draft
 
 comes-own : (piece : Piece) (below : Trees Piece) (w v : Working) → IsReady w → Comes (tree piece below nil) w v → alone w.next_key v.forest ≡ keyed w.next_key (tree piece below nil)
@@ -104,6 +106,17 @@ comes-stays : (trees : Trees Piece) (w v : Working) (q : ℕ) → Comes trees w 
 comes-stays trees w v q a low =
     ap (alone q) a.forest ∙ alone-among_roots_outside q w.next_key (keyed w.next_key trees) w.forest (keyed-low w.next_key q trees low)
 
+first_there : (n : ℕ) (piece : Piece) (below : Forest) → has n (tree (label_for n piece) below nil) ≡ true
+first_there n piece below = grind (arith, nat_tests, eqb_tells n n)
+
+same_key : (n k : ℕ) → eqb n k ≡ true → n ≡ k
+same_key n k is = grind (arith, is, eqb_tells n k)
+
+made_there : (piece : Piece) (below rest : Trees Piece) (w v : Working) (made : Made) → IsReady w → Comes (tree piece below nil) w v → AreMade rest v made → has w.next_key made.draft.forest ≡ true
+made_there piece below rest w v made ready a b =
+    let n : ℕ = w.next_key in
+    sym (is_within-self made.draft.forest n) ∙ ap (has n) (b.stays n (omega (arith, a.next)) ∙ comes-own piece below w v ready a) ∙ first_there n piece (keyed (n + 1) below)
+
 made_then : (piece : Piece) (below rest : Trees Piece) (w v : Working) (made : Made) → IsReady w → Comes (tree piece below nil) w v → AreMade rest v made
     → AreMade (tree piece below rest) w (record { draft = made.draft; keys = w.next_key ∷ made.keys })
 made_then piece below rest w v made ready a b =
@@ -115,14 +128,19 @@ made_then piece below rest w v made ready a b =
           ∙ ap (joined (keyed n (tree piece below nil))) (b.are ∙ ap (λ m. keyed m rest) next);
       next = omega (arith, next, b.next);
       stays = λ q low. b.stays q (omega (arith, low, next)) ∙ comes-stays (tree piece below nil) w v q a low;
+      there = λ k among. either k (eqb n k) refl among;
       covered = covered-then w v made.draft a.covered b.covered;
     }
+  where
+    either : (k : ℕ) (t : Bool) → eqb w.next_key k ≡ t → is_among k (w.next_key ∷ made.keys) ≡ true → has k made.draft.forest ≡ true
+    either k true is among = subst (λ q. has q made.draft.forest ≡ true) (same_key w.next_key k is) (made_there piece below rest w v made ready a b)
+    either k false is among = b.there k (ap (λ t. t || is_among k made.keys) (sym is) ∙ among)
 
 pub nodes_make : (ds : Items) (i j : ℕ) (kind : Kind) (t : Trees Piece) (w : Working) → trees_of ds j kind ≡ Ok t → AreFit kind t → IsReady w → Makes (AreMade t w) (nodes_made ds i kind w)
 unfolding nodes_made trees_of
 nodes_make no_items i j kind t w e fit ready =
     subst (λ t. AreMade t w (record { draft = w; keys = [] })) (let same : nil ≡ t = cc in same)
-    (record { are = refl; next = omega arith; stays = λ q low. refl; covered = covered-self w ready })
+    (record { are = refl; next = omega arith; stays = λ q low. refl; there = λ k among. absurd (cc); covered = covered-self w ready })
 nodes_make (item d ds) i j kind t w e fit ready =
     let parts = parted (child_place j) (tree_of d (Some kind)) (trees_of ds (j + 1) kind) t (lone_node d kind) e in
     let one : Trees Piece = tree parts.piece parts.below nil in

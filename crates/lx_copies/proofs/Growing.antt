@@ -8,7 +8,7 @@ use Rattle.std.proofs.lemmas.Bool.Decides.{eqb_tells, nat_tests}
 use Rattle.std.proofs.lemmas.Option.{slice_get_past}
 use Rattle.serde_json.specs.Data.{Data, null, boolean, number, string, array, object, Items, no_items, item, Members, no_members, member}
 use Rattle.lx_node.specs.Trees.{Trees, nil, tree, joined}
-use Rattle.lx_node.specs.NamedTrees.{total}
+use Rattle.lx_node.specs.NamedTrees.{total, inserted}
 use Rattle.lx_node.proofs.NamedTrees.{alone-absent}
 use Rattle.lx_node.specs.Kinds.{is_element, may_hold}
 use Rattle.lx_node.specs.Strings.{characters_of}
@@ -33,10 +33,8 @@ use Rattle.lx_draft.proofs.CoveredSteps.{covered-new, covered-put}
 use Rattle.lx_draft.proofs.Put.{can_put}
 use Rattle.lx_json.specs.Reading.{Piece, and_then, under, told_under, child_place, piece_of, with_tree, with_rest, if_element, tree_of, children_in, listed, trees_of}
 use Rattle.lx_json.specs.Importing.{label_for, keyed}
-use Rattle.lx_json.specs.declared.growing.Growth.{Growth}
-use Rattle.lx_json.specs.Growing.{grown}
 use Rattle.lx_json.specs.Nodes.{put_below, node_new, made_with, node_made, children_made, list_made, items_made}
-use Rattle.lx_json.proofs.Grown.{keyed-low, grown-none}
+use Rattle.lx_json.proofs.Grown.{keyed-low}
 use Rattle.lx_copies.specs.Copies.{is_limit}
 
 -- ---- made, or refused by a limit
@@ -213,9 +211,16 @@ node_new_made p above piece w parent held =
 
 -- ---- one after another
 
+inserted_nothing : (f : Forest) → inserted key_of None nil f ≡ f
+inserted_nothing nil = refl
+inserted_nothing (tree l below rest) = ap (tree l below) (inserted_nothing rest)
+
 nothing_below : (p : ℕ) (f : Forest) → last_below p nil f ≡ f
-unfolding grown
-nothing_below p f = ap (λ (g : Growth). g.links) (grown-none p (record { links = f; next = 0 }))
+nothing_below p nil = refl
+nothing_below p (tree l below rest) = at_one (eqb l.key p) (nothing_below p below) (nothing_below p rest) where
+  at_one : (b : Bool) → last_below p nil below ≡ below → last_below p nil rest ≡ rest → tree l (cond b (inserted key_of None nil below) (last_below p nil below)) (last_below p nil rest) ≡ tree l below rest
+  at_one true inner later = ap (λ s. tree l s (last_below p nil rest)) (inserted_nothing below) ∙ ap (tree l below) later
+  at_one false inner later = ap (λ s. tree l s (last_below p nil rest)) inner ∙ ap (tree l below) later
 
 grows_none : (p : ℕ) (w : Working) → IsReady w → Grows p nil w w
 grows_none p w ready = record { forest = sym (nothing_below p w.forest); next = omega arith; covered = covered-self w ready }

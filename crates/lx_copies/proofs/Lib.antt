@@ -5,5 +5,7 @@ pub mod Gaps
 pub mod Growing
 pub mod Kept
 pub mod Pasted
+pub mod Pastes
 pub mod Placing
 pub mod ReadBack
+pub mod Staying

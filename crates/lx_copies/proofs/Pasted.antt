@@ -90,7 +90,7 @@ allowed : (o : Option Cause) (w v : Working) (next : Working → Result Working 
 allowed None w v next e = e
 allowed (Some cause) w v next e = absurd (cc)
 
-inlines_between : (p : Point) (keys : List ℕ) (w v : Working) → IsReady w → keys ≢ [] → nodes_added p keys w ≡ Ok v → AreAdded p keys w v
+pub inlines_between : (p : Point) (keys : List ℕ) (w v : Working) → IsReady w → keys ≢ [] → nodes_added p keys w ≡ Ok v → AreAdded p keys w v
 unfolding nodes_added
 inlines_between p [] w v ready some e = absurd (some refl)
 inlines_between p (k ∷ ks) w v ready some e =
@@ -133,7 +133,7 @@ came_behind outer k ks w v ready e =
 beyond : (outer : ℕ) (keys : List ℕ) (w u v : Working) → CameBehind outer keys w u → v.forest ≡ u.forest → AreBeyond outer keys w v
 beyond outer keys w u v c same = record { parent = c.parent; before = c.before; rest = c.rest; between = stand c.parent (c.before ++ (outer ∷ [])) keys c.rest w u v c.came same }
 
-beyond_between : (outer : ℕ) (keys : List ℕ) (w v : Working) → IsReady w → keys ≢ [] → put_beyond outer keys w ≡ Ok v → AreBeyond outer keys w v
+pub beyond_between : (outer : ℕ) (keys : List ℕ) (w v : Working) → IsReady w → keys ≢ [] → put_beyond outer keys w ≡ Ok v → AreBeyond outer keys w v
 unfolding put_beyond
 beyond_between outer [] w v ready some e = absurd (some refl)
 beyond_between outer (k ∷ ks) w v ready some e =

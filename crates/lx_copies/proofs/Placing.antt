@@ -12,7 +12,7 @@ use Rattle.lx_forest.specs.Lookups.{key_of, has, count, alone, without, parent_o
 use Rattle.lx_forest.specs.Edits.{put_in, CanPut}
 use Rattle.lx_forest.proofs.Within.{alone-put_in_inside, alone-put_in_outside, is_within-put_in, is_within-top, is_within-self}
 
-none_of : (q : ℕ) (f : Forest) → has q f ≡ false → count q f ≡ 0
+pub none_of : (q : ℕ) (f : Forest) → has q f ≡ false → count q f ≡ 0
 none_of q f free = grind (arith, nat_tests, free)
 
 -- whoever holds the parent held it before

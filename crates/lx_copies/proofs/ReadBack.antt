@@ -25,7 +25,7 @@ slice_makes f s c w kept is ready =
     subst (λ kind. Makes (AreMade (pieces_of c) w) (nodes_read (codes "/nodes") (array (trees_data c)) kind w)) (sym r.holds)
     (makes_under (AreMade (pieces_of c) w) (codes "/nodes") (nodes_made (trees_data c) 0 r.kind w) (nodes_make (trees_data c) 0 0 r.kind (pieces_of c) w (written_back r.kind c r.good) (pieces_fit r.kind c r.good) ready))
 
-made_by : {A : Type 0} (P : A → Type 0) (r : Result A Cause) (a : A) → r ≡ Ok a → Makes P r → P a
+pub made_by : {A : Type 0} (P : A → Type 0) (r : Result A Cause) (a : A) → r ≡ Ok a → Makes P r → P a
 made_by P (Ok b) a e m = subst P (let same : b ≡ a = cc in same) m
 made_by P (Err cause) a e m = absurd (cc)
 
@@ -33,7 +33,7 @@ refused_by : {A : Type 0} (P : A → Type 0) (r : Result A Cause) (cause : Cause
 refused_by P (Ok a) cause e m = absurd (cc)
 refused_by P (Err other) cause e m = ap is_limit (let same : cause ≡ other = cc in same) ∙ m
 
-read_back : (c : Forest) (w : Working) (made : Made) → IsReady w → AreMade (pieces_of c) w made → IsReadBack c w made
+pub read_back : (c : Forest) (w : Working) (made : Made) → IsReady w → AreMade (pieces_of c) w made → IsReadBack c w made
 read_back c w made ready m = record {
   same = ap pieces_of m.are ∙ pieces-keyed w.next_key (pieces_of c);
   stays = λ q there. m.stays q (key_low q w ready there);

@@ -4,4 +4,4 @@
 
 mod laws;
 
-pub use laws::{pasted_stand_between, slices_are_read_back};
+pub use laws::{copies_are_pasted, pasted_stand_between, slices_are_read_back};
