@@ -1,12 +1,12 @@
 -- What nodes that are read make where they stand below nothing: the trees that are told.
-use Rattle.std.proofs.Common.{◌≡◌, ◌∙◌, ◌+◌, ◌≤◌, ◌<◌, ℕ, Bool, true, false, cond, eqb, ltb, ◌||◌, List, [], ◌∷◌, Option, None, Some, Result, Ok, Err, refl, ap, sym, subst, arith, if◌then◌else◌}
+use Rattle.std.proofs.Common.{◌≡◌, ◌∙◌, ◌+◌, ◌<◌, ℕ, Bool, true, false, cond, eqb, ◌||◌, [], ◌∷◌, None, Some, Result, Ok, refl, ap, sym, subst, arith, if◌then◌else◌}
 use Rattle.std.proofs.lemmas.Bool.Decides.{eqb_tells, nat_tests}
 use Rattle.serde_json.specs.Data.{Data, null, boolean, number, string, array, object, Items, no_items, item}
 use Rattle.lx_node.specs.Trees.{Trees, nil, tree, joined}
-use Rattle.lx_node.specs.NamedTrees.{total, inserted, put_below}
+use Rattle.lx_node.specs.NamedTrees.{total}
 use Rattle.lx_node.specs.Siblings.{is_among}
 use Rattle.lx_node.specs.Kinds.{is_element}
-use Rattle.lx_node.proofs.NamedTrees.{put_below-absent, joined-nil}
+use Rattle.lx_node.proofs.NamedTrees.{put_below-absent}
 use Rattle.lx_node.specs.declared.kind.Kind.{Kind}
 use Rattle.lx_node.specs.declared.cause.Cause.{Cause}
 use Rattle.lx_rooted.specs.Edits as rooted
@@ -20,12 +20,11 @@ use Rattle.lx_draft.specs.Faults.{after}
 use Rattle.lx_draft.specs.Steps.{new_step}
 use Rattle.lx_draft.specs.Covering.{IsReady, AreCovered}
 use Rattle.lx_draft.proofs.Covered.{covered-self, covered-then}
-use Rattle.lx_json.specs.Reading.{Piece, and_then, told_under, child_place, piece_of, with_tree, if_element, tree_of, children_in, trees_of}
+use Rattle.lx_json.specs.Reading.{Piece, told_under, child_place, piece_of, with_tree, if_element, tree_of, children_in, trees_of}
 use Rattle.lx_json.specs.Importing.{label_for, keyed}
 use Rattle.lx_json.specs.Nodes.{put_below as put_where, node_new, made_with, node_made, children_made, Made, index_place, with_first, nodes_made}
 use Rattle.lx_json.proofs.Grown.{keyed-low}
-use Rattle.lx_json.proofs.BackKeys.{keyed-behind}
-use Rattle.lx_copies.proofs.Growing.{Makes, makes_after, makes_as, makes_under, AreFit, HasParent, Grows, IsNew, new_made, own_key, kind_new, next_free, key_low, IsOne, one_told, lone_node, AreParts, parted, MakesTold, children_make, by_piece, members_make}
+use Rattle.lx_copies.proofs.Growing.{Makes, makes_after, makes_as, makes_under, AreFit, Grows, IsNew, new_made, own_key, kind_new, next_free, one_told, lone_node, parted, MakesTold, children_make, by_piece, members_make}
 
 -- ---- a tree among the first ones
 

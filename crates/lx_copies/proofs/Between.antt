@@ -1,17 +1,16 @@
 -- Nodes that are put in stand between what stood before the place and what stood after it.
-use Rattle.std.proofs.Common.{◌≡◌, ◌≢◌, ◌∙◌, ◌+◌, ◌≤◌, ℕ, suc, Bool, true, false, cond, eqb, ◌||◌, List, [], ◌∷◌, ◌++◌, length, Option, None, Some, Result, Ok, Err, refl, ap, sym, subst, arith, append-nil, append_assoc}
+use Rattle.std.proofs.Common.{◌≡◌, ◌≢◌, ◌∙◌, ◌+◌, ℕ, Bool, true, false, cond, eqb, ◌||◌, List, [], ◌∷◌, ◌++◌, length, Option, None, Some, Ok, refl, ap, sym, subst, arith, append_assoc}
 use Rattle.std.specs.Prelude.{slice_get}
 use Rattle.std.specs.Option.{option_or}
 use Rattle.std.proofs.lemmas.Bool.Decides.{eqb_tells}
 use Rattle.lx_node.specs.Siblings.{is_named, is_among, NoRepeats, index_in, names_with}
-use Rattle.lx_node.specs.declared.cause.Cause.{Cause}
 use Rattle.lx_node.proofs.Siblings.{is_among-append}
 use Rattle.lx_forest.specs.Forest.{Forest}
 use Rattle.lx_forest.specs.Lookups.{alone, label_of, parent_of, children_of, children_below, index_of, is_within, IsForest}
-use Rattle.lx_forest.specs.Edits.{put_in, CanPut}
+use Rattle.lx_forest.specs.Edits.{put_in}
 use Rattle.lx_forest.proofs.Lookups.{is_among-children_of, NoRepeats-children_of, children_of-put_in, label_of-put_in}
 use Rattle.lx_draft.specs.Working.{Working}
-use Rattle.lx_draft.specs.Faults.{after, over_counts, put_fault}
+use Rattle.lx_draft.specs.Faults.{over_counts, put_fault}
 use Rattle.lx_draft.specs.Steps.{node_placed, put_step}
 use Rattle.lx_draft.specs.Beside.{before_at, put_before_step, behind_at, put_behind_step}
 use Rattle.lx_draft.specs.Covering.{IsReady, AreCovered}
@@ -20,7 +19,7 @@ use Rattle.lx_draft.proofs.CoveredSteps.{covered-put}
 use Rattle.lx_draft.proofs.Put.{both_none, can_put, put_within}
 use Rattle.lx_edit.proofs.Climbed.{first_part}
 use Rattle.lx_clip.specs.Pasting.{put_behind_each}
-use Rattle.lx_copies.proofs.Gaps.{names_at, InTwo, in_two, AtName, at_name, index_between, among_between}
+use Rattle.lx_copies.proofs.Gaps.{names_at, in_two, at_name, index_between, among_between}
 use Rattle.lx_copies.proofs.Placing.{within_put, alone_put}
 
 -- These nodes came below one parent, between the children before and those after them.

@@ -1,11 +1,10 @@
 -- What is covered of a document's trees may stand where it is read, and is given back by what is written for it.
-use Rattle.std.proofs.Common.{◌≡◌, ◌∙◌, ◌+◌, ◌-◌, ℕ, Bool, true, false, cond, eqb, leb, ◌&&◌, not, List, [], ◌∷◌, Option, None, Some, Ok, refl, ap, sym, subst, arith}
-use Rattle.std.specs.Prelude.{find, unwrap_or, chars, encode_utf8_all, codes}
+use Rattle.std.proofs.Common.{◌≡◌, ◌∙◌, ◌-◌, ℕ, Bool, true, false, cond, leb, ◌&&◌, not, List, [], ◌∷◌, Option, None, Some, Ok, refl, ap, sym, subst, arith}
+use Rattle.std.specs.Prelude.{find, unwrap_or}
 use Rattle.std.specs.Str.{all_scalars}
 use Rattle.std.proofs.lemmas.Str.{chars-encodes}
 use Rattle.std.proofs.lemmas.Option.{same_Some}
-use Rattle.serde_json.specs.Data.{string, Items, no_items, item}
-use Rattle.lx_node.specs.Trees.{Trees, nil, tree, joined}
+use Rattle.lx_node.specs.Trees.{nil, tree, joined}
 use Rattle.lx_node.specs.Siblings.{is_among}
 use Rattle.lx_node.specs.Units.{units_of}
 use Rattle.lx_node.specs.Kinds.{is_cell, is_inline, is_block, may_hold, type_name}
@@ -15,11 +14,10 @@ use Rattle.lx_node.specs.declared.kind.Kind.TheVariants as kinds
 use Rattle.lx_node.specs.declared.fields.Fields.{Fields}
 use Rattle.lx_node.specs.declared.fields.Fields.TheVariants as fields
 use Rattle.lx_node.specs.declared.fields.TextFields.{TextFields}
-use Rattle.lx_node.specs.declared.cause.Point.{Point}
 use Rattle.lx_text.specs.Texts.{front_of, rest_of, slice_of}
 use Rattle.lx_select.specs.declared.selection.Selection.{Selection}
 use Rattle.lx_forest.specs.Forest.{Forest, Label}
-use Rattle.lx_forest.specs.Lookups.{kind_of, children_of, trees_of, ancestors, IsForest}
+use Rattle.lx_forest.specs.Lookups.{kind_of, children_of, trees_of, ancestors}
 use Rattle.lx_draft.specs.Faults.{text_in, text_fields}
 use Rattle.lx_draft.specs.Steps.{text_replaced}
 use Rattle.lx_draft.specs.Selecting.{length_told}
@@ -27,7 +25,7 @@ use Rattle.lx_range.specs.declared.ranges.Ranged.{Ranged}
 use Rattle.lx_range.specs.Blocks.{passes, is_at, frame_of, same_node}
 use Rattle.lx_range.specs.Ranges.{if_normal, shown_range, is_collapsed, start_of, end_of}
 use Rattle.lx_script.specs.Storable.{IsText, IsStorable, IsTextStorable}
-use Rattle.lx_script.specs.Types.{kind_of_type, kind_told}
+use Rattle.lx_script.specs.Types.{kind_of_type}
 use Rattle.lx_script.proofs.Exported.{type-there}
 use Rattle.lx_script.proofs.ReadBack.{reads_back}
 use Rattle.lx_json.specs.Reading.{Piece}
@@ -36,7 +34,7 @@ use Rattle.lx_json.specs.Exporting.{trees_data}
 use Rattle.lx_json.specs.GivenBack.{AreGivenBack}
 use Rattle.lx_json.specs.Back.{pieces_of}
 use Rattle.lx_json.proofs.BackTrees.{trees-back}
-use Rattle.lx_clip.specs.Covers.{Extent, from_in, to_in, is_covered_text, cut_to, part_cover, text_cover, is_nil, element_cover, leaf_cover, cover, covers, are_inline}
+use Rattle.lx_clip.specs.Covers.{Extent, from_in, to_in, is_covered_text, cut_to, part_cover, is_nil, cover, covers, are_inline}
 use Rattle.lx_clip.specs.Slices.{extent, covers_below, common_block, frame_covers, if_inline, covers_in, covers_between, range_covers, covers_if, sliced}
 use Rattle.lx_clip.specs.Pasting.{is_inline_type, begins_inline, holder}
 use Rattle.lx_clip.proofs.Cut.{piece_suits}

@@ -1,13 +1,13 @@
 -- What nodes that are read make below a parent: the trees that are told, behind its children; or a limit refuses them.
-use Rattle.std.proofs.Common.{◌≡◌, ◌≢◌, ◌∙◌, ◌+◌, ◌≤◌, ◌<◌, ℕ, Bool, true, false, cond, eqb, ltb, ◌||◌, List, [], codes, length, Option, None, Some, Result, Ok, Err, refl, ap, sym, subst, arith, inl, inr, if◌then◌else◌}
-use Rattle.std.specs.Prelude.{is_some, slice_get, option_map}
+use Rattle.std.proofs.Common.{◌≡◌, ◌∙◌, ◌+◌, ◌<◌, ℕ, Bool, true, false, cond, eqb, ltb, ◌||◌, List, codes, length, Option, None, Some, Result, Ok, Err, refl, ap, sym, subst, arith, inl, inr, if◌then◌else◌}
+use Rattle.std.specs.Prelude.{is_some, slice_get}
 use Rattle.std.specs.Option.{option_or}
 use Rattle.std.specs.Str.{bytes_eq}
 use Rattle.std.proofs.lemmas.Bool.{cases_lt}
 use Rattle.std.proofs.lemmas.Bool.Decides.{eqb_tells, nat_tests}
 use Rattle.std.proofs.lemmas.Option.{slice_get_past}
 use Rattle.serde_json.specs.Data.{Data, null, boolean, number, string, array, object, Items, no_items, item, Members, no_members, member}
-use Rattle.lx_node.specs.Trees.{Trees, nil, tree, joined}
+use Rattle.lx_node.specs.Trees.{Trees, nil, tree}
 use Rattle.lx_node.specs.NamedTrees.{total, inserted}
 use Rattle.lx_node.proofs.NamedTrees.{alone-absent}
 use Rattle.lx_node.specs.Kinds.{is_element, may_hold}
@@ -16,21 +16,20 @@ use Rattle.lx_node.specs.declared.kind.Kind.{Kind}
 use Rattle.lx_node.specs.declared.cause.Cause.{Cause}
 use Rattle.lx_node.specs.declared.cause.Cause.TheVariants.{StepLimit, TooLarge, BadPlace}
 use Rattle.lx_forest.specs.Forest.{Forest, Label}
-use Rattle.lx_forest.specs.Lookups.{key_of, has, spot, count, kind_of, parent_of, children_of, size_of, is_within}
+use Rattle.lx_forest.specs.Lookups.{key_of, has, kind_of, parent_of, children_of, size_of, is_within}
 use Rattle.lx_forest.specs.Edits.{with_new, put_in, last_below}
 use Rattle.lx_forest.proofs.Building.{put_in-with_new, last_below-within, last_below-twice}
 use Rattle.lx_forest.proofs.Edits.{is_some-spot, has-root}
-use Rattle.lx_forest.proofs.Lookups.{kind_of-with_new, kind_of-put_in, parent_of-with_new}
+use Rattle.lx_forest.proofs.Lookups.{kind_of-with_new, parent_of-with_new}
 use Rattle.lx_forest.proofs.Within.{is_within-with_new}
 use Rattle.lx_forest.proofs.Walks.{no_parent}
-use Rattle.lx_links.specs.Faults.{unknown, bound_to, misfit}
+use Rattle.lx_links.specs.Faults.{bound_to, misfit}
 use Rattle.lx_draft.specs.Working.{Working}
 use Rattle.lx_draft.specs.Faults.{answer, after, over_counts, over_limits, put_fault, beyond}
 use Rattle.lx_draft.specs.Steps.{made, new_step, node_placed, put_step}
 use Rattle.lx_draft.specs.Covering.{IsReady, AreCovered}
 use Rattle.lx_draft.proofs.Covered.{covered-self, covered-then}
 use Rattle.lx_draft.proofs.CoveredSteps.{covered-new, covered-put}
-use Rattle.lx_draft.proofs.Put.{can_put}
 use Rattle.lx_json.specs.Reading.{Piece, and_then, under, told_under, child_place, piece_of, with_tree, with_rest, if_element, tree_of, children_in, listed, trees_of}
 use Rattle.lx_json.specs.Importing.{label_for, keyed}
 use Rattle.lx_json.specs.Nodes.{put_below, node_new, made_with, node_made, children_made, list_made, items_made}

@@ -1,5 +1,5 @@
 -- What is kept of each node of a forest, tree by tree: its fields are those of its kind, and its parent may hold it.
-use Rattle.std.proofs.Common.{◌≡◌, ◌∙◌, ◌+◌, ◌<◌, ℕ, Bool, true, false, cond, eqb, ◌&&◌, List, [], ◌∷◌, Option, None, Some, refl, ap, sym, subst, arith, inl, inr}
+use Rattle.std.proofs.Common.{◌≡◌, ◌∙◌, ℕ, Bool, true, false, cond, eqb, Option, None, Some, refl, ap, sym, subst, arith}
 use Rattle.std.specs.Prelude.{option_map}
 use Rattle.std.proofs.lemmas.Bool.Decides.{eqb_tells}
 use Rattle.lx_node.specs.Trees.{nil, tree, joined}
@@ -11,7 +11,7 @@ use Rattle.lx_node.specs.NamedTrees as named
 use Rattle.lx_node.proofs.Spots.{spot_below-absent}
 use Rattle.lx_node.specs.declared.kind.Kind.{Kind}
 use Rattle.lx_forest.specs.Forest.{Forest, Label}
-use Rattle.lx_forest.specs.Lookups.{key_of, spot, label_of, kind_of, alone, trees_of, children_of, holds, IsForest, IsHeld}
+use Rattle.lx_forest.specs.Lookups.{key_of, spot, label_of, kind_of, alone, trees_of, children_of, holds}
 use Rattle.lx_forest.specs.Suited.{is_suited}
 use Rattle.lx_forest.proofs.Edits.{key-spot}
 use Rattle.lx_forest.proofs.Lookups.{alone-spot}

@@ -1,15 +1,13 @@
 -- What is pasted stands between: inlines at a point, and blocks around or after one.
-use Rattle.std.proofs.Common.{◌≡◌, ◌≢◌, ◌∙◌, ◌+◌, ℕ, Bool, true, false, cond, eqb, List, [], ◌∷◌, ◌++◌, length, Option, None, Some, Result, Ok, Err, refl, ap, sym, subst, append-nil, append_assoc}
-use Rattle.lx_node.specs.Siblings.{first_of, last_from, last_of, is_among}
+use Rattle.std.proofs.Common.{◌≡◌, ◌≢◌, ◌∙◌, ℕ, Bool, true, false, cond, eqb, List, [], ◌∷◌, ◌++◌, Option, None, Some, Result, Ok, refl, ap, sym, subst, append-nil, append_assoc}
+use Rattle.lx_node.specs.Siblings.{first_of, last_from, last_of}
 use Rattle.lx_node.specs.declared.cause.Cause.{Cause}
 use Rattle.lx_node.specs.declared.cause.Point.{Point}
 use Rattle.lx_node.specs.declared.cause.PointKind.{PointKind}
 use Rattle.lx_node.specs.declared.cause.PointKind.TheVariants as point
-use Rattle.lx_forest.specs.Forest.{Forest}
 use Rattle.lx_forest.specs.Lookups.{alone, label_of, children_of}
 use Rattle.lx_draft.specs.Working.{Working}
 use Rattle.lx_draft.specs.Faults.{answer, after}
-use Rattle.lx_draft.specs.Steps.{put_step}
 use Rattle.lx_draft.specs.Beside.{put_before_step, put_behind_step}
 use Rattle.lx_draft.specs.Covering.{IsReady, AreCovered}
 use Rattle.lx_draft.proofs.Covered.{covered-self, covered-then}
@@ -25,7 +23,7 @@ use Rattle.lx_caret.proofs.PathsOfTexts.{all_moved_path}
 use Rattle.lx_caret.proofs.PathsOfParagraphs.{new_like_path}
 use Rattle.lx_clip.specs.Pasting.{put_behind_each, caret_by, caret_after, no_room_for, put_all_by, nodes_added, Tailed, tail_made, tail_put, put_around, put_beyond}
 use Rattle.lx_copies.specs.Between.{StandBetween, IsPlaceOf, AreAdded, AreBeyond, key_if, AreAround, PastedStandBetween}
-use Rattle.lx_copies.proofs.Between.{Came, came_then, put_came, put_behind_came, behind_each_came, StandsIn, behind_stands, before_stands, put_before_came, StandsAt, put_stands}
+use Rattle.lx_copies.proofs.Between.{Came, came_then, put_came, put_behind_came, behind_each_came, behind_stands, before_stands, put_before_came, put_stands}
 
 -- ---- said of what is left
 

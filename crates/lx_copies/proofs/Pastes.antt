@@ -1,7 +1,7 @@
 -- What is copied stands pasted.
-use Rattle.std.proofs.Common.{◌≡◌, ◌≢◌, ◌∙◌, ◌+◌, ◌<◌, ℕ, Bool, true, false, cond, eqb, ltb, ◌||◌, List, [], ◌∷◌, Option, None, Some, Result, Ok, refl, ap, ap₂, sym, subst, arith}
-use Rattle.std.proofs.lemmas.Bool.Decides.{eqb_tells, nat_tests}
-use Rattle.lx_node.specs.Trees.{nil, tree, joined}
+use Rattle.std.proofs.Common.{◌≡◌, ◌∙◌, ◌<◌, ℕ, Bool, true, false, eqb, ltb, ◌||◌, List, [], ◌∷◌, Ok, refl, ap, ap₂, sym, subst, arith}
+use Rattle.std.proofs.lemmas.Bool.Decides.{eqb_tells}
+use Rattle.lx_node.specs.Trees.{joined}
 use Rattle.lx_node.specs.Siblings.{is_among}
 use Rattle.lx_node.proofs.NamedTrees.{count-joined}
 use Rattle.lx_node.specs.declared.cause.Point.{Point}
@@ -11,7 +11,6 @@ use Rattle.lx_draft.specs.Working.{Working}
 use Rattle.lx_draft.specs.Covering.{IsReady}
 use Rattle.lx_json.specs.Nodes.{Made}
 use Rattle.lx_json.specs.Back.{pieces_of}
-use Rattle.lx_json.specs.Importing.{keyed}
 use Rattle.lx_json.proofs.Grown.{keyed-low}
 use Rattle.lx_clip.specs.Pasting.{nodes_added, put_beyond}
 use Rattle.lx_copies.specs.Copies.{slice_read}

@@ -1,14 +1,11 @@
 -- A tree that is put at a place among the children of a parent: those stand around it, and other trees are as they were.
-use Rattle.std.proofs.Common.{◌≡◌, ◌≢◌, ◌∙◌, ◌+◌, ◌≤◌, ℕ, Bool, true, false, cond, eqb, ◌||◌, ◌&&◌, List, [], ◌∷◌, ◌++◌, length, Option, None, Some, refl, ap, sym, subst, arith, inl, inr}
-use Rattle.std.specs.Prelude.{slice_get}
+use Rattle.std.proofs.Common.{◌≡◌, ◌≢◌, ◌∙◌, ℕ, true, false, Option, ap, sym, arith, inl, inr}
 use Rattle.std.proofs.lemmas.Bool.{cases_Bool}
-use Rattle.std.proofs.lemmas.Bool.Decides.{eqb_tells, nat_tests}
-use Rattle.lx_node.specs.Trees.{nil, tree}
+use Rattle.std.proofs.lemmas.Bool.Decides.{nat_tests}
 use Rattle.lx_node.specs.NamedTrees.{put_below}
-use Rattle.lx_node.specs.NamedTrees as named
 use Rattle.lx_node.proofs.NamedTrees.{put_below-absent, without-absent}
 use Rattle.lx_forest.specs.Forest.{Forest}
-use Rattle.lx_forest.specs.Lookups.{key_of, has, count, alone, without, parent_of, is_within, IsForest}
+use Rattle.lx_forest.specs.Lookups.{key_of, has, count, alone, without, is_within, IsForest}
 use Rattle.lx_forest.specs.Edits.{put_in, CanPut}
 use Rattle.lx_forest.proofs.Within.{alone-put_in_inside, alone-put_in_outside, is_within-put_in, is_within-top, is_within-self}
 

@@ -1,5 +1,5 @@
 -- A slice is read back.
-use Rattle.std.proofs.Common.{◌≡◌, ◌∙◌, ℕ, true, codes, Some, Result, Ok, Err, refl, ap, sym, subst}
+use Rattle.std.proofs.Common.{◌≡◌, ◌∙◌, true, codes, Some, Result, Ok, Err, refl, ap, sym, subst}
 use Rattle.serde_json.specs.Data.{array}
 use Rattle.lx_node.specs.declared.cause.Cause.{Cause}
 use Rattle.lx_select.specs.declared.selection.Selection.{Selection}
@@ -16,7 +16,7 @@ use Rattle.lx_clip.specs.Pasting.{begins_inline, placed, insert_step}
 use Rattle.lx_copies.specs.Copies.{IsKept, slice_read, is_limit, IsReadBack, SlicesAreReadBack}
 use Rattle.lx_copies.proofs.Growing.{Makes, makes_under, key_low}
 use Rattle.lx_copies.proofs.Apart.{AreMade, nodes_make}
-use Rattle.lx_copies.proofs.Covering.{IsReadable, slice_readable, pieces_fit, written_back}
+use Rattle.lx_copies.proofs.Covering.{slice_readable, pieces_fit, written_back}
 
 pub slice_makes : (f : Forest) (s : Selection) (c : Forest) (w : Working) → IsKept f → sliced f s ≡ Some c → IsReady w → Makes (AreMade (pieces_of c) w) (slice_read c w)
 unfolding nodes_read

@@ -1,5 +1,5 @@
 -- What is copied is read back: the nodes that a slice makes have the trees that were covered, but for their keys.
-use Rattle.std.specs.Prelude.{ℕ, ◌≡◌, Bool, true, false, codes, Option, Some, Result, Ok, Err}
+use Rattle.std.specs.Prelude.{ℕ, ◌≡◌, Bool, true, false, codes, Some, Result, Ok, Err}
 use Rattle.std.specs.Str.{all_scalars}
 use Rattle.serde_json.specs.Data.{array}
 use Rattle.lx_node.specs.Kinds.{may_hold}
