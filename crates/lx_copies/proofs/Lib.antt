@@ -1,0 +1,11 @@
+pub mod Apart
+pub mod Between
+pub mod Covering
+pub mod Gaps
+pub mod Growing
+pub mod Kept
+pub mod Pasted
+pub mod Pastes
+pub mod Placing
+pub mod ReadBack
+pub mod Staying

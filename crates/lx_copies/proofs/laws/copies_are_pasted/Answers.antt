@@ -1,0 +1,5 @@
+use Rattle.lx_copies.proofs.Pastes.{copies_are_pasted}
+use Rattle.lx_copies.proofs.laws.copies_are_pasted.Goals as goal
+
+pub returns : goal.returns
+returns c = copies_are_pasted
