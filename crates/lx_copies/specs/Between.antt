@@ -42,6 +42,7 @@ pub record AreBeyond (outer : ℕ) (keys : List ℕ) (w v : Working) : Type 0 wh
   pub rest : List ℕ
   pub between : StandBetween parent (before ++ (outer ∷ [])) keys rest w v
 
+-- the key of a node, if there is one, as a list
 abbrev pub key_if : Option ℕ → List ℕ
 key_if None = []
 key_if (Some k) = k ∷ []
@@ -55,6 +56,7 @@ pub record AreAround (block : ℕ) (keys moved : List ℕ) (w v : Working) : Typ
   pub beyond : AreBeyond block (keys ++ key_if tailed.key) tailed.draft put
   pub last : removed_empty block put ≡ Ok v
 
+-- whatever way nodes are put in, they come between the children before the place and those after it
 pub record PastedStandBetween : Type 0 where
   pub inlines : (p : Point) (keys : List ℕ) (w v : Working) → IsReady w → keys ≢ [] → nodes_added p keys w ≡ Ok v → AreAdded p keys w v
   pub around : (block : ℕ) (keys moved : List ℕ) (w v : Working) → IsReady w → keys ≢ [] → put_around block keys moved w ≡ Ok v → AreAround block keys moved w v

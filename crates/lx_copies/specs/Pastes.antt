@@ -21,6 +21,7 @@ pub record IsCopied (c : Forest) (w : Working) (made : Made) : Type 0 where
   pub ready : IsReady w
   pub read : slice_read c w ≡ Ok made
 
+-- after nodes of a slice were put in, they have the trees that were covered, but for their keys
 pub record CopiesArePasted : Type 0 where
   -- at a point of a node that was there before
   pub inlines : (c : Forest) (w : Working) (made : Made) (p : Point) (v : Working) → IsCopied c w made → has p.key w.forest ≡ true → nodes_added p made.keys made.draft ≡ Ok v
