@@ -164,10 +164,10 @@ fn differences(
     Ok(keys)
 }
 
-/// Where a store differs from its fork, which was written.
+/// Where a store of the keys 0 to 95 differs from its fork, which was written.
 fn differences_written(alloc: Global) -> Result<Vec<Key>, NoMemory> {
     let mut count = Copies::new();
-    let store = three(alloc, &mut count)?;
+    let store = filled(alloc, &mut count)?;
     let mut fork = store.fork(&mut count)?;
     fork_written(alloc, &mut fork, &mut count)?;
     differences(alloc, &store, &fork)
