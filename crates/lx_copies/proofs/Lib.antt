@@ -1,4 +1,5 @@
 pub mod Apart
+pub mod Around
 pub mod Between
 pub mod Covering
 pub mod Gaps

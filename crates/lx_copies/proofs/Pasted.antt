@@ -5,7 +5,7 @@ use Rattle.lx_node.specs.declared.cause.Cause.{Cause}
 use Rattle.lx_node.specs.declared.cause.Point.{Point}
 use Rattle.lx_node.specs.declared.cause.PointKind.{PointKind}
 use Rattle.lx_node.specs.declared.cause.PointKind.TheVariants as point
-use Rattle.lx_forest.specs.Lookups.{alone, label_of, children_of}
+use Rattle.lx_forest.specs.Lookups.{alone, label_of, children_of, IsForest}
 use Rattle.lx_draft.specs.Working.{Working}
 use Rattle.lx_draft.specs.Faults.{answer, after}
 use Rattle.lx_draft.specs.Beside.{put_before_step, put_behind_step}
@@ -22,7 +22,7 @@ use Rattle.lx_caret.proofs.Paths.{opened_path}
 use Rattle.lx_caret.proofs.PathsOfTexts.{all_moved_path}
 use Rattle.lx_caret.proofs.PathsOfParagraphs.{new_like_path}
 use Rattle.lx_clip.specs.Pasting.{put_behind_each, caret_by, caret_after, no_room_for, put_all_by, nodes_added, Tailed, tail_made, tail_put, put_around, put_beyond}
-use Rattle.lx_copies.specs.Between.{StandBetween, IsPlaceOf, AreAdded, AreBeyond, key_if, AreAround, PastedStandBetween}
+use Rattle.lx_copies.specs.Between.{StandBetween, IsPlaceOf, AreAdded, AreBeyond, key_if, AreAround}
 use Rattle.lx_copies.proofs.Between.{Came, came_then, put_came, put_behind_came, behind_each_came, behind_stands, before_stands, put_before_came, put_stands}
 
 -- ---- said of what is left
@@ -42,7 +42,7 @@ stand p before keys rest w u v a same = record {
 
 -- ---- inlines
 
--- a node came where a point tells
+-- a node came where a point says
 record CameBy (p : Point) (kind : PointKind) (k : ℕ) (w v : Working) : Type 0 where
   parent : ℕ
   before : List ℕ
@@ -192,7 +192,12 @@ tail_covered block (k ∷ ks) w t ready e =
     same_tail : (a b : Tailed) → ◌≡◌ {A = Result Tailed Cause} (Ok a) (Ok b) → a ≡ b
     same_tail a b e = cc
 
-around_between : (block : ℕ) (keys moved : List ℕ) (w v : Working) → IsReady w → keys ≢ [] → put_around block keys moved w ≡ Ok v → AreAround block keys moved w v
+-- all goes as it is said, and leaves a forest in order
+pub record IsAround (block : ℕ) (keys moved : List ℕ) (w v : Working) : Type 0 where
+  pub said : AreAround block keys moved w v
+  pub order : IsForest (said.put).forest
+
+pub around_between : (block : ℕ) (keys moved : List ℕ) (w v : Working) → IsReady w → keys ≢ [] → put_around block keys moved w ≡ Ok v → IsAround block keys moved w v
 unfolding put_around
 around_between block [] moved w v ready some e = absurd (some refl)
 around_between block (k ∷ ks) moved w v ready some e =
@@ -203,13 +208,15 @@ around_between block (k ∷ ks) moved w v ready some e =
     let two = after_tells (put_behind_each block keys t.draft) (λ put. after (tail_put t.key (last_of keys) put) close) v one.1.1 in
     let three = after_tells (tail_put t.key (last_of keys) two.0) close v two.1.1 in
     let c = came_behind block k ks t.draft two.0 (tail_covered block moved w t ready one.1.0).ready two.1.0 in
+    let d = tail_came block k ks t.key t.draft two.0 three.0 c three.1.0 in
+    let same : (caret_after keys three.0).forest ≡ (three.0).forest = caret_forest (last_of keys) three.0 in
     record {
-      tailed = t;
-      parted = one.1.0;
-      put = caret_after keys three.0;
-      beyond = beyond block (keys ++ key_if t.key) t.draft three.0 (caret_after keys three.0) (tail_came block k ks t.key t.draft two.0 three.0 c three.1.0) (caret_forest (last_of keys) three.0);
-      last = three.1.1;
+      said = record {
+        tailed = t;
+        parted = one.1.0;
+        put = caret_after keys three.0;
+        beyond = beyond block (keys ++ key_if t.key) t.draft three.0 (caret_after keys three.0) d same;
+        last = three.1.1;
+      };
+      order = subst IsForest (sym same) d.came.covered.ready.in_order;
     }
-
-pub pasted_stand_between : PastedStandBetween
-pasted_stand_between = record { inlines = inlines_between; around = around_between; beyond = beyond_between }

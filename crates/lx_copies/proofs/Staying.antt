@@ -5,6 +5,7 @@ use Rattle.std.specs.Option.{option_or}
 use Rattle.lx_node.specs.Trees.{nil, tree}
 use Rattle.lx_node.specs.NamedTrees.{mapped}
 use Rattle.lx_node.specs.Strings.{characters_of}
+use Rattle.lx_node.specs.declared.kind.Kind.{Kind}
 use Rattle.lx_node.specs.declared.kind.Kind.TheVariants.{Text}
 use Rattle.lx_node.specs.declared.fields.Fields.{Fields}
 use Rattle.lx_node.specs.declared.cause.Cause.{Cause}
@@ -39,11 +40,11 @@ pub record IsApart (a k : ℕ) (w : Working) : Type 0 where
   pub out : is_within w.forest a k ≡ false
 
 -- the tree is as it was, and still apart
-record Keeps (a k : ℕ) (w v : Working) : Type 0 where
-  same : alone a v.forest ≡ alone a w.forest
-  apart : IsApart a k v
+pub record Keeps (a k : ℕ) (w v : Working) : Type 0 where
+  pub same : alone a v.forest ≡ alone a w.forest
+  pub apart : IsApart a k v
 
-keeps : (a k : ℕ) (w v : Working) → IsApart a k w → IsReady v → alone a v.forest ≡ alone a w.forest → Keeps a k w v
+pub keeps : (a k : ℕ) (w v : Working) → IsApart a k w → IsReady v → alone a v.forest ≡ alone a w.forest → Keeps a k w v
 keeps a k w v apart ready same = record {
   same = same;
   apart = record {
@@ -53,20 +54,20 @@ keeps a k w v apart ready same = record {
   };
 }
 
-keeps_then : (a k : ℕ) (w u v : Working) → Keeps a k w u → Keeps a k u v → Keeps a k w v
+pub keeps_then : (a k : ℕ) (w u v : Working) → Keeps a k w u → Keeps a k u v → Keeps a k w v
 keeps_then a k w u v x y = record { same = y.same ∙ x.same; apart = y.apart }
 
 other_key : (f : Forest) (a b : ℕ) → has a f ≡ true → has b f ≡ false → a ≢ b
 other_key f a b there free same = absurd (let two : true ≡ false = sym there ∙ ap (λ q. has q f) same ∙ free in cc)
 
-keeps_new : (a k : ℕ) (x : Fields) (w v : Working) → IsApart a k w → new_step Text x w ≡ Ok v → Keeps a k w v
+pub keeps_new : (a k : ℕ) (kind : Kind) (x : Fields) (w v : Working) → IsApart a k w → new_step kind x w ≡ Ok v → Keeps a k w v
 unfolding new_step
-keeps_new a k x w v apart e =
-    let told = answered (over_limits (characters_of x) w) (made Text x w) v e in
-    let l : Label = record { key = w.next_key; kind = Text; fields = x } in
+keeps_new a k kind x w v apart e =
+    let told = answered (over_limits (characters_of x) w) (made kind x w) v e in
+    let l : Label = record { key = w.next_key; kind = kind; fields = x } in
     let free : has w.next_key w.forest ≡ false = apart.ready.free w.next_key (omega arith) in
     let forest : v.forest ≡ with_new l w.forest = ap (λ (u : Working). u.forest) (sym told.1) in
-    keeps a k w v apart (covered-new Text x w v apart.ready e).ready (ap (alone a) forest ∙ alone-with_new l w.forest a (other_key w.forest a w.next_key apart.there free))
+    keeps a k w v apart (covered-new kind x w v apart.ready e).ready (ap (alone a) forest ∙ alone-with_new l w.forest a (other_key w.forest a w.next_key apart.there free))
 
 same_label : (k : ℕ) (x : Fields) (l : Label) → eqb l.key k ≡ false → fields_at k x l ≡ l
 same_label k x l other = ap (λ b. let m : Label = record { key = l.key; kind = l.kind; fields = cond b x l.fields } in m) other
@@ -125,7 +126,7 @@ keeps_tail a k offset w v apart e =
     let next : Working → Result Working Cause = λ u. after (new_step Text (tail_of u.forest k offset) u) (point u) in
     let on = allowed (splice_fault k offset (length_at w.forest k) w.forest) w v next e in
     let one = first_part (new_step Text (tail_of w.forest k offset) w) (point w) v on in
-    keeps_pointed a k (split_moves k offset w.next_key) w one.0 v (keeps_new a k (tail_of w.forest k offset) w one.0 apart one.1) one.2
+    keeps_pointed a k (split_moves k offset w.next_key) w one.0 v (keeps_new a k Text (tail_of w.forest k offset) w one.0 apart one.1) one.2
 
 keeps_cut : (a k offset : ℕ) (w v : Working) → IsApart a k w → cut_in_two k offset w ≡ Ok v → Keeps a k w v
 unfolding cut_in_two

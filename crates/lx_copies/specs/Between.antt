@@ -1,10 +1,11 @@
 -- What is put in stands between what stood before the place and what stood after it.
-use Rattle.std.specs.Prelude.{ℕ, ◌≡◌, ◌≢◌, ◌++◌, ◌==◌, true, if◌then◌else◌, List, [], ◌∷◌, length, Option, None, Some, Ok}
+use Rattle.std.specs.Prelude.{ℕ, ◌≡◌, ◌≢◌, ◌++◌, ◌==◌, true, false, if◌then◌else◌, List, [], ◌∷◌, length, Option, None, Some, Ok}
 use Rattle.lx_node.specs.Siblings.{first_of, last_of, is_among}
 use Rattle.lx_node.specs.declared.cause.Point.{Point}
 use Rattle.lx_node.specs.declared.cause.PointKind.{PointKind}
 use Rattle.lx_node.specs.declared.cause.PointKind.TheVariants as point
-use Rattle.lx_forest.specs.Lookups.{label_of, children_of, alone}
+use Rattle.lx_forest.specs.Forest.{Forest}
+use Rattle.lx_forest.specs.Lookups.{has, label_of, children_of, alone, is_within}
 use Rattle.lx_draft.specs.Working.{Working}
 use Rattle.lx_draft.specs.Covering.{IsReady}
 use Rattle.lx_caret.specs.Adding.{opened}
@@ -56,8 +57,17 @@ pub record AreAround (block : ℕ) (keys moved : List ℕ) (w v : Working) : Typ
   pub beyond : AreBeyond block (keys ++ key_if tailed.key) tailed.draft put
   pub last : removed_empty block put ≡ Ok v
 
+-- the tree of a key holds neither the block nor what stands in it after the point
+pub record IsOutside (k block : ℕ) (moved : List ℕ) (f : Forest) : Type 0 where
+  pub there : has k f ≡ true
+  pub not_block : is_within f k block ≡ false
+  pub not_moved : (m : ℕ) → is_among m moved ≡ true → is_within f k m ≡ false
+
 -- whatever way nodes are put in, they come between the children before the place and those after it
 pub record PastedStandBetween : Type 0 where
   pub inlines : (p : Point) (keys : List ℕ) (w v : Working) → IsReady w → keys ≢ [] → nodes_added p keys w ≡ Ok v → AreAdded p keys w v
   pub around : (block : ℕ) (keys moved : List ℕ) (w v : Working) → IsReady w → keys ≢ [] → put_around block keys moved w ≡ Ok v → AreAround block keys moved w v
+  -- around a block too the trees are as they were made, also once the block is gone
+  pub trees : (block : ℕ) (keys moved : List ℕ) (w v : Working) → IsReady w → ((k : ℕ) → is_among k keys ≡ true → IsOutside k block moved w.forest) → put_around block keys moved w ≡ Ok v
+      → (k : ℕ) → is_among k keys ≡ true → alone k v.forest ≡ alone k w.forest
   pub beyond : (outer : ℕ) (keys : List ℕ) (w v : Working) → IsReady w → keys ≢ [] → put_beyond outer keys w ≡ Ok v → AreBeyond outer keys w v

@@ -146,6 +146,40 @@ fn a_fork_and_the_store_are_apart(rt: HostRuntime) -> Result<(), Fail> {
     Ok(())
 }
 
+/// The first four keys, or fewer, under which two stores differ.
+fn differences(
+    alloc: Global,
+    ours: &Store<Node>,
+    theirs: &Store<Node>,
+) -> Result<Vec<Key>, NoMemory> {
+    let mut keys = Vec::new(alloc);
+    let mut last = None;
+    for _ in 0..4 {
+        let Some(key) = ours.next_difference(theirs, last) else {
+            return Ok(keys);
+        };
+        keys.push(key)?;
+        last = Some(key);
+    }
+    Ok(keys)
+}
+
+/// Where a store differs from its fork, which was written.
+fn differences_written(alloc: Global) -> Result<Vec<Key>, NoMemory> {
+    let mut count = Copies::new();
+    let store = three(alloc, &mut count)?;
+    let mut fork = store.fork(&mut count)?;
+    fork_written(alloc, &mut fork, &mut count)?;
+    differences(alloc, &store, &fork)
+}
+
+#[test]
+fn a_fork_differs_where_it_was_written(rt: HostRuntime) -> Result<(), Fail> {
+    let keys = differences_written(rt.alloc())?;
+    assert_eq!(rt; keys.as_slice(), [Key(7), Key(33)].as_slice());
+    Ok(())
+}
+
 fn keys_of_three(alloc: Global) -> Result<Vec<Key>, NoMemory> {
     let store = three(alloc, &mut Copies::new())?;
     store.keys()

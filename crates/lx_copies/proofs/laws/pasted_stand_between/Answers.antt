@@ -1,4 +1,4 @@
-use Rattle.lx_copies.proofs.Pasted.{pasted_stand_between}
+use Rattle.lx_copies.proofs.Around.{pasted_stand_between}
 use Rattle.lx_copies.proofs.laws.pasted_stand_between.Goals as goal
 
 pub returns : goal.returns
