@@ -5,6 +5,9 @@ pub mod Covering
 pub mod Gaps
 pub mod Growing
 pub mod Kept
+pub mod Loose
+pub mod Opened
+pub mod Parting
 pub mod Pasted
 pub mod Pastes
 pub mod Placing

@@ -7,12 +7,13 @@ use Rattle.lx_node.proofs.NamedTrees.{count-joined}
 use Rattle.lx_node.specs.declared.cause.Point.{Point}
 use Rattle.lx_forest.specs.Forest.{Forest}
 use Rattle.lx_forest.specs.Lookups.{key_of, has, count, alone, trees_of, is_within}
+use Rattle.lx_forest.proofs.Within.{is_within-self}
 use Rattle.lx_draft.specs.Working.{Working}
 use Rattle.lx_draft.specs.Covering.{IsReady}
 use Rattle.lx_json.specs.Nodes.{Made}
 use Rattle.lx_json.specs.Back.{pieces_of}
 use Rattle.lx_json.proofs.Grown.{keyed-low}
-use Rattle.lx_clip.specs.Pasting.{nodes_added, put_beyond}
+use Rattle.lx_clip.specs.Pasting.{nodes_added, block_opened, put_beyond}
 use Rattle.lx_copies.specs.Copies.{slice_read}
 use Rattle.lx_copies.specs.Pastes.{IsCopied, CopiesArePasted}
 use Rattle.lx_copies.proofs.Growing.{key_low}
@@ -20,6 +21,7 @@ use Rattle.lx_copies.proofs.Apart.{AreMade}
 use Rattle.lx_copies.proofs.ReadBack.{slice_makes, made_by, read_back}
 use Rattle.lx_copies.proofs.Pasted.{inlines_between, beyond_between}
 use Rattle.lx_copies.proofs.Staying.{opened_stays}
+use Rattle.lx_copies.proofs.Opened.{IsUnplaced, opened_trees}
 
 trees_same : (g h : Forest) (ks : List ℕ) → ((k : ℕ) → is_among k ks ≡ true → alone k g ≡ alone k h) → trees_of g ks ≡ trees_of h ks
 trees_same g h [] same = refl
@@ -76,10 +78,30 @@ inlines_pasted c w made p v copied there e =
     let low : p.key < w.next_key = key_low p.key w copied.ready there in
     still_same c w made v copied (added_same made.keys p made.draft v m.covered.ready (λ k among. (m.there k among, old_outside c w made k p.key m low among)) e)
 
+-- what was there before is there, with what was read
+old_there : (c : Forest) (w : Working) (made : Made) (q : ℕ) → AreMade (pieces_of c) w made → IsReady w → has q w.forest ≡ true → has q made.draft.forest ≡ true
+old_there c w made q m ready there = sym (is_within-self made.draft.forest q) ∙ ap (has q) (m.stays q (key_low q w ready there)) ∙ is_within-self w.forest q ∙ there
+
+unplaced : (c : Forest) (w : Working) (made : Made) (block : ℕ) (p : Point) (k : ℕ) → AreMade (pieces_of c) w made → is_within made.draft.forest k block ≡ false → is_within made.draft.forest k p.key ≡ false → is_among k made.keys ≡ true
+    → IsUnplaced k block p made.draft
+unplaced c w made block p k m not_block not_point among = record {
+  loose = record { ready = m.covered.ready; there = m.there k among; top = m.tops k among };
+  not_block = not_block;
+  not_point = not_point;
+}
+
+around_pasted : (c : Forest) (w : Working) (made : Made) (block : ℕ) (p : Point) (v : Working) → IsCopied c w made → has block w.forest ≡ true → has p.key w.forest ≡ true → block_opened block p made.keys made.draft ≡ Ok v
+    → pieces_of (trees_of v.forest made.keys) ≡ pieces_of c
+around_pasted c w made block p v copied block_there point_there e =
+    let m = copied_made c w made copied in
+    let ready = copied.ready in
+    still_same c w made v copied (opened_trees block p made.keys made.draft v (old_there c w made p.key m ready point_there)
+    (λ k among. unplaced c w made block p k m (old_outside c w made k block m (key_low block w ready block_there) among) (old_outside c w made k p.key m (key_low p.key w ready point_there) among) among) e)
+
 blocks_pasted : (c : Forest) (w : Working) (made : Made) (outer : ℕ) (v : Working) → IsCopied c w made → put_beyond outer made.keys made.draft ≡ Ok v → pieces_of (trees_of v.forest made.keys) ≡ pieces_of c
 blocks_pasted c w made outer v copied e =
     let m = copied_made c w made copied in
     still_same c w made v copied (beyond_same made.keys outer made.draft v m.covered.ready e)
 
 pub copies_are_pasted : CopiesArePasted
-copies_are_pasted = record { inlines = inlines_pasted; beyond = blocks_pasted }
+copies_are_pasted = record { inlines = inlines_pasted; around = around_pasted; beyond = blocks_pasted }
