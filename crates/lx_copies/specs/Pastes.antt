@@ -1,15 +1,18 @@
 -- What is copied stands pasted: in the end the nodes of a slice have the trees that were covered.
-use Rattle.std.specs.Prelude.{ℕ, ◌≡◌, true, Some, Ok}
+use Rattle.std.specs.Prelude.{ℕ, ◌≡◌, true, List, Some, Ok}
+use Rattle.lx_node.specs.Kinds.{may_hold}
 use Rattle.lx_node.specs.declared.cause.Point.{Point}
 use Rattle.lx_select.specs.declared.selection.Selection.{Selection}
 use Rattle.lx_forest.specs.Forest.{Forest}
-use Rattle.lx_forest.specs.Lookups.{has, trees_of}
+use Rattle.lx_forest.specs.Lookups.{has, trees_of, IsHeld}
 use Rattle.lx_draft.specs.Working.{Working}
 use Rattle.lx_draft.specs.Covering.{IsReady}
 use Rattle.lx_json.specs.Back.{pieces_of}
 use Rattle.lx_json.specs.Nodes.{Made}
-use Rattle.lx_clip.specs.Slices.{sliced}
-use Rattle.lx_clip.specs.Pasting.{nodes_added, block_opened, put_beyond}
+use Rattle.lx_caret.specs.Lying.{EachPoint, TextsAreShort}
+use Rattle.lx_caret.specs.Removing.{remove_text_step}
+use Rattle.lx_clip.specs.Slices.{sliced, slice_data}
+use Rattle.lx_clip.specs.Pasting.{nodes_added, block_opened, put_beyond, insert_step, json_of, paste_step}
 use Rattle.lx_copies.specs.Copies.{IsKept, slice_read}
 
 -- a slice of what a selection covers of a tree, which a draft read
@@ -20,6 +23,18 @@ pub record IsCopied (c : Forest) (w : Working) (made : Made) : Type 0 where
   pub covered : sliced tree selection ≡ Some c
   pub ready : IsReady w
   pub read : slice_read c w ≡ Ok made
+
+-- a slice of these trees was read and put in: in the end the nodes that were made for it have the trees, but for their keys
+pub record IsInserted (c : Forest) (w v : Working) : Type 0 where
+  pub made : Made
+  pub read : slice_read c w ≡ Ok made
+  pub same : pieces_of (trees_of v.forest made.keys) ≡ pieces_of c
+
+-- the same after what was selected was removed
+pub record IsPasted (c : Forest) (w v : Working) : Type 0 where
+  pub removed : Working
+  pub first : remove_text_step w ≡ Ok removed
+  pub inserted : IsInserted c removed v
 
 -- after nodes of a slice were put in, they have the trees that were covered, but for their keys
 pub record CopiesArePasted : Type 0 where
@@ -32,3 +47,8 @@ pub record CopiesArePasted : Type 0 where
   -- after a node
   pub beyond : (c : Forest) (w : Working) (made : Made) (outer : ℕ) (v : Working) → IsCopied c w made → put_beyond outer made.keys made.draft ≡ Ok v
       → pieces_of (trees_of v.forest made.keys) ≡ pieces_of c
+  -- in any of these ways: where the selection is at nodes of the draft, whatever is selected
+  pub inserted : (f : Forest) (s : Selection) (c : Forest) (w v : Working) → IsKept f → sliced f s ≡ Some c → IsReady w → EachPoint (λ p. has p.key w.forest ≡ true) w.selection → insert_step (slice_data c) w ≡ Ok v → IsInserted c w v
+  -- from a text that is the JSON of the slice, in place of what is selected
+  pub pasted : (f : Forest) (s : Selection) (c : Forest) (text : List ℕ) (w v : Working) → IsKept f → sliced f s ≡ Some c → json_of text ≡ Ok (slice_data c) → IsReady w → IsHeld may_hold w.forest → TextsAreShort w → paste_step text w ≡ Ok v
+      → IsPasted c w v
