@@ -1,19 +1,23 @@
 -- What nodes that are read make where they stand below nothing: the trees that are described.
-use Rattle.std.proofs.Common.{◌≡◌, ◌∙◌, ◌+◌, ◌<◌, ℕ, Bool, true, false, cond, eqb, ◌||◌, [], ◌∷◌, None, Some, Result, Ok, refl, ap, sym, subst, arith, if◌then◌else◌}
+use Rattle.std.proofs.Common.{◌≡◌, ◌∙◌, ◌+◌, ◌<◌, ℕ, Bool, true, false, cond, eqb, ◌||◌, [], ◌∷◌, Option, None, Some, Result, Ok, refl, ap, sym, subst, arith, if◌then◌else◌}
+use Rattle.std.specs.Option.{option_or}
 use Rattle.std.proofs.lemmas.Bool.Decides.{eqb_tells, nat_tests}
 use Rattle.serde_json.specs.Data.{Data, null, boolean, number, string, array, object, Items, no_items, item}
 use Rattle.lx_node.specs.Trees.{Trees, nil, tree, joined}
 use Rattle.lx_node.specs.NamedTrees.{total}
 use Rattle.lx_node.specs.Siblings.{is_among}
+use Rattle.lx_node.specs.Spots.{Spot, parent_at}
 use Rattle.lx_node.specs.Kinds.{is_element}
 use Rattle.lx_node.proofs.NamedTrees.{put_below-absent}
+use Rattle.lx_node.proofs.Spots.{spot_below-absent}
 use Rattle.lx_node.specs.declared.kind.Kind.{Kind}
 use Rattle.lx_node.specs.declared.cause.Cause.{Cause}
 use Rattle.lx_rooted.specs.Edits as rooted
 use Rattle.lx_forest.specs.Forest.{Forest, Label}
-use Rattle.lx_forest.specs.Lookups.{key_of, has, count, alone, kind_of}
+use Rattle.lx_forest.specs.Lookups.{key_of, has, count, alone, spot, kind_of, parent_of}
 use Rattle.lx_forest.specs.Lookups as lookups
 use Rattle.lx_forest.specs.Edits.{with_new, last_below, among_roots}
+use Rattle.lx_forest.proofs.Edits.{spot-among_roots}
 use Rattle.lx_forest.proofs.Within.{alone-among_roots_inside, alone-among_roots_outside, is_within-self}
 use Rattle.lx_draft.specs.Working.{Working}
 use Rattle.lx_draft.specs.Faults.{after}
@@ -86,12 +90,14 @@ node_comes (array ds) above trees w e fit ready = absurd (cc)
 
 -- ---- one after another
 
--- These trees were made, with the new nodes of these keys on top. What there was before is as it was.
+-- These trees were made, with the new nodes of these keys on top and below nothing. What there was before is as it was.
 pub record AreMade (trees : Trees Piece) (w : Working) (made : Made) : Type 0 where
   pub are : lookups.trees_of made.draft.forest made.keys ≡ keyed w.next_key trees
   pub next : made.draft.next_key ≡ w.next_key + total trees
   pub stays : (q : ℕ) → q < w.next_key → alone q made.draft.forest ≡ alone q w.forest
+  pub parents : (q : ℕ) → q < w.next_key → parent_of made.draft.forest q ≡ parent_of w.forest q
   pub there : (k : ℕ) → is_among k made.keys ≡ true → has k made.draft.forest ≡ true
+  pub tops : (k : ℕ) → is_among k made.keys ≡ true → parent_of made.draft.forest k ≡ None
   pub covered : AreCovered w made.draft
 
 comes-own : (piece : Piece) (below : Trees Piece) (w v : Working) → IsReady w → Comes (tree piece below nil) w v → alone w.next_key v.forest ≡ keyed w.next_key (tree piece below nil)
@@ -104,6 +110,26 @@ comes-own piece below w v ready a =
 comes-stays : (trees : Trees Piece) (w v : Working) (q : ℕ) → Comes trees w v → q < w.next_key → alone q v.forest ≡ alone q w.forest
 comes-stays trees w v q a low =
     ap (alone q) a.forest ∙ alone-among_roots_outside q w.next_key (keyed w.next_key trees) w.forest (keyed-low w.next_key q trees low)
+
+comes-parents : (trees : Trees Piece) (w v : Working) (q : ℕ) → IsReady w → Comes trees w v → q < w.next_key → parent_of v.forest q ≡ parent_of w.forest q
+comes-parents trees w v q ready a low =
+    let new : Forest = keyed w.next_key trees in
+    let none : count q new ≡ 0 = keyed-low w.next_key q trees low in
+    ap (λ f. parent_of f q) a.forest
+    ∙ ap parent_at (spot-among_roots w.next_key new w.forest q (omega (arith, none, ready.in_order.once q)))
+    ∙ ap (λ s. parent_at (option_or s (spot w.forest q))) (spot_below-absent key_of None new q none)
+
+comes-top : (piece : Piece) (below : Trees Piece) (w v : Working) → IsReady w → Comes (tree piece below nil) w v → parent_of v.forest w.next_key ≡ None
+comes-top piece below w v ready a =
+    let n : ℕ = w.next_key in
+    let new : Forest = keyed n (tree piece below nil) in
+    let free : count n w.forest ≡ 0 = grind (arith, nat_tests, next_free w ready) in
+    let under : count n (keyed (n + 1) below) ≡ 0 = keyed-low (n + 1) n below (omega arith) in
+    let once : count n new + count n w.forest < 2 = grind (arith, free, under, eqb_tells n n) in
+    ap (λ f. parent_of f n) a.forest ∙ ap parent_at (spot-among_roots n new w.forest n once) ∙ first_top n piece (keyed (n + 1) below) (spot w.forest n)
+  where
+    first_top : (n : ℕ) (piece : Piece) (below : Forest) (s : Option (Spot Label)) → parent_at (option_or (spot (tree (label_for n piece) below nil) n) s) ≡ None
+    first_top n piece below s = rw (own_key n) refl
 
 first_there : (n : ℕ) (piece : Piece) (below : Forest) → has n (tree (label_for n piece) below nil) ≡ true
 first_there n piece below = grind (arith, nat_tests, eqb_tells n n)
@@ -127,7 +153,9 @@ made_then piece below rest w v made ready a b =
           ∙ ap (joined (keyed n (tree piece below nil))) (b.are ∙ ap (λ m. keyed m rest) next);
       next = omega (arith, next, b.next);
       stays = λ q low. b.stays q (omega (arith, low, next)) ∙ comes-stays (tree piece below nil) w v q a low;
+      parents = λ q low. b.parents q (omega (arith, low, next)) ∙ comes-parents (tree piece below nil) w v q ready a low;
       there = λ k among. either k (eqb n k) refl among;
+      tops = λ k among. top k (eqb n k) refl among;
       covered = covered-then w v made.draft a.covered b.covered;
     }
   where
@@ -135,11 +163,17 @@ made_then piece below rest w v made ready a b =
     either k true is among = subst (λ q. has q made.draft.forest ≡ true) (same_key w.next_key k is) (made_there piece below rest w v made ready a b)
     either k false is among = b.there k (ap (λ t. t || is_among k made.keys) (sym is) ∙ among)
 
+    top : (k : ℕ) (t : Bool) → eqb w.next_key k ≡ t → is_among k (w.next_key ∷ made.keys) ≡ true → parent_of made.draft.forest k ≡ None
+    top k true is among =
+        subst (λ q. parent_of made.draft.forest q ≡ None) (same_key w.next_key k is)
+        (b.parents w.next_key (omega (arith, a.next)) ∙ comes-top piece below w v ready a)
+    top k false is among = b.tops k (ap (λ t. t || is_among k made.keys) (sym is) ∙ among)
+
 pub nodes_make : (ds : Items) (i j : ℕ) (kind : Kind) (t : Trees Piece) (w : Working) → trees_of ds j kind ≡ Ok t → AreFit kind t → IsReady w → Makes (AreMade t w) (nodes_made ds i kind w)
 unfolding nodes_made trees_of
 nodes_make no_items i j kind t w e fit ready =
     subst (λ t. AreMade t w (record { draft = w; keys = [] })) (let same : nil ≡ t = cc in same)
-    (record { are = refl; next = omega arith; stays = λ q low. refl; there = λ k among. absurd (cc); covered = covered-self w ready })
+    (record { are = refl; next = omega arith; stays = λ q low. refl; parents = λ q low. refl; there = λ k among. absurd (cc); tops = λ k among. absurd (cc); covered = covered-self w ready })
 nodes_make (item d ds) i j kind t w e fit ready =
     let parts = parted (child_place j) (tree_of d (Some kind)) (trees_of ds (j + 1) kind) t (lone_node d kind) e in
     let one : Trees Piece = tree parts.piece parts.below nil in

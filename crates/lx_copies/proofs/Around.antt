@@ -58,7 +58,7 @@ keeps_moved a n m w v apart out e =
 same_ok : (a b : Working) → ◌≡◌ {A = Result Working Cause} (Ok a) (Ok b) → a ≡ b
 same_ok a b e = cc
 
-keeps_all : (ms : List ℕ) (a n : ℕ) (w v : Working) → IsApart a n w → ((m : ℕ) → is_among m ms ≡ true → is_within w.forest a m ≡ false) → in_turn (moved_to_end n) ms w ≡ Ok v → Keeps a n w v
+pub keeps_all : (ms : List ℕ) (a n : ℕ) (w v : Working) → IsApart a n w → ((m : ℕ) → is_among m ms ≡ true → is_within w.forest a m ≡ false) → in_turn (moved_to_end n) ms w ≡ Ok v → Keeps a n w v
 unfolding in_turn
 keeps_all [] a n w v apart out e = subst (Keeps a n w) (same_ok w v e) (record { same = refl; apart = apart })
 keeps_all (m ∷ ms) a n w v apart out e =
@@ -75,12 +75,12 @@ keeps_all (m ∷ ms) a n w v apart out e =
 -- ---- the new block
 
 -- a key that isn't there is in no tree
-nowhere : (f : Forest) (a n : ℕ) → has n f ≡ false → is_within f a n ≡ false
+pub nowhere : (f : Forest) (a n : ℕ) → has n f ≡ false → is_within f a n ≡ false
 nowhere f a n free = ap (λ m. ltb 0 m) (none (none_of n f free)) where
   none : count n f ≡ 0 → count n (alone a f) ≡ 0
   none all = omega (arith, all, count-without-alone key_of n a f)
 
-keeps_like : (a : ℕ) (l : Option Label) (w v : Working) → IsApart a w.next_key w → new_like l w ≡ Ok v → Keeps a w.next_key w v
+pub keeps_like : (a : ℕ) (l : Option Label) (w v : Working) → IsApart a w.next_key w → new_like l w ≡ Ok v → Keeps a w.next_key w v
 keeps_like a None w v apart e = subst (Keeps a w.next_key w) (same_ok w v e) (record { same = refl; apart = apart })
 keeps_like a (Some l) w v apart e = keeps_new a w.next_key l.kind l.fields w v apart e
 
@@ -132,16 +132,18 @@ removed_keeps (p ∷ above) a x w v h out e =
     goes_on true u v later e = later e
     goes_on false u v later e = ap (λ (x : Working). alone a x.forest) (sym (same_ok u v e))
 
+-- what is above a node outside a tree is outside it too
+pub above_out : (a q k : ℕ) (f : Forest) → IsForest f → has k f ≡ true → is_within f a k ≡ false → is_among q (k ∷ ancestors f k) ≡ true → is_within f a q ≡ false
+above_out a q k f h there out among = by_place (is_within f a q) refl where
+  by_place : (b : Bool) → is_within f a q ≡ b → is_within f a q ≡ false
+  by_place false is = is
+  by_place true is = absurd (let two : true ≡ false = sym (is_within-trans f a q k h is (is_within-ancestors f q k h there ∙ among)) ∙ out in cc)
+
 empty_keeps : (a block : ℕ) (w v : Working) → IsForest w.forest → has block w.forest ≡ true → is_within w.forest a block ≡ false → removed_empty block w ≡ Ok v → alone a v.forest ≡ alone a w.forest
 unfolding removed_empty remove_step
 empty_keeps a block w v h there out e = by_size (eqb (size_of w.forest block) 0) e where
-  not_above : (q : ℕ) → is_among q (block ∷ ancestors w.forest block) ≡ true → (b : Bool) → is_within w.forest a q ≡ b → is_within w.forest a q ≡ false
-  not_above q among false is = is
-  not_above q among true is =
-      absurd (let two : true ≡ false = sym (is_within-trans w.forest a q block h is (is_within-ancestors w.forest q block h there ∙ among)) ∙ out in cc)
-
   by_size : (b : Bool) → cond b (removed block (ancestors w.forest block) w) (Ok w) ≡ Ok v → alone a v.forest ≡ alone a w.forest
-  by_size true e = removed_keeps (ancestors w.forest block) a block w v h (λ q among. not_above q among (is_within w.forest a q) refl) e
+  by_size true e = removed_keeps (ancestors w.forest block) a block w v h (λ q among. above_out a q block w.forest h there out among) e
   by_size false e = ap (λ (x : Working). alone a x.forest) (sym (same_ok w v e))
 
 -- ---- all of it

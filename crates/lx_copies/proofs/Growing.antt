@@ -100,7 +100,7 @@ pub record Grows (p : ℕ) (trees : Trees Piece) (w v : Working) : Type 0 where
   pub next : v.next_key ≡ w.next_key + total trees
   pub covered : AreCovered w v
 
-has-kind : (f : Forest) (p : ℕ) (kind : Kind) → kind_of f p ≡ Some kind → has p f ≡ true
+pub has-kind : (f : Forest) (p : ℕ) (kind : Kind) → kind_of f p ≡ Some kind → has p f ≡ true
 has-kind f p kind is = grind (arith, is, is_some-spot f p)
 
 pub key_low : (q : ℕ) (w : Working) → IsReady w → has q w.forest ≡ true → q < w.next_key

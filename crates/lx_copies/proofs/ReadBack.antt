@@ -39,7 +39,7 @@ read_back c w made ready m = record {
   stays = λ q there. m.stays q (key_low q w ready there);
 }
 
-inserts : (c : Forest) (w : Working) → insert_step (slice_data c) w ≡ after (slice_read c w) (λ made. placed (begins_inline (trees_data c)) made.keys made.draft)
+pub inserts : (c : Forest) (w : Working) → insert_step (slice_data c) w ≡ after (slice_read c w) (λ made. placed (begins_inline (trees_data c)) made.keys made.draft)
 unfolding insert_step
 inserts c w = refl
 

@@ -97,7 +97,7 @@ keeps_splice a k from to new w v apart e =
     keeps a k w v apart (covered-splice k from to new w v apart.ready e).ready
     (ap (alone a) forest ∙ alone-with_fields k x w.forest a ∙ written_apart k x (alone a w.forest) (none_of k (alone a w.forest) apart.out))
 
-keeps_behind : (a k n : ℕ) (w v : Working) → IsApart a k w → put_behind_step n k w ≡ Ok v → Keeps a k w v
+pub keeps_behind : (a k n : ℕ) (w v : Working) → IsApart a k w → put_behind_step n k w ≡ Ok v → Keeps a k w v
 keeps_behind a k n w v apart e =
     let s = behind_stands n k w v e in
     let came = put_behind_came n s.parent k s.before s.behind w v apart.ready s.are e in
@@ -139,7 +139,7 @@ keeps_cut a k offset w v apart e =
     let z = keeps_behind a k w.next_key two.0 v y.apart two.2 in
     keeps_then a k w one.0 v x (keeps_then a k one.0 two.0 v y z)
 
-keeps_split : (a k offset : ℕ) (w v : Working) → IsApart a k w → split_step k (offset ∷ []) w ≡ Ok v → Keeps a k w v
+pub keeps_split : (a k offset : ℕ) (w v : Working) → IsApart a k w → split_step k (offset ∷ []) w ≡ Ok v → Keeps a k w v
 unfolding split_step
 keeps_split a k offset w v apart e =
     let on : cut_at k 0 (offset ∷ []) w ≡ Ok v = allowed (split_fault k (offset ∷ []) w.forest) w v (cut_at k 0 (offset ∷ [])) e in

@@ -16,8 +16,9 @@ pub fn pasted_stand_between()
     ensures { PastedStandBetween }
 {}
 
-/// A slice of a document that was put in at a point or after a node has the trees that the selection covered, also where a text
-/// was split for it. This function does nothing, and its contract is these laws.
+/// A slice of a document that is inserted or pasted has in the end the trees that the selection covered, whichever way it goes:
+/// at a point, between the parts of a block or after a node, also where a text or a link was split for it. This function does
+/// nothing, and its contract is these laws.
 pub fn copies_are_pasted()
     ensures { CopiesArePasted }
 {}

@@ -1,4 +1,4 @@
-use Rattle.lx_copies.proofs.Pastes.{copies_are_pasted}
+use Rattle.lx_copies.proofs.Inserts.{copies_are_pasted}
 use Rattle.lx_copies.proofs.laws.copies_are_pasted.Goals as goal
 
 pub returns : goal.returns
