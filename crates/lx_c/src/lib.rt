@@ -12,8 +12,8 @@ use lx_cli::Status;
 use session::run_session;
 use std::alloc::Global;
 
-/// Answers a session as the program does that has no words: the input is lines, and the output begins with their replies, of
-/// `written` bytes. What stands behind them in the output stays. The number is that of the status with which the run ended:
+/// Answers a session as the program does without arguments: the input is lines, and the output begins with their replies, of
+/// `written` bytes. What comes after them in the output stays. The number is that of the status with which the run ended:
 /// 0 where all is answered, 4 where the output has no room for all replies, 5 where memory was wanting, and 6 where the input
 /// has more than 16,777,216 bytes. Each call begins with a new editor. It takes memory for a copy of the input and for as
 /// many bytes as the output has.

@@ -6,7 +6,7 @@ use lx_io::{MemorySink, MemorySource};
 use lx_node::NoMemory;
 use std::alloc::Global;
 
-/// Runs the program without words over a copy of the input, with room for so many bytes of replies: how it ended, and the sink
+/// Runs the program without arguments over a copy of the input, with room for so many bytes of replies: how it ended, and the sink
 /// that has them.
 #[tactic(auto, using(crate::proofs::Sessions::has_run))]
 pub(crate) fn run_session(

@@ -44,7 +44,7 @@ pub(crate) fn last_batch(alloc: Global, editor: &Editor) -> Result<String> {
     }
 }
 
-/// What is selected, as the reply to a line tells it.
+/// What is selected, as the reply to a line shows it.
 pub(crate) fn show(alloc: Global, editor: &Editor) -> Result<String> {
     text(alloc, editor.show(alloc, Shown::Selection)?)
 }

@@ -1,4 +1,4 @@
-//! Calls that may commit. Each stands in a function of its own, which asks first whether there is a number for a commit:
+//! Calls that may commit. Each is in a function of its own, which asks first whether there is a number for a commit:
 //! what it means is in the contract of the call.
 
 ghost use Rattle.std.specs.Prelude.{◌<◌, OnOk};
@@ -36,7 +36,7 @@ fn dispatch(alloc: Global, editor: &mut Editor, name: &str, payload: &str) -> Re
     Ok(format!(in alloc; "{handled} {outcome:?}")?)
 }
 
-/// The place behind `Hello`, whose text has the key 2.
+/// The place after `Hello`, whose text has the key 2.
 fn behind_text() -> PointRef {
     PointRef {
         node: Reference::Key(Key(2)),
@@ -45,7 +45,7 @@ fn behind_text() -> PointRef {
     }
 }
 
-/// Puts the caret behind the text, as a click does.
+/// Puts the caret after the text, as a click does.
 pub(crate) fn click(alloc: Global, editor: &mut Editor) -> Result<String> {
     room(editor)?;
     let caret = SelectionRef::Range {
@@ -90,7 +90,7 @@ pub(crate) fn remove_missing(alloc: Global, editor: &mut Editor) -> Result<Strin
     told(alloc, &outcome)
 }
 
-/// Loads a document in the place of what is committed.
+/// Loads a document in place of what is committed.
 pub(crate) fn load(alloc: Global, editor: &mut Editor) -> Result<String> {
     room(editor)?;
     let document = serde_json::from_str(alloc, DOCUMENT)?;

@@ -9,7 +9,7 @@ use lx_node::{Key, PointKind};
 use lx_step::{PointRef, Reference, SelectionRef, Step, Tags};
 use std::alloc::Global;
 
-/// So many elements of a type one behind another, each with the same children.
+/// So many elements of a type one after another, each with the same children.
 fn repeated(alloc: Global, count: usize, name: &str, children: &str) -> Result<String> {
     let element = format!(in alloc; r#"{{"type":"{name}","children":[{children}]}}"#)?;
     let mut text = String::from_str(alloc, element.as_str())?;
@@ -20,7 +20,7 @@ fn repeated(alloc: Global, count: usize, name: &str, children: &str) -> Result<S
     Ok(text)
 }
 
-/// 80 quotes of 80 paragraphs, in each of which stands one text.
+/// 80 quotes of 80 paragraphs, each with one text.
 fn document(alloc: Global) -> Result<String> {
     let paragraphs = repeated(alloc, 80, "paragraph", r#"{"type":"text","text":"one"}"#)?;
     let quotes = repeated(alloc, 80, "quote", paragraphs.as_str())?;

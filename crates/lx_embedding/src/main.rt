@@ -1,5 +1,5 @@
 //! Uses the editor as a library, as a program does that embeds it: each call of `Editor`, and `line` through `answer_line`.
-//! Nothing is read, and each line of standard output tells what one call answered.
+//! Nothing is read, and each line of standard output says what one call answered.
 #![tactic(auto)]
 
 mod asking;
@@ -18,7 +18,7 @@ fn main(rt: HostRuntime) -> Result<()> {
     tell_all(rt.alloc(), &mut rt.stdout())
 }
 
-/// Makes each call in turn, and tells what it answered.
+/// Makes each call in turn, and says what it answered.
 fn tell_all<W: Write>(alloc: Global, out: &mut W) -> Result<()> {
     let mut editor = begin::begin(alloc)?;
     tell(out, "click", editing::click(alloc, &mut editor)?)?;
@@ -45,7 +45,7 @@ fn tell_all<W: Write>(alloc: Global, out: &mut W) -> Result<()> {
 }
 
 /// Makes the calls of updates that wait: two that are flushed, one that an undo drops, one that a refused update drops, and one
-/// that a line flushes, which tells what it changed.
+/// that a line flushes, which says what it changed.
 fn tell_waiting<W: Write>(alloc: Global, editor: &mut Editor, out: &mut W) -> Result<()> {
     tell(out, "defer", waiting::defer(alloc, editor, "Tomorrow")?)?;
     tell(out, "defer", waiting::defer(alloc, editor, "Today")?)?;

@@ -9,7 +9,7 @@ use lx_step::{
 };
 use std::alloc::Global;
 
-/// Behind a heading that comes last stands a paragraph.
+/// After a heading that comes last there is a paragraph.
 fn paragraph_behind_headings(alloc: Global) -> Result<Rule, NoMemory> {
     let paragraph = NewNode {
         kind: Kind::Paragraph,

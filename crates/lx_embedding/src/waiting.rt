@@ -21,7 +21,7 @@ pub(crate) fn flush(alloc: Global, editor: &mut Editor) -> Result<String> {
     told(alloc, &outcome)
 }
 
-/// Commits what waits by a line, and tells what that changed: how many nodes there were and are, and by how many operations.
+/// Commits what waits by a line, and says what that changed: how many nodes there were and are, and by how many operations.
 pub(crate) fn flush_by_line(alloc: Global, editor: &mut Editor) -> Result<String> {
     room(editor)?;
     let line = Line {

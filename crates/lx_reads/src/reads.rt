@@ -14,7 +14,7 @@ use lx_reconcile::{fresh, operations};
 use lx_select::Selection;
 use std::alloc::Global;
 
-/// Puts a new node behind the children of another. Its key is the number of nodes before.
+/// Puts a new node after the children of another. Its key is the number of nodes before.
 fn add(links: &mut Links, kind: Kind, fields: Fields, parent: Key) -> Result<Key, Fault>
     requires other { kind ≢ Root }
     requires of_kind { IsOfKind kind fields }
@@ -29,7 +29,7 @@ fn add(links: &mut Links, kind: Kind, fields: Fields, parent: Key) -> Result<Key
     Ok(key)
 }
 
-/// Adds a quote of 80 paragraphs, in each of which stands one text.
+/// Adds a quote of 80 paragraphs, each with one text.
 #[tactic(auto, using(lx_run::proofs::Composed::element_suits, lx_run::proofs::Composed::text_suits, crate::proofs::LargeTrees::quote_suits))]
 fn add_quote(alloc: Global, links: &mut Links) -> Result<(), Fault> {
     let quote = add(

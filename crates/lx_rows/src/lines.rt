@@ -10,7 +10,7 @@ const TEXT: &[u8] = b"{\"type\":\"text\",\"text\":\"one of many texts, \"}";
 /// A paragraph of a document.
 const PARAGRAPH: &[u8] = b"{\"type\":\"paragraph\"}";
 
-/// What is stored of a session: its words, its input, and whether its last reply alone comes out.
+/// What is stored of a session: its arguments, its input, and whether its last reply alone comes out.
 #[derive(Drop)]
 pub(crate) struct Session {
     pub(crate) words: Vec<String>,
@@ -19,7 +19,7 @@ pub(crate) struct Session {
 }
 
 impl Session {
-    /// No words, and no input.
+    /// No arguments, and no input.
     pub(crate) fn new(alloc: Global) -> Session {
         Session {
             words: Vec::new(alloc),
@@ -45,7 +45,7 @@ impl Session {
     }
 }
 
-/// Adds words of the command line, between which spaces stand.
+/// Adds arguments of the command line, with spaces between them.
 fn add_words(alloc: Global, words: &mut Vec<String>, text: &str) -> Result<()> {
     for word in text.split(' ') {
         words.push(String::from_str(alloc, word)?)?;

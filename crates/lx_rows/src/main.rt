@@ -1,6 +1,6 @@
 //! Replays stored sessions, each on a new editor, as the program `lexical` answers them. So one stored run shows many replies.
 //!
-//! Standard input holds the sessions one behind another. A line `=== NAME` begins each, and comes out again before its
+//! Standard input holds the sessions one after another. A line `=== NAME` begins each, and comes out again before its
 //! replies. A line that is too long to be stored, or has no end, is made of one that stands for it:
 //!
 //! - `*** steps COUNT STEP`: an update with the step so many times,
@@ -14,8 +14,8 @@
 //! - `*** long COUNT`: a load of one text of so many letters,
 //! - `*** unended LINE`: the line without its end, at the end of a session.
 //!
-//! A line `*** words WORD WORD` gives the session words of the command line. A line `*** last` says that of its replies
-//! the last alone comes out. Where a session isn't done, what is said of that comes out behind its replies.
+//! A line `*** words WORD WORD` gives the session arguments of the command line. A line `*** last` says that of its replies
+//! the last alone comes out. Where a session isn't done, what is said of that comes out after its replies.
 //!
 //! Of a reply of more than 4,096 bytes the first 60 come out, and then its number of bytes.
 #![tactic(auto)]

@@ -41,7 +41,7 @@ impl Session {
         })
     }
 
-    /// Does what a line asks for, and tells it in a line without its end.
+    /// Does what a line asks for, and answers a line without its end that says so.
     pub(crate) fn answer(&mut self, alloc: Global, line: &[u8]) -> Result<Vec<u8>> {
         match read_line(alloc, line, &mut self.room) {
             Ok(line) => self.line(alloc, line),

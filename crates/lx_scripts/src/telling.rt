@@ -10,7 +10,7 @@ use lx_reconcile::fresh;
 use lx_script::{Reply, write_reply};
 use std::alloc::Global;
 
-/// The line that tells what an update left.
+/// The line that says what an update left.
 pub(crate) fn tell(alloc: Global, frozen: &Frozen) -> Result<Vec<u8>> {
     let mut words = String::new(alloc);
     let html = fresh(alloc, &frozen.state)?.print_html()?;
@@ -36,7 +36,7 @@ fn tell_keys(links: &Links, words: &mut String) -> Result<()> {
     Ok(())
 }
 
-/// The key behind this one in preorder.
+/// The key after this one in preorder.
 fn behind(links: &Links, key: Key) -> Option<Key> {
     let depth = links.depth(key)?;
     let (next, _) = links.next_in_tree(key, depth)?;

@@ -46,7 +46,7 @@ fn told_round(alloc: Global, round: &Round) -> Result<String, Fail> {
     }
 }
 
-/// Takes a round of a draft, and tells it behind what was told.
+/// Takes a round of a draft, and adds what it was to the text.
 fn push_round(alloc: Global, draft: &mut Draft, told: &mut String) -> Result<(), Fail> {
     let round = draft.take_round()?;
     let text = told_round(alloc, &round)?;
@@ -90,7 +90,7 @@ fn mark(draft: &mut Draft, counts: bool) -> Result<(), Fault> {
     }
 }
 
-/// The round behind such a mark, and whether it was counted.
+/// The round after such a mark, and whether it was counted.
 fn told_mark(alloc: Global, draft: &mut Draft, counts: bool) -> Result<String, Fail> {
     let mut told = String::new(alloc);
     fill(alloc, draft)?;
@@ -152,7 +152,7 @@ fn chosen(from: u32, to: u32) -> Selection {
     }
 }
 
-/// Where the points of a range are behind a rule.
+/// Where the points of a range are after a rule.
 fn told_points(alloc: Global, draft: &mut Draft) -> Result<String, Fail> {
     fill(alloc, draft)?;
     draft.select(chosen(1, 4))?;
@@ -181,7 +181,7 @@ fn points_move_by_a_rule(rt: HostRuntime) -> Result<(), Fail> {
     Ok(())
 }
 
-/// What stands on either side of the first paragraph, 1, once the second one, 3, which was put before it, has gone behind it.
+/// What is on either side of the first paragraph, 1, once the second one, 3, which was put before it, has gone after it.
 fn told_neighbours(alloc: Global, draft: &mut Draft) -> Result<String, Fail> {
     fill(alloc, draft)?;
     fill(alloc, draft)?;

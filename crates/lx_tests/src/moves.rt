@@ -121,7 +121,7 @@ fn the_cursor_comes_to_the_end(rt: HostRuntime) -> Result<(), Fail> {
     Ok(())
 }
 
-/// Two that are new stand behind the last child, and one that leaves does after they are reached.
+/// Two that are new come after the last child, and one that leaves does after they are reached.
 #[test]
 fn what_is_left_of_either_list_comes_last(rt: HostRuntime) -> Result<(), Fail> {
     let more = walked(

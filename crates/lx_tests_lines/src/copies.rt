@@ -40,7 +40,7 @@ const LISTENER: &str = r#"{"listener":{"on":"k","priority":3,"handled":true,
         {"later":[{"append":"c"},{"later":[{"mark":1}]}]}
     ]}}"#;
 
-/// Whether a copy of the listener is told as the listener is.
+/// Whether a copy of the listener is shown as the listener is.
 fn is_copied(alloc: Global, listener: &Listener) -> Result<bool, NoMemory> {
     let copy = listener.copy(alloc)?;
     let told = format!(in alloc; "{listener:?}")?;

@@ -11,7 +11,7 @@ struct Outcome {
     sink: MemorySink,
 }
 
-/// Runs over this input without words. A read gives at most `length` bytes and a write takes at most as many, and
+/// Runs over this input without arguments. A read gives at most `length` bytes and a write takes at most as many, and
 /// those with the numbers in `failing_reads` and `failing_writes` fail.
 fn ran(
     alloc: Global,
@@ -67,7 +67,7 @@ fn line_ends(text: &[u8]) -> usize {
     text.iter().filter(|byte| **byte == b'\n').count()
 }
 
-/// Five paragraphs, the first of which goes behind the others.
+/// Five paragraphs, the first of which goes after the others.
 const MOVED: &[u8] =
     br#"{"update":[{"append":"a"},{"append":"b"},{"append":"c"},{"append":"d"},{"append":"e"}]}
 {"update":[{"put":1,"into":0}]}
@@ -145,7 +145,7 @@ fn the_first_failure_decides(rt: HostRuntime) -> Result<(), Fail> {
     }
     Ok(())
 }
-/// So many spaces, and a line behind them that has no end.
+/// So many spaces, and a line after them that has no end.
 fn indented(alloc: Global, spaces: usize) -> Result<Vec<u8>, NoMemory> {
     let mut input = vec![in alloc; b' '; spaces]?;
     input.extend_from_slice(b"{}")?;
@@ -168,7 +168,7 @@ fn reads_no_more_than_the_limit(rt: HostRuntime) -> Result<(), Fail> {
     Ok(())
 }
 
-/// Runs with these words over `TWICE`.
+/// Runs with these arguments over `TWICE`.
 fn ran_with(alloc: Global, words: &[&str]) -> Result<Outcome, NoMemory> {
     let mut source = MemorySource::new(TWICE.to_vec(alloc)?, 4096, Vec::new(alloc));
     let mut sink = MemorySink::new(alloc, 4096, 4096, Vec::new(alloc))?;
