@@ -36,7 +36,7 @@ use Rattle.lx_draft.proofs.Put.{both_none}
 use Rattle.lx_edit.specs.Edits.{text_point, element_point}
 use Rattle.lx_edit.specs.Texts.{split_step, has_no_text}
 use Rattle.lx_edit.proofs.Keyed.{new-next_key, put-next_key, behind-next_key}
-use Rattle.lx_range.specs.Ranges.{lies, caret_at, at_anchor_of, at_anchor, normal_at}
+use Rattle.lx_blocks.specs.Ranges.{lies, caret_at, at_anchor_of, at_anchor, normal_at}
 use Rattle.lx_caret.specs.Lying.{EachPoint, LeavesLying}
 use Rattle.lx_caret.specs.Adding.{kind_around, no_room, is_inside, opened, put_by, newest, add_step}
 use Rattle.lx_caret.specs.Removing.{remove_text_step}

@@ -2,13 +2,13 @@
 use Rattle.std.proofs.Common.{◌≡◌, ℕ, ◌<◌, false, List, [], ◌++◌, None, refl, arith}
 use Rattle.std.specs.Prelude.{unwrap_or}
 use Rattle.std.proofs.lemmas.Bool.Decides.{eqb_tells}
-use Rattle.lx_node.specs.Trees.{Trees, nil, tree}
-use Rattle.lx_node.specs.NamedTrees.{IsDistinct, count, preorder, alone}
-use Rattle.lx_node.specs.Siblings.{is_among}
-use Rattle.lx_node.specs.Walks.{behind_before, behind}
-use Rattle.lx_node.proofs.NamedTrees.{is_among-preorder, count-joined, alone-absent}
-use Rattle.lx_node.proofs.Siblings.{is_among-append}
-use Rattle.lx_node.proofs.Subtrees.{count-alone-le}
+use Rattle.lx_trees.specs.Trees.{Trees, nil, tree}
+use Rattle.lx_trees.specs.NamedTrees.{IsDistinct, count, preorder, alone}
+use Rattle.lx_trees.specs.Siblings.{is_among}
+use Rattle.lx_trees.specs.Walks.{behind_before, behind}
+use Rattle.lx_trees.proofs.NamedTrees.{is_among-preorder, count-joined, alone-absent}
+use Rattle.lx_trees.proofs.Siblings.{is_among-append}
+use Rattle.lx_trees.proofs.Subtrees.{count-alone-le}
 
 module _ {A : Type 0} (name : A → ℕ) where
   -- what isn't in trees, nor after them, is after nothing in them

@@ -1,13 +1,13 @@
 -- A walk back through the root's tree, for the last node that passes a test.
 use Rattle.std.proofs.Common.{◌≡◌, ◌∙◌, ℕ, ◌<◌, Bool, true, false, not, ◌&&◌, List, [], ◌∷◌, ◌++◌, length, Option, None, Some, refl, sym, ap, subst, arith, length-append}
 use Rattle.std.specs.Prelude.{filter, IfSome, IfNone}
-use Rattle.lx_node.specs.Siblings.{last_from, last_of}
+use Rattle.lx_trees.specs.Siblings.{last_from, last_of}
 use Rattle.lx_node.specs.declared.cause.Point.{Point}
 use Rattle.lx_forest.specs.Forest.{Forest}
 use Rattle.lx_forest.specs.Lookups.{is_within, is_attached}
 use Rattle.lx_links.specs.Stands.{Sound}
-use Rattle.lx_range.specs.Places.{nodes_up_to}
-use Rattle.lx_range.specs.Walks.{nodes_before}
+use Rattle.lx_blocks.specs.Places.{nodes_up_to}
+use Rattle.lx_blocks.specs.Walks.{nodes_before}
 use Rattle.lx_caret.specs.Deleting.{is_leaf_in, leaf_beside}
 use Rattle.lx_caret.proofs.BlockOrder.{filter_none, no_leaf_before}
 

@@ -3,23 +3,23 @@ use Rattle.std.proofs.Common.{◌≡◌, ◌∙◌, ℕ, Bool, true, false, not,
 use Rattle.std.specs.Prelude.{find, filter}
 use Rattle.std.proofs.lemmas.Bool.{cases_Bool}
 use Rattle.std.proofs.lemmas.Bool.Decides.{eqb_tells}
-use Rattle.lx_node.specs.NamedTrees as named
-use Rattle.lx_node.specs.Siblings.{first_of, is_among, NoRepeats}
+use Rattle.lx_trees.specs.NamedTrees as named
+use Rattle.lx_trees.specs.Siblings.{first_of, is_among, NoRepeats}
 use Rattle.lx_node.specs.Kinds.{is_element}
-use Rattle.lx_node.proofs.Siblings.{is_among-append}
-use Rattle.lx_node.proofs.NamedTrees.{is_among-preorder, count-without-alone}
-use Rattle.lx_node.proofs.Subtrees.{alone-alone}
-use Rattle.lx_rooted.proofs.Cuts.{preorder-cut}
+use Rattle.lx_trees.proofs.Siblings.{is_among-append}
+use Rattle.lx_trees.proofs.NamedTrees.{is_among-preorder, count-without-alone}
+use Rattle.lx_trees.proofs.Subtrees.{alone-alone}
+use Rattle.lx_trees.proofs.Cuts.{preorder-cut}
 use Rattle.lx_forest.specs.Forest.{Forest}
 use Rattle.lx_forest.specs.Lookups.{key_of, alone, children_of, is_within, is_attached, preorder, from, behind, IsForest}
 use Rattle.lx_forest.proofs.Walks.{tree_distinct, is_among-preorder_of, NoRepeats-preorder_of, from-child, from-leaf}
 use Rattle.lx_links.specs.Stands.{Sound}
 use Rattle.lx_links.proofs.Up.{in_order_at}
 use Rattle.lx_links.proofs.Ordered.{there_within}
-use Rattle.lx_range.specs.Blocks.{is_at, same_node, block_of}
-use Rattle.lx_range.specs.Places.{until}
-use Rattle.lx_range.specs.Walks.{nodes_before}
-use Rattle.lx_range.proofs.Blocked.{block_within}
+use Rattle.lx_blocks.specs.Blocks.{is_at, same_node, block_of}
+use Rattle.lx_blocks.specs.Places.{until}
+use Rattle.lx_blocks.specs.Walks.{nodes_before}
+use Rattle.lx_blocks.proofs.Blocked.{block_within}
 use Rattle.lx_caret.specs.Deleting.{is_leaf_in}
 
 -- ---- lists

@@ -3,7 +3,7 @@ use Rattle.std.proofs.Common.{◌≡◌, ◌∙◌, ℕ, Bool, true, false, cond
 use Rattle.std.specs.Prelude.{option_map}
 use Rattle.std.specs.List.{list_all}
 use Rattle.std.proofs.lemmas.Bool.Decides.{eqb_tells, nat_tests}
-use Rattle.lx_node.specs.Siblings.{is_among}
+use Rattle.lx_trees.specs.Siblings.{is_among}
 use Rattle.lx_node.specs.Plain.{plain_element}
 use Rattle.lx_node.specs.Kinds.{is_element, is_text_block, is_inline, is_link, has_characters}
 use Rattle.lx_node.specs.declared.kind.Kind.{Kind}
@@ -12,7 +12,7 @@ use Rattle.lx_node.specs.declared.cause.Cause.{Cause}
 use Rattle.lx_node.specs.declared.cause.Point.{Point}
 use Rattle.lx_node.specs.declared.cause.PointKind.{PointKind}
 use Rattle.lx_node.specs.declared.cause.PointKind.TheVariants as point
-use Rattle.lx_node.proofs.Subtrees.{count-alone-le}
+use Rattle.lx_trees.proofs.Subtrees.{count-alone-le}
 use Rattle.lx_forest.specs.Forest.{Forest, Label}
 use Rattle.lx_forest.specs.Lookups.{key_of, has, label_of, kind_of, fields_of, index_of, children_of, size_of, ancestors, is_attached, IsForest}
 use Rattle.lx_forest.proofs.Up.{attached_above}
@@ -26,12 +26,12 @@ use Rattle.lx_draft.specs.Beside.{put_behind_step}
 use Rattle.lx_edit.specs.InTurn.{in_turn}
 use Rattle.lx_edit.specs.Edits.{text_point, element_point, moved_to_end}
 use Rattle.lx_edit.specs.Texts.{split_step}
-use Rattle.lx_range.specs.Blocks.{passes, is_at, block_of}
-use Rattle.lx_range.specs.Ranges.{lies, at_anchor, caret_at}
+use Rattle.lx_blocks.specs.Blocks.{passes, is_at, block_of}
+use Rattle.lx_blocks.specs.Ranges.{lies, at_anchor, caret_at}
 use Rattle.lx_caret.specs.Lying.{LeavesLying}
 use Rattle.lx_caret.specs.Adding.{add_step, is_inside, newest}
 use Rattle.lx_caret.specs.Removing.{remove_text_step}
-use Rattle.lx_range.specs.Making.{new_like}
+use Rattle.lx_blocks.specs.Making.{new_like}
 use Rattle.lx_caret.specs.Paragraphs.{place_of, before_point, holders, holders_in, cut_open, parted_at, link_parted, Parted, parted_up, Block, next_of_kind, new_next, start_of_first, moved_on, block_cut, paragraph_added, empty_item, paragraph_at, Broken, insert_paragraph_step, draft_left}
 use Rattle.lx_caret.proofs.Lies.{least, start_in}
 use Rattle.lx_caret.proofs.Fit.{after_tells, Fit, Stays, Staying, stays_self, stays_then, stays_ok, stays_if, caret_fits, stays_new}

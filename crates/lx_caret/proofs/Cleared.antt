@@ -3,8 +3,8 @@ use Rattle.std.proofs.Common.{◌≡◌, ◌∙◌, ℕ, Bool, true, false, cond
 use Rattle.std.specs.Prelude.{is_some, filter, slice_get}
 use Rattle.std.specs.Option.{option_or}
 use Rattle.std.proofs.lemmas.Bool.Decides.{eqb_tells, nat_tests}
-use Rattle.lx_node.specs.NamedTrees.{preorder}
-use Rattle.lx_node.specs.Siblings.{is_among, is_named, first_of}
+use Rattle.lx_trees.specs.NamedTrees.{preorder}
+use Rattle.lx_trees.specs.Siblings.{is_among, is_named, first_of}
 use Rattle.lx_node.specs.Kinds.{may_hold}
 use Rattle.lx_node.specs.declared.kind.Kind.{Kind}
 use Rattle.lx_node.specs.declared.fields.Fields.{Fields}
@@ -13,9 +13,9 @@ use Rattle.lx_node.specs.declared.cause.SelectionKind.TheVariants as selected
 use Rattle.lx_node.specs.declared.cause.Point.{Point}
 use Rattle.lx_node.specs.declared.cause.PointKind.{PointKind}
 use Rattle.lx_node.specs.declared.cause.PointKind.TheVariants as point
-use Rattle.lx_node.proofs.NamedTrees.{is_among-preorder}
-use Rattle.lx_node.proofs.Positions.{is_among-slice_get}
-use Rattle.lx_node.proofs.Siblings.{is_among-append, is_named_tells}
+use Rattle.lx_trees.proofs.NamedTrees.{is_among-preorder}
+use Rattle.lx_trees.proofs.Positions.{is_among-slice_get}
+use Rattle.lx_trees.proofs.Siblings.{is_among-append, is_named_tells}
 use Rattle.lx_select.specs.declared.selection.Selection.{Selection}
 use Rattle.lx_select.specs.declared.selection.Selection.TheVariants.{Nothing, Range, Nodes, Cells}
 use Rattle.lx_select.specs.Rules.{splice_moves}
@@ -34,10 +34,10 @@ use Rattle.lx_draft.specs.Steps.{fields_written, splice_points, label_with_piece
 use Rattle.lx_draft.proofs.Covered.{answered}
 use Rattle.lx_edit.specs.InTurn.{in_turn}
 use Rattle.lx_edit.specs.Edits.{remove_step, moved_to_end}
-use Rattle.lx_range.specs.declared.ranges.Ranged.{Ranged}
-use Rattle.lx_range.specs.Blocks.{same_node, block_of, frame_of, leading}
-use Rattle.lx_range.specs.Places.{from_child, behind_place, nodes_behind, until, covered, stands_below, outermost, comes_first}
-use Rattle.lx_range.specs.Ranges.{lies, is_fit, range_in, range_of, is_collapsed, start_of, end_of, caret_at, normal_at}
+use Rattle.lx_blocks.specs.declared.ranges.Ranged.{Ranged}
+use Rattle.lx_blocks.specs.Blocks.{same_node, block_of, frame_of, leading}
+use Rattle.lx_blocks.specs.Places.{from_child, behind_place, nodes_behind, until, covered, stands_below, outermost, comes_first}
+use Rattle.lx_blocks.specs.Ranges.{lies, is_fit, range_in, range_of, is_collapsed, start_of, end_of, caret_at, normal_at}
 use Rattle.lx_caret.specs.Lying.{EachPoint, IsLying, TextsAreShort, LeavesLying}
 use Rattle.lx_caret.specs.Removing.{cut_step, start_part, start_cut, end_cut, removed_below, removed_empty, are_apart, merge_blocks, merge_step, remove_between, removed_in, remove_text_step}
 use Rattle.lx_caret.proofs.Apart.{behind_apart}

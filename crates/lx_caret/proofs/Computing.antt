@@ -7,14 +7,14 @@ use Rattle.lx_node.specs.Units.{units_of, units}
 use Rattle.lx_text.specs.Texts.{text_length, front_of, rest_of, within, is_offset, length_told, slice_of, spliced_text}
 use Rattle.lx_text.specs.Clusters.{cluster_before, cluster_after, word_before, word_after}
 use Rattle.lx_select.specs.Rules.{offset_sum, is_counting_children, is_behind, put_moves, take_moves, spliced_offset, splice_moves, set_moves, split_moves, moved_to}
-use Rattle.lx_rooted.specs.Edits as rooted
+use Rattle.lx_trees.specs.Edits as rooted
 use Rattle.lx_forest.specs.Edits.{with_new, with_fields, take_out, put_in}
 use Rattle.lx_draft.specs.Steps.{new_step, set_step, splice_step, take_step, put_step, select_step}
 use Rattle.lx_draft.specs.Beside.{put_before_step, put_behind_step}
 use Rattle.lx_edit.specs.InTurn.{in_turn}
 use Rattle.lx_edit.specs.Edits.{moved_to_end, sent_away, remove_step}
 use Rattle.lx_edit.specs.Texts.{tail_made, cut_in_two, split_step}
-use Rattle.lx_range.specs.Ranges.{range_of}
+use Rattle.lx_blocks.specs.Ranges.{range_of}
 use Rattle.lx_caret.specs.Adding.{add_step}
 use Rattle.lx_caret.specs.Inserting.{typed_into, typed_new, typed, insert_text_step, broken, insert_line_break_step, tabbed, insert_tab_step}
 use Rattle.lx_caret.specs.Removing.{cut_step, removed_below, removed_empty, merge_step, remove_between, remove_text_step}

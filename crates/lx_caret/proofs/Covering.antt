@@ -9,10 +9,10 @@ use Rattle.lx_node.specs.declared.cause.Point.{Point}
 use Rattle.lx_forest.specs.Forest.{Forest}
 use Rattle.lx_forest.specs.Lookups.{is_attached}
 use Rattle.lx_edit.proofs.Turns.{left_at}
-use Rattle.lx_range.specs.declared.ranges.Ranged.{Ranged}
-use Rattle.lx_range.specs.Blocks.{is_at}
-use Rattle.lx_range.specs.Places.{comes_first, covered}
-use Rattle.lx_range.specs.Ranges.{start_of, end_of}
+use Rattle.lx_blocks.specs.declared.ranges.Ranged.{Ranged}
+use Rattle.lx_blocks.specs.Blocks.{is_at}
+use Rattle.lx_blocks.specs.Places.{comes_first, covered}
+use Rattle.lx_blocks.specs.Ranges.{start_of, end_of}
 use Rattle.lx_caret.specs.declared.pieces.Piece.{Piece}
 use Rattle.lx_caret.specs.Formatting.{start_piece, end_piece, whole, pieces}
 

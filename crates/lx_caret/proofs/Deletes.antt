@@ -2,7 +2,7 @@
 use Rattle.std.proofs.Common.{◌≡◌, ◌∙◌, ℕ, ◌+◌, ◌≤◌, Bool, true, false, cond, eqb, ◌&&◌, ◌||◌, not, List, [], ◌∷◌, length, Option, None, Some, Ok, refl, sym, ap, ap₂, subst, arith, inl, inr}
 use Rattle.std.specs.Prelude.{◌⊎◌, filter, find}
 use Rattle.std.proofs.lemmas.Bool.Decides.{eqb_tells, nat_tests}
-use Rattle.lx_node.specs.Siblings.{is_among}
+use Rattle.lx_trees.specs.Siblings.{is_among}
 use Rattle.lx_node.specs.Kinds.{may_hold, is_element, is_text_block, is_inline}
 use Rattle.lx_node.specs.declared.kind.Kind.{Kind}
 use Rattle.lx_node.specs.declared.kind.Kind.TheVariants as kinds
@@ -17,10 +17,10 @@ use Rattle.lx_forest.proofs.Walks.{is_among-preorder_of}
 use Rattle.lx_draft.specs.Working.{Working}
 use Rattle.lx_draft.specs.Selecting.{lies_in, is_counted_in}
 use Rattle.lx_edit.specs.Edits.{pointed, element_point, remove_step}
-use Rattle.lx_range.specs.declared.ranges.Ranged.{Ranged}
-use Rattle.lx_range.specs.Blocks.{passes, is_at, is_line, is_rule_or_table, same_node, block_of, frame_of, leading}
-use Rattle.lx_range.specs.Places.{before_holder, children_before, until, nodes_ahead, nodes_behind}
-use Rattle.lx_range.specs.Ranges.{lies, range_of, is_collapsed, normal_at, characters_at}
+use Rattle.lx_blocks.specs.declared.ranges.Ranged.{Ranged}
+use Rattle.lx_blocks.specs.Blocks.{passes, is_at, is_line, is_rule_or_table, same_node, block_of, frame_of, leading}
+use Rattle.lx_blocks.specs.Places.{before_holder, children_before, until, nodes_ahead, nodes_behind}
+use Rattle.lx_blocks.specs.Ranges.{lies, range_of, is_collapsed, normal_at, characters_at}
 use Rattle.lx_caret.specs.Lying.{LeavesLying}
 use Rattle.lx_caret.specs.Removing.{removed_in, removed_empty}
 use Rattle.lx_caret.specs.Deleting.{Reach, erased, erase_step, has_more, is_leaf_in, leaf_beside, edge, leaf_step, is_stop, stop_before, stop_behind, moved_in, inline_end, inline_place, line_joined, joined_with, back_to, join_back_step, met, on_to, join_step, leaf_or_line, deleted_in, delete_step, cluster_reach, delete_character_step, word_reach, delete_word_step}

@@ -20,10 +20,10 @@ use Rattle.lx_forest.specs.Forest.{Forest}
 use Rattle.lx_forest.specs.Lookups.{kind_of, fields_of, is_attached}
 use Rattle.lx_draft.specs.Working.{Working}
 use Rattle.lx_draft.specs.Selecting.{is_counted_in, is_place, text_of, lies_in}
-use Rattle.lx_range.specs.declared.ranges.Ranged.{Ranged}
-use Rattle.lx_range.specs.Blocks.{is_at}
-use Rattle.lx_range.specs.Places.{comes_first, covered}
-use Rattle.lx_range.specs.Ranges.{lies, is_fit, range_in, range_of, start_of, end_of, characters_at}
+use Rattle.lx_blocks.specs.declared.ranges.Ranged.{Ranged}
+use Rattle.lx_blocks.specs.Blocks.{is_at}
+use Rattle.lx_blocks.specs.Places.{comes_first, covered}
+use Rattle.lx_blocks.specs.Ranges.{lies, is_fit, range_in, range_of, start_of, end_of, characters_at}
 use Rattle.lx_caret.specs.declared.pieces.Piece.{Piece}
 use Rattle.lx_caret.specs.Removing.{start_part}
 use Rattle.lx_caret.specs.Formatting.{piece, start_piece, end_piece, whole, pieces}

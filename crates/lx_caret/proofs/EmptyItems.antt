@@ -11,8 +11,8 @@ use Rattle.lx_forest.specs.Forest.{Forest}
 use Rattle.lx_forest.specs.Lookups.{size_of}
 use Rattle.lx_draft.specs.Working.{Working}
 use Rattle.lx_draft.specs.Faults.{after}
-use Rattle.lx_range.specs.Blocks.{is_at, block_of}
-use Rattle.lx_range.specs.Ranges.{at_anchor_of, at_anchor}
+use Rattle.lx_blocks.specs.Blocks.{is_at, block_of}
+use Rattle.lx_blocks.specs.Ranges.{at_anchor_of, at_anchor}
 use Rattle.lx_caret.specs.Removing.{remove_text_step}
 use Rattle.lx_caret.specs.Paragraphs.{if_empty_item, block_in, empty_item, paragraph_at, Broken, insert_paragraph_step}
 use Rattle.lx_caret.proofs.Fit.{after_tells}

@@ -23,9 +23,9 @@ use Rattle.lx_forest.specs.Lookups.{label_of, kind_of, fields_of, is_attached}
 use Rattle.lx_draft.specs.Working.{Working}
 use Rattle.lx_draft.specs.Selecting.{text_of, length_of, is_place, is_counted_in, lies_in}
 use Rattle.lx_draft.specs.Faults.{text_fields, text_in}
-use Rattle.lx_range.specs.declared.ranges.Ranged.{Ranged}
-use Rattle.lx_range.specs.Blocks.{same_node, frame_of}
-use Rattle.lx_range.specs.Ranges.{range_in, range_of, is_fit, lies, if_normal, normal_at, characters_at}
+use Rattle.lx_blocks.specs.declared.ranges.Ranged.{Ranged}
+use Rattle.lx_blocks.specs.Blocks.{same_node, frame_of}
+use Rattle.lx_blocks.specs.Ranges.{range_in, range_of, is_fit, lies, if_normal, normal_at, characters_at}
 use Rattle.lx_caret.specs.Deleting.{Reach, erased, erase_step, has_more, edge}
 use Rattle.lx_caret.specs.Stretches.{erased_to}
 use Rattle.lx_caret.proofs.Lies.{end_offset}

@@ -3,7 +3,7 @@ use Rattle.std.proofs.Common.{◌≡◌, ◌∙◌, ℕ, ◌+◌, ◌*◌, ◌�
 use Rattle.std.specs.Prelude.{option_map, is_some, slice_get}
 use Rattle.std.specs.Option.{option_or}
 use Rattle.std.proofs.lemmas.Bool.Decides.{nat_tests}
-use Rattle.lx_node.specs.Spots.{Spot}
+use Rattle.lx_trees.specs.Spots.{Spot}
 use Rattle.lx_node.specs.Kinds.{may_hold}
 use Rattle.lx_node.specs.Strings.{characters_of}
 use Rattle.lx_node.specs.OfKind.{is_of_kind}
@@ -37,7 +37,7 @@ use Rattle.lx_draft.proofs.Covered.{answered}
 use Rattle.lx_draft.proofs.CoveredSteps.{covered-new, covered-set, covered-splice, covered-put}
 use Rattle.lx_draft.proofs.Put.{both_none, can_put}
 use Rattle.lx_edit.specs.Edits.{pointed}
-use Rattle.lx_range.specs.Ranges.{lies}
+use Rattle.lx_blocks.specs.Ranges.{lies}
 use Rattle.lx_caret.specs.Lying.{EachPoint, IsLying, TextsAreShort}
 use Rattle.lx_caret.proofs.Lies.{both, text_at, lies_new, lies_spliced, lies_set, lies_put}
 use Rattle.lx_caret.proofs.Short.{u32-tells, written-allowed, fields-short, splice-short, same-short, made-short, written-short}

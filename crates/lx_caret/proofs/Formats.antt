@@ -13,7 +13,7 @@ use Rattle.lx_draft.specs.Working.{Working}
 use Rattle.lx_draft.specs.Faults.{after}
 use Rattle.lx_edit.specs.InTurn.{in_turn}
 use Rattle.lx_edit.specs.Texts.{split_step}
-use Rattle.lx_range.specs.Ranges.{range_of, start_of, end_of, normal_at}
+use Rattle.lx_blocks.specs.Ranges.{range_of, start_of, end_of, normal_at}
 use Rattle.lx_caret.specs.Lying.{EachPoint, LeavesLying}
 use Rattle.lx_caret.specs.declared.pieces.Piece.{Piece}
 use Rattle.lx_caret.specs.Formatting.{edges, isolate_step, isolated_key, Isolated, and_before, isolated, has_bit, switched, switched_in, switch_step, format_at, selection_format, switched_all, pieces, formatted, format_text_step}

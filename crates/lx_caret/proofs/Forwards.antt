@@ -1,13 +1,13 @@
 -- A walk on through the root's tree, for the first node that passes a test.
 use Rattle.std.proofs.Common.{◌≡◌, ◌∙◌, ℕ, ◌<◌, Bool, true, false, not, ◌&&◌, eqb, List, [], ◌∷◌, length, Option, None, Some, refl, sym, ap, subst, arith}
 use Rattle.std.specs.Prelude.{find, IfSome, IfNone}
-use Rattle.lx_node.specs.Siblings.{is_named, names_without}
+use Rattle.lx_trees.specs.Siblings.{is_named, names_without}
 use Rattle.lx_forest.specs.Forest.{Forest}
 use Rattle.lx_forest.specs.Lookups.{from, behind, depth, is_attached}
 use Rattle.lx_forest.proofs.Loose.{attached_at}
 use Rattle.lx_links.specs.Stands.{Sound}
-use Rattle.lx_range.specs.Walks.{left_from, IsAt, key_of_step}
-use Rattle.lx_range.specs.Blocks.{frame_of}
+use Rattle.lx_blocks.specs.Walks.{left_from, IsAt, key_of_step}
+use Rattle.lx_blocks.specs.Blocks.{frame_of}
 use Rattle.lx_caret.specs.Deleting.{is_leaf_in, is_stop}
 use Rattle.lx_caret.proofs.BlockOrder.{find_none, no_leaf_behind}
 use Rattle.std.proofs.lemmas.Bool.Decides.{eqb_tells}

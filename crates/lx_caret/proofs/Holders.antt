@@ -5,7 +5,7 @@ use Rattle.lx_forest.specs.Lookups.{parent_of, ancestors}
 use Rattle.lx_forest.proofs.Walks.{ancestors-top, ancestors-step}
 use Rattle.lx_links.specs.Stands.{Sound}
 use Rattle.lx_links.proofs.Up.{in_order}
-use Rattle.lx_range.specs.Places.{until}
+use Rattle.lx_blocks.specs.Places.{until}
 
 -- the block ends the way up
 pub way_ends : (f : Forest) (block q : ℕ) (made whole : List ℕ) → eqb q block ≡ true → made ++ until (Some block) (q ∷ ancestors f q) ≡ whole → made ≡ whole

@@ -5,8 +5,8 @@ use Rattle.lx_forest.specs.Forest.{Forest}
 use Rattle.lx_forest.specs.Lookups.{children_of, is_within}
 use Rattle.lx_forest.proofs.Bounds.{size_of-le}
 use Rattle.lx_links.specs.Stands.{Sound}
-use Rattle.lx_range.specs.Blocks.{is_at}
-use Rattle.lx_range.specs.Places.{before_holder}
+use Rattle.lx_blocks.specs.Blocks.{is_at}
+use Rattle.lx_blocks.specs.Places.{before_holder}
 use Rattle.lx_caret.specs.Deleting.{inline_end}
 
 -- what was passed and what is left come to what all come to

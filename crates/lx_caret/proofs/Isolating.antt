@@ -12,7 +12,7 @@ use Rattle.lx_draft.specs.Working.{Working}
 use Rattle.lx_draft.specs.Faults.{after, TellsStep}
 use Rattle.lx_edit.specs.Texts.{keys_from}
 use Rattle.lx_edit.proofs.Turns.{left_at}
-use Rattle.lx_range.specs.Ranges.{normal_at, characters_at}
+use Rattle.lx_blocks.specs.Ranges.{normal_at, characters_at}
 use Rattle.lx_caret.specs.declared.pieces.Piece.{Piece}
 use Rattle.lx_caret.specs.Formatting.{edges, isolate_step, isolated_key, Isolated, and_before, isolated}
 

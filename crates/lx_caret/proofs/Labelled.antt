@@ -7,8 +7,8 @@ use Rattle.lx_node.specs.declared.kind.Kind.TheVariants.{Root}
 use Rattle.lx_forest.specs.Forest.{Forest, Label}
 use Rattle.lx_forest.specs.Lookups.{has, spot, kind_of, ancestors}
 use Rattle.lx_forest.proofs.Edits.{is_some-spot}
-use Rattle.lx_node.specs.Spots.{Spot}
-use Rattle.lx_range.specs.Blocks.{is_at, passes, block_of}
+use Rattle.lx_trees.specs.Spots.{Spot}
+use Rattle.lx_blocks.specs.Blocks.{is_at, passes, block_of}
 
 -- a link is there, and isn't the root
 pub link_there : (f : Forest) (k : ℕ) → is_at is_link f k ≡ true → has k f ≡ true

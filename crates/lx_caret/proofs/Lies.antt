@@ -3,8 +3,8 @@ use Rattle.std.proofs.Common.{◌≡◌, ◌≢◌, ◌∙◌, ℕ, ◌+◌, ◌
 use Rattle.std.specs.Prelude.{option_map, is_some}
 use Rattle.std.proofs.lemmas.Bool.Decides.{eqb_tells, nat_tests}
 use Rattle.std.proofs.lemmas.Iterator.Adapters.{option_map_id}
-use Rattle.lx_node.specs.Siblings.{is_among, names_without, names_with}
-use Rattle.lx_node.specs.Spots.{Spot}
+use Rattle.lx_trees.specs.Siblings.{is_among, names_without, names_with}
+use Rattle.lx_trees.specs.Spots.{Spot}
 use Rattle.lx_node.specs.Kinds.{is_element, has_characters, is_possible}
 use Rattle.lx_node.specs.OfKind.{is_of_kind, fits_kind, is_element_of, are_bare, are_embed_fields}
 use Rattle.lx_node.specs.declared.kind.Kind.{Kind}
@@ -15,8 +15,8 @@ use Rattle.lx_node.specs.declared.fields.TextFields.{TextFields}
 use Rattle.lx_node.specs.declared.cause.Point.{Point}
 use Rattle.lx_node.specs.declared.cause.PointKind.{PointKind}
 use Rattle.lx_node.specs.declared.cause.PointKind.TheVariants as point
-use Rattle.lx_node.proofs.Siblings.{length-names_without, names_without-absent_list, length-names_with}
-use Rattle.lx_node.proofs.Positions as positions
+use Rattle.lx_trees.proofs.Siblings.{length-names_without, names_without-absent_list, length-names_with}
+use Rattle.lx_trees.proofs.Positions as positions
 use Rattle.lx_node.specs.Limits.{last_u32}
 use Rattle.lx_text.specs.Texts.{text_length, within, is_offset, spliced_text, slice_fault}
 use Rattle.lx_text.proofs.Told.{offset_start, told-offset, told-small, piece_of}

@@ -9,7 +9,7 @@ use Rattle.lx_node.specs.declared.fields.Fields.TheVariants as fields
 use Rattle.lx_node.specs.declared.cause.Point.{Point}
 use Rattle.lx_node.specs.declared.cause.PointKind.{PointKind}
 use Rattle.lx_node.specs.declared.cause.PointKind.TheVariants as point
-use Rattle.lx_node.proofs.Positions.{index_in-lt}
+use Rattle.lx_trees.proofs.Positions.{index_in-lt}
 use Rattle.lx_forest.specs.Forest.{Forest}
 use Rattle.lx_forest.specs.Lookups.{parent_of, index_of, siblings, children_below}
 use Rattle.lx_forest.proofs.Bounds.{size_of-le}

@@ -1,7 +1,7 @@
 -- Nodes that go into an element one after another.
 use Rattle.std.proofs.Common.{◌≡◌, ◌∙◌, ℕ, ◌+◌, ◌≤◌, ◌<◌, ◌^◌, suc, zero, List, [], ◌∷◌, length, drop, Some, Result, Ok, Err, refl, sym, ap, ap₂, arith}
 use Rattle.std.specs.List.{slice_get}
-use Rattle.lx_node.specs.NamedTrees.{total}
+use Rattle.lx_trees.specs.NamedTrees.{total}
 use Rattle.lx_node.specs.declared.cause.Cause.{Cause}
 use Rattle.lx_node.specs.declared.cause.Fault.{Fault}
 use Rattle.lx_node.specs.declared.cause.Fault.TheVariants as fault
@@ -12,7 +12,7 @@ use Rattle.lx_draft.specs.Working.{Working, IsWorking}
 use Rattle.lx_draft.specs.Faults.{after, TellsStep}
 use Rattle.lx_draft.specs.Steps.{take_step, put_step}
 use Rattle.lx_edit.proofs.Turns.{left_at}
-use Rattle.lx_range.specs.Blocks.{leading_in, leading}
+use Rattle.lx_blocks.specs.Blocks.{leading_in, leading}
 use Rattle.lx_caret.specs.Deleting.{moved_in}
 
 one_more : (i : ℕ) → i + 1 ≡ suc i

@@ -3,10 +3,10 @@ use Rattle.std.proofs.Common.{◌≡◌, ◌≢◌, ◌∙◌, ℕ, ◌+◌, ◌
 use Rattle.std.specs.Prelude.{is_some, slice_get}
 use Rattle.std.specs.Option.{option_or}
 use Rattle.std.proofs.lemmas.Bool.Decides.{eqb_tells}
-use Rattle.lx_node.specs.Siblings.{is_among}
+use Rattle.lx_trees.specs.Siblings.{is_among}
 use Rattle.lx_node.specs.Kinds.{may_hold}
 use Rattle.lx_node.specs.declared.cause.Point.{Point}
-use Rattle.lx_node.proofs.Siblings.{is_some-index_in}
+use Rattle.lx_trees.proofs.Siblings.{is_some-index_in}
 use Rattle.lx_select.specs.Selection.{each_point}
 use Rattle.lx_select.specs.Rules.{take_moves, put_moves, is_behind}
 use Rattle.lx_forest.specs.Forest.{Forest}
@@ -30,7 +30,7 @@ use Rattle.lx_draft.proofs.CoveredSteps.{covered-take, covered-put}
 use Rattle.lx_draft.proofs.Put.{both_none}
 use Rattle.lx_edit.specs.InTurn.{in_turn}
 use Rattle.lx_edit.specs.Edits.{moved_to_end}
-use Rattle.lx_range.specs.Ranges.{lies}
+use Rattle.lx_blocks.specs.Ranges.{lies}
 use Rattle.lx_caret.specs.Lying.{EachPoint}
 use Rattle.lx_caret.specs.Deleting.{moved_in}
 use Rattle.lx_caret.proofs.Lies.{both, lies_taken, lies_put, attached_moved, size_grown}

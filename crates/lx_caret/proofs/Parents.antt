@@ -2,20 +2,20 @@
 use Rattle.std.proofs.Common.{◌≡◌, ◌≢◌, ◌∙◌, ℕ, true, false, List, [], ◌∷◌, Option, None, Some, refl, sym, ap, ap₂, arith, inl, inr}
 use Rattle.std.specs.Prelude.{option_map}
 use Rattle.std.proofs.lemmas.Bool.Decides.{eqb_tells}
-use Rattle.lx_node.specs.Siblings.{is_among, is_named}
-use Rattle.lx_node.specs.Spots.{Spot}
+use Rattle.lx_trees.specs.Siblings.{is_among, is_named}
+use Rattle.lx_trees.specs.Spots.{Spot}
 use Rattle.lx_node.specs.Kinds.{may_hold, is_element, is_text, has_characters}
 use Rattle.lx_node.specs.declared.kind.Kind.{Kind}
 use Rattle.lx_node.specs.declared.kind.Kind.TheVariants as kinds
 use Rattle.lx_node.specs.declared.cause.PointKind.TheVariants as point
-use Rattle.lx_node.proofs.Siblings.{is_named_tells}
+use Rattle.lx_trees.proofs.Siblings.{is_named_tells}
 use Rattle.lx_forest.specs.Forest.{Forest, Label}
 use Rattle.lx_forest.specs.Lookups.{has, spot, kind_of, parent_of, children_of, is_attached, holds, IsForest, IsHeld}
 use Rattle.lx_forest.proofs.Edits.{is_some-spot}
 use Rattle.lx_forest.proofs.Lookups.{is_among-children_of, has-parent_of, has-child}
 use Rattle.lx_forest.proofs.Walks.{cases_option, is_attached-top}
 use Rattle.lx_draft.specs.Selecting.{is_counted_in}
-use Rattle.lx_range.specs.Blocks.{passes, is_at}
+use Rattle.lx_blocks.specs.Blocks.{passes, is_at}
 
 -- what may hold something is an element
 holder : (outer inner : Kind) → may_hold outer inner ≡ true → is_element outer ≡ true

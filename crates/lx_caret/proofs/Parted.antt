@@ -19,9 +19,9 @@ use Rattle.lx_edit.specs.InTurn.{in_turn}
 use Rattle.lx_edit.proofs.Turns.{left_at}
 use Rattle.lx_edit.proofs.Paths.{IsPath, Leads, self, then, ok, if_, every, put_behind_path, moved_to_end_path, split_path}
 use Rattle.lx_edit.proofs.Covered.{covered_path}
-use Rattle.lx_range.specs.Blocks.{is_at, passes}
+use Rattle.lx_blocks.specs.Blocks.{is_at, passes}
 use Rattle.lx_caret.specs.Adding.{is_inside}
-use Rattle.lx_range.specs.Making.{new_like}
+use Rattle.lx_blocks.specs.Making.{new_like}
 use Rattle.lx_caret.specs.Paragraphs.{place_of, cut_open, parted_at, link_parted, Parted, parted_up}
 
 -- ---- seen from a place in the list

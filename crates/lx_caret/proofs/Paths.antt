@@ -12,8 +12,8 @@ use Rattle.lx_draft.specs.Steps.{new_step}
 use Rattle.lx_draft.specs.Beside.{put_before_step, put_behind_step}
 use Rattle.lx_edit.specs.Texts.{split_step}
 use Rattle.lx_edit.proofs.Paths.{Leads, allowed, if_, put_before_path, put_behind_path}
-use Rattle.lx_range.specs.Ranges.{normal_at}
-use Rattle.lx_range.proofs.Paths.{IsWay, either, chained, splits}
+use Rattle.lx_blocks.specs.Ranges.{normal_at}
+use Rattle.lx_blocks.proofs.Paths.{IsWay, either, chained, splits}
 use Rattle.lx_caret.specs.Adding.{kind_around, no_room, is_inside, opened, put_by, add_step}
 
 module _ {D : Working → Type 0} {R : Working → Working → Type 0} (way : IsWay D R) where

@@ -12,12 +12,12 @@ use Rattle.lx_draft.specs.Faults.{after}
 use Rattle.lx_draft.specs.Steps.{take_step, put_step}
 use Rattle.lx_edit.specs.Edits.{pointed, element_point, remove_step}
 use Rattle.lx_edit.proofs.Paths.{Leads, then, from_, points, remove_path}
-use Rattle.lx_range.specs.declared.ranges.Ranged.{Ranged}
-use Rattle.lx_range.specs.Blocks.{block_of, leading}
-use Rattle.lx_range.specs.Ranges.{range_of, is_collapsed, normal_at, characters_at}
+use Rattle.lx_blocks.specs.declared.ranges.Ranged.{Ranged}
+use Rattle.lx_blocks.specs.Blocks.{block_of, leading}
+use Rattle.lx_blocks.specs.Ranges.{range_of, is_collapsed, normal_at, characters_at}
 use Rattle.lx_caret.specs.Removing.{removed_in, removed_empty}
 use Rattle.lx_caret.specs.Deleting.{Reach, erased, erase_step, has_more, leaf_beside, edge, leaf_step, stop_before, stop_behind, moved_in, inline_place, line_joined, joined_with, back_to, join_back_step, met, on_to, join_step, leaf_or_line, deleted_in, delete_step, cluster_reach, word_reach, delete_character_step, delete_word_step}
-use Rattle.lx_range.proofs.Paths.{IsWay, stays, either, chained, by_read}
+use Rattle.lx_blocks.proofs.Paths.{IsWay, stays, either, chained, by_read}
 use Rattle.lx_caret.proofs.PathsOfTexts.{removed_empty_path, removed_in_path}
 
 module _ {D : Working → Type 0} {R : Working → Working → Type 0} (way : IsWay D R) where

@@ -11,11 +11,11 @@ use Rattle.lx_draft.specs.Faults.{after}
 use Rattle.lx_edit.specs.InTurn.{in_turn}
 use Rattle.lx_edit.specs.Texts.{split_step}
 use Rattle.lx_edit.proofs.Paths.{Leads, self, then, ok, if_, every}
-use Rattle.lx_range.specs.Ranges.{range_of, start_of, end_of, normal_at}
+use Rattle.lx_blocks.specs.Ranges.{range_of, start_of, end_of, normal_at}
 use Rattle.lx_caret.specs.declared.pieces.Piece.{Piece}
 use Rattle.lx_caret.specs.Formatting.{has_bit, switched, pieces, edges, isolate_step, isolated_key, Isolated, and_before, isolated, format_at, switched_in, switch_step, selection_format, switched_all, formatted, format_text_step}
 use Rattle.lx_caret.specs.SelectAll.{first_leaf, last_leaf, start_at, end_at, select_all_step}
-use Rattle.lx_range.proofs.Paths.{IsWay, stays, by_read, LeadsTo, then_to, ok_to, select_path, splits}
+use Rattle.lx_blocks.proofs.Paths.{IsWay, stays, by_read, LeadsTo, then_to, ok_to, select_path, splits}
 
 module _ {D : Working → Type 0} {R : Working → Working → Type 0} (way : IsWay D R) where
   -- ---- pieces by themselves

@@ -14,13 +14,13 @@ use Rattle.lx_edit.specs.InTurn.{in_turn}
 use Rattle.lx_edit.specs.Edits.{element_point, moved_to_end}
 use Rattle.lx_edit.specs.Texts.{split_step}
 use Rattle.lx_edit.proofs.Paths.{Leads, self, then, if_, put_behind_path}
-use Rattle.lx_range.specs.Blocks.{is_at, block_of}
-use Rattle.lx_range.specs.Ranges.{caret_at, at_anchor}
+use Rattle.lx_blocks.specs.Blocks.{is_at, block_of}
+use Rattle.lx_blocks.specs.Ranges.{caret_at, at_anchor}
 use Rattle.lx_caret.specs.Adding.{add_step, is_inside, newest}
 use Rattle.lx_caret.specs.Removing.{remove_text_step}
-use Rattle.lx_range.specs.Making.{new_like}
+use Rattle.lx_blocks.specs.Making.{new_like}
 use Rattle.lx_caret.specs.Paragraphs.{place_of, before_point, holders_in, cut_open, parted_at, link_parted, Parted, parted_up, Block, next_of_kind, new_next, start_of_first, moved_on, block_cut, paragraph_added, empty_item, paragraph_at, Broken, insert_paragraph_step, draft_left}
-use Rattle.lx_range.proofs.Paths.{IsWay, stays, chained, LeadsTo, then_to, ok_to, placed, anchored, splits}
+use Rattle.lx_blocks.proofs.Paths.{IsWay, stays, chained, LeadsTo, then_to, ok_to, placed, anchored, splits}
 use Rattle.lx_caret.proofs.Paths.{add_path}
 use Rattle.lx_caret.proofs.PathsOfTexts.{all_moved_path, remove_text_path}
 

@@ -16,14 +16,14 @@ use Rattle.lx_edit.specs.InTurn.{in_turn}
 use Rattle.lx_edit.specs.Edits.{text_point, remove_step, moved_to_end}
 use Rattle.lx_edit.specs.Texts.{has_no_text}
 use Rattle.lx_edit.proofs.Paths.{Leads, from_, if_, every, points, moved_to_end_path, remove_path}
-use Rattle.lx_range.specs.declared.ranges.Ranged.{Ranged}
-use Rattle.lx_range.specs.Blocks.{block_of, leading}
-use Rattle.lx_range.specs.Places.{covered, outermost}
-use Rattle.lx_range.specs.Ranges.{range_of, is_collapsed, start_of, end_of, caret_at, at_anchor, normal_at}
+use Rattle.lx_blocks.specs.declared.ranges.Ranged.{Ranged}
+use Rattle.lx_blocks.specs.Blocks.{block_of, leading}
+use Rattle.lx_blocks.specs.Places.{covered, outermost}
+use Rattle.lx_blocks.specs.Ranges.{range_of, is_collapsed, start_of, end_of, caret_at, at_anchor, normal_at}
 use Rattle.lx_caret.specs.Adding.{add_step, newest}
 use Rattle.lx_caret.specs.Removing.{cut_step, start_part, start_cut, end_cut, removed_below, removed_empty, are_apart, merge_step, remove_between, removed_in, remove_text_step}
 use Rattle.lx_caret.specs.Inserting.{is_of_format, style_in, typed_fields, typed_into, typed_new, typed, insert_text_step, place_behind, broken, insert_line_break_step, tab_fields, tabbed, insert_tab_step}
-use Rattle.lx_range.proofs.Paths.{IsWay, stays, either, chained, by_read, placed, anchored}
+use Rattle.lx_blocks.proofs.Paths.{IsWay, stays, either, chained, by_read, placed, anchored}
 use Rattle.lx_caret.proofs.Paths.{add_path}
 
 module _ {D : Working → Type 0} {R : Working → Working → Type 0} (way : IsWay D R) where

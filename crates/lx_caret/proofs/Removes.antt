@@ -4,14 +4,14 @@ use Rattle.std.proofs.Common.{◌≡◌, ◌≢◌, ◌∙◌, ℕ, ◌+◌, ◌
 use Rattle.std.specs.Prelude.{is_some, option_map}
 use Rattle.std.specs.Option.{option_or}
 use Rattle.std.proofs.lemmas.Bool.Decides.{eqb_tells, nat_tests}
-use Rattle.lx_node.specs.Siblings.{NoRepeats, next_in, index_in}
+use Rattle.lx_trees.specs.Siblings.{NoRepeats, next_in, index_in}
 use Rattle.lx_node.specs.Kinds.{may_hold, is_element, has_characters}
 use Rattle.lx_node.specs.declared.kind.Kind.{Kind}
 use Rattle.lx_node.specs.declared.cause.Cause.{Cause}
 use Rattle.lx_node.specs.declared.cause.Point.{Point}
 use Rattle.lx_node.specs.declared.cause.PointKind.TheVariants as point
-use Rattle.lx_node.proofs.Siblings.{first_of-among}
-use Rattle.lx_node.proofs.Positions.{index_in-step}
+use Rattle.lx_trees.proofs.Siblings.{first_of-among}
+use Rattle.lx_trees.proofs.Positions.{index_in-step}
 use Rattle.lx_select.specs.declared.selection.Selection.{Selection}
 use Rattle.lx_select.specs.Selection.{each_point}
 use Rattle.lx_select.specs.Rules.{take_moves, moved_to}
@@ -33,7 +33,7 @@ use Rattle.lx_draft.proofs.Covered.{answered}
 use Rattle.lx_draft.proofs.CoveredSteps.{covered-take}
 use Rattle.lx_draft.proofs.Put.{both_none}
 use Rattle.lx_edit.specs.Edits.{start_in, end_in, beside, place_for, text_point, element_point, sent_from, sent_away, goes_too, may_not_be_left, removed, remove_step}
-use Rattle.lx_range.specs.Ranges.{lies}
+use Rattle.lx_blocks.specs.Ranges.{lies}
 use Rattle.lx_caret.specs.Lying.{EachPoint, IsLying, AreShort}
 use Rattle.lx_caret.proofs.Lies.{both, full, least, start_in as start_of_text, end_in as end_of_text, index_within, lies_taken, attached_taken}
 use Rattle.lx_caret.proofs.Fit.{each_moved, each_still, each_both, each_all, after_tells, Fit}

@@ -2,7 +2,7 @@
 use Rattle.std.specs.Prelude.{ℕ, codes, true, false, [], ◌∷◌, None, Ok, Err}
 use Rattle.std.proofs.Common.{◌≡◌, refl}
 use Rattle.unicode_segmentation.proofs.Computing.{unicode_segmentation}
-use Rattle.lx_node.specs.Trees.{nil}
+use Rattle.lx_trees.specs.Trees.{nil}
 use Rattle.lx_node.specs.Plain.{element_with, text_with}
 use Rattle.lx_node.specs.declared.cause.Cause.TheVariants.{NoSelection}
 use Rattle.lx_node.specs.declared.cause.SelectionKind.TheVariants as kinds

@@ -1,7 +1,7 @@
 -- Formats set on what is selected, and everything selected, each computed at a small document.
 use Rattle.std.specs.Prelude.{codes}
 use Rattle.std.proofs.Common.{◌≡◌, refl}
-use Rattle.lx_node.specs.Trees.{nil}
+use Rattle.lx_trees.specs.Trees.{nil}
 use Rattle.lx_select.specs.declared.selection.Selection.TheVariants.{Range, Nothing}
 use Rattle.lx_forest.specs.Forest.{Forest}
 use Rattle.lx_draft.specs.Working.{started}

@@ -2,7 +2,7 @@
 use Rattle.std.proofs.Common.{◌≡◌, ◌≢◌, ◌∙◌, ℕ, ◌+◌, ◌≤◌, ◌<◌, Bool, true, false, cond, eqb, leb, ◌&&◌, List, [], ◌∷◌, Option, None, Some, refl, sym, ap, ap₂, subst, arith}
 use Rattle.std.specs.Prelude.{find}
 use Rattle.std.proofs.lemmas.Bool.Decides.{eqb_tells, nat_tests}
-use Rattle.lx_node.specs.Siblings.{is_among, last_from, last_of}
+use Rattle.lx_trees.specs.Siblings.{is_among, last_from, last_of}
 use Rattle.lx_node.specs.Kinds.{may_hold, is_element, is_text}
 use Rattle.lx_node.specs.declared.cause.Point.{Point}
 use Rattle.lx_node.specs.declared.cause.PointKind.TheVariants as point
@@ -15,8 +15,8 @@ use Rattle.lx_draft.specs.Selecting.{is_counted_in, select_fault}
 use Rattle.lx_draft.specs.Steps.{select_step}
 use Rattle.lx_draft.proofs.Covered.{answered}
 use Rattle.lx_edit.specs.Edits.{text_point, element_point}
-use Rattle.lx_range.specs.Blocks.{passes, is_at}
-use Rattle.lx_range.specs.Ranges.{lies, characters_at}
+use Rattle.lx_blocks.specs.Blocks.{passes, is_at}
+use Rattle.lx_blocks.specs.Ranges.{lies, characters_at}
 use Rattle.lx_caret.specs.Lying.{IsLying, LeavesLying}
 use Rattle.lx_caret.specs.SelectAll.{first_leaf, last_leaf, place_at, start_at, end_at, select_all_step}
 use Rattle.lx_caret.proofs.Lies.{least, start_in, end_in, index_within}

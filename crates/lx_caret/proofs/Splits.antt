@@ -34,7 +34,7 @@ use Rattle.lx_draft.proofs.Put.{both_none}
 use Rattle.lx_edit.specs.Conditions.{length_at, length_in, split_fault}
 use Rattle.lx_edit.specs.Edits.{pointed}
 use Rattle.lx_edit.specs.Texts.{tail_in, tail_of, tail_made, cut_in_two, cut_at, split_step}
-use Rattle.lx_range.specs.Ranges.{lies}
+use Rattle.lx_blocks.specs.Ranges.{lies}
 use Rattle.lx_caret.specs.Lying.{EachPoint, TextsAreShort}
 use Rattle.lx_caret.proofs.Offsets.{tail_place}
 use Rattle.lx_caret.proofs.Lies.{both, spot_point, IsText, text_at, no_element, is_place_in, place_in, place_small, point_in, lies_new, lies_spliced, lies_put}

@@ -16,7 +16,7 @@ use Rattle.lx_draft.specs.Steps.{new_step, put_step}
 use Rattle.lx_edit.specs.Conditions.{kind_above}
 use Rattle.lx_draft.specs.Beside.{put_before_step, put_behind_step}
 use Rattle.lx_edit.specs.Texts.{split_step}
-use Rattle.lx_range.specs.Ranges.{normal_at, characters_at}
+use Rattle.lx_blocks.specs.Ranges.{normal_at, characters_at}
 
 -- the kind of what a node goes into at a point: an element itself, or what a text is below
 abbrev pub kind_around : Forest → ℕ → PointKind → Option Kind

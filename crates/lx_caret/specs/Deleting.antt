@@ -1,7 +1,7 @@
 -- Deleting a character or a word, and joining lines.
 use Rattle.std.specs.Prelude.{ℕ, ◌+◌, ◌==◌, ◌&&◌, ◌||◌, Bool, true, false, not, nat_lt, if◌then◌else◌, List, [], ◌∷◌, length, filter, find, Option, None, Some, Result, Ok}
 use Rattle.lx_node.specs.Kinds.{is_element, is_inline}
-use Rattle.lx_node.specs.Siblings.{last_of, names_without}
+use Rattle.lx_trees.specs.Siblings.{last_of, names_without}
 use Rattle.lx_node.specs.declared.kind.Kind.{Kind}
 use Rattle.lx_node.specs.declared.kind.Kind.TheVariants.{Table, Rule}
 use Rattle.lx_node.specs.declared.fields.TextFields.{TextFields}
@@ -17,9 +17,9 @@ use Rattle.lx_draft.specs.Working.{Working}
 use Rattle.lx_draft.specs.Faults.{after}
 use Rattle.lx_draft.specs.Steps.{splice_step, take_step, put_step}
 use Rattle.lx_edit.specs.Edits.{pointed, element_point, remove_step}
-use Rattle.lx_range.specs.Blocks.{is_at, is_line, is_rule_or_table, same_node, block_of, frame_of, leading}
-use Rattle.lx_range.specs.Places.{children_before, until, nodes_ahead, nodes_behind}
-use Rattle.lx_range.specs.Ranges.{range_of, is_collapsed, normal_at, characters_at}
+use Rattle.lx_blocks.specs.Blocks.{is_at, is_line, is_rule_or_table, same_node, block_of, frame_of, leading}
+use Rattle.lx_blocks.specs.Places.{children_before, until, nodes_ahead, nodes_behind}
+use Rattle.lx_blocks.specs.Ranges.{range_of, is_collapsed, normal_at, characters_at}
 use Rattle.lx_caret.specs.Removing.{removed_in, removed_empty}
 
 -- where a cluster or a word begins that ends at an offset of a text, or ends that begins there

@@ -14,10 +14,10 @@ use Rattle.lx_draft.specs.Faults.{after}
 use Rattle.lx_draft.specs.Steps.{set_step}
 use Rattle.lx_edit.specs.Texts.{split_step}
 use Rattle.lx_edit.specs.InTurn.{in_turn}
-use Rattle.lx_range.specs.Blocks.{is_at}
-use Rattle.lx_range.specs.Places.{covered}
+use Rattle.lx_blocks.specs.Blocks.{is_at}
+use Rattle.lx_blocks.specs.Places.{covered}
 use Rattle.lx_select.specs.Selection.{with_format}
-use Rattle.lx_range.specs.Ranges.{range_of, start_of, end_of, normal_at, characters_at}
+use Rattle.lx_blocks.specs.Ranges.{range_of, start_of, end_of, normal_at, characters_at}
 pub use Rattle.lx_caret.specs.declared.pieces.Piece.{Piece}
 use Rattle.lx_caret.specs.Removing.{start_part}
 

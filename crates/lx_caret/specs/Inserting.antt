@@ -16,7 +16,7 @@ use Rattle.lx_draft.specs.Faults.{after}
 use Rattle.lx_draft.specs.Steps.{splice_step}
 use Rattle.lx_edit.specs.Edits.{text_point, element_point}
 use Rattle.lx_edit.specs.Texts.{has_no_text}
-use Rattle.lx_range.specs.Ranges.{at_anchor, caret_at, normal_at}
+use Rattle.lx_blocks.specs.Ranges.{at_anchor, caret_at, normal_at}
 use Rattle.lx_caret.specs.Adding.{add_step, newest}
 use Rattle.lx_caret.specs.Removing.{remove_text_step}
 

@@ -12,7 +12,7 @@ use Rattle.lx_forest.specs.Lookups.{fields_of, IsHeld}
 use Rattle.lx_draft.specs.Working.{Working}
 use Rattle.lx_draft.specs.Covering.{IsReady}
 use Rattle.lx_draft.specs.Selecting.{text_of}
-use Rattle.lx_range.specs.Ranges.{lies}
+use Rattle.lx_blocks.specs.Ranges.{lies}
 
 -- each point of a range has a property, and of other selections nothing is asked
 abbrev pub EachPoint : (Point → Type 0) → Selection → Type 0

@@ -26,10 +26,10 @@ use Rattle.lx_edit.specs.Edits.{text_point, element_point, moved_to_end}
 use Rattle.lx_edit.specs.Texts.{split_step}
 use Rattle.lx_draft.specs.Beside.{put_behind_step}
 use Rattle.lx_edit.specs.InTurn.{in_turn}
-use Rattle.lx_range.specs.Blocks.{is_at, block_of}
-use Rattle.lx_range.specs.Making.{new_like}
-use Rattle.lx_range.specs.Places.{until}
-use Rattle.lx_range.specs.Ranges.{at_anchor, caret_at}
+use Rattle.lx_blocks.specs.Blocks.{is_at, block_of}
+use Rattle.lx_blocks.specs.Making.{new_like}
+use Rattle.lx_blocks.specs.Places.{until}
+use Rattle.lx_blocks.specs.Ranges.{at_anchor, caret_at}
 use Rattle.lx_caret.specs.Adding.{add_step, is_inside, newest}
 use Rattle.lx_caret.specs.Removing.{remove_text_step}
 

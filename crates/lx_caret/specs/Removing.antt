@@ -11,10 +11,10 @@ use Rattle.lx_draft.specs.Faults.{after}
 use Rattle.lx_draft.specs.Steps.{splice_step}
 use Rattle.lx_edit.specs.Edits.{remove_step, moved_to_end}
 use Rattle.lx_edit.specs.InTurn.{in_turn}
-use Rattle.lx_range.specs.declared.ranges.Ranged.{Ranged}
-use Rattle.lx_range.specs.Blocks.{block_of, leading}
-use Rattle.lx_range.specs.Places.{covered, outermost}
-use Rattle.lx_range.specs.Ranges.{range_of, is_collapsed, start_of, end_of, caret_at, normal_at, characters_at}
+use Rattle.lx_blocks.specs.declared.ranges.Ranged.{Ranged}
+use Rattle.lx_blocks.specs.Blocks.{block_of, leading}
+use Rattle.lx_blocks.specs.Places.{covered, outermost}
+use Rattle.lx_blocks.specs.Ranges.{range_of, is_collapsed, start_of, end_of, caret_at, normal_at, characters_at}
 
 -- a piece cut out of a normal text; another text goes whole, and an empty piece takes no edit
 unfoldable pub cut_step : ℕ → ℕ → ℕ → Working → Result Working Cause

@@ -1,7 +1,7 @@
 -- The whole content selected.
 use Rattle.std.specs.Prelude.{ℕ, if◌then◌else◌, Option, None, Some, Result}
 use Rattle.lx_node.specs.Kinds.{is_element, is_text}
-use Rattle.lx_node.specs.Siblings.{last_of}
+use Rattle.lx_trees.specs.Siblings.{last_of}
 use Rattle.lx_node.specs.declared.cause.Cause.{Cause}
 use Rattle.lx_node.specs.declared.cause.Point.{Point}
 use Rattle.lx_select.specs.declared.selection.Selection.TheVariants.{Range}
@@ -10,9 +10,9 @@ use Rattle.lx_forest.specs.Lookups.{parent_of, index_of, keys_within}
 use Rattle.lx_draft.specs.Working.{Working}
 use Rattle.lx_draft.specs.Steps.{select_step}
 use Rattle.lx_edit.specs.Edits.{text_point, element_point}
-use Rattle.lx_range.specs.Blocks.{is_at}
-use Rattle.lx_range.specs.Ranges.{characters_at}
-pub use Rattle.lx_range.specs.Starts.{first_leaf, place_at, start_at}
+use Rattle.lx_blocks.specs.Blocks.{is_at}
+use Rattle.lx_blocks.specs.Ranges.{characters_at}
+pub use Rattle.lx_blocks.specs.Starts.{first_leaf, place_at, start_at}
 
 -- down last children from a node: the last below it
 abbrev pub last_leaf : Forest → ℕ → Option ℕ

@@ -12,7 +12,7 @@ use lx_draft::Draft;
 use lx_edit::{admitted, split_text};
 use lx_links::Links;
 use lx_node::{Cause, Fault, Fields, Key, Kind, Point, PointKind};
-use lx_range::is_normal_at;
+use lx_blocks::is_normal_at;
 use std::alloc::Global;
 
 /// The kind of what a node goes into at a point: an element itself, or what a text is below.

@@ -6,7 +6,7 @@ ghost use Rattle.std.specs.Prelude.{◌≡◌, true, Ok, OnOk, IfOk, IfErr, IfSo
 ghost use Rattle.lx_node.specs.Kinds.{is_item};
 ghost use Rattle.lx_draft.specs.Faults.{TellsStep};
 ghost use Rattle.lx_edit.specs.Standing.{StillStands};
-ghost use Rattle.lx_range.specs.Blocks.{is_at};
+ghost use Rattle.lx_blocks.specs.Blocks.{is_at};
 ghost use Rattle.lx_caret.specs.Deleting.{delete_character_step, delete_word_step};
 ghost use Rattle.lx_caret.specs.Formatting.{format_text_step};
 ghost use Rattle.lx_caret.specs.Inserting.{insert_text_step, insert_line_break_step, insert_tab_step};

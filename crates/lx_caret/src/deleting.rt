@@ -1,7 +1,7 @@
 //! Deleting a character or a word.
 
 ghost use Rattle.std.specs.Prelude.{◌≡◌, ◌≤◌, ◌&&◌, not, true, false, if◌then◌else◌, [], Ok, Some, option_map, OnOk, IfErr, IfSome, chars};
-ghost use Rattle.lx_node.specs.Siblings.{is_named};
+ghost use Rattle.lx_trees.specs.Siblings.{is_named};
 ghost use Rattle.lx_text.specs.Texts.{is_offset};
 ghost use Rattle.lx_draft.specs.Selecting.{text_of};
 ghost use Rattle.lx_forest.specs.Lookups as lookups;
@@ -9,9 +9,9 @@ ghost use Rattle.lx_links.specs.Stands.{Sound};
 ghost use Rattle.lx_draft.specs.Faults.{TellsStep};
 ghost use Rattle.lx_draft.specs.Steps.{splice_step};
 ghost use Rattle.lx_edit.specs.Standing.{StillStands};
-ghost use Rattle.lx_range.specs.Blocks as blocks;
-ghost use Rattle.lx_range.specs.Ranges as ranges;
-ghost use Rattle.lx_range.specs.Walks as walks;
+ghost use Rattle.lx_blocks.specs.Blocks as blocks;
+ghost use Rattle.lx_blocks.specs.Ranges as ranges;
+ghost use Rattle.lx_blocks.specs.Walks as walks;
 ghost use Rattle.lx_caret.specs.Deleting as deleting;
 ghost use Rattle.lx_caret.specs.Stretches.{reach_of, erased_to};
 
@@ -21,7 +21,7 @@ use lx_draft::Draft;
 use lx_edit::remove;
 use lx_links::Links;
 use lx_node::{Fault, Key, Point, PointKind};
-use lx_range::{
+use lx_blocks::{
     block, first_behind, is_collapsed, is_element_at, last_before, normal_at, previous_in_tree,
     range_of, same_node,
 };

@@ -5,7 +5,7 @@ ghost use Rattle.lx_node.specs.declared.fields.Fields.TheVariants as fields;
 ghost use Rattle.lx_draft.specs.Faults.{TellsStep};
 ghost use Rattle.lx_edit.specs.InTurn.{in_turn};
 ghost use Rattle.lx_edit.specs.Standing.{StillStands};
-ghost use Rattle.lx_range.specs.Ranges as ranges;
+ghost use Rattle.lx_blocks.specs.Ranges as ranges;
 ghost use Rattle.lx_caret.specs.declared.pieces.Piece.{Piece};
 ghost use Rattle.lx_caret.specs.Formatting as formatting;
 ghost use Rattle.lx_caret.specs.Formatting.{format_text_step};
@@ -13,7 +13,7 @@ ghost use Rattle.lx_caret.specs.Formatting.{format_text_step};
 use crate::pieces::{Piece, isolate_each, pieces_between};
 use lx_draft::Draft;
 use lx_node::{Fault, Fields, Key, NoMemory, TextFields};
-use lx_range::{in_order, range_of};
+use lx_blocks::{in_order, range_of};
 use std::alloc::Global;
 
 // ---- bits

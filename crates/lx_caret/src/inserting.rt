@@ -7,7 +7,7 @@ ghost use Rattle.lx_draft.specs.Working.{Working};
 ghost use Rattle.lx_draft.specs.Faults.{TellsStep};
 ghost use Rattle.lx_edit.specs.Standing.{StillStands};
 ghost use Rattle.lx_edit.specs.Texts as texts;
-ghost use Rattle.lx_range.specs.Ranges as ranges;
+ghost use Rattle.lx_blocks.specs.Ranges as ranges;
 ghost use Rattle.lx_caret.specs.Inserting as inserting;
 ghost use Rattle.lx_caret.specs.Inserting.{insert_text_step, insert_line_break_step, insert_tab_step};
 
@@ -17,7 +17,7 @@ use lx_draft::Draft;
 use lx_edit::{admitted, element_point, text_point};
 use lx_links::Links;
 use lx_node::{Fault, Fields, Key, Kind, Mode, NoMemory, Point, TextFields, Txt};
-use lx_range::{Ranged, no_range, normal_at, place_caret, shown_range};
+use lx_blocks::{Ranged, no_range, normal_at, place_caret, shown_range};
 use std::alloc::Global;
 
 /// The range that is selected after what it covered was removed, for a step at its anchor. It is refused with `NoSelection`

@@ -6,8 +6,8 @@ ghost use Rattle.lx_forest.specs.Lookups as lookups;
 ghost use Rattle.lx_draft.specs.Faults.{TellsStep, after};
 ghost use Rattle.lx_draft.specs.Steps.{take_step, put_step};
 ghost use Rattle.lx_edit.specs.Standing.{StillStands};
-ghost use Rattle.lx_range.specs.Blocks as blocks;
-ghost use Rattle.lx_range.specs.Walks.{left_from, IsAt};
+ghost use Rattle.lx_blocks.specs.Blocks as blocks;
+ghost use Rattle.lx_blocks.specs.Walks.{left_from, IsAt};
 ghost use Rattle.lx_caret.specs.Deleting as deleting;
 
 use crate::removing::remove_empty;
@@ -15,7 +15,7 @@ use lx_draft::{Draft, PointRule};
 use lx_edit::{element_point, remove};
 use lx_links::Links;
 use lx_node::{Fault, Key, Kind};
-use lx_range::{
+use lx_blocks::{
     frame, is_inline_at, is_line, is_rule_or_table_at, leading, previous_in_tree, same_node,
 };
 use std::alloc::Global;

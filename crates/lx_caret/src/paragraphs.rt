@@ -4,8 +4,8 @@ ghost use Rattle.std.specs.Prelude.{◌≡◌, true, Ok, OnOk, IfOk, IfErr};
 ghost use Rattle.lx_node.specs.Kinds as kinds;
 ghost use Rattle.lx_draft.specs.Faults.{TellsStep};
 ghost use Rattle.lx_edit.specs.Standing.{StillStands};
-ghost use Rattle.lx_range.specs.Blocks as blocks;
-ghost use Rattle.lx_range.specs.Ranges as ranges;
+ghost use Rattle.lx_blocks.specs.Blocks as blocks;
+ghost use Rattle.lx_blocks.specs.Ranges as ranges;
 ghost use Rattle.lx_caret.specs.Paragraphs as paragraphs;
 ghost use Rattle.lx_caret.specs.Paragraphs.{insert_paragraph_step};
 
@@ -18,7 +18,7 @@ use lx_draft::Draft;
 use lx_edit::{admitted, element_point, move_each, split_text, text_point};
 use lx_links::Links;
 use lx_node::{Cause, Fault, Fields, Key, Kind, Point};
-use lx_range::{block, children_from, has_characters_at, is_item_at, place_caret, shown_range};
+use lx_blocks::{block, children_from, has_characters_at, is_item_at, place_caret, shown_range};
 use std::alloc::Global;
 
 /// Removes what is selected, and cuts the block at the caret in two.

@@ -5,19 +5,19 @@ ghost use Rattle.lx_node.specs.Kinds as kinds;
 ghost use Rattle.lx_forest.specs.Lookups as lookups;
 ghost use Rattle.lx_draft.specs.Faults.{TellsStep};
 ghost use Rattle.lx_edit.specs.Standing.{StillStands};
-ghost use Rattle.lx_range.specs.Blocks as blocks;
-ghost use Rattle.lx_range.specs.Places.{until};
+ghost use Rattle.lx_blocks.specs.Blocks as blocks;
+ghost use Rattle.lx_blocks.specs.Places.{until};
 ghost use Rattle.lx_caret.specs.Paragraphs as paragraphs;
 
 use lx_draft::Draft;
 use lx_edit::move_each;
 use lx_links::Links;
 use lx_node::{Fault, Key, NoMemory, Point, PointKind};
-use lx_range::{children_from, is_link_at, make_like};
+use lx_blocks::{children_from, is_link_at, make_like};
 use std::alloc::Global;
 
 /// How many children of its parent come before an offset of a node: the node itself does so where it isn't 0.
-#[tactic(auto, using(lx_range::proofs::Passing::index_fits))]
+#[tactic(auto, using(lx_blocks::proofs::Passing::index_fits))]
 fn place_above(links: &Links, key: Key, offset: u32) -> u32
     ensures { result ≡ paragraphs.place_of (lookups.index_of links.now key) offset }
 {

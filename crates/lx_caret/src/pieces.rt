@@ -6,8 +6,8 @@ ghost use Rattle.lx_forest.specs.Lookups as lookups;
 ghost use Rattle.lx_draft.specs.Faults.{TellsStep};
 ghost use Rattle.lx_edit.specs.Standing.{StillStands};
 ghost use Rattle.lx_edit.specs.Texts.{split_step, keys_from};
-ghost use Rattle.lx_range.specs.Blocks as blocks;
-ghost use Rattle.lx_range.specs.Ranges as ranges;
+ghost use Rattle.lx_blocks.specs.Blocks as blocks;
+ghost use Rattle.lx_blocks.specs.Ranges as ranges;
 ghost use Rattle.lx_caret.specs.declared.pieces.Piece.{Piece};
 ghost use Rattle.lx_caret.specs.Formatting as formatting;
 
@@ -15,7 +15,7 @@ use crate::removing::start_part;
 use lx_draft::Draft;
 use lx_edit::split_text;
 use lx_node::{Fault, Key, NoMemory, Point, PointKind};
-use lx_range::{covered, has_characters_at, is_normal_at};
+use lx_blocks::{covered, has_characters_at, is_normal_at};
 use std::alloc::Global;
 
 /// The part of a text or tab from one offset to another.

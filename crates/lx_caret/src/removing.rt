@@ -12,7 +12,7 @@ use lx_draft::Draft;
 use lx_edit::{move_each, remove};
 use lx_links::Links;
 use lx_node::{Fault, Key, Point, PointKind};
-use lx_range::{
+use lx_blocks::{
     Ranged, block, in_order, is_collapsed, is_normal_at, leading, outermost, place_caret, range_of,
 };
 use std::alloc::Global;

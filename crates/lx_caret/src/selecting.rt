@@ -1,7 +1,7 @@
 //! The whole content selected.
 
 ghost use Rattle.std.specs.Prelude.{◌≡◌, ◌≢◌, Some, Ok, OnOk, IfErr};
-ghost use Rattle.lx_node.specs.Trees.{nil};
+ghost use Rattle.lx_trees.specs.Trees.{nil};
 ghost use Rattle.lx_forest.specs.Lookups as lookups;
 ghost use Rattle.lx_draft.specs.Faults.{TellsStep};
 ghost use Rattle.lx_edit.specs.Standing.{StillStands};
@@ -12,7 +12,7 @@ use lx_draft::Draft;
 use lx_edit::{admitted, element_point, text_point};
 use lx_links::Links;
 use lx_node::{Fault, Key, Point};
-use lx_range::{is_element_at, is_text_at, start_within};
+use lx_blocks::{is_element_at, is_text_at, start_within};
 use lx_select::Selection;
 
 /// The last node, down last children from the root.
@@ -28,7 +28,7 @@ fn last_leaf(links: &Links) -> Key
 }
 
 /// The place after a node in its parent.
-#[tactic(auto, using(lx_range::proofs::Passing::index_fits))]
+#[tactic(auto, using(lx_blocks::proofs::Passing::index_fits))]
 fn place_behind(links: &Links, key: Key) -> Point
     ensures { result ≡ selecting.place_at 1 key (lookups.parent_of links.now key) (lookups.index_of links.now key) }
 {

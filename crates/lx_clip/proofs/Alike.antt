@@ -8,7 +8,7 @@ use Rattle.serde_json.specs.Written.{has_float}
 use Rattle.lx_node.specs.declared.cause.Point.{Point}
 use Rattle.lx_forest.specs.Forest.{Forest}
 use Rattle.lx_forest.specs.Lookups.{children_of, trees_of}
-use Rattle.lx_range.specs.Blocks.{frame_of}
+use Rattle.lx_blocks.specs.Blocks.{frame_of}
 use Rattle.lx_json.proofs.Whole.{trees-whole}
 use Rattle.lx_clip.specs.Extents.{AreAlike}
 use Rattle.lx_clip.specs.Covers.{Extent}

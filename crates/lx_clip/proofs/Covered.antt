@@ -6,10 +6,10 @@ use Rattle.std.proofs.lemmas.Bool.Decides.{eqb_tells}
 use Rattle.serde_json.specs.declared.value.Value.{Value}
 use Rattle.serde_json.specs.Data.{Data, no_items, item}
 use Rattle.serde_json.specs.View.{view, items_of, items_view}
-use Rattle.lx_node.specs.Trees.{nil, tree, joined}
-use Rattle.lx_node.specs.Spots.{Spot}
-use Rattle.lx_node.specs.NamedTrees.{total}
-use Rattle.lx_node.specs.Siblings.{is_among}
+use Rattle.lx_trees.specs.Trees.{nil, tree, joined}
+use Rattle.lx_trees.specs.Spots.{Spot}
+use Rattle.lx_trees.specs.NamedTrees.{total}
+use Rattle.lx_trees.specs.Siblings.{is_among}
 use Rattle.lx_node.specs.Kinds.{is_inline}
 use Rattle.lx_node.specs.declared.kind.Kind.{Kind}
 use Rattle.lx_node.specs.declared.fields.Fields.{Fields}
@@ -27,8 +27,8 @@ use Rattle.lx_links.proofs.Placed.{parent_of-child}
 use Rattle.lx_links.proofs.Up.{in_order_at}
 use Rattle.lx_draft.specs.Faults.{text_in}
 use Rattle.lx_draft.specs.Selecting.{length_told}
-use Rattle.lx_range.specs.Blocks.{is_at, passes}
-use Rattle.lx_range.specs.Ranges.{if_normal}
+use Rattle.lx_blocks.specs.Blocks.{is_at, passes}
+use Rattle.lx_blocks.specs.Ranges.{if_normal}
 use Rattle.lx_fields.specs.Exporting.{node_data}
 use Rattle.lx_json.specs.Exporting.{trees_data}
 use Rattle.lx_json.proofs.BackWritten.{IsRead, written, items_of-written, written-joined, map_more}

@@ -5,7 +5,7 @@ use Rattle.std.proofs.lemmas.Bool.Decides.{nat_tests}
 use Rattle.serde_json.specs.declared.value.Value.{Value}
 use Rattle.serde_json.specs.Data.{Items, no_items, item}
 use Rattle.serde_json.specs.View.{view, items_view}
-use Rattle.lx_node.specs.Trees.{nil, tree}
+use Rattle.lx_trees.specs.Trees.{nil, tree}
 use Rattle.lx_node.specs.OfKind.{IsOfKind, is_of_kind, fits_kind, is_text_of, are_text_fields, is_normal}
 use Rattle.lx_node.specs.Kinds.{is_possible}
 use Rattle.lx_node.specs.declared.kind.Kind.{Kind}
@@ -19,7 +19,7 @@ use Rattle.lx_forest.specs.Forest.{Label}
 use Rattle.lx_draft.specs.Faults.{text_fields}
 use Rattle.lx_draft.specs.Selecting.{length_told}
 use Rattle.lx_draft.specs.Steps.{text_replaced}
-use Rattle.lx_range.specs.Ranges.{if_normal}
+use Rattle.lx_blocks.specs.Ranges.{if_normal}
 use Rattle.lx_fields.specs.Exporting.{node_data}
 use Rattle.lx_json.specs.Exporting.{trees_data}
 use Rattle.lx_clip.specs.Covers.{Extent, from_in, to_in, is_met, is_covered_text, cut_to, part_cover, text_cover, label_for}

@@ -3,10 +3,10 @@ use Rattle.std.proofs.Common.{◌≡◌, ◌∙◌, ◌-◌, ℕ, suc, false, Li
 use Rattle.std.specs.Prelude.{unwrap_or}
 use Rattle.std.specs.List.{slice_get}
 use Rattle.std.proofs.lemmas.Bool.Decides.{nat_tests}
-use Rattle.lx_node.specs.NamedTrees as named
-use Rattle.lx_node.specs.Siblings.{last_of}
-use Rattle.lx_node.proofs.NamedTrees.{alone-absent}
-use Rattle.lx_node.proofs.Positions.{last_of-slice_get}
+use Rattle.lx_trees.specs.NamedTrees as named
+use Rattle.lx_trees.specs.Siblings.{last_of}
+use Rattle.lx_trees.proofs.NamedTrees.{alone-absent}
+use Rattle.lx_trees.proofs.Positions.{last_of-slice_get}
 use Rattle.lx_forest.specs.Forest.{Forest}
 use Rattle.lx_forest.specs.Lookups.{key_of, has, count}
 use Rattle.lx_clip.specs.Pasting.{last_leaf}

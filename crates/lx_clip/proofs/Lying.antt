@@ -3,14 +3,14 @@ use Rattle.std.proofs.Common.{◌≡◌, ℕ, Bool, true, false, cond, eqb, List
 use Rattle.std.specs.Prelude.{find, unwrap_or}
 use Rattle.serde_json.specs.Data.{Data, null, boolean, number, string, array, object}
 use Rattle.serde_json.specs.Find.{get}
-use Rattle.lx_node.specs.Siblings.{is_among, last_of}
+use Rattle.lx_trees.specs.Siblings.{is_among, last_of}
 use Rattle.lx_node.specs.declared.cause.Cause.{Cause}
 use Rattle.lx_node.specs.declared.cause.Point.{Point}
 use Rattle.lx_forest.specs.Forest.{Forest}
 use Rattle.lx_forest.specs.Lookups.{parent_of, children_of, ancestors, is_attached, IsForest}
 use Rattle.lx_draft.specs.Working.{Working}
 use Rattle.lx_draft.specs.Faults.{answer, after}
-use Rattle.lx_range.specs.Blocks.{block_of}
+use Rattle.lx_blocks.specs.Blocks.{block_of}
 use Rattle.lx_json.specs.Nodes.{Made, nodes_read}
 use Rattle.lx_caret.specs.Adding.{kind_around, opened, put_by}
 use Rattle.lx_caret.specs.Lying.{LeavesLying}

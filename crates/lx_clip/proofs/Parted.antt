@@ -4,12 +4,12 @@ use Rattle.std.proofs.Common.{◌≡◌, ◌∙◌, ℕ, zero, suc, true, false,
 use Rattle.std.specs.Prelude.{slice_get}
 use Rattle.std.specs.Option.{option_or}
 use Rattle.std.proofs.lemmas.Bool.Decides.{eqb_tells}
-use Rattle.lx_node.specs.Siblings.{is_among, is_named}
+use Rattle.lx_trees.specs.Siblings.{is_among, is_named}
 use Rattle.lx_node.specs.Strings.{characters_of}
 use Rattle.lx_node.specs.declared.kind.Kind.{Kind}
 use Rattle.lx_node.specs.declared.fields.Fields.{Fields}
 use Rattle.lx_node.specs.declared.cause.Cause.{Cause}
-use Rattle.lx_node.proofs.Siblings.{is_named_tells}
+use Rattle.lx_trees.proofs.Siblings.{is_named_tells}
 use Rattle.lx_forest.specs.Forest.{Forest, Label}
 use Rattle.lx_forest.specs.Lookups.{has, label_of, parent_of, children_of, size_of, is_within, is_attached, IsForest}
 use Rattle.lx_forest.specs.Edits.{with_new, take_out, put_in}
@@ -23,7 +23,7 @@ use Rattle.lx_draft.proofs.Covered.{answered}
 use Rattle.lx_draft.proofs.Put.{both_none}
 use Rattle.lx_edit.specs.InTurn.{in_turn}
 use Rattle.lx_edit.specs.Edits.{moved_to_end}
-use Rattle.lx_range.specs.Making.{new_like}
+use Rattle.lx_blocks.specs.Making.{new_like}
 use Rattle.lx_caret.proofs.Lies.{attached_taken}
 use Rattle.lx_caret.proofs.Fit.{after_tells, Fit, puts}
 use Rattle.lx_caret.proofs.Moves.{taken_below, not_root}

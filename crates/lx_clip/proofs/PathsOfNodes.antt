@@ -13,7 +13,7 @@ use Rattle.lx_draft.specs.Steps.{new_step, put_step}
 use Rattle.lx_edit.proofs.Paths.{Leads, self, ok}
 use Rattle.lx_json.specs.Reading.{Piece, and_then, told_under, child_place, piece_of}
 use Rattle.lx_json.specs.Nodes.{put_below, node_new, made_with, node_made, children_made, list_made, items_made, Made, index_place, with_first, nodes_made, nodes_read}
-use Rattle.lx_range.proofs.Paths.{IsWay, LeadsTo}
+use Rattle.lx_blocks.proofs.Paths.{IsWay, LeadsTo}
 
 -- a relation of a draft to what it became that holds of those two steps and composes
 pub record IsMaking (D : Working → Type 0) (R : Working → Working → Type 0) : Type 0 where

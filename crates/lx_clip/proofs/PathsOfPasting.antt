@@ -2,7 +2,7 @@
 use Rattle.std.proofs.Common.{ℕ, ◌==◌, Bool, true, false, List, [], ◌∷◌, drop, codes, Option, None, Some, Result, Ok}
 use Rattle.serde_json.specs.Data.{Data, null, boolean, number, string, array, object}
 use Rattle.serde_json.specs.Find.{get}
-use Rattle.lx_node.specs.Siblings.{last_of}
+use Rattle.lx_trees.specs.Siblings.{last_of}
 use Rattle.lx_node.specs.declared.cause.Cause.{Cause}
 use Rattle.lx_node.specs.declared.cause.Point.{Point}
 use Rattle.lx_forest.specs.Lookups.{label_of, children_of}
@@ -12,13 +12,13 @@ use Rattle.lx_draft.specs.Beside.{put_behind_step}
 use Rattle.lx_edit.specs.InTurn.{in_turn}
 use Rattle.lx_edit.specs.Edits.{moved_to_end}
 use Rattle.lx_edit.proofs.Paths.{Leads, self, then, ok, allowed, points, put_behind_path}
-use Rattle.lx_range.specs.Blocks.{block_of}
-use Rattle.lx_range.specs.Making.{new_like}
+use Rattle.lx_blocks.specs.Blocks.{block_of}
+use Rattle.lx_blocks.specs.Making.{new_like}
 use Rattle.lx_json.specs.Nodes.{Made, nodes_read}
 use Rattle.lx_caret.specs.Adding.{kind_around, opened, put_by}
 use Rattle.lx_caret.specs.Paragraphs.{cut_open, holders_in, before_point, Parted, parted_up}
 use Rattle.lx_caret.specs.Removing.{removed_empty, remove_text_step}
-use Rattle.lx_range.proofs.Paths.{IsWay, stays, either, chained, by_read, LeadsTo, then_to, ok_to, anchored}
+use Rattle.lx_blocks.proofs.Paths.{IsWay, stays, either, chained, by_read, LeadsTo, then_to, ok_to, anchored}
 use Rattle.lx_caret.proofs.Paths.{opened_path, put_by_path}
 use Rattle.lx_caret.proofs.PathsOfTexts.{all_moved_path, removed_empty_path, remove_text_path}
 use Rattle.lx_caret.proofs.PathsOfParagraphs.{cut_open_path, new_like_path, parted_up_path}

@@ -4,13 +4,13 @@ use Rattle.std.proofs.Common.{◌≡◌, ◌≢◌, ◌∙◌, ℕ, ◌+◌, Boo
 use Rattle.std.specs.Prelude.{slice_get, unwrap_or}
 use Rattle.std.specs.Option.{option_or}
 use Rattle.std.proofs.lemmas.Bool.Decides.{eqb_tells}
-use Rattle.lx_node.specs.Siblings.{is_among, last_from, last_of}
+use Rattle.lx_trees.specs.Siblings.{is_among, last_from, last_of}
 use Rattle.lx_node.specs.Kinds.{may_hold, is_element, has_characters}
 use Rattle.lx_node.specs.declared.kind.Kind.{Kind}
 use Rattle.lx_node.specs.declared.cause.Cause.{Cause}
 use Rattle.lx_node.specs.declared.cause.Point.{Point}
 use Rattle.lx_node.specs.declared.cause.PointKind.TheVariants as point
-use Rattle.lx_node.proofs.NamedTrees.{is_among-preorder}
+use Rattle.lx_trees.proofs.NamedTrees.{is_among-preorder}
 use Rattle.lx_forest.specs.Forest.{Forest}
 use Rattle.lx_forest.specs.Lookups.{key_of, alone, kind_of, fields_of, parent_of, index_of, children_of, size_of, keys_within, is_within, is_attached, IsForest, IsHeld}
 use Rattle.lx_forest.specs.Edits.{take_out, put_in}
@@ -29,7 +29,7 @@ use Rattle.lx_draft.proofs.Covered.{answered}
 use Rattle.lx_draft.proofs.CoveredSteps.{covered-take, covered-put}
 use Rattle.lx_draft.proofs.Put.{both_none}
 use Rattle.lx_edit.specs.Edits.{text_point, element_point, end_in}
-use Rattle.lx_range.specs.Ranges.{lies, caret_at}
+use Rattle.lx_blocks.specs.Ranges.{lies, caret_at}
 use Rattle.lx_caret.specs.Inserting.{place_behind}
 use Rattle.lx_caret.specs.Lying.{TextsAreShort}
 use Rattle.lx_caret.proofs.Lies.{full, end_in as end_of_text}

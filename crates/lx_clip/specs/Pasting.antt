@@ -5,7 +5,7 @@ use Rattle.serde_json.specs.Data.{Data, string, array, Items, no_items, item}
 use Rattle.serde_json.specs.Find.{get}
 use Rattle.serde_json.specs.Read.{read}
 use Rattle.lx_node.specs.Kinds.{is_inline}
-use Rattle.lx_node.specs.Siblings.{last_of}
+use Rattle.lx_trees.specs.Siblings.{last_of}
 use Rattle.lx_node.specs.declared.kind.Kind.{Kind}
 use Rattle.lx_node.specs.declared.kind.Kind.TheVariants.{Root, Paragraph, Cell}
 use Rattle.lx_node.specs.declared.cause.Cause.{Cause}
@@ -18,9 +18,9 @@ use Rattle.lx_draft.specs.Faults.{answer, after}
 use Rattle.lx_draft.specs.Beside.{put_behind_step}
 use Rattle.lx_edit.specs.Edits.{end_in, moved_to_end}
 use Rattle.lx_edit.specs.InTurn.{in_turn}
-use Rattle.lx_range.specs.Blocks.{passes, block_of}
-use Rattle.lx_range.specs.Making.{new_like}
-use Rattle.lx_range.specs.Ranges.{at_anchor, caret_at}
+use Rattle.lx_blocks.specs.Blocks.{passes, block_of}
+use Rattle.lx_blocks.specs.Making.{new_like}
+use Rattle.lx_blocks.specs.Ranges.{at_anchor, caret_at}
 use Rattle.lx_fields.specs.Types.{kind_of_type}
 use Rattle.lx_json.specs.Nodes.{nodes_read}
 use Rattle.lx_caret.specs.Adding.{kind_around, no_room, opened, put_by}

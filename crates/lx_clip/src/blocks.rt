@@ -2,9 +2,9 @@
 
 ghost use Rattle.std.specs.Prelude.{◌≡◌, true, Ok, OnOk, IfOk, IfErr};
 ghost use Rattle.lx_node.specs.Kinds as kinds;
-ghost use Rattle.lx_node.specs.Siblings.{last_of};
+ghost use Rattle.lx_trees.specs.Siblings.{last_of};
 ghost use Rattle.lx_draft.specs.Faults.{TellsStep};
-ghost use Rattle.lx_range.specs.Blocks as blocks;
+ghost use Rattle.lx_blocks.specs.Blocks as blocks;
 ghost use Rattle.lx_clip.specs.Pasting as pasting;
 
 use crate::adding::{add_nodes, put_behind_each};
@@ -15,7 +15,7 @@ use lx_draft::Draft;
 use lx_edit::move_each;
 use lx_links::Links;
 use lx_node::{Fault, Key, Kind, Point};
-use lx_range::{block, children_from, make_like};
+use lx_blocks::{block, children_from, make_like};
 use std::alloc::Global;
 
 /// Makes a new block like another of what stays after the point, if anything does.

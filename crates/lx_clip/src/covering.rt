@@ -4,7 +4,7 @@ ghost use Rattle.std.specs.Prelude.{◌≡◌, ◌&&◌, ◌++◌, ◌∷◌, []
 ghost use Rattle.std.specs.Option.{option_copied};
 ghost use Rattle.serde_json.specs.Data.{item, no_items};
 ghost use Rattle.serde_json.specs.View.{view, items_view};
-ghost use Rattle.lx_node.specs.Siblings.{is_among};
+ghost use Rattle.lx_trees.specs.Siblings.{is_among};
 ghost use Rattle.lx_node.specs.OfKind as of_kind;
 ghost use Rattle.lx_node.specs.OfKind.{IsOfKind};
 ghost use Rattle.lx_node.specs.Kinds.{is_inline};
@@ -14,8 +14,8 @@ ghost use Rattle.lx_forest.specs.Lookups as lookups;
 ghost use Rattle.lx_links.specs.Stands.{Sound};
 ghost use Rattle.lx_draft.specs.Faults.{text_in};
 ghost use Rattle.lx_draft.specs.Steps.{text_replaced};
-ghost use Rattle.lx_range.specs.Blocks.{is_at};
-ghost use Rattle.lx_range.specs.Ranges.{if_normal};
+ghost use Rattle.lx_blocks.specs.Blocks.{is_at};
+ghost use Rattle.lx_blocks.specs.Ranges.{if_normal};
 ghost use Rattle.lx_json.specs.Exporting.{trees_data};
 ghost use Rattle.lx_clip.specs.Covers as covers;
 ghost use Rattle.lx_clip.specs.Covers.{item_if, label_for};
@@ -27,7 +27,7 @@ use lx_draft::with_text;
 use lx_fields::node_value;
 use lx_links::Links;
 use lx_node::{Fields, Key, Kind, Mode, NoMemory, Node, Point, TextFields};
-use lx_range::{covered, is_inline_at};
+use lx_blocks::{covered, is_inline_at};
 use serde_json::Value;
 use std::alloc::Global;
 

@@ -2,14 +2,14 @@
 use Rattle.std.proofs.Common.{◌≡◌, ◌∙◌, ◌⊎◌, ℕ, Bool, true, false, List, [], ◌∷◌, Option, None, Some, refl, sym, ap, inl, inr, arith}
 use Rattle.std.specs.Prelude.{is_none, is_some}
 use Rattle.std.proofs.lemmas.Bool.Decides.{eqb_tells}
-use Rattle.lx_node.specs.Siblings.{is_named, is_among, NoRepeats, first_of, next_in, previous_in}
-use Rattle.lx_node.proofs.Siblings.{is_named_tells, first_of-among, is_none-previous_in, same_names}
+use Rattle.lx_trees.specs.Siblings.{is_named, is_among, NoRepeats, first_of, next_in, previous_in}
+use Rattle.lx_trees.proofs.Siblings.{is_named_tells, first_of-among, is_none-previous_in, same_names}
 use Rattle.lx_marks.specs.Marks.{Marked, is_touched, is_noted, is_true_flag, flag_in}
 use Rattle.lx_forest.specs.Forest.{Forest}
 use Rattle.lx_forest.specs.Lookups.{has, parent_of, children_of, children_below, previous_of, next_of, IsForest}
 use Rattle.lx_forest.proofs.Lookups.{is_among-children_of, NoRepeats-children_of, has-child}
 use Rattle.lx_forest.proofs.Walks.{cases_option}
-use Rattle.lx_plain.specs.Allowed.{IsAlike, AreCovered}
+use Rattle.lx_forest.specs.Covered.{IsAlike, AreCovered}
 use Rattle.lx_compare.specs.Differing.{KeepsKinds, IsUnchanged, AreKnown}
 use Rattle.lx_compare.specs.Marking.{AreFounded, IsTold, IsSettled}
 

@@ -2,7 +2,7 @@
 use Rattle.std.proofs.Common.{◌≡◌, ◌≢◌, ◌∙◌, ◌<◌, ◌+◌, ℕ, true, false, nat_lt, [], ◌∷◌, Option, None, Some, refl, sym, ap, subst, inl, inr, arith}
 use Rattle.std.specs.Prelude.{is_some}
 use Rattle.std.proofs.lemmas.Bool.{cases_eq}
-use Rattle.lx_node.specs.Trees.{nil}
+use Rattle.lx_trees.specs.Trees.{nil}
 use Rattle.lx_node.specs.declared.node.Node.{Node}
 use Rattle.lx_marks.specs.Marks.{Marked}
 use Rattle.lx_forest.specs.Forest.{Forest}

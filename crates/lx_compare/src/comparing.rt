@@ -1,7 +1,7 @@
 ghost use Rattle.std.specs.Prelude.{ℕ, ◌≡◌, true, [], ◌∷◌, OnOk, IfOk};
 ghost use Rattle.lx_forest.specs.Lookups.{roots, IsForest};
 ghost use Rattle.lx_marks.specs.Marks.{is_touched, is_noted};
-ghost use Rattle.lx_plain.specs.Allowed.{AreCovered};
+ghost use Rattle.lx_forest.specs.Covered.{AreCovered};
 ghost use Rattle.lx_compare.specs.Differing.{KeepsKinds, IsAffected, AreKnown};
 ghost use Rattle.lx_compare.specs.Marking.{AreFounded, Grows, IsSettled};
 

@@ -1,6 +1,6 @@
 -- What marking covers: a step that marks the nodes that it changes.
 use Rattle.std.proofs.Common.{◌≡◌, ◌∙◌, ℕ, ◌≤◌, Bool, true, false, cond, ◌||◌, ◌&&◌, List, [], Option, None, Some, Result, Ok, Err, refl, sym, ap, subst, arith, inl, inr, ◌⊎◌}
-use Rattle.lx_node.specs.Siblings.{is_among}
+use Rattle.lx_trees.specs.Siblings.{is_among}
 use Rattle.lx_node.specs.declared.cause.Cause.{Cause}
 use Rattle.lx_marks.specs.Marks.{Marked, is_touched, is_noted}
 use Rattle.lx_forest.specs.Forest.{Forest}

@@ -3,13 +3,13 @@ use Rattle.std.proofs.Common.{◌≡◌, ◌∙◌, ℕ, Bool, true, false, cond
 use Rattle.std.specs.Prelude.{is_some, option_map, slice_get}
 use Rattle.std.proofs.lemmas.Bool.{cases_Bool}
 use Rattle.std.proofs.lemmas.Bool.Decides.{eqb_tells}
-use Rattle.lx_node.specs.Siblings.{is_among, is_named, is_place, place_behind, names_without}
-use Rattle.lx_node.specs.Spots.{Spot, children_at}
+use Rattle.lx_trees.specs.Siblings.{is_among, is_named, is_place, place_behind, names_without}
+use Rattle.lx_trees.specs.Spots.{Spot, children_at}
 use Rattle.lx_node.specs.Same.{same_fields}
 use Rattle.lx_node.specs.declared.fields.Fields.{Fields}
 use Rattle.lx_node.proofs.Same.{same_fields-Decides}
-use Rattle.lx_node.proofs.Siblings.{names_without-absent_list}
-use Rattle.lx_node.proofs.Positions.{is_among-slice_get}
+use Rattle.lx_trees.proofs.Siblings.{names_without-absent_list}
+use Rattle.lx_trees.proofs.Positions.{is_among-slice_get}
 use Rattle.lx_forest.specs.Forest.{Forest, Label}
 use Rattle.lx_forest.specs.Lookups.{count, has, spot, label_of, fields_of, parent_of, children_of, previous_of, next_of, IsForest}
 use Rattle.lx_forest.specs.Edits.{with_new, with_fields, take_out, put_in, CanPut, reset, taken, placed}

@@ -4,7 +4,7 @@ use Rattle.std.proofs.lemmas.List.{take_more}
 use Rattle.std.proofs.lemmas.Bool.{cases_Bool, cases_lt}
 use Rattle.std.proofs.lemmas.Bool.Decides.{eqb_tells, nat_tests}
 use Rattle.lx_node.specs.Strings.{capped}
-use Rattle.lx_node.specs.Siblings.{is_among}
+use Rattle.lx_trees.specs.Siblings.{is_among}
 use Rattle.lx_node.specs.declared.cause.Limit.TheVariants.{Depth}
 use Rattle.lx_forest.specs.Forest.{Forest}
 use Rattle.lx_forest.specs.Lookups.{has, depth, preorder, is_within, is_attached, ancestors, IsForest}

@@ -1,8 +1,8 @@
 -- What holds of a draft and the keys that it has made or taken out still holds after each edit of its forest.
 use Rattle.std.proofs.Common.{◌≡◌, ◌≢◌, ℕ, ◌+◌, ◌||◌, true, false, eqb, List, Option, None, sym, ap, subst, ◌∙◌, arith}
 use Rattle.std.proofs.lemmas.Bool.Decides.{eqb_tells}
-use Rattle.lx_node.specs.Trees.{nil}
-use Rattle.lx_node.specs.Siblings.{is_among}
+use Rattle.lx_trees.specs.Trees.{nil}
+use Rattle.lx_trees.specs.Siblings.{is_among}
 use Rattle.lx_node.specs.declared.fields.Fields.{Fields}
 use Rattle.lx_marks.specs.Marks.{Marked, with_leaf}
 use Rattle.lx_marks.proofs.Names.{is_among-with_name}

@@ -3,10 +3,10 @@ use Rattle.std.proofs.Common.{◌≡◌, ◌∙◌, ◌+◌, ◌≤◌, ◌<◌,
 use Rattle.std.specs.Prelude.{slice_get, unwrap_or}
 use Rattle.std.proofs.lemmas.Option.{slice_get_past, slice_get_cases}
 use Rattle.std.proofs.lemmas.Bool.Decides.{eqb_tells}
-use Rattle.lx_node.specs.Siblings.{is_among, NoRepeats, next_in, index_in, is_place}
+use Rattle.lx_trees.specs.Siblings.{is_among, NoRepeats, next_in, index_in, is_place}
 use Rattle.lx_node.specs.declared.cause.Cause.TheVariants.{BadPlace}
-use Rattle.lx_node.proofs.Siblings.{is_named_tells, next_in-among}
-use Rattle.lx_node.proofs.Positions.{place_in, index_in-among, slice_get-place_in, index_in-lt, index_in-slice_get, next_in-slice_get}
+use Rattle.lx_trees.proofs.Siblings.{is_named_tells, next_in-among}
+use Rattle.lx_trees.proofs.Positions.{place_in, index_in-among, slice_get-place_in, index_in-lt, index_in-slice_get, next_in-slice_get}
 use Rattle.lx_forest.specs.Forest.{Forest}
 use Rattle.lx_forest.specs.Lookups.{parent_of, children_of, children_below, next_of, index_of, size_of, IsForest}
 use Rattle.lx_forest.proofs.Lookups.{NoRepeats-children_of, is_among-children_of}

@@ -3,9 +3,9 @@ use Rattle.std.proofs.Common.{◌≡◌, ◌≤◌, ℕ, true, length, Option, N
 use Rattle.std.specs.Option.{option_or}
 use Rattle.std.specs.Prelude.{slice_get}
 use Rattle.std.proofs.lemmas.Bool.Decides.{eqb_tells}
-use Rattle.lx_node.specs.Siblings.{is_among}
-use Rattle.lx_node.proofs.Siblings.{is_named_tells}
-use Rattle.lx_node.proofs.Positions.{is_among-slice_get}
+use Rattle.lx_trees.specs.Siblings.{is_among}
+use Rattle.lx_trees.proofs.Siblings.{is_named_tells}
+use Rattle.lx_trees.proofs.Positions.{is_among-slice_get}
 use Rattle.lx_forest.specs.Forest.{Forest}
 use Rattle.lx_forest.specs.Lookups.{has, kind_of, parent_of, children_of, IsForest}
 use Rattle.lx_forest.specs.Edits.{CanPut}

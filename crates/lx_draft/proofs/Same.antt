@@ -1,13 +1,13 @@
 -- A node that gets the fields that it has leaves its forest as it is.
 use Rattle.std.proofs.Common.{◌≡◌, ◌∙◌, ℕ, eqb, true, false, Bool, cond, Option, None, Some, not, refl, sym, ap, arith, option_map}
 use Rattle.std.proofs.lemmas.Bool.Decides.{eqb_tells}
-use Rattle.lx_node.specs.Spots.{Spot}
+use Rattle.lx_trees.specs.Spots.{Spot}
 use Rattle.lx_node.specs.Same.{same_fields}
 use Rattle.lx_node.specs.Same.{same_fields}
 use Rattle.lx_node.specs.declared.fields.Fields.{Fields}
 use Rattle.lx_node.proofs.Same.{same_fields-Decides}
-use Rattle.lx_node.proofs.Spots.{option_map-same}
-use Rattle.lx_rooted.proofs.Edits.{option_map-agree}
+use Rattle.lx_trees.proofs.Spots.{option_map-same}
+use Rattle.lx_trees.proofs.Edits.{option_map-agree}
 use Rattle.lx_forest.specs.Forest.{Forest, Label}
 use Rattle.lx_forest.specs.Lookups.{has, spot, fields_of, IsForest}
 use Rattle.lx_forest.specs.Edits.{with_fields, reset}

@@ -10,7 +10,7 @@ use Rattle.lx_text.specs.Texts.{slice_fault, TellsFirst}
 use Rattle.lx_forest.specs.Forest.{Forest, Label}
 use Rattle.lx_forest.specs.Lookups.{spot, label_of}
 use Rattle.lx_node.specs.declared.node.Node.{Node}
-use Rattle.lx_node.specs.Spots.{Spot}
+use Rattle.lx_trees.specs.Spots.{Spot}
 use Rattle.lx_forest.specs.Records.{record_at}
 use Rattle.lx_links.specs.Stands.{node_of}
 use Rattle.lx_forest.proofs.Edits.{is_some-spot}

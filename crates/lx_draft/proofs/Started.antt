@@ -7,7 +7,7 @@ use Rattle.lx_forest.proofs.Edits.{has-root}
 use Rattle.lx_forest.proofs.Loose.{moved-none}
 use Rattle.lx_select.specs.declared.selection.Selection.{Selection}
 use Rattle.std.proofs.Common.{[], ◌≢◌}
-use Rattle.lx_node.specs.Trees.{nil}
+use Rattle.lx_trees.specs.Trees.{nil}
 use Rattle.lx_marks.specs.Marks.{Marked, unmarked}
 use Rattle.lx_links.specs.Stands.{Sound}
 use Rattle.lx_node.specs.Limits.{most_depth}

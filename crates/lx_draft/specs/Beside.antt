@@ -1,6 +1,6 @@
 -- A node is put right before another, or right after it.
 use Rattle.std.specs.Prelude.{ℕ, ◌+◌, List, length, Option, None, Some, unwrap_or, Result, Err}
-use Rattle.lx_node.specs.Siblings.{index_in}
+use Rattle.lx_trees.specs.Siblings.{index_in}
 use Rattle.lx_node.specs.declared.cause.Cause.{Cause}
 use Rattle.lx_node.specs.declared.cause.Cause.TheVariants.{BadPlace}
 use Rattle.lx_forest.specs.Lookups.{parent_of, index_of}

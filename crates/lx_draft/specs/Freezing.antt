@@ -1,7 +1,7 @@
 -- What a draft leaves for a commit, and why it can't be committed.
 use Rattle.std.specs.Prelude.{ℕ, max, sum_by, filter, List, [], ◌∷◌, Option, None, Some, unwrap_or, Result, Ok, ◌≡◌}
 use Rattle.std.specs.Option.{option_or}
-use Rattle.lx_node.specs.NamedTrees.{total}
+use Rattle.lx_trees.specs.NamedTrees.{total}
 use Rattle.lx_node.specs.Strings.{characters_of}
 use Rattle.lx_node.specs.declared.fields.Fields.{Fields}
 use Rattle.lx_node.specs.declared.cause.Cause.{Cause}

@@ -1,7 +1,7 @@
 -- What is looked for before a node is set to the fields that it has.
 use Rattle.std.specs.Prelude.{ℕ, ◌≡◌, ◌≢◌, false, None, Some}
 use Rattle.std.specs.Option.{option_or}
-use Rattle.lx_node.specs.Trees.{nil}
+use Rattle.lx_trees.specs.Trees.{nil}
 use Rattle.lx_node.specs.Strings.{characters_of}
 use Rattle.lx_node.specs.declared.fields.Fields.{Fields}
 use Rattle.lx_node.specs.declared.cause.Cause.{Cause}

@@ -1,6 +1,6 @@
 -- What a draft is, while an update works on it.
 use Rattle.std.specs.Prelude.{ℕ, ◌+◌, ◌≤◌, ◌<◌, ◌≡◌, true, false, Some}
-use Rattle.lx_node.specs.NamedTrees.{total}
+use Rattle.lx_trees.specs.NamedTrees.{total}
 use Rattle.lx_marks.specs.Marks.{Marked, unmarked}
 use Rattle.lx_select.specs.declared.selection.Selection.{Selection}
 use Rattle.lx_node.specs.Limits.{most_counts, most_written, most_depth, most_nodes, most_key}

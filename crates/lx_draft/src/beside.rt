@@ -15,8 +15,8 @@ fn no_place_beside(other: Key) -> Fault
 
 impl Draft {
     ghost use Rattle.std.specs.Prelude.{◌≢◌, Ok, slice_get};
-    ghost use Rattle.lx_node.specs.Trees.{nil};
-    ghost use Rattle.lx_node.specs.Siblings.{is_place};
+    ghost use Rattle.lx_trees.specs.Trees.{nil};
+    ghost use Rattle.lx_trees.specs.Siblings.{is_place};
     ghost use Rattle.lx_select.specs.Selection.{each_point};
     ghost use Rattle.lx_select.specs.Rules.{put_moves};
     ghost use Rattle.lx_forest.specs.Lookups as lookups;

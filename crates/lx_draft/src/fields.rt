@@ -1,6 +1,6 @@
 ghost use Rattle.std.specs.Prelude.{◌≡◌, ◌≢◌, ◌≤◌, ◌<◌, ◌+◌, None, Some, OnOk, OnErr, IfOk, IfErr};
 ghost use Rattle.std.specs.Option.{option_or};
-ghost use Rattle.lx_node.specs.Trees.{nil};
+ghost use Rattle.lx_trees.specs.Trees.{nil};
 ghost use Rattle.lx_node.specs.Strings.{characters_of};
 ghost use Rattle.lx_forest.specs.Lookups as lookups;
 ghost use Rattle.lx_forest.specs.Lookups.{IsForest};

@@ -1,5 +1,5 @@
 ghost use Rattle.std.specs.Prelude.{◌≡◌, ◌≢◌, ◌≤◌, ℕ, Some, Ok, IsTrue, IfOk, OnOk, IfErr};
-ghost use Rattle.lx_node.specs.Trees.{nil};
+ghost use Rattle.lx_trees.specs.Trees.{nil};
 ghost use Rattle.lx_forest.specs.Lookups as lookups;
 ghost use Rattle.lx_forest.specs.Lookups.{IsForest};
 ghost use Rattle.lx_forest.specs.Edits.{drop_detached};

@@ -2,7 +2,7 @@
 //! copies nor marks anything.
 
 ghost use Rattle.std.specs.Prelude.{◌≡◌, ◌≢◌, ◌+◌, ◌≤◌, ◌<◌, ◌⊎◌, true, false, Ok, Some, OnOk, IfOk, IfErr, IsTrue};
-ghost use Rattle.lx_node.specs.Trees.{nil};
+ghost use Rattle.lx_trees.specs.Trees.{nil};
 ghost use Rattle.lx_node.specs.Limits.{most_counts, most_written};
 ghost use Rattle.lx_node.specs.declared.fields.Fields as declared;
 ghost use Rattle.lx_forest.specs.Lookups as lookups;

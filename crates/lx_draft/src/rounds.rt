@@ -49,7 +49,7 @@ pub enum Round {
 
 impl Draft {
     ghost use Rattle.std.specs.Prelude.{◌≡◌, ◌≢◌, IfOk, OnOk, OnErr};
-    ghost use Rattle.lx_node.specs.Trees.{nil};
+    ghost use Rattle.lx_trees.specs.Trees.{nil};
     ghost use Rattle.lx_draft.specs.Rounds.{round_of, rounded};
 
     /// Takes what is to be handled next, which is then handled: the marked leaves, if there are any, or

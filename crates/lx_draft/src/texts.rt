@@ -1,6 +1,6 @@
 ghost use Rattle.std.specs.Prelude.{◌≡◌, ◌<◌, ◌≤◌, ◌+◌, IfOk, IfErr, OnOk, OnErr, None, Some, chars, length, ℕ};
 ghost use Rattle.lx_node.specs.Limits.{most_counts, most_written};
-ghost use Rattle.lx_node.specs.Trees.{nil};
+ghost use Rattle.lx_trees.specs.Trees.{nil};
 ghost use Rattle.lx_node.specs.OfKind.{IsOfKind};
 ghost use Rattle.lx_node.specs.declared.kind.Kind.TheVariants.{Text};
 ghost use Rattle.lx_node.specs.declared.fields.Fields.TheVariants as fields;

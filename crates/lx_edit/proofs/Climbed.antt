@@ -1,7 +1,7 @@
 -- What is removed, from a node upwards.
 use Rattle.std.proofs.Common.{◌≡◌, ◌≢◌, ◌∙◌, ◌+◌, ℕ, Bool, true, false, cond, List, [], ◌∷◌, Option, None, Some, Result, Ok, Err, refl, ap, sym, inl, inr}
 use Rattle.lx_node.specs.declared.cause.Cause.{Cause}
-use Rattle.lx_node.specs.Trees.{nil}
+use Rattle.lx_trees.specs.Trees.{nil}
 use Rattle.lx_select.specs.Selection.{has_point_on}
 use Rattle.lx_select.proofs.Apart.{moved_to-apart}
 use Rattle.lx_links.specs.Stands.{Sound}

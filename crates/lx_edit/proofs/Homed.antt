@@ -4,11 +4,11 @@ use Rattle.std.specs.Prelude.{slice_get}
 use Rattle.std.specs.Option.{option_or}
 use Rattle.std.proofs.lemmas.Bool.{cases_Bool}
 use Rattle.std.proofs.lemmas.Bool.Decides.{eqb_tells}
-use Rattle.lx_node.specs.Siblings.{is_among}
+use Rattle.lx_trees.specs.Siblings.{is_among}
 use Rattle.lx_node.specs.Strings.{characters_of}
 use Rattle.lx_node.specs.declared.kind.Kind.{Kind}
 use Rattle.lx_node.specs.declared.fields.Fields.{Fields}
-use Rattle.lx_node.proofs.NamedTrees.{alone-absent}
+use Rattle.lx_trees.proofs.NamedTrees.{alone-absent}
 use Rattle.lx_select.specs.declared.selection.Selection.{Selection}
 use Rattle.lx_marks.specs.Marks.{Marked, is_touched}
 use Rattle.lx_forest.specs.Forest.{Forest, Label}
@@ -17,7 +17,7 @@ use Rattle.lx_forest.specs.Edits.{with_new, with_fields, take_out, put_in, CanPu
 use Rattle.lx_forest.proofs.Edits.{count-with_new, parent_of-root}
 use Rattle.lx_forest.proofs.Lookups.{is_among-children_of}
 use Rattle.lx_forest.proofs.Within.{is_within-trans, is_within-up, is_within-with_new, is_within-with_fields, is_within-take_out, is_within-put_in}
-use Rattle.lx_node.proofs.Siblings.{is_named_tells}
+use Rattle.lx_trees.proofs.Siblings.{is_named_tells}
 use Rattle.lx_links.specs.Faults.{set_fault, detach_fault}
 use Rattle.lx_draft.specs.Working.{Working}
 use Rattle.lx_draft.specs.Marking.{mark_nodes}

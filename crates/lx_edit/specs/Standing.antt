@@ -1,6 +1,6 @@
 -- What a refused edit leaves.
 use Rattle.std.specs.Prelude.{◌≢◌}
-use Rattle.lx_node.specs.Trees.{nil}
+use Rattle.lx_trees.specs.Trees.{nil}
 use Rattle.lx_node.specs.declared.cause.Fault.{Fault}
 use Rattle.lx_node.specs.declared.cause.Fault.TheVariants as fault
 use Rattle.lx_draft.specs.Working.{Working}

@@ -1,5 +1,5 @@
 ghost use Rattle.std.specs.Prelude.{◌≡◌, ◌+◌, ◌++◌, ◌∷◌, [], Ok, OnOk, IfOk, IfErr, length};
-ghost use Rattle.lx_node.specs.Trees.{nil};
+ghost use Rattle.lx_trees.specs.Trees.{nil};
 ghost use Rattle.lx_draft.specs.Faults.{TellsStep};
 ghost use Rattle.lx_edit.specs.Texts as texts;
 ghost use Rattle.lx_edit.specs.Texts.{split_step, keys_from};

@@ -10,7 +10,7 @@ use Rattle.lx_step.specs.declared.line.Tags.{Tags}
 use Rattle.lx_step.specs.declared.listener.Listener.{Listener}
 use Rattle.lx_step.specs.declared.rule.Rule.{Rule}
 use Rattle.lx_step.specs.declared.step.Step.{Step}
-use Rattle.lx_plain.specs.Allowed.{AreCovered}
+use Rattle.lx_forest.specs.Covered.{AreCovered}
 use Rattle.lx_draft.specs.Working.{Working}
 use Rattle.lx_draft.specs.declared.state.State.{State}
 use Rattle.lx_history.specs.History.{entry_of}

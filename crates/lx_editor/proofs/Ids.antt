@@ -2,7 +2,7 @@
 use Rattle.std.proofs.Common.{◌≡◌, ◌∙◌, ◌+◌, ◌<◌, ◌≤◌, ℕ, true, [], ◌∷◌, None, Result, Ok, sym, ap, arith}
 use Rattle.std.proofs.lemmas.Bool.Decides.{nat_tests}
 use Rattle.lx_node.specs.Limits.{last_u32, most_nodes}
-use Rattle.lx_node.specs.NamedTrees.{total}
+use Rattle.lx_trees.specs.NamedTrees.{total}
 use Rattle.lx_node.specs.declared.cause.Limit.TheVariants.{Hosts}
 use Rattle.lx_node.specs.declared.memory.NoMemory.{NoMemory}
 use Rattle.lx_node.proofs.Strings.{capped_small}
@@ -11,7 +11,7 @@ use Rattle.lx_forest.specs.Forest.{Forest}
 use Rattle.lx_forest.specs.Lookups.{has, alone, roots, IsForest}
 use Rattle.lx_forest.proofs.Edits.{has-root}
 use Rattle.lx_draft.specs.Faults.{over_at}
-use Rattle.lx_plain.specs.Allowed.{unkept}
+use Rattle.lx_reconcile.specs.Allowed.{unkept}
 use Rattle.lx_reconcile.proofs.StartEnd.{one_tree}
 use Rattle.lx_reconcile.proofs.UnkeptNodes.{unkept-total}
 use Rattle.lx_editor.specs.Updated.{hosts_fault}

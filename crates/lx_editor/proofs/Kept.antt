@@ -2,7 +2,7 @@
 use Rattle.std.proofs.Common.{◌≡◌, ◌∙◌, ◌≤◌, zero, suc, ℕ, true, false, ltb, is_some, if◌then◌else◌, option_map, take, All, IfSome, List, [], ◌∷◌, Option, None, Some, refl, sym, ap, subst, arith, inl, inr}
 use Rattle.std.proofs.lemmas.Bool.{cases_Bool}
 use Rattle.std.proofs.lemmas.List.Elements.{All-nil, All-cons, All-head, All-tail}
-use Rattle.lx_node.specs.Spots.{Spot}
+use Rattle.lx_trees.specs.Spots.{Spot}
 use Rattle.lx_node.specs.declared.kind.Kind.{Kind}
 use Rattle.lx_node.specs.declared.kind.Kind.TheVariants.{Root}
 use Rattle.lx_marks.specs.Marks.{Marked}

@@ -2,7 +2,7 @@
 use Rattle.std.proofs.Common.{◌≡◌, ◌∙◌, ◌≤◌, ◌||◌, ◌⊎◌, ℕ, eqb, Bool, true, false, is_some, List, [], ◌∷◌, Option, None, Some, refl, sym, ap, arith, inl, inr}
 use Rattle.std.proofs.lemmas.Bool.{cases_Bool}
 use Rattle.std.proofs.lemmas.Bool.Decides.{eqb_tells}
-use Rattle.lx_node.specs.Siblings.{is_among, is_named}
+use Rattle.lx_trees.specs.Siblings.{is_among, is_named}
 use Rattle.lx_marks.specs.Marks.{Marked, flag_in, is_true_flag, is_touched, is_noted, with_leaf}
 use Rattle.lx_marks.proofs.Told.{touched-leaf}
 use Rattle.lx_forest.specs.Forest.{Forest}
@@ -10,7 +10,7 @@ use Rattle.lx_forest.specs.Lookups.{has, kind_of, parent_of, children_of, IsFore
 use Rattle.lx_forest.proofs.Edits.{has-root, is_some-spot}
 use Rattle.lx_forest.proofs.Lookups.{is_among-children_of, has-parent_of}
 use Rattle.lx_draft.specs.Working.{Working}
-use Rattle.lx_plain.specs.Allowed.{AreCovered}
+use Rattle.lx_forest.specs.Covered.{AreCovered}
 use Rattle.lx_reconcile.specs.Allowing.{marking}
 use Rattle.lx_settle.specs.Laws.{AreMarked}
 use Rattle.lx_json.specs.Importing.{IsImported}

@@ -4,13 +4,13 @@ use Rattle.std.proofs.Common.{◌≡◌, ◌∙◌, ◌+◌, ◌*◌, ◌<◌, �
 use Rattle.std.specs.List.{AllByRecursion}
 use Rattle.std.proofs.lemmas.Bool.{cases_Bool}
 use Rattle.std.proofs.lemmas.Bool.Decides.{eqb_tells}
-use Rattle.lx_node.specs.Trees.{nil, tree}
+use Rattle.lx_trees.specs.Trees.{nil, tree}
 use Rattle.lx_host.specs.declared.op.Op.{Op}
 use Rattle.lx_host.specs.Hosts.{HostTree}
 use Rattle.lx_marks.specs.Marks.{Marked, unmarked, is_touched, is_noted}
 use Rattle.lx_forest.specs.Forest.{Forest, Label}
 use Rattle.lx_forest.specs.Lookups.{has, count, roots}
-use Rattle.lx_plain.specs.Allowed.{MayChange, new_host, of_touched, of_child, IsDue, subject_of, marked_children, staying, unkept}
+use Rattle.lx_reconcile.specs.Allowed.{MayChange, new_host, of_touched, of_child, IsDue, subject_of, marked_children, staying, unkept}
 use Rattle.lx_reconcile.specs.Allowing.{marking, IsAllowed}
 use Rattle.lx_reconcile.specs.Told.{Told}
 use Rattle.lx_editor.specs.Editor.{Editor}

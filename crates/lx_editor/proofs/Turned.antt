@@ -2,7 +2,7 @@
 use Rattle.std.proofs.Common.{◌≡◌, ◌∙◌, ◌+◌, ◌≤◌, ◌&&◌, ℕ, Bool, true, false, cond, length, List, [], ◌∷◌, Option, None, Some, refl, sym, ap, subst, arith}
 use Rattle.std.specs.List.{AllByRecursion}
 use Rattle.std.specs.Prelude.{MatchBool}
-use Rattle.lx_node.specs.Trees.{nil, tree}
+use Rattle.lx_trees.specs.Trees.{nil, tree}
 use Rattle.lx_node.specs.declared.kind.Kind.{Kind}
 use Rattle.lx_host.specs.declared.op.Op.{Op}
 use Rattle.lx_host.specs.Hosts.{HostTree, Leads}
@@ -12,7 +12,7 @@ use Rattle.lx_step.specs.declared.built_in.Turn.{Turn}
 use Rattle.lx_step.specs.declared.built_in.Turn.TheVariants.{Undo, Redo}
 use Rattle.lx_forest.specs.Forest.{Forest}
 use Rattle.lx_forest.specs.Lookups.{has, roots}
-use Rattle.lx_plain.specs.Allowed.{MayChange, new_host, of_touched, of_child, IsDue, AreAllowed, subject_of, marked_children, staying, unkept}
+use Rattle.lx_reconcile.specs.Allowed.{MayChange, new_host, of_touched, of_child, IsDue, AreAllowed, subject_of, marked_children, staying, unkept}
 use Rattle.lx_draft.specs.declared.state.State.{State}
 use Rattle.lx_history.specs.History.{History, first, entry_of, undone_to, redone_to, undone, redone, turned}
 use Rattle.lx_reconcile.specs.Allowing.{marking, IsAllowed}

@@ -1,7 +1,7 @@
 -- What an update has made of an editor, from what its steps left of the draft.
 use Rattle.std.proofs.Common.{◌≡◌, ◌∙◌, ◌+◌, ◌<◌, ◌≤◌, ℕ, Bool, true, false, List, [], ◌∷◌, Option, None, Some, Result, Ok, refl, sym, ap, subst, arith}
 use Rattle.std.proofs.lemmas.Bool.Decides.{eqb_tells}
-use Rattle.lx_node.specs.Trees.{nil, tree}
+use Rattle.lx_trees.specs.Trees.{nil, tree}
 use Rattle.lx_node.specs.Kinds.{is_text_block, is_list}
 use Rattle.lx_node.specs.declared.cause.Cause.{Cause}
 use Rattle.lx_node.specs.Strings.{capped, characters_of, characters_of_element, characters_of_extra}
@@ -28,8 +28,9 @@ use Rattle.lx_draft.specs.Faults.{after}
 use Rattle.lx_draft.specs.Selecting.{selection_lost}
 use Rattle.lx_draft.specs.Freezing.{swept, freeze_step, freeze_fault, limits_fault, kept_selection, Freezes}
 use Rattle.lx_draft.proofs.Covered.{answered, covered-self, covered-then}
-use Rattle.lx_plain.specs.Render.{render}
-use Rattle.lx_plain.specs.Allowed.{Shows, AreCovered, AreAllowed}
+use Rattle.lx_render.specs.Render.{render}
+use Rattle.lx_forest.specs.Covered.{AreCovered}
+use Rattle.lx_reconcile.specs.Allowed.{Shows, AreAllowed}
 use Rattle.lx_reconcile.specs.Allowing.{marking, IsAllowed}
 use Rattle.lx_reconcile.proofs.Covered.{covered}
 use Rattle.lx_edit.specs.Texts.{simple_at}
@@ -47,7 +48,7 @@ use Rattle.lx_settle.specs.Laws.{IsAlone, AreMarked}
 use Rattle.lx_settle.specs.Rested.{IsRested}
 use Rattle.lx_settle.specs.Settling.{settle_step}
 use Rattle.lx_settle.proofs.Ends.{settling_ends}
-use Rattle.lx_range.specs.Blocks.{is_at}
+use Rattle.lx_blocks.specs.Blocks.{is_at}
 use Rattle.lx_list.specs.Laws.{IsRenumbered}
 use Rattle.lx_list.specs.Numbered.{IsNumbered}
 use Rattle.lx_list.specs.Numbering.{number_step}

@@ -3,7 +3,7 @@ use Rattle.std.specs.Prelude.{◌≡◌, ◌+◌, ℕ, Bool, true, false, List, 
 use Rattle.lx_host.specs.declared.op.Op.{Op}
 use Rattle.lx_host.specs.Hosts.{Leads}
 use Rattle.lx_marks.specs.Marks.{Marked}
-use Rattle.lx_plain.specs.Allowed.{AreCovered}
+use Rattle.lx_forest.specs.Covered.{AreCovered}
 use Rattle.lx_draft.specs.declared.state.State.{State}
 use Rattle.lx_reconcile.specs.Allowing.{marking}
 use Rattle.lx_editor.specs.declared.change.Change.{Change}

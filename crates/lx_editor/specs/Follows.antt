@@ -5,7 +5,7 @@ use Rattle.serde_json.specs.View.{view}
 use Rattle.lx_node.specs.declared.cause.Cause.{Cause}
 use Rattle.lx_host.specs.Html.{html_of}
 use Rattle.lx_forest.specs.Forest.{Forest}
-use Rattle.lx_plain.specs.Render.{render}
+use Rattle.lx_render.specs.Render.{render}
 use Rattle.lx_step.specs.declared.command.Command.{Command}
 use Rattle.lx_step.specs.declared.line.Line.{Line}
 use Rattle.lx_step.specs.declared.line.Form.{Form}

@@ -12,7 +12,7 @@ use Rattle.lx_draft.specs.declared.state.State.{State}
 use Rattle.lx_draft.specs.Working.{Working}
 use Rattle.lx_draft.specs.Covering as drafts
 use Rattle.lx_history.specs.History.{entry_of}
-use Rattle.lx_plain.specs.Allowed.{Marking, AreCovered}
+use Rattle.lx_forest.specs.Covered.{Marking, AreCovered}
 use Rattle.lx_reconcile.specs.Told.{Told}
 use Rattle.lx_reconcile.specs.Allowing.{marking, IsAllowed}
 use Rattle.lx_run.specs.declared.ending.Ending.{Ending}

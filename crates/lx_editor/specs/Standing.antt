@@ -4,7 +4,7 @@ use Rattle.lx_node.specs.declared.kind.Kind.{Kind}
 use Rattle.lx_select.specs.declared.selection.Selection.{Selection}
 use Rattle.lx_forest.specs.Forest.{Forest}
 use Rattle.lx_forest.specs.Lookups.{has, kind_of, roots, IsForest}
-use Rattle.lx_plain.specs.Allowed.{Shows}
+use Rattle.lx_reconcile.specs.Allowed.{Shows}
 use Rattle.lx_draft.specs.declared.state.State.{State}
 use Rattle.lx_draft.specs.Working.{MayStart}
 use Rattle.lx_draft.specs.Freezing.{limits_fault, kept_selection}

@@ -6,7 +6,7 @@ use Rattle.lx_host.specs.declared.op.Op.{Op}
 use Rattle.lx_step.specs.declared.built_in.Turn.{Turn}
 use Rattle.lx_forest.specs.Forest.{Forest}
 use Rattle.lx_forest.specs.Lookups.{has}
-use Rattle.lx_plain.specs.Allowed.{AreAllowed}
+use Rattle.lx_reconcile.specs.Allowed.{AreAllowed}
 use Rattle.lx_draft.specs.declared.state.State.{State}
 use Rattle.lx_history.specs.History.{entry_of, turned, cleared}
 use Rattle.lx_settle.specs.Joined.{IsJoined}

@@ -12,7 +12,7 @@ use Rattle.lx_select.specs.declared.selection.Selection.{Selection}
 use Rattle.lx_step.specs.declared.step.Step.{Step}
 use Rattle.lx_step.specs.declared.listener.Listener.{Listener}
 use Rattle.lx_forest.specs.Forest.{Forest}
-use Rattle.lx_plain.specs.Allowed.{AreAllowed, marked_children, staying, unkept}
+use Rattle.lx_reconcile.specs.Allowed.{AreAllowed, marked_children, staying, unkept}
 use Rattle.lx_draft.specs.Working.{Working}
 use Rattle.lx_draft.specs.Freezing.{freeze_step}
 use Rattle.lx_draft.specs.Faults.{over, after}

@@ -65,7 +65,7 @@ impl Drop for Editor {
 
 impl Model for Editor {
     ghost use Rattle.std.specs.Coded.{codes};
-    ghost use Rattle.lx_node.specs.Trees.{trees_code};
+    ghost use Rattle.lx_trees.specs.Trees.{trees_code};
     ghost use Rattle.lx_step.specs.contracts.step.Steps as steps;
     ghost use Rattle.lx_editor.specs.Editor.{Editor};
 
@@ -84,7 +84,7 @@ impl Editor {
     ghost use Rattle.std.specs.Prelude.{◌≡◌, ◌↔◌, ◌+◌, ◌<◌, ◌≤◌, None, All, IfOk, OnOk, OnErr};
     ghost use Rattle.std.specs.Option.{option_copied};
     ghost use Rattle.lx_step.specs.Sound.{IsSound};
-    ghost use Rattle.lx_plain.specs.Allowed.{Shows};
+    ghost use Rattle.lx_reconcile.specs.Allowed.{Shows};
     ghost use Rattle.lx_editor.specs.Editor.{new_editor};
     ghost use Rattle.lx_editor.specs.Standing.{IsState};
     ghost use Rattle.lx_editor.specs.Gathering.{recording, with_nothing_pending};

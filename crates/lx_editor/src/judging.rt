@@ -12,7 +12,7 @@ ghost use Rattle.lx_editor.specs.Dispatched.{answer_by};
 ghost use Rattle.lx_editor.specs.Editor.{Editor as EditorOf};
 ghost use Rattle.lx_editor.specs.Gathering.{started_of};
 ghost use Rattle.lx_editor.specs.Judged.{IsLeft, HasGrown, IsJudged, IsAnswerJudged, IsWeighed, IsForCause, is_refused};
-ghost use Rattle.lx_plain.specs.Allowed.{AreCovered};
+ghost use Rattle.lx_forest.specs.Covered.{AreCovered};
 ghost use Rattle.lx_reconcile.specs.Allowing.{marking};
 ghost use Rattle.lx_editor.specs.Registered.{left_for, left_with};
 ghost use Rattle.lx_editor.specs.Updated.{Settled, left_of, left_by, rested_by};

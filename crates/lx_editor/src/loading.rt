@@ -36,7 +36,7 @@ impl Editor {
     ghost use Rattle.std.specs.Prelude.{ℕ, ◌+◌, ◌<◌, ◌≤◌, ◌≢◌, true, false, [], None, OnOk, OnErr};
     ghost use Rattle.serde_json.specs.View.{view};
     ghost use Rattle.lx_node.specs.Limits.{most_key};
-    ghost use Rattle.lx_node.specs.NamedTrees.{total};
+    ghost use Rattle.lx_trees.specs.NamedTrees.{total};
     ghost use Rattle.lx_marks.specs.Marks.{is_touched};
     ghost use Rattle.lx_json.specs.Exporting.{exported};
     ghost use Rattle.lx_json.specs.Back.{ReadsBack};

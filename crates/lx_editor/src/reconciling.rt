@@ -2,10 +2,11 @@
 
 ghost use Rattle.std.specs.Prelude.{◌≡◌, ◌≤◌, ◌+◌, [], ◌∷◌, None, IfOk, OnOk, OnErr, IfErr};
 ghost use Rattle.lx_node.specs.Limits.{last_u32, most_nodes};
-ghost use Rattle.lx_node.specs.NamedTrees.{total};
+ghost use Rattle.lx_trees.specs.NamedTrees.{total};
 ghost use Rattle.lx_host.specs.Hosts.{FitInTurn, Leads};
 ghost use Rattle.lx_forest.specs.Lookups.{roots, IsForest};
-ghost use Rattle.lx_plain.specs.Allowed.{AreCovered, Shows, unkept as unkept_of};
+ghost use Rattle.lx_forest.specs.Covered.{AreCovered};
+ghost use Rattle.lx_reconcile.specs.Allowed.{Shows, unkept as unkept_of};
 ghost use Rattle.lx_reconcile.specs.Allowing.{marking, IsAllowed};
 ghost use Rattle.lx_editor.specs.Updated.{hosts_fault, most_reads, TellsHosts};
 

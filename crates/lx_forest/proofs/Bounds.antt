@@ -1,10 +1,10 @@
 -- No node has more children than the forest has nodes.
 use Rattle.std.proofs.Common.{ℕ, ◌≤◌, ◌<◌}
-use Rattle.lx_node.specs.NamedTrees.{total}
+use Rattle.lx_trees.specs.NamedTrees.{total}
 use Rattle.lx_forest.specs.Forest.{Forest}
 use Rattle.lx_forest.specs.Lookups.{key_of, size_of, IsForest}
 use Rattle.lx_forest.specs.Edits.{CanPut}
-use Rattle.lx_rooted.proofs.Bounds as rootedBounds
+use Rattle.lx_trees.proofs.Bounds as rootedBounds
 use Rattle.lx_forest.proofs.Ordered.{ordered}
 
 pub size_of-le : (f : Forest) (q : ℕ) → size_of f q ≤ total f

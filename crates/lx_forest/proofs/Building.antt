@@ -1,7 +1,7 @@
 -- Building from above: a new node at the end of its parent's children, and then the trees below it.
 use Rattle.std.proofs.Common.{◌≡◌, ◌≢◌, ℕ, false, None}
-use Rattle.lx_node.specs.Trees.{nil, tree, joined}
-use Rattle.lx_rooted.proofs.Building as rootedBuilding
+use Rattle.lx_trees.specs.Trees.{nil, tree, joined}
+use Rattle.lx_trees.proofs.Building as rootedBuilding
 use Rattle.lx_forest.specs.Forest.{Label, Forest}
 use Rattle.lx_forest.specs.Lookups.{key_of, has}
 use Rattle.lx_forest.specs.Edits.{with_new, put_in, last_below}

@@ -2,18 +2,18 @@
 use Rattle.std.proofs.Common.{◌≡◌, ℕ, ◌+◌, ◌<◌, ◌≤◌, true, false, cond, eqb, List, [], Option, None, Some, refl, ◌∙◌, arith}
 use Rattle.std.specs.Prelude.{is_some, option_map}
 use Rattle.std.specs.Option.{option_or}
-use Rattle.lx_node.specs.NamedTrees.{total}
-use Rattle.lx_node.specs.Siblings.{names_without}
-use Rattle.lx_node.specs.Spots.{Spot}
+use Rattle.lx_trees.specs.NamedTrees.{total}
+use Rattle.lx_trees.specs.Siblings.{names_without}
+use Rattle.lx_trees.specs.Spots.{Spot}
 use Rattle.lx_node.specs.declared.fields.Fields.{Fields}
-use Rattle.lx_node.proofs.NamedTrees.{total-mapped, count-mapped, total-without-alone}
-use Rattle.lx_node.proofs.Spots.{relabelled, spot_below-mapped}
-use Rattle.lx_node.proofs.Subtrees.{count-alone-le}
+use Rattle.lx_trees.proofs.NamedTrees.{total-mapped, count-mapped, total-without-alone}
+use Rattle.lx_trees.proofs.Spots.{relabelled, spot_below-mapped}
+use Rattle.lx_trees.proofs.Subtrees.{count-alone-le}
 use Rattle.lx_forest.specs.Forest.{Label, Forest}
 use Rattle.lx_forest.specs.Lookups.{key_of, count, has, without, spot, parent_of, is_within, is_attached, IsForest}
 use Rattle.lx_forest.specs.Edits.{among_roots, with_new, fields_at, with_fields, take_out, put_in, drop_detached, CanPut, reset, taken, placed}
-use Rattle.lx_rooted.proofs.Edits as rootedEdits
-pub use Rattle.lx_rooted.proofs.Edits.{option_map-map, option_map-agree}
+use Rattle.lx_trees.proofs.Edits as rootedEdits
+pub use Rattle.lx_trees.proofs.Edits.{option_map-map, option_map-agree}
 use Rattle.lx_forest.proofs.Ordered.{ordered}
 
 -- ---- trees among the first ones

@@ -3,7 +3,7 @@ use Rattle.std.proofs.Common.{◌≡◌, ℕ, Bool, true, false, cond, eqb, [], 
 use Rattle.std.proofs.lemmas.Bool.Decides.{eqb_tells}
 use Rattle.lx_node.specs.declared.kind.Kind.{Kind}
 use Rattle.lx_node.specs.declared.fields.Fields.{Fields}
-use Rattle.lx_node.specs.Spots.{parent_at}
+use Rattle.lx_trees.specs.Spots.{parent_at}
 use Rattle.lx_forest.specs.Forest.{Label, Forest, root_alone, root_label}
 use Rattle.lx_forest.specs.Lookups.{has, kind_of, parent_of, is_attached, holds, IsForest, IsHeld}
 use Rattle.lx_forest.specs.Edits.{with_new, with_fields, take_out, put_in, drop_detached, CanPut}

@@ -2,16 +2,16 @@
 use Rattle.std.proofs.Common.{List, ap, length, ◌≡◌, ℕ, true, false, cond, eqb, [], ◌∷◌, Option, None, Some, refl, sym, ◌∙◌, arith}
 use Rattle.std.specs.Prelude.{option_map}
 use Rattle.std.proofs.lemmas.Option.{same_Some}
-use Rattle.lx_node.specs.Trees.{nil, tree}
-use Rattle.lx_node.specs.NamedTrees.{total}
-use Rattle.lx_node.specs.Siblings.{is_named, is_among, NoRepeats, names_without, names_with}
-use Rattle.lx_node.specs.Spots.{Spot}
+use Rattle.lx_trees.specs.Trees.{nil, tree}
+use Rattle.lx_trees.specs.NamedTrees.{total}
+use Rattle.lx_trees.specs.Siblings.{is_named, is_among, NoRepeats, names_without, names_with}
+use Rattle.lx_trees.specs.Spots.{Spot}
 use Rattle.lx_node.specs.declared.fields.Fields.{Fields}
 use Rattle.lx_forest.specs.Forest.{Label, Forest}
 use Rattle.lx_forest.specs.Lookups.{spot, key_of, alone, roots, trees_of, has, label_of, kind_of, fields_of, parent_of, children_of, is_attached, IsForest}
 use Rattle.lx_forest.specs.Edits.{reset, fields_at, with_new, with_fields, take_out, put_in, drop_detached, CanPut}
 use Rattle.lx_forest.proofs.Edits.{spot-with_new, spot-with_fields, spot-take_out, spot-put_in, spot-drop_detached, key-spot, option_map-map, option_map-agree}
-use Rattle.lx_rooted.proofs.Lookups as rootedLookups
+use Rattle.lx_trees.proofs.Lookups as rootedLookups
 use Rattle.lx_forest.proofs.Ordered.{ordered}
 
 -- ---- parents and children

@@ -2,13 +2,13 @@
 use Rattle.std.proofs.Common.{◌≡◌, ℕ, true, false, eqb, [], ◌∷◌, Option, refl, ap, ◌∙◌, arith}
 use Rattle.std.proofs.lemmas.Bool.Decides.{eqb_tells}
 use Rattle.lx_node.specs.declared.fields.Fields.{Fields}
-use Rattle.lx_node.proofs.NamedTrees.{names-mapped, names-alone}
+use Rattle.lx_trees.proofs.NamedTrees.{names-mapped, names-alone}
 use Rattle.lx_forest.specs.Forest.{Label, Forest}
 use Rattle.lx_forest.specs.Lookups.{key_of, has, roots, spot, is_attached, rises, IsForest}
 use Rattle.lx_forest.specs.Edits.{with_new, fields_at, with_fields, take_out, put_in, drop_detached, CanPut}
 use Rattle.lx_forest.proofs.Edits.{count-with_new, count-with_fields, count-take_out, count-put_in, count-drop_detached, has-root}
 use Rattle.lx_forest.proofs.Lookups.{kind_of-with_new, kind_of-with_fields, kind_of-take_out, kind_of-put_in, kind_of-drop_detached}
-use Rattle.lx_rooted.proofs.Order as rootedOrder
+use Rattle.lx_trees.proofs.Order as rootedOrder
 use Rattle.lx_forest.proofs.Ordered.{ordered}
 
 -- ---- in order after each edit

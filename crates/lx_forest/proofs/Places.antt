@@ -3,7 +3,7 @@ use Rattle.std.proofs.Common.{◌≡◌, ◌≢◌, ℕ, true, false}
 use Rattle.lx_forest.specs.Forest.{Forest}
 use Rattle.lx_forest.specs.Lookups.{key_of, has, is_within, IsForest}
 use Rattle.lx_forest.specs.Edits.{take_out, CanPut}
-use Rattle.lx_rooted.proofs.Places as rootedPlaces
+use Rattle.lx_trees.proofs.Places as rootedPlaces
 use Rattle.lx_forest.proofs.Ordered.{ordered}
 
 -- a tree that was taken out may be put below each node outside it

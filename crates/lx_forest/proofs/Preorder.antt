@@ -4,16 +4,16 @@ use Rattle.std.specs.Prelude.{option_map}
 use Rattle.std.specs.List.{filter}
 use Rattle.std.specs.Option.{option_or}
 use Rattle.std.specs.Ordering.{ordering_reverse}
-use Rattle.lx_node.specs.NamedTrees as named
+use Rattle.lx_trees.specs.NamedTrees as named
 use Rattle.lx_node.specs.declared.fields.Fields.{Fields}
-use Rattle.lx_node.specs.Siblings.{first_of, index_in, names_with, is_place}
-use Rattle.lx_node.proofs.NamedTrees.{preorder-mapped}
+use Rattle.lx_trees.specs.Siblings.{first_of, index_in, names_with, is_place}
+use Rattle.lx_trees.proofs.NamedTrees.{preorder-mapped}
 use Rattle.lx_forest.specs.Forest.{Label, Forest}
 use Rattle.lx_forest.specs.Lookups.{key_of, has, alone, children_of, is_within, is_attached, keys_within, preorder, behind, order_between, order_of, IsForest}
 use Rattle.lx_forest.specs.Edits.{with_new, with_fields, fields_at, take_out, put_in, drop_detached, CanPut, order_from_place}
 use Rattle.lx_forest.proofs.Edits.{has-root}
 use Rattle.lx_forest.proofs.Within.{alone-with_fields, alone-drop_detached, is_within-self}
-use Rattle.lx_rooted.proofs.Preorder as rootedPreorder
+use Rattle.lx_trees.proofs.InPreorder as rootedPreorder
 use Rattle.lx_forest.proofs.Ordered.{ordered}
 
 -- ---- preorder

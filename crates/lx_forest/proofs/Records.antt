@@ -2,9 +2,9 @@
 use Rattle.std.proofs.Common.{◌≡◌, ◌≢◌, ℕ, true, false, cond, eqb, Option, None, Some, sym, ◌∙◌, arith, ◌⊎◌, inl, inr}
 use Rattle.std.specs.Prelude.{is_some, option_map}
 use Rattle.std.proofs.lemmas.Bool.{cases_Bool}
-use Rattle.lx_node.specs.Siblings.{is_named, is_among, next_in, previous_in, is_place, place_behind}
+use Rattle.lx_trees.specs.Siblings.{is_named, is_among, next_in, previous_in, is_place, place_behind}
 use Rattle.lx_node.specs.declared.fields.Fields.{Fields}
-use Rattle.lx_node.proofs.Siblings.{is_named_tells}
+use Rattle.lx_trees.proofs.Siblings.{is_named_tells}
 use Rattle.lx_forest.specs.Forest.{Label, Forest}
 use Rattle.lx_forest.specs.Lookups.{key_of, has, spot, parent_of, children_of, siblings, previous_of, next_of, is_attached, IsForest}
 use Rattle.lx_forest.specs.Edits.{with_new, with_fields, take_out, put_in, drop_detached, CanPut, reset}
@@ -13,7 +13,7 @@ use Rattle.lx_forest.proofs.Edits.{spot-with_fields, spot-drop_detached, option_
 use Rattle.lx_forest.proofs.Lookups.{is_among-children_of}
 use Rattle.lx_forest.proofs.Siblings.{parent_of-next, parent_of-previous, siblings-with_fields, siblings-drop_detached}
 use Rattle.lx_forest.proofs.Walks.{cases_option}
-use Rattle.lx_rooted.proofs.Records as rootedRecords
+use Rattle.lx_trees.proofs.Records as rootedRecords
 use Rattle.lx_forest.proofs.Ordered.{ordered}
 
 -- ---- beside one another

@@ -1,13 +1,13 @@
 -- The laws of siblings: neighbours have one parent, and what edits do to the list in which a key is.
 use Rattle.std.proofs.Common.{◌≡◌, ℕ, true, false, cond, eqb, [], ◌∷◌, Option, Some, sym, ◌∙◌}
-use Rattle.lx_node.specs.Siblings.{is_named, NoRepeats, names_without, names_with, place_behind}
+use Rattle.lx_trees.specs.Siblings.{is_named, NoRepeats, names_without, names_with, place_behind}
 use Rattle.lx_node.specs.declared.fields.Fields.{Fields}
 use Rattle.lx_forest.specs.Forest.{Label, Forest}
 use Rattle.lx_forest.specs.Lookups.{key_of, has, parent_of, children_of, siblings, previous_of, next_of, is_attached, IsForest}
 use Rattle.lx_forest.specs.Edits.{with_new, with_fields, take_out, put_in, drop_detached, CanPut}
 use Rattle.lx_forest.proofs.Lookups.{parent_of-with_fields, parent_of-drop_detached, children_of-with_fields, children_of-drop_detached}
 use Rattle.lx_forest.proofs.Walks.{is_attached-up}
-use Rattle.lx_rooted.proofs.Siblings as rootedSiblings
+use Rattle.lx_trees.proofs.Neighbours as rootedSiblings
 use Rattle.lx_forest.proofs.Ordered.{ordered}
 
 -- ---- neighbours have one parent

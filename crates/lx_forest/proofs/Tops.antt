@@ -4,13 +4,13 @@ use Rattle.std.specs.Prelude.{sum_by, is_none}
 use Rattle.std.proofs.lemmas.List.Sums.{sum_by-cons}
 use Rattle.std.proofs.lemmas.Bool.{cases_eq}
 use Rattle.std.proofs.lemmas.Bool.Decides.{eqb_tells}
-use Rattle.lx_node.specs.Siblings.{is_among, NoRepeats}
-use Rattle.lx_node.proofs.Spots.{is_among-firsts}
+use Rattle.lx_trees.specs.Siblings.{is_among, NoRepeats}
+use Rattle.lx_trees.proofs.Spots.{is_among-firsts}
 use Rattle.lx_forest.specs.Forest.{Label, Forest}
 use Rattle.lx_forest.specs.Lookups.{key_of, has, roots, without, parent_of, is_within, is_attached, ancestors, rises_from, rises, IsForest}
 use Rattle.lx_forest.specs.Loose.{is_top}
 use Rattle.lx_forest.specs.Weights.{weight, weight_at}
-use Rattle.lx_rooted.proofs.Order.{rises_from-absent}
+use Rattle.lx_trees.proofs.Order.{rises_from-absent}
 use Rattle.lx_forest.proofs.Walks.{cases_option, ancestors-step, is_attached-up}
 use Rattle.lx_forest.proofs.Within.{is_within-up, is_within-top, is_within-self, is_within-trans}
 use Rattle.lx_forest.proofs.Lookups.{has-parent_of, has-child}

@@ -3,16 +3,16 @@ use Rattle.std.proofs.Common.{◌≡◌, ◌≢◌, ℕ, ◌+◌, true, false, c
 use Rattle.std.specs.Prelude.{option_map}
 use Rattle.std.proofs.lemmas.Bool.{cases_Bool}
 use Rattle.lx_node.specs.declared.fields.Fields.{Fields}
-use Rattle.lx_node.specs.Siblings.{is_among}
+use Rattle.lx_trees.specs.Siblings.{is_among}
 use Rattle.lx_forest.specs.Forest.{Label, Forest}
-use Rattle.lx_node.proofs.Subtrees.{count-alone-le}
+use Rattle.lx_trees.proofs.Subtrees.{count-alone-le}
 use Rattle.lx_forest.specs.Lookups.{key_of, has, parent_of, is_within, is_attached, ancestors, depth, IsForest}
 use Rattle.lx_forest.specs.Edits.{with_new, with_fields, take_out, put_in, drop_detached, CanPut}
 use Rattle.lx_forest.proofs.Lookups.{parent_of-with_fields, parent_of-drop_detached}
 use Rattle.lx_forest.proofs.Order.{IsForest-with_fields, IsForest-drop_detached}
 use Rattle.lx_forest.proofs.Walks.{ancestors-top}
 use Rattle.lx_forest.proofs.Within.{is_within-ancestors, is_within-with_fields, is_attached-drop_detached}
-use Rattle.lx_rooted.proofs.Up as rootedUp
+use Rattle.lx_trees.proofs.Up as rootedUp
 use Rattle.lx_forest.proofs.Ordered.{ordered}
 
 -- where the parents are the same from q on, so are the ancestors

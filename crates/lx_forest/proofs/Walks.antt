@@ -3,21 +3,21 @@ use Rattle.std.proofs.Common.{◌≡◌, ◌≢◌, ℕ, ◌+◌, ◌<◌, true,
 use Rattle.std.specs.Prelude.{is_some, option_map}
 use Rattle.std.proofs.lemmas.Bool.Decides.{eqb_tells, nat_tests}
 use Rattle.std.specs.declared.cmp.Ordering.TheVariants.{Less, Equal, Greater}
-use Rattle.lx_node.specs.NamedTrees.{total}
-use Rattle.lx_node.specs.NamedTrees as named
-use Rattle.lx_node.specs.Siblings.{is_among, first_of, index_in, ComesBefore, NoRepeats}
-use Rattle.lx_node.proofs.NamedTrees.{count-without-alone, names-alone}
-use Rattle.lx_node.proofs.Siblings.{is_some-index_in, is_named_tells}
-use Rattle.lx_node.proofs.Subtrees.{total-alone_child-lt, alone-alone}
-use Rattle.lx_node.proofs.Walks as walks
+use Rattle.lx_trees.specs.NamedTrees.{total}
+use Rattle.lx_trees.specs.NamedTrees as named
+use Rattle.lx_trees.specs.Siblings.{is_among, first_of, index_in, ComesBefore, NoRepeats}
+use Rattle.lx_trees.proofs.NamedTrees.{count-without-alone, names-alone}
+use Rattle.lx_trees.proofs.Siblings.{is_some-index_in, is_named_tells}
+use Rattle.lx_trees.proofs.Subtrees.{total-alone_child-lt, alone-alone}
+use Rattle.lx_trees.proofs.Walks as walks
 use Rattle.lx_forest.specs.Forest.{Forest}
 use Rattle.lx_forest.specs.Lookups.{key_of, count, has, roots, alone, spot, parent_of, children_of, first_child, next_of, is_within, is_attached, ancestors, depth, preorder, from, behind, order_between, order_of, IsForest}
 use Rattle.lx_forest.specs.Edits.{drop_detached}
 use Rattle.lx_forest.proofs.Edits.{has-root, spot-drop_detached}
 use Rattle.lx_forest.proofs.Lookups.{is_among-children_of}
-use Rattle.lx_rooted.proofs.Walks as rootedWalks
-use Rattle.lx_rooted.proofs.Up as rootedUp
-pub use Rattle.lx_rooted.proofs.Walks.{cases_option}
+use Rattle.lx_trees.proofs.Attached as rootedWalks
+use Rattle.lx_trees.proofs.Up as rootedUp
+pub use Rattle.lx_trees.proofs.Attached.{cases_option}
 use Rattle.lx_forest.proofs.Ordered.{ordered}
 
 -- ---- up

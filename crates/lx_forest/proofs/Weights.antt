@@ -3,18 +3,18 @@ use Rattle.std.proofs.Common.{◌≡◌, ℕ, ◌+◌, ◌*◌, ◌<◌, ◌≤�
 use Rattle.std.specs.Prelude.{sum_by}
 use Rattle.std.proofs.lemmas.List.Sums.{sum_by-cons, sum_by-append}
 use Rattle.std.proofs.lemmas.Bool.Decides.{eqb_tells}
-use Rattle.lx_node.specs.Trees.{nil, tree, joined}
-use Rattle.lx_node.specs.NamedTrees.{total, inserted, put_below, mapped}
-use Rattle.lx_node.specs.NamedTrees as named
-use Rattle.lx_node.specs.Siblings.{is_among, NoRepeats, names_without}
-use Rattle.lx_node.specs.Spots.{Spot, spot_below}
+use Rattle.lx_trees.specs.Trees.{nil, tree, joined}
+use Rattle.lx_trees.specs.NamedTrees.{total, inserted, put_below, mapped}
+use Rattle.lx_trees.specs.NamedTrees as named
+use Rattle.lx_trees.specs.Siblings.{is_among, NoRepeats, names_without}
+use Rattle.lx_trees.specs.Spots.{Spot, spot_below}
 use Rattle.lx_node.specs.declared.fields.Fields.{Fields}
-use Rattle.lx_node.proofs.NamedTrees.{put_below-absent, count-without-alone}
-use Rattle.lx_node.proofs.Subtrees.{alone-alone, count-alone_self}
-use Rattle.lx_node.proofs.Siblings.{is_among-names_without, names_without-absent_list}
-use Rattle.lx_node.proofs.Positions.{NoRepeats-names_without}
-use Rattle.lx_node.proofs.Spots.{spot_below-absent}
-use Rattle.lx_rooted.specs.Edits as rooted
+use Rattle.lx_trees.proofs.NamedTrees.{put_below-absent, count-without-alone}
+use Rattle.lx_trees.proofs.Subtrees.{alone-alone, count-alone_self}
+use Rattle.lx_trees.proofs.Siblings.{is_among-names_without, names_without-absent_list}
+use Rattle.lx_trees.proofs.Positions.{NoRepeats-names_without}
+use Rattle.lx_trees.proofs.Spots.{spot_below-absent}
+use Rattle.lx_trees.specs.Edits as rooted
 use Rattle.lx_forest.specs.Forest.{Label, Forest}
 use Rattle.lx_forest.specs.Lookups.{key_of, count, has, roots, alone, without, trees_of, spot, is_within, preorder, IsForest}
 use Rattle.lx_forest.specs.Edits.{among_roots, with_new, fields_at, with_fields, take_out, put_in, drop_detached}

@@ -1,17 +1,17 @@
 -- Which keys are in the tree of which, and of the root, and what edits do to that.
 use Rattle.std.proofs.Common.{◌≡◌, ◌≢◌, ℕ, true, false, eqb, ◌&&◌, ◌||◌, not, [], ◌∷◌, Option, None, Some, refl, arith}
-use Rattle.lx_node.specs.NamedTrees.{put_below}
-use Rattle.lx_node.specs.Siblings.{is_among}
+use Rattle.lx_trees.specs.NamedTrees.{put_below}
+use Rattle.lx_trees.specs.Siblings.{is_among}
 use Rattle.lx_node.specs.declared.fields.Fields.{Fields}
-use Rattle.lx_node.proofs.NamedTrees.{alone-absent, alone-mapped, count-without-alone, count-mapped}
-use Rattle.lx_node.proofs.Subtrees.{alone-alone}
+use Rattle.lx_trees.proofs.NamedTrees.{alone-absent, alone-mapped, count-without-alone, count-mapped}
+use Rattle.lx_trees.proofs.Subtrees.{alone-alone}
 use Rattle.lx_forest.specs.Forest.{Label, Forest}
 use Rattle.lx_forest.specs.Lookups.{key_of, count, has, alone, without, parent_of, children_of, is_within, is_attached, ancestors, IsForest}
 use Rattle.lx_forest.specs.Edits.{among_roots, with_new, fields_at, with_fields, take_out, put_in, drop_detached, CanPut}
 use Rattle.lx_forest.proofs.Edits.{has-root}
-use Rattle.lx_rooted.proofs.Leaves as rootedLeaves
-use Rattle.lx_rooted.proofs.Within as rootedWithin
-use Rattle.lx_rooted.proofs.Up as rootedUp
+use Rattle.lx_trees.proofs.Leaves as rootedLeaves
+use Rattle.lx_trees.proofs.Within as rootedWithin
+use Rattle.lx_trees.proofs.Up as rootedUp
 use Rattle.lx_forest.proofs.Ordered.{ordered}
 
 -- ---- trees alone

@@ -1,11 +1,11 @@
 -- The primitive edits of a forest. Each gives a forest in order where it began with one and its condition holds.
 use Rattle.std.specs.Prelude.{ℕ, ◌==◌, if◌then◌else◌, Option}
 use Rattle.std.specs.declared.cmp.Ordering.{Ordering}
-use Rattle.lx_node.specs.NamedTrees.{mapped}
-use Rattle.lx_node.specs.Spots.{Spot}
+use Rattle.lx_trees.specs.NamedTrees.{mapped}
+use Rattle.lx_trees.specs.Spots.{Spot}
 use Rattle.lx_node.specs.declared.fields.Fields.{Fields}
-pub use Rattle.lx_rooted.specs.Edits.{taken, placed}
-use Rattle.lx_rooted.specs.Edits as rooted
+pub use Rattle.lx_trees.specs.Edits.{taken, placed}
+use Rattle.lx_trees.specs.Edits as rooted
 use Rattle.lx_forest.specs.Forest.{Label, Forest}
 use Rattle.lx_forest.specs.Lookups.{key_of, alone}
 

@@ -1,6 +1,6 @@
 -- Forests: nodes in nested lists, as a reader of an editor state thinks of them.
 use Rattle.std.specs.Prelude.{ℕ, List}
-use Rattle.lx_node.specs.Trees.{Trees, nil, tree, joined}
+use Rattle.lx_trees.specs.Trees.{Trees, nil, tree, joined}
 use Rattle.lx_node.specs.declared.kind.Kind.{Kind}
 use Rattle.lx_node.specs.declared.kind.Kind.TheVariants.{Root, Paragraph, Text}
 use Rattle.lx_node.specs.declared.fields.Fields.{Fields}

@@ -3,8 +3,8 @@ use Rattle.std.specs.Prelude.{ℕ, ◌+◌, ◌≡◌, ◌≢◌, ◌==◌, ◌&
 use Rattle.std.specs.List.{filter}
 use Rattle.std.specs.Option.{option_or}
 use Rattle.std.specs.Ordering.{ordering_reverse}
-use Rattle.lx_node.specs.Trees.{nil, tree, joined}
-use Rattle.lx_node.specs.Siblings.{first_of, index_in, names_with, is_place, place_behind}
+use Rattle.lx_trees.specs.Trees.{nil, tree, joined}
+use Rattle.lx_trees.specs.Siblings.{first_of, index_in, names_with, is_place, place_behind}
 use Rattle.lx_node.specs.declared.fields.Fields.{Fields}
 use Rattle.lx_forest.specs.Forest.{Label, Forest}
 use Rattle.lx_forest.specs.Lookups.{has, spot, children_of, is_within, is_attached, ancestors, depth, keys_within, preorder, behind, order_between, order_of, IsForest}

@@ -1,9 +1,10 @@
+pub mod Covered
 pub mod Edits
 pub mod Forest
 pub mod Laws
 pub mod Lookups
 pub mod Loose
 pub mod Records
+pub mod Suited
 pub mod Views
 pub mod Weights
-pub mod Suited

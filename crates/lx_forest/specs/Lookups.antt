@@ -1,13 +1,13 @@
 -- What a forest says of a key: where the key is, and all that is read from that.
 use Rattle.std.specs.Prelude.{ℕ, ◌<◌, ◌≡◌, Bool, true, List, length, Option, Some, option_map}
 use Rattle.std.specs.declared.cmp.Ordering.{Ordering}
-use Rattle.lx_node.specs.NamedTrees as named
-use Rattle.lx_node.specs.Siblings.{first_of, last_of, next_in, previous_in, index_in}
-use Rattle.lx_node.specs.Spots as spots
-use Rattle.lx_node.specs.Spots.{Spot, parent_at, children_at}
-use Rattle.lx_node.specs.Walks as walks
-pub use Rattle.lx_rooted.specs.Lookups.{rises_from, rises, order_between}
-use Rattle.lx_rooted.specs.Lookups as rooted
+use Rattle.lx_trees.specs.NamedTrees as named
+use Rattle.lx_trees.specs.Siblings.{first_of, last_of, next_in, previous_in, index_in}
+use Rattle.lx_trees.specs.Spots as spots
+use Rattle.lx_trees.specs.Spots.{Spot, parent_at, children_at}
+use Rattle.lx_trees.specs.Walks as walks
+pub use Rattle.lx_trees.specs.Lookups.{rises_from, rises, order_between}
+use Rattle.lx_trees.specs.Lookups as rooted
 use Rattle.lx_node.specs.declared.kind.Kind.{Kind}
 use Rattle.lx_node.specs.declared.kind.Kind.TheVariants.{Root}
 use Rattle.lx_node.specs.declared.fields.Fields.{Fields}

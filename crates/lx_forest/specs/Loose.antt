@@ -1,6 +1,6 @@
 -- What an update has moved: keys among which is each that is below nothing, and below which is each that is deep.
 use Rattle.std.specs.Prelude.{ℕ, ◌<◌, ◌≡◌, ◌≢◌, ◌==◌, ◌||◌, ◌&&◌, not, is_none, Bool, true, false, List, [], ◌∷◌, Some, None}
-use Rattle.lx_node.specs.Siblings.{is_among}
+use Rattle.lx_trees.specs.Siblings.{is_among}
 use Rattle.lx_forest.specs.Forest.{Forest}
 use Rattle.lx_forest.specs.Lookups.{has, parent_of, is_within, depth}
 

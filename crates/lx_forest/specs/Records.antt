@@ -1,9 +1,9 @@
 -- Records of nodes with links, and when a map of them stands for a forest.
 use Rattle.std.specs.Prelude.{ℕ, ◌^◌, ◌<◌, ◌≡◌, ◌==◌, if◌then◌else◌, Option}
-use Rattle.lx_node.specs.NamedTrees.{total}
+use Rattle.lx_trees.specs.NamedTrees.{total}
 use Rattle.lx_node.specs.declared.fields.Fields.{Fields}
-pub use Rattle.lx_rooted.specs.Records.{linked, lone, unlinked, linked_in}
-use Rattle.lx_rooted.specs.Records as rooted
+pub use Rattle.lx_trees.specs.Records.{linked, lone, unlinked, linked_in}
+use Rattle.lx_trees.specs.Records as rooted
 use Rattle.lx_forest.specs.Forest.{Label, Forest}
 use Rattle.lx_forest.specs.Lookups.{key_of, IsForest}
 

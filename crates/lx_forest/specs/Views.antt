@@ -1,6 +1,6 @@
 -- What a rule sees of a node.
 use Rattle.std.specs.Prelude.{ℕ, List, [], ◌∷◌, Option, None, Some, option_map}
-use Rattle.lx_node.specs.Spots.{Spot}
+use Rattle.lx_trees.specs.Spots.{Spot}
 use Rattle.lx_node.specs.declared.kind.Kind.{Kind}
 use Rattle.lx_node.specs.declared.node.View.{View}
 use Rattle.lx_node.specs.declared.fields.Extra.{Extra}

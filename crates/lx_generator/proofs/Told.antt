@@ -4,17 +4,17 @@ use Rattle.std.specs.Prelude.{min}
 use Rattle.serde_json.specs.Data.{Data}
 use Rattle.serde_json.specs.Written.{compact_text, has_float}
 use Rattle.lx_node.specs.Limits.{last_u32, most_characters}
-use Rattle.lx_node.specs.NamedTrees.{total}
+use Rattle.lx_trees.specs.NamedTrees.{total}
 use Rattle.lx_node.specs.Strings.{capped}
-use Rattle.lx_node.specs.Trees.{nil, tree}
+use Rattle.lx_trees.specs.Trees.{nil, tree}
 use Rattle.lx_host.specs.Hosts.{HostTree, shape_of}
 use Rattle.lx_host.specs.Html.{first_tree, html_of}
 use Rattle.lx_select.specs.declared.selection.Selection.{Selection}
 use Rattle.lx_forest.specs.Forest.{Forest}
 use Rattle.lx_forest.specs.Lookups.{roots}
 use Rattle.lx_forest.specs.Weights.{weight}
-use Rattle.lx_plain.specs.Allowed.{Shows}
-use Rattle.lx_plain.specs.Render.{render}
+use Rattle.lx_reconcile.specs.Allowed.{Shows}
+use Rattle.lx_render.specs.Render.{render}
 use Rattle.lx_links.specs.Characters.{characters_in}
 use Rattle.lx_draft.specs.Freezing.{tree_characters}
 use Rattle.lx_editor.specs.Editor.{Editor, new_editor}

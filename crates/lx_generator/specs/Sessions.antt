@@ -1,9 +1,9 @@
 -- A session that is generated from a number: its lines, what they lead to, and its summary.
 use Rattle.std.specs.Prelude.{◌≡◌, ℕ, zero, suc, ◌+◌, ◌-◌, ◌*◌, ◌/◌, ◌%◌, ◌==◌, if◌then◌else◌, Bool, false, List, [], ◌∷◌, length, codes, encode_utf8_all, None}
-use Rattle.lx_node.specs.NamedTrees.{total}
+use Rattle.lx_trees.specs.NamedTrees.{total}
 use Rattle.lx_node.specs.declared.cause.PointKind.TheVariants.{Element}
 use Rattle.lx_host.specs.Html.{html_of}
-use Rattle.lx_plain.specs.Render.{render}
+use Rattle.lx_render.specs.Render.{render}
 use Rattle.lx_draft.specs.Freezing.{tree_characters}
 use Rattle.lx_step.specs.Lines.{untagged}
 use Rattle.lx_step.specs.declared.command.Command.{Command}

@@ -45,7 +45,7 @@ impl Drop for History {
 
 impl Model for History {
     ghost use Rattle.std.specs.Coded.{codes};
-    ghost use Rattle.lx_node.specs.Trees.{trees_code};
+    ghost use Rattle.lx_trees.specs.Trees.{trees_code};
     ghost use Rattle.lx_history.specs.Kept.{Kept};
     ghost use Rattle.lx_history.specs.History.{IsHistory};
     ghost use Rattle.lx_history.specs.Inside.{history_in, kept_of};

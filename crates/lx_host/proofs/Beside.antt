@@ -3,17 +3,17 @@ use Rattle.std.proofs.Common.{ℕ, ◌≡◌, ◌<◌, true, false, cond, eqb, �
 use Rattle.std.proofs.lemmas.Bool.{cases_Bool, cases_lt}
 use Rattle.std.proofs.lemmas.Bool.Decides.{eqb_tells}
 use Rattle.std.proofs.lemmas.List.{append-nil}
-use Rattle.lx_node.specs.Trees.{Trees, nil, tree}
-use Rattle.lx_node.specs.Siblings.{is_among, is_named, next_in}
-use Rattle.lx_node.proofs.NamedTrees.{children_of-absent}
-use Rattle.lx_node.proofs.Spots.{is_among-names, option_or-None}
-use Rattle.lx_node.proofs.Siblings.{is_among-append, next_in-absent}
+use Rattle.lx_trees.specs.Trees.{Trees, nil, tree}
+use Rattle.lx_trees.specs.Siblings.{is_among, is_named, next_in}
+use Rattle.lx_trees.proofs.NamedTrees.{children_of-absent}
+use Rattle.lx_trees.proofs.Spots.{is_among-names, option_or-None}
+use Rattle.lx_trees.proofs.Siblings.{is_among-append, next_in-absent}
 use Rattle.lx_host.specs.Hosts.{Host, id_of, count, children_of, ids_of}
 use Rattle.lx_host.specs.Lookups.{next_sibling}
-use Rattle.lx_rooted.specs.Lookups as lookups
-use Rattle.lx_rooted.specs.Lookups.{IsOrdered}
-use Rattle.lx_rooted.proofs.Lookups.{is_among-children_of}
-use Rattle.lx_rooted.proofs.Walks.{cases_option}
+use Rattle.lx_trees.specs.Lookups as lookups
+use Rattle.lx_trees.specs.Lookups.{IsOrdered}
+use Rattle.lx_trees.proofs.Lookups.{is_among-children_of}
+use Rattle.lx_trees.proofs.Attached.{cases_option}
 use Rattle.lx_host.proofs.Placed.{children-same}
 
 next_absent : (q : ℕ) (t : Trees Host) → count q t ≡ 0 → next_sibling q t ≡ None

@@ -8,24 +8,24 @@ use Rattle.std.specs.HashMap.{HashMap}
 use Rattle.std.specs.Map.{lookup}
 use Rattle.indexmap.specs.IndexMap.{get}
 use Rattle.lx_node.specs.Limits.{last_u32}
-use Rattle.lx_node.specs.Trees.{Trees, joined}
-use Rattle.lx_node.specs.NamedTrees.{total}
-use Rattle.lx_node.specs.Walks.{ancestors}
-use Rattle.lx_node.specs.Siblings.{first_of, names_without}
-use Rattle.lx_node.proofs.NamedTrees.{count-without-alone, total-without-alone, count-le-total}
-use Rattle.lx_node.proofs.Siblings.{is_named_tells, first_of-among}
-use Rattle.lx_node.proofs.Subtrees.{count-alone-le, count-alone_self, alone-without, alone-alone, alone-antisym, total-alone_child-lt}
-use Rattle.lx_node.proofs.Walks as walks
+use Rattle.lx_trees.specs.Trees.{Trees, joined}
+use Rattle.lx_trees.specs.NamedTrees.{total}
+use Rattle.lx_trees.specs.Walks.{ancestors}
+use Rattle.lx_trees.specs.Siblings.{first_of, names_without}
+use Rattle.lx_trees.proofs.NamedTrees.{count-without-alone, total-without-alone, count-le-total}
+use Rattle.lx_trees.proofs.Siblings.{is_named_tells, first_of-among}
+use Rattle.lx_trees.proofs.Subtrees.{count-alone-le, count-alone_self, alone-without, alone-alone, alone-antisym, total-alone_child-lt}
+use Rattle.lx_trees.proofs.Walks as walks
 use Rattle.lx_host.specs.Hosts.{Host, Face, root_face, id_of, has, count, alone, without, one_host}
-use Rattle.lx_rooted.specs.Lookups.{IsOrdered, parent_of, children_of, first_child, is_within}
-use Rattle.lx_rooted.specs.Edits.{with_new, take_out}
-use Rattle.lx_rooted.specs.Records.{Record, record_at, lone}
-use Rattle.lx_rooted.proofs.Edits.{total-with_new, parent_of-root}
-use Rattle.lx_rooted.proofs.Leaves.{total-numbered, among_roots-last, is_within-leaf, without-without}
-use Rattle.lx_rooted.proofs.Lookups.{is_among-children_of, parent_of-take_out, children_of-take_out, has-parent_of}
-use Rattle.lx_rooted.proofs.Order.{IsOrdered-with_new, IsOrdered-without}
-use Rattle.lx_rooted.proofs.Records.{record_at-with_new, record_at-without, is_some-record_at}
-use Rattle.lx_rooted.proofs.Within.{is_within-self, is_within-up, is_within-top, is_within-parent}
+use Rattle.lx_trees.specs.Lookups.{IsOrdered, parent_of, children_of, first_child, is_within}
+use Rattle.lx_trees.specs.Edits.{with_new, take_out}
+use Rattle.lx_trees.specs.Records.{Record, record_at, lone}
+use Rattle.lx_trees.proofs.Edits.{total-with_new, parent_of-root}
+use Rattle.lx_trees.proofs.Leaves.{total-numbered, among_roots-last, is_within-leaf, without-without}
+use Rattle.lx_trees.proofs.Lookups.{is_among-children_of, parent_of-take_out, children_of-take_out, has-parent_of}
+use Rattle.lx_trees.proofs.Order.{IsOrdered-with_new, IsOrdered-without}
+use Rattle.lx_trees.proofs.Records.{record_at-with_new, record_at-without, is_some-record_at}
+use Rattle.lx_trees.proofs.Within.{is_within-self, is_within-up, is_within-top, is_within-parent}
 use Rattle.lx_host.specs.declared.tag.Name.{Name}
 use Rattle.lx_host.specs.declared.linked.Linked.{Linked}
 use Rattle.lx_host.specs.Stands.{record_of, linked_of, Stands}

@@ -7,7 +7,7 @@ use Rattle.std.proofs.lemmas.Map.Keys.{IsDistinct-head, IsDistinct-tail}
 use Rattle.std.specs.HashMap.{HashMap}
 use Rattle.std.specs.Map.{lookup}
 use Rattle.indexmap.specs.IndexMap.{insert_entry, insert_all}
-use Rattle.lx_rooted.specs.Records.{StandsFor}
+use Rattle.lx_trees.specs.Records.{StandsFor}
 use Rattle.lx_host.specs.Hosts.{id_of}
 use Rattle.lx_host.specs.Stands.{Stands, Standing, hosts_in, hosts_in-stands, hosts_in-is, record_of}
 use Rattle.lx_host.specs.declared.linked.Linked.{Linked}

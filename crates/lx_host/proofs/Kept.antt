@@ -5,17 +5,17 @@ use Rattle.std.proofs.lemmas.Option.{same_Some}
 use Rattle.std.specs.HashMap.{HashMap}
 use Rattle.std.specs.Map.{lookup}
 use Rattle.indexmap.specs.IndexMap.{get}
-use Rattle.lx_node.specs.Trees.{Trees, nil, tree, joined}
-use Rattle.lx_node.specs.NamedTrees.{total}
-use Rattle.lx_node.proofs.NamedTrees.{count-joined, count-put_below, count-without-alone, count-mapped}
+use Rattle.lx_trees.specs.Trees.{Trees, nil, tree, joined}
+use Rattle.lx_trees.specs.NamedTrees.{total}
+use Rattle.lx_trees.proofs.NamedTrees.{count-joined, count-put_below, count-without-alone, count-mapped}
 use Rattle.lx_host.specs.Hosts.{Host, HostTree, Face, id_of, count, alone, without, put_below, one_host, root_face, changed, changed_at, effect}
 use Rattle.lx_host.specs.Html.{first_tree}
 use Rattle.lx_host.specs.Lookups.{host_of}
 use Rattle.lx_host.specs.declared.op.Op.TheVariants.{Create, Place, Drop}
 use Rattle.lx_host.proofs.Standing as standing
-use Rattle.lx_rooted.specs.Lookups.{IsOrdered, is_attached}
-use Rattle.lx_rooted.proofs.Edits.{outside_once}
-use Rattle.lx_rooted.proofs.Leaves.{total-numbered}
+use Rattle.lx_trees.specs.Lookups.{IsOrdered, is_attached}
+use Rattle.lx_trees.proofs.Edits.{outside_once}
+use Rattle.lx_trees.proofs.Leaves.{total-numbered}
 use Rattle.lx_host.specs.declared.keys.Shown.{Shown}
 use Rattle.lx_host.specs.Shown.{with_one}
 use Rattle.lx_host.specs.Stands.{FitsPlace}

@@ -1,8 +1,8 @@
 -- The laws of trees whose labels have names, at the ids of hosts, and two more of host trees.
 use Rattle.std.proofs.Common.{◌≡◌, ℕ, ◌+◌, Bool, true, false, cond, eqb, [], ◌++◌, Option, None, refl, ap, arith}
-use Rattle.lx_node.specs.Trees.{Trees, nil, tree, joined}
-use Rattle.lx_node.proofs.NamedTrees as trees
-pub use Rattle.lx_node.proofs.NamedTrees.{joined-nil, joined-assoc}
+use Rattle.lx_trees.specs.Trees.{Trees, nil, tree, joined}
+use Rattle.lx_trees.proofs.NamedTrees as trees
+pub use Rattle.lx_trees.proofs.NamedTrees.{joined-nil, joined-assoc}
 use Rattle.lx_host.specs.Hosts.{Host, Face, id_of, count, without, alone, children_of, inserted, put_below, changed_at, changed}
 
 -- ---- one after another

@@ -2,21 +2,21 @@
 use Rattle.std.proofs.Common.{ℕ, zero, suc, ◌+◌, drop, slice_get, ◌≡◌, Bool, true, false, cond, eqb, ◌&&◌, ◌||◌, List, [], ◌∷◌, Option, None, Some, is_some, refl, sym, ap, ◌∙◌, subst, arith, inl, inr}
 use Rattle.std.proofs.lemmas.Bool.{cases_Bool}
 use Rattle.std.proofs.lemmas.Bool.Decides.{eqb_tells}
-use Rattle.lx_node.specs.Trees.{Trees, nil, tree}
-use Rattle.lx_node.specs.NamedTrees.{gathered}
-use Rattle.lx_node.specs.Siblings.{is_among, is_named}
-use Rattle.lx_node.specs.Spots.{Spot, spot}
-use Rattle.lx_node.proofs.NamedTrees.{count-without, count-without-alone}
-use Rattle.lx_node.proofs.Subtrees.{count-alone-le}
+use Rattle.lx_trees.specs.Trees.{Trees, nil, tree}
+use Rattle.lx_trees.specs.NamedTrees.{gathered}
+use Rattle.lx_trees.specs.Siblings.{is_among, is_named}
+use Rattle.lx_trees.specs.Spots.{Spot, spot}
+use Rattle.lx_trees.proofs.NamedTrees.{count-without, count-without-alone}
+use Rattle.lx_trees.proofs.Subtrees.{count-alone-le}
 use Rattle.lx_host.specs.Hosts.{Host, id_of, count, has, alone, without}
 use Rattle.lx_host.specs.Html.{first_tree}
 use Rattle.lx_host.specs.Least.{passing, least_in, shows_attached}
 use Rattle.lx_host.specs.Lookups.{lesser, host_of}
 use Rattle.lx_host.specs.Weights.{weighed, shows_at, is_shown, key_at, IsLeast}
 use Rattle.lx_host.proofs.Weights.{weighed-without-alone, shown_counted, first_alone, least_unique, least_either, least_host_of}
-use Rattle.lx_rooted.specs.Lookups.{IsOrdered, is_attached}
-use Rattle.lx_rooted.proofs.Edits.{is_some-spot, key-spot}
-use Rattle.lx_rooted.proofs.Lookups.{alone-spot}
+use Rattle.lx_trees.specs.Lookups.{IsOrdered, is_attached}
+use Rattle.lx_trees.proofs.Edits.{is_some-spot, key-spot}
+use Rattle.lx_trees.proofs.Lookups.{alone-spot}
 
 -- ---- in a list
 

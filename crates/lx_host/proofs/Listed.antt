@@ -3,23 +3,23 @@ use Rattle.std.proofs.Common.{ℕ, ◌≡◌, ◌<◌, true, List, ◌∷◌, �
 use Rattle.std.specs.Option.{option_copied}
 use Rattle.std.proofs.lemmas.List.{append-nil}
 use Rattle.std.proofs.lemmas.Option.{same_Some}
-use Rattle.lx_node.specs.Trees.{Trees, nil, tree}
-use Rattle.lx_node.specs.NamedTrees.{total, gathered}
-use Rattle.lx_node.specs.Siblings.{next_in, from_name, is_among}
-use Rattle.lx_node.specs.Spots.{Spot, spot, children_at}
-use Rattle.lx_node.proofs.Positions.{from_name-first, from_name-step}
-use Rattle.lx_node.proofs.Siblings.{is_named_tells}
-use Rattle.lx_node.proofs.Subtrees.{total-alone_child-lt}
+use Rattle.lx_trees.specs.Trees.{Trees, nil, tree}
+use Rattle.lx_trees.specs.NamedTrees.{total, gathered}
+use Rattle.lx_trees.specs.Siblings.{next_in, from_name, is_among}
+use Rattle.lx_trees.specs.Spots.{Spot, spot, children_at}
+use Rattle.lx_trees.proofs.Positions.{from_name-first, from_name-step}
+use Rattle.lx_trees.proofs.Siblings.{is_named_tells}
+use Rattle.lx_trees.proofs.Subtrees.{total-alone_child-lt}
 use Rattle.lx_host.specs.Hosts.{Host, id_of, has, alone, shape_of}
 use Rattle.lx_host.specs.Below.{below_of}
 use Rattle.lx_host.specs.Html.{html_of}
 use Rattle.lx_host.specs.Stands.{linked_of}
 use Rattle.lx_host.specs.declared.linked.Linked.{Linked}
 use Rattle.lx_host.proofs.Printed.{html_of-joined, IsOne}
-use Rattle.lx_rooted.specs.Lookups.{IsOrdered, parent_of, children_of, children_below, siblings, first_child, next_of}
-use Rattle.lx_rooted.specs.Records.{linked, record_at}
-use Rattle.lx_rooted.proofs.Lookups.{alone-spot, is_among-children_of, NoRepeats-children_of, has-child}
-use Rattle.lx_rooted.proofs.Siblings.{parent_of-next}
+use Rattle.lx_trees.specs.Lookups.{IsOrdered, parent_of, children_of, children_below, siblings, first_child, next_of}
+use Rattle.lx_trees.specs.Records.{linked, record_at}
+use Rattle.lx_trees.proofs.Lookups.{alone-spot, is_among-children_of, NoRepeats-children_of, has-child}
+use Rattle.lx_trees.proofs.Neighbours.{parent_of-next}
 use Rattle.lx_host.proofs.Changed.{child_up}
 
 -- what is still to be written from a child on

@@ -1,16 +1,16 @@
 -- When a host may be placed.
 use Rattle.std.proofs.Common.{ℕ, ◌≡◌, true, eqb, not, ◌&&◌, List, Option, None, Some, refl, sym, ap, ◌∙◌, arith}
-use Rattle.lx_node.specs.Trees.{Trees}
-use Rattle.lx_node.specs.Siblings.{is_place, is_among, is_named, names_without, place_behind, previous_in}
-use Rattle.lx_node.proofs.Siblings.{is_among-names_without, is_named_tells}
-use Rattle.lx_node.proofs.Spots.{children_at-spot_below}
+use Rattle.lx_trees.specs.Trees.{Trees}
+use Rattle.lx_trees.specs.Siblings.{is_place, is_among, is_named, names_without, place_behind, previous_in}
+use Rattle.lx_trees.proofs.Siblings.{is_among-names_without, is_named_tells}
+use Rattle.lx_trees.proofs.Spots.{children_at-spot_below}
 use Rattle.lx_host.specs.Hosts.{Host, id_of, fits_before, put_below, alone, without}
 use Rattle.lx_host.specs.Hosts as hosts
-use Rattle.lx_rooted.specs.Lookups.{IsOrdered, children_of, children_below, parent_of, previous_of}
-use Rattle.lx_rooted.specs.Edits.{take_out, put_in, CanPut}
-use Rattle.lx_rooted.proofs.Lookups.{children_of-take_out, is_among-children_of}
-use Rattle.lx_rooted.proofs.Places.{CanPut-take_out}
-use Rattle.lx_rooted.proofs.Within.{put_in-take_out}
+use Rattle.lx_trees.specs.Lookups.{IsOrdered, children_of, children_below, parent_of, previous_of}
+use Rattle.lx_trees.specs.Edits.{take_out, put_in, CanPut}
+use Rattle.lx_trees.proofs.Lookups.{children_of-take_out, is_among-children_of}
+use Rattle.lx_trees.proofs.Places.{CanPut-take_out}
+use Rattle.lx_trees.proofs.Within.{put_in-take_out}
 use Rattle.lx_host.specs.Stands.{FitsPlace}
 
 -- the children of a host, by its spot

@@ -1,7 +1,7 @@
 -- The HTML of hosts, one after another.
 use Rattle.std.proofs.Common.{None, Some, ◌≡◌, ℕ, true, false, List, [], ◌++◌, refl, sym, ap, ◌∙◌, append_assoc}
 use Rattle.std.proofs.lemmas.List.{append-nil}
-use Rattle.lx_node.specs.Trees.{Trees, nil, tree, joined}
+use Rattle.lx_trees.specs.Trees.{Trees, nil, tree, joined}
 use Rattle.lx_host.specs.declared.tag.Name.{Name}
 use Rattle.lx_host.specs.declared.tag.Tag.{Tag}
 use Rattle.lx_host.specs.declared.tag.Tag.TheVariants.{Div, P, H1, H2, H3, H4, H5, H6, Blockquote, Ul, Ol, Li, A, Table, Tr, Th, Td, Br, Hr, Inline}

@@ -3,14 +3,14 @@ use Rattle.std.proofs.Common.{ℕ, ◌≡◌, ◌+◌, ◌-◌, Bool, true, fals
 use Rattle.std.proofs.lemmas.Bool.Decides.{eqb_tells, nat_tests}
 use Rattle.std.specs.HashMap.{HashMap}
 use Rattle.indexmap.specs.IndexMap.{get}
-use Rattle.lx_node.specs.Trees.{Trees, nil, tree}
-use Rattle.lx_node.specs.NamedTrees.{gathered}
-use Rattle.lx_node.specs.Spots.{Spot, spot, children_at}
-use Rattle.lx_node.proofs.NamedTrees.{without-absent}
+use Rattle.lx_trees.specs.Trees.{Trees, nil, tree}
+use Rattle.lx_trees.specs.NamedTrees.{gathered}
+use Rattle.lx_trees.specs.Spots.{Spot, spot, children_at}
+use Rattle.lx_trees.proofs.NamedTrees.{without-absent}
 use Rattle.lx_host.specs.Hosts.{Host, id_of, count, alone, without}
-use Rattle.lx_rooted.specs.Lookups.{IsOrdered, children_of}
-use Rattle.lx_rooted.proofs.Edits.{is_some-spot, key-spot}
-use Rattle.lx_rooted.proofs.Lookups.{alone-spot}
+use Rattle.lx_trees.specs.Lookups.{IsOrdered, children_of}
+use Rattle.lx_trees.proofs.Edits.{is_some-spot, key-spot}
+use Rattle.lx_trees.proofs.Lookups.{alone-spot}
 use Rattle.lx_host.specs.declared.keys.Shown.{Shown}
 use Rattle.lx_host.specs.Shown.{without_one}
 use Rattle.lx_host.specs.Weights.{weighed, shows, id_shown, shown, ids_shown, entry_by, entry_of, key_at, AreKeyed}

@@ -2,19 +2,19 @@
 use Rattle.std.proofs.Common.{ℕ, ◌≡◌, eqb, Bool, List, Option, Some, refl, sym, ◌∙◌, arith, inl, inr}
 use Rattle.std.proofs.lemmas.Bool.Decides.{eqb_tells}
 use Rattle.std.specs.HashMap.{HashMap}
-use Rattle.lx_node.specs.Trees.{Trees}
-use Rattle.lx_node.proofs.NamedTrees.{total-mapped}
+use Rattle.lx_trees.specs.Trees.{Trees}
+use Rattle.lx_trees.proofs.NamedTrees.{total-mapped}
 use Rattle.lx_host.specs.Hosts.{Host, Face, id_of, changed, changed_at, with_text, with_value, with_ending}
-use Rattle.lx_rooted.specs.Records.{relabelled}
-use Rattle.lx_rooted.proofs.Order.{IsOrdered-mapped}
-use Rattle.lx_rooted.proofs.Records.{record_at-mapped}
+use Rattle.lx_trees.specs.Records.{relabelled}
+use Rattle.lx_trees.proofs.Order.{IsOrdered-mapped}
+use Rattle.lx_trees.proofs.Records.{record_at-mapped}
 use Rattle.lx_host.specs.declared.tag.Name.{Name}
 use Rattle.lx_host.specs.declared.linked.Linked.{Linked}
 use Rattle.lx_host.specs.declared.linked.Change.TheVariants.{Text, Break}
 use Rattle.lx_host.specs.Links.{Differs, changed as turned, attributed}
 use Rattle.lx_host.specs.Stands.{record_of, Stands}
 use Rattle.lx_host.proofs.Stood.{records_after}
-use Rattle.lx_node.specs.Siblings.{is_named}
+use Rattle.lx_trees.specs.Siblings.{is_named}
 
 -- a table with these changes stands for the hosts with what one of them shows changed
 pub shown_stands : {S : Type 0} (old new : HashMap ℕ Linked S) (f : Trees Host) (id : ℕ) (face : Face → Face) (change : ℕ → Linked → Linked) → ((q : ℕ) (n : Linked) → record_of q (change q n) ≡ relabelled (changed_at id face) (record_of q n)) → Stands old f → Differs change old new → Stands new (changed id face f)

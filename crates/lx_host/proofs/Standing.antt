@@ -2,7 +2,7 @@
 use Rattle.std.proofs.Common.{◌≡◌, ◌≢◌, ℕ, ◌<◌, Bool, true, false, eqb, ltb, not, ◌&&◌, Option, refl, sym, subst, IsTrue}
 use Rattle.std.proofs.lemmas.Bool.{eqb-true, eqb-false, ltb-true, not-true}
 use Rattle.lx_node.specs.Limits.{last_u32}
-use Rattle.lx_node.specs.Trees.{Trees}
+use Rattle.lx_trees.specs.Trees.{Trees}
 use Rattle.lx_host.specs.declared.op.Op.{Op}
 use Rattle.lx_host.specs.declared.op.Op.TheVariants.{Create, Place, Drop, Text, Attr, Break}
 use Rattle.lx_host.specs.declared.tag.Name.{Name}

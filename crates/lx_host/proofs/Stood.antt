@@ -2,20 +2,20 @@
 use Rattle.std.proofs.Common.{ℕ, ◌≡◌, ◌<◌, ◌+◌, ◌-◌, ◌^◌, cond, true, false, ◌&&◌, nat_eq, List, Option, None, Some, option_map, is_some, is_none, refl, sym, ap, ◌∙◌, subst, arith}
 use Rattle.std.specs.HashMap.{HashMap}
 use Rattle.indexmap.specs.IndexMap.{get}
-use Rattle.lx_node.specs.Trees.{Trees}
-use Rattle.lx_node.specs.NamedTrees.{has}
-use Rattle.lx_node.specs.Siblings.{is_named, is_place, place_behind}
+use Rattle.lx_trees.specs.Trees.{Trees}
+use Rattle.lx_trees.specs.NamedTrees.{has}
+use Rattle.lx_trees.specs.Siblings.{is_named, is_place, place_behind}
 use Rattle.lx_host.specs.Hosts.{Host, id_of}
-use Rattle.lx_rooted.specs.Lookups.{children_of}
-use Rattle.lx_rooted.specs.Edits.{take_out, put_in, CanPut}
-use Rattle.lx_rooted.specs.Records.{Record, StandsFor, record_at, IsRecordOf}
-use Rattle.lx_rooted.specs.Records as recs
-use Rattle.lx_rooted.proofs.Bounds.{size_of-lt}
-use Rattle.lx_rooted.proofs.Edits.{total-take_out, total-put_in}
-use Rattle.lx_rooted.proofs.Order.{IsOrdered-take_out, IsOrdered-put_in}
-use Rattle.lx_rooted.proofs.Records.{record_at-take_out, record_at-put_in, IsRecordOf-record_at, is_some-record_at}
-use Rattle.lx_rooted.proofs.Places.{take_out-top}
-use Rattle.lx_rooted.proofs.Walks.{no_parent}
+use Rattle.lx_trees.specs.Lookups.{children_of}
+use Rattle.lx_trees.specs.Edits.{take_out, put_in, CanPut}
+use Rattle.lx_trees.specs.Records.{Record, StandsFor, record_at, IsRecordOf}
+use Rattle.lx_trees.specs.Records as recs
+use Rattle.lx_trees.proofs.Bounds.{size_of-lt}
+use Rattle.lx_trees.proofs.Edits.{total-take_out, total-put_in}
+use Rattle.lx_trees.proofs.Order.{IsOrdered-take_out, IsOrdered-put_in}
+use Rattle.lx_trees.proofs.Records.{record_at-take_out, record_at-put_in, IsRecordOf-record_at, is_some-record_at}
+use Rattle.lx_trees.proofs.Places.{take_out-top}
+use Rattle.lx_trees.proofs.Attached.{no_parent}
 use Rattle.lx_host.specs.declared.linked.Linked.{Linked}
 use Rattle.lx_host.specs.Links.{Differs, unlinked, linked_in}
 use Rattle.lx_host.specs.Stands.{GroveView, record_of, linked_of, records, Stands, Standing, hosts_in, hosts_in-stands}

@@ -4,13 +4,13 @@ use Rattle.std.proofs.lemmas.Bool.Decides.{eqb_tells}
 use Rattle.std.specs.HashMap.{HashMap}
 use Rattle.std.specs.Map.{lookup, keys_of}
 use Rattle.indexmap.specs.IndexMap.{keys}
-use Rattle.lx_node.specs.Trees.{Trees}
-use Rattle.lx_node.specs.Siblings.{is_among}
+use Rattle.lx_trees.specs.Trees.{Trees}
+use Rattle.lx_trees.specs.Siblings.{is_among}
 use Rattle.lx_host.specs.Hosts.{Host, id_of, has}
 use Rattle.lx_host.specs.Stands.{record_of, Stands}
 use Rattle.lx_host.specs.declared.linked.Linked.{Linked}
 use Rattle.lx_host.proofs.Changed.{is_some-map}
-use Rattle.lx_rooted.proofs.Records.{is_some-record_at}
+use Rattle.lx_trees.proofs.Records.{is_some-record_at}
 
 is_among-keys : (q : ℕ) (es : List (ℕ × Linked)) → is_among q (keys_of es) ≡ is_some (lookup (nat_eq q) es)
 is_among-keys q [] = refl

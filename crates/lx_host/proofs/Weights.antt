@@ -2,13 +2,13 @@
 use Rattle.std.proofs.Common.{ℕ, ◌≡◌, ◌+◌, ◌≤◌, Bool, true, false, cond, eqb, ltb, ◌||◌, Option, None, Some, refl, ap, ◌∙◌, arith, inl, inr}
 use Rattle.std.proofs.lemmas.Bool.{cases_Bool, cases_lt}
 use Rattle.std.proofs.lemmas.Bool.Decides.{eqb_tells, nat_tests}
-use Rattle.lx_node.specs.Trees.{Trees, nil, tree, joined}
-use Rattle.lx_node.specs.NamedTrees as named
-use Rattle.lx_node.proofs.NamedTrees.{count-without-alone, alone-absent}
+use Rattle.lx_trees.specs.Trees.{Trees, nil, tree, joined}
+use Rattle.lx_trees.specs.NamedTrees as named
+use Rattle.lx_trees.proofs.NamedTrees.{count-without-alone, alone-absent}
 use Rattle.lx_host.specs.Hosts.{Host, shape_of, id_of, count, alone, without}
 use Rattle.lx_host.specs.Html.{first_tree}
 use Rattle.lx_host.specs.Lookups.{lesser, host_of}
-use Rattle.lx_rooted.specs.Lookups.{IsOrdered, is_attached}
+use Rattle.lx_trees.specs.Lookups.{IsOrdered, is_attached}
 use Rattle.lx_host.specs.Weights.{weighed, shows, id_shown, shows_at, shown, ids_shown, is_shown, IsLeast}
 
 -- ---- weights

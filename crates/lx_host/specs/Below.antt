@@ -1,9 +1,9 @@
 -- What is below a host.
 use Rattle.std.specs.Prelude.{ℕ}
-use Rattle.lx_node.specs.Trees.{Trees}
-use Rattle.lx_node.specs.NamedTrees.{gathered}
+use Rattle.lx_trees.specs.Trees.{Trees}
+use Rattle.lx_trees.specs.NamedTrees.{gathered}
 use Rattle.lx_host.specs.Hosts.{Host, id_of}
-use Rattle.lx_rooted.specs.Lookups.{children_of}
+use Rattle.lx_trees.specs.Lookups.{children_of}
 
 -- the trees of a host's children, one after another
 abbrev pub below_of : Trees Host → ℕ → Trees Host

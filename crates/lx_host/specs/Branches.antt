@@ -1,7 +1,7 @@
 -- Where the root is, and where a host may be put among others.
 use Rattle.std.specs.Prelude.{ℕ, ◌==◌, ◌≡◌, List, Option, None, Some, Bool, true}
 use Rattle.std.specs.List.{list_any}
-use Rattle.lx_node.specs.Trees.{Trees, nil, tree}
+use Rattle.lx_trees.specs.Trees.{Trees, nil, tree}
 use Rattle.lx_host.specs.Hosts.{Host}
 
 -- the first host is host 0

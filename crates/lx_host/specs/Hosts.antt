@@ -2,8 +2,8 @@
 use Rattle.std.specs.Prelude.{ℕ, ◌+◌, ◌<◌, ◌==◌, ◌≡◌, ◌&&◌, if◌then◌else◌, Bool, true, false, not, nat_lt, IsTrue, List, [], ◌∷◌, Option, None, Some}
 use Rattle.std.specs.List.{list_any}
 use Rattle.lx_node.specs.Limits.{last_u32}
-use Rattle.lx_node.specs.Trees.{Trees, nil, tree, joined}
-use Rattle.lx_node.specs.NamedTrees as named
+use Rattle.lx_trees.specs.Trees.{Trees, nil, tree, joined}
+use Rattle.lx_trees.specs.NamedTrees as named
 use Rattle.lx_host.specs.Words.{with_attribute}
 use Rattle.lx_host.specs.declared.tag.Tag.{Tag}
 use Rattle.lx_host.specs.declared.tag.Name.{Name}

@@ -1,7 +1,7 @@
 -- The HTML of what hosts show, in Unicode scalar values. The words of tags and of names are ASCII, so their bytes are
 -- their characters.
 use Rattle.std.specs.Prelude.{ℕ, ◌==◌, ◌++◌, Bool, if◌then◌else◌, List, [], ◌∷◌, flat_map, codes, Option, None, Some}
-use Rattle.lx_node.specs.Trees.{Trees, nil, tree}
+use Rattle.lx_trees.specs.Trees.{Trees, nil, tree}
 use Rattle.lx_host.specs.Hosts.{Face}
 use Rattle.lx_host.specs.Words.{inner_word, outer_word, tag_word, name_word}
 use Rattle.lx_host.specs.declared.tag.Name.{Name}

@@ -1,11 +1,11 @@
 -- The least id of a list that passes a test.
 use Rattle.std.specs.Prelude.{ℕ, ◌&&◌, Bool, if◌then◌else◌, List, [], ◌∷◌, Option, None, Some}
-use Rattle.lx_node.specs.Trees.{Trees}
-use Rattle.lx_node.specs.Siblings.{is_named}
+use Rattle.lx_trees.specs.Trees.{Trees}
+use Rattle.lx_trees.specs.Siblings.{is_named}
 use Rattle.lx_host.specs.Hosts.{Host, id_of}
 use Rattle.lx_host.specs.Lookups.{lesser}
 use Rattle.lx_host.specs.Weights.{key_at}
-use Rattle.lx_rooted.specs.Lookups.{is_attached}
+use Rattle.lx_trees.specs.Lookups.{is_attached}
 
 -- the id, if there is one and it passes
 abbrev pub passing : (ℕ → Bool) → Option ℕ → Option ℕ

@@ -1,4 +1,4 @@
-pub use Rattle.lx_node.specs.Trees
+pub use Rattle.lx_trees.specs.Trees
 pub mod Hosts
 pub mod Words
 pub mod Html

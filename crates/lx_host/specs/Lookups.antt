@@ -1,8 +1,8 @@
 -- What is read from hosts.
 use Rattle.std.specs.Prelude.{ℕ, ◌==◌, if◌then◌else◌, Option, None, Some, min}
 use Rattle.std.specs.Option.{option_or}
-use Rattle.lx_node.specs.Trees.{Trees, nil, tree}
-use Rattle.lx_node.specs.Siblings.{first_of, next_in}
+use Rattle.lx_trees.specs.Trees.{Trees, nil, tree}
+use Rattle.lx_trees.specs.Siblings.{first_of, next_in}
 use Rattle.lx_host.specs.Hosts.{Host, children_of, ids_of}
 
 -- the first child of the host of that id

@@ -4,10 +4,10 @@ use Rattle.std.specs.Coded.{Coded-set, codes, le_prop}
 use Rattle.std.specs.HashMap.{HashMap}
 use Rattle.indexmap.specs.IndexMap.{get}
 use Rattle.std.proofs.Common.{ap, subst}
-use Rattle.lx_node.specs.Trees.{Trees, trees_code}
+use Rattle.lx_trees.specs.Trees.{Trees, trees_code}
 use Rattle.lx_host.specs.Hosts.{Host, id_of, has, alone, children_of, fits_before}
-use Rattle.lx_rooted.specs.Records.{Record, StandsFor}
-use Rattle.lx_rooted.proofs.Records.{StandsFor-unique}
+use Rattle.lx_trees.specs.Records.{Record, StandsFor}
+use Rattle.lx_trees.proofs.Records.{StandsFor-unique}
 use Rattle.lx_host.specs.declared.linked.Linked.{Linked}
 
 -- what contracts see of a grove: its hosts, how many more can be added without memory, and the ids in its table's own

@@ -25,7 +25,7 @@ ghost use Rattle.lx_host.specs.Stands.{Standing, Standing-prop};
 
 impl Model for Grove {
     ghost use Rattle.std.specs.Coded.{codes};
-    ghost use Rattle.lx_node.specs.Trees.{trees_code};
+    ghost use Rattle.lx_trees.specs.Trees.{trees_code};
     ghost use Rattle.lx_host.specs.Stands.{GroveView};
 
     ghost Value = { GroveView };
@@ -41,13 +41,13 @@ impl Model for Grove {
 impl Grove {
     ghost use Rattle.std.specs.Prelude.{◌≡◌, ℕ, IfOk, option_map, length, slice_get};
     ghost use Rattle.std.specs.Option.{option_copied};
-    ghost use Rattle.lx_node.specs.Siblings.{is_among, is_named};
+    ghost use Rattle.lx_trees.specs.Siblings.{is_among, is_named};
     ghost use Rattle.lx_host.specs.Hosts.{id_of, one_host, root_face, has};
     ghost use Rattle.lx_host.specs.Stands.{linked_of};
     ghost use Rattle.lx_host.specs.Weights.{key_at};
-    ghost use Rattle.lx_rooted.specs.Records.{record_at};
-    ghost use Rattle.lx_rooted.specs.Lookups.{IsOrdered};
-    ghost use Rattle.lx_rooted.specs.Lookups as lookups;
+    ghost use Rattle.lx_trees.specs.Records.{record_at};
+    ghost use Rattle.lx_trees.specs.Lookups.{IsOrdered};
+    ghost use Rattle.lx_trees.specs.Lookups as lookups;
 
     /// Host 0 alone, which shows the root.
     pub fn new(alloc: Global) -> Result<Grove, NoMemory>
@@ -262,11 +262,11 @@ impl Grove {
 
     ghost use Rattle.std.specs.Prelude.{◌≢◌, ◌<◌, ◌≤◌, ◌+◌, None, OnOk};
     ghost use Rattle.lx_node.specs.Limits.{last_u32};
-    ghost use Rattle.lx_node.specs.Siblings.{is_place, place_behind};
-    ghost use Rattle.lx_node.specs.Trees.{joined};
+    ghost use Rattle.lx_trees.specs.Siblings.{is_place, place_behind};
+    ghost use Rattle.lx_trees.specs.Trees.{joined};
     ghost use Rattle.lx_host.specs.Hosts.{count, put_below, without};
     ghost use Rattle.lx_host.specs.Stands.{FitsPlace};
-    ghost use Rattle.lx_rooted.specs.Edits.{take_out, put_in, CanPut};
+    ghost use Rattle.lx_trees.specs.Edits.{take_out, put_in, CanPut};
 
     /// Room for so many more hosts. Nothing else changes.
     pub fn reserve(&mut self, more: usize) -> Result<(), NoMemory>

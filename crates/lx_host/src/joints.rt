@@ -2,7 +2,7 @@
 
 ghost use Rattle.std.specs.Prelude.{◌≡◌, ◌==◌, ◌+◌, ◌<◌, ◌^◌, ℕ, nat_eq, None, Some};
 ghost use Rattle.indexmap.specs.IndexMap.{spare, get};
-ghost use Rattle.lx_node.specs.Siblings.{is_named};
+ghost use Rattle.lx_trees.specs.Siblings.{is_named};
 ghost use Rattle.lx_host.specs.declared.linked.Linked.{Linked};
 ghost use Rattle.lx_host.specs.declared.linked.Change.TheVariants.{Next, Prev, Place, Left, Joined};
 ghost use Rattle.lx_host.specs.Links.{Differs, changed, unlinked, linked_in};

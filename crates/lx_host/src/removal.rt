@@ -3,7 +3,7 @@
 ghost use Rattle.std.specs.Prelude.{◌≡◌, ◌≢◌, ◌≤◌, [], Some, true};
 ghost use Rattle.indexmap.specs.IndexMap.{spare};
 ghost use Rattle.lx_host.specs.Hosts.{id_of, has, without};
-ghost use Rattle.lx_rooted.specs.Lookups as lookups;
+ghost use Rattle.lx_trees.specs.Lookups as lookups;
 ghost use Rattle.lx_host.specs.Weights.{AreKeyed};
 
 use crate::grove::Grove;

@@ -43,7 +43,7 @@ impl Drop for HostTree {
 impl Model for HostTree {
     ghost use Rattle.std.specs.Prelude.{min};
     ghost use Rattle.std.specs.Coded.{codes};
-    ghost use Rattle.lx_node.specs.Trees.{trees_code};
+    ghost use Rattle.lx_trees.specs.Trees.{trees_code};
     ghost use Rattle.indexmap.specs.IndexMap.{spare};
     ghost use Rattle.lx_host.specs.Room.{Held};
     ghost use Rattle.lx_host.specs.Weights.{IsKept};
@@ -262,7 +262,7 @@ impl HostTree {
     }
 
     ghost use Rattle.lx_host.specs.Hosts.{id_of};
-    ghost use Rattle.lx_rooted.specs.Lookups.{parent_of};
+    ghost use Rattle.lx_trees.specs.Lookups.{parent_of};
 
     /// The id of the host below which the one of that id is. Host 0 and hosts that aren't placed are
     /// below none.

@@ -2,8 +2,8 @@
 use Rattle.std.proofs.Common.{◌≡◌, ◌≢◌, ◌∙◌, ℕ, ◌+◌, ◌<◌, ◌≤◌, codes, [], ◌∷◌, None, Ok, refl, sym, ap, subst, arith}
 use Rattle.std.proofs.lemmas.Bool.Decides.{eqb_tells}
 use Rattle.serde_json.specs.Data.{Data, object, member, no_members, no_items, item}
-use Rattle.lx_node.specs.Trees.{Trees, nil, tree}
-use Rattle.lx_node.specs.NamedTrees.{total}
+use Rattle.lx_trees.specs.Trees.{Trees, nil, tree}
+use Rattle.lx_trees.specs.NamedTrees.{total}
 use Rattle.lx_node.specs.Kinds.{type_name, may_hold}
 use Rattle.lx_node.specs.Limits.{most_key}
 use Rattle.lx_node.specs.declared.kind.Kind.{Kind}

@@ -2,18 +2,18 @@
 use Rattle.std.proofs.Common.{◌≡◌, ◌∙◌, ℕ, ◌+◌, ◌<◌, ◌≤◌, max, true, cond, eqb, List, [], ◌∷◌, ◌++◌, length, Option, None, Some, unwrap_or, refl, sym, ap, arith}
 use Rattle.std.specs.Option.{option_or}
 use Rattle.std.proofs.lemmas.Bool.Decides.{eqb_tells, nat_tests}
-use Rattle.lx_node.specs.Trees.{nil, tree}
-use Rattle.lx_node.specs.NamedTrees.{total, IsDistinct}
-use Rattle.lx_node.specs.NamedTrees as named
-use Rattle.lx_node.specs.Siblings.{is_among}
-use Rattle.lx_node.specs.Walks.{ancestors_below}
+use Rattle.lx_trees.specs.Trees.{nil, tree}
+use Rattle.lx_trees.specs.NamedTrees.{total, IsDistinct}
+use Rattle.lx_trees.specs.NamedTrees as named
+use Rattle.lx_trees.specs.Siblings.{is_among}
+use Rattle.lx_trees.specs.Walks.{ancestors_below}
 use Rattle.lx_node.specs.Strings.{capped}
 use Rattle.lx_node.specs.Limits.{most_depth, most_nodes, most_characters, most_key}
 use Rattle.lx_node.specs.declared.cause.Cause.{Cause}
 use Rattle.lx_node.specs.declared.cause.Limit.TheVariants.{Depth, Nodes, Characters, KeyCount}
 use Rattle.lx_node.specs.declared.kind.Kind.TheVariants.{Root}
-use Rattle.lx_node.proofs.NamedTrees.{is_among-preorder, joined-nil}
-use Rattle.lx_node.proofs.Walks.{is_some-ancestors_below, ancestors_below-absent}
+use Rattle.lx_trees.proofs.NamedTrees.{is_among-preorder, joined-nil}
+use Rattle.lx_trees.proofs.Walks.{is_some-ancestors_below, ancestors_below-absent}
 use Rattle.lx_forest.specs.Forest.{Forest, Label}
 use Rattle.lx_forest.specs.Lookups.{key_of, roots, alone, ancestors, preorder, trees_of, IsForest}
 use Rattle.lx_forest.specs.Edits.{drop_detached}

@@ -6,17 +6,17 @@ use Rattle.std.proofs.lemmas.Bool.Decides.{eqb_tells}
 use Rattle.std.proofs.lemmas.Option.{same_Some}
 use Rattle.serde_json.specs.Data.{Data, array, Items}
 use Rattle.serde_json.specs.Find.{get, as_array}
-use Rattle.lx_node.specs.Trees.{nil, tree}
+use Rattle.lx_trees.specs.Trees.{nil, tree}
 use Rattle.lx_node.specs.Kinds.{type_name, is_element, may_hold, is_block, is_inline, is_heading, is_list, is_item, is_link, is_row, is_cell, is_paragraph}
 use Rattle.lx_node.specs.declared.kind.Kind.{Kind}
 use Rattle.lx_node.specs.declared.kind.Kind.TheVariants.{Root, Heading, List as ListKind, Text, Tab, Break, Rule, Embed}
 use Rattle.lx_node.specs.declared.kind.ListType.{ListType}
 use Rattle.lx_node.specs.declared.cause.Cause.{Cause}
 use Rattle.lx_node.specs.declared.cause.Cause.TheVariants.{BadState}
-use Rattle.lx_node.specs.Spots.{Spot, parent_at, spot_below}
-use Rattle.lx_node.specs.NamedTrees.{IsDistinct}
-use Rattle.lx_node.specs.NamedTrees as named
-use Rattle.lx_node.proofs.Spots.{spot_below-absent}
+use Rattle.lx_trees.specs.Spots.{Spot, parent_at, spot_below}
+use Rattle.lx_trees.specs.NamedTrees.{IsDistinct}
+use Rattle.lx_trees.specs.NamedTrees as named
+use Rattle.lx_trees.proofs.Spots.{spot_below-absent}
 use Rattle.lx_forest.specs.Forest.{Forest, Label}
 use Rattle.lx_forest.specs.Lookups.{key_of, spot, kind_of, holds, IsForest, IsHeld}
 use Rattle.lx_forest.proofs.Edits.{key-spot}

@@ -5,8 +5,8 @@ use Rattle.std.specs.List.{slice_get}
 use Rattle.serde_json.specs.declared.value.Value.{Value}
 use Rattle.serde_json.specs.Data.{Data}
 use Rattle.serde_json.specs.View.{view, items_view}
-use Rattle.lx_node.specs.Trees.{Trees, nil, tree}
-use Rattle.lx_node.specs.NamedTrees.{total, inserted, put_below}
+use Rattle.lx_trees.specs.Trees.{Trees, nil, tree}
+use Rattle.lx_trees.specs.NamedTrees.{total, inserted, put_below}
 use Rattle.lx_node.specs.declared.kind.Kind.{Kind}
 use Rattle.lx_node.specs.declared.cause.Cause.{Cause}
 use Rattle.lx_node.specs.declared.cause.Fault.{Fault}

@@ -3,8 +3,8 @@ use Rattle.std.proofs.Common.{◌≡◌, ◌≢◌, ◌∙◌, ◌+◌, ◌<◌,
 use Rattle.std.proofs.lemmas.Bool.Decides.{eqb_tells}
 use Rattle.serde_json.specs.Data.{Data, null, boolean, number, string, array, object}
 use Rattle.serde_json.specs.Find.{get, as_object}
-use Rattle.lx_node.specs.Trees.{Trees, nil, tree}
-use Rattle.lx_node.specs.NamedTrees.{total}
+use Rattle.lx_trees.specs.Trees.{Trees, nil, tree}
+use Rattle.lx_trees.specs.NamedTrees.{total}
 use Rattle.lx_node.specs.declared.kind.Kind.TheVariants.{Root}
 use Rattle.lx_node.specs.declared.fields.Fields.{Fields}
 use Rattle.lx_node.specs.declared.cause.Cause.{Cause}

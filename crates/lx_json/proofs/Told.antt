@@ -1,6 +1,6 @@
 -- What refuses a part refuses the whole.
 use Rattle.std.proofs.Common.{◌≡◌, ◌∙◌, List, ℕ, Result, Ok, Err, ap, sym}
-use Rattle.lx_node.specs.Trees.{Trees}
+use Rattle.lx_trees.specs.Trees.{Trees}
 use Rattle.lx_node.specs.declared.cause.Cause.{Cause}
 use Rattle.std.specs.Result.{IfOk}
 use Rattle.lx_node.specs.declared.cause.Cause.TheVariants.{BadState}

@@ -2,7 +2,7 @@
 use Rattle.std.proofs.Common.{◌≡◌, ◌∙◌, ◌||◌, Bool, false, refl, ap, arith}
 use Rattle.serde_json.specs.Data.{Items, no_items, item}
 use Rattle.serde_json.specs.Written.{has_float, items_have_float}
-use Rattle.lx_node.specs.Trees.{nil, tree}
+use Rattle.lx_trees.specs.Trees.{nil, tree}
 use Rattle.lx_forest.specs.Forest.{Forest}
 use Rattle.lx_json.specs.Exporting.{trees_data, first_data, exported}
 use Rattle.lx_fields.proofs.Exported.{no-float}

@@ -1,7 +1,7 @@
 -- What is read back from the document of a tree.
 use Rattle.std.specs.Prelude.{◌≡◌, ℕ, Ok}
 use Rattle.serde_json.specs.Data.{Data}
-use Rattle.lx_node.specs.Trees.{Trees, nil, tree}
+use Rattle.lx_trees.specs.Trees.{Trees, nil, tree}
 use Rattle.lx_forest.specs.Forest.{Forest}
 use Rattle.lx_draft.specs.Working.{Working}
 use Rattle.lx_json.specs.Reading.{Piece}

@@ -1,7 +1,7 @@
 -- The document of a tree.
 use Rattle.serde_json.specs.Data.{Data, null, object, Items, no_items, item, no_members, member}
 use Rattle.std.specs.Prelude.{codes}
-use Rattle.lx_node.specs.Trees.{nil, tree}
+use Rattle.lx_trees.specs.Trees.{nil, tree}
 use Rattle.lx_forest.specs.Forest.{Forest}
 use Rattle.lx_fields.specs.Exporting.{node_data}
 

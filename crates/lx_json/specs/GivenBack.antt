@@ -1,7 +1,7 @@
 -- Trees whose nodes' fields are given back by what is written for them.
 use Rattle.std.specs.Prelude.{◌≡◌, Ok}
 use Rattle.serde_json.specs.Data.{Items}
-use Rattle.lx_node.specs.Trees.{nil, tree}
+use Rattle.lx_trees.specs.Trees.{nil, tree}
 use Rattle.lx_node.specs.OfKind.{IsOfKind}
 use Rattle.lx_forest.specs.Forest.{Forest, Label}
 use Rattle.lx_fields.specs.Documents.{document_fields}

@@ -5,7 +5,7 @@ use Rattle.std.specs.Ordering.{nat_cmp, match_ordering}
 use Rattle.std.specs.Cmp.Lexicographic.{slice_cmp}
 use Rattle.serde_json.specs.Data.{Data, null, string, array, object, Items, no_items, item, Members, no_members, member}
 use Rattle.serde_json.specs.Find.{get}
-use Rattle.lx_node.specs.Trees.{Trees, nil, tree}
+use Rattle.lx_trees.specs.Trees.{Trees, nil, tree}
 use Rattle.lx_node.specs.Kinds.{is_element, may_hold}
 use Rattle.lx_node.specs.declared.kind.Kind.{Kind}
 use Rattle.lx_node.specs.declared.kind.Kind.TheVariants.{Root}

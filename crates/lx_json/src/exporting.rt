@@ -2,7 +2,7 @@ ghost use Rattle.std.specs.Prelude.{◌≡◌, ◌≢◌, ℕ, ◌+◌, ◌<◌,
 ghost use Rattle.serde_json.specs.Data.{object, member, no_members, item, no_items};
 ghost use Rattle.serde_json.specs.View.{view};
 ghost use Rattle.lx_node.specs.Limits.{most_key};
-ghost use Rattle.lx_node.specs.NamedTrees.{total};
+ghost use Rattle.lx_trees.specs.NamedTrees.{total};
 ghost use Rattle.lx_forest.specs.Lookups.{roots, alone, has, children_of, IsForest};
 ghost use Rattle.lx_links.specs.Stands.{Sound};
 ghost use Rattle.lx_draft.specs.Freezing.{limits_fault};

@@ -29,7 +29,7 @@ fn place_last(links: &mut Links, parent: Key, key: Key) -> Result<(), NoMemory>
 impl Growth {
     ghost use Rattle.std.specs.Prelude.{◌≡◌, ◌≢◌, ◌<◌, IfOk, OnOk};
     ghost use Rattle.lx_node.specs.Limits.{most_key};
-    ghost use Rattle.lx_node.specs.Trees.{tree, nil};
+    ghost use Rattle.lx_trees.specs.Trees.{tree, nil};
     ghost use Rattle.lx_node.specs.OfKind.{IsOfKind};
     ghost use Rattle.lx_node.specs.declared.kind.Kind.TheVariants.{Root};
     ghost use Rattle.lx_json.specs.Growing.{grown, rooted_growth, IsGrowing};

@@ -13,7 +13,7 @@ use Rattle.lx_step.specs.declared.listener.Listener.{Listener as ListenerOf}
 use Rattle.lx_step.specs.Lines.{both_tags}
 use Rattle.lx_step.specs.Spelled.{steps_of}
 use Rattle.lx_forest.specs.Forest.{Forest}
-use Rattle.lx_plain.specs.Allowed.{Shows}
+use Rattle.lx_reconcile.specs.Allowed.{Shows}
 use Rattle.lx_draft.specs.Working.{Working}
 use Rattle.lx_reconcile.specs.Told.{Told}
 use Rattle.lx_run.specs.Refusals.{Refused as RefusedAt}

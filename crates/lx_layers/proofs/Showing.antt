@@ -5,7 +5,7 @@ use Rattle.lx_host.specs.declared.op.Op.{Op}
 use Rattle.lx_host.specs.Hosts.{HostTree, new_tree}
 use Rattle.lx_node.specs.Kinds.{is_text_block}
 use Rattle.lx_forest.specs.Forest.{Forest, root_alone}
-use Rattle.lx_plain.specs.Allowed.{Shows}
+use Rattle.lx_reconcile.specs.Allowed.{Shows}
 use Rattle.lx_words.specs.declared.options.Options.{Options}
 use Rattle.lx_words.specs.declared.options.Mode.TheVariants as mode
 use Rattle.lx_editor.specs.Editor.{Editor}

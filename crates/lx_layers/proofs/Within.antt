@@ -2,7 +2,7 @@
 use Rattle.std.proofs.Common.{subst, ℕ, ◌≤◌, length, arith}
 use Rattle.lx_node.specs.Limits.{most_characters}
 use Rattle.lx_node.specs.Strings.{characters_of, characters_of_text}
-use Rattle.lx_node.specs.Trees.{nil, tree}
+use Rattle.lx_trees.specs.Trees.{nil, tree}
 use Rattle.lx_node.specs.declared.fields.Fields.{Fields}
 use Rattle.lx_node.specs.declared.fields.Fields.TheVariants as fields
 use Rattle.lx_forest.specs.Forest.{Forest, Label}

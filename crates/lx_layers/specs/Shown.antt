@@ -1,7 +1,7 @@
 -- What views show, for every list of lines.
 use Rattle.std.specs.Prelude.{◌≡◌, ◌⊎◌, ℕ, List, [], ◌∷◌, ◌++◌}
 use Rattle.std.specs.List.{AllByRecursion}
-use Rattle.lx_plain.specs.Allowed.{Shows}
+use Rattle.lx_reconcile.specs.Allowed.{Shows}
 use Rattle.lx_hub.specs.Hub.{View}
 use Rattle.lx_layers.specs.declared.layer.Layer.{Layer}
 use Rattle.lx_layers.specs.declared.layer.Layer.TheVariants as layer

@@ -42,7 +42,7 @@ impl Model for Outlined {
 impl Outlined {
     ghost use Rattle.std.specs.Prelude.{IfOk};
     ghost use Rattle.lx_forest.specs.Forest.{root_alone};
-    ghost use Rattle.lx_plain.specs.Allowed.{AreCovered};
+    ghost use Rattle.lx_forest.specs.Covered.{AreCovered};
     ghost use Rattle.lx_reconcile.specs.Allowing.{marking};
     ghost use Rattle.lx_layers.specs.Outlining.{new_outlined};
 

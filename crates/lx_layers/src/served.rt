@@ -26,7 +26,7 @@ impl Drop for Served {
 
 impl Model for Served {
     ghost use Rattle.std.specs.Coded.{codes};
-    ghost use Rattle.lx_node.specs.Trees.{trees_code};
+    ghost use Rattle.lx_trees.specs.Trees.{trees_code};
     ghost use Rattle.lx_step.specs.contracts.step.Steps as steps;
     ghost use Rattle.lx_layers.specs.Served.{Served, IsBeside};
 

@@ -4,12 +4,12 @@ use Rattle.std.specs.List.{slice_get}
 use Rattle.std.specs.Prelude.{unwrap_or}
 use Rattle.std.proofs.lemmas.Bool.Decides.{eqb_tells}
 use Rattle.std.proofs.lemmas.Option.{slice_get_within}
-use Rattle.lx_node.specs.Siblings.{is_among, is_named, NoRepeats, index_in, next_in, previous_in, last_of}
+use Rattle.lx_trees.specs.Siblings.{is_among, is_named, NoRepeats, index_in, next_in, previous_in, last_of}
 use Rattle.lx_forest.specs.Forest.{Forest}
 use Rattle.lx_forest.specs.Lookups.{parent_of, children_of, children_below, siblings, size_of, next_of, previous_of, index_of, first_child, last_child}
 use Rattle.lx_forest.proofs.Bounds.{size_of-le}
 use Rattle.lx_forest.proofs.Lookups.{is_among-children_of, NoRepeats-children_of}
-use Rattle.lx_node.proofs.Positions.{place_in, is_among-slice_get, next_in-slice_get, previous_in-slice_get, slice_get-place_in, first_of-slice_get, last_of-slice_get, index_in-slice_get, StepsBack, previous_in-place, index_in-first}
+use Rattle.lx_trees.proofs.Positions.{place_in, is_among-slice_get, next_in-slice_get, previous_in-slice_get, slice_get-place_in, first_of-slice_get, last_of-slice_get, index_in-slice_get, StepsBack, previous_in-place, index_in-first}
 use Rattle.lx_forest.proofs.Siblings.{parent_of-previous}
 use Rattle.lx_links.specs.Stands.{Sound}
 use Rattle.lx_links.specs.Children.{IsAmid}

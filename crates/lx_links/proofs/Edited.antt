@@ -5,10 +5,10 @@ use Rattle.std.proofs.lemmas.Bool.{cases_Bool, false≢true}
 use Rattle.std.specs.Ordering.{nat_cmp}
 use Rattle.std.specs.Cmp.{nat_cmp_total}
 use Rattle.std.specs.FinMap.{get, insert, remove, empty, len, get-empty, len-remove, len-empty, empty_of_len, same_map, nat_cmp-IsAntisymmetric}
-use Rattle.lx_node.specs.Siblings.{is_named, is_among, NoRepeats}
-use Rattle.lx_node.specs.NamedTrees.{total}
-use Rattle.lx_node.specs.NamedTrees as named
-use Rattle.lx_node.proofs.NamedTrees.{is_among-preorder, length-preorder, NoRepeats-preorder}
+use Rattle.lx_trees.specs.Siblings.{is_named, is_among, NoRepeats}
+use Rattle.lx_trees.specs.NamedTrees.{total}
+use Rattle.lx_trees.specs.NamedTrees as named
+use Rattle.lx_trees.proofs.NamedTrees.{is_among-preorder, length-preorder, NoRepeats-preorder}
 use Rattle.lx_node.specs.declared.kind.Kind.{Kind}
 use Rattle.lx_node.specs.declared.kind.Kind.TheVariants.{Root}
 use Rattle.lx_node.specs.declared.fields.Fields.{Fields}

@@ -2,7 +2,7 @@
 use Rattle.std.proofs.Common.{ℕ, ◌≡◌, ◌&&◌, eqb, ◌+◌, ◌-◌, ◌<◌, ◌^◌, true, false, cond, length, List, [], ◌∷◌, Option, None, Some, option_map, refl, sym, ap, ◌∙◌, subst, inl, inr, arith, IfSome, IfNone}
 use Rattle.std.proofs.lemmas.Bool.{cases_Bool, cases_eq}
 use Rattle.std.proofs.lemmas.Bool.Decides.{eqb_tells}
-use Rattle.lx_node.specs.Siblings.{is_among, first_of}
+use Rattle.lx_trees.specs.Siblings.{is_among, first_of}
 use Rattle.lx_forest.specs.Forest.{Forest}
 use Rattle.lx_forest.specs.Lookups.{has, parent_of, children_of, first_child, next_of, ancestors, is_within, is_attached, depth, from, behind, IsForest}
 use Rattle.lx_forest.proofs.Walks.{cases_option, depth-step, from-child, from-leaf, behind-next, behind-last, behind-root, is_attached-top}

@@ -3,9 +3,9 @@ use Rattle.std.proofs.Common.{ℕ, ◌≡◌, Bool, true, false, cond, eqb, Opti
 use Rattle.std.proofs.lemmas.Bool.Decides.{eqb_tells}
 use Rattle.std.specs.Cmp.{nat_cmp_total, unsigned_tied}
 use Rattle.std.specs.FinMap.{get, insert, remove, get-insert, get-remove}
-use Rattle.lx_node.specs.Siblings.{is_named}
+use Rattle.lx_trees.specs.Siblings.{is_named}
 use Rattle.lx_node.specs.declared.node.Node.{Node}
-use Rattle.lx_node.proofs.Spots.{option_map-same}
+use Rattle.lx_trees.proofs.Spots.{option_map-same}
 use Rattle.lx_store.specs.Edits.{with_item, with_edit}
 use Rattle.lx_links.specs.declared.changes.Change.{Change}
 use Rattle.lx_links.specs.declared.changes.Change.TheVariants.{Content, Next, Prev, Place, Left, Joined}

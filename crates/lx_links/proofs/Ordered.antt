@@ -8,12 +8,12 @@ use Rattle.std.specs.Ordering.{nat_cmp}
 use Rattle.std.proofs.lemmas.Cmp.{ranked}
 use Rattle.std.proofs.lemmas.Bool.{cases_Bool, false≢true}
 use Rattle.std.proofs.lemmas.Bool.Decides.{eqb_tells}
-use Rattle.lx_node.specs.Trees.{nil, tree}
-use Rattle.lx_node.specs.Siblings.{is_among, is_named, index_in}
+use Rattle.lx_trees.specs.Trees.{nil, tree}
+use Rattle.lx_trees.specs.Siblings.{is_among, is_named, index_in}
 use Rattle.lx_forest.specs.Forest.{Forest}
 use Rattle.lx_forest.specs.Lookups.{has, parent_of, children_of, children_below, ancestors, is_within, is_attached, depth, index_of, order_of, order_between}
 use Rattle.lx_forest.proofs.Lookups.{has-parent_of, parent_of-self, is_among-children_of}
-use Rattle.lx_node.proofs.Positions.{place_in, slice_get-place_in, index_in-among}
+use Rattle.lx_trees.proofs.Positions.{place_in, slice_get-place_in, index_in-among}
 use Rattle.lx_forest.proofs.Walks.{order_of-below, order_of-children, order_of-self, order_of-detached}
 use Rattle.lx_forest.proofs.Within.{is_within-self, is_within-up, is_within-trans}
 use Rattle.lx_links.specs.Stands.{Sound}

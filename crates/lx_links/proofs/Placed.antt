@@ -3,9 +3,9 @@ use Rattle.std.proofs.Common.{ℕ, ◌≡◌, ◌<◌, ◌+◌, ◌^◌, Bool, t
 use Rattle.std.specs.Option.{option_or}
 use Rattle.std.specs.FinMap.{get}
 use Rattle.std.proofs.lemmas.Bool.Decides.{eqb_tells}
-use Rattle.lx_node.specs.Trees.{nil, tree}
-use Rattle.lx_node.specs.Siblings.{is_named, is_among, is_place, place_behind, previous_in}
-use Rattle.lx_node.proofs.Siblings.{is_named_tells}
+use Rattle.lx_trees.specs.Trees.{nil, tree}
+use Rattle.lx_trees.specs.Siblings.{is_named, is_among, is_place, place_behind, previous_in}
+use Rattle.lx_trees.proofs.Siblings.{is_named_tells}
 use Rattle.lx_node.specs.declared.node.Node.{Node}
 use Rattle.lx_node.specs.declared.cause.Cause.TheVariants.{UnknownNode, WrongKind, BadPlace}
 use Rattle.lx_node.specs.declared.cause.Named.TheVariants.{Key}

@@ -11,7 +11,7 @@ use Rattle.lx_node.specs.declared.cause.Named.TheVariants.{Key}
 use Rattle.lx_node.specs.declared.cause.Fault.{Fault}
 use Rattle.lx_node.specs.declared.cause.Fault.TheVariants.{Memory}
 use Rattle.lx_node.specs.declared.cause.Fault.TheVariants as fault
-use Rattle.lx_node.specs.Trees.{nil}
+use Rattle.lx_trees.specs.Trees.{nil}
 use Rattle.lx_forest.specs.Forest.{Forest}
 use Rattle.lx_forest.specs.Lookups.{has, kind_of}
 use Rattle.lx_links.specs.Faults.{unknown, wrong_fields, set_fault, not_below, detach_fault, RefusesEdit}

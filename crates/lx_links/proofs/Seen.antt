@@ -1,8 +1,8 @@
 -- What a node shows of the forest, and what its absence shows.
 use Rattle.std.proofs.Common.{ℕ, ◌≡◌, true, false, length, [], Option, None, Some, option_map, is_some, Bor, refl, sym, ap, ◌∙◌}
 use Rattle.std.specs.Option.{option_copied}
-use Rattle.lx_node.specs.Spots.{Spot, parent_at, children_at}
-use Rattle.lx_node.specs.Siblings.{first_of, last_of}
+use Rattle.lx_trees.specs.Spots.{Spot, parent_at, children_at}
+use Rattle.lx_trees.specs.Siblings.{first_of, last_of}
 use Rattle.lx_node.specs.declared.node.Node.{Node}
 use Rattle.lx_forest.specs.Forest.{Forest, Label}
 use Rattle.lx_forest.specs.Lookups.{spot, has, kind_of, fields_of, parent_of, children_of, size_of, previous_of, next_of, first_child, last_child, siblings}

@@ -4,9 +4,9 @@ use Rattle.std.proofs.Common.{ℕ, ◌≡◌, ◌+◌, ◌-◌, ◌^◌, ◌<◌
 use Rattle.std.specs.Option.{option_copied}
 use Rattle.std.proofs.lemmas.Bool.{cases_Bool}
 use Rattle.std.proofs.lemmas.Bool.Decides.{eqb_tells}
-use Rattle.lx_node.specs.Trees.{nil, tree}
-use Rattle.lx_node.specs.NamedTrees.{total}
-use Rattle.lx_node.specs.Spots.{Spot}
+use Rattle.lx_trees.specs.Trees.{nil, tree}
+use Rattle.lx_trees.specs.NamedTrees.{total}
+use Rattle.lx_trees.specs.Spots.{Spot}
 use Rattle.lx_node.specs.Kinds.{is_item}
 use Rattle.lx_node.specs.Strings.{capped, characters_of, characters_of_element, characters_of_extra}
 use Rattle.lx_node.specs.declared.kind.Kind.{Kind}

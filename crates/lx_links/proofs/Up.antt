@@ -7,7 +7,7 @@ use Rattle.lx_forest.proofs.Order.{is_attached-root}
 use Rattle.lx_forest.proofs.Within.{is_within-up, is_within-top, is_within-self}
 use Rattle.std.proofs.lemmas.Bool.{cases_Bool}
 use Rattle.std.proofs.lemmas.Bool.Decides.{eqb_tells, nat_tests}
-use Rattle.lx_node.proofs.Subtrees.{count-alone-le}
+use Rattle.lx_trees.proofs.Subtrees.{count-alone-le}
 use Rattle.lx_links.specs.Stands.{Sound}
 
 absent_within : (m n : ℕ) → n ≤ m → ltb 0 m ≡ false → ltb 0 n ≡ false

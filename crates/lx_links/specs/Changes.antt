@@ -1,7 +1,7 @@
 -- What changes in a node where an edit changes its links or its fields.
 use Rattle.std.specs.Prelude.{ℕ, ◌+◌, ◌-◌, ◌<◌, ◌^◌, ◌≡◌, ◌==◌, ◌&&◌, Bool, is_none, if◌then◌else◌, Option, None, Some, option_map}
 use Rattle.std.specs.FinMap.{get}
-use Rattle.lx_node.specs.Siblings.{is_named}
+use Rattle.lx_trees.specs.Siblings.{is_named}
 use Rattle.lx_node.specs.declared.node.Node.{Node}
 use Rattle.lx_links.specs.declared.changes.Change.{Change}
 use Rattle.lx_links.specs.declared.changes.Change.TheVariants.{Content, Next, Prev, Place, Left, Joined}

@@ -1,8 +1,8 @@
 -- Why an edit is refused, the first cause in the order in which they are looked for.
 use Rattle.std.specs.Prelude.{ℕ, ◌≡◌, ◌≢◌, ◌==◌, ◌||◌, is_some, if◌then◌else◌, Option, None, Some}
 use Rattle.std.specs.Option.{option_or}
-use Rattle.lx_node.specs.Trees.{nil}
-use Rattle.lx_node.specs.Siblings.{is_among}
+use Rattle.lx_trees.specs.Trees.{nil}
+use Rattle.lx_trees.specs.Siblings.{is_among}
 use Rattle.lx_node.specs.Kinds.{may_hold}
 use Rattle.lx_node.specs.OfKind.{is_of_kind}
 use Rattle.lx_node.specs.declared.kind.Kind.{Kind}

@@ -1,7 +1,7 @@
 -- What the nodes of a forest hold together: the scalar values in their strings, as a machine counts those of each, how many
 -- of them are items, and the scalar values in the strings of these.
 use Rattle.std.specs.Prelude.{ℕ, ◌+◌, ◌-◌, ◌<◌, ◌≤◌, ◌^◌, ◌≡◌, ◌≢◌, List, cond, sum_by}
-use Rattle.lx_node.specs.Trees.{nil}
+use Rattle.lx_trees.specs.Trees.{nil}
 use Rattle.lx_node.specs.Kinds.{is_item}
 use Rattle.lx_node.specs.Strings.{capped, characters_of}
 use Rattle.lx_node.specs.declared.kind.Kind.{Kind}

@@ -1,7 +1,7 @@
 ghost use Rattle.lx_node.specs.Limits.{last_u32};
 ghost use Rattle.std.specs.Prelude.{◌≡◌, ◌<◌, ℕ, IfOk, OnOk, true, None, Some};
 ghost use Rattle.std.specs.FinMap as map;
-ghost use Rattle.lx_node.specs.Siblings.{is_named};
+ghost use Rattle.lx_trees.specs.Siblings.{is_named};
 ghost use Rattle.lx_links.specs.Changes.{node_after, Fits, Differs};
 ghost use Rattle.lx_node.specs.declared.node.Node.{Node};
 

@@ -10,9 +10,9 @@ use lx_node::{Cause, Fault, Fields, Key, Kind, NoMemory};
 
 impl Links {
     ghost use Rattle.std.specs.Prelude.{◌≡◌, ◌≢◌, ◌<◌, true, false, None, OnOk, OnErr, IfErr};
-    ghost use Rattle.lx_node.specs.Trees.{nil};
-    ghost use Rattle.lx_node.specs.NamedTrees.{total};
-    ghost use Rattle.lx_node.specs.Siblings.{is_place, place_behind};
+    ghost use Rattle.lx_trees.specs.Trees.{nil};
+    ghost use Rattle.lx_trees.specs.NamedTrees.{total};
+    ghost use Rattle.lx_trees.specs.Siblings.{is_place, place_behind};
     ghost use Rattle.lx_node.specs.OfKind.{IsOfKind};
     ghost use Rattle.lx_node.specs.declared.kind.Kind.TheVariants.{Root};
     ghost use Rattle.lx_forest.specs.Lookups as lookups;

@@ -20,7 +20,7 @@ pub fn misfit(outer: Option<Kind>, inner: Option<Kind>) -> Option<Cause>
 
 impl Links {
     ghost use Rattle.std.specs.Prelude.{◌==◌, ◌||◌, is_some};
-    ghost use Rattle.lx_node.specs.Siblings.{is_among};
+    ghost use Rattle.lx_trees.specs.Siblings.{is_among};
     ghost use Rattle.lx_forest.specs.Lookups as lookups;
 
     /// Why a place isn't one for the key, the first cause: one of the nodes isn't there, the parent may not

@@ -1,6 +1,6 @@
 ghost use Rattle.std.specs.Prelude.{◌≡◌, ◌==◌, ◌+◌, ◌<◌, ◌^◌, OnOk, None, Some};
 ghost use Rattle.std.specs.FinMap as map;
-ghost use Rattle.lx_node.specs.Siblings.{is_named};
+ghost use Rattle.lx_trees.specs.Siblings.{is_named};
 ghost use Rattle.lx_node.specs.declared.node.Node.{Node};
 ghost use Rattle.lx_links.specs.declared.changes.Change.TheVariants.{Next, Prev, Place, Left, Joined};
 ghost use Rattle.lx_links.specs.Changes.{Differs, node_after, node_unlinked, node_linked};

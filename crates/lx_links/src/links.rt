@@ -33,7 +33,7 @@ impl Drop for Links {
 
 impl Model for Links {
     ghost use Rattle.std.specs.Coded.{codes};
-    ghost use Rattle.lx_node.specs.Trees.{trees_code};
+    ghost use Rattle.lx_trees.specs.Trees.{trees_code};
     ghost use Rattle.lx_forest.specs.Forest.{Forest};
 
     ghost Value = { Forest };
@@ -50,7 +50,7 @@ impl Model for Links {
 
 impl Links {
     ghost use Rattle.std.specs.Prelude.{◌≡◌, ◌≢◌, false, option_map, IsTrue, IfOk, OnOk, OnErr};
-    ghost use Rattle.lx_node.specs.Trees.{nil};
+    ghost use Rattle.lx_trees.specs.Trees.{nil};
     ghost use Rattle.lx_forest.specs.Forest.{root_alone};
     ghost use Rattle.std.specs.Option.{option_copied};
     ghost use Rattle.lx_forest.specs.Records.{record_at};

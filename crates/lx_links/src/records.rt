@@ -35,7 +35,7 @@ pub struct Counted<'a> {
 
 impl<'a> Model for Counted<'a> {
     ghost use Rattle.std.specs.Coded.{codes};
-    ghost use Rattle.lx_node.specs.Trees.{trees_code};
+    ghost use Rattle.lx_trees.specs.Trees.{trees_code};
     ghost use Rattle.lx_links.specs.Reader.{Reader};
 
     ghost Value = { Reader };

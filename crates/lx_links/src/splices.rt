@@ -1,7 +1,7 @@
 ghost use Rattle.std.specs.Prelude.{◌≡◌, ◌++◌, ℕ, List, chars, OnOk, Some};
 ghost use Rattle.std.specs.FinMap as map;
 ghost use Rattle.lx_node.specs.Cuts.{Cuts};
-ghost use Rattle.lx_node.specs.Siblings.{is_named};
+ghost use Rattle.lx_trees.specs.Siblings.{is_named};
 ghost use Rattle.lx_node.specs.declared.fields.Fields.TheVariants as fields;
 ghost use Rattle.lx_node.specs.declared.fields.TextFields.{TextFields};
 ghost use Rattle.lx_node.specs.declared.node.Node.{Node};

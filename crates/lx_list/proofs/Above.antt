@@ -1,7 +1,7 @@
 -- What holds an item is a list.
 use Rattle.std.proofs.Common.{◌≡◌, ◌∙◌, ℕ, true, Option, None, Some, refl, sym, ap, ap₂, arith}
 use Rattle.std.specs.Prelude.{option_map}
-use Rattle.lx_node.specs.Spots.{Spot}
+use Rattle.lx_trees.specs.Spots.{Spot}
 use Rattle.lx_node.specs.Kinds.{may_hold, is_list, is_item, is_inline, is_block, is_link, is_row, is_cell, is_paragraph, is_heading}
 use Rattle.lx_node.specs.declared.kind.Kind.{Kind}
 use Rattle.lx_node.specs.declared.kind.Kind.TheVariants.{Root, Paragraph, Heading, Quote, List as ListKind, Item, Link, Table, Row, Cell}
@@ -9,7 +9,7 @@ use Rattle.lx_forest.specs.Forest.{Forest, Label}
 use Rattle.lx_forest.specs.Lookups.{has, spot, kind_of, parent_of, holds, IsHeld}
 use Rattle.lx_forest.proofs.Edits.{is_some-spot}
 use Rattle.lx_forest.proofs.Lookups.{has-parent_of, has-child}
-use Rattle.lx_range.specs.Blocks.{passes, is_at}
+use Rattle.lx_blocks.specs.Blocks.{passes, is_at}
 
 by_kinds : (outer inner : Kind) → is_item inner ≡ true → may_hold outer inner ≡ true → is_list outer ≡ true
 unfolding may_hold is_list is_item is_inline is_block is_link is_row is_cell is_paragraph is_heading

@@ -3,8 +3,8 @@ use Rattle.std.proofs.Common.{◌≡◌, ◌∙◌, ℕ, true, false, cond, List
 use Rattle.std.specs.Prelude.{option_map}
 use Rattle.std.proofs.lemmas.Bool.{cases_Bool}
 use Rattle.std.proofs.lemmas.Bool.Decides.{eqb_tells}
-use Rattle.lx_node.specs.Spots.{Spot, parent_at, children_at}
-use Rattle.lx_node.specs.Siblings.{next_in, previous_in}
+use Rattle.lx_trees.specs.Spots.{Spot, parent_at, children_at}
+use Rattle.lx_trees.specs.Siblings.{next_in, previous_in}
 use Rattle.lx_node.specs.declared.kind.Kind.{Kind}
 use Rattle.lx_node.specs.declared.fields.Extra.{Extra}
 use Rattle.lx_node.specs.declared.fields.Extra.TheVariants as extra

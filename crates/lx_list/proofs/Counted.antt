@@ -4,8 +4,8 @@ use Rattle.std.specs.Prelude.{option_map, sum_by}
 use Rattle.std.specs.List.{slice_get, count_by}
 use Rattle.std.proofs.lemmas.List.Sums.{sum_by-cons}
 use Rattle.std.proofs.lemmas.Bool.Decides.{eqb_tells}
-use Rattle.lx_node.specs.Siblings.{is_among}
-use Rattle.lx_node.specs.Spots.{Spot}
+use Rattle.lx_trees.specs.Siblings.{is_among}
+use Rattle.lx_trees.specs.Spots.{Spot}
 use Rattle.lx_node.specs.Kinds.{may_hold, is_list, is_item, is_element}
 use Rattle.lx_node.specs.Strings.{characters_of}
 use Rattle.lx_node.specs.Limits.{most_counts, most_written}
@@ -26,7 +26,7 @@ use Rattle.lx_draft.specs.Steps.{rewritten, set_step}
 use Rattle.lx_draft.proofs.Again.{set_again-element}
 use Rattle.lx_draft.proofs.Rewritten.{rewritten-none, rewritten-more}
 use Rattle.lx_edit.specs.InTurn.{in_turn}
-use Rattle.lx_range.specs.Blocks.{passes, is_at}
+use Rattle.lx_blocks.specs.Blocks.{passes, is_at}
 use Rattle.lx_list.specs.Making.{changed, numbered, with_extra, set_changed, change_step, number_item}
 use Rattle.lx_list.specs.Nesting.{is_nesting}
 use Rattle.lx_list.specs.Numbering.{start_at, numbered_from, list_numbered}

@@ -2,11 +2,11 @@
 use Rattle.std.proofs.Common.{◌≡◌, ◌∙◌, ℕ, zero, suc, ◌+◌, Bool, true, false, cond, not, List, [], ◌∷◌, take, Option, None, Some, refl, sym, ap, arith}
 use Rattle.std.specs.Prelude.{option_map, is_some}
 use Rattle.std.specs.List.{slice_get, count_by}
-use Rattle.lx_node.specs.Spots.{Spot, parent_at}
-use Rattle.lx_node.specs.Siblings.{is_among}
+use Rattle.lx_trees.specs.Spots.{Spot, parent_at}
+use Rattle.lx_trees.specs.Siblings.{is_among}
 use Rattle.lx_node.specs.Kinds.{may_hold, is_list, is_item, is_possible}
 use Rattle.lx_node.specs.OfKind.{is_of_kind, is_item_extra, is_extra_of, is_element_of, fits_kind}
-use Rattle.lx_node.proofs.Positions.{is_among-slice_get}
+use Rattle.lx_trees.proofs.Positions.{is_among-slice_get}
 use Rattle.lx_node.specs.declared.kind.Kind.{Kind}
 use Rattle.lx_node.specs.declared.kind.Kind.TheVariants.{List as ListKind, Item}
 use Rattle.lx_node.specs.declared.node.View.{View}
@@ -22,7 +22,7 @@ use Rattle.std.proofs.lemmas.List.Sums.{sum_by-cons}
 use Rattle.lx_forest.specs.Views.{view_of}
 use Rattle.lx_forest.specs.Suited.{is_suited, IsSuited}
 use Rattle.lx_edit.specs.Texts.{simple_at}
-use Rattle.lx_range.specs.Blocks.{passes}
+use Rattle.lx_blocks.specs.Blocks.{passes}
 use Rattle.lx_list.specs.Nesting.{is_nesting}
 use Rattle.lx_list.specs.Numbering.{start_at}
 use Rattle.lx_list.specs.Numbered.{number_in, number_at, due, IsNumberedList}

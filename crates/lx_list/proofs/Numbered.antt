@@ -6,10 +6,10 @@ use Rattle.std.proofs.lemmas.Bool.{cases_Bool}
 use Rattle.std.proofs.lemmas.Bool.Decides.{eqb_tells}
 use Rattle.std.proofs.Math.Seq.{take-append_seam}
 use Rattle.std.proofs.lemmas.List.Sums.{sum_by-append}
-use Rattle.lx_node.specs.Siblings.{index_in, is_among, first_of}
+use Rattle.lx_trees.specs.Siblings.{index_in, is_among, first_of}
 use Rattle.lx_node.specs.Kinds.{is_list}
-use Rattle.lx_node.proofs.Positions.{index_in-slice_get, is_among-slice_get}
-use Rattle.lx_node.proofs.Siblings.{is_named_tells}
+use Rattle.lx_trees.proofs.Positions.{index_in-slice_get, is_among-slice_get}
+use Rattle.lx_trees.proofs.Siblings.{is_named_tells}
 use Rattle.lx_node.specs.declared.cause.Cause.{Cause}
 use Rattle.lx_node.specs.declared.kind.Kind.{Kind}
 use Rattle.lx_node.specs.declared.fields.Extra.{Extra}
@@ -27,7 +27,7 @@ use Rattle.lx_draft.specs.Faults.{after}
 use Rattle.lx_draft.specs.Steps.{set_step}
 use Rattle.lx_draft.proofs.Covered.{answered}
 use Rattle.lx_edit.specs.InTurn.{in_turn}
-use Rattle.lx_range.specs.Blocks.{passes, is_at}
+use Rattle.lx_blocks.specs.Blocks.{passes, is_at}
 use Rattle.lx_list.specs.Making.{changed, numbered, with_extra, set_changed, change_step, number_item}
 use Rattle.lx_list.specs.Nesting.{if_list, is_nesting}
 use Rattle.lx_list.specs.Numbering.{start_in, start_at, numbered_from, list_numbered, number_step}

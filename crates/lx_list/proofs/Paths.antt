@@ -3,7 +3,7 @@
 use Rattle.std.proofs.Common.{◌≡◌, ℕ, ◌+◌, ◌==◌, ◌&&◌, Bool, false, cond, not, List, [], ◌∷◌, Option, None, Some, Result, Ok}
 use Rattle.std.specs.Prelude.{is_none, filter}
 use Rattle.std.specs.List.{list_all}
-use Rattle.lx_node.specs.Siblings.{is_named}
+use Rattle.lx_trees.specs.Siblings.{is_named}
 use Rattle.lx_node.specs.Kinds.{is_inline, is_item, is_list}
 use Rattle.lx_node.specs.Plain.{plain_element}
 use Rattle.lx_node.specs.declared.kind.Kind.{Kind}
@@ -23,11 +23,11 @@ use Rattle.lx_draft.specs.Beside.{put_before_step, put_behind_step}
 use Rattle.lx_edit.specs.InTurn.{in_turn}
 use Rattle.lx_edit.specs.Edits.{pointed, element_point, moved_before, moved_behind, moved_to_end, remove_step, children_step}
 use Rattle.lx_edit.proofs.Paths.{Leads, from_, allowed, if_, points, every, put_before_path, put_behind_path, moved_before_path, moved_behind_path, moved_to_end_path, remove_path, children_path}
-use Rattle.lx_range.specs.Blocks.{is_at, is_line, block_of}
-use Rattle.lx_range.specs.Lines.{selected_lines}
-use Rattle.lx_range.specs.Making.{new_like}
-use Rattle.lx_range.specs.Ranges.{caret_at, range_of}
-use Rattle.lx_range.proofs.Paths.{IsWay, stays, either, chained, by_read}
+use Rattle.lx_blocks.specs.Blocks.{is_at, is_line, block_of}
+use Rattle.lx_blocks.specs.Lines.{selected_lines}
+use Rattle.lx_blocks.specs.Making.{new_like}
+use Rattle.lx_blocks.specs.Ranges.{caret_at, range_of}
+use Rattle.lx_blocks.proofs.Paths.{IsWay, stays, either, chained, by_read}
 use Rattle.lx_list.specs.Making.{with_new, with_like, list_fields, item_fields, unchecked, set_changed, change_step, with_extra, numbered, checked_as, with_indent, number_item, check_item}
 use Rattle.lx_list.specs.Lines.{if_there, each_line}
 use Rattle.lx_list.specs.Listing.{is_list_of, item_made, list_made, itemized, has_mark, remarked, retyped_with, retyped, retyped_above, listed, make_list_step}

@@ -3,7 +3,7 @@ use Rattle.std.proofs.Common.{◌≡◌, ◌∙◌, ℕ, ◌+◌, ◌≤◌, Boo
 use Rattle.std.specs.Prelude.{sum_by, filter}
 use Rattle.std.proofs.lemmas.Bool.{cases_Bool}
 use Rattle.std.proofs.lemmas.Bool.Decides.{nat_tests}
-use Rattle.lx_node.specs.Siblings.{is_among}
+use Rattle.lx_trees.specs.Siblings.{is_among}
 use Rattle.lx_node.specs.Kinds.{may_hold, is_list}
 use Rattle.lx_node.specs.Strings.{capped, characters_of}
 use Rattle.lx_node.specs.Limits.{most_counts, most_written}
@@ -16,7 +16,7 @@ use Rattle.lx_links.specs.Sums.{items_in, item_characters_in}
 use Rattle.lx_draft.specs.Working.{Working}
 use Rattle.lx_draft.specs.Steps.{rewritten}
 use Rattle.lx_draft.specs.Covering.{IsReady}
-use Rattle.lx_range.specs.Blocks.{is_at}
+use Rattle.lx_blocks.specs.Blocks.{is_at}
 use Rattle.lx_list.specs.Numbering.{number_step}
 use Rattle.lx_list.specs.Numbered.{IsNumbered}
 use Rattle.lx_list.specs.Began.{BeganNumbered, stand_still}

@@ -2,7 +2,7 @@
 use Rattle.std.proofs.Common.{◌≡◌, ℕ, ◌+◌, ◌<◌, ◌≤◌, ◌^◌, Bool, true, false, ◌&&◌, length, List, Option, None, Some, sym, ap, subst, arith}
 use Rattle.std.specs.Prelude.{option_map}
 use Rattle.std.proofs.lemmas.Bool.Decides.{nat_tests}
-use Rattle.lx_node.specs.NamedTrees.{total}
+use Rattle.lx_trees.specs.NamedTrees.{total}
 use Rattle.lx_node.specs.OfKind.{is_of_kind, fits_kind, is_element_of, is_text_of, are_embed_fields, are_bare, is_extra_of, is_list_extra, is_item_extra, is_link_extra, is_cell_extra, is_plain}
 use Rattle.lx_node.specs.Kinds.{is_possible}
 use Rattle.lx_node.specs.declared.kind.Kind.TheVariants.{List as ListKind, Text, Tab, Break, Rule, Embed}

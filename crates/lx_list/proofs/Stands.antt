@@ -4,9 +4,9 @@ use Rattle.std.specs.Prelude.{option_map, is_some, is_none}
 use Rattle.std.specs.List.{list_all}
 use Rattle.std.proofs.lemmas.Bool.{cases_Bool}
 use Rattle.std.proofs.lemmas.Bool.Decides.{eqb_tells}
-use Rattle.lx_node.specs.Spots.{Spot, parent_at, children_at}
-use Rattle.lx_node.specs.Siblings.{is_among, first_of}
-use Rattle.lx_node.proofs.Siblings.{first_of-among}
+use Rattle.lx_trees.specs.Spots.{Spot, parent_at, children_at}
+use Rattle.lx_trees.specs.Siblings.{is_among, first_of}
+use Rattle.lx_trees.proofs.Siblings.{first_of-among}
 use Rattle.lx_node.specs.Kinds.{may_hold, is_list, is_item}
 use Rattle.lx_node.specs.declared.kind.Kind.{Kind}
 use Rattle.lx_node.specs.declared.fields.Fields.{Fields}
@@ -19,7 +19,7 @@ use Rattle.lx_forest.proofs.Edits.{is_some-spot}
 use Rattle.lx_forest.proofs.Lookups.{has-child}
 use Rattle.lx_forest.proofs.Walks.{is_attached-top}
 use Rattle.lx_draft.specs.Working.{Working}
-use Rattle.lx_range.specs.Blocks.{passes, is_at}
+use Rattle.lx_blocks.specs.Blocks.{passes, is_at}
 use Rattle.lx_list.specs.Nesting.{if_list, is_nesting}
 use Rattle.lx_list.specs.Numbering.{start_at}
 use Rattle.lx_list.specs.Numbered.{number_at, IsNumbered}

@@ -4,15 +4,15 @@ use Rattle.std.specs.Prelude.{option_map, sum_by, filter}
 use Rattle.std.proofs.lemmas.List.Sums.{sum_by-cons, sum_by-append}
 use Rattle.std.proofs.lemmas.Bool.{cases_Bool}
 use Rattle.std.proofs.lemmas.Bool.Decides.{eqb_tells}
-use Rattle.lx_node.specs.Trees.{nil, tree}
-use Rattle.lx_node.specs.NamedTrees as named
-use Rattle.lx_node.specs.Siblings.{is_among}
-use Rattle.lx_node.specs.Spots.{Spot, spot_below, children_at}
+use Rattle.lx_trees.specs.Trees.{nil, tree}
+use Rattle.lx_trees.specs.NamedTrees as named
+use Rattle.lx_trees.specs.Siblings.{is_among}
+use Rattle.lx_trees.specs.Spots.{Spot, spot_below, children_at}
 use Rattle.lx_node.specs.Kinds.{may_hold, is_list, is_item, is_block, is_inline, is_paragraph, is_heading, is_row, is_cell, is_link}
 use Rattle.lx_node.specs.declared.kind.Kind.{Kind}
 use Rattle.lx_node.specs.declared.kind.Kind.TheVariants.{List as ListKind, Item, Root}
-use Rattle.lx_node.proofs.NamedTrees.{names-alone}
-use Rattle.lx_node.proofs.Spots.{spot_below-absent}
+use Rattle.lx_trees.proofs.NamedTrees.{names-alone}
+use Rattle.lx_trees.proofs.Spots.{spot_below-absent}
 use Rattle.lx_forest.specs.Forest.{Forest, Label}
 use Rattle.lx_forest.specs.Lookups.{key_of, count, alone, without, spot, parent_of, children_of, is_attached, preorder, holds, IsForest, IsHeld}
 use Rattle.lx_forest.specs.Loose.{is_top}
@@ -22,7 +22,7 @@ use Rattle.lx_forest.proofs.Lookups.{has-child, has-parent_of}
 use Rattle.lx_forest.proofs.Walks.{spot_in_tree, tree_distinct}
 use Rattle.lx_forest.proofs.Tops.{weight-tops}
 use Rattle.lx_forest.proofs.Weights.{weight-preorder, weight-drop_detached}
-use Rattle.lx_range.specs.Blocks.{passes, is_at}
+use Rattle.lx_blocks.specs.Blocks.{passes, is_at}
 use Rattle.lx_list.proofs.Itemless.{spot_known}
 use Rattle.lx_list.proofs.Numbered.{parent_there}
 

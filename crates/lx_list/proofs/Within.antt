@@ -3,10 +3,10 @@ use Rattle.std.proofs.Common.{◌≡◌, ◌≢◌, ◌∙◌, ℕ, Bool, true, 
 use Rattle.std.specs.Prelude.{find, filter, IfSome, IfNone}
 use Rattle.std.proofs.lemmas.Bool.{cases_Bool}
 use Rattle.std.proofs.lemmas.Bool.Decides.{eqb_tells}
-use Rattle.lx_node.specs.NamedTrees as named
-use Rattle.lx_node.specs.Siblings.{is_among, NoRepeats, first_of}
-use Rattle.lx_node.proofs.NamedTrees.{count-without-alone}
-use Rattle.lx_node.proofs.Subtrees.{alone-alone}
+use Rattle.lx_trees.specs.NamedTrees as named
+use Rattle.lx_trees.specs.Siblings.{is_among, NoRepeats, first_of}
+use Rattle.lx_trees.proofs.NamedTrees.{count-without-alone}
+use Rattle.lx_trees.proofs.Subtrees.{alone-alone}
 use Rattle.lx_forest.specs.Forest.{Forest}
 use Rattle.lx_forest.specs.Lookups.{key_of, has, parent_of, ancestors, is_attached, keys_within, from, behind, depth, IsForest}
 use Rattle.lx_forest.proofs.Walks.{NoRepeats-preorder_of, ancestors-step, ancestors-top}
@@ -15,12 +15,12 @@ use Rattle.lx_forest.proofs.Up.{attached_above}
 use Rattle.lx_links.specs.Stands.{Sound}
 use Rattle.lx_links.proofs.Up.{in_order, in_order_at}
 use Rattle.lx_links.proofs.Ordered.{there_within}
-use Rattle.lx_range.specs.Places.{until}
-use Rattle.lx_range.specs.Walks.{left_from, key_of_step}
-use Rattle.lx_range.proofs.Until.{until_front}
-use Rattle.lx_range.proofs.Gathered.{next_at}
-use Rattle.lx_range.proofs.Steps.{first_left, in_order_with}
-use Rattle.lx_range.proofs.Stretches.{before_and_from}
+use Rattle.lx_blocks.specs.Places.{until}
+use Rattle.lx_blocks.specs.Walks.{left_from, key_of_step}
+use Rattle.lx_blocks.proofs.Until.{until_front}
+use Rattle.lx_blocks.proofs.Gathered.{next_at}
+use Rattle.lx_blocks.proofs.Steps.{first_left, in_order_with}
+use Rattle.lx_blocks.proofs.Stretches.{before_and_from}
 
 -- ---- a tree, up to what comes after it
 

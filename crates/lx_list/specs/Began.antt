@@ -9,7 +9,7 @@ use Rattle.lx_forest.specs.Lookups.{has, is_attached, IsForest}
 use Rattle.lx_forest.specs.Loose.{is_top}
 use Rattle.lx_draft.specs.Working.{Working}
 use Rattle.lx_draft.specs.Covering.{Covers, KindsStay}
-use Rattle.lx_range.specs.Blocks.{is_at}
+use Rattle.lx_blocks.specs.Blocks.{is_at}
 use Rattle.lx_list.specs.Numbered.{IsNumbered}
 
 -- there was a forest before in which nothing was detached and each item had its number; the draft's marks cover all

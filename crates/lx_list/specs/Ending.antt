@@ -11,8 +11,8 @@ use Rattle.lx_draft.specs.Faults.{after}
 use Rattle.lx_draft.specs.Beside.{put_behind_step}
 use Rattle.lx_edit.specs.InTurn.{in_turn}
 use Rattle.lx_edit.specs.Edits.{element_point, moved_to_end, remove_step}
-use Rattle.lx_range.specs.Blocks.{is_at}
-use Rattle.lx_range.specs.Ranges.{caret_at}
+use Rattle.lx_blocks.specs.Blocks.{is_at}
+use Rattle.lx_blocks.specs.Ranges.{caret_at}
 use Rattle.lx_list.specs.Making.{with_new, with_like}
 use Rattle.lx_list.specs.Outdenting.{items_behind, out_of}
 

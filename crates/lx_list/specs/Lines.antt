@@ -5,8 +5,8 @@ use Rattle.lx_forest.specs.Lookups.{is_attached}
 use Rattle.lx_draft.specs.Working.{Working}
 use Rattle.lx_draft.specs.Faults.{after}
 use Rattle.lx_edit.specs.InTurn.{in_turn}
-use Rattle.lx_range.specs.Lines.{selected_lines}
-use Rattle.lx_range.specs.Ranges.{range_of}
+use Rattle.lx_blocks.specs.Lines.{selected_lines}
+use Rattle.lx_blocks.specs.Ranges.{range_of}
 
 -- a step at a node, passed over where an earlier one has taken the node out of the root's tree
 abbrev pub if_there : (ℕ → Working → Result Working Cause) → ℕ → Working → Result Working Cause

@@ -18,7 +18,7 @@ use Rattle.lx_draft.specs.Steps.{put_step}
 use Rattle.lx_draft.specs.Beside.{put_before_step}
 use Rattle.lx_edit.specs.InTurn.{in_turn}
 use Rattle.lx_edit.specs.Edits.{remove_step, children_step}
-use Rattle.lx_range.specs.Blocks.{is_at}
+use Rattle.lx_blocks.specs.Blocks.{is_at}
 use Rattle.lx_list.specs.Lines.{each_line}
 use Rattle.lx_list.specs.Making.{with_new, list_fields, item_fields, unchecked, check_item}
 

@@ -15,7 +15,7 @@ use Rattle.lx_forest.specs.Lookups.{fields_of}
 use Rattle.lx_draft.specs.Working.{Working}
 use Rattle.lx_draft.specs.Faults.{after}
 use Rattle.lx_draft.specs.Steps.{new_step, set_step}
-use Rattle.lx_range.specs.Making.{new_like}
+use Rattle.lx_blocks.specs.Making.{new_like}
 
 -- ---- new nodes
 

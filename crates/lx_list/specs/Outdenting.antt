@@ -1,6 +1,6 @@
 -- Lines go one level up.
 use Rattle.std.specs.Prelude.{ℕ, ◌+◌, ◌-◌, ◌==◌, ◌&&◌, is_none, if◌then◌else◌, List, drop, Option, None, Some, unwrap_or, Result, Ok}
-use Rattle.lx_node.specs.Siblings.{is_named}
+use Rattle.lx_trees.specs.Siblings.{is_named}
 use Rattle.lx_node.specs.Kinds.{is_item}
 use Rattle.lx_node.specs.declared.kind.Kind.TheVariants.{Item}
 use Rattle.lx_node.specs.declared.cause.Cause.{Cause}
@@ -12,7 +12,7 @@ use Rattle.lx_draft.specs.Steps.{put_step}
 use Rattle.lx_draft.specs.Beside.{put_behind_step}
 use Rattle.lx_edit.specs.InTurn.{in_turn}
 use Rattle.lx_edit.specs.Edits.{moved_before, moved_behind, moved_to_end, remove_step}
-use Rattle.lx_range.specs.Blocks.{is_at}
+use Rattle.lx_blocks.specs.Blocks.{is_at}
 use Rattle.lx_list.specs.Lines.{each_line}
 use Rattle.lx_list.specs.Making.{with_new, with_like, item_fields, with_indent, change_step}
 

@@ -14,7 +14,7 @@ use lx_draft::Draft;
 use lx_edit::admitted;
 use lx_links::Links;
 use lx_node::{Cause, Extra, Fault, Fields, Key, SelectionKind};
-use lx_range::{block, is_item_at, no_range, range_of};
+use lx_blocks::{block, is_item_at, no_range, range_of};
 use std::alloc::Global;
 
 /// The node isn't there, or it is no item.

@@ -6,7 +6,7 @@ ghost use Rattle.lx_node.specs.OfKind.{IsOfKind};
 ghost use Rattle.lx_forest.specs.Lookups as lookups;
 ghost use Rattle.lx_draft.specs.Faults.{TellsStep};
 ghost use Rattle.lx_edit.specs.Standing.{StillStands};
-ghost use Rattle.lx_range.specs.Blocks as blocks;
+ghost use Rattle.lx_blocks.specs.Blocks as blocks;
 ghost use Rattle.lx_list.specs.Ending as ending;
 ghost use Rattle.lx_list.specs.Ending.{paragraph_in_item_step};
 
@@ -16,7 +16,7 @@ use crate::ready::ready;
 use lx_draft::Draft;
 use lx_edit::{element_point, move_each, remove};
 use lx_node::{Fault, Fields, Key, Kind};
-use lx_range::{is_item_at, place_caret};
+use lx_blocks::{is_item_at, place_caret};
 use std::alloc::Global;
 
 /// Moves items, if there are any, into a new list of this kind and with these fields after a paragraph.

@@ -5,7 +5,7 @@ ghost use Rattle.lx_node.specs.Kinds as kinds;
 ghost use Rattle.lx_forest.specs.Lookups as lookups;
 ghost use Rattle.lx_draft.specs.Faults.{TellsStep};
 ghost use Rattle.lx_edit.specs.Standing.{StillStands};
-ghost use Rattle.lx_range.specs.Blocks as blocks;
+ghost use Rattle.lx_blocks.specs.Blocks as blocks;
 ghost use Rattle.lx_list.specs.Indenting as indenting;
 
 use crate::changing::{Change, change_fields};
@@ -15,7 +15,7 @@ use crate::ready::ready;
 use lx_draft::Draft;
 use lx_edit::{move_children, move_to_end, remove};
 use lx_node::{Fault, Key, Kind};
-use lx_range::is_item_at;
+use lx_blocks::is_item_at;
 use std::alloc::Global;
 
 /// Puts a new item in the place of one, and that one into a list in it that is like its own.

@@ -6,7 +6,7 @@ ghost use Rattle.lx_node.specs.Kinds as kinds;
 ghost use Rattle.lx_forest.specs.Lookups as lookups;
 ghost use Rattle.lx_draft.specs.Faults.{TellsStep};
 ghost use Rattle.lx_edit.specs.Standing.{StillStands};
-ghost use Rattle.lx_range.specs.Blocks as blocks;
+ghost use Rattle.lx_blocks.specs.Blocks as blocks;
 ghost use Rattle.lx_list.specs.Listing as listing;
 
 use crate::kinds::is_list_of_at;
@@ -17,7 +17,7 @@ use lx_draft::Draft;
 use lx_edit::{move_children, remove};
 use lx_links::Links;
 use lx_node::{Fault, Key, Kind, ListType};
-use lx_range::{is_inline_at, is_item_at};
+use lx_blocks::{is_inline_at, is_item_at};
 use std::alloc::Global;
 
 /// Puts what is in a line into a new item at a list's end, and removes the line.

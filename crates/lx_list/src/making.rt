@@ -4,13 +4,13 @@ ghost use Rattle.std.specs.Prelude.{◌≡◌, ◌+◌, true, Some, IfOk, unwrap
 ghost use Rattle.lx_node.specs.Kinds as kinds;
 ghost use Rattle.lx_node.specs.OfKind.{IsOfKind};
 ghost use Rattle.lx_forest.specs.Lookups as lookups;
-ghost use Rattle.lx_range.specs.Blocks as blocks;
+ghost use Rattle.lx_blocks.specs.Blocks as blocks;
 ghost use Rattle.lx_list.specs.Making as making;
 ghost use Rattle.lx_list.specs.Outdenting as outdenting;
 
 use lx_links::Links;
 use lx_node::{ElementFields, Extra, Fields, Key, Kind, ListType, NoMemory};
-use lx_range::{children_from, node_at};
+use lx_blocks::{children_from, node_at};
 use std::alloc::Global;
 
 /// The fields of a list of which nothing is set.
@@ -51,7 +51,7 @@ pub(crate) fn like(alloc: Global, links: &Links, list: Key) -> Result<(Kind, Fie
 }
 
 /// How many items of its list come before what comes after an item.
-#[tactic(auto, using(lx_range::proofs::Passing::index_fits))]
+#[tactic(auto, using(lx_blocks::proofs::Passing::index_fits))]
 fn place_behind(links: &Links, item: Key) -> u32
     ensures { result ≡ unwrap_or (lookups.index_of links.now item) 0 + 1 }
 {

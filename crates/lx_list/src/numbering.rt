@@ -10,7 +10,7 @@ ghost use Rattle.lx_draft.specs.Covering.{IsReady};
 ghost use Rattle.lx_draft.specs.Faults.{TellsStep};
 ghost use Rattle.lx_edit.specs.InTurn.{in_turn};
 ghost use Rattle.lx_edit.specs.Standing.{StillStands};
-ghost use Rattle.lx_range.specs.Blocks as blocks;
+ghost use Rattle.lx_blocks.specs.Blocks as blocks;
 ghost use Rattle.lx_list.specs.Numbering as numbering;
 ghost use Rattle.lx_list.specs.Numbering.{number_step};
 ghost use Rattle.lx_list.specs.Laws.{IsRenumbered};

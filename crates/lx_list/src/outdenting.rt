@@ -2,11 +2,11 @@
 
 ghost use Rattle.std.specs.Prelude.{◌≡◌, ◌&&◌, true, Ok, OnOk, IfErr};
 ghost use Rattle.lx_node.specs.Kinds as kinds;
-ghost use Rattle.lx_node.specs.Siblings.{is_named};
+ghost use Rattle.lx_trees.specs.Siblings.{is_named};
 ghost use Rattle.lx_forest.specs.Lookups as lookups;
 ghost use Rattle.lx_draft.specs.Faults.{TellsStep};
 ghost use Rattle.lx_edit.specs.Standing.{StillStands};
-ghost use Rattle.lx_range.specs.Blocks as blocks;
+ghost use Rattle.lx_blocks.specs.Blocks as blocks;
 ghost use Rattle.lx_list.specs.Outdenting as outdenting;
 
 use crate::changing::{Change, change_fields};
@@ -16,7 +16,7 @@ use lx_draft::Draft;
 use lx_edit::{move_before, move_behind, move_each, remove};
 use lx_links::Links;
 use lx_node::{Fault, Fields, Key, Kind};
-use lx_range::is_item_at;
+use lx_blocks::is_item_at;
 use std::alloc::Global;
 
 /// Puts a new item after an outer one, with a list in it that takes items, and a node between the two.

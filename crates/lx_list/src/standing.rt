@@ -10,7 +10,7 @@ use lx_draft::Draft;
 use lx_links::Links;
 use lx_marks::Marks;
 use lx_node::Key;
-use lx_range::is_item_at;
+use lx_blocks::is_item_at;
 
 /// Whether the node is below nothing and isn't the root.
 fn is_top(links: &Links, key: Key) -> bool

@@ -3,7 +3,7 @@ use Rattle.std.proofs.Common.{◌≡◌, ℕ, Bool, false, cond, eqb, ◌||◌, 
 use Rattle.std.specs.Prelude.{OnOk, OnErr, unwrap_or}
 use Rattle.std.specs.Map.{keys_of, lookup}
 use Rattle.indexmap.specs.IndexMap.{insert_entry}
-use Rattle.lx_node.specs.Siblings.{NoRepeats}
+use Rattle.lx_trees.specs.Siblings.{NoRepeats}
 use Rattle.lx_marks.specs.Marks.{flag_in, flagged, with_name}
 use Rattle.lx_marks.proofs.Names.{NoRepeats-with_name}
 use Rattle.lx_marks.proofs.Flags.{once_flagged}

@@ -1,8 +1,8 @@
 -- The laws of names that come one after another, each after all unless it is there.
 use Rattle.std.proofs.Common.{◌≡◌, ◌∙◌, ℕ, true, false, eqb, ◌||◌, if◌then◌else◌, List, [], ◌∷◌, ◌++◌, refl, sym, ap, append-nil, append_assoc, arith}
 use Rattle.std.proofs.lemmas.Bool.Decides.{eqb_tells}
-use Rattle.lx_node.specs.Siblings.{is_among, NoRepeats}
-use Rattle.lx_node.proofs.Siblings.{is_among-append, NoRepeats-append}
+use Rattle.lx_trees.specs.Siblings.{is_among, NoRepeats}
+use Rattle.lx_trees.proofs.Siblings.{is_among-append, NoRepeats-append}
 use Rattle.lx_marks.specs.Marks.{with_name, with_names}
 
 pub is_among-with_name : (k : ℕ) (xs : List ℕ) (q : ℕ) → is_among q (with_name k xs) ≡ (is_among q xs || eqb q k)

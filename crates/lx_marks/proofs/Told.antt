@@ -3,7 +3,7 @@ use Rattle.std.proofs.Common.{◌≡◌, ◌∙◌, ℕ, Bool, true, eqb, ◌||�
 use Rattle.std.specs.Prelude.{is_some}
 use Rattle.std.specs.Map.{keys_of}
 use Rattle.std.proofs.lemmas.Bool.Decides.{eqb_tells}
-use Rattle.lx_node.specs.Siblings.{is_among, NoRepeats}
+use Rattle.lx_trees.specs.Siblings.{is_among, NoRepeats}
 use Rattle.lx_marks.specs.Marks.{Marked, unmarked, flag_in, flagged, all_flagged, with_leaf, with_marked, with_names, absorbed, is_true_flag, is_touched, is_noted, IsMarked}
 use Rattle.lx_marks.specs.Laws.{either_flag}
 use Rattle.lx_marks.proofs.Names.{is_among-with_name, is_among-with_names, NoRepeats-with_name, NoRepeats-with_names, with_names-apart}

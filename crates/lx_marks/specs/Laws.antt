@@ -1,6 +1,6 @@
 -- The laws of marks: what is marked after a mark, as one equation for all keys.
 use Rattle.std.specs.Prelude.{ℕ, ◌≡◌, ◌==◌, ◌&&◌, ◌||◌, Bool, true, false, if◌then◌else◌, Option, None, Some, slice_get}
-use Rattle.lx_node.specs.Siblings.{is_among}
+use Rattle.lx_trees.specs.Siblings.{is_among}
 use Rattle.lx_marks.specs.Marks.{Marked, unmarked, flag_in, with_leaf, with_marked, absorbed, is_touched, is_noted, IsMarked}
 
 -- of the flags that two tables give a key the one that is there, and of two whether either is true

@@ -1,7 +1,7 @@
 -- The keys that edits marked, and what marking does to them. What marks doesn't unfold: its laws are in `specs/Laws.antt`.
 use Rattle.std.specs.Prelude.{ℕ, ◌==◌, ◌||◌, Bool, false, is_some, if◌then◌else◌, List, [], ◌∷◌, ◌++◌, Option, None, Some}
 use Rattle.std.specs.Map.{keys_of}
-use Rattle.lx_node.specs.Siblings.{is_among, NoRepeats}
+use Rattle.lx_trees.specs.Siblings.{is_among, NoRepeats}
 
 -- the keys that edits marked, by their first marks: leaves, and elements, each with whether it was marked itself or
 -- only below

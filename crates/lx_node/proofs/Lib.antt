@@ -1,11 +1,4 @@
 pub mod CodeUnits
 pub mod Cuts
-pub mod NamedTrees
-pub mod Positions
-pub mod Preorder
 pub mod Same
-pub mod Siblings
-pub mod Spots
 pub mod Strings
-pub mod Subtrees
-pub mod Walks

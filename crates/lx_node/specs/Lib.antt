@@ -3,13 +3,8 @@ pub mod Counted
 pub mod Cuts
 pub mod Kinds
 pub mod Limits
-pub mod NamedTrees
 pub mod OfKind
 pub mod Plain
 pub mod Same
-pub mod Siblings
-pub mod Spots
 pub mod Strings
-pub mod Trees
-pub mod Walks
 pub mod Units

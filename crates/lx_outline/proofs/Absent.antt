@@ -1,7 +1,7 @@
 -- What is read of a key that a tree doesn't have.
 use Rattle.std.proofs.Common.{◌≡◌, ◌∙◌, ℕ, false, None, ap}
 use Rattle.std.specs.Prelude.{option_map}
-use Rattle.lx_node.specs.Spots.{Spot, parent_at}
+use Rattle.lx_trees.specs.Spots.{Spot, parent_at}
 use Rattle.lx_node.specs.declared.kind.Kind.{Kind}
 use Rattle.lx_forest.specs.Forest.{Label, Forest}
 use Rattle.lx_forest.specs.Lookups.{has, label_of, kind_of, alone}

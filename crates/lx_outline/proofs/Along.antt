@@ -2,9 +2,9 @@
 use Rattle.std.proofs.Common.{◌≡◌, ◌∙◌, ℕ, ◌+◌, ◌<◌, true, List, [], ◌∷◌, ◌++◌, length, Option, Some, refl, sym, ap, arith, append_assoc}
 use Rattle.std.specs.Prelude.{sum_by}
 use Rattle.std.proofs.lemmas.List.Sums.{sum_by-cons}
-use Rattle.lx_node.specs.Siblings.{is_among, next_in, from_name}
-use Rattle.lx_node.proofs.Positions.{from_name-step}
-use Rattle.lx_node.proofs.Siblings.{next_in-among}
+use Rattle.lx_trees.specs.Siblings.{is_among, next_in, from_name}
+use Rattle.lx_trees.proofs.Positions.{from_name-step}
+use Rattle.lx_trees.proofs.Siblings.{next_in-among}
 use Rattle.lx_forest.specs.Forest.{Forest}
 use Rattle.lx_forest.specs.Lookups.{parent_of, children_of, children_below, next_of}
 use Rattle.lx_forest.proofs.Lookups.{NoRepeats-children_of}

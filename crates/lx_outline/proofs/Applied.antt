@@ -3,8 +3,8 @@ use Rattle.std.proofs.Common.{◌≡◌, ◌∙◌, ℕ, ◌+◌, ◌-◌, ◌<�
 use Rattle.std.specs.Prelude.{sum_by}
 use Rattle.std.specs.Map.{lookup}
 use Rattle.lx_node.specs.Limits.{most_nodes, most_characters}
-use Rattle.lx_node.specs.NamedTrees.{total}
-use Rattle.lx_node.specs.Siblings.{is_among}
+use Rattle.lx_trees.specs.NamedTrees.{total}
+use Rattle.lx_trees.specs.Siblings.{is_among}
 use Rattle.lx_forest.specs.Forest.{Label, Forest}
 use Rattle.lx_forest.specs.Weights.{weight, own_weight}
 use Rattle.lx_links.specs.Stands.{Sound}

@@ -5,12 +5,12 @@ use Rattle.std.proofs.lemmas.Bool.{cases_Bool}
 use Rattle.std.proofs.lemmas.Bool.Decides.{eqb_tells, nat_tests}
 use Rattle.std.proofs.lemmas.List.Sums.{sum_by-cons}
 use Rattle.std.proofs.lemmas.Option.{same_Some}
-use Rattle.lx_node.specs.NamedTrees.{total}
-use Rattle.lx_node.proofs.NamedTrees.{alone-absent, total-joined}
-use Rattle.lx_node.specs.Siblings.{is_among, NoRepeats}
-use Rattle.lx_node.proofs.Siblings.{is_named_tells}
-use Rattle.lx_node.specs.Spots.{children_at}
-use Rattle.lx_node.specs.Trees.{nil, tree}
+use Rattle.lx_trees.specs.NamedTrees.{total}
+use Rattle.lx_trees.proofs.NamedTrees.{alone-absent, total-joined}
+use Rattle.lx_trees.specs.Siblings.{is_among, NoRepeats}
+use Rattle.lx_trees.proofs.Siblings.{is_named_tells}
+use Rattle.lx_trees.specs.Spots.{children_at}
+use Rattle.lx_trees.specs.Trees.{nil, tree}
 use Rattle.lx_node.specs.declared.kind.Kind.{Kind}
 use Rattle.lx_node.specs.declared.kind.Kind.TheVariants as kind
 use Rattle.lx_forest.specs.Forest.{Label, Forest}

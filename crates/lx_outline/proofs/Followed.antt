@@ -5,8 +5,8 @@ use Rattle.std.proofs.lemmas.Bool.{cases_Bool}
 use Rattle.std.proofs.lemmas.Bool.Decides.{eqb_tells, nat_tests}
 use Rattle.std.proofs.lemmas.List.{map-append}
 use Rattle.std.proofs.lemmas.List.Folds.{list_any-append}
-use Rattle.lx_node.specs.Siblings.{is_among, NoRepeats}
-use Rattle.lx_node.proofs.Siblings.{is_among-append, NoRepeats-append}
+use Rattle.lx_trees.specs.Siblings.{is_among, NoRepeats}
+use Rattle.lx_trees.proofs.Siblings.{is_among-append, NoRepeats-append}
 use Rattle.lx_forest.specs.Forest.{Forest}
 use Rattle.lx_forest.specs.Lookups.{has, rises_from}
 use Rattle.lx_outline.specs.declared.event.Event.{Event}

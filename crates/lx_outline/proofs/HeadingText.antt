@@ -6,9 +6,9 @@ use Rattle.std.proofs.lemmas.Bool.Decides.{eqb_tells}
 use Rattle.std.proofs.lemmas.Option.{same_Some}
 use Rattle.lx_node.specs.Kinds.{is_inline, is_link, may_hold}
 use Rattle.lx_node.specs.OfKind.{is_of_kind, fits_kind, is_element_of}
-use Rattle.lx_node.specs.Siblings.{is_among}
-use Rattle.lx_node.specs.Spots.{Spot, children_at}
-use Rattle.lx_node.specs.Trees.{nil, tree, joined}
+use Rattle.lx_trees.specs.Siblings.{is_among}
+use Rattle.lx_trees.specs.Spots.{Spot, children_at}
+use Rattle.lx_trees.specs.Trees.{nil, tree, joined}
 use Rattle.lx_node.specs.declared.fields.Fields.{Fields}
 use Rattle.lx_node.specs.declared.fields.Fields.TheVariants as fields
 use Rattle.lx_node.specs.declared.kind.Kind.{Kind}

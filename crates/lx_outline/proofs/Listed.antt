@@ -1,8 +1,8 @@
 -- A walk through the tree that lists its headings.
 use Rattle.std.proofs.Common.{◌≡◌, ◌∙◌, ℕ, true, false, List, [], ◌++◌, Option, Some, sym, ap, arith}
 use Rattle.std.proofs.lemmas.Bool.Decides.{nat_tests}
-use Rattle.lx_node.specs.NamedTrees as named
-use Rattle.lx_node.proofs.NamedTrees.{alone-absent}
+use Rattle.lx_trees.specs.NamedTrees as named
+use Rattle.lx_trees.proofs.NamedTrees.{alone-absent}
 use Rattle.lx_forest.specs.Forest.{Forest}
 use Rattle.lx_forest.specs.Lookups.{key_of, has, depth, from, preorder}
 use Rattle.lx_forest.proofs.Walks.{from-root, depth-root}

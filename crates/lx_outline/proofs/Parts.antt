@@ -3,8 +3,8 @@ use Rattle.std.proofs.Common.{◌≡◌, ◌∙◌, ◌⊎◌, ℕ, Bool, true, 
 use Rattle.std.specs.Prelude.{IsTrue, ◌↔◌}
 use Rattle.std.proofs.lemmas.Bool.{cases_Bool}
 use Rattle.std.proofs.lemmas.Bool.Decides.{eqb_tells}
-use Rattle.lx_node.specs.Siblings.{is_among, is_named}
-use Rattle.lx_node.proofs.Siblings.{is_among-append}
+use Rattle.lx_trees.specs.Siblings.{is_among, is_named}
+use Rattle.lx_trees.proofs.Siblings.{is_among-append}
 use Rattle.lx_forest.specs.Forest.{Forest}
 use Rattle.lx_forest.specs.Lookups.{has, parent_of, children_of}
 use Rattle.lx_links.specs.Stands.{Sound}

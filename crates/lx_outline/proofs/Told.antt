@@ -4,9 +4,9 @@ use Rattle.std.specs.Prelude.{is_some, map}
 use Rattle.std.specs.Map.{keys_of}
 use Rattle.std.proofs.lemmas.Bool.{cases_Bool}
 use Rattle.std.proofs.lemmas.Bool.Decides.{eqb_tells}
-use Rattle.lx_node.specs.Siblings.{is_among}
-use Rattle.lx_node.proofs.Siblings.{is_among-append}
-use Rattle.lx_node.proofs.Spots.{is_among-firsts}
+use Rattle.lx_trees.specs.Siblings.{is_among}
+use Rattle.lx_trees.proofs.Siblings.{is_among-append}
+use Rattle.lx_trees.proofs.Spots.{is_among-firsts}
 use Rattle.lx_forest.specs.Forest.{Forest}
 use Rattle.lx_forest.specs.Lookups.{key_of, has, roots, parent_of, ancestors, IsForest}
 use Rattle.lx_forest.proofs.Edits.{has-root}
@@ -14,7 +14,7 @@ use Rattle.lx_forest.proofs.Lookups.{has-parent_of}
 use Rattle.lx_forest.proofs.Walks.{cases_option, ancestors-step}
 use Rattle.lx_marks.specs.Marks.{Marked, flag_in, is_true_flag, is_touched, is_noted}
 use Rattle.lx_marks.proofs.Flags.{is_some-flag_in}
-use Rattle.lx_plain.specs.Allowed.{AreCovered}
+use Rattle.lx_forest.specs.Covered.{AreCovered}
 use Rattle.lx_outline.specs.declared.event.Event.{Event}
 use Rattle.lx_outline.specs.declared.keys.Change.TheVariants as change
 use Rattle.lx_outline.specs.Events.{IsDestroyed, IsCreated, IsUpdated, ascends, event_of, AreAll, AreEvents}

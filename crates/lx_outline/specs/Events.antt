@@ -1,6 +1,6 @@
 -- What a commit did to nodes, from the trees before and after.
 use Rattle.std.specs.Prelude.{◌≡◌, ℕ, Bool, true, false, map, List, [], ◌∷◌, ◌++◌}
-use Rattle.lx_node.specs.Siblings.{is_among}
+use Rattle.lx_trees.specs.Siblings.{is_among}
 use Rattle.lx_forest.specs.Forest.{Forest}
 use Rattle.lx_forest.specs.Lookups.{has, kind_of, fields_of, parent_of, children_of, rises_from}
 use Rattle.lx_outline.specs.declared.event.Event.{Event}

@@ -1,9 +1,9 @@
 -- What is read of a tree: which heading has a node at or below it, what its text is, and how many reads that takes.
 use Rattle.std.specs.Prelude.{◌≡◌, ℕ, ◌+◌, ◌*◌, ◌==◌, ◌||◌, ◌&&◌, ◌++◌, length, sum_by, Bool, false, is_some, if◌then◌else◌, List, [], ◌∷◌, Option, None, Some}
 use Rattle.std.specs.List.{list_any}
-use Rattle.lx_node.specs.Siblings.{is_named}
-use Rattle.lx_node.specs.Trees.{nil, tree}
-use Rattle.lx_node.specs.NamedTrees.{total}
+use Rattle.lx_trees.specs.Siblings.{is_named}
+use Rattle.lx_trees.specs.Trees.{nil, tree}
+use Rattle.lx_trees.specs.NamedTrees.{total}
 use Rattle.lx_node.specs.declared.kind.Kind.{Kind}
 use Rattle.lx_node.specs.declared.kind.Kind.TheVariants as kind
 use Rattle.lx_forest.specs.Forest.{Label, Forest}

@@ -2,7 +2,7 @@
 
 ghost use Rattle.std.specs.Prelude.{◌≡◌, ◌+◌, ◌*◌, ◌≤◌, ℕ, nat_eq, None, length, sum_by, if◌then◌else◌, IfOk, OnOk};
 ghost use Rattle.std.specs.Map.{lookup};
-ghost use Rattle.lx_node.specs.Siblings.{is_among};
+ghost use Rattle.lx_trees.specs.Siblings.{is_among};
 ghost use Rattle.lx_links.specs.Stands.{Sound};
 ghost use Rattle.lx_outline.specs.Outline.{heading_at};
 ghost use Rattle.lx_outline.specs.Reading.{is_named_in, is_over_one, heading_reads};

@@ -2,7 +2,7 @@
 
 ghost use Rattle.std.specs.Prelude.{◌≡◌, ◌↔◌, IsTrue};
 ghost use Rattle.lx_forest.specs.Lookups.{children_of};
-ghost use Rattle.lx_plain.specs.Allowed.{AreCovered};
+ghost use Rattle.lx_forest.specs.Covered.{AreCovered};
 ghost use Rattle.lx_marks.specs.Marks as marked;
 ghost use Rattle.lx_outline.specs.Events.{IsCreated, IsUpdated};
 ghost use Rattle.lx_outline.specs.Parts.{IsSameNode, HasLeft};

@@ -1,5 +1,5 @@
 ghost use Rattle.std.specs.Prelude.{◌≡◌, ◌==◌, ◌||◌, ◌&&◌, ◌++◌, ℕ, true, [], map, IfOk, OnOk};
-ghost use Rattle.lx_node.specs.Siblings.{is_among, is_named};
+ghost use Rattle.lx_trees.specs.Siblings.{is_among, is_named};
 ghost use Rattle.lx_outline.specs.Events.{ascends, event_of};
 
 use crate::event::Event;

@@ -36,7 +36,7 @@ impl Outline {
     ghost use Rattle.std.specs.Prelude.{◌≡◌, ◌+◌, ◌≤◌, ◌++◌, nat_eq, [], option_map, IfOk, OnOk};
     ghost use Rattle.std.specs.Map.{lookup};
     ghost use Rattle.lx_node.specs.Limits.{most_nodes, most_characters};
-    ghost use Rattle.lx_node.specs.NamedTrees.{total};
+    ghost use Rattle.lx_trees.specs.NamedTrees.{total};
     ghost use Rattle.lx_forest.specs.Forest.{root_alone};
     ghost use Rattle.lx_forest.specs.Lookups.{preorder};
     ghost use Rattle.lx_forest.specs.Weights.{weight};

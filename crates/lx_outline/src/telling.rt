@@ -1,9 +1,9 @@
 //! The events of a commit, from the marks that cover its two trees.
 
 ghost use Rattle.std.specs.Prelude.{◌≡◌, ℕ, true, false, [], ◌∷◌, IfOk, OnOk};
-ghost use Rattle.lx_node.specs.Siblings.{is_among};
+ghost use Rattle.lx_trees.specs.Siblings.{is_among};
 ghost use Rattle.lx_forest.specs.Lookups.{has, roots, IsForest};
-ghost use Rattle.lx_plain.specs.Allowed.{AreCovered};
+ghost use Rattle.lx_forest.specs.Covered.{AreCovered};
 ghost use Rattle.lx_marks.specs.Marks.{is_touched, is_noted};
 ghost use Rattle.lx_outline.specs.Events.{IsCreated, IsUpdated, AreEvents};
 ghost use Rattle.lx_outline.specs.Parts.{IsPart, AreGone, HasLeft, Grows};

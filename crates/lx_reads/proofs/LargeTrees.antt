@@ -1,6 +1,6 @@
 -- Trees that stand alone, before and behind a change of a node's fields.
 use Rattle.std.proofs.Common.{◌≡◌, ◌≢◌, ◌∙◌, ℕ, [], ◌∷◌, true, sym, ap, subst, refl}
-use Rattle.lx_node.specs.Trees.{nil}
+use Rattle.lx_trees.specs.Trees.{nil}
 use Rattle.lx_node.specs.OfKind.{IsOfKind, is_of_kind, fits_kind, is_element_of, is_extra_of, is_plain}
 use Rattle.lx_node.specs.Kinds.{is_possible}
 use Rattle.lx_node.specs.Plain.{plain_element}

@@ -1,7 +1,7 @@
 -- What a step of the code does to `IsAlong`.
 use Rattle.std.proofs.Common.{◌≡◌, ◌∙◌, sym, ap, ℕ, ◌+◌, ◌<◌, ◌≤◌, true, false, cond, eqb, List, [], ◌∷◌, ◌++◌, length, drop, slice_get, Option, None, ◌⊎◌, inl, inr, refl, subst, arith}
-use Rattle.lx_node.specs.Siblings.{is_among, first_of, names_without, NoRepeats}
-use Rattle.lx_node.proofs.Siblings.{is_named_tells}
+use Rattle.lx_trees.specs.Siblings.{is_among, first_of, names_without, NoRepeats}
+use Rattle.lx_trees.proofs.Siblings.{is_named_tells}
 use Rattle.lx_reconcile.specs.declared.moves.Move.{Move}
 use Rattle.lx_reconcile.specs.declared.moves.Move.TheVariants.{Stay, Leave, Make, Place}
 use Rattle.lx_reconcile.specs.declared.progress.Progress.{Progress}

@@ -2,14 +2,14 @@
 use Rattle.std.proofs.Common.{◌≡◌, ◌∙◌, ◌||◌, ℕ, true, false, cond, List, [], ◌∷◌, ◌++◌, map, length, length-append, Option, None, Some, is_none, inl, inr, refl, sym, ap, subst, arith}
 use Rattle.std.proofs.lemmas.Bool.Decides.{eqb_tells}
 use Rattle.std.proofs.lemmas.Bool.{cases_Bool}
-use Rattle.lx_node.specs.Siblings.{is_among, is_named, is_place, NoRepeats, first_of, last_of, next_in, previous_in}
-use Rattle.lx_node.proofs.Siblings.{is_among-append, first_of-among, next_in-among, same_names}
+use Rattle.lx_trees.specs.Siblings.{is_among, is_named, is_place, NoRepeats, first_of, last_of, next_in, previous_in}
+use Rattle.lx_trees.proofs.Siblings.{is_among-append, first_of-among, next_in-among, same_names}
 use Rattle.lx_host.specs.Hosts.{HostTree}
 use Rattle.lx_forest.specs.Forest.{Forest}
 use Rattle.lx_forest.specs.Lookups.{has, parent_of, children_of, first_child}
 use Rattle.lx_forest.proofs.Lookups.{NoRepeats-children_of}
 use Rattle.lx_links.proofs.Placed.{child_named, parent_of-child}
-use Rattle.lx_plain.specs.Allowed.{Marking, IsAlike}
+use Rattle.lx_forest.specs.Covered.{Marking, IsAlike}
 use Rattle.lx_reconcile.specs.declared.windows.Window.{Window}
 use Rattle.lx_reconcile.specs.declared.moves.Move.{Move}
 use Rattle.lx_reconcile.specs.Making.{IsBetween}

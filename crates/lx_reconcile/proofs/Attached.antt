@@ -1,10 +1,10 @@
 -- The root's tree of a forest, as it is read.
 use Rattle.std.proofs.Common.{◌≡◌, ◌≢◌, ◌∙◌, ◌<◌, ℕ, true, cond, ltb, [], ◌∷◌, Option, None, option_map, refl, sym, ap, subst, arith}
 use Rattle.std.proofs.lemmas.Bool.{ltb-true}
-use Rattle.lx_node.specs.Trees.{nil, tree}
-use Rattle.lx_node.specs.NamedTrees.{total}
-use Rattle.lx_node.proofs.NamedTrees.{names-alone}
-use Rattle.lx_node.proofs.Subtrees.{count-alone_self}
+use Rattle.lx_trees.specs.Trees.{nil, tree}
+use Rattle.lx_trees.specs.NamedTrees.{total}
+use Rattle.lx_trees.proofs.NamedTrees.{names-alone}
+use Rattle.lx_trees.proofs.Subtrees.{count-alone_self}
 use Rattle.lx_node.specs.declared.node.Node.{Node}
 use Rattle.lx_node.specs.Kinds.{may_hold}
 use Rattle.lx_forest.specs.Forest.{Forest}

@@ -4,8 +4,8 @@ use Rattle.std.specs.Option.{option_copied}
 use Rattle.std.specs.Slice.{IsGetResult}
 use Rattle.std.proofs.lemmas.Bool.Decides.{eqb_tells}
 use Rattle.std.proofs.lemmas.Bool.{cases_Bool}
-use Rattle.lx_node.specs.Siblings.{is_among, is_named, is_place, NoRepeats, last_of, next_in, from_name, up_to_name}
-use Rattle.lx_node.proofs.Positions.{from_name-step}
+use Rattle.lx_trees.specs.Siblings.{is_among, is_named, is_place, NoRepeats, last_of, next_in, from_name, up_to_name}
+use Rattle.lx_trees.proofs.Positions.{from_name-step}
 use Rattle.lx_reconcile.specs.Windows.{up_to_end, between_names}
 use Rattle.lx_reconcile.proofs.Children.{next_place}
 use Rattle.lx_reconcile.proofs.Shared.{split}

@@ -1,7 +1,7 @@
 -- What each case of a step says of the two next children.
 use Rattle.std.proofs.Common.{◌≡◌, ℕ, Bool, true, false, eqb, not, cond, List, Option, None, Some, ◌⊎◌, inl, inr, refl, subst, arith}
 use Rattle.std.proofs.lemmas.Bool.Decides.{eqb_tells}
-use Rattle.lx_node.specs.Siblings.{is_among}
+use Rattle.lx_trees.specs.Siblings.{is_among}
 use Rattle.lx_reconcile.specs.declared.progress.Case.{Case}
 use Rattle.lx_reconcile.specs.declared.progress.Case.TheVariants as case
 use Rattle.lx_reconcile.specs.Underway.{case_of}

@@ -2,7 +2,7 @@
 use Rattle.std.specs.Bool.{beq}
 use Rattle.std.specs.List.{AllByRecursion}
 use Rattle.std.proofs.Common.{◌≡◌, ◌≢◌, ◌∙◌, ℕ, Bool, true, false, List, [], ◌∷◌, ◌++◌, map, Option, Some, refl, sym, ap, subst, append_assoc, append-nil}
-use Rattle.lx_node.specs.Trees.{Trees, nil, tree}
+use Rattle.lx_trees.specs.Trees.{Trees, nil, tree}
 use Rattle.lx_node.specs.declared.kind.Kind.{Kind}
 use Rattle.lx_node.specs.declared.fields.Fields.{Fields}
 use Rattle.lx_node.specs.declared.fields.Fields.TheVariants as fields
@@ -13,7 +13,7 @@ use Rattle.lx_host.specs.declared.op.Op.{Op}
 use Rattle.lx_host.specs.declared.op.Op.TheVariants.{Text, Attr, Break}
 use Rattle.lx_host.specs.Words.{with_attribute}
 use Rattle.lx_host.specs.Hosts.{Face, Host, with_ending}
-use Rattle.lx_plain.specs.Render.{attributes_of, text_attributes, text_of}
+use Rattle.lx_render.specs.Render.{attributes_of, text_attributes, text_of}
 use Rattle.lx_reconcile.specs.Reconciled.{LeadsAt, IsAt}
 use Rattle.lx_reconcile.specs.Changing.{write_op, all_written, AreAnew, Writes, IsWriteAt, is_text, is_attr, is_break, Changes, shown_face}
 use Rattle.lx_reconcile.proofs.Due.{each_append}

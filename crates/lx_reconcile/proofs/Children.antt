@@ -4,16 +4,16 @@ use Rattle.std.proofs.Common.{Result, Ok, Err, ◌≡◌, ◌∙◌, ◌+◌, �
 use Rattle.std.proofs.lemmas.Bool.Decides.{eqb_tells}
 use Rattle.std.proofs.lemmas.Option.{same_Some}
 use Rattle.lx_node.specs.Limits.{last_u32}
-use Rattle.lx_node.specs.Trees.{nil, tree, joined}
-use Rattle.lx_node.specs.NamedTrees.{total}
-use Rattle.lx_node.specs.Siblings.{is_among, is_place, first_of, last_of, last_from, next_in, from_name}
-use Rattle.lx_node.specs.Spots.{Spot, children_at}
+use Rattle.lx_trees.specs.Trees.{nil, tree, joined}
+use Rattle.lx_trees.specs.NamedTrees.{total}
+use Rattle.lx_trees.specs.Siblings.{is_among, is_place, first_of, last_of, last_from, next_in, from_name}
+use Rattle.lx_trees.specs.Spots.{Spot, children_at}
 use Rattle.lx_node.specs.declared.kind.Kind.{Kind}
 use Rattle.lx_node.specs.declared.fields.Fields.{Fields}
 use Rattle.lx_node.specs.declared.node.Node.{Node}
-use Rattle.lx_node.proofs.NamedTrees.{total-joined}
-use Rattle.lx_node.proofs.Positions.{from_name-first, from_name-step}
-use Rattle.lx_node.proofs.Siblings.{next_in-among}
+use Rattle.lx_trees.proofs.NamedTrees.{total-joined}
+use Rattle.lx_trees.proofs.Positions.{from_name-first, from_name-step}
+use Rattle.lx_trees.proofs.Siblings.{next_in-among}
 use Rattle.lx_host.specs.Hosts.{HostTree, Leads, IsNumbered}
 use Rattle.lx_host.specs.declared.op.Op.{Op}
 use Rattle.lx_host.specs.declared.op.Op.TheVariants.{Place}
@@ -27,7 +27,7 @@ use Rattle.lx_forest.proofs.Walks.{total-alone-lt}
 use Rattle.lx_links.specs.Stands.{node_of, Sound}
 use Rattle.lx_links.proofs.Placed.{parent_of-child}
 use Rattle.lx_links.proofs.Up.{in_order, in_order_at}
-use Rattle.lx_plain.specs.Render.{last_kind, render}
+use Rattle.lx_render.specs.Render.{last_kind, render}
 use Rattle.lx_reconcile.specs.Created.{numbered, create_op, creation, creations, creation_of}
 use Rattle.lx_reconcile.proofs.Created.{host_tree, creation_leads}
 

@@ -3,14 +3,14 @@ use Rattle.std.proofs.Common.{◌≡◌, ◌∙◌, ◌+◌, ◌<◌, ◌≤◌,
 use Rattle.std.proofs.lemmas.Bool.{cases_Bool}
 use Rattle.std.proofs.lemmas.Bool.Decides.{eqb_tells}
 use Rattle.std.proofs.lemmas.Option.{same_Some}
-use Rattle.lx_node.specs.Trees.{nil, tree, joined}
-use Rattle.lx_node.specs.NamedTrees.{total}
-use Rattle.lx_node.specs.Siblings.{is_place, next_in, from_name}
-use Rattle.lx_node.specs.Spots.{Spot, parent_at, children_at}
+use Rattle.lx_trees.specs.Trees.{nil, tree, joined}
+use Rattle.lx_trees.specs.NamedTrees.{total}
+use Rattle.lx_trees.specs.Siblings.{is_place, next_in, from_name}
+use Rattle.lx_trees.specs.Spots.{Spot, parent_at, children_at}
 use Rattle.lx_node.specs.declared.node.Node.{Node}
-use Rattle.lx_node.proofs.NamedTrees.{total-joined, total-without-alone}
-use Rattle.lx_node.proofs.Subtrees.{count-alone-le}
-use Rattle.lx_node.proofs.Positions.{from_name-first}
+use Rattle.lx_trees.proofs.NamedTrees.{total-joined, total-without-alone}
+use Rattle.lx_trees.proofs.Subtrees.{count-alone-le}
+use Rattle.lx_trees.proofs.Positions.{from_name-first}
 use Rattle.lx_host.specs.declared.tag.Tag.{Tag}
 use Rattle.lx_forest.specs.Forest.{Label, Forest}
 use Rattle.lx_forest.specs.Lookups.{key_of, has, alone, spot, siblings, children_of, trees_of, first_child, next_of, is_attached, IsForest}
@@ -20,8 +20,8 @@ use Rattle.lx_forest.proofs.Lookups.{alone-spot}
 use Rattle.lx_forest.proofs.Walks.{spot_in_tree, is_attached-up, total-alone-lt}
 use Rattle.lx_links.specs.Stands.{node_of, Sound}
 use Rattle.lx_links.proofs.Up.{in_order_at}
-use Rattle.lx_plain.specs.Render.{tag_of}
-use Rattle.lx_plain.specs.Allowed.{places_of, tag_number, is_parent, is_only}
+use Rattle.lx_render.specs.Render.{tag_of}
+use Rattle.lx_reconcile.specs.Allowed.{places_of, tag_number, is_parent, is_only}
 use Rattle.lx_reconcile.specs.Counting.{IsInTree, unkept_in}
 use Rattle.lx_reconcile.proofs.Attached.{tree_order}
 use Rattle.lx_reconcile.proofs.Children.{label_from, is_read, tree_read, total_read, child_left, first_place, next_place}

@@ -1,8 +1,8 @@
 -- The marks of a draft cover the tree that it began with and the one that it leaves.
 use Rattle.std.proofs.Common.{◌≡◌, ◌∙◌, ℕ, Bool, true, false, cond, ◌||◌, Option, None, Some, is_some, option_map, inl, inr, refl, sym, ap}
 use Rattle.std.proofs.lemmas.Bool.{cases_Bool}
-use Rattle.lx_node.specs.Siblings.{is_among, next_in, previous_in}
-use Rattle.lx_node.specs.Spots.{Spot, parent_at, children_at}
+use Rattle.lx_trees.specs.Siblings.{is_among, next_in, previous_in}
+use Rattle.lx_trees.specs.Spots.{Spot, parent_at, children_at}
 use Rattle.lx_marks.specs.Marks.{Marked, unmarked, flag_in, is_touched, is_noted, is_true_flag}
 use Rattle.lx_forest.specs.Forest.{Label, Forest}
 use Rattle.lx_forest.specs.Lookups.{has, alone, spot, kind_of, parent_of, previous_of, next_of, children_below, IsForest}
@@ -12,7 +12,7 @@ use Rattle.lx_forest.proofs.Records.{record_at-drop_detached}
 use Rattle.lx_forest.proofs.Edits.{is_some-spot}
 use Rattle.lx_forest.proofs.Walks.{is_attached-up, spot_in_tree}
 use Rattle.lx_draft.specs.Covering.{Covers}
-use Rattle.lx_plain.specs.Allowed.{AreCovered}
+use Rattle.lx_forest.specs.Covered.{AreCovered}
 use Rattle.lx_reconcile.specs.Allowing.{marking}
 
 touched_noted : (m : Marked) (q : ℕ) → is_touched m q ≡ true → is_noted m q ≡ true

@@ -3,9 +3,9 @@ use Rattle.std.proofs.Common.{◌≡◌, ◌≢◌, ◌∙◌, ◌+◌, ◌<◌,
 use Rattle.std.proofs.lemmas.Bool.{cases_lt}
 use Rattle.std.proofs.lemmas.Bool.Decides.{eqb_tells}
 use Rattle.lx_node.specs.Limits.{last_u32}
-use Rattle.lx_node.specs.Trees.{Trees, nil, tree, joined}
-use Rattle.lx_node.specs.NamedTrees.{total}
-use Rattle.lx_node.proofs.NamedTrees as trees
+use Rattle.lx_trees.specs.Trees.{Trees, nil, tree, joined}
+use Rattle.lx_trees.specs.NamedTrees.{total}
+use Rattle.lx_trees.proofs.NamedTrees as trees
 use Rattle.lx_node.specs.declared.kind.Kind.{Kind}
 use Rattle.lx_host.specs.declared.op.Op.{Op}
 use Rattle.lx_host.specs.declared.op.Op.TheVariants.{Place}
@@ -13,8 +13,8 @@ use Rattle.lx_host.specs.Hosts.{Face, Host, HostTree, id_of, one_host, shape_of,
 use Rattle.lx_host.proofs.Laws.{joined-nil, joined-assoc, inserted-None, count-joined, without-joined, alone-joined, put_below-joined, children_of-joined, children_of-absent, without-absent, alone-absent, put_below-absent}
 use Rattle.lx_forest.specs.Forest.{Label, Forest}
 use Rattle.lx_forest.specs.Lookups as forest
-use Rattle.lx_plain.specs.Allowed.{hosts_of}
-use Rattle.lx_plain.specs.Render.{render, face_of, last_kind}
+use Rattle.lx_reconcile.specs.Allowed.{hosts_of}
+use Rattle.lx_render.specs.Render.{render, face_of, last_kind}
 use Rattle.lx_reconcile.specs.Created.{numbered, create_op, creations, creation}
 
 abbrev pub host_tree : Trees Host → ℕ → HostTree

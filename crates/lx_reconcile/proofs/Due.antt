@@ -1,15 +1,15 @@
 -- What each operation owes, one after another.
 use Rattle.std.proofs.Common.{◌+◌, ◌≤◌, ℕ, List, [], ◌∷◌, ◌++◌, Option, None, subst, arith}
 use Rattle.std.specs.List.{AllByRecursion}
-use Rattle.lx_node.specs.Trees.{nil, tree}
-use Rattle.lx_node.specs.NamedTrees.{total}
+use Rattle.lx_trees.specs.Trees.{nil, tree}
+use Rattle.lx_trees.specs.NamedTrees.{total}
 use Rattle.lx_node.specs.declared.kind.Kind.{Kind}
 use Rattle.lx_host.specs.declared.op.Op.{Op}
 use Rattle.lx_host.specs.declared.op.Op.TheVariants.{Place}
 use Rattle.lx_host.specs.Hosts.{HostTree, effect, Leads}
 use Rattle.lx_forest.specs.Forest.{Label, Forest}
-use Rattle.lx_plain.specs.Allowed.{AllWriteAnew, WritesAnew}
-use Rattle.lx_plain.specs.Render.{last_kind}
+use Rattle.lx_reconcile.specs.Allowed.{AllWriteAnew, WritesAnew}
+use Rattle.lx_render.specs.Render.{last_kind}
 use Rattle.lx_reconcile.specs.Created.{create_op, creation, creations}
 
 pub each_append : (P : Op → Type 0) (a b : List Op) → AllByRecursion P a → AllByRecursion P b → AllByRecursion P (a ++ b)

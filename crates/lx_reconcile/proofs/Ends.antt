@@ -2,8 +2,8 @@
 use Rattle.std.proofs.Common.{◌≡◌, ◌∙◌, sym, ap, ℕ, true, false, List, [], ◌∷◌, ◌++◌, refl, arith, subst, append-nil}
 use Rattle.std.proofs.lemmas.List.Elements.{All-nil}
 use Rattle.std.proofs.lemmas.Bool.Decides.{eqb_tells}
-use Rattle.lx_node.specs.Siblings.{is_among, NoRepeats}
-use Rattle.lx_node.proofs.Siblings.{is_among-append}
+use Rattle.lx_trees.specs.Siblings.{is_among, NoRepeats}
+use Rattle.lx_trees.proofs.Siblings.{is_among-append}
 use Rattle.lx_reconcile.specs.declared.moves.Move.{Move}
 use Rattle.lx_reconcile.specs.Walk.{leaving, suits_children, common, missing, IsWalk}
 use Rattle.lx_reconcile.specs.Underway.{IsWalking}

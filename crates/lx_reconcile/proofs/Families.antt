@@ -1,8 +1,8 @@
 -- The trees of some keys, one after another: what is read of them, and what edits make of them.
 use Rattle.std.proofs.Common.{◌≡◌, ◌≢◌, ◌∙◌, ◌+◌, ◌<◌, ◌≤◌, ℕ, Bool, true, false, cond, eqb, List, [], ◌∷◌, map, Option, option_map, inl, inr, refl, sym, ap, arith, ne_eqb, eq-eqb}
 use Rattle.std.proofs.lemmas.Bool.Decides.{eqb_tells}
-use Rattle.lx_node.specs.Trees.{Trees, nil, tree, joined}
-use Rattle.lx_node.specs.Siblings.{is_among, is_named, NoRepeats, names_without, names_with}
+use Rattle.lx_trees.specs.Trees.{Trees, nil, tree, joined}
+use Rattle.lx_trees.specs.Siblings.{is_among, is_named, NoRepeats, names_without, names_with}
 use Rattle.lx_host.specs.Hosts.{Host, count, without, alone, ids_of, inserted}
 use Rattle.lx_host.proofs.Laws.{joined-nil, count-joined, without-joined, alone-joined, without-absent, alone-absent}
 use Rattle.lx_reconcile.specs.Reconciled.{replaced, flat, IsAt}

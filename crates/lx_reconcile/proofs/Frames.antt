@@ -3,12 +3,12 @@ use Rattle.std.proofs.Common.{◌≡◌, ◌≢◌, ◌∙◌, ◌+◌, ◌<◌,
 use Rattle.std.proofs.lemmas.Bool.{cases_lt, ne_eqb, eq-eqb, ltb-true}
 use Rattle.std.proofs.lemmas.Bool.Decides.{eqb_tells}
 use Rattle.lx_node.specs.Limits.{last_u32}
-use Rattle.lx_node.specs.Trees.{Trees, nil, tree, joined}
-use Rattle.lx_node.specs.NamedTrees.{total}
-use Rattle.lx_node.specs.Siblings.{is_among}
-use Rattle.lx_node.proofs.NamedTrees as trees
-use Rattle.lx_node.proofs.Spots as spots
-use Rattle.lx_node.proofs.Subtrees as subtrees
+use Rattle.lx_trees.specs.Trees.{Trees, nil, tree, joined}
+use Rattle.lx_trees.specs.NamedTrees.{total}
+use Rattle.lx_trees.specs.Siblings.{is_among}
+use Rattle.lx_trees.proofs.NamedTrees as trees
+use Rattle.lx_trees.proofs.Spots as spots
+use Rattle.lx_trees.proofs.Subtrees as subtrees
 use Rattle.lx_host.specs.declared.op.Op.{Op}
 use Rattle.lx_host.specs.declared.op.Op.TheVariants.{Place, Drop, Text, Attr, Break}
 use Rattle.lx_host.specs.declared.tag.Name.{Name}
@@ -17,10 +17,10 @@ use Rattle.lx_host.specs.Branches.{has_before}
 use Rattle.lx_host.proofs.Laws.{joined-nil, joined-assoc, count-joined, without-joined, alone-joined, put_below-joined, changed-joined, children_of-joined, without-absent, alone-absent, put_below-absent, changed-absent, children_of-absent, count-without-alone, count-changed}
 use Rattle.lx_host.proofs.Standing.{effect_place, effect_drop}
 use Rattle.lx_forest.specs.Forest.{Label, Forest}
-use Rattle.lx_plain.specs.Render.{render, face_of, last_kind}
+use Rattle.lx_render.specs.Render.{render, face_of, last_kind}
 use Rattle.lx_reconcile.specs.Created.{numbered, creation}
 use Rattle.lx_reconcile.specs.Reconciled.{replaced, LeadsAt, IsAt}
-use Rattle.lx_plain.specs.Allowed.{AllWriteAnew, WritesAnew}
+use Rattle.lx_reconcile.specs.Allowed.{AllWriteAnew, WritesAnew}
 use Rattle.lx_reconcile.proofs.Due.{writes_append, creation_writes}
 use Rattle.lx_reconcile.proofs.Created.{host_tree, Leads-append, has_if, has_not, host_over, count_here, alone_last, without_last, count-numbered_before, count-numbered_behind, count-numbered, created_alone, total-render}
 

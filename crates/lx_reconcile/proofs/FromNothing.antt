@@ -7,10 +7,10 @@ use Rattle.std.specs.declared.cmp.Ordering.{Ordering}
 use Rattle.std.specs.declared.cmp.Ordering.TheVariants.{Less, Equal, Greater}
 use Rattle.std.specs.Ordering.{is_lt, ordering_reverse}
 use Rattle.lx_node.specs.Limits.{last_u32}
-use Rattle.lx_node.specs.Trees.{nil, tree}
+use Rattle.lx_trees.specs.Trees.{nil, tree}
 use Rattle.lx_node.specs.Kinds.{is_text_block}
-use Rattle.lx_node.specs.NamedTrees.{total}
-use Rattle.lx_node.proofs.NamedTrees.{total-without-alone}
+use Rattle.lx_trees.specs.NamedTrees.{total}
+use Rattle.lx_trees.proofs.NamedTrees.{total-without-alone}
 use Rattle.lx_node.specs.declared.kind.Kind.TheVariants.{Root}
 use Rattle.lx_node.specs.declared.node.Node.{Node}
 use Rattle.lx_host.specs.declared.tag.Name.{Name}
@@ -25,8 +25,8 @@ use Rattle.lx_forest.specs.Lookups.{key_of, alone, trees_of, children_of}
 use Rattle.lx_forest.specs.Records.{record_at}
 use Rattle.lx_forest.proofs.Edits.{has-root}
 use Rattle.lx_links.specs.Stands.{node_of, Sound}
-use Rattle.lx_plain.specs.Allowed.{Shows}
-use Rattle.lx_plain.specs.Render.{render, face_of, last_kind, attributes_of, text_of}
+use Rattle.lx_reconcile.specs.Allowed.{Shows}
+use Rattle.lx_render.specs.Render.{render, face_of, last_kind, attributes_of, text_of}
 use Rattle.lx_reconcile.specs.Created.{numbered, creations, attribute_ops, text_ops, fresh_ops}
 use Rattle.lx_render.proofs.Rising.{attributes_are}
 use Rattle.lx_reconcile.proofs.Children.{stands_there, is_read, tree_read, total_read}

@@ -1,7 +1,7 @@
 -- What is frozen of a draft: the tree that the sweep leaves, alone, and the marks of the whole update.
 use Rattle.std.proofs.Common.{◌≡◌, ◌∙◌, ℕ, true, [], ◌∷◌, Option, None, Some, is_some, option_map, refl, ap, sym, arith}
-use Rattle.lx_node.specs.Spots.{Spot}
-use Rattle.lx_node.proofs.NamedTrees.{names-alone}
+use Rattle.lx_trees.specs.Spots.{Spot}
+use Rattle.lx_trees.proofs.NamedTrees.{names-alone}
 use Rattle.lx_select.specs.declared.selection.Selection.{Selection}
 use Rattle.lx_marks.specs.Marks.{Marked}
 use Rattle.lx_forest.specs.Forest.{Label, Forest}

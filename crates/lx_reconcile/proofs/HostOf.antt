@@ -3,9 +3,9 @@ use Rattle.std.proofs.Common.{◌≡◌, ◌∙◌, ℕ, true, cond, [], ◌∷�
 use Rattle.std.specs.Prelude.{unwrap_or}
 use Rattle.std.proofs.lemmas.Bool.Decides.{eqb_tells}
 use Rattle.std.proofs.lemmas.Bool.{cases_lt}
-use Rattle.lx_node.specs.Trees.{Trees, nil, tree}
-use Rattle.lx_node.specs.NamedTrees as named
-use Rattle.lx_node.specs.Siblings.{first_of}
+use Rattle.lx_trees.specs.Trees.{Trees, nil, tree}
+use Rattle.lx_trees.specs.NamedTrees as named
+use Rattle.lx_trees.specs.Siblings.{first_of}
 use Rattle.lx_host.specs.Branches.{IsRooted}
 use Rattle.lx_host.specs.Hosts.{Host, HostTree}
 use Rattle.lx_host.specs.Html.{first_tree}
@@ -13,7 +13,7 @@ use Rattle.lx_host.specs.Lookups.{lesser, host_of}
 use Rattle.lx_forest.specs.Forest.{Forest}
 use Rattle.lx_forest.specs.Lookups as forest
 use Rattle.lx_forest.specs.Lookups.{IsForest}
-use Rattle.lx_plain.specs.Allowed.{Shows, hosts_of}
+use Rattle.lx_reconcile.specs.Allowed.{Shows, hosts_of}
 use Rattle.lx_reconcile.specs.Reconciled.{host_in, IsAt}
 use Rattle.lx_reconcile.proofs.Shown.{key_in, hosts_of-none, count-shown}
 use Rattle.lx_reconcile.proofs.StartEnd.{count_one, only_host, root_at, one_tree}

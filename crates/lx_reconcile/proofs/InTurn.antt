@@ -2,9 +2,9 @@
 use Rattle.std.proofs.Common.{◌≡◌, ap, ℕ, Bool, true, eqb, ◌||◌, ◌&&◌, not, List, [], ◌∷◌, ◌++◌, map, Option, None, Some, refl, arith}
 use Rattle.std.specs.List.{list_any}
 use Rattle.std.proofs.lemmas.Bool.Decides.{eqb_tells}
-use Rattle.lx_node.specs.Siblings.{is_among, NoRepeats, names_without}
-use Rattle.lx_node.proofs.Siblings.{is_among-names_without}
-use Rattle.lx_node.proofs.Positions.{NoRepeats-names_without}
+use Rattle.lx_trees.specs.Siblings.{is_among, NoRepeats, names_without}
+use Rattle.lx_trees.proofs.Siblings.{is_among-names_without}
+use Rattle.lx_trees.proofs.Positions.{NoRepeats-names_without}
 use Rattle.lx_reconcile.specs.declared.moves.Move.{Move}
 use Rattle.lx_reconcile.specs.declared.moves.Move.TheVariants.{Stay, Leave, Make, Place}
 use Rattle.lx_reconcile.specs.Walk.{child_of, before_of, moved, can_move, all_moved, CanAllMove, standing, leaving, is_waiting, BeforeUnhandled}

@@ -3,18 +3,18 @@ use Rattle.std.proofs.Common.{◌≡◌, ◌∙◌, ◌<◌, ℕ, true, false, c
 use Rattle.std.proofs.lemmas.Option.{same_Some}
 use Rattle.std.proofs.lemmas.Bool.Decides.{eqb_tells}
 use Rattle.std.proofs.lemmas.Bool.{cases_lt, cases_eq}
-use Rattle.lx_node.specs.Trees.{nil, tree}
-use Rattle.lx_node.specs.Siblings.{is_among, is_named}
-use Rattle.lx_node.specs.Spots.{Spot, spot_below, parent_at}
-use Rattle.lx_node.proofs.Spots.{spot_below-absent, option_or-None}
+use Rattle.lx_trees.specs.Trees.{nil, tree}
+use Rattle.lx_trees.specs.Siblings.{is_among, is_named}
+use Rattle.lx_trees.specs.Spots.{Spot, spot_below, parent_at}
+use Rattle.lx_trees.proofs.Spots.{spot_below-absent, option_or-None}
 use Rattle.lx_host.specs.declared.tag.Tag.{Tag}
 use Rattle.lx_forest.specs.Forest.{Label, Forest}
 use Rattle.lx_forest.specs.Lookups.{key_of, spot, count, has, label_of, parent_of, children_of, is_within, IsForest}
 use Rattle.lx_forest.proofs.Edits.{has-root, parent_of-root}
 use Rattle.lx_forest.proofs.Lookups.{is_among-children_of, has-child}
 use Rattle.lx_forest.proofs.Within.{is_within-up, is_within-top}
-use Rattle.lx_plain.specs.Render.{tag_of}
-use Rattle.lx_plain.specs.Allowed.{places_of, IsKept, kept_root, kept_below}
+use Rattle.lx_render.specs.Render.{tag_of}
+use Rattle.lx_reconcile.specs.Allowed.{places_of, IsKept, kept_root, kept_below}
 
 -- where a spot is, and as which tag
 abbrev pub places_at : Option (Spot Label) → List (Option ℕ × Tag)

@@ -7,18 +7,18 @@ use Rattle.std.proofs.lemmas.Bool.Decides.{eqb_tells}
 use Rattle.std.proofs.lemmas.Bool.{cases_lt, cases_Bool}
 use Rattle.std.proofs.lemmas.Option.{same_Some}
 use Rattle.indexmap.specs.IndexMap.{get}
-use Rattle.lx_node.specs.Trees.{Trees, nil, tree}
-use Rattle.lx_node.specs.NamedTrees as named
-use Rattle.lx_node.specs.Siblings.{is_among, is_named, NoRepeats, names_without}
-use Rattle.lx_node.specs.Spots.{Spot, spot, children_at}
-use Rattle.lx_node.proofs.NamedTrees as trees
-use Rattle.lx_node.proofs.Siblings.{is_among-append, is_among-names_without}
+use Rattle.lx_trees.specs.Trees.{Trees, nil, tree}
+use Rattle.lx_trees.specs.NamedTrees as named
+use Rattle.lx_trees.specs.Siblings.{is_among, is_named, NoRepeats, names_without}
+use Rattle.lx_trees.specs.Spots.{Spot, spot, children_at}
+use Rattle.lx_trees.proofs.NamedTrees as trees
+use Rattle.lx_trees.proofs.Siblings.{is_among-append, is_among-names_without}
 use Rattle.lx_marks.specs.Marks.{Marked, is_noted}
 use Rattle.lx_marks.proofs.Flags.{is_some-flag_in}
-use Rattle.lx_rooted.specs.Lookups as rooted
-use Rattle.lx_rooted.specs.Lookups.{IsOrdered, parent_of}
-use Rattle.lx_rooted.proofs.Lookups as lookups
-use Rattle.lx_rooted.proofs.Edits.{is_some-spot}
+use Rattle.lx_trees.specs.Lookups as rooted
+use Rattle.lx_trees.specs.Lookups.{IsOrdered, parent_of}
+use Rattle.lx_trees.proofs.Lookups as lookups
+use Rattle.lx_trees.proofs.Edits.{is_some-spot}
 use Rattle.lx_host.specs.Branches.{IsRooted}
 use Rattle.lx_host.specs.Hosts.{Host, HostTree, id_of, count, alone, ids_of}
 use Rattle.lx_host.specs.Html.{first_tree}
@@ -27,7 +27,7 @@ use Rattle.lx_forest.specs.Forest.{Forest}
 use Rattle.lx_forest.specs.Lookups as forest
 use Rattle.lx_forest.specs.Lookups.{children_of}
 use Rattle.lx_forest.proofs.Lookups.{NoRepeats-children_of}
-use Rattle.lx_plain.specs.Allowed.{Marking}
+use Rattle.lx_forest.specs.Covered.{Marking}
 use Rattle.lx_reconcile.specs.declared.family.Family.{Family}
 use Rattle.lx_reconcile.specs.Families.{right_above, host_above, shown_below, family_of, with_child, marked_keys, AreFamilies}
 use Rattle.lx_reconcile.specs.Making.{IsBetween}

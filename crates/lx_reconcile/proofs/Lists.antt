@@ -1,8 +1,8 @@
 -- Laws of lists of names: what two lists have in common, and what each lacks.
 use Rattle.std.proofs.Common.{◌≡◌, sym, ap, ℕ, ◌+◌, true, false, cond, ◌&&◌, not, List, [], ◌∷◌, ◌++◌, length, Option, refl, arith, append-nil}
 use Rattle.std.proofs.lemmas.Bool.Decides.{eqb_tells}
-use Rattle.lx_node.specs.Siblings.{is_named, is_among, NoRepeats, first_of, names_without, names_with}
-use Rattle.lx_node.proofs.Siblings.{is_among-append, is_among-names_with}
+use Rattle.lx_trees.specs.Siblings.{is_named, is_among, NoRepeats, first_of, names_without, names_with}
+use Rattle.lx_trees.proofs.Siblings.{is_among-append, is_among-names_with}
 use Rattle.lx_reconcile.specs.Walk.{common, missing}
 
 -- ---- what is among them

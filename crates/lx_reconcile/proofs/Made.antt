@@ -6,12 +6,12 @@ use Rattle.std.proofs.lemmas.List.{take_more, drop_more, take-append-drop}
 use Rattle.std.proofs.lemmas.Option.{same_Some}
 use Rattle.std.proofs.lemmas.Result.{on_ok_weaker}
 use Rattle.lx_node.specs.Limits.{last_u32}
-use Rattle.lx_node.specs.Trees.{Trees, nil, tree}
-use Rattle.lx_node.specs.NamedTrees.{total}
-use Rattle.lx_node.specs.Siblings.{is_among}
-use Rattle.lx_node.specs.Spots.{Spot}
+use Rattle.lx_trees.specs.Trees.{Trees, nil, tree}
+use Rattle.lx_trees.specs.NamedTrees.{total}
+use Rattle.lx_trees.specs.Siblings.{is_among}
+use Rattle.lx_trees.specs.Spots.{Spot}
 use Rattle.lx_node.specs.declared.node.Node.{Node}
-use Rattle.lx_node.proofs.NamedTrees.{total-joined}
+use Rattle.lx_trees.proofs.NamedTrees.{total-joined}
 use Rattle.lx_host.specs.declared.op.Op.{Op}
 use Rattle.lx_host.specs.declared.op.Op.TheVariants as op
 use Rattle.lx_host.specs.Hosts.{Host, HostTree}
@@ -24,8 +24,9 @@ use Rattle.lx_forest.proofs.Lookups.{has-child, has-parent_of}
 use Rattle.lx_forest.proofs.Walks.{total-alone-lt}
 use Rattle.lx_links.specs.Stands.{node_of}
 use Rattle.lx_links.proofs.Placed.{parent_of-child}
-use Rattle.lx_plain.specs.Allowed.{Marking, KeepsOrder, common, hosts_of, unkept}
-use Rattle.lx_plain.specs.Render.{tag_of}
+use Rattle.lx_forest.specs.Covered.{Marking}
+use Rattle.lx_reconcile.specs.Allowed.{KeepsOrder, common, hosts_of, unkept}
+use Rattle.lx_render.specs.Render.{tag_of}
 use Rattle.lx_reconcile.specs.declared.moves.Move.{Move}
 use Rattle.lx_reconcile.specs.declared.moves.Move.TheVariants.{Stay, Leave, Make, Place}
 use Rattle.lx_reconcile.specs.Created.{creation_of}

@@ -1,8 +1,8 @@
 -- A child of a node as a reader sees it, among its siblings.
 use Rattle.std.proofs.Common.{◌≡◌, ◌∙◌, ℕ, true, Option, None, Some, option_map, sym, ap}
 use Rattle.std.proofs.lemmas.Option.{same_Some}
-use Rattle.lx_node.specs.Siblings.{is_among, is_place, NoRepeats, next_in, previous_in}
-use Rattle.lx_node.specs.Spots.{Spot}
+use Rattle.lx_trees.specs.Siblings.{is_among, is_place, NoRepeats, next_in, previous_in}
+use Rattle.lx_trees.specs.Spots.{Spot}
 use Rattle.lx_node.specs.declared.node.Node.{Node}
 use Rattle.lx_forest.specs.Forest.{Label, Forest}
 use Rattle.lx_forest.specs.Lookups.{has, spot, children_of, children_below, siblings, next_of}

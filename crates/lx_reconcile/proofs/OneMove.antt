@@ -3,19 +3,19 @@ use Rattle.std.proofs.Common.{◌≡◌, ◌≢◌, ◌∙◌, ◌+◌, ◌<◌,
 use Rattle.std.proofs.lemmas.Bool.Decides.{eqb_tells}
 use Rattle.std.proofs.lemmas.Bool.{cases_lt, cases_Bool}
 use Rattle.lx_node.specs.Limits.{last_u32}
-use Rattle.lx_node.specs.Trees.{Trees, nil, tree}
-use Rattle.lx_node.specs.NamedTrees.{total}
-use Rattle.lx_node.specs.Siblings.{is_among, is_named, is_place, NoRepeats, names_without, names_with}
-use Rattle.lx_node.proofs.NamedTrees as trees
-use Rattle.lx_node.proofs.Siblings.{is_among-names_without, is_among-names_with}
-use Rattle.lx_node.proofs.Spots.{is_among-names}
+use Rattle.lx_trees.specs.Trees.{Trees, nil, tree}
+use Rattle.lx_trees.specs.NamedTrees.{total}
+use Rattle.lx_trees.specs.Siblings.{is_among, is_named, is_place, NoRepeats, names_without, names_with}
+use Rattle.lx_trees.proofs.NamedTrees as trees
+use Rattle.lx_trees.proofs.Siblings.{is_among-names_without, is_among-names_with}
+use Rattle.lx_trees.proofs.Spots.{is_among-names}
 use Rattle.lx_host.specs.declared.op.Op.{Op}
 use Rattle.lx_host.specs.declared.op.Op.TheVariants.{Place, Drop}
 use Rattle.lx_host.specs.Branches.{has_before}
 use Rattle.lx_host.specs.Hosts.{Host, id_of, count, without, alone, ids_of, inserted, fits_before}
 use Rattle.lx_host.proofs.Laws.{count-joined, without-joined, without-absent}
 use Rattle.lx_forest.specs.Forest.{Label, Forest}
-use Rattle.lx_plain.specs.Render.{render}
+use Rattle.lx_render.specs.Render.{render}
 use Rattle.lx_reconcile.specs.Created.{numbered, creation}
 use Rattle.lx_reconcile.specs.Reconciled.{replaced, LeadsAt, flat}
 use Rattle.lx_reconcile.proofs.Created.{count-numbered_before}

@@ -3,7 +3,7 @@
 use Rattle.std.proofs.Common.{◌≡◌, ◌∙◌, ◌+◌, ◌≤◌, ℕ, Bool, true, false, List, [], ◌∷◌, ◌++◌, map, Some, option_map, sym, ap, subst, arith, append-nil}
 use Rattle.std.proofs.lemmas.Bool.Decides.{eqb_tells}
 use Rattle.lx_node.specs.Limits.{last_u32}
-use Rattle.lx_node.specs.Siblings.{is_among}
+use Rattle.lx_trees.specs.Siblings.{is_among}
 use Rattle.lx_node.specs.declared.node.Node.{Node}
 use Rattle.lx_host.specs.declared.op.Op.{Op}
 use Rattle.lx_host.specs.Hosts.{Face, Host, HostTree, with_ending}
@@ -12,8 +12,9 @@ use Rattle.lx_forest.specs.Lookups.{children_of, trees_of}
 use Rattle.lx_forest.specs.Records.{record_at}
 use Rattle.lx_forest.specs.Views.{kind_at}
 use Rattle.lx_links.specs.Stands.{node_of}
-use Rattle.lx_plain.specs.Allowed.{Marking, unkept}
-use Rattle.lx_plain.specs.Render.{tag_of, needs_break}
+use Rattle.lx_forest.specs.Covered.{Marking}
+use Rattle.lx_reconcile.specs.Allowed.{unkept}
+use Rattle.lx_render.specs.Render.{tag_of, needs_break}
 use Rattle.lx_reconcile.specs.declared.moves.Move.{Move}
 use Rattle.lx_reconcile.specs.declared.moves.Move.TheVariants.{Stay}
 use Rattle.lx_reconcile.specs.Changing.{Changes}

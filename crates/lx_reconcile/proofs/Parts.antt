@@ -6,9 +6,9 @@ use Rattle.std.proofs.lemmas.Bool.Decides.{eqb_tells}
 use Rattle.std.proofs.lemmas.List.{append_cancel_left, append_cancel_right}
 use Rattle.std.proofs.lemmas.List.Elements.{All-append, All-from_recursion, recursion_from_All}
 use Rattle.std.proofs.lemmas.List.Folds.{list_any-append}
-use Rattle.lx_node.specs.Siblings.{is_among, is_named, is_place, NoRepeats, first_of, names_without, names_with}
-use Rattle.lx_node.proofs.Siblings.{is_among-append, is_among-names_without, names_without-absent_list}
-use Rattle.lx_node.proofs.Positions.{NoRepeats-names_without}
+use Rattle.lx_trees.specs.Siblings.{is_among, is_named, is_place, NoRepeats, first_of, names_without, names_with}
+use Rattle.lx_trees.proofs.Siblings.{is_among-append, is_among-names_without, names_without-absent_list}
+use Rattle.lx_trees.proofs.Positions.{NoRepeats-names_without}
 use Rattle.lx_reconcile.specs.declared.moves.Move.{Move}
 use Rattle.lx_reconcile.specs.declared.moves.Move.TheVariants.{Stay, Leave, Make, Place}
 use Rattle.lx_reconcile.specs.Walk.{child_of, before_of, moved, can_move, suits_children, is_placing, all_moved, CanAllMove, standing, leaving, is_waiting, BeforeUnhandled, common, missing, IsWalk, toward, IsPart}

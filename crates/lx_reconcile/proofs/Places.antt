@@ -1,7 +1,7 @@
 -- Lists of children from a place on.
 use Rattle.std.proofs.Common.{◌≡◌, ◌∙◌, sym, ap, ℕ, zero, suc, ◌+◌, ◌<◌, ◌≤◌, true, false, cond, List, [], ◌∷◌, ◌++◌, length, drop, take, get_or, slice_get, None, Some, refl, arith}
 use Rattle.std.proofs.lemmas.Bool.Decides.{eqb_tells}
-use Rattle.lx_node.specs.Siblings.{is_among, first_of, NoRepeats}
+use Rattle.lx_trees.specs.Siblings.{is_among, first_of, NoRepeats}
 use Rattle.lx_reconcile.specs.Walk.{missing}
 use Rattle.lx_reconcile.specs.Underway.{with_handled}
 

@@ -2,16 +2,16 @@
 use Rattle.std.proofs.Common.{◌≡◌, ◌∙◌, ◌+◌, ◌*◌, ◌<◌, ◌≤◌, ◌⊎◌, ℕ, Bool, true, false, cond, eqb, ◌&&◌, List, [], ◌∷◌, ◌++◌, length, Option, None, Some, inl, inr, refl, sym, ap, arith, append-nil}
 use Rattle.std.proofs.lemmas.Bool.{cases_Bool, cases_lt}
 use Rattle.std.proofs.lemmas.Bool.Decides.{eqb_tells}
-use Rattle.lx_node.specs.Trees.{nil, tree, joined}
-use Rattle.lx_node.specs.NamedTrees as named
-use Rattle.lx_node.specs.NamedTrees.{total}
-use Rattle.lx_node.specs.Siblings.{is_among, NoRepeats, names_without}
-use Rattle.lx_node.proofs.NamedTrees.{is_among-preorder, NoRepeats-preorder}
-use Rattle.lx_node.proofs.Siblings.{is_among-names_without, names_without-absent_list}
-use Rattle.lx_node.proofs.Spots.{children_at-spot_below}
+use Rattle.lx_trees.specs.Trees.{nil, tree, joined}
+use Rattle.lx_trees.specs.NamedTrees as named
+use Rattle.lx_trees.specs.NamedTrees.{total}
+use Rattle.lx_trees.specs.Siblings.{is_among, NoRepeats, names_without}
+use Rattle.lx_trees.proofs.NamedTrees.{is_among-preorder, NoRepeats-preorder}
+use Rattle.lx_trees.proofs.Siblings.{is_among-names_without, names_without-absent_list}
+use Rattle.lx_trees.proofs.Spots.{children_at-spot_below}
 use Rattle.lx_forest.specs.Forest.{Label, Forest}
 use Rattle.lx_forest.specs.Lookups.{key_of, has, count, alone, roots, children_of, trees_of, IsForest}
-use Rattle.lx_plain.specs.Allowed.{unkept, marked_children, staying}
+use Rattle.lx_reconcile.specs.Allowed.{unkept, marked_children, staying}
 use Rattle.lx_reconcile.specs.Reading.{reads_in}
 use Rattle.lx_reconcile.proofs.Children.{stands_there}
 use Rattle.lx_reconcile.proofs.UnkeptNodes.{kept_here}

@@ -2,8 +2,8 @@
 use Rattle.std.proofs.Common.{◌≡◌, ◌∙◌, ◌+◌, ◌≤◌, ◌<◌, ◌||◌, ℕ, Bool, true, false, cond, List, [], ◌∷◌, ◌++◌, length, length-append, Option, None, Some, is_some, refl, sym, ap, subst, arith, append_assoc, inl, inr}
 use Rattle.std.proofs.lemmas.Bool.Decides.{eqb_tells}
 use Rattle.std.proofs.lemmas.Bool.{cases_Bool}
-use Rattle.lx_node.specs.Siblings.{is_among, NoRepeats, first_of, last_of, next_in, previous_in}
-use Rattle.lx_node.proofs.Siblings.{is_among-append, first_of-among}
+use Rattle.lx_trees.specs.Siblings.{is_among, NoRepeats, first_of, last_of, next_in, previous_in}
+use Rattle.lx_trees.proofs.Siblings.{is_among-append, first_of-among}
 use Rattle.lx_reconcile.specs.declared.windows.Window.{Window}
 use Rattle.lx_reconcile.specs.Windows.{IsWindow, marked_among, Takes, IsWindowOfMarks}
 use Rattle.lx_reconcile.proofs.Lists.{NoRepeats-right, apart}

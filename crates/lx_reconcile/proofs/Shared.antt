@@ -2,9 +2,9 @@
 -- begins and ends.
 use Rattle.std.proofs.Common.{◌≡◌, ◌∙◌, ◌||◌, ℕ, true, false, List, [], ◌∷◌, ◌++◌, Option, None, Some, refl, sym, ap, subst, arith, append-nil, append_assoc, inl, inr}
 use Rattle.std.proofs.lemmas.Bool.Decides.{eqb_tells}
-use Rattle.lx_node.specs.Siblings.{is_among, NoRepeats, first_of, last_from, last_of, next_in, previous_from, previous_in, from_name, up_to_name}
-use Rattle.lx_node.proofs.Siblings.{is_among-append, is_named_tells, is_none-previous_in}
-use Rattle.lx_node.proofs.Positions.{from_name-first, from_name-step}
+use Rattle.lx_trees.specs.Siblings.{is_among, NoRepeats, first_of, last_from, last_of, next_in, previous_from, previous_in, from_name, up_to_name}
+use Rattle.lx_trees.proofs.Siblings.{is_among-append, is_named_tells, is_none-previous_in}
+use Rattle.lx_trees.proofs.Positions.{from_name-first, from_name-step}
 use Rattle.lx_reconcile.specs.Windows.{up_to_end, between_names}
 use Rattle.lx_reconcile.proofs.Lists.{NoRepeats-right, apart}
 

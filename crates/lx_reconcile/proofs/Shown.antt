@@ -4,20 +4,20 @@ use Rattle.std.specs.Prelude.{unwrap_or}
 use Rattle.std.specs.Option.{option_or}
 use Rattle.std.proofs.lemmas.Bool.Decides.{eqb_tells}
 use Rattle.std.proofs.lemmas.Bool.{cases_lt}
-use Rattle.lx_node.specs.Trees.{Trees, nil, tree, joined}
-use Rattle.lx_node.specs.NamedTrees as named
-use Rattle.lx_node.specs.Siblings.{is_among, first_of}
-use Rattle.lx_node.specs.Spots.{Spot, spot_below}
-use Rattle.lx_node.proofs.NamedTrees as trees
-use Rattle.lx_node.proofs.Siblings.{is_among-append}
-use Rattle.lx_node.proofs.Spots.{option_map-option_or}
+use Rattle.lx_trees.specs.Trees.{Trees, nil, tree, joined}
+use Rattle.lx_trees.specs.NamedTrees as named
+use Rattle.lx_trees.specs.Siblings.{is_among, first_of}
+use Rattle.lx_trees.specs.Spots.{Spot, spot_below}
+use Rattle.lx_trees.proofs.NamedTrees as trees
+use Rattle.lx_trees.proofs.Siblings.{is_among-append}
+use Rattle.lx_trees.proofs.Spots.{option_map-option_or}
 use Rattle.lx_host.specs.Hosts.{Face, Host, shape_of, count, alone}
 use Rattle.lx_host.proofs.Laws.{alone-absent}
 use Rattle.lx_forest.specs.Forest.{Label, Forest}
 use Rattle.lx_forest.specs.Lookups as forest
 use Rattle.lx_forest.specs.Lookups.{key_of}
-use Rattle.lx_plain.specs.Render.{render, face_of, last_kind}
-use Rattle.lx_plain.specs.Allowed.{hosts_of}
+use Rattle.lx_render.specs.Render.{render, face_of, last_kind}
+use Rattle.lx_reconcile.specs.Allowed.{hosts_of}
 
 -- the key of the node that a host shows
 abbrev pub key_in : Host → ℕ

@@ -3,10 +3,10 @@ use Rattle.std.proofs.Common.{◌≡◌, ◌∙◌, ◌+◌, ◌<◌, ℕ, true,
 use Rattle.std.proofs.lemmas.Bool.{cases_Bool}
 use Rattle.std.proofs.lemmas.Bool.Decides.{eqb_tells}
 use Rattle.std.proofs.lemmas.Option.{same_Some}
-use Rattle.lx_node.specs.Trees.{nil, tree, joined}
-use Rattle.lx_node.specs.NamedTrees.{total}
-use Rattle.lx_node.specs.Siblings.{is_among}
-use Rattle.lx_node.specs.Spots.{Spot, children_at}
+use Rattle.lx_trees.specs.Trees.{nil, tree, joined}
+use Rattle.lx_trees.specs.NamedTrees.{total}
+use Rattle.lx_trees.specs.Siblings.{is_among}
+use Rattle.lx_trees.specs.Spots.{Spot, children_at}
 use Rattle.lx_host.specs.Hosts.{HostTree}
 use Rattle.lx_host.specs.declared.op.Op.{Op}
 use Rattle.lx_forest.specs.Forest.{Label, Forest}
@@ -15,7 +15,7 @@ use Rattle.lx_forest.proofs.Edits.{key-spot, is_some-spot}
 use Rattle.lx_forest.proofs.Lookups.{alone-spot}
 use Rattle.lx_forest.proofs.Walks.{total-alone-lt}
 use Rattle.lx_links.proofs.Placed.{parent_of-child}
-use Rattle.lx_plain.specs.Allowed.{Marking, IsAlike}
+use Rattle.lx_forest.specs.Covered.{Marking, IsAlike}
 use Rattle.lx_reconcile.specs.Handled.{IsReconciled}
 use Rattle.lx_reconcile.specs.Making.{IsBetween, Reconciles}
 use Rattle.lx_reconcile.proofs.StartEnd.{child_stands}

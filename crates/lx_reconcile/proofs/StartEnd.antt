@@ -4,12 +4,12 @@ use Rattle.std.specs.List.{AllByRecursion}
 use Rattle.std.proofs.lemmas.Bool.Decides.{eqb_tells}
 use Rattle.std.proofs.lemmas.Bool.{cases_lt}
 use Rattle.std.proofs.lemmas.Option.{same_Some}
-use Rattle.lx_node.specs.Trees.{Trees, nil, tree, joined}
-use Rattle.lx_node.specs.NamedTrees as named
-use Rattle.lx_node.specs.Siblings.{is_among, is_named}
-use Rattle.lx_node.specs.Spots.{Spot, spot_below, children_at}
-use Rattle.lx_node.proofs.NamedTrees as trees
-use Rattle.lx_node.proofs.Subtrees.{alone-spot_below, count-alone-le}
+use Rattle.lx_trees.specs.Trees.{Trees, nil, tree, joined}
+use Rattle.lx_trees.specs.NamedTrees as named
+use Rattle.lx_trees.specs.Siblings.{is_among, is_named}
+use Rattle.lx_trees.specs.Spots.{Spot, spot_below, children_at}
+use Rattle.lx_trees.proofs.NamedTrees as trees
+use Rattle.lx_trees.proofs.Subtrees.{alone-spot_below, count-alone-le}
 use Rattle.lx_host.specs.declared.op.Op.{Op}
 use Rattle.lx_host.specs.Branches.{IsRooted}
 use Rattle.lx_host.specs.Hosts.{Face, Host, HostTree, id_of, shape_of, count, alone, Leads, IsNumbered}
@@ -18,8 +18,8 @@ use Rattle.lx_forest.specs.Lookups as forest
 use Rattle.lx_forest.specs.Lookups.{key_of, spot, parent_of, children_of, trees_of, IsForest, rises, rises_from}
 use Rattle.lx_forest.proofs.Edits.{is_some-spot, parent_of-root, has-root}
 use Rattle.lx_forest.proofs.Lookups.{is_among-children_of, has-child, trees_of-roots}
-use Rattle.lx_plain.specs.Render.{render, face_of, last_kind}
-use Rattle.lx_plain.specs.Allowed.{Shows, hosts_of, IsKept, IsDue, AllWriteAnew, AreAllowed}
+use Rattle.lx_render.specs.Render.{render, face_of, last_kind}
+use Rattle.lx_reconcile.specs.Allowed.{Shows, hosts_of, IsKept, IsDue, AllWriteAnew, AreAllowed}
 use Rattle.lx_reconcile.specs.Reconciled.{flat, host_in, AreReconciled, IsAt, IsUnderWay}
 use Rattle.lx_reconcile.proofs.Children.{stands_there}
 use Rattle.lx_reconcile.proofs.Families.{alone-at}

@@ -2,9 +2,9 @@
 use Rattle.std.proofs.Common.{◌≡◌, ◌∙◌, sym, ap, ℕ, true, false, cond, eqb, ◌||◌, ◌&&◌, not, List, [], ◌∷◌, ◌++◌, map, length, Some, refl, arith, subst, append-nil, append_assoc}
 use Rattle.std.proofs.lemmas.List.Elements.{All-push}
 use Rattle.std.proofs.lemmas.Bool.Decides.{eqb_tells}
-use Rattle.lx_node.specs.Siblings.{is_named, is_among, is_place, NoRepeats, first_of, names_without, names_with}
-use Rattle.lx_node.proofs.Siblings.{first_of-among, is_among-append, is_among-names_without, names_without-absent_list}
-use Rattle.lx_node.proofs.Positions.{NoRepeats-names_without}
+use Rattle.lx_trees.specs.Siblings.{is_named, is_among, is_place, NoRepeats, first_of, names_without, names_with}
+use Rattle.lx_trees.proofs.Siblings.{first_of-among, is_among-append, is_among-names_without, names_without-absent_list}
+use Rattle.lx_trees.proofs.Positions.{NoRepeats-names_without}
 use Rattle.lx_reconcile.specs.declared.moves.Move.{Move}
 use Rattle.lx_reconcile.specs.declared.moves.Move.TheVariants.{Stay, Leave, Make, Place}
 use Rattle.lx_reconcile.specs.Walk.{child_of, before_of, moved, can_move, suits_children, is_placing, all_moved, CanAllMove, standing, leaving, BeforeUnhandled, common, missing}

@@ -7,7 +7,7 @@ use Rattle.lx_node.specs.declared.fields.Fields.{Fields}
 use Rattle.lx_node.specs.declared.fields.Fields.TheVariants as fields
 use Rattle.lx_node.specs.Kinds.{has_characters, is_possible}
 use Rattle.lx_node.specs.OfKind.{is_of_kind, fits_kind, is_element_of, is_text_of, are_text_fields, are_tab_fields, are_embed_fields, are_bare}
-use Rattle.lx_plain.specs.Render.{text_of}
+use Rattle.lx_render.specs.Render.{text_of}
 
 -- only what has characters has the fields of a text
 characters_of_text : (k : Kind) (t : TextFields) → fits_kind k (fields.Text t) ≡ true → has_characters k ≡ true

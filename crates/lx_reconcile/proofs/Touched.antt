@@ -4,9 +4,9 @@ use Rattle.std.specs.List.{AllByRecursion}
 use Rattle.std.proofs.lemmas.Bool.{cases_Bool}
 use Rattle.std.proofs.lemmas.Bool.Decides.{eqb_tells}
 use Rattle.std.proofs.lemmas.Option.{same_Some}
-use Rattle.lx_node.specs.Trees.{Trees, nil, tree}
-use Rattle.lx_node.specs.Siblings.{is_among, last_of}
-use Rattle.lx_node.proofs.Siblings.{is_among-append}
+use Rattle.lx_trees.specs.Trees.{Trees, nil, tree}
+use Rattle.lx_trees.specs.Siblings.{is_among, last_of}
+use Rattle.lx_trees.proofs.Siblings.{is_among-append}
 use Rattle.lx_node.specs.declared.kind.Kind.{Kind}
 use Rattle.lx_host.specs.declared.op.Op.{Op}
 use Rattle.lx_host.specs.declared.op.Op.TheVariants as op
@@ -17,7 +17,8 @@ use Rattle.lx_forest.specs.Lookups.{has, label_of, parent_of, children_of, last_
 use Rattle.lx_forest.specs.Views.{kind_at}
 use Rattle.lx_links.specs.Stands.{Sound}
 use Rattle.lx_links.proofs.Placed.{parent_of-child}
-use Rattle.lx_plain.specs.Allowed.{Marking, AreCovered, KeepsOrder, hosts_of, new_host, of_touched, of_child, IsDue}
+use Rattle.lx_forest.specs.Covered.{Marking, AreCovered}
+use Rattle.lx_reconcile.specs.Allowed.{KeepsOrder, hosts_of, new_host, of_touched, of_child, IsDue}
 use Rattle.lx_reconcile.specs.Created.{create_op, creation_of}
 use Rattle.lx_reconcile.specs.Changing.{IsWriteAt, is_text, is_attr, is_break}
 use Rattle.lx_reconcile.specs.Making.{IsBetween}

@@ -3,10 +3,10 @@ use Rattle.std.proofs.Common.{◌≡◌, ◌≢◌, ◌∙◌, ◌+◌, ◌≤�
 use Rattle.std.specs.List.{AllByRecursion}
 use Rattle.std.proofs.lemmas.Bool.Decides.{eqb_tells}
 use Rattle.lx_node.specs.Limits.{last_u32}
-use Rattle.lx_node.specs.Trees.{Trees, nil, tree}
-use Rattle.lx_node.specs.NamedTrees.{total}
-use Rattle.lx_node.specs.Siblings.{is_among, is_named, is_place, names_without, names_with}
-use Rattle.lx_node.proofs.Siblings.{is_among-names_without, is_among-names_with}
+use Rattle.lx_trees.specs.Trees.{Trees, nil, tree}
+use Rattle.lx_trees.specs.NamedTrees.{total}
+use Rattle.lx_trees.specs.Siblings.{is_among, is_named, is_place, names_without, names_with}
+use Rattle.lx_trees.proofs.Siblings.{is_among-names_without, is_among-names_with}
 use Rattle.lx_host.specs.declared.op.Op.{Op}
 use Rattle.lx_host.specs.declared.op.Op.TheVariants.{Place, Drop}
 use Rattle.lx_host.specs.Branches.{IsRooted}
@@ -14,8 +14,8 @@ use Rattle.lx_host.specs.Hosts.{Host, HostTree, alone, IsNumbered}
 use Rattle.lx_forest.specs.Forest.{Label, Forest}
 use Rattle.lx_forest.specs.Lookups as forest
 use Rattle.lx_forest.specs.Lookups.{IsForest, children_of, trees_of}
-use Rattle.lx_plain.specs.Render.{render, face_of, last_kind}
-use Rattle.lx_plain.specs.Allowed.{Shows, IsKept, IsDue, AreAllowed, unkept}
+use Rattle.lx_render.specs.Render.{render, face_of, last_kind}
+use Rattle.lx_reconcile.specs.Allowed.{Shows, IsKept, IsDue, AreAllowed, unkept}
 use Rattle.lx_reconcile.specs.Created.{numbered, creation, creation_of}
 use Rattle.lx_reconcile.specs.Reconciled.{LeadsAt, flat, host_in, AreReconciled, IsAt, IsUnderWay}
 use Rattle.lx_reconcile.specs.Handled.{IsReconciled, AreHandled, IsLater}

@@ -4,12 +4,12 @@ use Rattle.std.proofs.lemmas.Bool.{cases_Bool, cases_lt, and_parts, ltb-true, lt
 use Rattle.std.proofs.Math.Bool.{or-false}
 use Rattle.std.proofs.lemmas.Bool.Decides.{eqb_tells}
 use Rattle.std.proofs.lemmas.Option.{same_Some}
-use Rattle.lx_node.specs.Trees.{nil, tree}
-use Rattle.lx_node.specs.NamedTrees.{IsDistinct, preorder, total}
-use Rattle.lx_node.specs.Siblings.{is_among, NoRepeats}
-use Rattle.lx_node.specs.Spots.{Spot, parent_at}
-use Rattle.lx_node.proofs.NamedTrees.{is_among-preorder, length-preorder, NoRepeats-preorder}
-use Rattle.lx_node.proofs.Siblings.{is_among-append, NoRepeats-append}
+use Rattle.lx_trees.specs.Trees.{nil, tree}
+use Rattle.lx_trees.specs.NamedTrees.{IsDistinct, preorder, total}
+use Rattle.lx_trees.specs.Siblings.{is_among, NoRepeats}
+use Rattle.lx_trees.specs.Spots.{Spot, parent_at}
+use Rattle.lx_trees.proofs.NamedTrees.{is_among-preorder, length-preorder, NoRepeats-preorder}
+use Rattle.lx_trees.proofs.Siblings.{is_among-append, NoRepeats-append}
 use Rattle.lx_node.specs.declared.kind.Kind.TheVariants.{Root}
 use Rattle.lx_host.specs.declared.tag.Tag.{Tag}
 use Rattle.lx_forest.specs.Forest.{Label, Forest}
@@ -17,8 +17,8 @@ use Rattle.lx_forest.specs.Lookups.{key_of, alone, trees_of, spot, count, has, I
 use Rattle.lx_forest.proofs.Edits.{parent_of-root, is_some-spot, key-spot}
 use Rattle.lx_forest.proofs.Lookups.{alone-spot}
 use Rattle.lx_links.specs.Stands.{Sound}
-use Rattle.lx_plain.specs.Render.{tag_of}
-use Rattle.lx_plain.specs.Allowed.{places_of, tag_number, is_parent, is_only, IsKept, kept_root, kept_below, AreUnkept, unkept}
+use Rattle.lx_render.specs.Render.{tag_of}
+use Rattle.lx_reconcile.specs.Allowed.{places_of, tag_number, is_parent, is_only, IsKept, kept_root, kept_below, AreUnkept, unkept}
 use Rattle.lx_reconcile.proofs.Attached.{tree_order, tree_sound, tree_there}
 use Rattle.lx_reconcile.proofs.Kept.{places_at, places_of-absent, places_of-spot, has_place}
 use Rattle.lx_reconcile.proofs.UnkeptNodes.{same_tag, same_parent, kept_here}

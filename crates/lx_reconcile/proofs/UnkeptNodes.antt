@@ -2,10 +2,10 @@
 use Rattle.std.proofs.Common.{◌≡◌, ◌∙◌, ◌+◌, ◌≤◌, ℕ, ◌&&◌, Bool, true, false, cond, eqb, get_or, List, [], ◌∷◌, Option, None, Some, option_map, inl, inr, refl, sym, ap, arith, eq-eqb}
 use Rattle.std.proofs.lemmas.Bool.Decides.{eqb_tells}
 use Rattle.std.proofs.lemmas.Option.{same_Some}
-use Rattle.lx_node.specs.Trees.{nil, tree, joined}
-use Rattle.lx_node.specs.NamedTrees.{total}
-use Rattle.lx_node.specs.Siblings.{is_among, is_named}
-use Rattle.lx_node.specs.Spots.{Spot, parent_at}
+use Rattle.lx_trees.specs.Trees.{nil, tree, joined}
+use Rattle.lx_trees.specs.NamedTrees.{total}
+use Rattle.lx_trees.specs.Siblings.{is_among, is_named}
+use Rattle.lx_trees.specs.Spots.{Spot, parent_at}
 use Rattle.lx_host.specs.declared.tag.Tag.{Tag}
 use Rattle.lx_host.specs.declared.tag.Tag.TheVariants.{Div, P, H1, H2, H3, H4, H5, H6, Blockquote, Ul, Ol, Li, A, Table, Tr, Th, Td, Br, Hr, Inline}
 use Rattle.lx_host.specs.declared.tag.Inner.TheVariants.{Strong, Em, Span}
@@ -13,8 +13,8 @@ use Rattle.lx_host.specs.declared.tag.Outer.TheVariants.{Code, Mark, Sub, Sup}
 use Rattle.lx_forest.specs.Forest.{Label, Forest}
 use Rattle.lx_forest.specs.Lookups.{spot, label_of, children_of, IsForest}
 use Rattle.lx_forest.proofs.Lookups.{is_among-children_of}
-use Rattle.lx_plain.specs.Render.{tag_of}
-use Rattle.lx_plain.specs.Allowed.{places_of, tag_number, is_parent, is_only, unkept}
+use Rattle.lx_render.specs.Render.{tag_of}
+use Rattle.lx_reconcile.specs.Allowed.{places_of, tag_number, is_parent, is_only, unkept}
 use Rattle.lx_reconcile.proofs.Kept.{places_at, places_of-spot}
 
 -- ---- a tag by its number

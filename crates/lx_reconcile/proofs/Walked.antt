@@ -5,10 +5,10 @@ use Rattle.std.proofs.lemmas.List.Elements.{recursion_from_All}
 use Rattle.std.proofs.lemmas.Bool.Decides.{eqb_tells}
 use Rattle.std.proofs.lemmas.Option.{same_Some}
 use Rattle.lx_node.specs.Limits.{last_u32}
-use Rattle.lx_node.specs.Trees.{Trees, nil, tree}
-use Rattle.lx_node.specs.NamedTrees.{total}
-use Rattle.lx_node.specs.Siblings.{is_among, is_named, is_place, NoRepeats, names_without, names_with}
-use Rattle.lx_node.proofs.Siblings.{is_among-names_with}
+use Rattle.lx_trees.specs.Trees.{Trees, nil, tree}
+use Rattle.lx_trees.specs.NamedTrees.{total}
+use Rattle.lx_trees.specs.Siblings.{is_among, is_named, is_place, NoRepeats, names_without, names_with}
+use Rattle.lx_trees.proofs.Siblings.{is_among-names_with}
 use Rattle.lx_host.specs.declared.op.Op.{Op}
 use Rattle.lx_host.specs.declared.op.Op.TheVariants as op
 use Rattle.lx_host.specs.Hosts.{Host, HostTree}
@@ -16,8 +16,8 @@ use Rattle.lx_forest.specs.Forest.{Label, Forest}
 use Rattle.lx_forest.specs.Lookups as forest
 use Rattle.lx_forest.specs.Lookups.{children_of, trees_of, label_of, IsForest}
 use Rattle.lx_forest.proofs.Lookups.{NoRepeats-children_of}
-use Rattle.lx_plain.specs.Allowed.{IsDue, unkept}
-use Rattle.lx_plain.specs.Render.{tag_of, face_of, last_kind}
+use Rattle.lx_reconcile.specs.Allowed.{IsDue, unkept}
+use Rattle.lx_render.specs.Render.{tag_of, face_of, last_kind}
 use Rattle.lx_reconcile.specs.declared.moves.Move.{Move}
 use Rattle.lx_reconcile.specs.declared.moves.Move.TheVariants.{Stay, Leave, Make, Place}
 use Rattle.lx_reconcile.specs.Created.{creation_of}

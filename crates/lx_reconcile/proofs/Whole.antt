@@ -2,9 +2,9 @@
 use Rattle.std.proofs.Common.{◌≡◌, ◌∙◌, ◌+◌, ◌*◌, ◌<◌, ◌≤◌, ℕ, Bool, true, false, List, [], ◌∷◌, ◌++◌, None, Some, option_map, refl, sym, ap, subst, arith, append_assoc, append-nil}
 use Rattle.std.proofs.lemmas.Option.{same_Some}
 use Rattle.lx_node.specs.Limits.{last_u32, last_u64}
-use Rattle.lx_node.specs.Trees.{nil, tree}
-use Rattle.lx_node.specs.NamedTrees.{total}
-use Rattle.lx_node.specs.Spots.{Spot}
+use Rattle.lx_trees.specs.Trees.{nil, tree}
+use Rattle.lx_trees.specs.NamedTrees.{total}
+use Rattle.lx_trees.specs.Spots.{Spot}
 use Rattle.lx_node.specs.declared.kind.Kind.TheVariants.{Root}
 use Rattle.lx_node.specs.declared.node.Node.{Node}
 use Rattle.lx_node.specs.OfKind.{is_of_kind}
@@ -20,8 +20,9 @@ use Rattle.lx_forest.specs.Views.{kind_at}
 use Rattle.lx_forest.specs.Suited.{is_suited}
 use Rattle.lx_forest.proofs.Edits.{has-root}
 use Rattle.lx_links.specs.Stands.{node_of}
-use Rattle.lx_plain.specs.Allowed.{Marking, AreCovered, Shows, hosts_of, unkept, marked_children, staying}
-use Rattle.lx_plain.specs.Render.{tag_of, attributes_of, text_of, face_of, last_kind, needs_break}
+use Rattle.lx_forest.specs.Covered.{Marking, AreCovered}
+use Rattle.lx_reconcile.specs.Allowed.{Shows, hosts_of, unkept, marked_children, staying}
+use Rattle.lx_render.specs.Render.{tag_of, attributes_of, text_of, face_of, last_kind, needs_break}
 use Rattle.lx_reconcile.specs.declared.moves.Move.{Move}
 use Rattle.lx_reconcile.specs.Allowing.{IsTree, IsAllowed}
 use Rattle.lx_reconcile.specs.Changing.{Changes, shown_face}
@@ -33,7 +34,7 @@ use Rattle.lx_reconcile.proofs.Children.{stands_there, label_from, IsRead, is_re
 use Rattle.lx_reconcile.proofs.Due.{each_append}
 use Rattle.lx_reconcile.proofs.Touched.{Due, last_same, writes_due}
 use Rattle.std.proofs.Common.{cond, length}
-use Rattle.lx_node.specs.NamedTrees as named
+use Rattle.lx_trees.specs.NamedTrees as named
 use Rattle.lx_forest.specs.Lookups.{key_of, roots}
 use Rattle.lx_forest.proofs.Lookups.{has-child}
 use Rattle.lx_links.proofs.Placed.{parent_of-child}

@@ -5,7 +5,8 @@ use Rattle.lx_host.specs.Hosts.{HostTree}
 use Rattle.lx_forest.specs.Forest.{Forest}
 use Rattle.lx_forest.specs.Lookups.{roots}
 use Rattle.lx_links.specs.Stands.{Sound}
-use Rattle.lx_plain.specs.Allowed.{Marking, AreAllowed}
+use Rattle.lx_forest.specs.Covered.{Marking}
+use Rattle.lx_reconcile.specs.Allowed.{AreAllowed}
 use Rattle.lx_marks.specs.Marks.{Marked, is_touched, is_noted}
 
 -- A forest that is the root's tree alone.

@@ -3,7 +3,7 @@ use Rattle.std.specs.Prelude.{ℕ, ◌≡◌, ◌≢◌, ◌++◌, Bool, List, [
 use Rattle.std.specs.List.{AllByRecursion}
 use Rattle.std.specs.declared.cmp.Ordering.{Ordering}
 use Rattle.std.specs.declared.cmp.Ordering.TheVariants.{Less, Greater}
-use Rattle.lx_node.specs.Trees.{Trees, nil, tree}
+use Rattle.lx_trees.specs.Trees.{Trees, nil, tree}
 use Rattle.lx_node.specs.declared.kind.Kind.{Kind}
 use Rattle.lx_node.specs.declared.fields.Fields.{Fields}
 use Rattle.lx_host.specs.declared.tag.Tag.{Tag}
@@ -12,7 +12,7 @@ use Rattle.lx_host.specs.declared.op.Op.{Op}
 use Rattle.lx_host.specs.declared.op.Op.TheVariants.{Text, Attr, Break}
 use Rattle.lx_host.specs.Words.{name_order, with_attribute}
 use Rattle.lx_host.specs.Hosts.{Face, Host}
-use Rattle.lx_plain.specs.Render.{attributes_of, text_of}
+use Rattle.lx_render.specs.Render.{attributes_of, text_of}
 use Rattle.lx_reconcile.specs.Reconciled.{LeadsAt}
 
 -- ---- attributes

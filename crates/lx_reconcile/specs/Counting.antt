@@ -1,9 +1,9 @@
 -- How many nodes aren't kept, as they are counted. Only this crate's own contracts cite it.
 use Rattle.std.specs.Prelude.{ℕ, ◌≡◌, Bool, true, false, Option, None, Some}
-use Rattle.lx_node.specs.NamedTrees.{total}
+use Rattle.lx_trees.specs.NamedTrees.{total}
 use Rattle.lx_forest.specs.Forest.{Forest}
 use Rattle.lx_forest.specs.Lookups.{is_attached}
-use Rattle.lx_plain.specs.Allowed.{unkept}
+use Rattle.lx_reconcile.specs.Allowed.{unkept}
 
 -- The parent of a node is in the root's tree, or the node itself where it has none.
 abbrev pub IsInTree : Forest → Option ℕ → ℕ → Type 0

@@ -1,14 +1,14 @@
 -- The operations that make a host for each node of trees, and the hosts that they make.
 use Rattle.std.specs.Prelude.{ℕ, ◌+◌, ◌++◌, List, [], ◌∷◌, map, Option, None, Some}
-use Rattle.lx_node.specs.Trees.{Trees, nil, tree}
-use Rattle.lx_node.specs.NamedTrees.{total}
+use Rattle.lx_trees.specs.Trees.{Trees, nil, tree}
+use Rattle.lx_trees.specs.NamedTrees.{total}
 use Rattle.lx_node.specs.declared.kind.Kind.{Kind}
 use Rattle.lx_host.specs.declared.tag.Name.{Name}
 use Rattle.lx_host.specs.declared.op.Op.{Op}
 use Rattle.lx_host.specs.declared.op.Op.TheVariants.{Create, Place, Text, Attr}
 use Rattle.lx_host.specs.Hosts.{Face, Host}
 use Rattle.lx_forest.specs.Forest.{Label, Forest}
-use Rattle.lx_plain.specs.Render.{tag_of, attributes_of, text_of, last_kind, needs_break}
+use Rattle.lx_render.specs.Render.{tag_of, attributes_of, text_of, last_kind, needs_break}
 
 -- trees of faces as hosts, whose ids go on from this one in preorder
 abbrev pub numbered : ℕ → Trees Face → Trees Host

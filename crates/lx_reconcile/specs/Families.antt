@@ -3,8 +3,8 @@ use Rattle.std.specs.Prelude.{ℕ, ◌≡◌, ◌+◌, ◌++◌, List, [], ◌�
 use Rattle.std.specs.HashMap.{HashMap}
 use Rattle.std.specs.Map.{keys_of}
 use Rattle.indexmap.specs.IndexMap.{get}
-use Rattle.lx_node.specs.Siblings.{is_named}
-use Rattle.lx_rooted.specs.Lookups.{parent_of}
+use Rattle.lx_trees.specs.Siblings.{is_named}
+use Rattle.lx_trees.specs.Lookups.{parent_of}
 use Rattle.lx_host.specs.Hosts.{HostTree, id_of}
 use Rattle.lx_host.specs.Html.{first_tree}
 use Rattle.lx_host.specs.Lookups.{host_of}

@@ -1,8 +1,8 @@
 -- What operations have made of the host of one node, and of its children as far as they are handled.
 use Rattle.std.specs.Prelude.{ℕ, ◌+◌, ◌≤◌, ◌≡◌, false, List, Option, Some}
-use Rattle.lx_node.specs.Trees.{Trees, nil, tree}
-use Rattle.lx_plain.specs.Allowed.{unkept}
-use Rattle.lx_node.specs.Siblings.{is_among}
+use Rattle.lx_trees.specs.Trees.{Trees, nil, tree}
+use Rattle.lx_reconcile.specs.Allowed.{unkept}
+use Rattle.lx_trees.specs.Siblings.{is_among}
 use Rattle.lx_host.specs.declared.op.Op.{Op}
 use Rattle.lx_host.specs.Hosts.{Host, HostTree, alone}
 use Rattle.lx_forest.specs.Forest.{Forest}

@@ -1,3 +1,4 @@
+pub mod Allowed
 pub mod Allowing
 pub mod Changing
 pub mod Counting

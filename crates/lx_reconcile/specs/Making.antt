@@ -3,8 +3,9 @@
 use Rattle.std.specs.Prelude.{ℕ, ◌≡◌, ◌+◌, ◌≤◌, ◌++◌, true, List, [], ◌∷◌, Some}
 use Rattle.std.specs.List.{AllByRecursion}
 use Rattle.lx_node.specs.Limits.{last_u32}
-use Rattle.lx_node.specs.NamedTrees.{total}
-use Rattle.lx_plain.specs.Allowed.{Marking, AreCovered, IsDue, unkept}
+use Rattle.lx_trees.specs.NamedTrees.{total}
+use Rattle.lx_forest.specs.Covered.{Marking, AreCovered}
+use Rattle.lx_reconcile.specs.Allowed.{IsDue, unkept}
 use Rattle.lx_host.specs.declared.op.Op.{Op}
 use Rattle.lx_host.specs.Hosts.{Host, HostTree}
 use Rattle.lx_host.specs.Html.{first_tree}

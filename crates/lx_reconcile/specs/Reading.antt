@@ -1,11 +1,11 @@
 -- How many reads the operations between two trees need. Only this crate's own contracts cite it.
 use Rattle.std.specs.Prelude.{ℕ, ◌+◌, ◌*◌, Bool, if◌then◌else◌, length, Option, None, Some}
-use Rattle.lx_node.specs.Trees.{nil, tree}
-use Rattle.lx_node.specs.NamedTrees.{total}
+use Rattle.lx_trees.specs.Trees.{nil, tree}
+use Rattle.lx_trees.specs.NamedTrees.{total}
 use Rattle.lx_forest.specs.Forest.{Forest}
 use Rattle.lx_forest.specs.Lookups.{roots, children_of, trees_of}
-use Rattle.lx_plain.specs.Render.{tag_of}
-use Rattle.lx_plain.specs.Allowed.{places_of, is_only}
+use Rattle.lx_render.specs.Render.{tag_of}
+use Rattle.lx_reconcile.specs.Allowed.{places_of, is_only}
 
 -- At most so many reads go to these trees of children of a node: none to one that is kept without a mark; else two to the
 -- child, two to the last children and one to each child before and after, and what goes to those after; and to one that isn't

@@ -1,13 +1,13 @@
 -- What operations make of one host with what is below it, whatever is around it.
 use Rattle.std.specs.Prelude.{ℕ, ◌≡◌, ◌==◌, if◌then◌else◌, true, false, List, [], ◌∷◌, unwrap_or}
-use Rattle.lx_node.specs.Trees.{Trees, nil, tree, joined}
-use Rattle.lx_node.specs.Siblings.{is_among, first_of}
+use Rattle.lx_trees.specs.Trees.{Trees, nil, tree, joined}
+use Rattle.lx_trees.specs.Siblings.{is_among, first_of}
 use Rattle.lx_host.specs.declared.op.Op.{Op}
 use Rattle.lx_host.specs.Hosts.{Host, HostTree, has, alone, shape_of, Leads, IsNumbered}
 use Rattle.lx_forest.specs.Forest.{Forest}
 use Rattle.lx_forest.specs.Lookups as forest
-use Rattle.lx_plain.specs.Render.{render}
-use Rattle.lx_plain.specs.Allowed.{hosts_of, IsKept, AllWriteAnew}
+use Rattle.lx_render.specs.Render.{render}
+use Rattle.lx_reconcile.specs.Allowed.{hosts_of, IsKept, AllWriteAnew}
 
 -- these trees in place of the one at a host
 abbrev pub replaced : ℕ → Trees Host → Trees Host → Trees Host

@@ -1,13 +1,13 @@
 -- The moves of a node's children that are still to come, and what is known of them.
 use Rattle.std.specs.Prelude.{ℕ, ◌+◌, ◌≤◌, ◌≡◌, ◌||◌, true, false, List, map, Some}
 use Rattle.std.specs.List.{AllByRecursion, list_any}
-use Rattle.lx_node.specs.Siblings.{is_among, NoRepeats}
+use Rattle.lx_trees.specs.Siblings.{is_among, NoRepeats}
 use Rattle.lx_host.specs.Branches.{IsRooted}
 use Rattle.lx_host.specs.Hosts.{Host, HostTree, IsNumbered}
 use Rattle.lx_host.specs.declared.op.Op.{Op}
 use Rattle.lx_forest.specs.Forest.{Forest}
 use Rattle.lx_forest.specs.Lookups.{children_of, trees_of, IsForest}
-use Rattle.lx_plain.specs.Allowed.{Shows, unkept}
+use Rattle.lx_reconcile.specs.Allowed.{Shows, unkept}
 use Rattle.lx_reconcile.specs.declared.moves.Move.{Move}
 use Rattle.lx_reconcile.specs.Handled.{AreHandled}
 use Rattle.lx_reconcile.specs.Walk.{child_of, suits_children, is_placing, all_moved, standing, leaving, common, CanAllMove, BeforeUnhandled}

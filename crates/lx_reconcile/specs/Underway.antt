@@ -1,7 +1,7 @@
 -- How far a walk over two lists of children has come. Only this crate's own contracts cite it.
 use Rattle.std.specs.Prelude.{ℕ, ◌≡◌, ◌==◌, ◌+◌, ◌-◌, ◌≤◌, ◌&&◌, ◌||◌, true, false, not, if◌then◌else◌, List, [], ◌∷◌, ◌++◌, Option, None, Some, map, length, drop}
 use Rattle.std.specs.List.{All, list_any}
-use Rattle.lx_node.specs.Siblings.{is_among, is_named, NoRepeats}
+use Rattle.lx_trees.specs.Siblings.{is_among, is_named, NoRepeats}
 use Rattle.lx_reconcile.specs.declared.moves.Move.{Move}
 use Rattle.lx_reconcile.specs.declared.moves.Move.TheVariants.{Stay, Place}
 use Rattle.lx_reconcile.specs.declared.progress.Progress.{Progress}

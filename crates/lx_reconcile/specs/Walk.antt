@@ -1,8 +1,8 @@
 -- The moves that make of an element's children before those after: what each does, and what they owe together.
 use Rattle.std.specs.Prelude.{ℕ, ◌≡◌, ◌&&◌, ◌++◌, Bool, true, false, not, List, [], ◌∷◌, map, Option, None, Some, filter}
 use Rattle.std.specs.List.{All, list_any}
-use Rattle.lx_node.specs.Siblings.{is_among, is_named, is_place, names_without, names_with}
-pub use Rattle.lx_plain.specs.Allowed.{common}
+use Rattle.lx_trees.specs.Siblings.{is_among, is_named, is_place, names_without, names_with}
+pub use Rattle.lx_reconcile.specs.Allowed.{common}
 use Rattle.lx_reconcile.specs.declared.moves.Move.{Move}
 use Rattle.lx_reconcile.specs.declared.moves.Move.TheVariants.{Stay, Leave, Make, Place}
 

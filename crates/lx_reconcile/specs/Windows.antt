@@ -1,6 +1,6 @@
 -- A run of children of a node, and what is beside it. Only this crate's own contracts cite it.
 use Rattle.std.specs.Prelude.{ℕ, ◌≡◌, ◌+◌, ◌++◌, Bool, false, true, is_none, if◌then◌else◌, List, [], length, map, filter, Option, None, Some}
-use Rattle.lx_node.specs.Siblings.{is_among, first_of, last_of, from_name, up_to_name}
+use Rattle.lx_trees.specs.Siblings.{is_among, first_of, last_of, from_name, up_to_name}
 use Rattle.lx_reconcile.specs.declared.moves.Move.{Move}
 use Rattle.lx_reconcile.specs.declared.windows.Window.{Window}
 use Rattle.lx_reconcile.specs.Walk.{toward, IsWalk}

@@ -60,7 +60,8 @@ impl Batch {
 }
 
 ghost use Rattle.std.specs.Prelude.{true, ◌≡◌, ◌+◌, ◌*◌, ◌≤◌, None, IfOk};
-ghost use Rattle.lx_plain.specs.Allowed.{AreCovered, Shows, marked_children, staying, unkept};
+ghost use Rattle.lx_forest.specs.Covered.{AreCovered};
+ghost use Rattle.lx_reconcile.specs.Allowed.{Shows, marked_children, staying, unkept};
 ghost use Rattle.lx_reconcile.specs.Allowing.{marking, IsAllowed};
 ghost use Rattle.lx_forest.specs.Lookups.{alone, has};
 

@@ -3,9 +3,9 @@
 ghost use Rattle.std.specs.Prelude.{◌≡◌, ◌==◌, ◌&&◌, ◌+◌, ℕ, List, length, true, None, Some, Ok, IfOk};
 ghost use Rattle.lx_forest.specs.Lookups.{alone, trees_of, children_of, first_child, next_of, has, is_attached};
 ghost use Rattle.lx_links.specs.Stands.{Sound};
-ghost use Rattle.lx_plain.specs.Allowed as allowed;
-ghost use Rattle.lx_plain.specs.Allowed.{AreUnkept, is_parent, is_only, places_of, tag_number};
-ghost use Rattle.lx_plain.specs.Render as shown;
+ghost use Rattle.lx_reconcile.specs.Allowed as allowed;
+ghost use Rattle.lx_reconcile.specs.Allowed.{AreUnkept, is_parent, is_only, places_of, tag_number};
+ghost use Rattle.lx_render.specs.Render as shown;
 ghost use Rattle.lx_reconcile.specs.Counting.{IsInTree, unkept_in};
 
 use crate::looks::{Look, Looked, Reads};

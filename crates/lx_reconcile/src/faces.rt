@@ -7,7 +7,7 @@ ghost use Rattle.lx_host.specs.Words.{names_rise};
 ghost use Rattle.lx_host.specs.Hosts.{Face, with_ending};
 ghost use Rattle.lx_forest.specs.Lookups.{has};
 ghost use Rattle.lx_forest.specs.Views.{kind_at};
-ghost use Rattle.lx_plain.specs.Render as shown;
+ghost use Rattle.lx_render.specs.Render as shown;
 ghost use Rattle.lx_reconcile.specs.Changing.{next_order, Writes, Changes, shown_face};
 
 use crate::creation::read_kind;

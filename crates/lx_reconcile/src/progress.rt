@@ -1,5 +1,5 @@
 ghost use Rattle.std.specs.Prelude.{◌≡◌, ◌+◌, ◌^◌, ◌≤◌, ◌<◌, ◌++◌, ◌∷◌, [], OnOk, length, drop, slice_get};
-ghost use Rattle.lx_node.specs.Siblings.{is_among, first_of};
+ghost use Rattle.lx_trees.specs.Siblings.{is_among, first_of};
 ghost use Rattle.lx_reconcile.specs.Walk.{missing};
 ghost use Rattle.lx_reconcile.specs.Underway.{case_of, case_of_both, settled_by, with_handled, GoesOn};
 ghost use Rattle.lx_reconcile.specs.declared.moves.Move.TheVariants as move;

@@ -3,15 +3,16 @@
 
 ghost use Rattle.lx_node.specs.Limits.{last_u32, last_u64};
 ghost use Rattle.std.specs.Prelude.{◌≡◌, ◌≢◌, ◌+◌, ◌*◌, ◌<◌, ◌≤◌, ◌↔◌, ◌++◌, ◌∷◌, [], ℕ, true, length, IsTrue, None, Some, option_map, IfOk, OnOk};
-ghost use Rattle.lx_node.specs.NamedTrees.{total};
+ghost use Rattle.lx_trees.specs.NamedTrees.{total};
 ghost use Rattle.lx_host.specs.declared.op.Op.TheVariants as op;
 ghost use Rattle.lx_host.specs.Html.{first_tree};
 ghost use Rattle.lx_forest.specs.Lookups.{alone, roots, trees_of, children_of, first_child, next_of, has, IsForest};
 ghost use Rattle.lx_forest.specs.Records.{record_at};
 ghost use Rattle.lx_links.specs.Stands.{node_of, Sound};
-ghost use Rattle.lx_plain.specs.Allowed.{AreCovered, hosts_of, marked_children, staying, unkept, Shows};
+ghost use Rattle.lx_forest.specs.Covered.{AreCovered};
+ghost use Rattle.lx_reconcile.specs.Allowed.{hosts_of, marked_children, staying, unkept, Shows};
 ghost use Rattle.lx_reconcile.specs.Allowing.{marking, IsAllowed};
-ghost use Rattle.lx_plain.specs.Render as shown;
+ghost use Rattle.lx_render.specs.Render as shown;
 ghost use Rattle.lx_reconcile.specs.Created.{creation_of};
 ghost use Rattle.lx_reconcile.specs.Reconciled.{host_in};
 ghost use Rattle.lx_reconcile.specs.Families.{marked_keys, AreFamilies};

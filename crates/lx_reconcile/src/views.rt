@@ -1,13 +1,13 @@
 //! A view made from nothing.
 
 ghost use Rattle.std.specs.Prelude.{◌≡◌, ◌≢◌, ◌++◌, IfOk, OnOk};
-ghost use Rattle.lx_node.specs.Trees.{nil};
-ghost use Rattle.lx_node.specs.NamedTrees.{total};
+ghost use Rattle.lx_trees.specs.Trees.{nil};
+ghost use Rattle.lx_trees.specs.NamedTrees.{total};
 ghost use Rattle.lx_forest.specs.Lookups.{alone};
 ghost use Rattle.lx_links.specs.Stands.{Sound};
 ghost use Rattle.lx_host.specs.Branches.{IsRooted};
-ghost use Rattle.lx_plain.specs.Allowed.{Shows};
-ghost use Rattle.lx_plain.specs.Render.{attributes_of, text_of};
+ghost use Rattle.lx_reconcile.specs.Allowed.{Shows};
+ghost use Rattle.lx_render.specs.Render.{attributes_of, text_of};
 ghost use Rattle.lx_reconcile.specs.Created.{attribute_ops, text_ops, fresh_ops};
 
 use crate::creation::create_children;

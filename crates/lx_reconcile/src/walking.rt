@@ -1,5 +1,5 @@
 ghost use Rattle.std.specs.Prelude.{◌≡◌, ◌+◌, ◌<◌, ◌↔◌, IfOk, OnOk, IsTrue, length, take, map};
-ghost use Rattle.lx_node.specs.Siblings.{NoRepeats};
+ghost use Rattle.lx_trees.specs.Siblings.{NoRepeats};
 ghost use Rattle.lx_reconcile.specs.Walk.{IsWalk};
 ghost use Rattle.lx_reconcile.specs.declared.moves.Move.TheVariants.{Stay};
 ghost use Rattle.lx_reconcile.specs.Underway.{IsAlong, left_of};

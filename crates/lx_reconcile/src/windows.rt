@@ -3,7 +3,7 @@
 
 ghost use Rattle.std.specs.Prelude.{◌≡◌, ◌+◌, ◌≤◌, ◌||◌, ◌∷◌, [], true, None, length, map, is_some, if◌then◌else◌, IfOk};
 ghost use Rattle.std.specs.Option.{option_or};
-ghost use Rattle.lx_node.specs.Siblings.{is_among, is_named, is_place, last_of, NoRepeats};
+ghost use Rattle.lx_trees.specs.Siblings.{is_among, is_named, is_place, last_of, NoRepeats};
 ghost use Rattle.lx_forest.specs.Lookups.{children_of, has, next_of, IsForest};
 ghost use Rattle.lx_links.specs.Stands.{Sound};
 ghost use Rattle.lx_reconcile.specs.Allowing.{marking};

@@ -15,7 +15,7 @@ use Rattle.lx_node.specs.declared.kind.Kind.TheVariants as kind
 use Rattle.lx_host.specs.Words.{name_word, names_rise, AreAttributes}
 use Rattle.lx_host.specs.declared.tag.Name.{Name}
 use Rattle.lx_host.specs.declared.tag.Name.TheVariants.{AriaChecked, Class, ColSpan, DataAlign, DataBg, DataIndent, DataLexicalDecorator, DataLexicalText, DataSrc, Dir, Href, Rel, Role, RowSpan, Start, Style, Target, Title, Value}
-use Rattle.lx_plain.specs.Render.{given, first_attributes, middle_attributes, last_attributes, element_attributes, text_attributes, attributes_of, decorated, when, start_word, checked_word, role_word, span_word, align_word, direction_word, not_empty, spaced, classes_of}
+use Rattle.lx_render.specs.Render.{given, first_attributes, middle_attributes, last_attributes, element_attributes, text_attributes, attributes_of, decorated, when, start_word, checked_word, role_word, span_word, align_word, direction_word, not_empty, spaced, classes_of}
 
 -- whether a name is before another one in byte order
 unfoldable is_before : Name → Name → Bool

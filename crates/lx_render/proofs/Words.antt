@@ -5,7 +5,7 @@ use Rattle.std.proofs.lemmas.Bool.{lt-ltb}
 use Rattle.std.proofs.lemmas.List.{take_more, length-take-le}
 use Rattle.std.proofs.lemmas.Str.{chars-IsAscii}
 use Rattle.std.specs.Str.{chars, IsAscii}
-use Rattle.lx_plain.specs.Render.{spaced}
+use Rattle.lx_render.specs.Render.{spaced}
 use Rattle.lx_render.specs.Ascii.{is_ascii}
 
 -- ---- ASCII

@@ -2,7 +2,7 @@
 //! nothing is sorted.
 
 ghost use Rattle.std.specs.Prelude.{◌≡◌, ◌++◌, IfOk, OnOk, decimal};
-ghost use Rattle.lx_plain.specs.Render as shown;
+ghost use Rattle.lx_render.specs.Render as shown;
 
 use crate::classes::class_of;
 use crate::values::{

@@ -1,7 +1,7 @@
 //! Which elements a line break ends.
 
 ghost use Rattle.std.specs.Prelude.{◌≡◌};
-ghost use Rattle.lx_plain.specs.Render as shown;
+ghost use Rattle.lx_render.specs.Render as shown;
 
 use lx_node::Kind;
 

@@ -2,7 +2,7 @@
 //! between.
 
 ghost use Rattle.std.specs.Prelude.{◌≡◌, ◌<◌, ◌++◌, IfOk, OnOk, [], if◌then◌else◌, IsTrue, nat_lt, codes, chars, string_bytes};
-ghost use Rattle.lx_plain.specs.Render as shown;
+ghost use Rattle.lx_render.specs.Render as shown;
 ghost use Rattle.lx_render.specs.Ascii.{is_ascii};
 
 use crate::format::{

@@ -1,7 +1,7 @@
 //! The bits of a text's format.
 
 ghost use Rattle.std.specs.Prelude.{◌≡◌, ◌<◌};
-ghost use Rattle.lx_plain.specs.Render as shown;
+ghost use Rattle.lx_render.specs.Render as shown;
 
 /// The format bit of bold text.
 pub(crate) const BOLD: u16 = 1;

@@ -1,7 +1,7 @@
 //! The element that shows a node.
 
 ghost use Rattle.std.specs.Prelude.{◌≡◌};
-ghost use Rattle.lx_plain.specs.Render as shown;
+ghost use Rattle.lx_render.specs.Render as shown;
 
 use crate::format::{BOLD, CODE, HIGHLIGHT, ITALIC, SUBSCRIPT, SUPERSCRIPT, has_bit};
 use lx_host::{Inner, Outer, Tag};

@@ -1,7 +1,7 @@
 //! The values of attributes. One that isn't to be shown is `None`.
 
 ghost use Rattle.std.specs.Prelude.{◌≡◌, IfOk, IsTrue, decimal, nat_lt};
-ghost use Rattle.lx_plain.specs.Render as shown;
+ghost use Rattle.lx_render.specs.Render as shown;
 ghost use Rattle.lx_render.specs.Ascii.{is_ascii};
 
 use lx_node::{Align, Direction, Kind, ListType, NoMemory, Txt};

@@ -1,9 +1,9 @@
 -- How many children a node has beside another.
 use Rattle.std.proofs.Common.{◌≡◌, ◌∙◌, ◌+◌, ℕ, Bool, true, false, cond, eqb, length, Option, None, Some, refl, sym, subst, arith}
 use Rattle.std.proofs.lemmas.Bool.Decides.{eqb_tells}
-use Rattle.lx_node.specs.Trees.{nil, tree}
-use Rattle.lx_node.specs.Siblings.{is_named, names_without}
-use Rattle.lx_node.proofs.Siblings.{length-names_without}
+use Rattle.lx_trees.specs.Trees.{nil, tree}
+use Rattle.lx_trees.specs.Siblings.{is_named, names_without}
+use Rattle.lx_trees.proofs.Siblings.{length-names_without}
 use Rattle.lx_forest.specs.Forest.{Forest}
 use Rattle.lx_forest.specs.Lookups.{children_of, size_of, parent_of, IsForest}
 use Rattle.lx_forest.proofs.Lookups.{is_among-children_of, NoRepeats-children_of}

@@ -2,7 +2,7 @@
 use Rattle.std.specs.Prelude.{ℕ, ◌==◌, ◌||◌, nat_lt, if◌then◌else◌, List, [], ◌∷◌, codes, length, Option, None, Some, Result, Ok, Err}
 use Rattle.std.specs.Option.{option_or}
 use Rattle.std.specs.FinMap.{get}
-use Rattle.lx_node.specs.Siblings.{names_without}
+use Rattle.lx_trees.specs.Siblings.{names_without}
 use Rattle.lx_node.specs.declared.kind.Kind.{Kind}
 use Rattle.lx_node.specs.declared.fields.Fields.{Fields}
 use Rattle.lx_node.specs.declared.fields.Fields.TheVariants as fields
@@ -30,7 +30,7 @@ use Rattle.lx_draft.specs.Faults.{answer, after}
 use Rattle.lx_draft.specs.Steps.{new_step, set_step, take_step, put_step, mark_step, select_step}
 use Rattle.lx_edit.specs.Edits.{remove_step, replace_step, wrap_step, unwrap_step, children_step}
 use Rattle.lx_edit.specs.Texts.{split_step, join_step}
-use Rattle.lx_range.specs.Blocks.{block_of}
+use Rattle.lx_blocks.specs.Blocks.{block_of}
 use Rattle.lx_run.specs.Appending.{appended}
 use Rattle.lx_run.specs.Naming.{Naming, names_bound}
 

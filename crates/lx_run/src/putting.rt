@@ -1,7 +1,7 @@
 //! Where a step puts a node.
 
 ghost use Rattle.std.specs.Prelude.{◌≡◌, Ok, Some, None, OnOk, IfOk, IfErr, length};
-ghost use Rattle.lx_node.specs.Siblings.{names_without};
+ghost use Rattle.lx_trees.specs.Siblings.{names_without};
 ghost use Rattle.lx_forest.specs.Lookups as lookups;
 ghost use Rattle.lx_draft.specs.Faults.{TellsStep};
 ghost use Rattle.lx_run.specs.Scripts as scripts;

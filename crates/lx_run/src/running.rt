@@ -49,7 +49,7 @@ impl<'a> Model for Running<'a> {
     ghost use Rattle.std.specs.Cmp.Lexicographic.{slice_cmp};
     ghost use Rattle.std.specs.FinMap.{code};
     ghost use Rattle.std.specs.Ordering.{nat_cmp};
-    ghost use Rattle.lx_node.specs.Trees.{trees_code};
+    ghost use Rattle.lx_trees.specs.Trees.{trees_code};
     ghost use Rattle.lx_step.specs.Sound.{IsSound};
     ghost use Rattle.lx_step.specs.contracts.step.Steps as steps;
     ghost use Rattle.lx_run.specs.Running.{Running, running};

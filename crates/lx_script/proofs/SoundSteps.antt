@@ -25,7 +25,7 @@ use Rattle.lx_step.specs.Script.{Script}
 use Rattle.lx_step.specs.Spelled.{with_first}
 use Rattle.lx_step.specs.declared.listener.Listener.{Listener}
 use Rattle.lx_step.proofs.Sounds.{script_with}
-use Rattle.lx_node.specs.Trees.{nil}
+use Rattle.lx_trees.specs.Trees.{nil}
 use Rattle.lx_fields.specs.declared.words.Name.{Name}
 use Rattle.lx_fields.specs.declared.words.Name.TheVariants as name
 use Rattle.lx_script.specs.declared.words.Verb.{Verb}

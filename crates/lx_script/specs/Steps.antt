@@ -11,7 +11,7 @@ use Rattle.lx_step.specs.declared.patch.Patch.{Patch}
 use Rattle.lx_step.specs.declared.reference.Reference.{Reference}
 use Rattle.lx_step.specs.declared.step.Step.{Step}
 use Rattle.lx_step.specs.declared.step.Step.TheVariants as step
-use Rattle.lx_node.specs.Trees.{nil}
+use Rattle.lx_trees.specs.Trees.{nil}
 use Rattle.lx_step.specs.Script.{Script}
 use Rattle.lx_step.specs.Spelled.{with_first}
 use Rattle.lx_script.specs.Commands.{command_of, do_of}

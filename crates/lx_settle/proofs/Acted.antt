@@ -3,7 +3,7 @@ use Rattle.std.proofs.Common.{◌≡◌, ◌∙◌, ℕ, Bool, true, false, eqb,
 use Rattle.std.specs.Prelude.{slice_get}
 use Rattle.std.specs.Option.{option_or}
 use Rattle.std.proofs.lemmas.Bool.Decides.{eqb_tells}
-use Rattle.lx_node.specs.Siblings.{is_among, next_in}
+use Rattle.lx_trees.specs.Siblings.{is_among, next_in}
 use Rattle.lx_node.specs.Strings.{characters_of}
 use Rattle.lx_node.specs.declared.kind.Kind.{Kind}
 use Rattle.lx_node.specs.declared.fields.Fields.{Fields}
@@ -16,7 +16,7 @@ use Rattle.lx_forest.specs.Forest.{Forest, Label}
 use Rattle.lx_forest.specs.Lookups.{label_of, kind_of, parent_of, children_of, children_below, next_of, size_of, index_of, is_within, is_attached, IsForest}
 use Rattle.lx_forest.proofs.Within.{is_within-with_new, is_attached-put_in, is_within-up}
 use Rattle.lx_forest.proofs.Edits.{parent_of-root}
-use Rattle.lx_node.proofs.Siblings.{next_in-among}
+use Rattle.lx_trees.proofs.Siblings.{next_in-among}
 use Rattle.lx_draft.specs.Working.{Working}
 use Rattle.lx_draft.specs.Faults.{after, over_counts, over_limits, put_fault}
 use Rattle.lx_draft.specs.Steps.{made, new_step, node_placed, put_step}

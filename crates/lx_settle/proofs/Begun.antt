@@ -1,6 +1,6 @@
 -- What an update owes as it begins to settle, from a tree that is joined.
 use Rattle.std.proofs.Common.{◌≡◌, ◌∙◌, ℕ, true, [], option_map, is_some, sym, ap, inl, inr}
-use Rattle.lx_node.specs.Spots.{Spot}
+use Rattle.lx_trees.specs.Spots.{Spot}
 use Rattle.lx_forest.specs.Forest.{Label}
 use Rattle.lx_forest.specs.Lookups.{has, spot, is_attached}
 use Rattle.lx_forest.proofs.Edits.{is_some-spot}

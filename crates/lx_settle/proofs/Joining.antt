@@ -2,12 +2,12 @@
 use Rattle.std.proofs.Common.{◌≡◌, ◌∙◌, ℕ, zero, suc, Bool, true, false, cond, eqb, ◌||◌, List, [], ◌∷◌, Option, None, Some, option_map, Result, Ok, Err, refl, sym, ap, subst, arith, inl, inr, ◌⊎◌}
 use Rattle.std.proofs.lemmas.Bool.{cases_Bool}
 use Rattle.std.proofs.lemmas.Bool.Decides.{eqb_tells}
-use Rattle.lx_node.specs.Siblings.{is_among, next_in, previous_from, previous_in, first_of, NoRepeats}
-use Rattle.lx_node.specs.Spots.{Spot}
+use Rattle.lx_trees.specs.Siblings.{is_among, next_in, previous_from, previous_in, first_of, NoRepeats}
+use Rattle.lx_trees.specs.Spots.{Spot}
 use Rattle.lx_node.specs.Kinds.{is_element}
 use Rattle.lx_node.specs.declared.fields.TextFields.{TextFields}
 use Rattle.lx_node.specs.declared.cause.Cause.{Cause}
-use Rattle.lx_node.proofs.Siblings.{next_in-among}
+use Rattle.lx_trees.proofs.Siblings.{next_in-among}
 use Rattle.lx_marks.specs.Marks.{Marked, flag_in, is_true_flag, is_touched}
 use Rattle.lx_forest.specs.Forest.{Forest, Label}
 use Rattle.lx_forest.specs.Lookups.{label_of, kind_of, parent_of, children_of, children_below, previous_of, next_of, is_attached, IsForest}

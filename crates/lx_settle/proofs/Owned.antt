@@ -3,8 +3,8 @@ use Rattle.std.proofs.Common.{◌≡◌, ◌≢◌, ◌∙◌, ℕ, zero, suc, �
 use Rattle.std.specs.Prelude.{slice_get}
 use Rattle.std.specs.Option.{option_or}
 use Rattle.std.proofs.lemmas.Bool.Decides.{eqb_tells}
-use Rattle.lx_node.specs.Siblings.{is_among, is_named, next_in, index_in, place_behind, last_from, NoRepeats}
-use Rattle.lx_node.specs.Spots.{Spot, parent_at, children_at}
+use Rattle.lx_trees.specs.Siblings.{is_among, is_named, next_in, index_in, place_behind, last_from, NoRepeats}
+use Rattle.lx_trees.specs.Spots.{Spot, parent_at, children_at}
 use Rattle.lx_node.specs.Strings.{characters_of}
 use Rattle.lx_node.specs.declared.kind.Kind.{Kind}
 use Rattle.lx_node.specs.declared.kind.Kind.TheVariants as kind
@@ -12,7 +12,7 @@ use Rattle.lx_node.specs.declared.fields.Fields.{Fields}
 use Rattle.lx_node.specs.declared.cause.Cause.{Cause}
 use Rattle.lx_node.specs.declared.cause.Point.{Point}
 use Rattle.lx_node.specs.declared.node.View.{View}
-use Rattle.lx_node.proofs.Positions.{slice_get-index_in, previous_in-slice_get}
+use Rattle.lx_trees.proofs.Positions.{slice_get-index_in, previous_in-slice_get}
 use Rattle.lx_step.specs.declared.rule.SelfEdit.{SelfEdit}
 use Rattle.lx_forest.specs.Forest.{Forest, Label}
 use Rattle.lx_forest.specs.Lookups.{has, spot, label_of, kind_of, parent_of, children_of, children_below, previous_of, next_of, size_of, index_of, ancestors, is_attached, IsForest}
@@ -41,7 +41,7 @@ use Rattle.lx_edit.specs.Edits.{moved_before, brought_up, sent_away, goes_too, r
 use Rattle.lx_rules.specs.Idle.{has_work, is_root}
 use Rattle.lx_settle.specs.Acting.{has_work_at}
 use Rattle.lx_settle.proofs.Seen.{has-previous, has-next, previous_stays, next_stays}
-use Rattle.lx_node.proofs.Siblings.{is_named_tells}
+use Rattle.lx_trees.proofs.Siblings.{is_named_tells}
 use Rattle.lx_edit.proofs.Paths.{IsPath, if_, turns, removed_path, sent_from_path, put_before_path, moved_before_path, children_path, texts_pointed_path}
 
 -- ---- a draft that an edit can rely on stays such a one

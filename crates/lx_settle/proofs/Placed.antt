@@ -5,15 +5,15 @@ use Rattle.std.specs.Prelude.{is_some, slice_get}
 use Rattle.std.specs.Option.{option_or}
 use Rattle.std.proofs.lemmas.Bool.Decides.{eqb_tells}
 use Rattle.lx_node.specs.Kinds.{is_element, may_hold}
-use Rattle.lx_node.specs.Siblings.{is_among, names_with}
-use Rattle.lx_node.specs.Spots.{Spot, parent_at, children_at}
+use Rattle.lx_trees.specs.Siblings.{is_among, names_with}
+use Rattle.lx_trees.specs.Spots.{Spot, parent_at, children_at}
 use Rattle.lx_node.specs.Strings.{characters_of}
 use Rattle.lx_node.specs.declared.kind.Kind.{Kind}
 use Rattle.lx_node.specs.declared.fields.Fields.{Fields}
 use Rattle.lx_node.specs.declared.node.View.{View}
 use Rattle.lx_step.specs.declared.rule.NewNode.{NewNode}
 use Rattle.lx_forest.specs.Forest.{Forest, Label}
-use Rattle.lx_node.proofs.Subtrees.{count-alone-le}
+use Rattle.lx_trees.proofs.Subtrees.{count-alone-le}
 use Rattle.lx_forest.specs.Lookups.{key_of, has, spot, kind_of, parent_of, children_of, next_of, size_of, index_of, is_within, holds, IsForest}
 use Rattle.lx_forest.specs.Edits.{with_new, put_in, CanPut}
 use Rattle.lx_forest.specs.Views.{kind_at, with_kind, kinds_of, viewed, view_of}

@@ -6,7 +6,7 @@ use Rattle.std.proofs.lemmas.Bool.Decides.{eqb_tells}
 use Rattle.std.proofs.lemmas.List.Sums.{AllPass-from_list_all}
 use Rattle.lx_node.specs.Kinds.{is_element, is_text, may_hold}
 use Rattle.lx_node.specs.OfKind.{IsOfKind, is_of_kind, fits_kind, is_text_of}
-use Rattle.lx_node.specs.Siblings.{is_among, NoRepeats}
+use Rattle.lx_trees.specs.Siblings.{is_among, NoRepeats}
 use Rattle.lx_node.specs.declared.kind.Kind.{Kind}
 use Rattle.lx_node.specs.declared.kind.Kind.TheVariants as kind
 use Rattle.lx_node.specs.declared.fields.Fields.{Fields}

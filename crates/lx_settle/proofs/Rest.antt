@@ -8,8 +8,8 @@ use Rattle.lx_step.specs.Patches.{patched, is_in_range}
 use Rattle.lx_step.specs.declared.rule.NewNode.{NewNode}
 use Rattle.lx_step.specs.declared.rule.SelfEdit.{SelfEdit}
 use Rattle.lx_step.specs.declared.rule.SelfEdit.TheVariants.{Set, Add, Remove, Replace, Wrap, Unwrap, Before, After, Child, MergeNext}
-use Rattle.lx_node.specs.Spots.{Spot}
-use Rattle.lx_node.proofs.Subtrees.{count-alone-le}
+use Rattle.lx_trees.specs.Spots.{Spot}
+use Rattle.lx_trees.proofs.Subtrees.{count-alone-le}
 use Rattle.lx_forest.specs.Lookups.{key_of, has, spot, kind_of, next_of, size_of, is_attached}
 use Rattle.lx_forest.specs.Forest.{Forest, Label}
 use Rattle.lx_forest.specs.Records.{record_at}

@@ -4,8 +4,8 @@ use Rattle.std.proofs.Common.{◌≡◌, ◌∙◌, ℕ, zero, suc, Bool, true, 
 use Rattle.std.specs.Prelude.{is_some}
 use Rattle.std.proofs.lemmas.Bool.{cases_Bool}
 use Rattle.std.proofs.lemmas.Bool.Decides.{eqb_tells}
-use Rattle.lx_node.specs.Siblings.{is_among}
-use Rattle.lx_node.proofs.Siblings.{is_among-append}
+use Rattle.lx_trees.specs.Siblings.{is_among}
+use Rattle.lx_trees.proofs.Siblings.{is_among-append}
 use Rattle.lx_node.specs.declared.cause.Cause.{Cause}
 use Rattle.lx_marks.specs.Marks.{Marked, flag_in, is_true_flag}
 use Rattle.lx_forest.specs.Lookups.{is_attached}

@@ -1,7 +1,7 @@
 -- Sound steps and sound scripts.
 use Rattle.std.proofs.Common.{List, [], ◌∷◌, All}
 use Rattle.std.proofs.lemmas.List.Elements.{All-nil, All-cons, All-head, All-tail}
-use Rattle.lx_node.specs.Trees.{nil, tree}
+use Rattle.lx_trees.specs.Trees.{nil, tree}
 use Rattle.lx_step.specs.declared.step.Step.{Step}
 use Rattle.lx_step.specs.declared.step.Step.TheVariants as step
 use Rattle.lx_step.specs.Script as script

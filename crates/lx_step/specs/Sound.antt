@@ -8,7 +8,7 @@ use Rattle.lx_step.specs.declared.line.Form.{Form}
 use Rattle.lx_step.specs.declared.line.Form.TheVariants.{Update, Defer, Flush, Dispatch, Rule, Listener as Listens, Load, Show, Clear}
 use Rattle.lx_step.specs.declared.step.Step.{Step}
 use Rattle.lx_step.specs.declared.step.Step.TheVariants.{New, Set, Later}
-use Rattle.lx_node.specs.Trees.{nil, tree}
+use Rattle.lx_trees.specs.Trees.{nil, tree}
 use Rattle.lx_step.specs.Script.{Head, Script}
 use Rattle.lx_step.specs.Script as script
 use Rattle.lx_step.specs.declared.listener.Listener.{Listener}

@@ -82,7 +82,7 @@ pub struct Steps {
 
 impl Model for Steps {
     ghost use Rattle.std.specs.Coded.{codes};
-    ghost use Rattle.lx_node.specs.Trees.{trees_code};
+    ghost use Rattle.lx_trees.specs.Trees.{trees_code};
     ghost use Rattle.lx_step.specs.Script.{Script, script_size};
 
     ghost Value = { Script };

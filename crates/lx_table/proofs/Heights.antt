@@ -5,9 +5,9 @@ use Rattle.std.specs.Option.{option_or}
 use Rattle.std.specs.List.{All, slice_get}
 use Rattle.std.proofs.lemmas.Bool.Decides.{eqb_tells}
 use Rattle.std.proofs.lemmas.List.Elements.{All-nil, All-push, All-head, All-tail}
-use Rattle.lx_node.specs.Siblings.{is_among, is_named, index_in}
-use Rattle.lx_node.proofs.Siblings.{is_named_tells}
-use Rattle.lx_node.proofs.Positions.{index_in-slice_get}
+use Rattle.lx_trees.specs.Siblings.{is_among, is_named, index_in}
+use Rattle.lx_trees.proofs.Siblings.{is_named_tells}
+use Rattle.lx_trees.proofs.Positions.{index_in-slice_get}
 use Rattle.lx_node.specs.declared.fields.Extra.{Extra}
 use Rattle.lx_node.specs.declared.fields.Extra.TheVariants as extra
 use Rattle.lx_node.specs.declared.fields.Fields.{Fields}

@@ -22,8 +22,8 @@ use Rattle.lx_edit.specs.InTurn.{in_turn}
 use Rattle.lx_edit.specs.Edits.{element_point, remove_step, replace_step, children_step}
 use Rattle.lx_edit.specs.Texts.{keys_from}
 use Rattle.lx_edit.proofs.Paths.{Leads, self, ok, allowed, every, put_behind_path, remove_path, replace_path, children_path}
-use Rattle.lx_range.proofs.Paths.{IsWay, stays, either, chained, by_read, select_path}
-use Rattle.lx_range.specs.Starts.{start_within}
+use Rattle.lx_blocks.proofs.Paths.{IsWay, stays, either, chained, by_read, select_path}
+use Rattle.lx_blocks.specs.Starts.{start_within}
 use Rattle.lx_table.specs.declared.spots.Spot.{Spot}
 use Rattle.lx_table.specs.declared.rectangles.Rectangle.{Rectangle}
 use Rattle.lx_table.specs.Spots.{spot_of, spot_at, stands_in_column, end_column}

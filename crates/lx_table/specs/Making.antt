@@ -16,7 +16,7 @@ use Rattle.lx_draft.specs.Steps.{new_step, put_step}
 use Rattle.lx_draft.specs.Beside.{put_behind_step}
 use Rattle.lx_edit.specs.InTurn.{in_turn}
 use Rattle.lx_edit.specs.Texts.{keys_from}
-use Rattle.lx_range.specs.Blocks.{passes}
+use Rattle.lx_blocks.specs.Blocks.{passes}
 use Rattle.lx_table.specs.Places.{focus_of, caret_in_step}
 
 -- ---- cells

@@ -3,9 +3,9 @@
 ghost use Rattle.std.specs.Prelude.{◌≡◌, ◌+◌, ◌-◌, ◌<◌, ◌≤◌, ◌++◌, ◌∷◌, [], All, IfOk, OnOk, IfErr, length, min, filter};
 ghost use Rattle.std.specs.List.{insert};
 ghost use Rattle.std.specs.Option.{option_or};
-ghost use Rattle.lx_node.specs.NamedTrees.{total};
+ghost use Rattle.lx_trees.specs.NamedTrees.{total};
 ghost use Rattle.lx_node.specs.Kinds as kinds;
-ghost use Rattle.lx_node.specs.Siblings.{is_among};
+ghost use Rattle.lx_trees.specs.Siblings.{is_among};
 ghost use Rattle.lx_forest.specs.Lookups as lookups;
 ghost use Rattle.lx_links.specs.Faults.{unknown};
 ghost use Rattle.lx_draft.specs.Faults.{TellsFault};

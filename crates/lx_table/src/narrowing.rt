@@ -5,7 +5,7 @@ ghost use Rattle.lx_draft.specs.Faults.{TellsStep};
 ghost use Rattle.lx_edit.specs.InTurn.{in_turn};
 ghost use Rattle.lx_edit.specs.Edits.{remove_step};
 ghost use Rattle.lx_edit.specs.Standing.{StillStands};
-ghost use Rattle.lx_node.specs.NamedTrees.{total};
+ghost use Rattle.lx_trees.specs.NamedTrees.{total};
 ghost use Rattle.lx_forest.specs.Lookups as lookups;
 ghost use Rattle.lx_table.specs.Grid as grid;
 ghost use Rattle.lx_table.specs.Places as places;

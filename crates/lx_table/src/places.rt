@@ -1,8 +1,8 @@
 //! The cell by which a command goes.
 
 ghost use Rattle.std.specs.Prelude.{◌≡◌, ◌≢◌, ◌≤◌, Ok, Some, OnOk, IfOk, IfErr, IfSome, option_map};
-ghost use Rattle.lx_node.specs.Trees.{nil};
-ghost use Rattle.lx_node.specs.NamedTrees.{total};
+ghost use Rattle.lx_trees.specs.Trees.{nil};
+ghost use Rattle.lx_trees.specs.NamedTrees.{total};
 ghost use Rattle.lx_draft.specs.Faults.{TellsStep};
 ghost use Rattle.lx_edit.specs.Standing.{StillStands};
 ghost use Rattle.lx_table.specs.Places as spec;
@@ -14,7 +14,7 @@ use lx_draft::Draft;
 use lx_edit::admitted;
 use lx_links::Links;
 use lx_node::{Fault, Key, NoMemory, SelectionKind};
-use lx_range::{cell_from, no_range, range_of};
+use lx_blocks::{cell_from, no_range, range_of};
 use lx_select::Selection;
 use std::alloc::Global;
 

@@ -2,7 +2,7 @@
 //! no clause can say, as that a call succeeds where memory is ample.
 //!
 //! They are here since a crate with tests is proved twice. Those of the layers below are in `lx_tests_trees` and
-//! `lx_tests_lines`. What steps make of a state is shown by the program `lx_scripts`, and replies to lines by the program
+//! `lx_tests_lines`. What steps make of a state is shown by the program `lx_examples`, and replies to lines by the program
 //! `lx_rows`, whose input and output are stored.
 #![tactic(auto)]
 

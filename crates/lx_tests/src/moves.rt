@@ -1,6 +1,6 @@
 //! The moves from some children to others.
 
-ghost use Rattle.lx_node.specs.Siblings.{NoRepeats};
+ghost use Rattle.lx_trees.specs.Siblings.{NoRepeats};
 
 use lx_node::Key;
 use lx_reconcile::{Move, walk};

@@ -1,5 +1,5 @@
 use Rattle.std.proofs.Common.{false, length}
-use Rattle.lx_range.specs.Walks.{left_from}
+use Rattle.lx_blocks.specs.Walks.{left_from}
 use Rattle.lx_caret.specs.Deleting.{is_leaf_in, leaf_beside}
 use Rattle.lx_caret.proofs.Forwards.{IsForth}
 use Rattle.lx_caret.proofs.deleting.leaf_behind.Given as goal

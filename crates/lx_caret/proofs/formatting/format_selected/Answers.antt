@@ -1,6 +1,6 @@
 use Rattle.std.proofs.Common.{◌≡◌, ◌∙◌, sym, ap}
 use Rattle.std.specs.List.{slice_get}
-use Rattle.lx_range.specs.Ranges.{start_of, end_of}
+use Rattle.lx_blocks.specs.Ranges.{start_of, end_of}
 use Rattle.lx_caret.specs.Formatting.{pieces}
 use Rattle.lx_caret.proofs.Edged.{edged}
 use Rattle.lx_caret.proofs.formatting.format_selected.Goals as goal

@@ -1,6 +1,6 @@
 use Rattle.std.proofs.Common.{◌∙◌, sym, ap}
-use Rattle.lx_range.specs.Blocks.{frame_of}
-use Rattle.lx_range.specs.Walks.{nodes_before}
+use Rattle.lx_blocks.specs.Blocks.{frame_of}
+use Rattle.lx_blocks.specs.Walks.{nodes_before}
 use Rattle.lx_caret.specs.Deleting.{is_stop}
 use Rattle.lx_caret.proofs.Backwards.{back_starts, back_on, back_found, back_ends, back_shorter, up_attached}
 use Rattle.lx_caret.proofs.joining.stop_before.Goals as goal

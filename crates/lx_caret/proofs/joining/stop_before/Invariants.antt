@@ -1,5 +1,5 @@
 use Rattle.std.proofs.Common.{length}
-use Rattle.lx_range.specs.Blocks.{frame_of}
+use Rattle.lx_blocks.specs.Blocks.{frame_of}
 use Rattle.lx_caret.specs.Deleting.{is_stop, stop_before}
 use Rattle.lx_caret.proofs.Backwards.{IsBack, up_to}
 use Rattle.lx_caret.proofs.joining.stop_before.Given as goal

@@ -1,7 +1,7 @@
 use Rattle.std.proofs.Common.{◌∙◌, ℕ, Bool, ap, rules}
 use Rattle.std.specs.Prelude.{find}
 use Rattle.lx_forest.specs.Lookups.{from}
-use Rattle.lx_range.specs.Blocks.{frame_of}
+use Rattle.lx_blocks.specs.Blocks.{frame_of}
 use Rattle.lx_caret.specs.Deleting.{is_stop}
 use Rattle.lx_caret.proofs.Forwards.{is_other, find_without, forth_on, forth_found, forth_ends, forth_shorter, forth_attached, stop_told}
 use Rattle.lx_caret.proofs.joining.stop_behind.Goals as goal

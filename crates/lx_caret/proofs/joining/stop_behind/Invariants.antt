@@ -1,6 +1,6 @@
 use Rattle.std.proofs.Common.{length}
-use Rattle.lx_range.specs.Blocks.{frame_of}
-use Rattle.lx_range.specs.Walks.{left_from}
+use Rattle.lx_blocks.specs.Blocks.{frame_of}
+use Rattle.lx_blocks.specs.Walks.{left_from}
 use Rattle.lx_caret.specs.Deleting.{is_stop, stop_behind}
 use Rattle.lx_caret.proofs.Forwards.{IsForth, is_other}
 use Rattle.lx_caret.proofs.joining.stop_behind.Given as goal

@@ -1,6 +1,6 @@
 use Rattle.std.proofs.Common.{◌≡◌, ◌++◌, ◌∷◌, Some, length}
 use Rattle.lx_forest.specs.Lookups.{ancestors}
-use Rattle.lx_range.specs.Places.{until}
+use Rattle.lx_blocks.specs.Places.{until}
 use Rattle.lx_caret.proofs.parting.way_up.Given as goal
 
 -- the keys so far, and those that are left below the block

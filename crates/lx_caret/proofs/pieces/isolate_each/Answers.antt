@@ -1,7 +1,7 @@
 use Rattle.std.proofs.Common.{◌<◌, sym, subst, arith}
 use Rattle.lx_draft.specs.Working.{Working}
 use Rattle.lx_edit.proofs.Turns.{item_at}
-use Rattle.lx_range.specs.Ranges.{characters_at}
+use Rattle.lx_blocks.specs.Ranges.{characters_at}
 use Rattle.lx_caret.proofs.Isolating.{way_on, way_told, way_done}
 use Rattle.lx_caret.proofs.pieces.isolate_each.Goals as goal
 

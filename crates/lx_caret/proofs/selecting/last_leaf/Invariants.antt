@@ -1,6 +1,6 @@
 use Rattle.std.proofs.Common.{◌≡◌}
-use Rattle.lx_node.specs.NamedTrees.{total}
-use Rattle.lx_node.specs.Siblings.{last_of}
+use Rattle.lx_trees.specs.NamedTrees.{total}
+use Rattle.lx_trees.specs.Siblings.{last_of}
 use Rattle.lx_forest.specs.Lookups.{alone, is_attached, keys_within}
 use Rattle.lx_caret.proofs.selecting.last_leaf.Given as goal
 

@@ -1,6 +1,6 @@
 use Rattle.std.proofs.Common.{◌≡◌, ◌∙◌, ap, sym, rules, Some}
 use Rattle.std.specs.Option.{option_copied}
-use Rattle.lx_node.specs.Siblings.{last_of}
+use Rattle.lx_trees.specs.Siblings.{last_of}
 use Rattle.lx_clip.proofs.Lasts.{last_got}
 use Rattle.lx_clip.proofs.blocks.put_tail.Goals as goal
 

@@ -5,7 +5,7 @@ use Rattle.serde_json.specs.View.{view}
 use Rattle.lx_node.specs.Kinds.{is_inline}
 use Rattle.lx_forest.specs.Lookups.{alone}
 use Rattle.lx_json.proofs.BackWritten.{IsRead, is_read, is_found}
-use Rattle.lx_range.specs.Blocks.{is_at}
+use Rattle.lx_blocks.specs.Blocks.{is_at}
 use Rattle.lx_clip.specs.Covers.{covers, item_if, label_for}
 use Rattle.lx_clip.specs.Extents.{seen}
 use Rattle.lx_clip.specs.Slices as slices

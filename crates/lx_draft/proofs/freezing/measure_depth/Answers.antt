@@ -1,5 +1,5 @@
 use Rattle.std.proofs.Common.{◌≢◌, ◌∙◌, rules}
-use Rattle.lx_node.specs.Trees.{nil}
+use Rattle.lx_trees.specs.Trees.{nil}
 use Rattle.lx_forest.specs.Lookups.{preorder}
 use Rattle.lx_draft.proofs.Measured.{measured_none, measured_more, max_is}
 use Rattle.lx_draft.proofs.freezing.measure_depth.Goals as goal

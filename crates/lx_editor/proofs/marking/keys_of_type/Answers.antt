@@ -1,5 +1,5 @@
 use Rattle.std.proofs.Common.{◌≢◌, rules}
-use Rattle.lx_node.specs.Trees.{nil}
+use Rattle.lx_trees.specs.Trees.{nil}
 use Rattle.lx_editor.proofs.Gathered.{gathered_none}
 use Rattle.lx_editor.proofs.marking.keys_of_type.Goals as goal
 

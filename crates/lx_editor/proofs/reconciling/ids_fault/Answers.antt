@@ -1,6 +1,6 @@
 use Rattle.std.proofs.Common.{◌≡◌, ◌∙◌, None, refl, sym, subst}
 use Rattle.lx_forest.specs.Lookups.{alone}
-use Rattle.lx_plain.specs.Allowed.{unkept}
+use Rattle.lx_reconcile.specs.Allowed.{unkept}
 use Rattle.lx_editor.proofs.Ids.{read_alone, read_root, ok_same, ids_suffice, room_enough, ids_counted, room_counted}
 use Rattle.lx_editor.proofs.reconciling.ids_fault.Goals as goal
 

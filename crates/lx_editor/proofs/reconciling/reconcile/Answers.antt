@@ -2,7 +2,8 @@ use Rattle.std.proofs.Common.{◌+◌, ◌≤◌, None, refl, sym, subst}
 use Rattle.lx_node.specs.Limits.{last_u32}
 use Rattle.lx_forest.specs.Lookups.{alone}
 use Rattle.lx_marks.specs.Marks.{is_noted}
-use Rattle.lx_plain.specs.Allowed.{AreCovered, Shows, unkept}
+use Rattle.lx_forest.specs.Covered.{AreCovered}
+use Rattle.lx_reconcile.specs.Allowed.{Shows, unkept}
 use Rattle.lx_reconcile.specs.Allowing.{marking, IsAllowed}
 use Rattle.lx_editor.specs.Updated.{most_reads}
 use Rattle.lx_editor.proofs.Ids.{read_alone, read_root}

@@ -1,7 +1,7 @@
 use Rattle.std.proofs.Common.{◌∙◌, List, ℕ, ap, length}
 use Rattle.std.specs.Prelude.{min, encode_utf8_all}
 use Rattle.lx_node.specs.Limits.{last_u32}
-use Rattle.lx_node.specs.NamedTrees.{total}
+use Rattle.lx_trees.specs.NamedTrees.{total}
 use Rattle.lx_host.specs.Hosts.{HostTree, shape_of}
 use Rattle.lx_host.specs.Html.{first_tree, html_of}
 use Rattle.lx_forest.specs.Forest.{Forest}

@@ -1,8 +1,8 @@
 use Rattle.std.proofs.Common.{◌≡◌, ◌∙◌, sym, ap, arith, true}
-use Rattle.lx_node.specs.NamedTrees.{total}
+use Rattle.lx_trees.specs.NamedTrees.{total}
 use Rattle.lx_host.specs.Hosts.{id_of, has, without}
-use Rattle.lx_rooted.specs.Lookups.{is_within}
-use Rattle.lx_rooted.proofs.Within.{is_within-trans}
+use Rattle.lx_trees.specs.Lookups.{is_within}
+use Rattle.lx_trees.proofs.Within.{is_within-trans}
 use Rattle.lx_host.proofs.Changed.{not_root, none_within, parent_stays, rest_stays, fewer_left, has_within}
 use Rattle.lx_host.proofs.removal.remove_tree.Goals as goal
 

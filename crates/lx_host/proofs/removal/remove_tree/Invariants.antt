@@ -1,7 +1,7 @@
 use Rattle.std.proofs.Common.{◌≡◌, ◌≤◌, true, []}
-use Rattle.lx_node.specs.NamedTrees.{total}
+use Rattle.lx_trees.specs.NamedTrees.{total}
 use Rattle.lx_host.specs.Hosts.{id_of, without}
-use Rattle.lx_rooted.specs.Lookups as lookups
+use Rattle.lx_trees.specs.Lookups as lookups
 use Rattle.lx_host.specs.Weights.{AreKeyed}
 use Rattle.indexmap.specs.IndexMap.{spare}
 use Rattle.lx_host.proofs.removal.remove_tree.Given as goal

@@ -1,4 +1,4 @@
-use Rattle.lx_node.specs.NamedTrees.{total}
+use Rattle.lx_trees.specs.NamedTrees.{total}
 use Rattle.lx_forest.specs.Lookups.{alone}
 use Rattle.lx_json.proofs.BackWritten.{IsWrittenUpTo}
 use Rattle.lx_json.proofs.exporting.+tree_value.Given as goal

@@ -1,5 +1,5 @@
 use Rattle.std.proofs.Common.{◌≢◌, subst, rules}
-use Rattle.lx_node.specs.Trees.{nil}
+use Rattle.lx_trees.specs.Trees.{nil}
 use Rattle.lx_forest.specs.Lookups.{IsForest}
 use Rattle.lx_json.proofs.Walked.{marked_none, depth_by, marked_more, fewer}
 use Rattle.lx_json.proofs.marking.mark_tree.Goals as goal

@@ -1,6 +1,6 @@
 use Rattle.std.proofs.Common.{ℕ, ◌≡◌, cond, None, take}
 use Rattle.std.specs.FinMap.{get}
-use Rattle.lx_node.specs.Siblings.{is_among}
+use Rattle.lx_trees.specs.Siblings.{is_among}
 use Rattle.lx_links.proofs.sweep.take_all.Given as goal
 
 -- the nodes of the keys so far are out

@@ -1,7 +1,7 @@
 use Rattle.std.proofs.Common.{◌≡◌, ◌+◌, ◌≤◌, ℕ, cond, nat_eq, take}
 use Rattle.std.specs.Prelude.{sum_by}
 use Rattle.std.specs.Map.{lookup}
-use Rattle.lx_node.specs.Siblings.{is_among}
+use Rattle.lx_trees.specs.Siblings.{is_among}
 use Rattle.lx_outline.specs.Outline.{heading_at}
 use Rattle.lx_outline.specs.Reading.{heading_reads}
 use Rattle.lx_outline.proofs.applying.renew.Given as goal

@@ -1,5 +1,5 @@
 use Rattle.std.proofs.Common.{◌≡◌, ◌+◌, ◌*◌, ◌≤◌, ℕ, take}
-use Rattle.lx_node.specs.Siblings.{is_among}
+use Rattle.lx_trees.specs.Siblings.{is_among}
 use Rattle.lx_outline.specs.Reading.{is_over_one}
 use Rattle.lx_outline.proofs.applying.touched_by.Given as goal
 

@@ -1,6 +1,6 @@
 use Rattle.std.proofs.Common.{◌≡◌, ◌∙◌, ◌++◌, ap, subst, arith}
 use Rattle.std.specs.Prelude.{sum_by}
-use Rattle.lx_node.specs.Siblings.{from_name}
+use Rattle.lx_trees.specs.Siblings.{from_name}
 use Rattle.lx_forest.specs.Forest.{Forest}
 use Rattle.lx_forest.specs.Lookups.{children_of, next_of}
 use Rattle.lx_links.specs.Stands.{Sound}

@@ -1,6 +1,6 @@
 use Rattle.std.proofs.Common.{◌≡◌, ◌+◌, ◌≤◌, length}
 use Rattle.std.specs.Prelude.{sum_by}
-use Rattle.lx_node.specs.Siblings.{from_name}
+use Rattle.lx_trees.specs.Siblings.{from_name}
 use Rattle.lx_forest.specs.Lookups.{children_of}
 use Rattle.lx_outline.specs.Reading.{with_below, reads_of}
 use Rattle.lx_outline.proofs.Along.{IsOnWay}

@@ -1,4 +1,4 @@
-use Rattle.lx_node.specs.NamedTrees.{total}
+use Rattle.lx_trees.specs.NamedTrees.{total}
 use Rattle.lx_forest.specs.Lookups.{alone}
 use Rattle.lx_outline.proofs.Parts.{AreTaken}
 use Rattle.lx_outline.proofs.telling.+add_gone.Given as goal

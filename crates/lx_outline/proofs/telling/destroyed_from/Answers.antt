@@ -1,6 +1,6 @@
 use Rattle.std.proofs.Common.{◌≡◌, ◌∙◌, ◌+◌, ◌++◌, ◌∷◌, [], take, sym, ap}
 use Rattle.std.proofs.lemmas.List.{take_more}
-use Rattle.lx_node.specs.Siblings.{is_among}
+use Rattle.lx_trees.specs.Siblings.{is_among}
 use Rattle.lx_outline.proofs.Parts.{left_more}
 use Rattle.lx_outline.proofs.telling.destroyed_from.Goals as goal
 

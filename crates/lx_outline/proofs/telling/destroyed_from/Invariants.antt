@@ -1,5 +1,5 @@
 use Rattle.std.proofs.Common.{◌≡◌, ℕ, true, take}
-use Rattle.lx_node.specs.Siblings.{is_among}
+use Rattle.lx_trees.specs.Siblings.{is_among}
 use Rattle.lx_outline.specs.Parts.{AreGone, HasLeft}
 use Rattle.lx_outline.proofs.telling.destroyed_from.Given as goal
 

@@ -1,7 +1,8 @@
 use Rattle.std.proofs.Common.{◌+◌, ◌≤◌, None, refl, sym, subst, arith}
 use Rattle.lx_node.specs.Limits.{last_u32}
 use Rattle.lx_forest.specs.Lookups.{alone}
-use Rattle.lx_plain.specs.Allowed.{AreCovered, Shows, unkept}
+use Rattle.lx_forest.specs.Covered.{AreCovered}
+use Rattle.lx_reconcile.specs.Allowed.{Shows, unkept}
 use Rattle.lx_reconcile.specs.Allowing.{marking}
 use Rattle.lx_reconcile.proofs.UnkeptNodes.{unkept-total}
 use Rattle.lx_reads.proofs.LargeTrees.{order_of_one, read_alone, read_root}

@@ -1,6 +1,6 @@
 use Rattle.std.proofs.Common.{◌∙◌, ◌+◌, ◌≤◌, ap, arith, rules, None}
 use Rattle.lx_forest.specs.Lookups.{alone, has}
-use Rattle.lx_plain.specs.Allowed.{marked_children, staying, unkept}
+use Rattle.lx_reconcile.specs.Allowed.{marked_children, staying, unkept}
 use Rattle.lx_reconcile.specs.Allowing.{marking}
 use Rattle.lx_reconcile.proofs.Attached.{tree_there, tree_alone}
 use Rattle.lx_reconcile.proofs.batch.operations.Goals as goal

@@ -1,6 +1,6 @@
 use Rattle.std.proofs.Common.{◌≡◌, ◌+◌, ◌*◌, length}
-use Rattle.lx_node.specs.NamedTrees.{total}
-use Rattle.lx_node.specs.Siblings.{from_name}
+use Rattle.lx_trees.specs.NamedTrees.{total}
+use Rattle.lx_trees.specs.Siblings.{from_name}
 use Rattle.lx_forest.specs.Lookups.{alone, children_of}
 use Rattle.lx_reconcile.proofs.CountedNodes.{IsCountedUpTo}
 use Rattle.lx_reconcile.proofs.counting.+counting.Given as goal

@@ -1,5 +1,5 @@
 use Rattle.std.proofs.Common.{◌∙◌, sym, ap, Some, option_map}
-use Rattle.lx_plain.specs.Render.{tag_of}
+use Rattle.lx_render.specs.Render.{tag_of}
 use Rattle.lx_reconcile.proofs.CountedNodes.{and_kept, kept_none, kept_some, kept_inside}
 use Rattle.lx_reconcile.proofs.counting.is_kept.Goals as goal
 

@@ -1,6 +1,6 @@
 use Rattle.std.proofs.Common.{◌∙◌, None, refl, ap}
 use Rattle.lx_forest.specs.Lookups.{alone, is_attached}
-use Rattle.lx_plain.specs.Allowed.{unkept}
+use Rattle.lx_reconcile.specs.Allowed.{unkept}
 use Rattle.lx_reconcile.proofs.Attached.{tree_there}
 use Rattle.lx_reconcile.proofs.UnkeptKeys.{counted_told}
 use Rattle.lx_reconcile.proofs.counting.unkept.Goals as goal

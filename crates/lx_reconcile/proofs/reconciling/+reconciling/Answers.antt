@@ -1,10 +1,10 @@
 use Rattle.std.proofs.Common.{◌≡◌, ◌∙◌, ◌+◌, ◌≤◌, ℕ, sym, ap, take, arith, refl, rules, Some, option_map, [], ◌∷◌}
-use Rattle.lx_node.specs.NamedTrees.{total}
+use Rattle.lx_trees.specs.NamedTrees.{total}
 use Rattle.lx_forest.specs.Lookups.{alone, has, children_of, trees_of}
 use Rattle.lx_forest.specs.Records.{record_at}
 use Rattle.lx_forest.specs.Views.{kind_at}
 use Rattle.lx_links.specs.Stands.{node_of}
-use Rattle.lx_plain.specs.Render.{needs_break, tag_of}
+use Rattle.lx_render.specs.Render.{needs_break, tag_of}
 use Rattle.lx_reconcile.specs.Walk.{IsPart, standing}
 use Rattle.lx_reconcile.specs.Allowing.{marking}
 use Rattle.lx_reconcile.specs.Reading.{reads_in, reads_below}

@@ -1,5 +1,5 @@
 use Rattle.std.proofs.Common.{◌∙◌, ◌++◌, ap}
-use Rattle.lx_plain.specs.Render.{attributes_of, text_of}
+use Rattle.lx_render.specs.Render.{attributes_of, text_of}
 use Rattle.lx_reconcile.specs.Created.{attribute_ops, text_ops}
 use Rattle.lx_reconcile.proofs.FromNothing.{root_room, root_pushed}
 use Rattle.lx_reconcile.proofs.views.operations.Goals as goal

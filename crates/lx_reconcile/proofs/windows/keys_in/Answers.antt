@@ -1,5 +1,5 @@
 use Rattle.std.proofs.Common.{◌∙◌, ◌∷◌, [], cond, None, ap, arith, length, length-append}
-use Rattle.lx_node.specs.Siblings.{is_named}
+use Rattle.lx_trees.specs.Siblings.{is_named}
 use Rattle.lx_forest.specs.Lookups.{children_of}
 use Rattle.lx_reconcile.proofs.Between.{found_more, found_fewer, found_within}
 use Rattle.lx_reconcile.proofs.Neighbours.{is_next_in}

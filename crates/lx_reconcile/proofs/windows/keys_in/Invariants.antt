@@ -1,5 +1,5 @@
 use Rattle.std.proofs.Common.{◌≡◌, ◌+◌, ◌≤◌, length}
-use Rattle.lx_node.specs.Siblings.{from_name}
+use Rattle.lx_trees.specs.Siblings.{from_name}
 use Rattle.lx_forest.specs.Lookups.{children_of}
 use Rattle.lx_reconcile.proofs.Between.{AreFound}
 use Rattle.lx_reconcile.proofs.windows.keys_in.Given as goal

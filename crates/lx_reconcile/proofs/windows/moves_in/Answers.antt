@@ -1,5 +1,5 @@
 use Rattle.std.proofs.Common.{◌∙◌, sym, subst}
-use Rattle.lx_node.specs.Siblings.{NoRepeats}
+use Rattle.lx_trees.specs.Siblings.{NoRepeats}
 use Rattle.lx_forest.specs.Lookups.{children_of}
 use Rattle.lx_forest.proofs.Lookups.{NoRepeats-children_of}
 use Rattle.lx_reconcile.proofs.Between.{between-once}

@@ -1,6 +1,6 @@
 use Rattle.std.proofs.Common.{chars, ◌++◌, if◌then◌else◌, nat_lt, codes, [], take, ap, ◌∙◌, sym}
 use Rattle.std.proofs.lemmas.Str.{chars-nil}
-use Rattle.lx_plain.specs.Render.{spaced}
+use Rattle.lx_render.specs.Render.{spaced}
 use Rattle.lx_render.proofs.Words.{spaced-next}
 use Rattle.lx_render.proofs.classes.spaced.Goals as goal
 

@@ -1,5 +1,5 @@
 use Rattle.std.proofs.Common.{◌≡◌, take, chars, string_bytes}
-use Rattle.lx_plain.specs.Render as shown
+use Rattle.lx_render.specs.Render as shown
 use Rattle.lx_render.proofs.classes.spaced.Given as goal
 
 abbrev pub invariant-loop-place : goal.invariant-loop-place

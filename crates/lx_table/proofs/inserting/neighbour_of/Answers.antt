@@ -1,6 +1,6 @@
 use Rattle.std.proofs.Common.{◌∙◌, sym, arith}
 use Rattle.lx_links.proofs.Up.{one_up}
-use Rattle.lx_range.proofs.Up.{find_up, find_top}
+use Rattle.lx_blocks.proofs.Up.{find_up, find_top}
 use Rattle.lx_table.specs.Making.{stands_beside_tables}
 use Rattle.lx_table.proofs.inserting.neighbour_of.Goals as goal
 

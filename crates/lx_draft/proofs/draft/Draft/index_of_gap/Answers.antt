@@ -1,5 +1,5 @@
 use Rattle.std.proofs.Common.{◌≡◌, sym, ap, subst, true, arith}
-use Rattle.lx_node.specs.Siblings.{is_among, is_place}
+use Rattle.lx_trees.specs.Siblings.{is_among, is_place}
 use Rattle.lx_forest.specs.Lookups.{children_of, IsForest}
 use Rattle.lx_draft.specs.Working.{Working}
 use Rattle.lx_draft.specs.Inside.{working_of}

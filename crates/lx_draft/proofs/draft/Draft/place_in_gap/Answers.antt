@@ -1,6 +1,6 @@
 use Rattle.std.proofs.Common.{◌≡◌, subst}
 use Rattle.std.specs.Prelude.{OnErr}
-use Rattle.lx_node.specs.Trees.{nil}
+use Rattle.lx_trees.specs.Trees.{nil}
 use Rattle.lx_draft.specs.Inside.{working_of}
 use Rattle.lx_draft.specs.Raised.{IsRaisedBut}
 use Rattle.lx_draft.proofs.Put.{MayPlace, may_place_in}

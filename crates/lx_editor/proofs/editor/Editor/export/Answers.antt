@@ -1,7 +1,7 @@
 use Rattle.std.proofs.Common.{◌≢◌, ℕ, ◌+◌, ◌<◌, ◌≤◌, [], IfOk, subst}
 use Rattle.serde_json.specs.View.{view}
 use Rattle.lx_node.specs.Limits.{most_key}
-use Rattle.lx_node.specs.NamedTrees.{total}
+use Rattle.lx_trees.specs.NamedTrees.{total}
 use Rattle.lx_forest.specs.Lookups.{children_of}
 use Rattle.lx_json.specs.Back.{ReadsBack}
 use Rattle.lx_editor.specs.Editor.{Editor}

@@ -1,6 +1,6 @@
 use Rattle.std.proofs.Common.{◌≡◌, ◌∙◌, IfOk, subst}
 use Rattle.lx_host.specs.Html.{html_of}
-use Rattle.lx_plain.specs.Render.{render}
+use Rattle.lx_render.specs.Render.{render}
 use Rattle.lx_script.specs.declared.reply.Reply.TheVariants as reply
 use Rattle.lx_script.specs.Replies.{reply_text}
 use Rattle.lx_editor.specs.Editor.{Editor}

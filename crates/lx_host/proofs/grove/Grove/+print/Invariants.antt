@@ -1,10 +1,10 @@
 use Rattle.std.proofs.Common.{◌++◌, ◌+◌, ◌*◌, length}
-use Rattle.lx_node.specs.NamedTrees.{total}
-use Rattle.lx_node.specs.Siblings.{from_name}
+use Rattle.lx_trees.specs.NamedTrees.{total}
+use Rattle.lx_trees.specs.Siblings.{from_name}
 use Rattle.lx_host.specs.Below.{below_of}
 use Rattle.lx_host.specs.Hosts.{id_of, alone, shape_of}
 use Rattle.lx_host.specs.Html.{html_of}
-use Rattle.lx_rooted.specs.Lookups.{children_of}
+use Rattle.lx_trees.specs.Lookups.{children_of}
 use Rattle.lx_host.proofs.Listed.{IsListing}
 use Rattle.lx_host.proofs.grove.Grove.+print.Given as goal
 

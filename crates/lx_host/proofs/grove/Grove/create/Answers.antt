@@ -1,5 +1,5 @@
 use Rattle.lx_host.specs.Hosts.{Face, one_host}
-use Rattle.lx_node.specs.Trees.{joined}
+use Rattle.lx_trees.specs.Trees.{joined}
 use Rattle.lx_host.specs.Stands.{hosts_in-is}
 use Rattle.lx_host.proofs.Stood.{stood_now, room_now}
 use Rattle.lx_host.proofs.Changed.{created_stands, on_ok}

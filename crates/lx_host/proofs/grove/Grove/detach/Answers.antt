@@ -1,7 +1,7 @@
 use Rattle.std.proofs.Common.{sym, ap, ◌∙◌}
 use Rattle.std.specs.Option.{option_copied}
 use Rattle.lx_host.specs.Hosts.{id_of}
-use Rattle.lx_rooted.specs.Edits.{take_out}
+use Rattle.lx_trees.specs.Edits.{take_out}
 use Rattle.lx_host.specs.Stands.{hosts_in-is}
 use Rattle.lx_host.proofs.Stood.{stood_now, absent_stays, top_stays, taken_stands}
 use Rattle.lx_host.proofs.grove.Grove.detach.Goals as goal

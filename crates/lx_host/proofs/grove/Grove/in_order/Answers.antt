@@ -1,5 +1,5 @@
 use Rattle.std.proofs.Common.{ap, sym, ◌∙◌}
-use Rattle.lx_node.specs.Siblings.{is_among}
+use Rattle.lx_trees.specs.Siblings.{is_among}
 use Rattle.lx_host.specs.Stands.{GroveView}
 use Rattle.lx_host.proofs.Stood.{stood_now}
 use Rattle.lx_host.proofs.Tabled.{ids_are}

@@ -1,7 +1,7 @@
 use Rattle.std.proofs.Common.{◌∙◌, sym, ap, arith}
 use Rattle.lx_host.specs.Hosts.{id_of}
-use Rattle.lx_rooted.specs.Lookups.{is_within}
-use Rattle.lx_rooted.proofs.Within.{is_within-self, is_within-up}
+use Rattle.lx_trees.specs.Lookups.{is_within}
+use Rattle.lx_trees.proofs.Within.{is_within-self, is_within-up}
 use Rattle.lx_host.proofs.Changed.{one_up, not_top}
 use Rattle.lx_host.proofs.grove.Grove.is_within.Goals as goal
 

@@ -1,7 +1,7 @@
 use Rattle.std.proofs.Common.{◌≡◌, length}
-use Rattle.lx_node.specs.Walks.{ancestors}
+use Rattle.lx_trees.specs.Walks.{ancestors}
 use Rattle.lx_host.specs.Hosts.{id_of}
-use Rattle.lx_rooted.specs.Lookups as lookups
+use Rattle.lx_trees.specs.Lookups as lookups
 use Rattle.lx_host.proofs.grove.Grove.is_within.Given as goal
 
 abbrev pub invariant-loop-at : goal.invariant-loop-at

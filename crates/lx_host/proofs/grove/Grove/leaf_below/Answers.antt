@@ -1,6 +1,6 @@
 use Rattle.std.proofs.Common.{◌∙◌, sym}
 use Rattle.lx_host.specs.Hosts.{id_of}
-use Rattle.lx_rooted.proofs.Within.{is_within-self}
+use Rattle.lx_trees.proofs.Within.{is_within-self}
 use Rattle.lx_host.proofs.Changed.{child_smaller, child_within, no_child}
 use Rattle.lx_host.proofs.grove.Grove.leaf_below.Goals as goal
 

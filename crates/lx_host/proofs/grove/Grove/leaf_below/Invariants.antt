@@ -1,7 +1,7 @@
 use Rattle.std.proofs.Common.{◌≡◌, true}
-use Rattle.lx_node.specs.NamedTrees.{total}
+use Rattle.lx_trees.specs.NamedTrees.{total}
 use Rattle.lx_host.specs.Hosts.{id_of, alone}
-use Rattle.lx_rooted.specs.Lookups as lookups
+use Rattle.lx_trees.specs.Lookups as lookups
 use Rattle.lx_host.proofs.grove.Grove.leaf_below.Given as goal
 
 abbrev pub invariant-loop-child : goal.invariant-loop-child

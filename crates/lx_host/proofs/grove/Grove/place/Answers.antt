@@ -1,8 +1,8 @@
 use Rattle.std.proofs.Common.{sym, ap, ◌∙◌, subst}
-use Rattle.lx_node.specs.Siblings.{is_place}
+use Rattle.lx_trees.specs.Siblings.{is_place}
 use Rattle.lx_host.specs.Hosts.{id_of}
-use Rattle.lx_rooted.specs.Lookups.{children_of}
-use Rattle.lx_rooted.specs.Edits.{CanPut, put_in}
+use Rattle.lx_trees.specs.Lookups.{children_of}
+use Rattle.lx_trees.specs.Edits.{CanPut, put_in}
 use Rattle.lx_host.proofs.Placed.{can_place, place_in, placed}
 use Rattle.lx_host.proofs.grove.Grove.place.Goals as goal
 

@@ -1,5 +1,5 @@
 use Rattle.lx_host.specs.Hosts.{id_of}
-use Rattle.lx_rooted.specs.Edits.{put_in}
+use Rattle.lx_trees.specs.Edits.{put_in}
 use Rattle.lx_host.specs.Stands.{hosts_in-is}
 use Rattle.lx_host.proofs.Stood.{stood_now, room_below, placed_stands}
 use Rattle.lx_host.proofs.grove.Grove.put.Goals as goal

@@ -1,7 +1,7 @@
 use Rattle.std.proofs.Common.{◌∙◌, ap}
 use Rattle.lx_host.specs.Hosts.{id_of, without}
-use Rattle.lx_rooted.specs.Lookups.{parent_of, children_of}
-use Rattle.lx_rooted.proofs.Within.{without-take_out_eq}
+use Rattle.lx_trees.specs.Lookups.{parent_of, children_of}
+use Rattle.lx_trees.proofs.Within.{without-take_out_eq}
 use Rattle.lx_host.proofs.Changed.{taken_top, taken_leaf}
 use Rattle.lx_host.proofs.grove.Grove.take_leaf.Goals as goal
 

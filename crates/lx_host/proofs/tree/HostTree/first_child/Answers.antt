@@ -1,5 +1,5 @@
 use Rattle.std.proofs.Common.{ap, ◌∙◌}
-use Rattle.lx_node.specs.Siblings.{first_of}
+use Rattle.lx_trees.specs.Siblings.{first_of}
 use Rattle.lx_host.specs.Lookups.{first_child}
 use Rattle.lx_host.specs.Room.{Held}
 use Rattle.lx_host.proofs.Placed.{children-same}

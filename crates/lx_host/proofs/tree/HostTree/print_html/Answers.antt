@@ -3,7 +3,7 @@ use Rattle.lx_host.specs.Hosts.{id_of, alone, shape_of}
 use Rattle.lx_host.specs.Html.{html_of, first_tree}
 use Rattle.lx_host.specs.Room.{Held}
 use Rattle.lx_host.proofs.Weights.{first_alone, first_shape}
-use Rattle.lx_rooted.proofs.Edits.{has-root}
+use Rattle.lx_trees.proofs.Edits.{has-root}
 use Rattle.lx_host.proofs.tree.HostTree.print_html.Goals as goal
 
 pub print-requires : goal.print-requires

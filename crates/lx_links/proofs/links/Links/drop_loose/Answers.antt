@@ -1,6 +1,6 @@
 use Rattle.std.proofs.Common.{◌≡◌, ◌∙◌, sym, ap, cond, None}
 use Rattle.std.specs.FinMap.{get}
-use Rattle.lx_node.specs.Siblings.{is_among}
+use Rattle.lx_trees.specs.Siblings.{is_among}
 use Rattle.lx_forest.specs.Edits.{drop_detached}
 use Rattle.lx_links.specs.Stands.{Holds}
 use Rattle.lx_links.specs.Sums.{sums_of, plus}

@@ -1,6 +1,6 @@
 use Rattle.std.proofs.Common.{◌≡◌, ◌+◌}
 use Rattle.lx_forest.specs.Lookups.{siblings, parent_of}
-use Rattle.lx_node.proofs.Positions.{place_in}
+use Rattle.lx_trees.proofs.Positions.{place_in}
 use Rattle.lx_links.proofs.links.Links.index_of.Given as goal
 
 -- the one that is reached is a sibling, and so many places before the one asked for

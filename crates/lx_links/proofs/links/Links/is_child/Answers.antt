@@ -1,5 +1,5 @@
 use Rattle.std.proofs.Common.{◌∙◌, sym, ap}
-use Rattle.lx_node.specs.Siblings.{is_named}
+use Rattle.lx_trees.specs.Siblings.{is_named}
 use Rattle.lx_links.proofs.Placed.{child_named}
 use Rattle.lx_links.proofs.links.Links.is_child.Goals as goal
 

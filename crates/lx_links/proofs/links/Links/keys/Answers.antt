@@ -1,5 +1,5 @@
 use Rattle.std.proofs.Common.{ℕ, ◌≡◌, List, Result, Ok, Err, Vec, Global, IfOk, sym, ◌∙◌, subst}
-use Rattle.lx_node.specs.Siblings.{NoRepeats}
+use Rattle.lx_trees.specs.Siblings.{NoRepeats}
 use Rattle.lx_forest.specs.Loose.{AreLoose}
 use Rattle.lx_links.proofs.Stood.{stood_by}
 use Rattle.lx_links.proofs.Swept.{is_among-keys, NoRepeats-keys}

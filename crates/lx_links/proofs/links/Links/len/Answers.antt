@@ -1,5 +1,5 @@
 use Rattle.std.proofs.Common.{◌∙◌, sym, ap}
-use Rattle.lx_node.specs.NamedTrees.{total}
+use Rattle.lx_trees.specs.NamedTrees.{total}
 use Rattle.lx_links.proofs.Edited.{all_held}
 use Rattle.lx_links.proofs.Stood.{stood_by, failed_by, sound}
 use Rattle.lx_links.proofs.links.Links.len.Goals as goal

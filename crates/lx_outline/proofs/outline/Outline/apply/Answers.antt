@@ -1,6 +1,6 @@
 use Rattle.std.proofs.Common.{◌∙◌, ◌+◌, ◌≤◌, nat_eq, refl, ap, arith}
 use Rattle.std.specs.Map.{lookup}
-use Rattle.lx_node.specs.NamedTrees.{total}
+use Rattle.lx_trees.specs.NamedTrees.{total}
 use Rattle.lx_forest.specs.Weights.{weight}
 use Rattle.lx_outline.specs.Outline.{OutlineView, characters_in}
 use Rattle.lx_outline.specs.Reading.{most_reads}

@@ -1,0 +1,204 @@
+-- Nodes that are put in stand between what stood before the place and what stood after it.
+use Rattle.std.proofs.Common.{◌≡◌, ◌≢◌, ◌∙◌, ◌+◌, ℕ, Bool, true, false, cond, eqb, ◌||◌, List, [], ◌∷◌, ◌++◌, length, Option, None, Some, Ok, refl, ap, sym, subst, arith, append_assoc}
+use Rattle.std.specs.Prelude.{slice_get}
+use Rattle.std.specs.Option.{option_or}
+use Rattle.std.proofs.lemmas.Bool.Decides.{eqb_tells}
+use Rattle.lx_trees.specs.Siblings.{is_named, is_among, NoRepeats, index_in, names_with}
+use Rattle.lx_trees.proofs.Siblings.{is_among-append}
+use Rattle.lx_forest.specs.Forest.{Forest}
+use Rattle.lx_forest.specs.Lookups.{alone, label_of, parent_of, children_of, children_below, index_of, is_within, IsForest}
+use Rattle.lx_forest.specs.Edits.{put_in}
+use Rattle.lx_forest.proofs.Lookups.{is_among-children_of, NoRepeats-children_of, children_of-put_in, label_of-put_in}
+use Rattle.lx_draft.specs.Working.{Working}
+use Rattle.lx_draft.specs.Faults.{over_counts, put_fault}
+use Rattle.lx_draft.specs.Steps.{node_placed, put_step}
+use Rattle.lx_draft.specs.Beside.{before_at, put_before_step, behind_at, put_behind_step}
+use Rattle.lx_draft.specs.Covering.{IsReady, AreCovered}
+use Rattle.lx_draft.proofs.Covered.{answered, covered-self, covered-then}
+use Rattle.lx_draft.proofs.CoveredSteps.{covered-put}
+use Rattle.lx_draft.proofs.Put.{both_none, can_put, put_within}
+use Rattle.lx_edit.proofs.Climbed.{first_part}
+use Rattle.lx_clip.specs.Pasting.{put_behind_each}
+use Rattle.lx_clip_laws.proofs.Gaps.{names_at, in_two, at_name, index_between, among_between}
+use Rattle.lx_clip_laws.proofs.Placing.{within_put, alone_put}
+
+-- These nodes came below one parent, between the children before and those after them.
+pub record Came (p : ℕ) (before keys behind : List ℕ) (w v : Working) : Type 0 where
+  pub was : children_of w.forest p ≡ before ++ behind
+  pub now : children_of v.forest p ≡ before ++ (keys ++ behind)
+  pub others : (q : ℕ) → q ≢ p → children_of v.forest q ≡ children_of w.forest q
+  pub labels : (q : ℕ) → label_of v.forest q ≡ label_of w.forest q
+  pub trees : (a : ℕ) → is_within w.forest a p ≡ false → alone a v.forest ≡ alone a w.forest
+  pub within : (a : ℕ) → is_within v.forest a p ≡ is_within w.forest a p
+  pub outside : (k : ℕ) → is_among k keys ≡ true → is_within w.forest k p ≡ false
+  pub covered : AreCovered w v
+
+-- ---- one
+
+one_outside : (k p q : ℕ) (f : Forest) → is_within f k p ≡ false → is_among q (k ∷ []) ≡ true → is_within f q p ≡ false
+one_outside k p q f out among = let same : k ≡ q = grind (arith, among, eqb_tells k q) in subst (λ x. is_within f x p ≡ false) same out
+
+pub put_came : (k p index : ℕ) (before behind : List ℕ) (w v : Working) → IsReady w → children_of w.forest p ≡ before ++ behind → length before ≡ index → put_step k p index w ≡ Ok v → Came p before (k ∷ []) behind w v
+unfolding put_step
+put_came k p index before behind w v ready was many e =
+    let told = answered (option_or (put_fault k p index w.forest) (over_counts w)) (node_placed k p index w) v e in
+    let none = (both_none (put_fault k p index w.forest) (over_counts w) told.0).0 in
+    let can = can_put w.forest k p index none in
+    let h = ready.in_order in
+    let o : Option ℕ = slice_get (children_of w.forest p) index in
+    let forest : v.forest ≡ put_in p o k w.forest = ap (λ u. u.forest) (sym told.1) in
+    let own : eqb p p ≡ true = grind (arith, eqb_tells p p) in
+    let here : names_with o (k ∷ []) (children_of w.forest p) ≡ before ++ (k ∷ behind) =
+    ap (λ i. names_with (slice_get (children_of w.forest p) i) (k ∷ []) (children_of w.forest p)) (sym many)
+    ∙ ap (λ xs. names_with (slice_get xs (length before)) (k ∷ []) xs) was
+    ∙ names_at before behind (k ∷ []) (subst NoRepeats was (NoRepeats-children_of w.forest p h)) in
+    record {
+      was = was;
+      now =
+          ap (λ f. children_of f p) forest ∙ children_of-put_in p o k w.forest p h can
+          ∙ ap (λ b. cond b (names_with o (k ∷ []) (children_of w.forest p)) (children_of w.forest p)) own
+          ∙ here;
+      others = λ q other. ap (λ f. children_of f q) forest ∙ children_of-put_in p o k w.forest q h can
+          ∙ ap (λ b. cond b (names_with o (k ∷ []) (children_of w.forest q)) (children_of w.forest q)) (different q other);
+      labels = λ q. ap (λ f. label_of f q) forest ∙ label_of-put_in p o k w.forest q h can;
+      trees = λ a out. ap (alone a) forest ∙ alone_put a p o k w.forest h can out;
+      within = λ a. ap (λ f. is_within f a p) forest ∙ within_put a p o k w.forest h can;
+      outside = λ q among. one_outside k p q w.forest can.outside among;
+      covered = covered-put k p index w v ready e;
+    }
+  where
+    different : (q : ℕ) → q ≢ p → eqb q p ≡ false
+    different q other = grind (arith, other, eqb_tells q p)
+
+-- ---- several
+
+came_none : (p : ℕ) (before behind : List ℕ) (w : Working) → IsReady w → children_of w.forest p ≡ before ++ behind → Came p before [] behind w w
+came_none p before behind w ready was = record {
+  was = was;
+  now = was;
+  others = λ q other. refl;
+  labels = λ q. refl;
+  trees = λ a out. refl;
+  within = λ a. refl;
+  outside = λ k among. absurd (cc);
+  covered = covered-self w ready;
+}
+
+pub came_then : (p : ℕ) (before keys more behind : List ℕ) (w u v : Working) → Came p before keys behind w u → Came p (before ++ keys) more behind u v → Came p before (keys ++ more) behind w v
+came_then p before keys more behind w u v a b = record {
+  was = a.was;
+  now = b.now ∙ append_assoc before keys (more ++ behind) ∙ ap (λ xs. before ++ xs) (sym (append_assoc keys more behind));
+  others = λ q other. b.others q other ∙ a.others q other;
+  labels = λ q. b.labels q ∙ a.labels q;
+  trees = λ x out. b.trees x (a.within x ∙ out) ∙ a.trees x out;
+  within = λ x. b.within x ∙ a.within x;
+  outside = λ q among. either q (is_among q keys) refl (sym (is_among-append q keys more) ∙ among);
+  covered = covered-then w u v a.covered b.covered;
+}
+  where
+    either : (q : ℕ) (t : Bool) → is_among q keys ≡ t → (is_among q keys || is_among q more) ≡ true → is_within w.forest q p ≡ false
+    either q true is among = a.outside q is
+    either q false is among = sym (a.within q) ∙ b.outside q (ap (λ t. t || is_among q more) (sym is) ∙ among)
+
+-- the parent and the index of a child
+pub record IsChild (f : Forest) (p other i : ℕ) : Type 0 where
+  pub up : parent_of f other ≡ Some p
+  pub at : index_of f other ≡ Some i
+
+pub is_child : (f : Forest) (p other : ℕ) (before behind : List ℕ) → IsForest f → children_of f p ≡ before ++ (other ∷ behind) → IsChild f p other (length before)
+is_child f p other before behind h are =
+    let up : parent_of f other ≡ Some p = named_parent (parent_of f other) (sym (is_among-children_of f other p h) ∙ ap (is_among other) are ∙ among_between before behind other) in
+    record {
+      up = up;
+      at = ap (λ o. index_in (children_below f o) other) up ∙ ap (λ xs. index_in xs other) are ∙ index_between before behind other (subst NoRepeats are (NoRepeats-children_of f p h));
+    }
+  where
+    named_parent : (o : Option ℕ) → is_named o p ≡ true → o ≡ Some p
+    named_parent None is = absurd (cc)
+    named_parent (Some x) is = ap Some (grind (arith, is, eqb_tells p x))
+
+pub put_behind_came : (k p other : ℕ) (before behind : List ℕ) (w v : Working) → IsReady w → children_of w.forest p ≡ before ++ (other ∷ behind) → put_behind_step k other w ≡ Ok v → Came p (before ++ (other ∷ [])) (k ∷ []) behind w v
+unfolding put_behind_step
+put_behind_came k p other before behind w v ready are e =
+    let child = is_child w.forest p other before behind ready.in_order are in
+    let step : put_step k p (length before + 1) w ≡ Ok v = sym (ap (λ o. behind_at k other o (index_of w.forest other) w) child.up ∙ ap (λ o. behind_at k other (Some p) o w) child.at) ∙ e in
+    put_came k p (length before + 1) (before ++ (other ∷ [])) behind w v ready (are ∙ sym (append_assoc before (other ∷ []) behind)) (one_longer before other) step
+  where
+    one_longer : (xs : List ℕ) (x : ℕ) → length (xs ++ (x ∷ [])) ≡ length xs + 1
+    one_longer [] x = refl
+    one_longer (y ∷ xs) x = omega (arith, one_longer xs x)
+
+pub behind_each_came : (keys : List ℕ) (p other : ℕ) (before behind : List ℕ) (w v : Working) → IsReady w → children_of w.forest p ≡ before ++ (other ∷ behind) → put_behind_each other keys w ≡ Ok v
+    → Came p (before ++ (other ∷ [])) keys behind w v
+unfolding put_behind_each
+behind_each_came [] p other before behind w v ready are e =
+    subst (λ u. Came p (before ++ (other ∷ [])) [] behind w u) (let same : w ≡ v = cc in same) (came_none p (before ++ (other ∷ [])) behind w ready (are ∙ sym (append_assoc before (other ∷ []) behind)))
+behind_each_came (k ∷ ks) p other before behind w v ready are e =
+    let one = first_part (put_behind_step k other w) (put_behind_each k ks) v e in
+    let a = put_behind_came k p other before behind w one.0 ready are one.1 in
+    came_then p (before ++ (other ∷ [])) (k ∷ []) ks behind w one.0 v a
+    (behind_each_came ks p k (before ++ (other ∷ [])) behind one.0 v a.covered.ready a.now one.2)
+
+-- ---- where a node is put
+
+-- what stands around a child
+pub record StandsIn (f : Forest) (other : ℕ) : Type 0 where
+  pub parent : ℕ
+  pub before : List ℕ
+  pub behind : List ℕ
+  pub are : children_of f parent ≡ before ++ (other ∷ behind)
+  pub up : parent_of f other ≡ Some parent
+  pub at : index_of f other ≡ Some (length before)
+
+stands_in : (f : Forest) (other p i : ℕ) → parent_of f other ≡ Some p → index_of f other ≡ Some i → StandsIn f other
+stands_in f other p i up at =
+    let a = at_name (children_of f p) other i (sym (ap (λ o. index_in (children_below f o) other) up) ∙ at) in
+    record { parent = p; before = a.before; behind = a.behind; are = a.all; up = up; at = at ∙ ap Some (sym a.so_many) }
+
+beside : (f : Forest) (other : ℕ) (P : Type 0) (p i : Option ℕ) → parent_of f other ≡ p → index_of f other ≡ i → (StandsIn f other → P) → (p ≡ None → P) → (i ≡ None → P) → P
+beside f other P (Some p) (Some i) up at then no_parent no_index = then (stands_in f other p i up at)
+beside f other P None i up at then no_parent no_index = no_parent refl
+beside f other P (Some p) None up at then no_parent no_index = no_index refl
+
+none_behind : (k other : ℕ) (p i : Option ℕ) (w v : Working) → behind_at k other p i w ≡ Ok v → (p ≡ None → ⊥) × (i ≡ None → ⊥)
+none_behind k other (Some p) (Some i) w v e = (λ none. absurd (cc), λ none. absurd (cc))
+none_behind k other None i w v e = absurd (cc)
+none_behind k other (Some p) None w v e = absurd (cc)
+
+none_before : (k other : ℕ) (p i : Option ℕ) (w v : Working) → before_at k other p i w ≡ Ok v → (p ≡ None → ⊥) × (i ≡ None → ⊥)
+none_before k other (Some p) (Some i) w v e = (λ none. absurd (cc), λ none. absurd (cc))
+none_before k other None i w v e = absurd (cc)
+none_before k other (Some p) None w v e = absurd (cc)
+
+-- what it is put right after stands somewhere
+pub behind_stands : (k other : ℕ) (w v : Working) → put_behind_step k other w ≡ Ok v → StandsIn w.forest other
+unfolding put_behind_step
+behind_stands k other w v e =
+    let some = none_behind k other (parent_of w.forest other) (index_of w.forest other) w v e in
+    beside w.forest other (StandsIn w.forest other) (parent_of w.forest other) (index_of w.forest other) refl refl (λ s. s) (λ none. absurd (some.0 none)) (λ none. absurd (some.1 none))
+
+pub before_stands : (k other : ℕ) (w v : Working) → put_before_step k other w ≡ Ok v → StandsIn w.forest other
+unfolding put_before_step
+before_stands k other w v e =
+    let some = none_before k other (parent_of w.forest other) (index_of w.forest other) w v e in
+    beside w.forest other (StandsIn w.forest other) (parent_of w.forest other) (index_of w.forest other) refl refl (λ s. s) (λ none. absurd (some.0 none)) (λ none. absurd (some.1 none))
+
+pub put_before_came : (k other : ℕ) (w v : Working) (s : StandsIn w.forest other) → IsReady w → put_before_step k other w ≡ Ok v → Came s.parent s.before (k ∷ []) (other ∷ s.behind) w v
+unfolding put_before_step
+put_before_came k other w v s ready e =
+    let step : put_step k s.parent (length s.before) w ≡ Ok v = sym (ap (λ o. before_at k other o (index_of w.forest other) w) s.up ∙ ap (λ o. before_at k other (Some s.parent) o w) s.at) ∙ e in
+    put_came k s.parent (length s.before) s.before (other ∷ s.behind) w v ready s.are refl step
+
+-- in an element, at an index
+pub record StandsAt (f : Forest) (p index : ℕ) : Type 0 where
+  pub before : List ℕ
+  pub behind : List ℕ
+  pub are : children_of f p ≡ before ++ behind
+  pub so_many : length before ≡ index
+
+pub put_stands : (k p index : ℕ) (w v : Working) → put_step k p index w ≡ Ok v → StandsAt w.forest p index
+unfolding put_step
+put_stands k p index w v e =
+    let told = answered (option_or (put_fault k p index w.forest) (over_counts w)) (node_placed k p index w) v e in
+    let t = in_two (children_of w.forest p) index (put_within w.forest k p index (both_none (put_fault k p index w.forest) (over_counts w) told.0).0) in
+    record { before = t.before; behind = t.behind; are = t.all; so_many = t.so_many }

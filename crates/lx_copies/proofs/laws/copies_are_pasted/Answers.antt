@@ -1,5 +1,0 @@
-use Rattle.lx_copies.proofs.Inserts.{copies_are_pasted}
-use Rattle.lx_copies.proofs.laws.copies_are_pasted.Goals as goal
-
-pub returns : goal.returns
-returns c = copies_are_pasted

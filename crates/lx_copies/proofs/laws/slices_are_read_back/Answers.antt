@@ -1,5 +1,0 @@
-use Rattle.lx_copies.proofs.ReadBack.{slices_are_read_back}
-use Rattle.lx_copies.proofs.laws.slices_are_read_back.Goals as goal
-
-pub returns : goal.returns
-returns c = slices_are_read_back

@@ -1,0 +1,210 @@
+-- What a split leaves, law by law.
+use Rattle.std.proofs.Common.{◌≡◌, ◌≢◌, ◌∙◌, ℕ, ◌≤◌, Bool, true, false, cond, List, [], ◌∷◌, length, map, Option, None, Some, Ok, refl, sym, ap, subst, arith, append-nil, inl, inr}
+use Rattle.std.specs.Option.{option_or}
+use Rattle.std.specs.Prelude.{is_some}
+use Rattle.std.proofs.lemmas.Bool.Decides.{eqb_tells, nat_tests}
+use Rattle.lx_node.specs.Kinds.{is_text, may_hold}
+use Rattle.lx_node.specs.Limits.{last_u32}
+use Rattle.lx_trees.specs.Siblings.{is_among}
+use Rattle.lx_trees.specs.Spots.{children_at}
+use Rattle.lx_node.specs.declared.kind.Kind.{Kind}
+use Rattle.lx_node.specs.declared.kind.Kind.TheVariants as kinds
+use Rattle.lx_node.specs.declared.fields.TextFields.{TextFields}
+use Rattle.lx_node.specs.declared.cause.Cause.{Cause}
+use Rattle.lx_node.specs.declared.cause.Cause.TheVariants.{WrongKind}
+use Rattle.lx_trees.proofs.Siblings.{is_named_tells}
+use Rattle.lx_text.specs.Texts.{text_length, front_of, rest_of, slice_of}
+use Rattle.lx_text.proofs.Told.{offset_start, told-none}
+use Rattle.lx_forest.specs.Forest.{Label}
+use Rattle.lx_forest.specs.Lookups.{has, spot, label_of, kind_of, parent_of, children_of, IsForest, IsHeld}
+use Rattle.lx_forest.proofs.Lookups.{NoRepeats-children_of, has-child}
+use Rattle.lx_links.specs.Faults.{unknown, not_below}
+use Rattle.lx_draft.specs.Working.{Working}
+use Rattle.lx_draft.specs.Covering.{IsReady}
+use Rattle.lx_draft.specs.Selecting.{unlike, length_told}
+use Rattle.lx_draft.specs.Faults.{answer, after, text_in}
+use Rattle.lx_draft.specs.Steps.{text_replaced}
+use Rattle.lx_draft.proofs.Gaps.{parent_here}
+use Rattle.lx_draft.proofs.Put.{both_none}
+use Rattle.lx_draft.proofs.Touched.{is_some-kind_of}
+use Rattle.lx_edit.specs.Conditions.{length_at, bad_offset, split_fault}
+use Rattle.lx_edit.specs.Texts.{text_or_none, cut_at, split_step, keys_from}
+use Rattle.lx_edit_laws.specs.Reading.{text_at, texts_of, read_below, in_place_of, place_among, PlacesAreKept}
+use Rattle.lx_edit_laws.specs.Splits.{cut_from, IsSplit, SplitsAreTold}
+use Rattle.lx_edit_laws.proofs.Reading.{down, reads_of, read-leaf, reads-leaves, reads-same, reads-in_place, read-level_same, childless_text}
+use Rattle.lx_edit_laws.proofs.ReadingPlaces.{in_place_of-self}
+use Rattle.lx_edit_laws.proofs.SplitPieces.{IsParted, ends_self, parted}
+use Rattle.lx_edit_laws.proofs.SplitPoints.{PointsGo, none_go, points_go}
+use Rattle.lx_edit_laws.proofs.SplitTexts.{whole-is}
+
+-- ---- what isn't refused
+
+-- no offset is within what has no characters
+pub no_offset : (o : ℕ) (rest : List ℕ) → bad_offset 0 [] (o ∷ rest) ≢ None
+no_offset o rest none = absurd (grind (arith, none, nat_tests, told-none))
+
+text_kind : (kind : Kind) → is_text kind ≡ true → kind ≡ kinds.Text
+unfolding is_text
+text_kind kinds.Text e = refl
+text_kind kind e = absurd (cc)
+
+-- what has to be a text is one
+pub kind_by : (o : Option Kind) → is_some o ≡ true → unlike is_text o ≡ None → o ≡ Some kinds.Text
+kind_by None known e = absurd (cc)
+kind_by (Some kind) known e = by_test (is_text kind) refl e where
+  by_test : (b : Bool) → is_text kind ≡ b → cond b None (Some (WrongKind kind)) ≡ None → Some kind ≡ Some kinds.Text
+  by_test true is e = ap (λ x. Some x) (text_kind kind is)
+  by_test false is e = absurd (cc)
+
+record IsCutUp (k : ℕ) (list : List ℕ) (w v : Working) : Type 0 where
+  kind_is : kind_of w.forest k ≡ Some kinds.Text
+  allowed : bad_offset 0 (text_at w.forest k) list ≡ None
+  cut : cut_at k 0 list w ≡ Ok v
+
+cut_up : (k : ℕ) (list : List ℕ) (w v : Working) → split_step k list w ≡ Ok v → IsCutUp k list w v
+unfolding split_step
+cut_up k list w v e = by_fault (split_fault k list w.forest) refl e where
+  by_fault : (o : Option Cause) → split_fault k list w.forest ≡ o → after (answer o w) (cut_at k 0 list) ≡ Ok v → IsCutUp k list w v
+  by_fault (Some c) is e = absurd (cc)
+  by_fault None is e =
+      let a = both_none (unknown w.forest k) (option_or (unlike is_text (kind_of w.forest k)) (option_or (not_below w.forest k) (bad_offset 0 (text_at w.forest k) list))) is in
+      let b = both_none (unlike is_text (kind_of w.forest k)) (option_or (not_below w.forest k) (bad_offset 0 (text_at w.forest k) list)) a.1 in
+      let c = both_none (not_below w.forest k) (bad_offset 0 (text_at w.forest k) list) b.1 in
+      record { kind_is = kind_by (kind_of w.forest k) (is_some-kind_of w.forest k ∙ grind (arith, a.0)) b.0; allowed = c.1; cut = e }
+
+-- ---- what is left
+
+record IsLeft (k : ℕ) (list new : List ℕ) (w v : Working) : Type 0 where
+  in_order : IsForest v.forest
+  kind_is : kind_of w.forest k ≡ Some kinds.Text
+  pieces : map (text_at v.forest) (k ∷ new) ≡ cut_from 0 list (text_at w.forest k)
+  whole : texts_of v.forest (k ∷ new) ≡ text_at w.forest k
+  order : (p : ℕ) → parent_of w.forest k ≡ Some p → children_of v.forest p ≡ in_place_of k (k ∷ new) (children_of w.forest p)
+  alike : (q : ℕ) (text : TextFields) → is_among q (k ∷ new) ≡ true → text_in (label_of w.forest k) ≡ Some text →
+      label_of v.forest q ≡ Some (record { key = q; kind = kinds.Text; fields = text_replaced text (text_at v.forest q) })
+  labels : (q : ℕ) → has q w.forest ≡ true → q ≢ k → label_of v.forest q ≡ label_of w.forest q
+  others : (q : ℕ) → has q w.forest ≡ true → q ≢ k → parent_of w.forest k ≢ Some q → spot v.forest q ≡ spot w.forest q
+  bare : children_of w.forest k ≡ [] → (q : ℕ) → is_among q (k ∷ new) ≡ true → children_of v.forest q ≡ []
+  points : PointsGo k new w v
+
+left_by_cuts : (k : ℕ) (list : List ℕ) (t : TextFields) (w v : Working) → kind_of w.forest k ≡ Some kinds.Text → text_in (label_of w.forest k) ≡ Some t → text_length t.text ≤ last_u32
+    → IsParted k 0 list (keys_from w.next_key (length list)) t.text t w v → PointsGo k (keys_from w.next_key (length list)) w v → IsLeft k list (keys_from w.next_key (length list)) w v
+left_by_cuts k list t w v kind here few r go =
+    let own : t.text ≡ text_at w.forest k = sym (ap text_or_none here) in
+    record {
+      in_order = r.ready.in_order;
+      kind_is = kind;
+      pieces = r.pieces ∙ ap (cut_from 0 list) own;
+      whole = r.whole ∙ whole-is t.text few ∙ own;
+      order = r.order;
+      alike = λ q text among is.
+          let same : t ≡ text = let f : Some t ≡ Some text = sym here ∙ is in cc in
+          r.alike q among ∙ ap (λ u. let m : Label = record { key = q; kind = kinds.Text; fields = text_replaced u (text_at v.forest q) } in Some m) same;
+      labels = r.labels;
+      others = r.others;
+      bare = r.bare;
+      points = go;
+    }
+
+-- a node of the kind of texts that doesn't have the fields of one has no characters
+nothing_cut : slice_of 0 (length_told []) [] ≡ []
+unfolding slice_of front_of rest_of
+nothing_cut = refl
+
+left_same : (k : ℕ) (w : Working) → IsReady w → kind_of w.forest k ≡ Some kinds.Text → text_in (label_of w.forest k) ≡ None → IsLeft k [] [] w w
+left_same k w ready kind none =
+    let own : text_at w.forest k ≡ [] = ap text_or_none none in
+    record {
+      in_order = ready.in_order;
+      kind_is = kind;
+      pieces = ap (λ s. s ∷ []) (own ∙ sym nothing_cut ∙ ap (λ s. slice_of 0 (length_told s) s) (sym own));
+      whole = append-nil (text_at w.forest k);
+      order = λ p up. sym (in_place_of-self k (children_of w.forest p));
+      alike = λ q text among is. let bad : None ≡ Some text = sym none ∙ is in absurd (cc);
+      labels = λ q so other. refl;
+      others = λ q so other above. refl;
+      bare = λ empty q among. let same : q ≡ k = grind (arith, among, eqb_tells k q) in ap (children_of w.forest) same ∙ empty;
+      points = none_go k w;
+    }
+
+left_by : (k : ℕ) (list : List ℕ) (w v : Working) → IsReady w → text_length (text_at w.forest k) ≤ last_u32 → IsCutUp k list w v → IsLeft k list (keys_from w.next_key (length list)) w v
+left_by k list w v ready few c = by_text (text_in (label_of w.forest k)) refl list c.allowed c.cut where
+  by_text : (o : Option TextFields) → text_in (label_of w.forest k) ≡ o → (list : List ℕ) → bad_offset 0 (text_at w.forest k) list ≡ None → cut_at k 0 list w ≡ Ok v → IsLeft k list (keys_from w.next_key (length list)) w v
+  by_text (Some t) here list allowed cut =
+      let short : text_length t.text ≤ last_u32 = subst (λ s. text_length (text_or_none s) ≤ last_u32) here few in
+      let good : bad_offset 0 t.text list ≡ None = ap (λ s. bad_offset 0 s list) (sym (ap text_or_none here)) ∙ allowed in
+      let whole : t.text ≡ slice_of 0 (length_told t.text) t.text = sym (whole-is t.text short) in
+      let start = offset_start t.text in
+      left_by_cuts k list t w v c.kind_is here short (parted k 0 list t.text t w v ready here whole start short good cut) (points_go k 0 list t.text t w v ready here whole start short good cut)
+  by_text None here [] allowed cut = subst (IsLeft k [] [] w) (ends_self w v cut) (left_same k w ready c.kind_is here)
+  by_text None here (o ∷ rest) allowed cut = absurd (no_offset o rest (ap (λ s. bad_offset 0 s (o ∷ rest)) (sym (ap text_or_none here)) ∙ allowed))
+
+left : (k : ℕ) (list pieces : List ℕ) (w v : Working) → IsSplit k list pieces w v → IsLeft k list (keys_from w.next_key (length list)) w v
+left k list pieces w v s = left_by k list w v s.ready s.fits (cut_up k list w v s.split)
+
+-- ---- points
+
+places : (k : ℕ) (new : List ℕ) (w v : Working) → PointsGo k new w v → PlacesAreKept (k ∷ []) (k ∷ new) w v
+places k new w v go = (
+  go.moved,
+  record {
+    selection = go.selection;
+    on_them = λ p among within.
+        let own : p.key ≡ k = grind (arith, among, eqb_tells k p.key) in
+        let there = go.on_it p own (subst (λ q. p.offset ≤ length_at w.forest q) own within) in
+        let before : place_among w.forest (k ∷ []) p ≡ p.offset = grind (arith, own, eqb_tells p.key k) in
+        (there.0, there.1 ∙ sym before);
+    others = λ p kind so among. go.still p so (λ own. absurd (grind (arith, own, among, eqb_tells k p.key))) (inl kind);
+  },
+)
+
+-- ---- what is read
+
+module _ (k : ℕ) (list new : List ℕ) (w v : Working) (h : IsForest w.forest) (held : IsHeld may_hold w.forest) (a : IsLeft k list new w v) where
+  IsRead : ℕ → Type 0
+  IsRead b = b ≢ k → has b w.forest ≡ true → read_below v.forest b ≡ read_below w.forest b
+
+  leaf : children_of w.forest k ≡ []
+  leaf = childless_text w.forest k h held a.kind_is
+
+  pieces_read : reads_of v.forest (k ∷ new) ≡ read_below w.forest k
+  pieces_read = reads-leaves v.forest (k ∷ new) a.in_order (a.bare leaf) ∙ a.whole ∙ sym (read-leaf w.forest k h leaf)
+
+  -- of a child that is read the same below
+  child_read : (b q : ℕ) → ((c : ℕ) → parent_of w.forest c ≡ Some b → IsRead c) → is_among q (children_of w.forest b) ≡ true → q ≢ k → read_below v.forest q ≡ read_below w.forest q
+  unfolding IsRead
+  child_read b q each among other = let up : parent_of w.forest q ≡ Some b = parent_here w.forest b q h among in each q up other (has-child w.forest q b up)
+
+  level : (b : ℕ) → ((c : ℕ) → parent_of w.forest c ≡ Some b → IsRead c) → IsRead b
+  unfolding IsRead
+  level b each other so = elim (is_named_tells (parent_of w.forest k) b) [
+    | inl above ↦
+        read-level_same w.forest v.forest b h a.in_order (a.labels b so other) (
+        ap (reads_of v.forest) (a.order b above.1)
+        ∙ reads-in_place w.forest v.forest k (k ∷ new) (children_of w.forest b) (NoRepeats-children_of w.forest b h) pieces_read (λ q among apart. child_read b q each among apart)
+        )
+    | inr far ↦
+        let same : spot v.forest b ≡ spot w.forest b = a.others b so other far.1 in
+        let apart : (q : ℕ) → is_among q (children_of w.forest b) ≡ true → q ≢ k = λ q among own. far.1 (subst (λ c. parent_of w.forest c ≡ Some b) own (parent_here w.forest b q h among)) in
+        read-level_same w.forest v.forest b h a.in_order (a.labels b so other) (
+        ap (λ s. reads_of v.forest (children_at s)) same
+        ∙ reads-same w.forest v.forest (children_of w.forest b) (λ q among. child_read b q each among (apart q among))
+        )
+  ]
+
+  same_read : (b : ℕ) → b ≢ k → has b w.forest ≡ true → read_below v.forest b ≡ read_below w.forest b
+  unfolding IsRead
+  same_read b = down w.forest h IsRead level b
+
+-- ---- the laws
+
+pub told-splits : SplitsAreTold
+told-splits = record {
+  pieces = λ k list pieces w v s. ap (map (text_at v.forest)) s.pieces_are ∙ (left k list pieces w v s).pieces;
+  whole = λ k list pieces w v s. ap (texts_of v.forest) s.pieces_are ∙ (left k list pieces w v s).whole;
+  order = λ k list pieces w v p s up. (left k list pieces w v s).order p up ∙ ap (λ ks. in_place_of k ks (children_of w.forest p)) (sym s.pieces_are);
+  alike = λ k list pieces w v q text s among here. (left k list pieces w v s).alike q text (ap (is_among q) (sym s.pieces_are) ∙ among) here;
+  others = λ k list pieces w v q s so other above. (left k list pieces w v s).others q so other above;
+  points = λ k list pieces w v s. subst (λ ks. PlacesAreKept (k ∷ []) ks w v) (sym s.pieces_are) (places k (keys_from w.next_key (length list)) w v (left k list pieces w v s).points);
+  read = λ k list pieces w v b s held so other. same_read k list (keys_from w.next_key (length list)) w v s.ready.in_order held (left k list pieces w v s) b other so;
+}

@@ -1,0 +1,179 @@
+-- What one step leaves of a forest: a node taken out, put before another, and moved.
+use Rattle.std.proofs.Common.{◌≡◌, ◌≢◌, ◌∙◌, ℕ, Bool, true, false, cond, eqb, List, [], ◌∷◌, Option, None, Some, Result, Ok, Err, refl, sym, ap, subst, arith, inl, inr}
+use Rattle.std.specs.Prelude.{slice_get, option_map}
+use Rattle.std.specs.Option.{option_or}
+use Rattle.std.proofs.lemmas.Bool.Decides.{eqb_tells}
+use Rattle.std.proofs.lemmas.Option.{slice_get_past}
+use Rattle.lx_trees.specs.Siblings.{names_without, names_with}
+use Rattle.lx_node.specs.Kinds.{is_text, is_element, may_hold, may_be_empty, is_item}
+use Rattle.lx_node.specs.declared.kind.Kind.{Kind}
+use Rattle.lx_node.specs.declared.kind.Kind.TheVariants as kinds
+use Rattle.lx_node.specs.declared.fields.Fields.{Fields}
+use Rattle.lx_node.specs.declared.cause.Cause.{Cause}
+use Rattle.lx_forest.specs.Forest.{Forest, Label}
+use Rattle.lx_forest.specs.Lookups.{label_of, kind_of, parent_of, children_of, size_of, IsForest}
+use Rattle.lx_forest.specs.Edits.{take_out, put_in, CanPut}
+use Rattle.lx_forest.proofs.Lookups.{label_of-take_out, label_of-put_in, parent_of-take_out, parent_of-put_in, children_of-take_out, children_of-put_in}
+use Rattle.lx_forest.proofs.Order.{IsForest-take_out, IsForest-put_in}
+use Rattle.lx_forest.proofs.Walks.{cases_option}
+use Rattle.lx_links.specs.Faults.{unknown, not_below, detach_fault, misfit}
+use Rattle.lx_draft.specs.Working.{Working}
+use Rattle.lx_draft.specs.Selecting.{unlike}
+use Rattle.lx_draft.specs.Faults.{answer, after, over_counts, put_fault, text_fields, text_in}
+use Rattle.lx_draft.specs.Steps.{node_taken, node_placed, take_step, put_step}
+use Rattle.lx_draft.specs.Beside.{gap_index, put_before_step}
+use Rattle.lx_draft.proofs.Covered.{answered}
+use Rattle.lx_draft.proofs.Put.{both_none, can_put}
+use Rattle.lx_draft.proofs.Gaps.{gap_at, child_of, before_is, before_none}
+use Rattle.lx_edit.specs.Edits.{moved_before, moved_to_end, may_not_be_left}
+use Rattle.lx_edit.specs.Texts.{text_or_none}
+use Rattle.lx_edit.proofs.Climbed.{first_part}
+use Rattle.lx_edit_laws.specs.Reading.{text_at}
+
+-- ---- one after another
+
+-- a step that nothing refused beforehand
+pub was_allowed : (o : Option Cause) (w v : Working) (next : Working → Result Working Cause) → after (answer o w) next ≡ Ok v → (o ≡ None) × (next w ≡ Ok v)
+was_allowed None w v next e = (refl, e)
+was_allowed (Some cause) w v next e = absurd (cc)
+
+pub was_same : (w v : Working) → ◌≡◌ {A = Result Working Cause} (Ok w) (Ok v) → w ≡ v
+was_same w v e = cc
+
+-- ---- take and put
+
+pub has_above : (f : Forest) (k : ℕ) → not_below f k ≡ None → (p : ℕ) × (parent_of f k ≡ Some p)
+has_above f k none =
+    elim (cases_option (parent_of f k)) [
+      | inl top ↦ absurd (grind (arith, none, top))
+      | inr (p, up) ↦ (p, up)
+    ]
+
+pub was_taken : (k : ℕ) (w v : Working) → take_step k w ≡ Ok v → (v.forest ≡ take_out k w.forest) × ((p : ℕ) × (parent_of w.forest k ≡ Some p))
+unfolding take_step
+was_taken k w v e =
+    let told = answered (option_or (detach_fault k w.forest) (over_counts w)) (node_taken k w) v e in
+    let none = both_none (unknown w.forest k) (not_below w.forest k) (both_none (detach_fault k w.forest) (over_counts w) told.0).0 in
+    (sym (ap (λ (x : Working). x.forest) told.1), has_above w.forest k none.1)
+
+pub was_put : (k p index : ℕ) (w v : Working) → put_step k p index w ≡ Ok v → CanPut p k w.forest × (v.forest ≡ put_in p (slice_get (children_of w.forest p) index) k w.forest)
+unfolding put_step
+was_put k p index w v e =
+    let told = answered (option_or (put_fault k p index w.forest) (over_counts w)) (node_placed k p index w) v e in
+    (can_put w.forest k p index (both_none (put_fault k p index w.forest) (over_counts w) told.0).0, sym (ap (λ (x : Working). x.forest) told.1))
+
+pub was_put_before : (k other p : ℕ) (w v : Working) → IsForest w.forest → parent_of w.forest other ≡ Some p → put_before_step k other w ≡ Ok v → CanPut p k w.forest × (v.forest ≡ put_in p (Some other) k w.forest)
+was_put_before k other p w v h up e =
+    let xs : List ℕ = children_of w.forest p in
+    let put = was_put k p (gap_index (Some other) xs) w v (before_is w k p other h up ∙ e) in
+    (put.0, put.1 ∙ ap (λ o. put_in p o k w.forest) (sym (gap_at (Some other) xs (child_of w.forest p other h up))))
+
+-- what another is put before is below something
+pub before_below : (k other : ℕ) (w v : Working) → put_before_step k other w ≡ Ok v → (p : ℕ) × (parent_of w.forest other ≡ Some p)
+before_below k other w v e =
+    elim (cases_option (parent_of w.forest other)) [
+      | inl top ↦ absurd (refused (before_none w k other top) e)
+      | inr (p, up) ↦ (p, up)
+    ] where
+      refused : {cause : Cause} → put_before_step k other w ≡ Err cause → put_before_step k other w ≡ Ok v → ⊥
+      refused a b = cc
+
+-- ---- a node that is moved
+
+-- the node k came from below another among the children of p
+pub record WasMoved (f g : Forest) (p k : ℕ) (before : Option ℕ) : Type 0 where
+  pub above : ℕ
+  pub up : parent_of f k ≡ Some above
+  pub can : CanPut p k (take_out k f)
+  pub is : g ≡ put_in p before k (take_out k f)
+
+pub was_moved_to_end : (to k : ℕ) (w v : Working) → moved_to_end to k w ≡ Ok v → WasMoved w.forest v.forest to k None
+unfolding moved_to_end
+was_moved_to_end to k w v e =
+    let a = first_part (take_step k w) (λ u. put_step k to (size_of u.forest to) u) v e in
+    let taken = was_taken k w a.0 a.1 in
+    let put = was_put k to (size_of a.0.forest to) a.0 v a.2 in
+    record {
+      above = taken.1.0;
+      up = taken.1.1;
+      can = subst (CanPut to k) taken.0 put.0;
+      is = put.1
+          ∙ ap (λ o. put_in to o k a.0.forest) (slice_get_past (children_of a.0.forest to) (size_of a.0.forest to) (omega arith))
+          ∙ ap (put_in to None k) taken.0;
+    }
+
+pub was_moved_before : (other k p : ℕ) (w v : Working) → IsForest w.forest → parent_of w.forest other ≡ Some p → other ≢ k → moved_before other k w ≡ Ok v → WasMoved w.forest v.forest p k (Some other)
+unfolding moved_before
+was_moved_before other k p w v h up apart e =
+    let a = first_part (take_step k w) (put_before_step k other) v e in
+    let taken = was_taken k w a.0 a.1 in
+    let left : IsForest a.0.forest = subst IsForest (sym taken.0) (IsForest-take_out k w.forest h) in
+    let still : parent_of a.0.forest other ≡ Some p = ap (λ f. parent_of f other) taken.0 ∙ parent_of-take_out k w.forest other h ∙ grind (arith, up, apart, eqb_tells other k) in
+    let put = was_put_before k other p a.0 v left still a.2 in
+    record {
+      above = taken.1.0;
+      up = taken.1.1;
+      can = subst (CanPut p k) taken.0 put.0;
+      is = put.1 ∙ ap (put_in p (Some other) k) taken.0;
+    }
+
+-- what is read of any node then
+pub IsForest-moved : (f g : Forest) (p k : ℕ) (before : Option ℕ) → IsForest f → WasMoved f g p k before → IsForest g
+IsForest-moved f g p k before h m = subst IsForest (sym m.is) (IsForest-put_in p before k (take_out k f) (IsForest-take_out k f h) m.can)
+
+pub label_of-moved : (f g : Forest) (p k : ℕ) (before : Option ℕ) (q : ℕ) → IsForest f → WasMoved f g p k before → label_of g q ≡ label_of f q
+label_of-moved f g p k before q h m =
+    ap (λ x. label_of x q) m.is ∙ label_of-put_in p before k (take_out k f) q (IsForest-take_out k f h) m.can ∙ label_of-take_out k f q h
+
+pub parent_of-moved : (f g : Forest) (p k : ℕ) (before : Option ℕ) (q : ℕ) → IsForest f → WasMoved f g p k before → parent_of g q ≡ cond (eqb q k) (Some p) (parent_of f q)
+parent_of-moved f g p k before q h m =
+    ap (λ x. parent_of x q) m.is ∙ parent_of-put_in p before k (take_out k f) q (IsForest-take_out k f h) m.can
+    ∙ ap (cond (eqb q k) (Some p)) (parent_of-take_out k f q h) ∙ same (eqb q k) where
+      same : (b : Bool) → cond b (Some p) (cond b None (parent_of f q)) ≡ cond b (Some p) (parent_of f q)
+      same true = refl
+      same false = refl
+
+pub children_of-moved : (f g : Forest) (p k : ℕ) (before : Option ℕ) (q : ℕ) → IsForest f → WasMoved f g p k before
+    → children_of g q ≡ cond (eqb q p) (names_with before (k ∷ []) (names_without k (children_of f q))) (names_without k (children_of f q))
+children_of-moved f g p k before q h m =
+    ap (λ x. children_of x q) m.is ∙ children_of-put_in p before k (take_out k f) q (IsForest-take_out k f h) m.can
+    ∙ ap (λ xs. cond (eqb q p) (names_with before (k ∷ []) xs) xs) (children_of-take_out k f q h)
+
+-- ---- what has no text
+
+text_of_kind : (kind : Kind) (fields : Fields) → is_text kind ≡ false → text_or_none (text_fields kind fields) ≡ []
+unfolding is_text
+text_of_kind kinds.Text fields e = absurd (cc)
+text_of_kind kind fields e = refl
+
+pub silent : (f : Forest) (k : ℕ) → ((kind : Kind) → kind_of f k ≡ Some kind → is_text kind ≡ false) → text_at f k ≡ []
+silent f k other = by_label (label_of f k) refl where
+  by_label : (o : Option Label) → label_of f k ≡ o → text_or_none (text_in o) ≡ []
+  by_label None is = refl
+  by_label (Some l) is = text_of_kind l.kind l.fields (other l.kind (ap (option_map (λ (x : Label). x.kind)) is))
+
+-- an element has none, nor has what may hold something, or may not be left without children
+element_silent : (kind : Kind) → is_element kind ≡ true → is_text kind ≡ false
+unfolding is_element is_text
+element_silent kinds.Text e = absurd (cc)
+element_silent kind e = refl
+
+holder_silent : (outer inner : Kind) → may_hold outer inner ≡ true → is_text outer ≡ false
+unfolding may_hold is_text
+holder_silent kinds.Text inner e = absurd (cc)
+holder_silent outer inner e = refl
+
+gone_silent : (outer : Kind) (inner : Option Kind) → may_not_be_left (Some outer) inner ≡ true → is_text outer ≡ false
+unfolding may_be_empty is_item is_text
+gone_silent outer None e = absurd (cc)
+gone_silent kinds.Text (Some inner) e = absurd (cc)
+gone_silent outer (Some inner) e = refl
+
+pub silent_element : (f : Forest) (k : ℕ) → unlike is_element (kind_of f k) ≡ None → text_at f k ≡ []
+silent_element f k none = silent f k (λ kind is. element_silent kind (grind (arith, none, is)))
+
+pub silent_holder : (f : Forest) (k : ℕ) (inner : Kind) → misfit (kind_of f k) (Some inner) ≡ None → text_at f k ≡ []
+silent_holder f k inner none = silent f k (λ kind is. holder_silent kind inner (grind (arith, none, is)))
+
+pub silent_gone : (f : Forest) (k : ℕ) (inner : Option Kind) → may_not_be_left (kind_of f k) inner ≡ true → text_at f k ≡ []
+silent_gone f k inner goes = silent f k (λ kind is. gone_silent kind inner (ap (λ o. may_not_be_left o inner) (sym is) ∙ goes))

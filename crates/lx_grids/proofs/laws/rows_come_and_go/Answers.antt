@@ -1,5 +1,0 @@
-use Rattle.lx_grids.proofs.ComeAndGo.{rows_come_and_go}
-use Rattle.lx_grids.proofs.laws.rows_come_and_go.Goals as goal
-
-pub returns : goal.returns
-returns c = rows_come_and_go

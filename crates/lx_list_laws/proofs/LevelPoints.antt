@@ -1,0 +1,147 @@
+-- Steps about nodes on which no point is leave the selection as it is.
+use Rattle.std.proofs.Common.{◌≡◌, ◌≢◌, ◌∙◌, ℕ, ◌&&◌, ◌||◌, ◌==◌, Bool, true, false, cond, List, [], ◌∷◌, length, Option, None, Some, Result, Ok, refl, sym, ap, subst, arith}
+use Rattle.std.specs.Option.{option_or}
+use Rattle.std.proofs.lemmas.Bool.Decides.{eqb_tells}
+use Rattle.lx_trees.specs.Siblings.{is_among}
+use Rattle.lx_trees.proofs.Siblings.{is_among-names_without}
+use Rattle.lx_node.specs.declared.cause.Point.{Point}
+use Rattle.lx_node.specs.declared.cause.Cause.{Cause}
+use Rattle.lx_select.specs.declared.selection.Selection.{Selection}
+use Rattle.lx_select.specs.declared.selection.Selection.TheVariants.{Nothing, Range, Nodes, Cells}
+use Rattle.lx_select.specs.Selection.{has_point_on}
+use Rattle.lx_select.specs.Rules.{take_moves, is_behind}
+use Rattle.lx_select.proofs.Apart.{put-apart}
+use Rattle.lx_forest.specs.Forest.{Forest}
+use Rattle.lx_forest.specs.Lookups.{kind_of, parent_of, children_of, size_of, next_of, index_of, is_within, ancestors, IsForest}
+use Rattle.lx_forest.specs.Edits.{take_out}
+use Rattle.lx_forest.proofs.Lookups.{parent_of-take_out, children_of-take_out}
+use Rattle.lx_forest.proofs.Order.{IsForest-take_out}
+use Rattle.lx_forest.proofs.Walks.{ancestors-step}
+use Rattle.lx_links.specs.Faults.{detach_fault}
+use Rattle.lx_draft.specs.Working.{Working}
+use Rattle.lx_draft.specs.Faults.{over_counts, put_fault}
+use Rattle.lx_draft.specs.Steps.{take_points, node_taken, node_placed, take_step, put_step}
+use Rattle.lx_draft.specs.Beside.{gap_index, put_before_step, put_behind_step}
+use Rattle.lx_draft.proofs.Covered.{answered}
+use Rattle.lx_draft.proofs.Gaps.{before_is, behind_is}
+use Rattle.lx_edit.specs.Edits.{moved_before, moved_behind, moved_to_end, sent_away, goes_too, removed, remove_step}
+use Rattle.lx_edit.proofs.Climbed.{first_part, sent_away-apart, sent_away-forest, taken-forest}
+use Rattle.lx_list.specs.Indenting.{moved_to_front}
+use Rattle.lx_edit_laws.proofs.WrapSteps.{was_same}
+use Rattle.lx_list_laws.specs.Levels.{has_points_within}
+
+neither : (a b : Bool) → (a || b) ≡ false → (a ≡ false) × (b ≡ false)
+neither true b e = absurd (cc)
+neither false b e = (refl, e)
+
+both : (a b : Bool) → (a && b) ≡ true → (a ≡ true) × (b ≡ true)
+both true b e = (refl, e)
+both false b e = absurd (cc)
+
+-- no point in the tree of x is on a node outside
+outside_point : (f : Forest) (x q : ℕ) (p : Point) → is_within f x p.key ≡ true → is_within f x q ≡ false → (p.key == q) ≡ false
+outside_point f x q p inside outside = grind (arith, eqb_tells p.key q, inside, outside)
+
+pub off_outside : (f : Forest) (x q : ℕ) (s : Selection) → has_points_within f x s ≡ true → is_within f x q ≡ false → has_point_on q s ≡ false
+off_outside f x q Nothing points outside = refl
+off_outside f x q (Range a b format) points outside =
+    let each = both (is_within f x a.key) (is_within f x b.key) points in rw (outside_point f x q a each.0 outside, outside_point f x q b each.1 outside) refl
+off_outside f x q (Nodes keys) points outside = refl
+off_outside f x q (Cells table a b) points outside = refl
+
+-- ---- take and put
+
+take_leaves : (p index : ℕ) (a : Point) → (a.key == p) ≡ false → take_moves p index a ≡ a
+unfolding take_moves is_behind
+take_leaves p index a off = grind (arith, off)
+
+take_apart : (p : ℕ) (o : Option ℕ) (s : Selection) → has_point_on p s ≡ false → take_points (Some p) o s ≡ s
+take_apart p None s off = refl
+take_apart p (Some index) Nothing off = refl
+take_apart p (Some index) (Range a b format) off = let each = neither (a.key == p) (b.key == p) off in rw (take_leaves p index a each.0, take_leaves p index b each.1) refl
+take_apart p (Some index) (Nodes keys) off = refl
+take_apart p (Some index) (Cells table a b) off = refl
+
+pub take_stays : (k p : ℕ) (w v : Working) → take_step k w ≡ Ok v → parent_of w.forest k ≡ Some p → has_point_on p w.selection ≡ false → v.selection ≡ w.selection
+unfolding take_step
+take_stays k p w v e up off =
+    let told = answered (option_or (detach_fault k w.forest) (over_counts w)) (node_taken k w) v e in
+    sym (ap (λ (x : Working). x.selection) told.1) ∙ ap (λ o. take_points o (index_of w.forest k) w.selection) up ∙ take_apart p (index_of w.forest k) w.selection off
+
+pub put_stays : (k p index : ℕ) (w v : Working) → put_step k p index w ≡ Ok v → has_point_on p w.selection ≡ false → v.selection ≡ w.selection
+unfolding put_step
+put_stays k p index w v e off =
+    let told = answered (option_or (put_fault k p index w.forest) (over_counts w)) (node_placed k p index w) v e in
+    sym (ap (λ (x : Working). x.selection) told.1) ∙ put-apart p index w.selection off
+
+pub before_stays : (k other p : ℕ) (w v : Working) → IsForest w.forest → parent_of w.forest other ≡ Some p → put_before_step k other w ≡ Ok v → has_point_on p w.selection ≡ false → v.selection ≡ w.selection
+before_stays k other p w v h up e off = put_stays k p (gap_index (Some other) (children_of w.forest p)) w v (before_is w k p other h up ∙ e) off
+
+behind_stays : (k other p : ℕ) (w v : Working) → IsForest w.forest → parent_of w.forest other ≡ Some p → put_behind_step k other w ≡ Ok v → has_point_on p w.selection ≡ false → v.selection ≡ w.selection
+behind_stays k other p w v h up e off = put_stays k p (gap_index (next_of w.forest other) (children_of w.forest p)) w v (behind_is w k p other (next_of w.forest other) refl h up ∙ e) off
+
+-- ---- moves, from below one node to below another
+
+pub to_end_stays : (to k p : ℕ) (w v : Working) → moved_to_end to k w ≡ Ok v → parent_of w.forest k ≡ Some p → has_point_on p w.selection ≡ false → has_point_on to w.selection ≡ false → v.selection ≡ w.selection
+unfolding moved_to_end
+to_end_stays to k p w v e up off off_to =
+    let a = first_part (take_step k w) (λ u. put_step k to (size_of u.forest to) u) v e in
+    let taken = take_stays k p w a.0 a.1 up off in
+    put_stays k to (size_of a.0.forest to) a.0 v a.2 (ap (has_point_on to) taken ∙ off_to) ∙ taken
+
+pub to_front_stays : (to k p : ℕ) (w v : Working) → moved_to_front to k w ≡ Ok v → parent_of w.forest k ≡ Some p → has_point_on p w.selection ≡ false → has_point_on to w.selection ≡ false → v.selection ≡ w.selection
+unfolding moved_to_front
+to_front_stays to k p w v e up off off_to =
+    let a = first_part (take_step k w) (put_step k to 0) v e in
+    let taken = take_stays k p w a.0 a.1 up off in
+    put_stays k to 0 a.0 v a.2 (ap (has_point_on to) taken ∙ off_to) ∙ taken
+
+-- where the other is once the node has left
+left_order : (k : ℕ) (w v : Working) → IsForest w.forest → take_step k w ≡ Ok v → IsForest v.forest
+left_order k w v h e = subst IsForest (sym (taken-forest k w v e)) (IsForest-take_out k w.forest h)
+
+still_up : (k other p : ℕ) (w v : Working) → IsForest w.forest → parent_of w.forest other ≡ Some p → other ≢ k → take_step k w ≡ Ok v → parent_of v.forest other ≡ Some p
+still_up k other p w v h up apart e = ap (λ f. parent_of f other) (taken-forest k w v e) ∙ parent_of-take_out k w.forest other h ∙ grind (arith, up, apart, eqb_tells other k)
+
+pub moved_before_stays : (other k from p : ℕ) (w v : Working) → IsForest w.forest → parent_of w.forest other ≡ Some p → other ≢ k → moved_before other k w ≡ Ok v → parent_of w.forest k ≡ Some from
+    → has_point_on from w.selection ≡ false → has_point_on p w.selection ≡ false → v.selection ≡ w.selection
+unfolding moved_before
+moved_before_stays other k from p w v h up apart e below off off_to =
+    let a = first_part (take_step k w) (put_before_step k other) v e in
+    let taken = take_stays k from w a.0 a.1 below off in
+    before_stays k other p a.0 v (left_order k w a.0 h a.1) (still_up k other p w a.0 h up apart a.1) a.2 (ap (has_point_on p) taken ∙ off_to) ∙ taken
+
+pub moved_behind_stays : (other k from p : ℕ) (w v : Working) → IsForest w.forest → parent_of w.forest other ≡ Some p → other ≢ k → moved_behind other k w ≡ Ok v → parent_of w.forest k ≡ Some from
+    → has_point_on from w.selection ≡ false → has_point_on p w.selection ≡ false → v.selection ≡ w.selection
+unfolding moved_behind
+moved_behind_stays other k from p w v h up apart e below off off_to =
+    let a = first_part (take_step k w) (put_behind_step k other) v e in
+    let taken = take_stays k from w a.0 a.1 below off in
+    behind_stays k other p a.0 v (left_order k w a.0 h a.1) (still_up k other p w a.0 h up apart a.1) a.2 (ap (has_point_on p) taken ∙ off_to) ∙ taken
+
+-- ---- removed
+
+pub sent_stays : (k p : ℕ) (w v : Working) → take_step k (sent_away k w) ≡ Ok v → parent_of w.forest k ≡ Some p → has_point_on k w.selection ≡ false → has_point_on p w.selection ≡ false → v.selection ≡ w.selection
+sent_stays k p w v e up off off_above = take_stays k p w v (ap (take_step k) (sym (sent_away-apart k w off)) ∙ e) up off_above
+
+not_empty : (xs : List ℕ) (s : ℕ) → is_among s xs ≡ true → (length xs == 0) ≡ false
+not_empty [] s among = absurd (cc)
+not_empty (x ∷ xs) s among = grind arith
+
+stays_if : (goes : Bool) (u v : Working) (further : Result Working Cause) → goes ≡ false → cond goes further (Ok u) ≡ Ok v → u ≡ v
+stays_if true u v further is e = absurd (cc)
+stays_if false u v further is e = was_same u v e
+
+-- where another child is left, nothing above goes too
+pub removed_stays : (k p s : ℕ) (w v : Working) → IsForest w.forest → parent_of w.forest k ≡ Some p → is_among s (children_of w.forest p) ≡ true → s ≢ k → remove_step k w ≡ Ok v
+    → has_point_on k w.selection ≡ false → has_point_on p w.selection ≡ false → v.selection ≡ w.selection
+unfolding remove_step
+removed_stays k p s w v h up among other e off off_above =
+    let above : removed k (p ∷ ancestors w.forest p) w ≡ Ok v = ap (λ ks. removed k ks w) (sym (ancestors-step w.forest k p h up)) ∙ e in
+    let a = first_part (take_step k (sent_away k w)) (λ u. cond (goes_too (kind_of w.forest k) u.forest p) (removed p (ancestors w.forest p) u) (Ok u)) v above in
+    let gone : a.0.forest ≡ take_out k w.forest = taken-forest k (sent_away k w) a.0 a.1 ∙ ap (take_out k) (sent_away-forest k w) in
+    let left : is_among s (children_of a.0.forest p) ≡ true =
+    ap (λ f. is_among s (children_of f p)) gone ∙ ap (is_among s) (children_of-take_out k w.forest p h) ∙ is_among-names_without k s (children_of w.forest p) ∙ grind (arith, among, other, eqb_tells s k) in
+    let stays : goes_too (kind_of w.forest k) a.0.forest p ≡ false = grind (arith, not_empty (children_of a.0.forest p) s left) in
+    sym (ap (λ (x : Working). x.selection) (stays_if (goes_too (kind_of w.forest k) a.0.forest p) a.0 v (removed p (ancestors w.forest p) a.0) stays a.2))
+    ∙ sent_stays k p w a.0 a.1 up off off_above

@@ -1,5 +1,0 @@
-use Rattle.lx_meaning.proofs.JoinTold.{joins_told}
-use Rattle.lx_meaning.proofs.joins.joins_are_told.Goals as goal
-
-pub returns : goal.returns
-returns c = joins_told

@@ -1,6 +1,0 @@
-ghost use Rattle.lx_meaning.specs.Joins.{JoinsAreTold};
-
-/// What a join leaves, and that it undoes a split. This function does nothing, and its contract is these laws.
-pub fn joins_are_told()
-    ensures { JoinsAreTold }
-{}

@@ -1,2 +1,0 @@
-pub mod Render
-pub mod Allowed

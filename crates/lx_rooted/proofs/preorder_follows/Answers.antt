@@ -1,9 +1,0 @@
-use Rattle.lx_rooted.proofs.Preorder.{preorder-with_new, preorder-take_out, preorder-put_in}
-use Rattle.lx_rooted.proofs.preorder_follows.Goals as goal
-
-pub returns : goal.returns
-returns g c = λ name. record {
-  new = preorder-with_new name;
-  take = preorder-take_out name;
-  put = preorder-put_in name;
-}

@@ -1,4 +1,0 @@
-pub mod Edits
-pub mod Laws
-pub mod Lookups
-pub mod Records

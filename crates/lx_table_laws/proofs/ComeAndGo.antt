@@ -1,0 +1,327 @@
+-- A row is inserted and deleted again, step by step.
+use Rattle.std.proofs.Common.{◌≡◌, ◌∙◌, ℕ, zero, suc, ◌+◌, ◌-◌, ◌<◌, ◌≤◌, ◌==◌, ◌&&◌, Bool, true, false, cond, List, [], ◌∷◌, length, Option, None, Some, Result, Ok, Err, refl, sym, ap, subst, arith, inl, inr}
+use Rattle.std.specs.Prelude.{min, nat_lt, filter}
+use Rattle.std.specs.Option.{option_or}
+use Rattle.std.specs.List.{All, slice_get, list_all}
+use Rattle.std.proofs.lemmas.Bool.Decides.{eqb_tells, nat_tests}
+use Rattle.std.proofs.lemmas.Option.{slice_get_within}
+use Rattle.std.proofs.lemmas.List.Elements.{All-filter, All-head, All-tail}
+use Rattle.lx_trees.specs.Siblings.{is_among}
+use Rattle.lx_trees.proofs.Positions.{is_among-slice_get}
+use Rattle.lx_node.specs.Plain.{plain_element}
+use Rattle.lx_node.specs.declared.kind.Kind.TheVariants.{Row}
+use Rattle.lx_node.specs.declared.cause.Cause.{Cause}
+use Rattle.lx_select.specs.declared.selection.Selection.{Selection}
+use Rattle.lx_forest.specs.Forest.{Forest}
+use Rattle.lx_forest.specs.Lookups.{kind_of, parent_of, children_of, size_of, ancestors, IsForest}
+use Rattle.lx_forest.specs.Edits.{take_out}
+use Rattle.lx_forest.proofs.Walks.{ancestors-step}
+use Rattle.lx_draft.specs.Working.{Working}
+use Rattle.lx_draft.specs.Covering.{IsReady}
+use Rattle.lx_draft.specs.Faults.{after}
+use Rattle.lx_draft.specs.Steps.{new_step, take_step, put_step, select_step}
+use Rattle.lx_edit.specs.InTurn.{in_turn}
+use Rattle.lx_edit.specs.Edits.{sent_away, goes_too, removed, remove_step}
+use Rattle.lx_edit.specs.Texts.{keys_from}
+use Rattle.lx_edit.proofs.Climbed.{answered, first_part, sent_away-forest, taken-forest}
+use Rattle.lx_edit.proofs.Covered.{covered_path}
+use Rattle.lx_edit.proofs.Paths.{every}
+use Rattle.lx_blocks.specs.Blocks.{cell_of}
+use Rattle.lx_table.specs.declared.spots.Spot.{Spot}
+use Rattle.lx_table.specs.Spots.{spot_of, spot_at, is_of_cell, end_column}
+use Rattle.lx_table.specs.Spans.{row_span, heights_set}
+use Rattle.lx_table.specs.Grid.{spots_of, spots_over, grid_of}
+use Rattle.lx_table.specs.Places.{Place, place, place_among, place_below, table_above, place_of_cell, needed, focus_of, place_of, at_place, caret_step, caret_in_step, caret_in_spot}
+use Rattle.lx_table.specs.Growing.{crosses_row, crossing, taller, column_filled, row_inserted, row_at, insert_row_step}
+use Rattle.lx_table.specs.Shrinking.{first_spot, is_in_row_alone, goes_below, lower, moved_down, all_moved_down, without_at, caret_without_row, row_removed, row_taken, row_deleted, delete_row_step}
+use Rattle.lx_table_laws.specs.Laws.{new_row}
+use Rattle.lx_table.proofs.Kept.{found_has}
+use Rattle.lx_table_laws.proofs.Paths.{span_path, heights_path}
+use Rattle.lx_table_laws.proofs.Alike.{same_grid}
+use Rattle.lx_table_laws.proofs.Own.{IsOwn, spots_own, spot_in_row, row_of_spot, above_is, height_at, height_found, all_by, cells_in}
+use Rattle.lx_table_laws.proofs.Spanned.{IsSpanned, IsDue, spots_spanned}
+use Rattle.lx_table_laws.proofs.Opened.{child_below, parent_below, row_opened}
+use Rattle.lx_table_laws.proofs.Heights.{heights_spanned}
+use Rattle.lx_table_laws.proofs.Again.{IsShifted, HasRow, IsShrunk, was_there, alike_again, new_row_at}
+
+-- ---- the caret's cell
+
+record IsTold (f : Forest) (p : Place) : Type 0 where
+  pub spots : p.spots ≡ spots_of f p.table
+  pub own : IsOwn f (children_of f p.table) p.spot
+
+spot_told : (f : Forest) (table cell : ℕ) (o : Option Spot) (p : Place) → spot_of (spots_of f table) cell ≡ o → place_among table (spots_of f table) cell ≡ Some p → IsTold f p
+spot_told f table cell None p found e = let none : place_among table (spots_of f table) cell ≡ None = rw found refl in absurd (cc)
+spot_told f table cell (Some s) p found e =
+    let some : place_among table (spots_of f table) cell ≡ Some (place table (spots_of f table) s) = rw found refl in
+    let is : place table (spots_of f table) s ≡ p = cc in
+    subst (IsTold f) is (record { spots = refl; own = found_has (IsOwn f (children_of f table)) (is_of_cell cell) (spots_of f table) s (spots_own f table) found })
+
+table_told : (f : Forest) (cell : ℕ) (o : Option ℕ) (p : Place) → place_below f cell o ≡ Some p → IsTold f p
+table_told f cell None p e = absurd (cc)
+table_told f cell (Some table) p e = spot_told f table cell (spot_of (spots_of f table) cell) p refl e
+
+cell_told : (f : Forest) (o : Option ℕ) (p : Place) → place_of_cell f o ≡ Some p → IsTold f p
+cell_told f None p e = absurd (cc)
+cell_told f (Some cell) p e = table_told f cell (table_above f cell) p e
+
+needed_told : (f : Forest) (s : Selection) (o : Option ℕ) (found : Option Place) (p : Place) → place_of_cell f o ≡ found → needed s found ≡ Ok p → IsTold f p
+needed_told f s o None p is e = absurd (cc)
+needed_told f s o (Some q) p is e = let same : q ≡ p = cc in cell_told f o p (is ∙ ap (λ (x : Place). Some x) same)
+
+focus_told : (w : Working) (r : Result ℕ Cause) (p : Place) → after r (λ k. needed w.selection (place_of_cell w.forest (cell_of w.forest k))) ≡ Ok p → IsTold w.forest p
+focus_told w (Ok k) p e = needed_told w.forest w.selection (cell_of w.forest k) (place_of_cell w.forest (cell_of w.forest k)) p refl e
+focus_told w (Err cause) p e = absurd (cc)
+
+place_told : (w : Working) (p : Place) → place_of w ≡ Ok p → IsTold w.forest p
+unfolding place_of
+place_told w p e = focus_told w (focus_of w) p e
+
+-- ---- the row comes
+
+abbrev taller_rows : Spot → ℕ
+taller_rows s = s.height + 1
+
+abbrev lower_rows : Spot → ℕ
+lower_rows s = s.height - 1
+
+due_across : (f : Forest) (table new : ℕ) (rows : Spot → ℕ) (rows_at : ℕ → ℕ) → ((i : ℕ) (s : Spot) → slice_get (spots_of f table) i ≡ Some s → IsOwn f (children_of f table) s → rows s ≡ rows_at s.cell)
+    → All (IsDue f rows rows_at) (crossing new (spots_of f table))
+due_across f table new rows rows_at each =
+    All-filter (crosses_row new) (IsDue f rows rows_at) (spots_of f table)
+    (all_by (IsDue f rows rows_at) (IsOwn f (children_of f table)) (spots_of f table) (spots_own f table) (λ i s at own. record { width = own.width; height = each i s at own }))
+
+record HasCome (f : Forest) (table new : ℕ) (v : Working) : Type 0 where
+  pub row : ℕ
+  pub set : Forest
+  pub grown : Forest
+  pub way : HasRow f table new row set grown v.forest
+  pub ready : IsReady v
+
+grows : (w h y : Working) (table new : ℕ) → IsReady w → heights_set (spots_of w.forest table) w ≡ Ok h → in_turn taller (crossing new (spots_of w.forest table)) h ≡ Ok y
+    → IsSpanned h.forest y.forest (cells_in (crossing new (spots_of w.forest table))) (λ q. height_at (spots_of w.forest table) q + 1) × IsReady y
+grows w h y table new ready set e =
+    let spots : List Spot = spots_of w.forest table in
+    let heights = heights_spanned w h table ready.in_order set in
+    let ready_h : IsReady h = (heights_path covered_path spots w h ready set).ready in (
+      spots_spanned w.forest taller_rows (λ q. height_at spots q + 1) (crossing new spots) h y heights.columns
+          (due_across w.forest table new taller_rows (λ q. height_at spots q + 1) (λ j s there own. ap (λ n. n + 1) (sym (height_found w.forest table ready.in_order spots j s (spots_own w.forest table) own there)))) e,
+      (every covered_path taller (crossing new spots) (λ s. span_path covered_path (s.height + 1) s.width s.cell) h y ready_h e).ready,
+    )
+
+row_comes : (w h y u t v : Working) (table new like i k : ℕ) → IsReady w → slice_get (children_of w.forest table) i ≡ Some k → heights_set (spots_of w.forest table) w ≡ Ok h
+    → in_turn taller (crossing new (spots_of w.forest table)) h ≡ Ok y → new_step Row plain_element y ≡ Ok u → put_step y.next_key table new u ≡ Ok t
+    → in_turn (column_filled (spots_of w.forest table) (crossing new (spots_of w.forest table)) like y.next_key) (keys_from 0 (end_column (spots_of w.forest table))) t ≡ Ok v → HasCome w.forest table new v
+row_comes w h y u t v table new like i k ready at set taller_e new_e put_e filled_e =
+    let spots : List Spot = spots_of w.forest table in
+    let heights = heights_spanned w h table ready.in_order set in
+    let grown = grows w h y table new ready set taller_e in
+    let first : is_among k (children_of y.forest table) ≡ true =
+    ap (is_among k) (grown.0.children table ∙ heights.children table) ∙ is_among-slice_get (children_of w.forest table) k i at in
+    let opened = row_opened table new spots (crossing new spots) like (keys_from 0 (end_column spots)) y u t v grown.1 (parent_below y k table grown.1 first) new_e put_e filled_e in
+    record {
+      row = y.next_key;
+      set = h.forest;
+      grown = y.forest;
+      way = record {
+        in_order = ready.in_order;
+        heights = heights;
+        taller = grown.0;
+        made = opened.0;
+        below = λ p q among. (child_below y q p grown.1 among, parent_below y q p grown.1 among);
+      };
+      ready = opened.1;
+    }
+
+comes : (w h v : Working) (table new like i k : ℕ) → IsReady w → slice_get (children_of w.forest table) i ≡ Some k → heights_set (spots_of w.forest table) w ≡ Ok h
+    → row_inserted table (spots_of w.forest table) new like h ≡ Ok v → HasCome w.forest table new v
+unfolding row_inserted
+comes w h v table new like i k ready at set e =
+    let spots : List Spot = spots_of w.forest table in
+    let cells : ℕ → Working → Result Working Cause = λ row. in_turn (column_filled spots (crossing new spots) like row) (keys_from 0 (end_column spots)) in
+    let put : ℕ → Working → Result Working Cause = λ row u. after (put_step row table new u) (cells row) in
+    let a = first_part (in_turn taller (crossing new spots) h) (λ x. after (new_step Row plain_element x) (put x.next_key)) v e in
+    let b = first_part (new_step Row plain_element a.0) (put a.0.next_key) v a.2 in
+    let c = first_part (put_step a.0.next_key table new b.0) (cells a.0.next_key) v b.2 in
+    row_comes w h a.0 b.0 c.0 v table new like i k ready at set a.1 b.1 c.1 c.2
+
+-- ---- the row goes
+
+filter_none : (test : Spot → Bool) (spots : List Spot) → All (λ s. test s ≡ false) spots → filter test spots ≡ []
+filter_none test [] all = refl
+filter_none test (s ∷ spots) all =
+    let here : test s ≡ false = All-head (λ t. test t ≡ false) s spots all in rw here (filter_none test spots (All-tail (λ t. test t ≡ false) s spots all))
+
+not_all : (test : Spot → Bool) (spots : List Spot) (i : ℕ) (s : Spot) → slice_get spots i ≡ Some s → test s ≡ false → list_all test spots ≡ false
+not_all test [] i s at fails = absurd (cc)
+not_all test (x ∷ spots) zero s at fails = let is : x ≡ s = cc in ap (λ b. b && list_all test spots) (ap test is ∙ fails)
+not_all test (x ∷ spots) (suc i) s at fails = ap (λ b. test x && b) (not_all test spots i s at fails) ∙ and_false (test x) where
+  and_false : (b : Bool) → (b && false) ≡ false
+  and_false true = refl
+  and_false false = refl
+
+none_moves : (spots : List Spot) (row : ℕ) (o : Option ℕ) (w v : Working) → filter (goes_below row) spots ≡ [] → all_moved_down spots row o w ≡ Ok v → w ≡ v
+unfolding in_turn
+none_moves spots row None w v none e = cc
+none_moves spots row (Some next) w v none e =
+    let same : Ok w ≡ Ok v = sym (ap (λ (zs : List Spot). in_turn (moved_down spots next) zs w) none) ∙ e in cc (same)
+
+selected_forest : (s : Selection) (w v : Working) → select_step s w ≡ Ok v → v.forest ≡ w.forest
+unfolding select_step
+selected_forest s w v e = ap (λ (x : Working). x.forest) (answered _ _ v e)
+
+careted_forest : (o : Option Spot) (w v : Working) → caret_in_spot o w ≡ Ok v → v.forest ≡ w.forest
+unfolding caret_in_step caret_step
+careted_forest None w v e = let same : w ≡ v = cc in sym (ap (λ (x : Working). x.forest) same)
+careted_forest (Some s) w v e = selected_forest _ w v e
+
+-- what is above a node that goes has other children
+stays_above : (k p : ℕ) (above : List ℕ) (w v : Working) → (size_of (take_out k w.forest) p == 0) ≡ false → removed k (p ∷ above) w ≡ Ok v → v.forest ≡ take_out k w.forest
+stays_above k p above w v more e =
+    let a = first_part (take_step k (sent_away k w)) (λ u. cond (goes_too (kind_of w.forest k) u.forest p) (removed p above u) (Ok u)) v e in
+    let forest : a.0.forest ≡ take_out k w.forest = taken-forest k (sent_away k w) a.0 a.1 ∙ ap (take_out k) (sent_away-forest k w) in
+    let left : goes_too (kind_of w.forest k) a.0.forest p ≡ false = ap (λ g. goes_too (kind_of w.forest k) g p) forest ∙ rw more refl in
+    let same : a.0 ≡ v = kept (goes_too (kind_of w.forest k) a.0.forest p) (removed p above a.0) a.0 v left a.2 in
+    sym (ap (λ (x : Working). x.forest) same) ∙ forest
+  where
+    kept : (t : Bool) (r : Result Working Cause) (x y : Working) → t ≡ false → cond t r (Ok x) ≡ Ok y → x ≡ y
+    kept true r x y is e = absurd (cc)
+    kept false r x y is e = cc
+
+removed_forest : (k p : ℕ) (w v : Working) → IsForest w.forest → parent_of w.forest k ≡ Some p → (size_of (take_out k w.forest) p == 0) ≡ false → remove_step k w ≡ Ok v → v.forest ≡ take_out k w.forest
+unfolding remove_step
+removed_forest k p w v ordered up more e =
+    stays_above k p (ancestors w.forest p) w v more (sym (ap (λ ks. removed k ks w) (ancestors-step w.forest k p ordered up)) ∙ e)
+
+-- the row of a cell that was there isn't the new one
+other_row : (new i j : ℕ) → IsShifted new i j → (j == new) ≡ false
+other_row new i j shift =
+    elim shift [
+      | inl low ↦ let h : i < new = low.0 in let is : j ≡ i = low.1 in grind (arith, eqb_tells j new, h, is)
+      | inr high ↦ let h : new ≤ i = high.0 in let is : j ≡ i + 1 = high.1 in grind (arith, eqb_tells j new, h, is)
+    ]
+
+-- no cell of the new row goes on below it
+none_below : (f : Forest) (table new : ℕ) (x : Working) (come : HasCome f table new x) → filter (goes_below new) (spots_of x.forest table) ≡ []
+none_below f table new x come =
+    filter_none (goes_below new) (spots_of x.forest table)
+    (all_by (λ s. goes_below new s ≡ false) (IsOwn x.forest (children_of x.forest table)) (spots_of x.forest table) (spots_own x.forest table) (λ i s at own. elim (eqb_tells s.row new) [
+      | inl here ↦
+          let stands : slice_get (children_of x.forest table) new ≡ Some come.row = new_row_at f table new come.row come.set come.grown x.forest come.way in
+          let found : slice_get (children_of x.forest table) new ≡ Some own.key = sym (ap (slice_get (children_of x.forest table)) here.1) ∙ own.row in
+          let key : own.key ≡ come.row = cc (stands, found) in
+          let single : row_span x.forest s.cell ≡ 1 = come.way.made.single s.cell (subst (λ k. is_among s.cell (children_of x.forest k) ≡ true) key own.among) in
+          let high : s.height ≡ min (row_span x.forest s.cell) (length (children_of x.forest table) - s.row) = own.height in
+          let low : nat_lt 1 s.height ≡ false = grind (arith, nat_tests, high, single) in
+          ap (λ b. b && nat_lt 1 s.height) here.0 ∙ low
+      | inr other ↦ ap (λ b. b && nat_lt 1 s.height) other.0
+    ]))
+
+-- and it isn't the only row with cells
+not_alone : (f : Forest) (table new i k q : ℕ) (x : Working) (come : HasCome f table new x) → slice_get (children_of f table) i ≡ Some k → is_among q (children_of f k) ≡ true
+    → list_all (is_in_row_alone new) (spots_of x.forest table) ≡ false
+not_alone f table new i k q x come at among =
+    let there = was_there f table new come.row come.set come.grown x.forest come.way i k at in
+    let inside : is_among q (children_of x.forest k) ≡ true = ap (is_among q) there.cells ∙ among in
+    let found = spot_in_row x.forest table there.index k q there.at inside in
+    let row : found.spot.row ≡ there.index = row_of_spot x.forest table there.index k q found.spot come.ready.in_order there.at inside found.has found.is in
+    not_all (is_in_row_alone new) (spots_of x.forest table) found.index found.spot found.at
+    (ap (λ r. (r == new) && (found.spot.height == 1)) row ∙ ap (λ b. b && (found.spot.height == 1)) (other_row new i there.index there.shift))
+
+not_none : (n i : ℕ) → i < n → (n == 0) ≡ false
+not_none n i h = grind (arith, eqb_tells n 0, h)
+
+row_goes : (f : Forest) (table new i k : ℕ) (x h y z t u : Working) (come : HasCome f table new x) → slice_get (children_of f table) i ≡ Some k → IsShrunk table new x.forest h.forest y.forest
+    → y ≡ z → t.forest ≡ z.forest → row_removed (slice_get (children_of t.forest table) new) t ≡ Ok u → grid_of u.forest table ≡ grid_of f table
+row_goes f table new i k x h y z t u come at gone moved careted e =
+    let forest : t.forest ≡ y.forest = careted ∙ sym (ap (λ (v : Working). v.forest) moved) in
+    let alike = alike_again f table new come.row come.set come.grown x.forest h.forest y.forest come.way gone in
+    let rows : children_of t.forest table ≡ children_of x.forest table = ap (λ z. children_of z table) forest ∙ gone.lower.children table ∙ gone.reset.children table in
+    let row : slice_get (children_of t.forest table) new ≡ Some come.row =
+    ap (λ xs. slice_get xs new) rows ∙ new_row_at f table new come.row come.set come.grown x.forest come.way in
+    let removes : remove_step come.row t ≡ Ok u = sym (ap (λ o. row_removed o t) row) ∙ e in
+    let ordered : IsForest t.forest = subst IsForest (sym forest) gone.shrunk_in_order in
+    let up : parent_of t.forest come.row ≡ Some table = above_is t.forest come.row table ordered (is_among-slice_get (children_of t.forest table) come.row new row) in
+    let others : children_of (take_out come.row t.forest) table ≡ children_of f table = ap (λ z. children_of (take_out come.row z) table) forest ∙ alike.keys in
+    let some : i < length (children_of f table) = slice_get_within (children_of f table) i k at in
+    let more : (size_of (take_out come.row t.forest) table == 0) ≡ false = ap (λ (xs : List ℕ). length xs == 0) others ∙ not_none (length (children_of f table)) i some in
+    let taken : u.forest ≡ take_out come.row y.forest = removed_forest come.row table t u ordered up more removes ∙ ap (take_out come.row) forest in
+    ap (λ z. grid_of z table) taken ∙ same_grid f (take_out come.row y.forest) table alike
+
+caret_goes : (keys : List ℕ) (row column : ℕ) (w v : Working) → caret_without_row keys row column w ≡ Ok v → v.forest ≡ w.forest
+caret_goes keys row column w v e =
+    let left : List Spot = spots_over w.forest [] keys in careted_forest (option_or (spot_at left (min row (length keys - 1)) column) (first_spot left)) w v e
+
+shrinks : (x h y : Working) (table new : ℕ) → IsReady x → heights_set (spots_of x.forest table) x ≡ Ok h → in_turn lower (crossing new (spots_of x.forest table)) h ≡ Ok y → IsShrunk table new x.forest h.forest y.forest
+shrinks x h y table new ready set e =
+    let spots : List Spot = spots_of x.forest table in
+    let reset = heights_spanned x h table ready.in_order set in
+    let ready_h : IsReady h = (heights_path covered_path spots x h ready set).ready in
+    let ready_y : IsReady y = (every covered_path lower (crossing new spots) (λ s. span_path covered_path (s.height - 1) s.width s.cell) h y ready_h e).ready in
+    record {
+      opened_in_order = ready.in_order;
+      reset = reset;
+      lower =
+          spots_spanned x.forest lower_rows (λ q. height_at spots q - 1) (crossing new spots) h y reset.columns
+          (due_across x.forest table new lower_rows (λ q. height_at spots q - 1) (λ j s there own. ap (λ n. n - 1) (sym (height_found x.forest table ready.in_order spots j s (spots_own x.forest table) own there)))) e;
+      shrunk_in_order = ready_y.in_order;
+    }
+
+goes : (f : Forest) (table new column i k : ℕ) (x h u : Working) (come : HasCome f table new x) → slice_get (children_of f table) i ≡ Some k
+    → heights_set (spots_of x.forest table) x ≡ Ok h → row_taken table (spots_of x.forest table) new column h ≡ Ok u → grid_of u.forest table ≡ grid_of f table
+unfolding row_taken
+goes f table new column i k x h u come at set e =
+    let spots : List Spot = spots_of x.forest table in
+    let removed_at : Working → Result Working Cause = λ t. row_removed (slice_get (children_of t.forest table) new) t in
+    let careted : Working → Result Working Cause = λ y. after (caret_without_row (without_at new (children_of y.forest table)) new column y) removed_at in
+    let a = first_part (in_turn lower (crossing new spots) h) (λ y. after (all_moved_down spots new (slice_get (children_of y.forest table) (new + 1)) y) careted) u e in
+    let b = first_part (all_moved_down spots new (slice_get (children_of a.0.forest table) (new + 1)) a.0) careted u a.2 in
+    let c = first_part (caret_without_row (without_at new (children_of b.0.forest table)) new column b.0) removed_at u b.2 in
+    row_goes f table new i k x h a.0 b.0 c.0 u come at (shrinks x h a.0 table new come.ready set a.1)
+    (none_moves spots new (slice_get (children_of a.0.forest table) (new + 1)) a.0 b.0 (none_below f table new x come) b.1)
+    (caret_goes (without_at new (children_of b.0.forest table)) new column b.0 c.0 c.1) c.2
+
+-- ---- the commands
+
+placed : (w v : Working) (p : Place) (command : Place → Working → Result Working Cause) → place_of w ≡ Ok p → at_place command w ≡ Ok v → (h : Working) × (heights_set p.spots w ≡ Ok h) × (command p h ≡ Ok v)
+placed w v p command at e =
+    first_part (heights_set p.spots w) (command p) v (sym (ap (λ r. after r (λ (q : Place). after (heights_set q.spots w) (command q))) at) ∙ e)
+
+inserted_at : (behind : Bool) (p : Place) (w v : Working) → row_at behind p w ≡ Ok v → (like : ℕ) × (row_inserted p.table p.spots (new_row behind p.spot) like w ≡ Ok v)
+inserted_at false p w v e = (p.spot.row, e)
+inserted_at true p w v e = (p.spot.row + p.spot.height - 1, e)
+
+unless : (t : Bool) (one other : Result Working Cause) (v : Working) → t ≡ false → cond t one other ≡ Ok v → other ≡ Ok v
+unless true one other v is e = absurd (cc)
+unless false one other v is e = e
+
+pub rows_come_and_go : (behind : Bool) (w v u : Working) (s : Selection) (p q : Place) → IsReady w → place_of w ≡ Ok p → insert_row_step behind w ≡ Ok v → place_of (record v { selection = s }) ≡ Ok q
+    → q.table ≡ p.table → q.spot.row ≡ new_row behind p.spot → delete_row_step (record v { selection = s }) ≡ Ok u → grid_of u.forest p.table ≡ grid_of w.forest p.table
+unfolding insert_row_step delete_row_step
+rows_come_and_go behind w v u s p q ready at inserts at_new table row deletes =
+    let f : Forest = w.forest in
+    let new : ℕ = new_row behind p.spot in
+    let x : Working = record v { selection = s } in
+    let was : IsTold w.forest p = place_told w p at in
+    let a = placed w v p (row_at behind) at inserts in
+    let b = inserted_at behind p a.0 v a.2 in
+    let come_v : HasCome f p.table new v =
+    comes w a.0 v p.table new b.0 p.spot.row was.own.key ready was.own.row (sym (ap (λ z. heights_set z w) was.spots) ∙ a.1) (sym (ap (λ z. row_inserted p.table z new b.0 a.0) was.spots) ∙ b.1) in
+    let come : HasCome f p.table new x = record {
+      row = come_v.row;
+      set = come_v.set;
+      grown = come_v.grown;
+      way = come_v.way;
+      ready = record { in_order = come_v.ready.in_order; free = come_v.ready.free };
+    } in
+    let now : IsTold v.forest q = place_told x q at_new in
+    let spots : q.spots ≡ spots_of v.forest p.table = now.spots ∙ ap (spots_of v.forest) table in
+    let c = placed x u q row_deleted at_new deletes in
+    let set : heights_set (spots_of v.forest p.table) x ≡ Ok c.0 = sym (ap (λ z. heights_set z x) spots) ∙ c.1 in
+    let alone : list_all (is_in_row_alone q.spot.row) q.spots ≡ false =
+    ap (λ r. list_all (is_in_row_alone r) q.spots) row ∙ ap (list_all (is_in_row_alone new)) spots ∙ not_alone f p.table new p.spot.row was.own.key p.spot.cell x come was.own.row was.own.among in
+    let taken : row_taken q.table q.spots q.spot.row q.spot.column c.0 ≡ Ok u = unless (list_all (is_in_row_alone q.spot.row) q.spots) _ _ u alone c.2 in
+    let takes : row_taken p.table (spots_of v.forest p.table) new q.spot.column c.0 ≡ Ok u =
+    sym (ap (λ t. row_taken t q.spots q.spot.row q.spot.column c.0) table ∙ ap (λ z. row_taken p.table z q.spot.row q.spot.column c.0) spots
+    ∙ ap (λ r. row_taken p.table (spots_of v.forest p.table) r q.spot.column c.0) row) ∙ taken in
+    goes f p.table new q.spot.column p.spot.row was.own.key x c.0 u come was.own.row set takes

@@ -1,0 +1,9 @@
+pub mod Edits
+pub mod Laws
+pub mod Lookups
+pub mod NamedTrees
+pub mod Records
+pub mod Siblings
+pub mod Spots
+pub mod Trees
+pub mod Walks
