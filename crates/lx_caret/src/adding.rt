@@ -8,11 +8,11 @@ ghost use Rattle.lx_edit.specs.Standing.{StillStands};
 ghost use Rattle.lx_caret.specs.Adding as adding;
 ghost use Rattle.lx_caret.specs.Adding.{add_step};
 
+use lx_blocks::is_normal_at;
 use lx_draft::Draft;
 use lx_edit::{admitted, split_text};
 use lx_links::Links;
 use lx_node::{Cause, Fault, Fields, Key, Kind, Point, PointKind};
-use lx_blocks::is_normal_at;
 use std::alloc::Global;
 
 /// The kind of what a node goes into at a point: an element itself, or what a text is below.

@@ -17,14 +17,14 @@ ghost use Rattle.lx_caret.specs.Stretches.{reach_of, erased_to};
 
 use crate::joining::join;
 use crate::removing::remove_in;
-use lx_draft::Draft;
-use lx_edit::remove;
-use lx_links::Links;
-use lx_node::{Fault, Key, Point, PointKind};
 use lx_blocks::{
     block, first_behind, is_collapsed, is_element_at, last_before, normal_at, previous_in_tree,
     range_of, same_node,
 };
+use lx_draft::Draft;
+use lx_edit::remove;
+use lx_links::Links;
+use lx_node::{Fault, Key, Point, PointKind};
 use lx_text::{cluster_after, cluster_before, word_after, word_before};
 use std::alloc::Global;
 

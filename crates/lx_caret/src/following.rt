@@ -14,10 +14,10 @@ ghost use Rattle.lx_edit.specs.Standing.{StillStands};
 ghost use Rattle.lx_blocks.specs.Blocks as blocks;
 ghost use Rattle.lx_caret.specs.Paragraphs as paragraphs;
 
+use lx_blocks::{is_inline_at, node_at};
 use lx_draft::Draft;
 use lx_links::Links;
 use lx_node::{ElementFields, Extra, Fault, Fields, Key, Kind, NoMemory, Node};
-use lx_blocks::{is_inline_at, node_at};
 use std::alloc::Global;
 
 /// Makes the block that comes after one, into which these nodes go, and answers its key.

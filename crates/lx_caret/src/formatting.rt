@@ -11,9 +11,9 @@ ghost use Rattle.lx_caret.specs.Formatting as formatting;
 ghost use Rattle.lx_caret.specs.Formatting.{format_text_step};
 
 use crate::pieces::{Piece, isolate_each, pieces_between};
+use lx_blocks::{in_order, range_of};
 use lx_draft::Draft;
 use lx_node::{Fault, Fields, Key, NoMemory, TextFields};
-use lx_blocks::{in_order, range_of};
 use std::alloc::Global;
 
 // ---- bits

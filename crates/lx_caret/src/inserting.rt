@@ -13,11 +13,11 @@ ghost use Rattle.lx_caret.specs.Inserting.{insert_text_step, insert_line_break_s
 
 use crate::adding::add;
 use crate::removing::remove_selected;
+use lx_blocks::{Ranged, no_range, normal_at, place_caret, shown_range};
 use lx_draft::Draft;
 use lx_edit::{admitted, element_point, text_point};
 use lx_links::Links;
 use lx_node::{Fault, Fields, Key, Kind, Mode, NoMemory, Point, TextFields, Txt};
-use lx_blocks::{Ranged, no_range, normal_at, place_caret, shown_range};
 use std::alloc::Global;
 
 /// The range that is selected after what it covered was removed, for a step at its anchor. It is refused with `NoSelection`

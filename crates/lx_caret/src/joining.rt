@@ -11,13 +11,13 @@ ghost use Rattle.lx_blocks.specs.Walks.{left_from, IsAt};
 ghost use Rattle.lx_caret.specs.Deleting as deleting;
 
 use crate::removing::remove_empty;
+use lx_blocks::{
+    frame, is_inline_at, is_line, is_rule_or_table_at, leading, previous_in_tree, same_node,
+};
 use lx_draft::{Draft, PointRule};
 use lx_edit::{element_point, remove};
 use lx_links::Links;
 use lx_node::{Fault, Key, Kind};
-use lx_blocks::{
-    frame, is_inline_at, is_line, is_rule_or_table_at, leading, previous_in_tree, same_node,
-};
 use std::alloc::Global;
 
 /// Joins a block back to the line before it, or the line after it to the line before that one. A rule that is met is

@@ -14,11 +14,11 @@ use crate::following::make_next;
 use crate::parting::part_up;
 use crate::ready::ready;
 use crate::removing::remove_selected;
+use lx_blocks::{block, children_from, has_characters_at, is_item_at, place_caret, shown_range};
 use lx_draft::Draft;
 use lx_edit::{admitted, element_point, move_each, split_text, text_point};
 use lx_links::Links;
 use lx_node::{Cause, Fault, Fields, Key, Kind, Point};
-use lx_blocks::{block, children_from, has_characters_at, is_item_at, place_caret, shown_range};
 use std::alloc::Global;
 
 /// Removes what is selected, and cuts the block at the caret in two.

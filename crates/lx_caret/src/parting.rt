@@ -9,11 +9,11 @@ ghost use Rattle.lx_blocks.specs.Blocks as blocks;
 ghost use Rattle.lx_blocks.specs.Places.{until};
 ghost use Rattle.lx_caret.specs.Paragraphs as paragraphs;
 
+use lx_blocks::{children_from, is_link_at, make_like};
 use lx_draft::Draft;
 use lx_edit::move_each;
 use lx_links::Links;
 use lx_node::{Fault, Key, NoMemory, Point, PointKind};
-use lx_blocks::{children_from, is_link_at, make_like};
 use std::alloc::Global;
 
 /// How many children of its parent come before an offset of a node: the node itself does so where it isn't 0.

@@ -12,10 +12,10 @@ ghost use Rattle.lx_caret.specs.declared.pieces.Piece.{Piece};
 ghost use Rattle.lx_caret.specs.Formatting as formatting;
 
 use crate::removing::start_part;
+use lx_blocks::{covered, has_characters_at, is_normal_at};
 use lx_draft::Draft;
 use lx_edit::split_text;
 use lx_node::{Fault, Key, NoMemory, Point, PointKind};
-use lx_blocks::{covered, has_characters_at, is_normal_at};
 use std::alloc::Global;
 
 /// The part of a text or tab from one offset to another.

@@ -8,13 +8,13 @@ ghost use Rattle.lx_edit.specs.Standing.{StillStands};
 ghost use Rattle.lx_caret.specs.Removing as removing;
 ghost use Rattle.lx_caret.specs.Removing.{remove_text_step};
 
+use lx_blocks::{
+    Ranged, block, in_order, is_collapsed, is_normal_at, leading, outermost, place_caret, range_of,
+};
 use lx_draft::Draft;
 use lx_edit::{move_each, remove};
 use lx_links::Links;
 use lx_node::{Fault, Key, Point, PointKind};
-use lx_blocks::{
-    Ranged, block, in_order, is_collapsed, is_normal_at, leading, outermost, place_caret, range_of,
-};
 use std::alloc::Global;
 
 /// Cuts a piece out of a normal text. Another text, and a tab, goes whole. Nothing is to be cut between equal offsets.

@@ -8,11 +8,11 @@ ghost use Rattle.lx_edit.specs.Standing.{StillStands};
 ghost use Rattle.lx_caret.specs.SelectAll as selecting;
 ghost use Rattle.lx_caret.specs.SelectAll.{select_all_step};
 
+use lx_blocks::{is_element_at, is_text_at, start_within};
 use lx_draft::Draft;
 use lx_edit::{admitted, element_point, text_point};
 use lx_links::Links;
 use lx_node::{Fault, Key, Point};
-use lx_blocks::{is_element_at, is_text_at, start_within};
 use lx_select::Selection;
 
 /// The last node, down last children from the root.

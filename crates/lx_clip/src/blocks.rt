@@ -10,12 +10,12 @@ ghost use Rattle.lx_clip.specs.Pasting as pasting;
 use crate::adding::{add_nodes, put_behind_each};
 use crate::ending::caret_after;
 use crate::ready::ready;
+use lx_blocks::{block, children_from, make_like};
 use lx_caret::{cut_text, part_up, remove_empty};
 use lx_draft::Draft;
 use lx_edit::move_each;
 use lx_links::Links;
 use lx_node::{Fault, Key, Kind, Point};
-use lx_blocks::{block, children_from, make_like};
 use std::alloc::Global;
 
 /// Makes a new block like another of what stays after the point, if anything does.

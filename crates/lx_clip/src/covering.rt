@@ -23,11 +23,11 @@ ghost use Rattle.lx_clip.specs.Extents.{seen, with_key, AreAlike};
 ghost use Rattle.lx_clip.specs.Slices as slices;
 
 use indexmap::IndexSet;
+use lx_blocks::{covered, is_inline_at};
 use lx_draft::with_text;
 use lx_fields::node_value;
 use lx_links::Links;
 use lx_node::{Fields, Key, Kind, Mode, NoMemory, Node, Point, TextFields};
-use lx_blocks::{covered, is_inline_at};
 use serde_json::Value;
 use std::alloc::Global;
 

@@ -11,10 +11,10 @@ ghost use Rattle.lx_clip.specs.Extents.{seen};
 ghost use Rattle.lx_clip.specs.Slices as slices;
 
 use crate::covering::{Extent, covers_below, make_extent};
+use lx_blocks::{Ranged, block, frame, in_order, is_collapsed, same_node, shown_range};
 use lx_draft::State;
 use lx_links::Links;
 use lx_node::{Key, NoMemory, Point};
-use lx_blocks::{Ranged, block, frame, in_order, is_collapsed, same_node, shown_range};
 use serde_json::{Value, json};
 use std::alloc::{AllocError, Global};
 

@@ -1,11 +1,11 @@
 //! What an update left, in words.
 
 use anyhow::Result;
+use lx_blocks::{Ranged, selected_lines, shown_range};
 use lx_draft::{Frozen, State};
 use lx_links::Links;
 use lx_marks::Marks;
 use lx_node::Key;
-use lx_blocks::{Ranged, selected_lines, shown_range};
 use lx_reconcile::fresh;
 use lx_script::{Reply, write_reply};
 use std::alloc::Global;

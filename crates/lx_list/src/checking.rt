@@ -10,11 +10,11 @@ ghost use Rattle.lx_list.specs.Checking as checking;
 ghost use Rattle.lx_list.specs.Checking.{set_checked_step, toggle_checked_step};
 
 use crate::changing::check_item;
+use lx_blocks::{block, is_item_at, no_range, range_of};
 use lx_draft::Draft;
 use lx_edit::admitted;
 use lx_links::Links;
 use lx_node::{Cause, Extra, Fault, Fields, Key, SelectionKind};
-use lx_blocks::{block, is_item_at, no_range, range_of};
 use std::alloc::Global;
 
 /// The node isn't there, or it is no item.

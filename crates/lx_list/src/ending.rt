@@ -13,10 +13,10 @@ ghost use Rattle.lx_list.specs.Ending.{paragraph_in_item_step};
 use crate::making::{items_behind, like};
 use crate::outdenting::take_out_of;
 use crate::ready::ready;
+use lx_blocks::{is_item_at, place_caret};
 use lx_draft::Draft;
 use lx_edit::{element_point, move_each, remove};
 use lx_node::{Fault, Fields, Key, Kind};
-use lx_blocks::{is_item_at, place_caret};
 use std::alloc::Global;
 
 /// Moves items, if there are any, into a new list of this kind and with these fields after a paragraph.

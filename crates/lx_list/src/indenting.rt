@@ -12,10 +12,10 @@ use crate::changing::{Change, change_fields};
 use crate::making::{item_fields, like};
 use crate::nesting::nested_in;
 use crate::ready::ready;
+use lx_blocks::is_item_at;
 use lx_draft::Draft;
 use lx_edit::{move_children, move_to_end, remove};
 use lx_node::{Fault, Key, Kind};
-use lx_blocks::is_item_at;
 use std::alloc::Global;
 
 /// Puts a new item in the place of one, and that one into a list in it that is like its own.

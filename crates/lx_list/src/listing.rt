@@ -13,11 +13,11 @@ use crate::kinds::is_list_of_at;
 use crate::making::{item_fields, list_fields, unchecked};
 use crate::ready::ready;
 use crate::retyping::retype_above;
+use lx_blocks::{is_inline_at, is_item_at};
 use lx_draft::Draft;
 use lx_edit::{move_children, remove};
 use lx_links::Links;
 use lx_node::{Fault, Key, Kind, ListType};
-use lx_blocks::{is_inline_at, is_item_at};
 use std::alloc::Global;
 
 /// Puts what is in a line into a new item at a list's end, and removes the line.

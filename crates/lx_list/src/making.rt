@@ -8,9 +8,9 @@ ghost use Rattle.lx_blocks.specs.Blocks as blocks;
 ghost use Rattle.lx_list.specs.Making as making;
 ghost use Rattle.lx_list.specs.Outdenting as outdenting;
 
+use lx_blocks::{children_from, node_at};
 use lx_links::Links;
 use lx_node::{ElementFields, Extra, Fields, Key, Kind, ListType, NoMemory};
-use lx_blocks::{children_from, node_at};
 use std::alloc::Global;
 
 /// The fields of a list of which nothing is set.

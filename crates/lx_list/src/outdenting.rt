@@ -12,11 +12,11 @@ ghost use Rattle.lx_list.specs.Outdenting as outdenting;
 use crate::changing::{Change, change_fields};
 use crate::making::{item_fields, items_behind, like};
 use crate::ready::ready;
+use lx_blocks::is_item_at;
 use lx_draft::Draft;
 use lx_edit::{move_before, move_behind, move_each, remove};
 use lx_links::Links;
 use lx_node::{Fault, Fields, Key, Kind};
-use lx_blocks::is_item_at;
 use std::alloc::Global;
 
 /// Puts a new item after an outer one, with a list in it that takes items, and a node between the two.

@@ -6,11 +6,11 @@ ghost use Rattle.lx_forest.specs.Loose as loose;
 ghost use Rattle.lx_list.specs.Began as began;
 
 use crate::kinds::is_list_at;
+use lx_blocks::is_item_at;
 use lx_draft::Draft;
 use lx_links::Links;
 use lx_marks::Marks;
 use lx_node::Key;
-use lx_blocks::is_item_at;
 
 /// Whether the node is below nothing and isn't the root.
 fn is_top(links: &Links, key: Key) -> bool

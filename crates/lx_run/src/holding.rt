@@ -5,9 +5,9 @@ ghost use Rattle.lx_node.specs.Same.{same_text};
 ghost use Rattle.lx_run.specs.Holding as holding;
 
 use crate::resolving::anchor_of;
+use lx_blocks::block;
 use lx_draft::Draft;
 use lx_node::{Kind, Txt};
-use lx_blocks::block;
 use lx_select::Selection;
 use lx_step::{Payload, When};
 

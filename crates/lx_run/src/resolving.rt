@@ -7,9 +7,9 @@ ghost use Rattle.lx_run.specs.Scripts as scripts;
 ghost use Rattle.lx_run.specs.Scripts.{scripted, resolved};
 
 use crate::names::Names;
+use lx_blocks::block;
 use lx_draft::Draft;
 use lx_node::{Cause, Fault, Key, Named, NoMemory, Txt};
-use lx_blocks::block;
 use lx_select::Selection;
 use lx_step::Reference;
 use std::alloc::Global;

@@ -10,11 +10,11 @@ ghost use Rattle.lx_table.specs.Spots.{most_cells};
 
 use crate::filling::spots_of;
 use crate::spots::{Spot, spot_of};
+use lx_blocks::{cell_from, no_range, range_of};
 use lx_draft::Draft;
 use lx_edit::admitted;
 use lx_links::Links;
 use lx_node::{Fault, Key, NoMemory, SelectionKind};
-use lx_blocks::{cell_from, no_range, range_of};
 use lx_select::Selection;
 use std::alloc::Global;
 
