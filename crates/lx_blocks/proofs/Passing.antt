@@ -29,11 +29,6 @@ pub record IsPassing (f : Forest) (p index : ℕ) (at : Option ℕ) (kept : List
   pub here : at ≡ slice_get (children_of f p) (index + length kept)
   pub all : kept ++ drop (index + length kept) (children_of f p) ≡ drop index (children_of f p)
 
-pub passing_first : (f : Forest) (p index : ℕ) (at : Option ℕ) → at ≡ slice_get (children_of f p) index → IsPassing f p index at []
-passing_first f p index at is =
-    let none : index + 0 ≡ index = omega arith in
-    record { here = is ∙ ap (slice_get (children_of f p)) (sym none); all = ap (λ n. drop n (children_of f p)) none }
-
 pub passing_on : (f : Forest) (p index k : ℕ) (at next : Option ℕ) (kept more : List ℕ) → Sound f → IsPassing f p index at kept → at ≡ Some k → next ≡ next_of f k → more ≡ kept ++ k ∷ [] → IsPassing f p index next more
 passing_on f p index k at next kept more s h is e keeps =
     let children : List ℕ = children_of f p in

@@ -52,9 +52,6 @@ pub anchor_lies : (w : Working) (r : Ranged) → range_of w ≡ Ok r → lies w.
 unfolding range_of
 anchor_lies w r e = anchor_in w.forest w.selection r e
 
-pub lies_attached : (f : Forest) (p : Point) → lies f p ≡ true → is_attached f p.key ≡ true
-lies_attached f p e = (and_parts (is_attached f p.key) (lies_in f p) e).0
-
 -- ---- an offset of a text
 
 more_in : (back : Bool) (f : Forest) (p : Point) (kind : PointKind) → is_place f p kind ≡ true → has_more back f p kind ≡ true

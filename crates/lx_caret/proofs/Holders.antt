@@ -1,16 +1,11 @@
 -- The way up from what holds a point.
-use Rattle.std.proofs.Common.{◌≡◌, ◌∙◌, ◌++◌, ℕ, true, false, cond, List, [], ◌∷◌, Option, None, Some, sym, ap, append_assoc, append-nil, eqb}
+use Rattle.std.proofs.Common.{◌≡◌, ◌∙◌, ◌++◌, ℕ, false, cond, List, [], ◌∷◌, None, Some, sym, ap, append_assoc, append-nil, eqb}
 use Rattle.lx_forest.specs.Forest.{Forest}
 use Rattle.lx_forest.specs.Lookups.{parent_of, ancestors}
 use Rattle.lx_forest.proofs.Walks.{ancestors-top, ancestors-step}
 use Rattle.lx_links.specs.Stands.{Sound}
 use Rattle.lx_links.proofs.Up.{in_order}
 use Rattle.lx_blocks.specs.Places.{until}
-
--- the block ends the way up
-pub way_ends : (f : Forest) (block q : ℕ) (made whole : List ℕ) → eqb q block ≡ true → made ++ until (Some block) (q ∷ ancestors f q) ≡ whole → made ≡ whole
-way_ends f block q made whole here so_far =
-    sym (append-nil made) ∙ ap (λ b. made ++ cond b [] (q ∷ until (Some block) (ancestors f q))) (sym here) ∙ so_far
 
 kept : (f : Forest) (block q : ℕ) (above made more whole : List ℕ) → eqb q block ≡ false → ancestors f q ≡ above → more ≡ made ++ q ∷ []
     → made ++ until (Some block) (q ∷ ancestors f q) ≡ whole → more ++ until (Some block) above ≡ whole

@@ -35,14 +35,6 @@ passed_on f block all left rest k so_far here next_far next was is outside more 
       behind = behind_next (is_at is_inline f k) so_far here next_far next was.behind more far;
     }
 
-pub passed_met : (f : Forest) (block : ℕ) (all left rest : List ℕ) (k so_far here : ℕ) → IsPassed f block all left so_far here → left ≡ k ∷ rest → is_within f k block ≡ true
-    → so_far ≡ inline_end f 0 0 (before_holder f block all)
-passed_met f block all left rest k so_far here was is inside =
-    sym (ap (λ b. inline_end f so_far here (cond b [] (k ∷ before_holder f block rest))) inside) ∙ sym (ap (λ ks. inline_end f so_far here (before_holder f block ks)) is) ∙ was.same
-
-pub passed_all : (f : Forest) (block : ℕ) (all left : List ℕ) (so_far here : ℕ) → IsPassed f block all left so_far here → left ≡ [] → so_far ≡ inline_end f 0 0 (before_holder f block all)
-passed_all f block all left so_far here was is = sym (ap (λ ks. inline_end f so_far here (before_holder f block ks)) is) ∙ was.same
-
 -- a parent has fewer children than offsets
 pub few_passed : (f : Forest) (line block : ℕ) (all left rest : List ℕ) (k so_far here : ℕ) → Sound f → all ≡ children_of f line → IsPassed f block all left so_far here → left ≡ k ∷ rest
     → here + 1 < 2 ^ 32

@@ -1,22 +1,19 @@
 -- Down last children from the root to a leaf.
-use Rattle.std.proofs.Common.{◌≡◌, ◌≢◌, ◌∙◌, ℕ, ◌+◌, ◌<◌, ◌^◌, eqb, Bool, true, false, cond, List, [], ◌∷◌, ◌++◌, length, Option, None, Some, refl, sym, ap, arith, append-nil, inl, inr}
-use Rattle.std.specs.Prelude.{find, is_some}
+use Rattle.std.proofs.Common.{◌≡◌, ◌≢◌, ◌∙◌, ℕ, ◌+◌, ◌<◌, ◌^◌, true, false, List, [], ◌∷◌, ◌++◌, Option, None, Some, refl, sym, ap, arith, append-nil, inl, inr}
+use Rattle.std.specs.Prelude.{is_some}
 use Rattle.lx_trees.specs.Trees.{nil}
 use Rattle.lx_trees.specs.NamedTrees as named
 use Rattle.lx_trees.specs.NamedTrees.{total}
-use Rattle.lx_trees.specs.Siblings.{first_of, last_from, last_of, is_among, index_in}
+use Rattle.lx_trees.specs.Siblings.{last_from, last_of, is_among}
 use Rattle.lx_trees.specs.Spots.{Spot, children_at}
 use Rattle.std.proofs.lemmas.Bool.{cases_Bool}
 use Rattle.std.proofs.lemmas.Bool.Decides.{eqb_tells}
 use Rattle.lx_trees.proofs.NamedTrees.{joined-nil, preorder-joined, is_among-preorder}
-use Rattle.lx_trees.proofs.Siblings.{first_of-among}
-use Rattle.lx_trees.proofs.Positions.{index_in-lt}
 use Rattle.lx_forest.specs.Forest.{Forest, Label}
-use Rattle.lx_forest.specs.Lookups.{key_of, has, alone, trees_of, spot, parent_of, children_of, children_below, size_of, first_child, last_child, index_of, is_attached, keys_within, from, behind, IsForest}
-use Rattle.lx_forest.proofs.Bounds.{size_of-le}
+use Rattle.lx_forest.specs.Lookups.{key_of, has, alone, trees_of, spot, parent_of, children_of, last_child, is_attached, keys_within, from, IsForest}
 use Rattle.lx_forest.proofs.Edits.{key-spot, is_some-spot}
 use Rattle.lx_forest.proofs.Lookups.{alone-spot, has-child}
-use Rattle.lx_forest.proofs.Walks.{from-root, from-child, from-leaf, is_attached-up, total-alone-lt}
+use Rattle.lx_forest.proofs.Walks.{is_attached-up, total-alone-lt}
 use Rattle.lx_forest.proofs.Order.{is_attached-root}
 use Rattle.lx_forest.proofs.Within.{is_within-self}
 use Rattle.lx_links.specs.Stands.{Sound}

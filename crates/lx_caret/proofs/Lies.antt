@@ -5,7 +5,7 @@ use Rattle.std.proofs.lemmas.Bool.Decides.{eqb_tells, nat_tests}
 use Rattle.std.proofs.lemmas.Iterator.Adapters.{option_map_id}
 use Rattle.lx_trees.specs.Siblings.{is_among, names_without, names_with}
 use Rattle.lx_trees.specs.Spots.{Spot}
-use Rattle.lx_node.specs.Kinds.{is_element, has_characters, is_possible}
+use Rattle.lx_node.specs.Kinds.{is_element, is_possible}
 use Rattle.lx_node.specs.OfKind.{is_of_kind, fits_kind, is_element_of, are_bare, are_embed_fields}
 use Rattle.lx_node.specs.declared.kind.Kind.{Kind}
 use Rattle.lx_node.specs.declared.kind.Kind.TheVariants as kinds
@@ -101,13 +101,6 @@ lies_new l f q o kind h free e =
     lies_same f (with_new l f) q o kind (label_of-with_new l f q h free ∙ ap (λ b. cond b (Some l) (label_of f q)) other) (ap length (children_of-with_new l f q h free)) ∙ e
 
 -- ---- fields
-
--- what has characters has no children
-pub apart_kinds : (kind : Kind) → has_characters kind ≡ true → is_element kind ≡ false
-unfolding has_characters is_element
-apart_kinds kinds.Text e = refl
-apart_kinds kinds.Tab e = refl
-apart_kinds kind e = absurd (cc)
 
 -- a point in an element doesn't go by fields
 lies_element : (k : ℕ) (fields : Fields) (f : Forest) (q o : ℕ) → lies_in (with_fields k fields f) (spot_point q o point.Element) ≡ lies_in f (spot_point q o point.Element)

@@ -232,10 +232,6 @@ ready_from k (Some p) (Some i) w r = record { in_order = r.in_order; free = r.fr
 ready_from k (Some p) None w r = r
 ready_from k None i w r = r
 
-ready_sent : (k : ℕ) (w : Working) → IsReady w → IsReady (sent_away k w)
-unfolding sent_away
-ready_sent k w r = ready_from k (parent_of w.forest k) (index_of w.forest k) w r
-
 -- a draft whose points lie, and avoid the nodes
 pub record Kept (D : ℕ → Bool) (w v : Working) : Type 0 where
   pub fit : Fit v

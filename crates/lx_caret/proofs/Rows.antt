@@ -4,7 +4,7 @@ use Rattle.std.proofs.Common.{◌≡◌, refl}
 use Rattle.lx_trees.specs.Trees.{nil, tree}
 use Rattle.lx_node.specs.Plain.{plain_element, element_with, text_with}
 use Rattle.lx_node.specs.declared.cause.Cause.{Cause}
-use Rattle.lx_node.specs.declared.cause.Cause.TheVariants.{NoSelection, WrongKind}
+use Rattle.lx_node.specs.declared.cause.Cause.TheVariants.{WrongKind}
 use Rattle.lx_node.specs.declared.cause.SelectionKind.TheVariants as kinds
 use Rattle.lx_node.specs.declared.kind.Kind.{Kind}
 use Rattle.lx_node.specs.declared.kind.Kind.TheVariants.{Root, Heading, Quote, List as ListKind, Item, Link, Text, Tab, Break}
@@ -13,7 +13,7 @@ use Rattle.lx_node.specs.declared.fields.Fields.{Fields}
 use Rattle.lx_node.specs.declared.fields.Fields.TheVariants as fields
 use Rattle.lx_node.specs.declared.fields.Extra.TheVariants as extra
 use Rattle.lx_select.specs.declared.selection.Selection.{Selection}
-use Rattle.lx_select.specs.declared.selection.Selection.TheVariants.{Range, Nothing}
+use Rattle.lx_select.specs.declared.selection.Selection.TheVariants.{Range}
 use Rattle.lx_forest.specs.Forest.{Forest, root_label, paragraph_label, text_label}
 use Rattle.lx_draft.specs.Working.{Working, started}
 use Rattle.lx_edit.specs.Edits.{text_point, element_point}
@@ -85,11 +85,6 @@ typed_first :
 unfolding commands
 typed_first = refl
 
--- text goes into the text of the caret
-typed_on : shown (insert_text_step (codes "b") (started (line (codes "ac")) (caret 2 1) 3)) ≡ seen (line (codes "abc")) (caret 2 2)
-unfolding commands
-typed_on = refl
-
 -- in another format it gets a text of its own, which cuts that of the caret in two
 typed_bold :
     shown (insert_text_step (codes "b") (started (line (codes "ac")) (caret_in 1 2 1) 3))
@@ -102,16 +97,6 @@ typed_over :
     shown (insert_text_step (codes "xyz") (started (line (codes "abcd")) (between 2 3 2 1) 3)) ≡ seen (line (codes "axyzd")) (caret 2 4)
 unfolding commands
 typed_over = refl
-
--- typing nothing removes what is selected
-typed_none : shown (insert_text_step [] (started (line (codes "abcd")) (between 2 1 2 3) 3)) ≡ seen (line (codes "ad")) (caret 2 1)
-unfolding commands
-typed_none = refl
-
--- typing is refused where nothing is selected
-no_selection : insert_text_step (codes "a") (started (line []) Nothing 3) ≡ Err (NoSelection kinds.Nothing)
-unfolding commands
-no_selection = refl
 
 -- ... and right below the root
 no_room : insert_text_step (codes "a") (started (line []) (caret_inside 0 1) 3) ≡ Err (WrongKind Root)

@@ -1,10 +1,8 @@
 -- Commands that remove and delete, each computed at a small document.
-use Rattle.std.specs.Prelude.{ℕ, codes, true, false, [], ◌∷◌, None, Ok, Err}
+use Rattle.std.specs.Prelude.{ℕ, codes, true, false, [], ◌∷◌, None, Ok}
 use Rattle.std.proofs.Common.{◌≡◌, refl}
-use Rattle.unicode_segmentation.proofs.Computing.{unicode_segmentation}
 use Rattle.lx_trees.specs.Trees.{nil}
 use Rattle.lx_node.specs.Plain.{element_with, text_with}
-use Rattle.lx_node.specs.declared.cause.Cause.TheVariants.{NoSelection}
 use Rattle.lx_node.specs.declared.cause.SelectionKind.TheVariants as kinds
 use Rattle.lx_node.specs.declared.kind.Kind.TheVariants.{List as ListKind, Item, Table, Row, Cell, Text, Break, Rule}
 use Rattle.lx_node.specs.declared.kind.ListType.TheVariants.{Bullet}
@@ -14,7 +12,7 @@ use Rattle.lx_node.specs.declared.fields.Mode.TheVariants.{Token}
 use Rattle.lx_forest.specs.Forest.{Forest}
 use Rattle.lx_draft.specs.Working.{Working, started}
 use Rattle.lx_caret.specs.Removing.{remove_text_step}
-use Rattle.lx_caret.specs.Deleting.{delete_character_step, delete_word_step}
+use Rattle.lx_caret.specs.Deleting.{delete_character_step}
 use Rattle.lx_caret.proofs.Computing.{commands}
 use Rattle.lx_caret.proofs.Rows.{shown, seen, document, paragraph, text, node, element, line, lines, caret, caret_inside, between}
 
@@ -61,26 +59,6 @@ token_gone = refl
 abbrev family : Forest
 family = line (97 ∷ 128104 ∷ 8205 ∷ 128105 ∷ 8205 ∷ 128103 ∷ [])
 
--- it is deleted as one character, of eight code units
-family_gone : shown (delete_character_step true (started family (caret 2 9) 3)) ≡ seen (line (codes "a")) (caret 2 1)
-unfolding commands unicode_segmentation
-family_gone = refl
-
--- ... forward too
-family_gone_on : shown (delete_character_step false (started family (caret 2 1) 3)) ≡ seen (line (codes "a")) (caret 2 1)
-unfolding commands unicode_segmentation
-family_gone_on = refl
-
--- a word goes with the white space between it and the caret
-word_gone : shown (delete_word_step true (started (line (codes "ab cd  ")) (caret 2 7) 3)) ≡ seen (line (codes "ab ")) (caret 2 3)
-unfolding commands unicode_segmentation
-word_gone = refl
-
--- forward, the white space goes with the word after it
-word_gone_on : shown (delete_word_step false (started (line (codes "ab cd  ")) (caret 2 2) 3)) ≡ seen (line (codes "ab  ")) (caret 2 2)
-unfolding commands unicode_segmentation
-word_gone_on = refl
-
 abbrev with_break : Forest
 with_break = document (paragraph 1 (text 2 (codes "a") (node 3 Break fields.Bare nil (text 4 (codes "b") nil))) nil) nil
 
@@ -91,20 +69,10 @@ break_gone :
 unfolding commands
 break_gone = refl
 
--- where more than a caret is selected, that goes alone
-range_gone : shown (delete_word_step true (started (line (codes "ab cd")) (between 2 3 2 4) 3)) ≡ seen (line (codes "ab d")) (caret 2 3)
-unfolding commands
-range_gone = refl
-
 -- ---- lines
 
 abbrev joined : Forest
 joined = document (paragraph 1 (text 2 (codes "a") (text 4 (codes "b") nil)) nil) (paragraph 3 nil nil)
-
--- back from the start of a paragraph, its text joins the one before
-joined_back : shown (delete_character_step true (started (lines (codes "a") (codes "b")) (caret 4 0) 5)) ≡ seen joined (caret 4 0)
-unfolding commands
-joined_back = refl
 
 -- forward from the end of a paragraph, the next one's text joins it
 joined_on : shown (delete_character_step false (started (lines (codes "a") (codes "b")) (caret 2 1) 5)) ≡ seen joined (caret 2 1)
@@ -123,23 +91,10 @@ tabled = document (paragraph 1 (text 2 (codes "a") nil) table) nil
 abbrev before_table : Working
 before_table = started tabled (caret 2 1) 8
 
-abbrev in_table : Working
-in_table = started tabled (caret 7 0) 8
-
 -- nothing joins before a table
 stopped_before : delete_character_step false before_table ≡ Ok before_table
 unfolding commands
 stopped_before = refl
-
--- nor at the start of a cell
-stopped_within : delete_word_step true in_table ≡ Ok in_table
-unfolding commands
-stopped_within = refl
-
--- a range over the edge of a table isn't removed
-range_over_edge : remove_text_step (started tabled (between 2 0 7 1) 8) ≡ Err (NoSelection kinds.Range)
-unfolding commands
-range_over_edge = refl
 
 abbrev items : Forest → Forest
 items inner = document (element 1 (ListKind Bullet) inner nil) nil

@@ -9,7 +9,7 @@ use Rattle.lx_edit.specs.Edits.{text_point}
 use Rattle.lx_caret.specs.Formatting.{format_text_step}
 use Rattle.lx_caret.specs.SelectAll.{select_all_step}
 use Rattle.lx_caret.proofs.Computing.{commands}
-use Rattle.lx_caret.proofs.Rows.{shown, seen, document, paragraph, text, text_of_format, line, lines, caret, caret_in, caret_inside, between}
+use Rattle.lx_caret.proofs.Rows.{shown, seen, document, paragraph, text, text_of_format, line, lines, caret_inside, between}
 
 -- ---- formats
 
@@ -38,11 +38,6 @@ raised :
     ≡ seen (document (paragraph 1 (text_of_format 2 65 (codes "ab") nil) nil) nil) (Range (text_point 2 0) (text_point 2 2) 65)
 unfolding commands
 raised = refl
-
--- at a caret, the format of what is typed next
-bold_next : shown (format_text_step 1 (started (line (codes "ab")) (caret 2 1) 3)) ≡ seen (line (codes "ab")) (caret_in 1 2 1)
-unfolding commands
-bold_next = refl
 
 -- ---- everything
 

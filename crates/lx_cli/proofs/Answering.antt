@@ -1,11 +1,11 @@
 -- Lines that are answered one after another.
 use Rattle.std.proofs.Common.{◌≡◌, ℕ, ◌+◌, ◌≤◌, List, [], ◌∷◌, ◌++◌, sym, ap, ◌∙◌, refl, subst, append_assoc, length-append, arith}
 use Rattle.std.proofs.lemmas.List.{append-nil}
-use Rattle.lx_layers.specs.Served.{Served, AnswersIn, FollowsIn, FollowsInTo, spent}
+use Rattle.lx_layers.specs.Served.{Served, AnswersIn, FollowsIn, FollowsInTo}
 use Rattle.lx_cli.specs.declared.session.Unanswered.{Unanswered}
 use Rattle.lx_cli.specs.declared.session.Unanswered.TheVariants.{WriteFault, Memory}
 use Rattle.lx_cli.specs.Run.{SinkSeen, IsFrontOfReplies}
-use Rattle.lx_cli.specs.Steps.{AreWritten, IsPieceCutOff, AreAnswered, AreUnanswered}
+use Rattle.lx_cli.specs.Steps.{IsPieceCutOff, AreAnswered, AreUnanswered}
 use Rattle.lx_cli.proofs.Devices.{AreWritten-none, AreWritten-append, AreCutOff-append}
 
 pub FollowsInTo-one : (old new : Served) (line answer : List ℕ) → AnswersIn old line answer new → FollowsInTo old (line ∷ []) (answer ++ 10 ∷ []) new
@@ -24,17 +24,6 @@ FollowsInTo-append old mid new (line ∷ lines) later xs ys p q = (
   ap (λ bytes. bytes ++ ys) p.4 ∙ append_assoc p.0 (10 ∷ p.1) ys,
   FollowsInTo-append p.2 mid new lines later p.1 ys p.5 q,
 )
-
-pub IsFrontOfReplies-none : (served : Served) (lines : List (List ℕ)) → IsFrontOfReplies (FollowsIn served) lines []
-IsFrontOfReplies-none served lines = record {
-  answered = [];
-  later_lines = lines;
-  front = refl;
-  replies = [];
-  later_bytes = [];
-  follows = (served, (refl, refl));
-  begun = refl;
-}
 
 -- a front of the bytes of all replies
 pub IsFrontOfReplies-front : (old new : Served) (lines : List (List ℕ)) (written later replies : List ℕ)
@@ -114,24 +103,6 @@ AreUnanswered-later Memory served s t lines later p = record {
   written = p.written;
   front = IsFrontOfReplies-later served lines later p.written p.front;
   sink = p.sink;
-}
-
--- where nothing of the replies was written
-pub AreUnanswered-none : (served : Served) (sink : SinkSeen) (lines : List (List ℕ)) → AreUnanswered Memory lines served sink sink
-AreUnanswered-none served sink lines = record {
-  written = [];
-  front = IsFrontOfReplies-none served lines;
-  sink = AreWritten-none sink;
-}
-
--- a line whose reply is written
-pub AreAnswered-one : (old new : Served) (s t : SinkSeen) (line answer : List ℕ)
-    → AnswersIn old line answer new → spent new ≤ spent old + 1 → AreWritten (answer ++ 10 ∷ []) s t → AreAnswered (line ∷ []) old new s t
-AreAnswered-one old new s t line answer p q r = record {
-  written = answer ++ 10 ∷ [];
-  follows = FollowsInTo-one old new line answer p;
-  few = q;
-  sink = r;
 }
 
 -- a line whose reply is cut off

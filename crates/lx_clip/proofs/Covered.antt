@@ -211,13 +211,6 @@ pub record IsCoveredUpTo (e : Extent) (f : Forest) (all left : List ℕ) (values
   pub objects : map view values ++ written (covers e (trees_of f left)) ≡ written (covers e (trees_of f all))
   pub alike : (inline && are_inline (covers e (trees_of f left))) ≡ are_inline (covers e (trees_of f all))
 
-pub covered_none : (e : Extent) (f : Forest) (all left : List ℕ) → left ≡ all → IsCoveredUpTo e f all left [] true
-covered_none e f all left is = record {
-  part = λ q among. ap (is_among q) (sym is) ∙ among;
-  objects = ap (λ ks. written (covers e (trees_of f ks))) is;
-  alike = ap (λ ks. are_inline (covers e (trees_of f ks))) is;
-}
-
 -- the covers of the first of those that are left, and of the rest
 parted : (e : Extent) (f : Forest) (left rest : List ℕ) (k : ℕ) → left ≡ k ∷ rest → covers e (trees_of f left) ≡ joined (covers e (alone k f)) (covers e (trees_of f rest))
 parted e f left rest k first = ap (λ ks. covers e (trees_of f ks)) first ∙ covers-joined e (alone k f) (trees_of f rest)

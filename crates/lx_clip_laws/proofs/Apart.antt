@@ -14,7 +14,7 @@ use Rattle.lx_node.specs.declared.kind.Kind.{Kind}
 use Rattle.lx_node.specs.declared.cause.Cause.{Cause}
 use Rattle.lx_trees.specs.Edits as rooted
 use Rattle.lx_forest.specs.Forest.{Forest, Label}
-use Rattle.lx_forest.specs.Lookups.{key_of, has, count, alone, spot, kind_of, parent_of}
+use Rattle.lx_forest.specs.Lookups.{key_of, has, count, alone, spot, parent_of}
 use Rattle.lx_forest.specs.Lookups as lookups
 use Rattle.lx_forest.specs.Edits.{with_new, last_below, among_roots}
 use Rattle.lx_forest.proofs.Edits.{spot-among_roots}

@@ -28,7 +28,6 @@ use Rattle.lx_fields.specs.Storable.{IsText, IsStorable, IsTextStorable}
 use Rattle.lx_fields.specs.Types.{kind_of_type}
 use Rattle.lx_fields.proofs.Exported.{type-there}
 use Rattle.lx_fields.proofs.ReadBack.{reads_back}
-use Rattle.lx_json.specs.Reading.{Piece}
 use Rattle.lx_json.specs.Reading as reading
 use Rattle.lx_json.specs.Exporting.{trees_data}
 use Rattle.lx_json.specs.GivenBack.{AreGivenBack}

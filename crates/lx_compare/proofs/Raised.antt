@@ -10,7 +10,7 @@ use Rattle.lx_forest.specs.Forest.{Forest}
 use Rattle.lx_forest.specs.Lookups.{has, parent_of}
 use Rattle.lx_forest.proofs.Lookups.{has-parent_of}
 use Rattle.lx_compare.specs.Differing.{IsAffected, itself, parent_before, parent_after}
-use Rattle.lx_compare.specs.Marking.{IsRaised, IsRaisedBut, AreFounded, Grows}
+use Rattle.lx_compare.specs.Marking.{IsRaised, IsRaisedBut, AreFounded}
 
 -- ---- over the answers of calls
 
@@ -78,9 +78,6 @@ pub record IsRising (f : Forest) (start m : Marked) (at : ℕ) : Type 0 where
   pub touched : (q : ℕ) → is_touched m q ≡ is_touched start q
   pub noted : (q : ℕ) → is_noted m q ≡ true → (is_noted start q ≡ true) ⊎ (has q f ≡ true)
 
-pub rising_none : (f : Forest) (m : Marked) (at : ℕ) → IsRaisedBut f at m → IsRising f m m at
-rising_none f m at raised = record { raised = raised; touched = λ q. refl; noted = λ q e. inl e }
-
 same_parent : (f : Forest) (at q p r : ℕ) → q ≡ at → parent_of f at ≡ Some p → parent_of f q ≡ Some r → r ≡ p
 same_parent f at q p r same up e = let h : Some p ≡ Some r = sym up ∙ ap (parent_of f) (sym same) ∙ e in cc
 
@@ -107,19 +104,6 @@ rising_more f start m n at p up above is = record {
   more : (q : ℕ) → is_noted n q ≡ (is_noted m q || eqb q p)
   more q = ap (λ x. is_noted x q) is ∙ noted-element p false m q
 
--- at one that is there all is
-pub raised_met : (f : Forest) (start m : Marked) (at p : ℕ) → IsRising f start m at → parent_of f at ≡ Some p → is_noted m p ≡ true → IsRaised f m
-raised_met f start m at p up above there q r noted e = elim (cases_eq q at) [
-  | inl here ↦ ap (is_noted m) (same_parent f at q p r here above e) ∙ there
-  | inr apart ↦ up.raised q r noted apart e
-]
-
-pub raised_top : (f : Forest) (start m : Marked) (at : ℕ) → IsRising f start m at → parent_of f at ≡ None → IsRaised f m
-raised_top f start m at up none q r noted e = elim (cases_eq q at) [
-  | inl here ↦ absurd (let h : None ≡ Some r = sym none ∙ ap (parent_of f) (sym here) ∙ e in cc)
-  | inr apart ↦ up.raised q r noted apart e
-]
-
 -- an element that is there is noted
 pub listed_noted : (m : Marked) (q : ℕ) → is_some (flag_in m.elements q) ≡ true → is_noted m q ≡ true
 listed_noted m q e = grind (arith, e)
@@ -134,13 +118,6 @@ pub affected_there : (old new : Forest) (q : ℕ) → IsAffected old new q → (
 affected_there old new _ (itself q differs) = differs.there
 affected_there old new _ (parent_before q p differs up) = in_either old new p (inl (has-parent_of old q p up))
 affected_there old new _ (parent_after q p differs up) = in_either old new p (inr (has-parent_of new q p up))
-
--- what is above it may be missing yet
-pub raised_but : (f : Forest) (k : ℕ) (m n : Marked) → IsRaised f m → Adds k m n → IsRaisedBut f k n
-raised_but f k m n raised adds q p noted other up = elim (noted_once k m n q adds noted) [
-  | inl was ↦ adds.noted p ∙ or_left (is_noted m p) (eqb p k) (raised q p was up)
-  | inr same ↦ absurd (other same)
-]
 
 module _ (old new : Forest) (k : ℕ) (m mid n : Marked) (affected : IsAffected old new k) (founded : AreFounded old new m) (adds : Adds k m mid) (touched : (q : ℕ) → is_touched n q ≡ is_touched mid q)
     (noted : (q : ℕ) → is_noted n q ≡ true → (is_noted mid q ≡ true) ⊎ (has q new ≡ true)) where
@@ -159,9 +136,3 @@ module _ (old new : Forest) (k : ℕ) (m mid n : Marked) (affected : IsAffected 
       | inr same ↦ subst (IsAffected old new) (sym same) affected
     ];
   }
-
-  pub grows_more : Grows m n
-  grows_more q e = touched q ∙ adds.touched q ∙ or_left (is_touched m q) (eqb q k) e
-
-  pub touched_itself : is_touched n k ≡ true
-  touched_itself = touched k ∙ adds.touched k ∙ or_right (is_touched m k) (eqb k k) (grind (arith, eqb_tells k k))

@@ -44,9 +44,6 @@ pub record IsCompared (old new : Forest) (m : Marked) (from : ℕ) : Type 0 wher
   pub founded : AreFounded old new m
   pub settled : (q : ℕ) → q < from → IsSettled old new m q
 
-pub compared_none : (old new : Forest) (m : Marked) → AreFounded old new m → IsCompared old new m 0
-compared_none old new m founded = record { founded = founded; settled = λ q lt. absurd (omega (arith, lt)) }
-
 pub compared_more : (old new : Forest) (m n : Marked) (from key : ℕ) → IsCompared old new m from → AreSameTo (node_at old) (node_at new) from (Some key) → AreFounded old new n → Grows m n → IsSettled old new n key
     → IsCompared old new n (key + 1)
 compared_more old new m n from key so_far same founded grows own = record { founded = founded; settled = settled } where

@@ -1,5 +1,5 @@
 -- What marking covers: a step that marks the nodes that it changes.
-use Rattle.std.proofs.Common.{◌≡◌, ◌∙◌, ℕ, ◌≤◌, Bool, true, false, cond, ◌||◌, ◌&&◌, List, [], Option, None, Some, Result, Ok, Err, refl, sym, ap, subst, arith, inl, inr, ◌⊎◌}
+use Rattle.std.proofs.Common.{◌≡◌, ◌∙◌, ℕ, ◌≤◌, Bool, true, false, ◌||◌, ◌&&◌, List, [], Option, None, Some, Ok, refl, sym, ap, subst, arith, inl, inr, ◌⊎◌}
 use Rattle.lx_trees.specs.Siblings.{is_among}
 use Rattle.lx_node.specs.declared.cause.Cause.{Cause}
 use Rattle.lx_marks.specs.Marks.{Marked, is_touched, is_noted}
@@ -9,7 +9,7 @@ use Rattle.lx_forest.specs.Records.{record_at}
 use Rattle.lx_draft.specs.Working.{Working}
 use Rattle.lx_draft.specs.Faults.{answer, after}
 use Rattle.lx_draft.specs.Marking.{mark_nodes}
-use Rattle.lx_draft.specs.Covering.{IsNotedUp, Covers, KindsStay, AreElements, IsReady, AreNew, AreCovered, IsCovering}
+use Rattle.lx_draft.specs.Covering.{IsNotedUp, Covers, KindsStay, AreElements, IsReady, AreNew, AreCovered}
 use Rattle.lx_draft.proofs.Elements.{sorted-nodes, sorted_stays, element_stays}
 use Rattle.lx_draft.proofs.Touched.{is_over, touched-nodes, noted-nodes, over_up, over_child}
 
@@ -140,26 +140,3 @@ covered-answer w v made o e h = let a = answered o made v e in subst (AreCovered
 
 pub covered-self : (w : Working) → IsReady w → AreCovered w w
 covered-self w r = covered-same w w r refl refl refl refl
-
--- where the first isn't refused, the second goes on from what it leaves
-pub covered-after : (w v : Working) (r : Result Working Cause) (next : Working → Result Working Cause) → ((u : Working) → r ≡ Ok u → AreCovered w u) → IsCovering next → after r next ≡ Ok v → AreCovered w v
-covered-after w v (Ok u) next first second e = let a = first u refl in covered-then w u v a (second u v a.ready e)
-covered-after w v (Err cause) next first second e = absurd (cc)
-
--- a step from where a change led
-pub covered-from : (w u v : Working) (step : Working → Result Working Cause) → AreCovered w u → IsCovering step → step u ≡ Ok v → AreCovered w v
-covered-from w u v step a c e = covered-then w u v a (c u v a.ready e)
-
--- a step that something may refuse beforehand
-pub covered-allowed : (w v : Working) (o : Option Cause) (next : Working → Result Working Cause) → IsReady w → IsCovering next → after (answer o w) next ≡ Ok v → AreCovered w v
-covered-allowed w v None next r c e = c w v r e
-covered-allowed w v (Some cause) next r c e = absurd (cc)
-
--- a change that nothing refuses
-pub covered-ok : (w u v : Working) → AreCovered w u → ◌≡◌ {A = Result Working Cause} (Ok u) (Ok v) → AreCovered w v
-covered-ok w u v a e = let is : u ≡ v = cc in subst (AreCovered w) is a
-
--- a step or nothing
-pub covered-if : (taken : Bool) (step : Working → Result Working Cause) (w v : Working) → IsReady w → IsCovering step → cond taken (step w) (Ok w) ≡ Ok v → AreCovered w v
-covered-if true step w v r c e = c w v r e
-covered-if false step w v r c e = covered-ok w w v (covered-self w r) e

@@ -108,9 +108,6 @@ raised_itself f o k m n up e = subst (IsRaisedBut f k) (sym e) (λ x y noted oth
   still None k m y e = e
   still (Some kind) k m y e = still_by (is_element kind) k m y e
 
-pub raised-but : (f : Forest) (k : ℕ) (m : Marked) → IsRaised f m → IsRaisedBut f k m
-raised-but f k m up = λ x y noted other at. up x y noted at
-
 -- ---- after each edit of the forest
 
 pub raised-with_new : (l : Label) (f : Forest) (m : Marked) → IsForest f → has l.key f ≡ false → IsRaised f m → IsRaised (with_new l f) m

@@ -1,7 +1,7 @@
 -- So many edits at once are the same as one after another.
 use Rattle.std.proofs.Common.{◌≡◌, ◌∙◌, ℕ, ◌+◌, ap, arith}
 use Rattle.lx_draft.specs.Working.{Working}
-use Rattle.lx_draft.specs.Steps.{wrote, rewritten}
+use Rattle.lx_draft.specs.Steps.{rewritten}
 
 same_counts : (w : Working) (a b c d e g : ℕ) → a ≡ d → b ≡ e → c ≡ g
     → ◌≡◌ {A = Working} (record w { counted = a; edits = b; written = c }) (record w { counted = d; edits = e; written = g })
@@ -17,7 +17,3 @@ rewritten-none w =
 pub rewritten-more : (nodes characters n m : ℕ) (w : Working) → rewritten n m (rewritten nodes characters w) ≡ rewritten (nodes + n) (characters + m) w
 rewritten-more nodes characters n m w =
     same_counts w (w.counted + nodes + n) (w.edits + nodes + n) (w.written + characters + m) (w.counted + (nodes + n)) (w.edits + (nodes + n)) (w.written + (characters + m)) (omega arith) (omega arith) (omega arith)
-
-pub wrote-rewritten : (more n m : ℕ) (w : Working) → wrote more (rewritten n m w) ≡ rewritten (n + 1) (m + more) w
-wrote-rewritten more n m w =
-    same_counts w (w.counted + n + 1) (w.edits + n + 1) (w.written + m + more) (w.counted + (n + 1)) (w.edits + (n + 1)) (w.written + (m + more)) (omega arith) (omega arith) (omega arith)

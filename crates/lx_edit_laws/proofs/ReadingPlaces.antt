@@ -12,11 +12,6 @@ pub in_place_of-self : (k : ℕ) (ks : List ℕ) → in_place_of k (k ∷ []) ks
 in_place_of-self k [] = refl
 in_place_of-self k (x ∷ xs) = grind (arith, eqb_tells x k, in_place_of-self k xs)
 
--- where it isn't among them
-pub in_place_of-absent : (k : ℕ) (new ks : List ℕ) → is_among k ks ≡ false → in_place_of k new ks ≡ ks
-in_place_of-absent k new [] e = refl
-in_place_of-absent k new (x ∷ xs) e = grind (arith, e, in_place_of-absent k new xs)
-
 -- a name comes right after another
 behind_first : (n x : ℕ) (xs : List ℕ) → is_among x xs ≡ false → names_with (slice_get xs 0) (n ∷ []) (x ∷ xs) ≡ x ∷ n ∷ xs
 behind_first n x [] e = refl

@@ -4,14 +4,14 @@ use Rattle.std.proofs.Common.{◌≡◌, ◌∙◌, ◌⊎◌, ℕ, eqb, Bool, t
 use Rattle.std.proofs.lemmas.Bool.Decides.{eqb_tells}
 use Rattle.lx_node.specs.declared.kind.Kind.{Kind}
 use Rattle.lx_node.specs.declared.kind.Kind.TheVariants.{Root}
-use Rattle.lx_marks.specs.Marks.{unmarked, is_touched, is_noted}
+use Rattle.lx_marks.specs.Marks.{unmarked, is_touched}
 use Rattle.lx_forest.specs.Forest.{Forest, root_alone}
 use Rattle.lx_forest.specs.Lookups.{has, kind_of, spot, is_attached, IsForest}
 use Rattle.lx_forest.specs.Records.{record_at}
 use Rattle.lx_forest.proofs.Edits.{is_some-spot, has-root}
 use Rattle.lx_forest.proofs.Records.{is_some-record_at}
 use Rattle.lx_draft.specs.Working.{Working}
-use Rattle.lx_draft.specs.Covering.{Covers, KindsStay, IsReady}
+use Rattle.lx_draft.specs.Covering.{Covers}
 use Rattle.lx_draft.specs.Covering as drafts
 use Rattle.lx_draft.proofs.Covered.{covers-then, covered-self}
 use Rattle.lx_rules.specs.Answers.{Answers}

@@ -1,5 +1,5 @@
 -- What steps or a rule come to is what they make of the editor.
-use Rattle.std.proofs.Common.{◌≡◌, ◌≢◌, ◌∙◌, ℕ, ◌+◌, ◌≤◌, Bool, true, false, if◌then◌else◌, List, Option, None, Some, Result, Ok, Err, refl, sym, ap, subst, arith}
+use Rattle.std.proofs.Common.{◌≡◌, ◌≢◌, ◌∙◌, ℕ, ◌+◌, ◌≤◌, Bool, false, if◌then◌else◌, List, Option, Some, Result, Ok, Err, refl, sym, ap, subst}
 use Rattle.lx_node.specs.declared.cause.Cause.{Cause}
 use Rattle.lx_host.specs.declared.op.Op.{Op}
 use Rattle.lx_step.specs.declared.built_in.Turn.{Turn}
@@ -49,12 +49,6 @@ pub may_conclude_answer : (r : Result Ending (Cause × Option ℕ)) (e : Editor)
 may_conclude_answer (Err refused) e verdict handled judged = subst (MayConclude e) (sym judged.0) tt
 may_conclude_answer (Ok (ending.Left w was_handled)) e verdict handled judged = may_conclude (rested_by e.rules w) e verdict judged.0
 may_conclude_answer (Ok (ending.Turned turn)) e verdict handled judged = may_conclude_turn turn e verdict judged.0
-
--- a refusal is judged as what it says
-pub refusal_judged : (e : Refusal) (left : Result Settled (Cause × Option ℕ)) (editor : Editor) (cause : Cause) (step : Option ℕ) → e ≡ refusal.Cause cause step → TellsRefusal e left → IsJudged left editor (Refused cause step)
-refusal_judged e left editor cause step is told =
-    let refused : left ≡ Err (cause, step) = subst (λ x. TellsRefusal x left) is told in
-    subst (λ r. IsJudged r editor (Refused cause step)) (sym refused) refl
 
 -- a dispatch that is refused is judged so, and wasn't handled
 pub answer_refused : (gathering : Bool) (run : Result Ended (Cause × Option ℕ)) (e : Refusal) (editor : Editor) (verdict : Verdict) → TellsRefusal e run → IsForCause e
@@ -120,12 +114,6 @@ module _ (how : Recording) (old : Editor) (rule : Rule) where
   abbrev pub mid : Editor
   mid = with_one_more rule old
 
-  pub may_conclude_rule : (r : Result Settled (Cause × Option ℕ)) (verdict : Verdict) (e : Editor) → IsJudged r mid verdict → e ≡ with_unless_refused rule old verdict → MayConclude e verdict
-  may_conclude_rule r (Refused cause step) e judged is = tt
-  may_conclude_rule r Idle e judged is = tt
-  may_conclude_rule r (Commit frozen batch shown) e judged is = subst (λ x. MayConclude x (Commit frozen batch shown)) (sym is) (may_conclude r mid (Commit frozen batch shown) judged)
-  may_conclude_rule r (Turned turn state batch marks) e judged is = subst (λ x. MayConclude x (Turned turn state batch marks)) (sym is) (may_conclude r mid (Turned turn state batch marks) judged)
-
   nothing_new : (left : Left) → IsNothingNew mid left → IsNothingNew old left
   nothing_new left n = record { none_marked = n.none_marked; selected = n.selected }
 
@@ -166,22 +154,6 @@ module _ (how : Recording) (old : Editor) (rule : Rule) where
   pub rule_concluded : (r : Result Settled (Cause × Option ℕ)) (verdict : Verdict) (e : Editor) (outcome : Outcome) (new : Editor) → IsJudged r mid verdict → e ≡ with_unless_refused rule old verdict
       → IsConcluded e how verdict outcome new → IsMadeOf r old how outcome new
   rule_concluded r verdict e outcome new judged is done = rule_judged r verdict outcome new judged (subst (λ x. IsConcluded x how verdict outcome new) is done)
-
-  commits_same : (refused : Bool) (e : Editor) → e ≡ (if refused then old else mid) → e.commits ≡ old.commits
-  commits_same true e is = ap (λ (x : Editor). x.commits) is
-  commits_same false e is = ap (λ (x : Editor). x.commits) is
-
-  pub rule_commits : (verdict : Verdict) (e new : Editor) → e ≡ with_unless_refused rule old verdict → new.commits ≤ e.commits + 1 → new.commits ≤ old.commits + 1
-  rule_commits verdict e new is few = omega (arith, few, commits_same (is_refused verdict) e is)
-
-  -- where it is refused the editor is as it was, and else the rule is the last one
-  pub refused_same : (refused : Bool) (e : Editor) → refused ≡ true → e ≡ (if refused then old else mid) → e ≡ old
-  refused_same true e was is = is
-  refused_same false e was is = absurd (cc)
-
-  pub kept_mid : (refused : Bool) (e : Editor) → refused ≡ false → e ≡ (if refused then old else mid) → e ≡ mid
-  kept_mid true e was is = absurd (cc)
-  kept_mid false e was is = is
 
 -- ---- what a line takes in
 

@@ -1,6 +1,6 @@
 -- What follows from what is said of an answer.
 use Rattle.std.proofs.Common.{Result, Ok, Err}
-use Rattle.std.specs.Result.{IfOk, OnOk, IfErr, OnErr}
+use Rattle.std.specs.Result.{IfOk, OnOk, OnErr}
 
 pub told : {X E : Type 0} (r : Result X E) (P Q : X → Type 0) → IfOk r P → ((x : X) → P x → Q x) → IfOk r Q
 told (Ok x) P Q p then = then x p
@@ -9,10 +9,6 @@ told (Err e) P Q p then = tt
 pub told_ok : {X E : Type 0} (r : Result X E) (P Q : Type 0) → OnOk r P → (P → Q) → OnOk r Q
 told_ok (Ok x) P Q p then = then p
 told_ok (Err e) P Q p then = tt
-
-pub told_err : {X E : Type 0} (r : Result X E) (P Q : E → Type 0) → IfErr r P → ((e : E) → P e → Q e) → IfErr r Q
-told_err (Ok x) P Q p then = tt
-told_err (Err e) P Q p then = then e p
 
 pub told_without : {X E : Type 0} (r : Result X E) (P Q : Type 0) → OnErr r P → (P → Q) → OnErr r Q
 told_without (Ok x) P Q p then = tt

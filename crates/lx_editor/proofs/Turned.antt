@@ -12,7 +12,7 @@ use Rattle.lx_step.specs.declared.built_in.Turn.{Turn}
 use Rattle.lx_step.specs.declared.built_in.Turn.TheVariants.{Undo, Redo}
 use Rattle.lx_forest.specs.Forest.{Forest}
 use Rattle.lx_forest.specs.Lookups.{has, roots}
-use Rattle.lx_reconcile.specs.Allowed.{MayChange, new_host, of_touched, of_child, IsDue, AreAllowed, subject_of, marked_children, staying, unkept}
+use Rattle.lx_reconcile.specs.Allowed.{MayChange, new_host, of_touched, of_child, IsDue, AreAllowed, subject_of, marked_children, staying}
 use Rattle.lx_draft.specs.declared.state.State.{State}
 use Rattle.lx_history.specs.History.{History, first, entry_of, undone_to, redone_to, undone, redone, turned}
 use Rattle.lx_reconcile.specs.Allowing.{marking, IsAllowed}

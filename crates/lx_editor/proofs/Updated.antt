@@ -100,11 +100,6 @@ fresh_start f selection next_key state = record { state = state; marks = refl; f
 pub fresh_started : (e : Editor) → IsValid e → IsFresh (started_of e)
 fresh_started e valid = fresh_start e.tree e.selection e.next_key valid.state
 
--- and is covered as it begins
-pub started_covered : (e : Editor) (w : Working) → IsValid e → w ≡ started_of e → drafts.AreCovered (started_of e) w
-started_covered e w valid is =
-    subst (drafts.AreCovered (started_of e)) (sym is) (covered-self (started_of e) (ready_start (started_of e) (fresh_started e valid)))
-
 -- so is whatever is made of a draft that is covered
 pub still_covered : (start w end : Working) → drafts.AreCovered start w → (IsReady w → drafts.AreCovered w end) → drafts.AreCovered start end
 still_covered start w end begun goes = covered-then start w end begun (goes begun.ready)

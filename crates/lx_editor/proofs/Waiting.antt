@@ -1,5 +1,5 @@
 -- What is pending, as lines take it in or leave it.
-use Rattle.std.proofs.Common.{◌≡◌, ◌∙◌, ◌⊎◌, ℕ, ◌+◌, ◌<◌, ◌==◌, nat_lt, Bool, true, false, not, if◌then◌else◌, List, length, Option, None, Some, IfSome, unwrap_or, Ok, Err, refl, sym, ap, subst, arith, inl, inr}
+use Rattle.std.proofs.Common.{◌≡◌, ◌∙◌, ◌⊎◌, ℕ, ◌+◌, ◌<◌, ◌==◌, nat_lt, Bool, true, false, not, if◌then◌else◌, List, length, Option, None, Some, Ok, Err, refl, sym, ap, subst, arith, inl, inr}
 use Rattle.std.proofs.lemmas.Bool.{cases_Bool}
 use Rattle.std.proofs.lemmas.Bool.Decides.{nat_tests}
 use Rattle.lx_node.specs.declared.cause.Cause.{Cause}
@@ -7,7 +7,6 @@ use Rattle.lx_node.specs.declared.cause.Cause.TheVariants.{TooManyRules}
 use Rattle.lx_step.specs.declared.line.Tags.{Tags}
 use Rattle.lx_step.specs.declared.rule.Rule.{Rule}
 use Rattle.lx_step.specs.declared.step.Step.{Step}
-use Rattle.lx_step.specs.Lines.{untagged}
 use Rattle.lx_draft.specs.Working.{Working}
 use Rattle.lx_run.specs.Lines.{deferred_run, drafted}
 use Rattle.lx_run.specs.Refusals.{TellsRefusal}
@@ -17,7 +16,7 @@ use Rattle.lx_editor.specs.declared.outcome.Outcome.TheVariants as made
 use Rattle.lx_editor.specs.declared.outcome.Verdict.{Verdict}
 use Rattle.lx_editor.specs.declared.pending.Pending.{Pending}
 use Rattle.lx_editor.specs.Editor.{Editor}
-use Rattle.lx_editor.specs.Gathering.{begun, gathered_by, is_gathering, pending_of, pending_with, started_of, with_line, with_nothing_pending, with_pending, IsDeferred, IsGatheredOf, IsLeftWithout, IsPending}
+use Rattle.lx_editor.specs.Gathering.{begun, gathered_by, is_gathering, pending_of, started_of, with_line, with_nothing_pending, with_pending, IsDeferred, IsGatheredOf, IsLeftWithout, IsPending}
 use Rattle.lx_editor.specs.Follows.{at_moment}
 use Rattle.lx_editor.specs.Judged.{IsJudged, is_refused}
 use Rattle.lx_editor.specs.Registered.{most_rules, left_by_rule, left_for, unless_full, with_one_more, with_rule}
@@ -96,17 +95,6 @@ gathering_told old n is = ap (nat_lt 0) is ∙ some_told (pending_of old).lines
 
 -- ---- the invariant
 
--- an editor with nothing pending is one too
-pub nothing_pending_valid : (e : Editor) → IsValid e → IsValid (with_nothing_pending e)
-nothing_pending_valid e valid = record {
-  state = valid.state;
-  shown = valid.shown;
-  none = valid.none;
-  some = valid.some;
-  kept = record { kinds = valid.kept.kinds; now = valid.kept.now; entries = valid.kept.entries };
-  pending = tt;
-}
-
 -- and so it is with what goes on from its state
 pub pending_valid : (e : Editor) (p : Pending) → IsValid e → IsPending (started_of e) p → IsValid (with_pending e p)
 pending_valid e p valid goes = record {
@@ -120,27 +108,7 @@ pending_valid e p valid goes = record {
 
 -- ---- the draft that a line begins with
 
--- it is the one that is pending
-pub begun_pending : (e : Editor) (p : Pending) → e.pending ≡ Some p → p.draft ≡ begun e
-begun_pending e p is = ap (λ o. (unwrap_or o (pending_with (started_of e) 0 untagged)).draft) (sym is)
-
--- or else one of what is committed
-pub begun_anew : (e : Editor) → e.pending ≡ None → started_of e ≡ begun e
-begun_anew e is = ap (λ o. (unwrap_or o (pending_with (started_of e) 0 untagged)).draft) (sym is)
-
-pub pending_is : (e : Editor) (p : Pending) → e.pending ≡ Some p → pending_of e ≡ p
-pending_is e p is = ap (λ o. unwrap_or o (pending_with (started_of e) 0 untagged)) is
-
-pub pending_goes : (e : Editor) (p : Pending) → IsValid e → e.pending ≡ Some p → IsPending (started_of e) p
-pending_goes e p valid is = subst (λ o. IfSome o (IsPending (started_of e))) is valid.pending
-
 -- ---- an update that waits
-
--- steps that ran leave what is gathered
-pub gathered_ran : (old mid : Editor) (steps : List Step) (draft left : Working) → mid ≡ with_nothing_pending old → draft ≡ begun old → drafted (deferred_run mid.listeners steps draft) ≡ Ok left
-    → gathered_by old steps ≡ Ok left
-gathered_ran old mid steps draft left taken is ran =
-    subst (λ w. drafted (deferred_run old.listeners steps w) ≡ Ok left) is (subst (λ (e : Editor). drafted (deferred_run e.listeners steps draft) ≡ Ok left) taken ran)
 
 -- and where they are refused nothing is gathered
 pub gathered_refused : (old mid : Editor) (steps : List Step) (draft : Working) (e : Refusal) → mid ≡ with_nothing_pending old → draft ≡ begun old → TellsRefusal e (deferred_run mid.listeners steps draft)

@@ -1,11 +1,10 @@
 -- What the summary says of the state at a session's end.
-use Rattle.std.proofs.Common.{◌≡◌, ◌∙◌, ℕ, false, List, length, subst, ◌-◌, ◌^◌, ◌<◌, ◌≤◌, [], ◌∷◌, Option, None, Some, refl, ap, arith}
+use Rattle.std.proofs.Common.{◌≡◌, ◌∙◌, ℕ, false, List, length, subst, ◌-◌, ◌^◌, ◌<◌, ◌≤◌, [], ◌∷◌, refl, ap, arith}
 use Rattle.std.specs.Prelude.{min}
 use Rattle.serde_json.specs.Data.{Data}
 use Rattle.serde_json.specs.Written.{compact_text, has_float}
-use Rattle.lx_node.specs.Limits.{last_u32, most_characters}
+use Rattle.lx_node.specs.Limits.{last_u32}
 use Rattle.lx_trees.specs.NamedTrees.{total}
-use Rattle.lx_node.specs.Strings.{capped}
 use Rattle.lx_trees.specs.Trees.{nil, tree}
 use Rattle.lx_host.specs.Hosts.{HostTree, shape_of}
 use Rattle.lx_host.specs.Html.{first_tree, html_of}

@@ -1,5 +1,5 @@
 -- Few keys of a list, and going through it key by key.
-use Rattle.std.proofs.Common.{◌≡◌, ◌∙◌, ◌+◌, ℕ, zero, suc, Bool, true, false, not, is_some, ◌&&◌, eqb, cond, filter, List, [], ◌∷◌, ◌++◌, refl, sym, ap, drop, slice_get, Some, arith}
+use Rattle.std.proofs.Common.{◌≡◌, ◌∙◌, ◌+◌, ℕ, zero, suc, Bool, true, false, not, is_some, ◌&&◌, cond, filter, List, [], ◌∷◌, ◌++◌, refl, sym, ap, drop, slice_get, Some, arith}
 use Rattle.lx_node.specs.declared.cause.Point.{Point}
 use Rattle.lx_forest.specs.Forest.{Forest}
 use Rattle.lx_forest.specs.Lookups.{has}
@@ -48,11 +48,6 @@ with_marked : (p : ℕ → Bool) (t : Bool) (k : ℕ) (ks : List ℕ) (few : Few
     → with_keys (filter p (cond t (k ∷ ks) ks)) few ≡ with_keys (filter p ks) (cond (t && p k) (with_key k few) few)
 with_marked p true k ks few = with_chosen (p k) k (filter p ks) few
 with_marked p false k ks few = refl
-
-pub elements_step : (p : ℕ → Bool) (es : List (ℕ × Bool)) (k : ℕ) (flag : Bool) (few : Few)
-    → with_keys (filter p (marked_elements ((k, flag) ∷ es))) few
-    ≡ with_keys (filter p (marked_elements es)) (cond (flag && not (eqb k 0) && p k) (with_key k few) few)
-elements_step p es k flag few = with_marked p (flag && not (eqb k 0)) k (marked_elements es) few
 
 -- what is several stays so
 pub stopped : (rest : List ℕ) (few all : Few) → few ≡ Several → with_keys rest few ≡ all → few ≡ all

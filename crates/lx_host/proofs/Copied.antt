@@ -1,6 +1,6 @@
 -- Entries that are inserted one after another, of which no two have the same key, are all entries in their order.
-use Rattle.std.proofs.Common.{◌≡◌, ◌∙◌, ℕ, Bool, true, false, cond, eqb, ◌||◌, List, [], ◌∷◌, ◌++◌, nat_eq, option_map, refl, sym, ap, subst, append-nil, append_assoc, arith}
-use Rattle.std.specs.List.{IsDistinct, list_any, AllByRecursion}
+use Rattle.std.proofs.Common.{◌≡◌, ◌∙◌, ℕ, false, cond, eqb, ◌||◌, List, [], ◌∷◌, ◌++◌, nat_eq, option_map, refl, sym, ap, subst, append-nil, append_assoc, arith}
+use Rattle.std.specs.List.{IsDistinct, AllByRecursion}
 use Rattle.std.specs.Map.{keys_of}
 use Rattle.std.proofs.lemmas.Bool.Decides.{eqb_tells}
 use Rattle.std.proofs.lemmas.Map.Keys.{IsDistinct-head, IsDistinct-tail}

@@ -8,7 +8,7 @@ use Rattle.lx_trees.specs.Siblings.{is_named, is_place, place_behind}
 use Rattle.lx_host.specs.Hosts.{Host, id_of}
 use Rattle.lx_trees.specs.Lookups.{children_of}
 use Rattle.lx_trees.specs.Edits.{take_out, put_in, CanPut}
-use Rattle.lx_trees.specs.Records.{Record, StandsFor, record_at, IsRecordOf}
+use Rattle.lx_trees.specs.Records.{Record, record_at}
 use Rattle.lx_trees.specs.Records as recs
 use Rattle.lx_trees.proofs.Bounds.{size_of-lt}
 use Rattle.lx_trees.proofs.Edits.{total-take_out, total-put_in}

@@ -4,7 +4,6 @@ use Rattle.std.specs.List.{AllByRecursion, slice_get}
 use Rattle.std.proofs.lemmas.Bool.Decides.{nat_tests, eqb_tells}
 use Rattle.lx_host.specs.declared.op.Op.{Op}
 use Rattle.lx_host.specs.Hosts.{HostTree, new_tree, shape_of}
-use Rattle.lx_hub.specs.declared.hub.Attached.{Attached}
 use Rattle.lx_hub.specs.declared.hub.Attached.TheVariants as attached_as
 use Rattle.lx_hub.specs.declared.hub.Delivery.{Delivery}
 use Rattle.lx_hub.specs.declared.hub.Delivery.TheVariants.{Applied, Level, Behind}
@@ -107,10 +106,6 @@ known_detached n es k = record {
 }
 
 -- ---- what comes
-
--- how far a view has come, where an attachment has this answer
-abbrev come_by : ℕ → Attached → ℕ → ℕ → ℕ
-come_by n answer commits earlier = if is_view n answer then commits else earlier
 
 at_full : (es : List Event) (v : View) → is_full (hub_after es) ≡ true → IsAt es v → IsAt (attach ∷ es) v
 at_full es v full is = record {

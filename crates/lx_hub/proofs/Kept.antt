@@ -160,12 +160,6 @@ stays h at v read w same =
     ap (λ (l : List View). record { tip = h.tip; commits = h.commits; kept = h.kept; views = l; made = h.made })
     (sym (set_read h.views at v read) ∙ ap (slice_set h.views at) (sym same))
 
--- the tip's batch is reached
-pub level_answer : (h : Hub) (v : View) (r : ℕ) → r ≡ v.reached → r ≡ h.commits → Level r ≡ delivery_to h v
-level_answer h v r is level =
-    let yes : eqb v.reached h.commits ≡ true = grind (arith, eqb_tells v.reached h.commits) in
-    ap (λ n. Level n) is ∙ sym (ap (λ b. cond b (Level v.reached) (cond (is_kept h (v.reached + 1)) (Applied (v.reached + 1)) (Behind v.reached (oldest h)))) yes)
-
 pub level_stays : (h : Hub) (at : ℕ) (v : View) → slice_get h.views at ≡ Some v → v.reached ≡ h.commits → h ≡ record h { views = slice_set h.views at (advanced h v) }
 level_stays h at v read level =
     let yes : eqb v.reached h.commits ≡ true = grind (arith, eqb_tells v.reached h.commits) in
@@ -208,11 +202,6 @@ applied_answer h v r ops is same less read =
     ap (λ n. Applied (n + 1)) same
     ∙ sym (ap (λ b. cond b (Level v.reached) (cond (is_kept h (v.reached + 1)) (Applied (v.reached + 1)) (Behind v.reached (oldest h)))) other
     ∙ ap (λ b. cond b (Applied (v.reached + 1)) (Behind v.reached (oldest h))) there)
-
-pub applied_there : (h new : Hub) (at : ℕ) (v : View) (r : ℕ) (ops : List Op) → r ≡ v.reached → r < h.commits → slice_get h.kept (h.commits - r - 1) ≡ Some ops
-    → new ≡ record h { views = slice_set h.views at (taken ops v) } → new ≡ record h { views = slice_set h.views at (advanced h v) }
-applied_there h new at v r ops same less read is =
-    is ∙ ap (λ (w : View). record { tip = h.tip; commits = h.commits; kept = h.kept; views = slice_set h.views at w; made = h.made }) (sym (advanced_by h v r (Some ops) same less read))
 
 -- what a view needs to take its next batch
 pub may_advance : (h : Hub) (at : ℕ) (v : View) (r : ℕ) (ops : List Op) → IsHub h → slice_get h.views at ≡ Some v → r ≡ v.reached → r < h.commits → slice_get h.kept (h.commits - r - 1) ≡ Some ops

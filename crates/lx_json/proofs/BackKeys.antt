@@ -6,7 +6,7 @@ use Rattle.lx_trees.specs.Trees.{Trees, nil, tree}
 use Rattle.lx_trees.specs.NamedTrees.{total}
 use Rattle.lx_node.specs.declared.kind.Kind.TheVariants.{Root}
 use Rattle.lx_forest.specs.Forest.{Forest}
-use Rattle.lx_forest.specs.Lookups.{count, roots, IsForest}
+use Rattle.lx_forest.specs.Lookups.{count, IsForest}
 use Rattle.lx_forest.specs.Weights.{weight}
 use Rattle.lx_links.specs.Characters.{characters_in}
 use Rattle.lx_json.specs.Reading.{Piece}
@@ -40,9 +40,6 @@ rooted-in_order next root below rest some is = record {
   rising = refl;
   root = ap (λ kind. Some kind) is;
 }
-
-pub rooted-alone : (next : ℕ) (root : Piece) (below rest : Trees Piece) → roots (rooted next (tree root below rest)) ≡ 0 ∷ []
-rooted-alone next root below rest = refl
 
 -- ---- the same nodes
 

@@ -95,13 +95,6 @@ pub record IsWrittenUpTo (f : Forest) (all left : List ℕ) (values : List Value
   pub objects : map view values ++ written (trees_of f left) ≡ written (trees_of f all)
   pub told : AreGivenBack (trees_of f left) → AreGivenBack (trees_of f all)
 
-pub written_none : (f : Forest) (all left : List ℕ) → left ≡ all → IsWrittenUpTo f all left []
-written_none f all left e = record {
-  part = λ q among. ap (is_among q) (sym e) ∙ among;
-  objects = ap (λ ks. written (trees_of f ks)) e;
-  told = λ told. subst (λ ks. AreGivenBack (trees_of f ks)) e told;
-}
-
 pub map_more : (values : List Value) (v : Value) → map view (values ++ v ∷ []) ≡ map view values ++ view v ∷ []
 map_more [] v = refl
 map_more (x ∷ values) v = ap (λ ds. view x ∷ ds) (map_more values v)

@@ -21,22 +21,6 @@ use Rattle.lx_json.proofs.Ordered.{same_order}
 
 -- ---- the type
 
-pub typed_null : (o : Option Data) (d : Data) → o ≡ Some d → is_some (as_null d) ≡ true → typed_by o ≡ missing
-typed_null o null e is = ap typed_by e
-typed_null o (boolean b) e is = absurd (cc)
-typed_null o (number n) e is = absurd (cc)
-typed_null o (string s) e is = absurd (cc)
-typed_null o (array ds) e is = absurd (cc)
-typed_null o (object ms) e is = absurd (cc)
-
-pub typed_string : (o : Option Data) (d : Data) (text : List ℕ) → o ≡ Some d → as_str d ≡ Some text → typed_by o ≡ typed text
-typed_string o (string s) text e is = ap typed_by e ∙ let same : s ≡ text = cc in ap typed same
-typed_string o null text e is = absurd (cc)
-typed_string o (boolean b) text e is = absurd (cc)
-typed_string o (number n) text e is = absurd (cc)
-typed_string o (array ds) text e is = absurd (cc)
-typed_string o (object ms) text e is = absurd (cc)
-
 pub typed_unlike : (o : Option Data) (d : Data) → o ≡ Some d → is_some (as_null d) ≡ false → as_str d ≡ None → typed_by o ≡ unlike
 typed_unlike o null e is none = absurd (cc)
 typed_unlike o (string s) e is none = absurd (cc)

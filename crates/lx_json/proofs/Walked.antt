@@ -23,9 +23,6 @@ marked_none w order = record {
   here = depth-root w.forest order;
 }
 
-pub marked_all : (first w : Working) (at : Option (ℕ × ℕ)) → at ≡ None → IsMarkedTo first w at → w ≡ marked_in first.forest (preorder first.forest) first
-marked_all first w at none m = sym (ap (λ o. marked_in first.forest (left_from first.forest o) w) none) ∙ m.all
-
 step_left : (o : Option (ℕ × ℕ)) (f : Forest) (q : ℕ) → IfSome o (λ next. from f q ≡ q ∷ from f next.0) → IfNone o (from f q ≡ q ∷ []) → from f q ≡ q ∷ left_from f o
 step_left None f q next last = last
 step_left (Some at) f q next last = next

@@ -18,7 +18,7 @@ use Rattle.lx_hub.specs.Hub.{Hub, effects, published}
 use Rattle.lx_hub.proofs.Following.{leads_there}
 use Rattle.lx_layers.specs.Asked.{IsOther, sole_member}
 use Rattle.lx_layers.specs.Replies.{hub_after_line}
-use Rattle.lx_layers.specs.Served.{AreLevel, AnswersIn, about_views, beside_views, IsFollowedBy, ops_told, with_hub}
+use Rattle.lx_layers.specs.Served.{AreLevel, AnswersIn, about_views, beside_views, IsFollowedBy, with_hub}
 use Rattle.lx_layers.specs.Passing.{IsAhead, AnswersMember, AnswersValue}
 
 -- ---- the batch
@@ -36,9 +36,6 @@ pub fits_ahead : (e : Editor) (h : Hub) (batch : Told) (ops : List Op) → IsAhe
 fits_ahead e h batch ops a last copied =
     subst (λ (l : List Op). FitInTurn h.tip l) (sym (copied ∙ ap (λ (t : Told). t.ops) (last_told e h batch a last))) (leads_fit a.told.ops h.tip e.view a.leads)
 
-pub published_ahead : (e : Editor) (h g : Hub) (batch : Told) (ops : List Op) → Some batch ≡ e.last → ops ≡ batch.ops → g ≡ published ops h → g ≡ published (ops_told e.last) h
-published_ahead e h g batch ops last copied made = made ∙ ap (λ l. published l h) (copied ∙ ap ops_told last)
-
 pub level_ahead : (e : Editor) (h g : Hub) (batch : Told) (ops : List Op) → IsAhead e h → Some batch ≡ e.last → ops ≡ batch.ops → g ≡ published ops h → AreLevel e g
 level_ahead e h g batch ops a last copied made =
     let same : ops ≡ a.told.ops = copied ∙ ap (λ (t : Told). t.ops) (last_told e h batch a last) in
@@ -47,16 +44,7 @@ level_ahead e h g batch ops a last copied made =
       commits = ap (λ (k : Hub). k.commits) made ∙ sym a.number;
     }
 
-pub nothing_ahead : (e : Editor) (h : Hub) → IsAhead e h → None ≡ e.last → ⊥
-nothing_ahead e h a none = let no : None ≡ Some a.told = none ∙ a.last in cc
-
 -- ---- what follows what
-
-pub followed_ahead : (old new : Editor) (h g : Hub) → (new.commits ≢ old.commits → g ≡ published (ops_told new.last) h) → (new.commits ≡ old.commits → g ≡ h) → IsFollowedBy old new h g
-followed_ahead old new h g more same = record {
-  published = λ risen. more (λ stayed. omega arith);
-  same = same;
-}
 
 -- a line that leaves the editor leaves the hub
 pub followed_still : (e f : Editor) (h g : Hub) → f ≡ e → g ≡ h → IsFollowedBy e f h g

@@ -1,11 +1,9 @@
 -- What a line about views leaves of a hub.
 use Rattle.std.proofs.Common.{◌≡◌, refl, ◌+◌, ◌≤◌, [], ◌∷◌, ◌++◌, true, false, cond, Option, None, Some, arith}
-use Rattle.serde_json.specs.Data.{Data}
 use Rattle.lx_hub.specs.Hub.{Hub, attached, next_view, is_full}
-use Rattle.lx_layers.specs.Asked.{about_views}
 use Rattle.lx_layers.specs.declared.asking.AboutViews.{AboutViews}
 use Rattle.lx_layers.specs.declared.asking.AboutViews.TheVariants.{Attach, Deliver, Html, Detach}
-use Rattle.lx_layers.specs.Replies.{hub_after_line, hub_by, views_after}
+use Rattle.lx_layers.specs.Replies.{hub_by, views_after}
 
 -- its tip and the number of its batches stay, and one view more is made at most
 pub record IsBesideStill (h g : Hub) : Type 0 where
@@ -30,6 +28,3 @@ still_after (Detach view) h = record { tip = refl; commits = refl; made = omega 
 still_by : (about : Option AboutViews) (h : Hub) → IsBesideStill h (hub_by about h)
 still_by None h = still h
 still_by (Some about) h = still_after about h
-
-pub still_line : (asked : Data) (h : Hub) → IsBesideStill h (hub_after_line asked h)
-still_line asked h = still_by (about_views asked) h

@@ -3,15 +3,10 @@ use Rattle.std.proofs.Common.{◌≡◌, ◌∙◌, ap, sym, subst, refl, ℕ, L
 use Rattle.serde_json.specs.Data.{Data}
 use Rattle.lx_node.specs.declared.cause.Cause.{Cause}
 use Rattle.lx_node.specs.declared.cause.Fault.TheVariants as fault
-use Rattle.lx_forest.specs.Forest.{Forest}
-use Rattle.lx_draft.specs.declared.state.State.{State}
 use Rattle.lx_script.specs.declared.reply.Reply.TheVariants as reply
 use Rattle.lx_script.specs.Grammar.{IsJson, TellsNoJson}
 use Rattle.lx_script.specs.Replies.{reply_text}
-use Rattle.lx_outline.specs.Events.{AreEvents}
 use Rattle.lx_outline.specs.Outline.{IsOutlineOf}
-use Rattle.lx_editor.specs.declared.change.Change.{Change}
-use Rattle.lx_editor.specs.Changes.{IsUncommitted, TellsChange}
 use Rattle.lx_editor.specs.Editor.{Editor}
 use Rattle.lx_layers.specs.Asked.{sole_member}
 use Rattle.lx_layers.specs.Outlining.{OutlinedView}
@@ -27,26 +22,6 @@ noted_still old new o p same still kept = record {
   kept = subst (λ (e : Editor). IsOutlineOf p.outline e.tree) (sym same) (subst (λ (q : OutlinedView). IsOutlineOf q.outline old.tree) (sym still) kept);
   told = λ risen. let stayed : new.commits ≡ old.commits = ap (λ (e : Editor). e.commits) same in absurd (omega arith);
   same = λ stayed. still;
-}
-
--- so does one that commits nothing
-pub noted_none : (old new : Editor) (o : OutlinedView) → IsUncommitted old new → IsOutlineOf o.outline old.tree → IsNotedBy old new o o
-noted_none old new o uncommitted kept = record {
-  kept = subst (IsOutlineOf o.outline) (sym uncommitted.tree) kept;
-  told = λ risen. absurd (omega (arith, risen, uncommitted.commits));
-  same = λ stayed. refl;
-}
-
--- the tree before a change is the one that was committed
-pub tree_before : (old new : Editor) (change : Change) → TellsChange old change new → change.before.links ≡ old.tree
-tree_before old new change told = ap (λ (s : State). s.links) told.before
-
-pub noted_change : (old new : Editor) (o p : OutlinedView) (change : Change) → TellsChange old change new → IsOutlineOf p.outline new.tree
-    → AreEvents change.before.links new.tree p.events → IsNotedBy old new o p
-noted_change old new o p change told kept events = record {
-  kept = kept;
-  told = λ risen. subst (λ (f : Forest). AreEvents f new.tree p.events) (tree_before old new change told) events;
-  same = λ stayed. absurd (omega (arith, stayed, told.number));
 }
 
 -- ---- lines by their values

@@ -31,9 +31,6 @@ pub none_on : (f : Forest) (p passed before : ℕ) (at : Option ℕ) → at ≡ 
 none_on f p passed before at here none most =
     sym (slice_get_past (children_of f p) before (omega (arith, past_none (children_of f p) passed (sym here ∙ none), most)))
 
-pub no_child_at : (f : Forest) (p size index : ℕ) → size ≡ size_of f p → size ≤ index → None ≡ slice_get (children_of f p) index
-no_child_at f p size index is past = sym (slice_get_past (children_of f p) index (omega (arith, is, past)))
-
 -- ---- from the back
 
 pub at_back : (f : Forest) (p behind : ℕ) (last : Option ℕ) → Sound f → behind < size_of f p → last ≡ last_child f p → last ≡ slice_get (children_of f p) (size_of f p - 1 - 0)
@@ -48,6 +45,3 @@ one_back f p passed behind key at previous s some more here is e =
 pub back_is_there : (f : Forest) (p passed behind : ℕ) (at : Option ℕ) → behind < size_of f p → passed < behind → at ≡ slice_get (children_of f p) (size_of f p - 1 - passed) → at ≡ None → ⊥
 back_is_there f p passed behind at some more here none =
     omega (arith, past_none (children_of f p) (size_of f p - 1 - passed) (sym here ∙ none), some, more)
-
-pub from_back : (f : Forest) (p size index behind : ℕ) (found : Option ℕ) → size ≡ size_of f p → index < size → behind ≡ size - 1 - index → found ≡ slice_get (children_of f p) (size_of f p - 1 - behind) → found ≡ slice_get (children_of f p) index
-from_back f p size index behind found is within e h = h ∙ ap (slice_get (children_of f p)) (omega (arith, is, within, e))

@@ -9,44 +9,22 @@ use Rattle.lx_node.specs.OfKind.{is_of_kind, is_item_extra, is_extra_of, is_elem
 use Rattle.lx_trees.proofs.Positions.{is_among-slice_get}
 use Rattle.lx_node.specs.declared.kind.Kind.{Kind}
 use Rattle.lx_node.specs.declared.kind.Kind.TheVariants.{List as ListKind, Item}
-use Rattle.lx_node.specs.declared.node.View.{View}
 use Rattle.lx_node.specs.declared.fields.Extra.{Extra}
 use Rattle.lx_node.specs.declared.fields.Extra.TheVariants as extra
 use Rattle.lx_node.specs.declared.fields.Fields.{Fields}
 use Rattle.lx_node.specs.declared.fields.Fields.TheVariants as fields
-use Rattle.lx_node.specs.declared.fields.TextFields.{TextFields}
 use Rattle.lx_forest.specs.Forest.{Forest, Label}
-use Rattle.lx_forest.specs.Lookups.{spot, kind_of, fields_of, children_of, next_of, is_attached, holds, IsHeld}
+use Rattle.lx_forest.specs.Lookups.{spot, kind_of, fields_of, children_of, holds, IsHeld}
 use Rattle.std.proofs.lemmas.Bool.Decides.{eqb_tells}
 use Rattle.std.proofs.lemmas.List.Sums.{sum_by-cons}
-use Rattle.lx_forest.specs.Views.{view_of}
 use Rattle.lx_forest.specs.Suited.{is_suited, IsSuited}
-use Rattle.lx_edit.specs.Texts.{simple_at}
 use Rattle.lx_blocks.specs.Blocks.{passes}
 use Rattle.lx_list.specs.Nesting.{is_nesting}
 use Rattle.lx_list.specs.Numbering.{start_at}
 use Rattle.lx_list.specs.Numbered.{number_in, number_at, due, IsNumberedList}
-use Rattle.lx_list.proofs.Alike.{IsAlike, view-alike, simple-alike, next-alike}
 use Rattle.lx_list.proofs.Numbered.{HasItems}
 
 -- ---- rest and joining know nothing of it
-
-pub rested-alike : (uneasy : Option View → Bool) (is_marked : ℕ → Bool) (f g : Forest) → IsAlike f g
-    → ((q : ℕ) → is_attached f q ≡ true → is_marked q ≡ true → uneasy (view_of f q) ≡ false)
-    → (q : ℕ) → is_attached g q ≡ true → is_marked q ≡ true → uneasy (view_of g q) ≡ false
-rested-alike uneasy is_marked f g a rested q attached marked = ap uneasy (view-alike f g a q) ∙ rested q (sym (a.within 0 q) ∙ attached) marked
-
-pub full-alike : (is_empty : Option TextFields → Bool) (f g : Forest) → IsAlike f g
-    → ((q : ℕ) → is_attached f q ≡ true → is_empty (simple_at f q) ≡ false)
-    → (q : ℕ) → is_attached g q ≡ true → is_empty (simple_at g q) ≡ false
-full-alike is_empty f g a full q attached = ap is_empty (simple-alike f g a q) ∙ full q (sym (a.within 0 q) ∙ attached)
-
-pub apart-alike : (alike : Option TextFields → Option TextFields → Bool) (f g : Forest) → IsAlike f g
-    → ((q n : ℕ) → is_attached f q ≡ true → next_of f q ≡ Some n → alike (simple_at f q) (simple_at f n) ≡ false)
-    → (q n : ℕ) → is_attached g q ≡ true → next_of g q ≡ Some n → alike (simple_at g q) (simple_at g n) ≡ false
-apart-alike alike f g a apart q n attached next =
-    ap (λ o. alike o (simple_at g n)) (simple-alike f g a q) ∙ ap (alike (simple_at f q)) (simple-alike f g a n)
-    ∙ apart q n (sym (a.within 0 q) ∙ attached) (sym (next-alike f g a q) ∙ next)
 
 -- ---- the children of lists are items, with numbers
 

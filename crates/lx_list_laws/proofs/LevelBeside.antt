@@ -179,9 +179,6 @@ module _ (x list p holder : ℕ) (w v : Working) (s : WentIn x list p holder w v
       g_children holder (λ e. list_not_holder (sym e)) ∙ names_without-absent_list x (children_of f holder) (not_child f x p holder s.in_order s.up p_not_holder) in
       ap first_of same ∙ s.first
 
-  pub p_lost : children_of g p ≡ names_without x (children_of f p)
-  p_lost = g_children p (λ e. list_not_p (sym e))
-
   -- so it comes out of the list again
   pub out : (u : Working) → outdented x v ≡ Ok u → out_of x list holder v ≡ Ok u
   unfolding outdented

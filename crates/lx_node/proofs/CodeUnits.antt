@@ -19,21 +19,9 @@ pub units_of-few : (c : ℕ) → units_of c ≤ 2
 unfolding units_of
 units_of-few c = grind (arith, nat_tests)
 
-pub units_of-one : (c : ℕ) → c < 65536 → units_of c ≡ 1
-unfolding units_of
-units_of-one c h = grind (arith, nat_tests, h)
-
 pub units_of-two : (c : ℕ) → 65536 ≤ c → units_of c ≡ 2
 unfolding units_of
 units_of-two c h = grind (arith, nat_tests, h)
-
-pub units-none : units [] ≡ 0
-unfolding units
-units-none = refl
-
-pub units-first : (c : ℕ) (text : List ℕ) → units (c ∷ text) ≡ units_of c + units text
-unfolding units
-units-first c text = refl
 
 pub units-append : (front back : List ℕ) → units (front ++ back) ≡ units front + units back
 unfolding units

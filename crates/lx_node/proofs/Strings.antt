@@ -14,7 +14,3 @@ capped_zero = capped_small 0 (omega arith)
 pub capped_add : (a b : ℕ) → min (capped a + capped b) (2 ^ 64 - 1) ≡ capped (a + b)
 unfolding capped
 capped_add a b = omega arith
-
-pub capped-capped_add : (a b : ℕ) → capped (capped a + b) ≡ capped (a + b)
-unfolding capped
-capped-capped_add a b = omega arith

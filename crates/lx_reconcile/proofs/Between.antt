@@ -90,18 +90,6 @@ pub found_within : (kids : List ℕ) (first last at : Option ℕ) (keys : List �
 found_within kids first last at keys f =
     omega (arith, ap length f.list, length-append keys (between_names at last kids), between-short first last kids)
 
--- while one is left, one more read is within them
-pub found_one_within : (kids : List ℕ) (first last at : Option ℕ) (child : ℕ) (keys : List ℕ) → NoRepeats kids → at ≡ Some child → AreFound kids first last at keys → length keys + 1 ≤ length kids
-found_one_within kids first last at child keys once here f =
-    let among : is_among child kids ≡ true = sym (ap (λ o. is_place o kids) here) ∙ f.place in
-    omega (
-      arith,
-      ap length f.list,
-      length-append keys (between_names at last kids),
-      ap length (ap (λ o. between_names o last kids) here ∙ between-step kids child last (cond (is_named last child) None (next_in kids child)) once among refl),
-      between-short first last kids,
-    )
-
 up_to-among : (last : Option ℕ) (xs : List ℕ) (q : ℕ) → is_among q (up_to_end last xs) ≡ true → is_among q xs ≡ true
 up_to-among None xs q e = e
 up_to-among (Some l) [] q e = e

@@ -1,6 +1,6 @@
 -- A node as a reader sees it, and the operations for its children, one after another.
 use Rattle.std.specs.Result.{IfOk}
-use Rattle.std.proofs.Common.{Result, Ok, Err, ◌≡◌, ◌∙◌, ◌+◌, ◌<◌, ◌≤◌, ◌⊎◌, ℕ, true, false, inl, inr, List, [], ◌∷◌, ◌++◌, length, Option, None, Some, option_map, is_some, refl, sym, ap, subst, arith, append_assoc, append-nil}
+use Rattle.std.proofs.Common.{Result, Ok, Err, ◌≡◌, ◌∙◌, ◌+◌, ◌<◌, ◌≤◌, ◌⊎◌, ℕ, true, false, inl, inr, List, [], ◌∷◌, ◌++◌, length, Option, None, Some, option_map, is_some, refl, sym, ap, subst, arith, append_assoc}
 use Rattle.std.proofs.lemmas.Bool.Decides.{eqb_tells}
 use Rattle.std.proofs.lemmas.Option.{same_Some}
 use Rattle.lx_node.specs.Limits.{last_u32}
@@ -12,9 +12,8 @@ use Rattle.lx_node.specs.declared.kind.Kind.{Kind}
 use Rattle.lx_node.specs.declared.fields.Fields.{Fields}
 use Rattle.lx_node.specs.declared.node.Node.{Node}
 use Rattle.lx_trees.proofs.NamedTrees.{total-joined}
-use Rattle.lx_trees.proofs.Positions.{from_name-first, from_name-step}
+use Rattle.lx_trees.proofs.Positions.{from_name-step}
 use Rattle.lx_trees.proofs.Siblings.{next_in-among}
-use Rattle.lx_host.specs.Hosts.{HostTree, Leads, IsNumbered}
 use Rattle.lx_host.specs.declared.op.Op.{Op}
 use Rattle.lx_host.specs.declared.op.Op.TheVariants.{Place}
 use Rattle.lx_forest.specs.Forest.{Label, Forest}
@@ -27,9 +26,8 @@ use Rattle.lx_forest.proofs.Walks.{total-alone-lt}
 use Rattle.lx_links.specs.Stands.{node_of, Sound}
 use Rattle.lx_links.proofs.Placed.{parent_of-child}
 use Rattle.lx_links.proofs.Up.{in_order, in_order_at}
-use Rattle.lx_render.specs.Render.{last_kind, render}
-use Rattle.lx_reconcile.specs.Created.{numbered, create_op, creation, creations, creation_of}
-use Rattle.lx_reconcile.proofs.Created.{host_tree, creation_leads}
+use Rattle.lx_render.specs.Render.{last_kind}
+use Rattle.lx_reconcile.specs.Created.{create_op, creation, creations, creation_of}
 
 -- ---- a node that was read
 
@@ -215,25 +213,6 @@ pub first_place : (xs : List ℕ) → is_place (first_of xs) xs ≡ true
 first_place [] = refl
 first_place (x ∷ xs) = grind (arith, eqb_tells x x)
 
-pub made_none : (f : Forest) (key host : ℕ) (start : List Op) (at : Option ℕ) → at ≡ first_child f key → IsMadeUpTo f key host start at (host + 1) start
-made_none f key host start at first =
-    let kids = children_of f key in
-    let all : from_name at kids ≡ kids = ap (λ o. from_name o kids) first ∙ from_name-first kids in
-    record {
-      place = ap (λ o. is_place o kids) first ∙ first_place kids;
-      made = ap (λ ks. start ++ creations host (host + 1) (trees_of f ks)) all;
-      next = ap (λ ks. host + 1 + total (trees_of f ks)) all;
-    }
-
--- nothing is left
-pub made_all : (f : Forest) (key host : ℕ) (start : List Op) (at : Option ℕ) (id : ℕ) (ops : List Op) → at ≡ None → IsMadeUpTo f key host start at id ops
-    → (ops ≡ start ++ creations host (host + 1) (trees_of f (children_of f key))) × (id ≡ host + 1 + total (trees_of f (children_of f key)))
-made_all f key host start at id ops none m =
-    let kids = children_of f key in (
-      sym (append-nil ops) ∙ sym (ap (λ o. ops ++ creations host id (trees_of f (from_name o kids))) none) ∙ m.made,
-      omega (arith, m.next, ap (λ o. total (trees_of f (from_name o kids))) none),
-    )
-
 pub next_place : (xs : List ℕ) (k : ℕ) → is_place (next_in xs k) xs ≡ true
 next_place xs k = by_next (next_in xs k) refl where
   by_next : (o : Option ℕ) → next_in xs k ≡ o → is_place o xs ≡ true
@@ -344,10 +323,3 @@ left_with f g key child at next same s here place next_is =
     omega (arith, ap (λ f. total (alone child f)) same, ap (λ ks. total (trees_of f ks)) left, ap (λ ks. total (trees_of f ks)) then, total-joined (alone child f) (trees_of f rest))
 
 -- ---- where the operations for a key's tree lead
-
-pub created_at : (f : Forest) (key : ℕ) (w : HostTree) → IsForest f → has key f ≡ true → IsNumbered w → w.next + total (alone key f) ≤ last_u32
-    → Leads w (creation_of w.next (alone key f)) (host_tree (joined w.hosts (numbered w.next (render (alone key f)))) (w.next + total (alone key f)))
-created_at f key w h there w_is room =
-    let s = stands_there f key h there in
-    let P : Forest → Type 0 = λ t. w.next + total t ≤ last_u32 → Leads w (creation_of w.next t) (host_tree (joined w.hosts (numbered w.next (render t))) (w.next + total t)) in
-    subst P (sym s.tree_is) (creation_leads w w_is s.label s.below) room

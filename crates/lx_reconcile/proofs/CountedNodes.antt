@@ -1,7 +1,6 @@
 -- Which nodes are found kept, and how many aren't.
-use Rattle.std.proofs.Common.{◌≡◌, ◌∙◌, ◌+◌, ◌<◌, ◌≤◌, ℕ, ◌&&◌, ◌^◌, Bool, true, false, cond, eqb, ◌∷◌, Option, None, Some, option_map, is_some, inl, inr, refl, sym, ap, arith, eq-eqb}
+use Rattle.std.proofs.Common.{◌≡◌, ◌∙◌, ◌+◌, ◌<◌, ◌≤◌, ℕ, ◌&&◌, ◌^◌, Bool, true, false, cond, eqb, ◌∷◌, Option, None, Some, option_map, is_some, inl, inr, refl, sym, ap, arith}
 use Rattle.std.proofs.lemmas.Bool.{cases_Bool}
-use Rattle.std.proofs.lemmas.Bool.Decides.{eqb_tells}
 use Rattle.std.proofs.lemmas.Option.{same_Some}
 use Rattle.lx_trees.specs.Trees.{nil, tree, joined}
 use Rattle.lx_trees.specs.NamedTrees.{total}
@@ -10,10 +9,9 @@ use Rattle.lx_trees.specs.Spots.{Spot, parent_at, children_at}
 use Rattle.lx_node.specs.declared.node.Node.{Node}
 use Rattle.lx_trees.proofs.NamedTrees.{total-joined, total-without-alone}
 use Rattle.lx_trees.proofs.Subtrees.{count-alone-le}
-use Rattle.lx_trees.proofs.Positions.{from_name-first}
 use Rattle.lx_host.specs.declared.tag.Tag.{Tag}
 use Rattle.lx_forest.specs.Forest.{Label, Forest}
-use Rattle.lx_forest.specs.Lookups.{key_of, has, alone, spot, siblings, children_of, trees_of, first_child, next_of, is_attached, IsForest}
+use Rattle.lx_forest.specs.Lookups.{key_of, has, alone, spot, siblings, children_of, trees_of, next_of, is_attached, IsForest}
 use Rattle.lx_forest.specs.Records.{linked, record_at}
 use Rattle.lx_forest.proofs.Edits.{is_some-spot}
 use Rattle.lx_forest.proofs.Lookups.{alone-spot}
@@ -24,9 +22,9 @@ use Rattle.lx_render.specs.Render.{tag_of}
 use Rattle.lx_reconcile.specs.Allowed.{places_of, tag_number, is_parent, is_only}
 use Rattle.lx_reconcile.specs.Counting.{IsInTree, unkept_in}
 use Rattle.lx_reconcile.proofs.Attached.{tree_order}
-use Rattle.lx_reconcile.proofs.Children.{label_from, is_read, tree_read, total_read, child_left, first_place, next_place}
+use Rattle.lx_reconcile.proofs.Children.{label_from, is_read, tree_read, total_read, child_left, next_place}
 use Rattle.lx_reconcile.proofs.Kept.{places_at, places_of-spot}
-use Rattle.lx_reconcile.proofs.UnkeptNodes.{same_tag, same_parent, unkept-joined, unkept-total}
+use Rattle.lx_reconcile.proofs.UnkeptNodes.{same_parent, unkept-joined, unkept-total}
 
 -- ---- a node as it was
 
@@ -113,15 +111,6 @@ module _ (f : Forest) (parent : Option ℕ) (q : ℕ) (s : Sound f) (above : IsI
 pub and_kept : (kept x only : Bool) → kept ≡ true → x ≡ only → x ≡ (kept && only)
 and_kept kept x only e is = is ∙ sym (ap (λ k. k && only) e)
 
-pub tags_tell : (b : Bool) (s t : Tag) → (b ≡ true → s ≡ t) → (s ≡ t → b ≡ true) → b ≡ eqb (tag_number s) (tag_number t)
-tags_tell b s t there back = elim (eqb_tells (tag_number s) (tag_number t)) [
-  | inl same ↦ back (same_tag s t same.1) ∙ sym same.0
-  | inr other ↦ elim (cases_Bool b) [
-    | inl so ↦ absurd (let e = eq-eqb (tag_number s) (tag_number t) (ap tag_number (there so)) in let out = other.0 in cc)
-    | inr out ↦ out ∙ sym other.0
-  ]
-]
-
 -- ---- how many aren't kept
 
 pub unkept_in-joined : (kept : Bool) (old : Forest) (p : Option ℕ) (f g : Forest) → unkept_in kept old p (joined f g) ≡ unkept_in kept old p f + unkept_in kept old p g
@@ -195,18 +184,6 @@ pub record IsCountedUpTo (kept : Bool) (old f : Forest) (key : ℕ) (at : Option
 nothing_in : (kept : Bool) (old : Forest) (p : Option ℕ) → unkept_in kept old p nil ≡ 0
 nothing_in true old p = refl
 nothing_in false old p = refl
-
-pub counted_none : (kept : Bool) (old f : Forest) (key : ℕ) (at : Option ℕ) → at ≡ first_child f key → IsCountedUpTo kept old f key at 0
-counted_none kept old f key at first =
-    let kids = children_of f key in
-    record {
-      place = ap (λ o. is_place o kids) first ∙ first_place kids;
-      sum = omega (arith, ap (λ ks. unkept_in kept old (Some key) (trees_of f ks)) (ap (λ o. from_name o kids) first ∙ from_name-first kids));
-    }
-
-pub counted_all : (kept : Bool) (old f : Forest) (key : ℕ) (at : Option ℕ) (counted : ℕ) → at ≡ None → IsCountedUpTo kept old f key at counted → counted ≡ unkept_in kept old (Some key) (trees_of f (children_of f key))
-counted_all kept old f key at counted none m =
-    omega (arith, m.sum, ap (λ o. unkept_in kept old (Some key) (trees_of f (from_name o (children_of f key)))) none, nothing_in kept old (Some key))
 
 -- the next child is there, with a smaller tree
 pub record IsChildNext (f f_now : Forest) (key child : ℕ) : Type 0 where

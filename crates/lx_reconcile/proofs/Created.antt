@@ -13,7 +13,6 @@ use Rattle.lx_host.specs.Hosts.{Face, Host, HostTree, id_of, one_host, shape_of,
 use Rattle.lx_host.proofs.Laws.{joined-nil, joined-assoc, inserted-None, count-joined, without-joined, alone-joined, put_below-joined, children_of-joined, children_of-absent, without-absent, alone-absent, put_below-absent}
 use Rattle.lx_forest.specs.Forest.{Label, Forest}
 use Rattle.lx_forest.specs.Lookups as forest
-use Rattle.lx_reconcile.specs.Allowed.{hosts_of}
 use Rattle.lx_render.specs.Render.{render, face_of, last_kind}
 use Rattle.lx_reconcile.specs.Created.{numbered, create_op, creations, creation}
 
@@ -59,12 +58,6 @@ pub count-numbered_behind : (q id : ℕ) (t : Trees Face) → id + total t ≤ q
 count-numbered_behind q id nil h = refl
 count-numbered_behind q id (tree face below rest) h =
     rw (ne_eqb id q (omega (arith, h))) (omega (arith, count-numbered_behind q (id + 1) below (omega (arith, h)), count-numbered_behind q (id + 1 + total below) rest (omega (arith, h))))
-
--- new hosts show the nodes of their trees alone
-pub hosts_of-numbered : (key id : ℕ) (f : Forest) → forest.count key f ≡ 0 → hosts_of key (numbered id (render f)) ≡ []
-hosts_of-numbered key id nil absent = refl
-hosts_of-numbered key id (tree label below rest) absent =
-    grind (arith, absent, hosts_of-numbered key (id + 1) below, hosts_of-numbered key (id + 1 + total (render below)) rest)
 
 pub put_below-nil : (p : ℕ) (t : Trees Host) → put_below p None nil t ≡ t
 put_below-nil p nil = refl
@@ -239,10 +232,6 @@ created_alone next hosts label below free room =
 
 -- ---- by what is known of a host tree
 
-pub is_ready : (parent more : ℕ) (w : HostTree) → IsNumbered w → 0 < count parent w.hosts → w.next + more ≤ last_u32 → IsReadyFor parent more w.hosts w.next
-is_ready parent more w numbered there room =
-    record { free = numbered.below; once = omega (arith, numbered.once parent, there); room = room }
-
 pub count-numbered : (q id : ℕ) (t : Trees Face) → count q (numbered id t) < 2
 count-numbered q id nil = omega arith
 count-numbered q id (tree face below rest) =
@@ -261,51 +250,5 @@ module _ (w : HostTree) (w_is : IsNumbered w) (parent : ℕ) (there : 0 < count 
   once : count parent w.hosts ≡ 1
   once = omega (arith, w_is.once parent, there)
 
-  abbrev pub with_placed : HostTree
-  with_placed = host_tree (put_below parent None (numbered w.next (render f)) w.hosts) (w.next + total f)
-
-  pub creations_lead : w.next + total f ≤ last_u32 → Leads w (creations parent w.next f) with_placed
-  creations_lead room = created parent w.next w.hosts f (record { free = w_is.below; once = once; room = room })
-
-  pub placed_numbered : IsNumbered with_placed
-  placed_numbered =
-      let new = numbered w.next (render f) in
-      let counted = λ (q : ℕ). trees.count-put_below id_of q parent None new w.hosts once in
-      record {
-        once = λ q. elim (cases_lt q w.next) [
-          | inl before ↦ omega (arith, counted q, w_is.once q, count-numbered_before q w.next (render f) before)
-          | inr behind ↦ omega (arith, counted q, w_is.below q (omega (arith, behind)), count-numbered q w.next (render f))
-        ];
-        below = λ q h. omega (arith, counted q, w_is.below q (omega (arith, h)), count-numbered_behind q w.next (render f) (omega (arith, h, total-render f)));
-      }
-
 -- One tree, after all others: its host isn't placed.
 module _ (w : HostTree) (w_is : IsNumbered w) (label : Label) (below : Forest) where
-  abbrev pub with_created : HostTree
-  with_created = host_tree (joined w.hosts (numbered w.next (render (tree label below nil)))) (w.next + total (tree label below nil))
-
-  pub creation_leads : w.next + total (tree label below nil) ≤ last_u32 → Leads w (creation w.next label below) with_created
-  creation_leads room =
-      let face = face_of label (last_kind below) in
-      let next = w.next in
-      let new = one_host next face in
-      let sum : next + 1 + total below ≡ next + total (tree label below nil) = omega arith in
-      let inner : Leads (host_tree (joined w.hosts new) (next + 1)) (creations next (next + 1) below) (host_tree (put_below next None (numbered (next + 1) (render below)) (joined w.hosts new)) (next + 1 + total below)) =
-      created next (next + 1) (joined w.hosts new) below (record {
-        free = λ q h. omega (arith, h, w_is.below q (omega (arith, h)), count-joined q w.hosts new, count_other q next face nil (omega (arith, h)) refl);
-        once = omega (arith, w_is.below next (omega arith), count-joined next w.hosts new, count_here next face nil refl);
-        room = omega (arith, room);
-      }) in
-      subst (λ n. Leads w (creation next label below) (host_tree (joined w.hosts (host_over next face (numbered (next + 1) (render below)))) n)) sum
-      (created_one next w.hosts label below (omega (arith, room)) (w_is.below next (omega arith)) inner)
-
-  pub created_numbered : IsNumbered with_created
-  created_numbered =
-      let new = numbered w.next (render (tree label below nil)) in
-      record {
-        once = λ q. elim (cases_lt q w.next) [
-          | inl before ↦ omega (arith, count-joined q w.hosts new, w_is.once q, count-numbered_before q w.next (render (tree label below nil)) before)
-          | inr behind ↦ omega (arith, count-joined q w.hosts new, w_is.below q (omega (arith, behind)), count-numbered q w.next (render (tree label below nil)))
-        ];
-        below = λ q h. omega (arith, count-joined q w.hosts new, w_is.below q (omega (arith, h)), count-numbered_behind q w.next (render (tree label below nil)) (omega (arith, h, total-render (tree label below nil))));
-      }

@@ -48,9 +48,6 @@ family-push : (key : ℕ) (keys : List ℕ) → family_of (keys ++ key ∷ []) �
 family-push key [] = refl
 family-push key (x ∷ keys) = ap (λ n. Some (record { child = x; size = n + 1 })) (length-append keys (key ∷ []))
 
-pub families_none : {S : Type 0} (v : HostTree) (made : HashMap ℕ Family S) → ((host : ℕ) → get nat_eq made host ≡ None) → AreFamilies v [] made
-families_none v made none = record { each = none }
-
 pub families_other : {S : Type 0} (v : HostTree) (key : ℕ) (keys : List ℕ) (made : HashMap ℕ Family S) → host_above v key ≡ None → AreFamilies v keys made → AreFamilies v (keys ++ key ∷ []) made
 families_other v key keys made none are = record {
   each = λ host. are.each host ∙ sym (ap family_of (below-push v host key keys ∙ ap (λ o. shown_below v host keys ++ cond (is_named o host) (key ∷ []) []) none ∙ append-nil (shown_below v host keys)));

@@ -340,10 +340,6 @@ part_walk front back old new ms once next_once w =
 
 -- ---- parts
 
--- where all stay
-pub all_stay_walk : (xs : List ℕ) → NoRepeats xs → IsWalk xs xs (map Stay xs)
-all_stay_walk xs once = all_staying xs xs (map Stay xs) refl refl
-
 -- a part without moves, of two equal lists that carry no mark
 pub none_part : (noted : ℕ → Bool) (xs ys : List ℕ) → NoRepeats xs → xs ≡ ys → ((k : ℕ) → is_among k xs ≡ true → noted k ≡ false) → IsPart noted xs ys []
 none_part noted xs ys once same plain = record {

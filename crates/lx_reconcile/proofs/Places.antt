@@ -64,12 +64,6 @@ take_one [] i e = absurd (omega arith)
 take_one (x ∷ xs) zero e = grind arith
 take_one (x ∷ xs) (suc i) e = grind (arith, take_one xs i)
 
-is_among-take : (q : ℕ) (xs : List ℕ) (i : ℕ) → is_among q xs ≡ false → is_among q (take i xs) ≡ false
-is_among-take q [] zero e = refl
-is_among-take q [] (suc i) e = refl
-is_among-take q (x ∷ xs) zero e = refl
-is_among-take q (x ∷ xs) (suc i) e = grind (arith, e, is_among-take q xs i)
-
 is_among-get : (xs : List ℕ) (i : ℕ) → i < length xs → is_among (get_or xs i 0) xs ≡ true
 is_among-get [] i e = absurd (omega arith)
 is_among-get (x ∷ xs) zero e = grind (arith, eqb_tells x x)

@@ -1,5 +1,5 @@
 -- A run of children that grows by one child at a time, until it holds all that carry a mark.
-use Rattle.std.proofs.Common.{◌≡◌, ◌∙◌, ◌+◌, ◌≤◌, ◌<◌, ◌||◌, ℕ, Bool, true, false, cond, List, [], ◌∷◌, ◌++◌, length, length-append, Option, None, Some, is_some, refl, sym, ap, subst, arith, append_assoc, inl, inr}
+use Rattle.std.proofs.Common.{◌≡◌, ◌∙◌, ◌+◌, ◌≤◌, ◌<◌, ◌||◌, ℕ, Bool, true, false, List, [], ◌∷◌, ◌++◌, length, length-append, Option, None, Some, is_some, refl, sym, ap, subst, arith, append_assoc, inl, inr}
 use Rattle.std.proofs.lemmas.Bool.Decides.{eqb_tells}
 use Rattle.std.proofs.lemmas.Bool.{cases_Bool}
 use Rattle.lx_trees.specs.Siblings.{is_among, NoRepeats, first_of, last_of, next_in, previous_in}
@@ -37,9 +37,6 @@ starts_with (y ∷ xs) x e = record { behind = xs; list = cc }
 marked-append : (noted : ℕ → Bool) (xs ys : List ℕ) → marked_among noted (xs ++ ys) ≡ marked_among noted xs + marked_among noted ys
 marked-append noted [] ys = omega arith
 marked-append noted (x ∷ xs) ys = grind (arith, marked-append noted xs ys)
-
-marked-one : (noted : ℕ → Bool) (x : ℕ) → marked_among noted (x ∷ []) ≡ cond (noted x) 1 0
-marked-one noted x = grind arith
 
 -- none of them carries one
 marked-none : (noted : ℕ → Bool) (xs : List ℕ) → marked_among noted xs ≡ 0 → (k : ℕ) → is_among k xs ≡ true → noted k ≡ false
@@ -149,23 +146,9 @@ window_of_one children w child among before keys behind =
 
 -- ---- how long it is
 
-pub window_within : (children : List ℕ) (w : Window) → IsWindow children w → length w.keys.items ≤ length children
-window_within children w is =
-    omega (arith, ap length is.list, length-append is.front (w.keys.items ++ is.back), length-append w.keys.items is.back)
-
 pub none_of : (xs : List ℕ) → length xs ≡ 0 → xs ≡ []
 none_of [] e = refl
 none_of (x ∷ xs) e = absurd (omega (arith, e))
-
--- where a child is beside it, it isn't all of them
-pub window_open : (children : List ℕ) (w : Window) → IsWindow children w → (is_some w.before || is_some w.behind) ≡ true → length w.keys.items + 1 ≤ length children
-window_open children w is opened = by_ends is.front is.back refl refl where
-  by_ends : (front back : List ℕ) → is.front ≡ front → is.back ≡ back → length w.keys.items + 1 ≤ length children
-  by_ends [] [] f b = absurd (let e = is.before ∙ ap last_of f in let g = is.behind ∙ ap first_of b in grind (arith, opened, e, g))
-  by_ends (x ∷ front) back f b =
-      omega (arith, ap length is.list, length-append is.front (w.keys.items ++ is.back), length-append w.keys.items is.back, ap length f)
-  by_ends front (x ∷ back) f b =
-      omega (arith, ap length is.list, length-append is.front (w.keys.items ++ is.back), length-append w.keys.items is.back, ap length b)
 
 -- ---- when it holds all that carry a mark
 

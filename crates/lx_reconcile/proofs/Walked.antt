@@ -28,7 +28,7 @@ use Rattle.lx_reconcile.specs.ToCome.{IsView, AreToCome, IsInWalk}
 use Rattle.lx_reconcile.proofs.Children.{stands_there}
 use Rattle.lx_reconcile.proofs.Kept.{not_kept_new, not_kept_tag}
 use Rattle.lx_reconcile.proofs.UnkeptNodes.{unkept-joined, unkept-below, unkept-all, new_unkept, other_unkept}
-use Rattle.lx_reconcile.proofs.StartEnd.{IsShownAt, child_stands, not_root, root_at, root_id, one_tree}
+use Rattle.lx_reconcile.proofs.StartEnd.{IsShownAt, child_stands, not_root, one_tree}
 use Rattle.lx_reconcile.proofs.Turns.{handled_none, handled_stay, handled_place, handled_leave, handled_make, handled_again, handled_face, handled_all, AreAllDone, all_done}
 
 -- ---- the children that moves are of
@@ -189,11 +189,6 @@ module _ (old new : Forest) (v : HostTree) where
       → m + unkept old (Some k) (forest.alone c new) ≤ n + unkept old (Some k) (trees_of new (children_of new k))
   walk_room k n ops a c s ms m w stands = omega (arith, w.grows, ap (λ ks. unkept old (Some k) (trees_of new ks)) stands, one_less k c (standing ms))
 
-  -- a child that is there in the end is one of the new node
-  pub walk_new : (k n : ℕ) (ops : List Op) (a : Host) (c : ℕ) (s : Move) (ms : List Move) (m : ℕ) → IsInWalk old new v k n ops a (s ∷ ms) m → standing (s ∷ ms) ≡ c ∷ standing ms
-      → is_among c (children_of new k) ≡ true
-  walk_new k n ops a c s ms m w stands = w.to_come.stays c (ap (is_among c) stands ∙ grind (arith, eqb_tells c c))
-
   -- what a move's child is: among the children before, and among those after
   pub walk_both : (k n : ℕ) (ops : List Op) (a : Host) (c : ℕ) (ms : List Move) (m : ℕ) → IsInWalk old new v k n ops a (Stay c ∷ ms) m → (is_among c (children_of old k) ≡ true) × (is_among c (children_of new k) ≡ true)
   walk_both k n ops a c ms m w = (w.to_come.suited.0, w.to_come.stays c (grind (arith, eqb_tells c c)))
@@ -304,8 +299,3 @@ module _ (old new : Forest) (v : HostTree) where
   pub walk_whole : (ops : List Op) (m : ℕ) → IsView old new v → (touched : ℕ → Bool) → forest.roots old ≡ 0 ∷ [] → forest.roots new ≡ 0 ∷ [] → IsReconciled old new v 0 v.next ops m → AllByRecursion (IsDue old new touched v) ops → AreAllDone old new v touched ops m
   walk_whole ops m view touched was is r due =
       all_done old new v touched ops m view.before view.after (one_tree old view.before was) (one_tree new view.after is) view.shows view.numbered view.rooted r due
-
-  -- the root is shown by host 0
-  pub walk_root : IsView old new v → forest.roots old ≡ 0 ∷ [] → host_in v 0 ≡ 0
-  walk_root view only =
-      root_id old v view.before view.shows view.rooted (root_at v.hosts old view.before (one_tree old view.before only) view.shows view.rooted)

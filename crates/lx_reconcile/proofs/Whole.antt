@@ -224,9 +224,6 @@ all_allowed old new mk v start ops m was is b none r =
 
 -- ---- by what the code knows
 
-pub root_found : (f : Forest) (k : ℕ) → k ≡ 0 → IsTree f → has k f ≡ true
-root_found f k e t = ap (λ k. has k f) e ∙ root_there f t
-
 root_read : (f : Forest) (k : ℕ) (n : Node) → k ≡ 0 → Some n ≡ option_map node_of (record_at f k) → Some n ≡ option_map node_of (record_at f 0)
 root_read f k n e h = subst (λ k. Some n ≡ option_map node_of (record_at f k)) e h
 

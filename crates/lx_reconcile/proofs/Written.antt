@@ -66,9 +66,6 @@ pub record IsBehind (done rest : Attributes) : Type 0 where
   pub rise : names_rise rest ≡ true
   pub first : (a : Name × List ℕ) (more : Attributes) → rest ≡ a ∷ more → AllBefore a.0 done
 
-nothing_before : (rest : Attributes) → names_rise rest ≡ true → IsBehind [] rest
-nothing_before rest e = record { rise = e; first = λ a more is. tt }
-
 rise_less : (a b : Name × List ℕ) (more : Attributes) → names_rise (a ∷ b ∷ more) ≡ true → name_order a.0 b.0 ≡ Less
 rise_less a b more e = is_less _ (both (is_lt (name_order a.0 b.0)) _ e).0
 
@@ -139,13 +136,6 @@ pub record IsWriting (host : ℕ) (olds done old new : Attributes) (start now : 
   pub so_far : Writes host olds (done ++ old) start now
   pub old_behind : IsBehind done old
   pub new_behind : IsBehind done new
-
-pub writing_starts : (host : ℕ) (olds news : Attributes) (start : List Op) → names_rise olds ≡ true → names_rise news ≡ true → IsWriting host olds [] olds news start start
-writing_starts host olds news start rise risen = record {
-  so_far = record { writes = []; list = sym (append-nil start); written = refl; anew = tt };
-  old_behind = nothing_before olds rise;
-  new_behind = nothing_before news risen;
-}
 
 -- one more is written
 write_more : (host : ℕ) (olds now to : Attributes) (start ops more : List Op) (name : Name) (value : Option (List ℕ)) → Writes host olds now start ops → with_attribute name value now ≡ to → to ≢ now → more ≡ ops ++ Attr host name value ∷ [] → Writes host olds to start more
@@ -226,10 +216,6 @@ pub record IsWritingAt (host : ℕ) (olds news : Attributes) (i j : ℕ) (start 
   pub at : IsWriting host olds (take j news) (drop i olds) (drop j news) start now
   pub old_within : i ≤ length olds
   pub new_within : j ≤ length news
-
-pub starts_at : (host : ℕ) (olds news : Attributes) (start : List Op) → names_rise olds ≡ true → names_rise news ≡ true → IsWritingAt host olds news 0 0 start start
-starts_at host olds news start rise risen =
-    record { at = writing_starts host olds news start rise risen; old_within = omega arith; new_within = omega arith }
 
 some_less : (xs ys : Attributes) → next_order xs ys ≡ Some Less → 0 < length xs
 some_less [] [] e = absurd (cc)

@@ -108,9 +108,6 @@ pub dispatch_comes_to : (ls : List Listener) (c : Command) (w : Working) (first 
 dispatch_comes_to ls c w first m n handled is ended rest =
     dispatch_from ls c w first (Ok (ran m handled)) is ended ∙ ap (λ r. and_then r (λ o. Ok (ran o handled))) rest
 
-pub dispatch_turns : (ls : List Listener) (c : Command) (w : Working) (first : Running) (turn : Turn) → first ≡ at_first w → at_step 0 (dispatch_begun ls c first) ≡ Ok (turned turn) → dispatch_run ls c w ≡ Ok (turned turn)
-dispatch_turns ls c w first turn is ended = dispatch_from ls c w first (Ok (turned turn)) is ended
-
 pub dispatch_refused_by : (ls : List Listener) (c : Command) (w : Working) (first : Running) (refused : Refused) → first ≡ at_first w → at_step 0 (dispatch_begun ls c first) ≡ Err refused → dispatch_run ls c w ≡ Err refused
 dispatch_refused_by ls c w first refused is ended = dispatch_from ls c w first (Err refused) is ended
 

@@ -122,11 +122,6 @@ steps_end ls steps w few =
 
 -- ---- steps that wait
 
--- after their count they do what they do at once
-pub deferred_runs : (ls : List Listener) (steps : List Step) (w v : Working) → count_step w ≡ Ok v → deferred_run ls steps w ≡ steps_run ls steps v
-unfolding deferred_run
-deferred_runs ls steps w v taken = ap (λ r. and_then (at_none r) (steps_run ls steps)) taken
-
 pub deferred_refused : (ls : List Listener) (steps : List Step) (w : Working) (cause : Cause) → count_step w ≡ Err cause → deferred_run ls steps w ≡ Err (cause, None)
 unfolding deferred_run
 deferred_refused ls steps w cause refused = ap (λ r. and_then (at_none r) (steps_run ls steps)) refused

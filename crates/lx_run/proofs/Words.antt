@@ -3,10 +3,6 @@ use Rattle.std.specs.Str.{chars, encode_utf8_all, IsUtf8}
 use Rattle.std.proofs.Common.{◌≡◌, ◌≢◌, ◌∙◌, ℕ, true, false, eqb, length, List, [], ◌∷◌, refl, sym, ap, arith, codes}
 use Rattle.std.proofs.lemmas.Str.{chars-nil, encodes-chars}
 
-pub chars-true : chars (codes "true") ≡ codes "true"
-unfolding chars
-chars-true = refl
-
 pub chars-anchor : chars (codes "@anchor") ≡ codes "@anchor"
 unfolding chars
 chars-anchor = refl
@@ -18,10 +14,6 @@ chars-focus = refl
 pub chars-block : chars (codes "@block") ≡ codes "@block"
 unfolding chars
 chars-block = refl
-
-pub chars-empty : chars (codes "") ≡ []
-unfolding chars
-chars-empty = refl
 
 -- a text has characters exactly if it has bytes
 pub no_chars : (bs : List ℕ) → eqb (length bs) 0 ≡ true → chars bs ≡ []

@@ -1,9 +1,8 @@
 -- From what a value says of itself to what the grammar asks of it.
-use Rattle.std.proofs.Common.{◌≡◌, refl, subst, codes, ℕ, List, [], ◌∷◌, length, Bool, true, false, Some, None, ◌==◌, Result, Ok, Err, IsUtf8}
+use Rattle.std.proofs.Common.{◌≡◌, refl, subst, codes, ℕ, List, [], ◌∷◌, length, Bool, true, false, Some, ◌==◌, Result, Ok, Err}
 use Rattle.serde_json.proofs.Views.{items_len-items_view}
 use Rattle.serde_json.specs.Data.{Data, null, boolean, number, string, array, object}
 use Rattle.serde_json.specs.Find.{get, as_array, as_bool}
-use Rattle.serde_json.specs.Read.{read}
 use Rattle.serde_json.specs.View.{items_view}
 use Rattle.serde_json.specs.declared.value.Value.{Value}
 use Rattle.lx_node.specs.declared.cause.Cause.TheVariants.{BadLine, BadCommand}
@@ -104,6 +103,3 @@ unfolding Reads
 tells_of_no_json bytes (Refused BadLine) refused = refused
 tells_of_no_json bytes (Refused other) refused = absurd refused
 tells_of_no_json bytes Memory refused = tt
-
-pub no_json : (bytes : List ℕ) → (IsUtf8 bytes → read bytes ≡ None) → TellsNoJson bytes (Refused BadLine)
-no_json bytes refused d is = let none = refused is.0 in let some = is.1 in cc

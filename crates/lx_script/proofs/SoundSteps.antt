@@ -13,7 +13,7 @@ use Rattle.lx_node.specs.declared.fields.Fields.{Fields}
 use Rattle.lx_node.specs.Kinds.{is_possible, type_name}
 use Rattle.lx_node.specs.OfKind.{IsOfKind}
 use Rattle.lx_step.specs.declared.line.Form.{Form}
-use Rattle.lx_step.specs.declared.line.Form.TheVariants.{Update, Flush, Dispatch, Rule, Listener as Listens, Show}
+use Rattle.lx_step.specs.declared.line.Form.TheVariants.{Flush, Dispatch, Rule, Listener as Listens, Show}
 use Rattle.lx_step.specs.declared.member.Member.{Member}
 use Rattle.lx_step.specs.declared.member.Member.TheVariants.{Other}
 use Rattle.lx_step.specs.declared.reference.Reference.{Reference}

@@ -6,7 +6,6 @@ use Rattle.json.specs.Written.{Written}
 use Rattle.serde_json.proofs.Texts.{print-outline}
 use Rattle.serde_json.specs.Data.{Data}
 use Rattle.serde_json.specs.Written.{compact_text, has_float, outline}
-use Rattle.lx_fields.specs.Parts.{or_null}
 use Rattle.lx_script.specs.Replies.{reply_data, reply_text, shown_slice_data, slice_text, state_data, state_text}
 use Rattle.lx_script.specs.Sent.{Tells}
 use Rattle.lx_script.specs.declared.reply.Reply.{Reply}

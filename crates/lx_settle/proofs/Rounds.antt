@@ -1,7 +1,6 @@
 -- One round after another.
 use Rattle.std.proofs.Common.{◌≡◌, ◌∙◌, ℕ, zero, suc, ◌+◌, ◌-◌, ◌<◌, ◌≤◌, Bool, true, false, List, [], ◌∷◌, Result, Ok, Err, refl, sym, ap, arith}
 use Rattle.lx_node.specs.declared.cause.Cause.{Cause}
-use Rattle.lx_node.specs.declared.cause.Cause.TheVariants.{NoRest}
 use Rattle.lx_node.specs.declared.cause.Fault.{Fault}
 use Rattle.lx_node.specs.declared.cause.Fault.TheVariants as fault
 use Rattle.lx_marks.specs.Marks.{Marked}
@@ -44,18 +43,6 @@ pub ended_rest : (round : Round) (w : Working) → round ≡ Rest → ended roun
 ended_rest Rest w e = refl
 ended_rest (Leaves ks) w e = absurd (cc)
 ended_rest (Elements es) w e = absurd (cc)
-
-pub last_rest : (rules : List Answers) (w : Working) → round_of w.fresh ≡ Rest → rounds rules zero w ≡ Ok w
-unfolding rounds
-last_rest rules w e = ended_rest (round_of w.fresh) w e
-
-pub last_leaves : (rules : List Answers) (w : Working) (ks : List ℕ) → round_of w.fresh ≡ Leaves ks → rounds rules zero w ≡ Err NoRest
-unfolding rounds
-last_leaves rules w ks e = ap (λ r. ended r w) e
-
-pub last_elements : (rules : List Answers) (w : Working) (es : List (ℕ × Bool)) → round_of w.fresh ≡ Elements es → rounds rules zero w ≡ Err NoRest
-unfolding rounds
-last_elements rules w es e = ap (λ r. ended r w) e
 
 -- ---- on
 

@@ -128,6 +128,3 @@ module _ {X : Type 0} (ps : List (List (Option X))) (s : ℕ) (page : List (Opti
       written_joined ps (s / 32) (s % 32) new u (omega (arith, low, size)) (omega arith)
       (is ∙ ap (λ p. set (fitted p) (s % 32) u) page_read)
       ∙ ap (λ j. set (joined ps) j u) place
-
-  pub page_kept : (new : List (Option X)) → new ≡ page → joined (set ps (s / 32) new) ≡ joined ps
-  page_kept new same = ap joined (ap (set ps (s / 32)) (same ∙ page_read) ∙ set-get_or ps (s / 32) [])

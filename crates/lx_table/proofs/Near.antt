@@ -1,20 +1,18 @@
 -- How far the spots of a table are, and what a new spot, a new row and a row that is filled keep.
-use Rattle.std.proofs.Common.{◌≡◌, ◌∙◌, ℕ, zero, suc, ◌+◌, ◌-◌, ◌*◌, ◌<◌, ◌≤◌, Bool, true, false, cond, List, [], ◌∷◌, ◌++◌, length, drop, Some, refl, sym, ap, subst, arith, length-append}
-use Rattle.std.specs.Prelude.{min, max, filter, sum_by}
-use Rattle.std.specs.List.{insert, slice_get}
+use Rattle.std.proofs.Common.{◌≡◌, ◌∙◌, ℕ, suc, ◌+◌, ◌-◌, ◌*◌, ◌<◌, ◌≤◌, Bool, true, false, cond, List, [], ◌∷◌, ◌++◌, length, refl, sym, ap, subst, arith, length-append}
+use Rattle.std.specs.Prelude.{min, max, filter}
+use Rattle.std.specs.List.{insert}
 use Rattle.std.proofs.lemmas.Bool.Decides.{nat_tests}
 use Rattle.std.proofs.lemmas.List.Elements.{All-nil, All-push}
-use Rattle.std.proofs.lemmas.List.Sums.{sum_by-cons}
 use Rattle.lx_forest.specs.Forest.{Forest}
-use Rattle.lx_forest.specs.Lookups.{size_of}
 use Rattle.lx_table.specs.declared.spots.Spot.{Spot}
 use Rattle.lx_table.specs.Spots.{stands_in_row, end_column, most_cells, IsSmall}
 use Rattle.lx_table.specs.Spans.{row_span, column_span}
 use Rattle.lx_table.specs.Grid as grid
-use Rattle.lx_table.specs.Grid.{first_free, spot_behind, row_filled, cells_left, filled, spots_over}
-use Rattle.lx_table.specs.Filling.{passed_on, still_standing, IsStanding, IsPlaced, IsFilling, IsFilled, is_left, cells_among}
+use Rattle.lx_table.specs.Grid.{first_free, spot_behind, filled, spots_over}
+use Rattle.lx_table.specs.Filling.{passed_on, still_standing, IsStanding, IsPlaced, IsFilling, IsFilled, cells_among}
 use Rattle.lx_table.proofs.Room.{first_free_near}
-use Rattle.lx_table.proofs.Standing.{column_is, put_between, no_cells, reaches_below, stands_there}
+use Rattle.lx_table.proofs.Standing.{column_is, put_between, no_cells, stands_there}
 
 pub end_behind : (xs : List Spot) (x : Spot) → end_column (xs ++ x ∷ []) ≡ max (end_column xs) (x.column + x.width)
 end_behind [] x = omega arith
@@ -50,25 +48,11 @@ filling_on f rows row cell spots standing s is p inside few room =
 
 -- ---- rows
 
-pub row_filled-append : (f : Forest) (rows row : ℕ) (xs ys : List ℕ) (spots : List Spot) → row_filled f rows row (xs ++ ys) spots ≡ row_filled f rows row ys (row_filled f rows row xs spots)
-row_filled-append f rows row [] ys spots = refl
-row_filled-append f rows row (x ∷ xs) ys spots = row_filled-append f rows row xs ys (spots ++ spot_behind f rows row spots x ∷ [])
-
 filter_both : (p : ℕ → Bool) (x : ℕ) (xs : List ℕ) → filter p (x ∷ xs) ≡ filter p (x ∷ []) ++ filter p xs
 filter_both p x xs = by_test (p x) where
   by_test : (t : Bool) → cond t (x ∷ filter p xs) (filter p xs) ≡ cond t (x ∷ []) [] ++ filter p xs
   by_test true = refl
   by_test false = refl
-
--- one cell more
-pub row_on : (f : Forest) (rows row : ℕ) (gone all rest : List ℕ) (cell : ℕ) (spots more whole : List Spot) → all ≡ cell ∷ rest → more ≡ row_filled f rows row (filter (is_left gone) (cell ∷ [])) spots
-    → row_filled f rows row (filter (is_left gone) all) spots ≡ whole → row_filled f rows row (filter (is_left gone) rest) more ≡ whole
-row_on f rows row gone all rest cell spots more whole is made so_far =
-    ap (λ zs. row_filled f rows row (filter (is_left gone) rest) zs) made
-    ∙ sym (row_filled-append f rows row (filter (is_left gone) (cell ∷ [])) (filter (is_left gone) rest) spots)
-    ∙ ap (λ ks. row_filled f rows row ks spots) (sym (filter_both (is_left gone) cell rest))
-    ∙ ap (λ ks. row_filled f rows row (filter (is_left gone) ks) spots) (sym is)
-    ∙ so_far
 
 -- ---- the rows of a table
 
@@ -80,44 +64,8 @@ filling_row row spots standing left is f =
     subst (λ (zs : List Spot). IsFilling row spots zs) (sym is)
     (record { stands = stands_there row spots standing f.reaching; small = f.small; near = f.near })
 
-pub filled_row : (row next : ℕ) (spots standing : List Spot) → next ≡ row + 1 → IsFilling row spots standing → IsFilled next spots standing
-filled_row row next spots standing is f =
-    subst (λ (n : ℕ). IsFilled n spots standing) (sym is)
-    (record { reaching = reaches_below row spots standing f.stands; small = f.small; near = f.near })
-
 one_more : (i : ℕ) → i + 1 ≡ suc i
 one_more i = omega arith
-
-pub filled_on : (f : Forest) (gone : List ℕ) (rows row next i : ℕ) (keys : List ℕ) (key : ℕ) (spots more whole : List Spot) → slice_get keys i ≡ Some key → next ≡ row + 1
-    → more ≡ row_filled f rows row (cells_left f gone key) spots → filled f gone rows row (drop i keys) spots ≡ whole → filled f gone rows next (drop (i + 1) keys) more ≡ whole
-filled_on f gone rows row next i keys key spots more whole at up made so_far =
-    ap (λ n. filled f gone rows n (drop (i + 1) keys) more) up
-    ∙ ap (λ zs. filled f gone rows (row + 1) (drop (i + 1) keys) zs) made
-    ∙ ap (λ n. filled f gone rows (row + 1) (drop n keys) (row_filled f rows row (cells_left f gone key) spots)) (one_more i)
-    ∙ sym (ap (λ ks. filled f gone rows row ks spots) (left_at keys i key at))
-    ∙ so_far
-  where
-    left_at : (all : List ℕ) (j k : ℕ) → slice_get all j ≡ Some k → drop j all ≡ k ∷ drop (suc j) all
-    left_at [] zero k e = cc
-    left_at [] (suc j) k e = cc
-    left_at (x ∷ xs) zero k e = grind (arith, e)
-    left_at (x ∷ xs) (suc j) k e = left_at xs j k e
-
-pub filled_done : (f : Forest) (gone : List ℕ) (rows row i : ℕ) (keys : List ℕ) (spots : List Spot) → length keys ≤ i → filled f gone rows row (drop i keys) spots ≡ spots
-filled_done f gone rows row zero [] spots h = refl
-filled_done f gone rows row (suc i) [] spots h = refl
-filled_done f gone rows row zero (k ∷ ks) spots h = absurd (omega (arith, h))
-filled_done f gone rows row (suc i) (k ∷ ks) spots h = filled_done f gone rows row i ks spots (omega (arith, h))
-
--- how many cells are in the rows that are left
-cells_behind : (f : Forest) (i : ℕ) (keys : List ℕ) (key : ℕ) → slice_get keys i ≡ Some key → cells_among f (drop i keys) ≡ size_of f key + cells_among f (drop (suc i) keys)
-cells_behind f zero [] key e = absurd (cc)
-cells_behind f (suc i) [] key e = absurd (cc)
-cells_behind f zero (k ∷ ks) key e = let is : k ≡ key = cc in ap (λ (q : ℕ). sum_by (size_of f) (q ∷ ks)) is ∙ sum_by-cons (size_of f) key ks
-cells_behind f (suc i) (k ∷ ks) key e = cells_behind f i ks key e
-
-pub cells_at : (f : Forest) (i : ℕ) (keys : List ℕ) (key : ℕ) → slice_get keys i ≡ Some key → cells_among f (drop i keys) ≡ size_of f key + cells_among f (drop (i + 1) keys)
-cells_at f i keys key e = cells_behind f i keys key e ∙ ap (λ n. size_of f key + cells_among f (drop n keys)) (sym (one_more i))
 
 -- a cell more
 pub added_spots : (f : Forest) (rows row cell : ℕ) (spots standing more : List Spot) (s : Spot) → IsFilling row spots standing → IsPlaced f rows row cell standing s → more ≡ spots ++ s ∷ [] → more ≡ spots ++ spot_behind f rows row spots cell ∷ []

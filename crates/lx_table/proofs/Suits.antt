@@ -1,5 +1,5 @@
 -- Spans and headers of fields that are of their kind.
-use Rattle.std.proofs.Common.{◌≡◌, ◌∙◌, ℕ, ◌≤◌, Bool, true, false, ◌&&◌, Option, None, Some, option_map, refl, sym, ap, arith}
+use Rattle.std.proofs.Common.{◌≡◌, ◌∙◌, ℕ, ◌≤◌, Bool, true, false, ◌&&◌, Option, None, Some, refl, sym, arith}
 use Rattle.std.proofs.lemmas.Bool.Decides.{nat_tests}
 use Rattle.lx_node.specs.OfKind.{IsOfKind, is_of_kind, fits_kind, is_element_of, is_text_of, are_embed_fields, are_bare, is_extra_of, is_plain, is_list_extra, is_item_extra, is_link_extra, is_cell_extra, is_span}
 use Rattle.lx_node.specs.Kinds.{is_possible}
@@ -11,8 +11,6 @@ use Rattle.lx_node.specs.declared.fields.ElementFields.{ElementFields}
 use Rattle.lx_node.specs.declared.fields.Fields.{Fields}
 use Rattle.lx_node.specs.declared.fields.Fields.TheVariants as fields
 use Rattle.lx_node.specs.Plain.{plain_element}
-use Rattle.lx_forest.specs.Forest.{Forest, Label}
-use Rattle.lx_forest.specs.Lookups.{label_of, fields_of}
 use Rattle.std.specs.Prelude.{nat_lt}
 use Rattle.std.specs.Option.{option_or}
 use Rattle.lx_node.specs.declared.cause.Cause.{Cause}
@@ -96,13 +94,6 @@ within kind (fields.Element e) of =
     let w = element_within kind e (fits kind (fields.Element e) of) in
     record { some_rows = w.some_rows; rows = w.rows; some_columns = w.some_columns; columns = w.columns; header = w.header }
 within kind _ of = record { some_rows = omega arith; rows = omega arith; some_columns = omega arith; columns = omega arith; header = omega arith }
-
--- the fields of a node by its label
-pub fields_by : (f : Forest) (k : ℕ) (l : Label) → label_of f k ≡ Some l → fields_of f k ≡ Some l.fields
-fields_by f k l is = ap (option_map (λ (x : Label). x.fields)) is
-
-pub no_fields : (f : Forest) (k : ℕ) → label_of f k ≡ None → fields_of f k ≡ None
-no_fields f k is = ap (option_map (λ (x : Label). x.fields)) is
 
 -- a span that isn't above the greatest
 span_small : (n : ℕ) → over_span n ≡ None → n ≤ 1000

@@ -1,10 +1,8 @@
 -- The clusters and words of a text, as the toolchain's iterators give them.
-use Rattle.std.proofs.Common.{◌≡◌, ◌∙◌, ℕ, ◌+◌, ◌-◌, ◌<◌, ◌≤◌, ◌^◌, min, Bool, true, false, cond, List, [], ◌∷◌, ◌++◌, map, reverse, length, length-append, sym, ap, arith, IsUtf8}
+use Rattle.std.proofs.Common.{◌≡◌, ◌∙◌, ℕ, ◌+◌, ◌-◌, ◌<◌, ◌≤◌, ◌^◌, min, true, List, [], ◌∷◌, ◌++◌, map, reverse, sym, ap, arith, IsUtf8}
 use Rattle.std.specs.Str.{chars}
 use Rattle.std.proofs.lemmas.Str.{encodes-chars}
 use Rattle.std.proofs.lemmas.List.{map-append, reverse-append}
-use Rattle.std.specs.List.{list_all}
-use Rattle.std.specs.Char.{is_whitespace}
 use Rattle.unicode_segmentation.specs.Grapheme.{graphemes}
 use Rattle.unicode_segmentation.specs.Word.{word_bounds}
 use Rattle.lx_text.specs.Texts.{text_length, front_of, rest_of}
@@ -43,33 +41,6 @@ none_behind bytes u e = ap over_first (clusters_of bytes u ∙ ap (map chars) e)
 
 -- ---- one word, gone over piece by piece; a sum ends at the last of 32 bits
 
-capped_on : (over n more behind : ℕ) → more ≡ min (over + min n 4294967295) 4294967295 → min (over + (n + behind)) 4294967295 ≡ min (more + behind) 4294967295
-capped_on over n more behind e = omega (arith, e)
-
-capped_end : (over n more : ℕ) → more ≡ min (over + min n 4294967295) 4294967295 → min (over + n) 4294967295 ≡ more
-capped_end over n more e = omega (arith, e)
-
--- what is over a piece that comes first, and over those after it where it is white
-over_one : (piece : List ℕ) (rest : List (List ℕ)) (white : Bool) → list_all is_whitespace piece ≡ white → over_word (piece ∷ rest) ≡ cond white (text_length piece + over_word rest) (text_length piece)
-over_one piece rest white e = ap (λ b. cond b (text_length piece + over_word rest) (text_length piece)) e
-
-pub word_on : (left rest : List (List ℕ)) (piece : List ℕ) (over more all : ℕ) → left ≡ piece ∷ rest → more ≡ min (over + min (text_length piece) 4294967295) 4294967295 → list_all is_whitespace piece ≡ true
-    → min (over + over_word left) 4294967295 ≡ all → min (more + over_word rest) 4294967295 ≡ all
-word_on left rest piece over more all is e white so_far =
-    sym (capped_on over (text_length piece) more (over_word rest) e)
-    ∙ ap (λ n. min (over + n) 4294967295) (sym (ap over_word is ∙ over_one piece rest true white)) ∙ so_far
-
-pub word_ends : (left rest : List (List ℕ)) (piece : List ℕ) (over more all : ℕ) → left ≡ piece ∷ rest → more ≡ min (over + min (text_length piece) 4294967295) 4294967295 → list_all is_whitespace piece ≡ false
-    → min (over + over_word left) 4294967295 ≡ all → more ≡ all
-word_ends left rest piece over more all is e black so_far =
-    sym (capped_end over (text_length piece) more e)
-    ∙ ap (λ n. min (over + n) 4294967295) (sym (ap over_word is ∙ over_one piece rest false black)) ∙ so_far
-
-pub words_done : (left : List (List ℕ)) (over all : ℕ) → left ≡ [] → over ≤ 4294967295 → min (over + over_word left) 4294967295 ≡ all → over ≡ all
-words_done left over all none small so_far = full ∙ ap (λ ps. min (over + over_word ps) 4294967295) (sym none) ∙ so_far where
-  full : over ≡ min (over + 0) 4294967295
-  full = omega (arith, small)
-
 from_none : (n : ℕ) → min (0 + n) 4294967295 ≡ min n 4294967295
 from_none n = omega arith
 
@@ -78,9 +49,6 @@ last_start bytes left u is = from_none (over_word (turned left)) ∙ ap (λ ps. 
 
 pub first_start : (bytes : List ℕ) (left : List (List ℕ)) → IsUtf8 bytes → left ≡ word_bounds bytes → min (0 + over_word (map chars left)) 4294967295 ≡ min (over_word (words (chars bytes))) 4294967295
 first_start bytes left u is = from_none (over_word (map chars left)) ∙ ap (λ ps. min (over_word ps) 4294967295) (ap (map chars) is ∙ sym (words_of bytes u))
-
-pub shorter_back : (left rest : List (List ℕ)) (piece : List ℕ) → left ≡ rest ++ piece ∷ [] → length rest < length left
-shorter_back left rest piece is = omega (arith, ap length is, length-append rest (piece ∷ []))
 
 -- ---- the calls
 

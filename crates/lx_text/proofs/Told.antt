@@ -96,9 +96,6 @@ within-offset offset text =
 pub within-below : (offset : ℕ) (text : List ℕ) → within text offset ≤ offset
 within-below offset text = omega (arith, within_is offset text, front-length offset text)
 
-pub within-same : (offset : ℕ) (text : List ℕ) → is_offset offset text ≡ true → within text offset ≡ offset
-within-same offset text e = within_is offset text ∙ offset_is offset text e
-
 pub within-end : (offset : ℕ) (text : List ℕ) → text_length text ≤ offset → within text offset ≡ text_length text
 within-end offset text past = within_is offset text ∙ ap text_length (front-end offset text past)
 
@@ -174,11 +171,6 @@ piece-length from to text piece =
 
 pub slice-length : (from to : ℕ) (text : List ℕ) → slice_fault text from to ≡ None → text_length (slice_of from to text) + from ≡ to
 slice-length from to text e = piece-length from to text (piece_of from to text e)
-
--- the text up to the second offset is what comes up to the first one, and the piece
-pub front-piece : (from to : ℕ) (text : List ℕ) → is_offset from text ≡ true → from ≤ to → front_of to text ≡ front_of from text ++ slice_of from to text
-unfolding slice_of
-front-piece from to text e order = front-further from to text e order
 
 -- the text from the first offset on is the piece, and what is from the second one on
 pub rest-piece : (from to : ℕ) (text : List ℕ) → is_offset from text ≡ true → from ≤ to → rest_of from text ≡ slice_of from to text ++ rest_of to text

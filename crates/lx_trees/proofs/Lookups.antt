@@ -10,7 +10,7 @@ use Rattle.lx_trees.proofs.NamedTrees.{is_among-preorder, length-preorder, NoRep
 use Rattle.lx_trees.proofs.Positions.{same_length}
 use Rattle.lx_trees.proofs.Subtrees.{count-parent, alone-spot_below, gathered-names}
 use Rattle.lx_trees.proofs.Edits.{is_some-spot, spot-put_in, spot-take_out, spot-with_new}
-use Rattle.lx_trees.specs.NamedTrees.{count, has, names, alone, without, gathered, mapped, total}
+use Rattle.lx_trees.specs.NamedTrees.{has, names, alone, gathered, total}
 use Rattle.lx_trees.specs.Lookups.{parent_of, children_of, IsOrdered}
 use Rattle.lx_trees.specs.Edits.{with_new, take_out, put_in, CanPut}
 

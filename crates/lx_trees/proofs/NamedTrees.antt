@@ -16,10 +16,6 @@ pub joined-assoc : {A : Type 0} (r s t : Trees A) → joined (joined r s) t ≡ 
 joined-assoc nil s t = refl
 joined-assoc (tree a below rest) s t = ap (tree a below) (joined-assoc rest s t)
 
-pub joined-cond : {A : Type 0} (b : Bool) (p q t : Trees A) → joined (cond b p q) t ≡ cond b (joined p t) (joined q t)
-joined-cond true p q t = refl
-joined-cond false p q t = refl
-
 pub total-joined : {A : Type 0} (s t : Trees A) → total (joined s t) ≡ total s + total t
 total-joined nil t = omega arith
 total-joined (tree a below rest) t = omega (arith, total-joined rest t)

@@ -1,10 +1,10 @@
 -- The laws of positions in a list of names: by index, and from a name on in either direction.
-use Rattle.std.proofs.Common.{◌≡◌, ℕ, zero, suc, ◌+◌, ◌<◌, ◌≤◌, true, false, List, [], ◌∷◌, ◌++◌, length, Option, None, Some, refl, ap, ◌∙◌, arith, inl, inr}
-use Rattle.std.specs.Prelude.{is_some, option_map, unwrap_or, slice_get, insert, remove}
+use Rattle.std.proofs.Common.{◌≡◌, ℕ, zero, suc, ◌+◌, ◌<◌, ◌≤◌, true, false, List, [], ◌∷◌, ◌++◌, length, Option, None, Some, refl, ◌∙◌, arith, inl, inr}
+use Rattle.std.specs.Prelude.{option_map, unwrap_or, slice_get, insert}
 use Rattle.std.proofs.lemmas.Option.{slice_get_within}
 use Rattle.std.proofs.lemmas.Bool.Decides.{eqb_tells}
-use Rattle.lx_trees.specs.Siblings.{is_named, is_among, NoRepeats, first_of, last_of, next_in, previous_in, index_in, names_without, names_with, from_name, up_to_name}
-use Rattle.lx_trees.proofs.Siblings.{is_some-index_in, previous_from-among, is_some-last_from, last_from-apart, previous_from-apart, next_in-apart, is_some-previous_from, is_named_tells, names_without-absent_list, length-names_without, is_among-names_without}
+use Rattle.lx_trees.specs.Siblings.{is_named, is_among, NoRepeats, first_of, last_of, next_in, previous_in, index_in, names_without, names_with, from_name}
+use Rattle.lx_trees.proofs.Siblings.{is_some-index_in, previous_from-among, previous_from-apart, next_in-apart, is_some-previous_from, is_named_tells, names_without-absent_list, length-names_without, is_among-names_without}
 
 -- ---- by index
 
@@ -33,19 +33,6 @@ names_with-insert [] k (suc i) u l = absurd (omega arith)
 names_with-insert (x ∷ xs) k zero u l = grind (arith, eqb_tells x x)
 names_with-insert (x ∷ xs) k (suc i) u l =
     grind (arith, names_with-insert xs k i, is_named_tells (slice_get xs i) x, is_among-slice_get xs x i)
-
-pub index_in-names_with : (xs : List ℕ) (k i : ℕ) → NoRepeats xs → is_among k xs ≡ false → i ≤ length xs → index_in (names_with (slice_get xs i) (k ∷ []) xs) k ≡ Some i
-index_in-names_with [] k zero u n l = grind (arith, eqb_tells k k)
-index_in-names_with [] k (suc i) u n l = absurd (omega arith)
-index_in-names_with (x ∷ xs) k zero u n l = grind (arith, eqb_tells x x, eqb_tells k k)
-index_in-names_with (x ∷ xs) k (suc i) u n l =
-    grind (arith, index_in-names_with xs k i, is_named_tells (slice_get xs i) x, is_among-slice_get xs x i)
-
--- a name leaves from its index
-pub names_without-remove : (xs : List ℕ) (k i : ℕ) → NoRepeats xs → index_in xs k ≡ Some i → names_without k xs ≡ remove xs i
-names_without-remove [] k i u e = absurd (grind arith)
-names_without-remove (x ∷ xs) k zero u e = grind (arith, eqb_tells x k, names_without-absent_list k xs)
-names_without-remove (x ∷ xs) k (suc i) u e = grind (arith, names_without-remove xs k i)
 
 -- and one that came can leave again
 pub names_without-names_with : (before : Option ℕ) (k : ℕ) (xs : List ℕ) → is_among k xs ≡ false → names_without k (names_with before (k ∷ []) xs) ≡ xs
@@ -127,29 +114,6 @@ from_name-step (x ∷ y ∷ xs) k u e =
     elim (eqb_tells x k) [
       | inl own ↦ grind (arith, own, eqb_tells x y, eqb_tells y x, eqb_tells y y)
       | inr other ↦ grind (arith, other, from_name-step (y ∷ xs) k u.1, next_in-apart (y ∷ xs) k x, from_name-skip (next_in (y ∷ xs) k) x (y ∷ xs))
-    ]
-
-up_to_name-skip : (o : Option ℕ) (x : ℕ) (xs : List ℕ) → is_some o ≡ true → is_named o x ≡ false → up_to_name o (x ∷ xs) ≡ x ∷ up_to_name o xs
-up_to_name-skip None x xs some e = absurd (grind arith)
-up_to_name-skip (Some k) x xs some e = grind (arith, e, eqb_tells x k, eqb_tells k x)
-
-pub up_to_name-last : (xs : List ℕ) → NoRepeats xs → up_to_name (last_of xs) xs ≡ xs
-up_to_name-last [] u = refl
-up_to_name-last (x ∷ []) u = grind (arith, eqb_tells x x)
-up_to_name-last (x ∷ y ∷ xs) u =
-    up_to_name-skip (last_of (y ∷ xs)) x (y ∷ xs) (is_some-last_from y xs) (last_from-apart None (y ∷ xs) x refl u.0)
-    ∙ ap (λ ys. x ∷ ys) (up_to_name-last (y ∷ xs) u.1)
-
-pub up_to_name-step : (xs : List ℕ) (k : ℕ) → NoRepeats xs → is_among k xs ≡ true → up_to_name (Some k) xs ≡ up_to_name (previous_in xs k) xs ++ k ∷ []
-up_to_name-step [] k u e = absurd (grind arith)
-up_to_name-step (x ∷ []) k u e = grind (arith, eqb_tells x k)
-up_to_name-step (x ∷ y ∷ xs) k u e =
-    elim (eqb_tells x k) [
-      | inl own ↦ grind (arith, own)
-      | inr other ↦ elim (eqb_tells y k) [
-        | inl second ↦ grind (arith, other, second, eqb_tells x x)
-        | inr later ↦ grind (arith, other, later, up_to_name-step (y ∷ xs) k u.1, is_some-previous_from y xs k, previous_from-apart None (y ∷ xs) k x, up_to_name-skip (previous_in (y ∷ xs) k) x (y ∷ xs))
-      ]
     ]
 
 -- ---- how long

@@ -56,10 +56,6 @@ pub next_in-absent : (xs : List ℕ) (q : ℕ) → is_among q xs ≡ false → n
 next_in-absent [] q e = refl
 next_in-absent (x ∷ xs) q e = grind (arith, next_in-absent xs q)
 
-pub previous_from-absent : (b : Option ℕ) (xs : List ℕ) (q : ℕ) → is_among q xs ≡ false → previous_from b xs q ≡ None
-previous_from-absent b [] q e = refl
-previous_from-absent b (x ∷ xs) q e = grind (arith, previous_from-absent (Some x) xs q)
-
 -- the first name is in the list, and so is a neighbour
 pub first_of-among : (xs : List ℕ) (n : ℕ) → first_of xs ≡ Some n → is_among n xs ≡ true
 first_of-among [] n e = absurd (grind arith)

@@ -3,7 +3,7 @@ use Rattle.lx_rules.specs.declared.any_rule.AnyRule.{AnyRule}
 use Rattle.lx_editor.specs.Editor.{Editor}
 use Rattle.lx_editor.specs.Gathering.{started_of}
 use Rattle.lx_editor.specs.Standing.{IsValid}
-use Rattle.lx_editor.specs.Updated.{left_of, rested_by}
+use Rattle.lx_editor.specs.Updated.{left_of}
 use Rattle.lx_editor.specs.Judged.{IsLeft, HasGrown, IsJudged, LeavesAtRest, IsSettledOf}
 use Rattle.lx_editor.proofs.Began.{fresh_rests}
 use Rattle.lx_editor.proofs.Updated.{fresh_started}
