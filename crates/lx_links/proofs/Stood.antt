@@ -65,9 +65,13 @@ is_now m s f h = forest_in-is (Some m) s f h
 pub same_stands : (m n : Nodes) (f : Forest) → Holds m f → n ≡ m → Holds n f
 same_stands m n f h e = let P : Nodes → Type 0 = λ x. Holds x f in subst P (sym e) h
 
--- ---- where two links may differ
+-- ---- where two links differ
 
 -- what two maps say of equal items, the two forests say of equal nodes
 pub same_nodes : (m n : Nodes) (f g : Forest) (from : ℕ) (o : Option ℕ) → ((q : ℕ) → get m q ≡ node_at f q) → ((q : ℕ) → get n q ≡ node_at g q) → AreSameTo (get m) (get n) from o → AreSameTo (node_at f) (node_at g) from o
 same_nodes m n f g from None first second same = λ q up. sym (first q) ∙ same q up ∙ second q
-same_nodes m n f g from (Some to) first second same = (same.0, λ q up under. sym (first q) ∙ same.1 q up under ∙ second q)
+same_nodes m n f g from (Some to) first second same = (
+  same.0,
+  λ q up under. sym (first q) ∙ same.1 q up under ∙ second q,
+  λ e. same.2 (first to ∙ e ∙ sym (second to)),
+)

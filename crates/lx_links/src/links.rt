@@ -136,7 +136,7 @@ impl Links {
         }
     }
 
-    /// The first key after one, or the first of all, under which two links may have other nodes: before it, and
+    /// The first key after one, or the first of all, under which two links have other nodes: before it, and
     /// everywhere after that one where no key is answered, the two have equal nodes or none. Neither has failed.
     pub fn next_difference(&self, other: &Links, after: Option<Key>) -> Option<Key>
         requires living { self.now ≢ nil }

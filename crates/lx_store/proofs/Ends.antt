@@ -9,6 +9,18 @@ use Rattle.lx_store.specs.Tables.{IsTable, number_at}
 use Rattle.lx_store.proofs.Chapters.{mapped, get_none}
 use Rattle.lx_store.proofs.Sorted.{all_at, rises, absent_at}
 
+pub equal_parts : (a b : Node) → a ≡ b → HasEqualParts a b
+equal_parts a b e = record {
+  parent = ap (λ (n : Node). n.parent) e;
+  previous = ap (λ (n : Node). n.prev) e;
+  next = ap (λ (n : Node). n.next) e;
+  first = ap (λ (n : Node). n.first) e;
+  last = ap (λ (n : Node). n.last) e;
+  size = ap (λ (n : Node). n.size) e;
+  kind = ap (λ (n : Node). n.kind) e;
+  fields = ap (λ (n : Node). n.fields) e;
+}
+
 pub equal_by_parts : (a b : Node) → HasEqualParts a b → a ≡ b
 equal_by_parts a b same = rw (same.kind, same.fields, same.parent, same.previous, same.next, same.first, same.last, same.size) refl
 

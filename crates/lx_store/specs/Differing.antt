@@ -1,5 +1,5 @@
--- Up to where two stores, or two pages, surely have equal items.
-use Rattle.std.specs.Prelude.{◌≡◌, ℕ, ◌<◌, ◌≤◌, ◌+◌, List}
+-- Up to where two stores, or two pages, have equal items.
+use Rattle.std.specs.Prelude.{◌≡◌, ◌≢◌, ℕ, ◌<◌, ◌≤◌, ◌+◌, List}
 use Rattle.std.specs.declared.option.Option.{Option}
 use Rattle.std.specs.declared.option.Option.TheVariants.{None, Some}
 use Rattle.lx_store.specs.Pages.{slot_at}
@@ -19,7 +19,7 @@ module _ {X : Type 0} where
   abbrev pub AreSame : (ℕ → Option X) → (ℕ → Option X) → ℕ → ℕ → Type 0
   AreSame f g from to = (slot : ℕ) → from ≤ slot → slot < to → f slot ≡ g slot
 
-  -- equal items from one number on, up to the one that is answered, or to the end
+  -- equal items from one number on, up to the first under which they differ, or to the end
   abbrev pub AreSameTo : (ℕ → Option X) → (ℕ → Option X) → ℕ → Option ℕ → Type 0
   AreSameTo f g from None = (slot : ℕ) → from ≤ slot → f slot ≡ g slot
-  AreSameTo f g from (Some to) = (from ≤ to) × AreSame f g from to
+  AreSameTo f g from (Some to) = (from ≤ to) × AreSame f g from to × (f to ≢ g to)

@@ -1,6 +1,6 @@
-//! Where two stores may differ, found page by page.
+//! Where two stores differ, found page by page.
 
-ghost use Rattle.std.specs.Prelude.{◌≡◌, ◌<◌, ◌≤◌, ◌+◌, ◌*◌, ℕ, IsTrue};
+ghost use Rattle.std.specs.Prelude.{◌≡◌, ◌≢◌, ◌↔◌, ◌<◌, ◌≤◌, ◌+◌, ◌*◌, ℕ, IsTrue};
 ghost use Rattle.std.specs.Option.{option_copied};
 ghost use Rattle.std.specs.FinMap as map;
 ghost use Rattle.lx_store.specs.Differing.{item_in, first_after, AreSame, AreSameTo};
@@ -11,7 +11,7 @@ use crate::page::{self, Page};
 use crate::table::Table;
 use lx_node::Key;
 
-/// The first key after one, or the first of all, under which two tables may have other items.
+/// The first key after one, or the first of all, under which two tables have other items.
 pub(crate) fn next_difference<V: Item>(
     a: &Table<V>,
     b: &Table<V>,
@@ -50,7 +50,11 @@ fn same_in_chapters<V: Item>(a: Option<&Chapter<V>>, b: Option<&Chapter<V>>, fro
     requires { from ≤ 1024 }
     ensures range { (from ≤ result) × (result ≤ 1024) }
     ensures same { AreSame (item_in (option_copied a.entry)) (item_in (option_copied b.entry)) from result }
+    ensures differ { result < 1024 → item_in (option_copied a.entry) result ≢ item_in (option_copied b.entry) result }
 {
+    if a.is_none() && b.is_none() {
+        return chapter::SLOTS;
+    }
     let mut at = from;
     while at < chapter::SLOTS {
         let place = at / page::SLOTS;
@@ -79,6 +83,7 @@ fn same_in_pages<V: Item>(a: Option<&Page<V>>, b: Option<&Page<V>>, from: u32) -
     requires { from ≤ 32 }
     ensures range { (from ≤ result) × (result ≤ 32) }
     ensures same { AreSame (item_in (option_copied a.entry)) (item_in (option_copied b.entry)) from result }
+    ensures differ { result < 32 → item_in (option_copied a.entry) result ≢ item_in (option_copied b.entry) result }
 {
     if a.is_none() && b.is_none() {
         return page::SLOTS;
@@ -103,7 +108,7 @@ fn item_at<V: Item>(page: Option<&Page<V>>, slot: u32) -> Option<&V>
 
 // Whether there is no item in either place, or equal ones are in both.
 fn is_same<V: Item>(a: Option<&V>, b: Option<&V>) -> bool
-    ensures { IsTrue result → option_copied a.entry ≡ option_copied b.entry }
+    ensures { IsTrue result ↔ (option_copied a.entry ≡ option_copied b.entry) }
 {
     match (a, b) {
         (Some(a), Some(b)) => a.is_equal(b),

@@ -1,4 +1,4 @@
-ghost use Rattle.std.specs.Prelude.{◌≡◌, ℕ, IfOk, IsTrue};
+ghost use Rattle.std.specs.Prelude.{◌≡◌, ◌↔◌, ℕ, IfOk, IsTrue};
 ghost use Rattle.lx_store.specs.Counts.{next_count};
 
 use lx_node::NoMemory;
@@ -26,5 +26,5 @@ pub trait Item: Sized + Drop {
 
     /// Whether the two are equal.
     fn is_equal(&self, other: &Self) -> bool
-        ensures { IsTrue result → self.now ≡ other.now };
+        ensures { IsTrue result ↔ (self.now ≡ other.now) };
 }

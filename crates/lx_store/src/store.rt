@@ -66,9 +66,9 @@ impl<V: Item> Store<V> {
         self.held.get(key)
     }
 
-    /// The first key after one, or the first of all, under which two stores may have other items: under those before
-    /// it they have equal ones, and under all after that one where no key is answered. It looks at each page of
-    /// either from there on, and costs nothing where neither has any.
+    /// The first key after one, or the first of all, under which two stores have other items. Where no key is
+    /// answered they have equal ones, or none, from there on. It looks at each page of either up to the answer, and
+    /// goes over 1,024 keys at once where neither has any.
     pub fn next_difference(&self, other: &Store<V>, after: Option<Key>) -> Option<Key>
         ensures { AreSameTo (map.get self.now) (map.get other.now) (first_after after) result }
     {
