@@ -1,8 +1,9 @@
 -- What comes after a point, which trees hold the point, and which nodes between two points are below none of the others.
 use Rattle.std.proofs.Common.{◌≡◌, ◌≢◌, ◌∙◌, inl, inr, ℕ, ◌+◌, ◌<◌, ◌≤◌, true, false, ◌||◌, not, List, ◌++◌, length, Option, None, Some, refl, sym, ap, arith, append_assoc}
-use Rattle.std.specs.Prelude.{filter, slice_get}
-use Rattle.lx_trees.specs.Siblings.{is_among}
+use Rattle.std.specs.Prelude.{filter, option_map, unwrap_or, slice_get}
+use Rattle.lx_trees.specs.Siblings.{is_among, first_of}
 use Rattle.lx_trees.proofs.Siblings.{is_among-append}
+use Rattle.lx_node.specs.declared.cause.Point.{Point}
 use Rattle.lx_node.specs.declared.cause.PointKind.{PointKind}
 use Rattle.lx_node.specs.declared.cause.PointKind.TheVariants as point
 use Rattle.lx_trees.proofs.Positions.{is_among-slice_get}
@@ -14,10 +15,10 @@ use Rattle.lx_forest.specs.Lookups.{parent_of, children_of, is_within, is_attach
 use Rattle.lx_forest.proofs.Lookups.{has-parent_of, has-child}
 use Rattle.lx_forest.proofs.Walks.{is_attached-up, is_among-preorder_of}
 use Rattle.lx_forest.proofs.Within.{is_within-self, is_within-up, is_within-trans, is_within-parent}
-use Rattle.lx_blocks.specs.Places.{until, from_child, behind_place}
+use Rattle.lx_blocks.specs.Places.{until, from_child, behind_place, nodes_behind, covered, stands_below, outermost}
 use Rattle.lx_blocks.specs.Walks.{nodes_before}
 use Rattle.lx_blocks.proofs.Steps.{attached_there, in_order_with}
-use Rattle.lx_blocks.proofs.Until.{until_begins, filter_among}
+use Rattle.lx_blocks.proofs.Until.{until_begins, filter_among, filter_alike}
 use Rattle.lx_blocks.proofs.Stretches.{place, size, back_of, stretches_through, before_and_from, length_before, length_through, same_place, within_tells}
 
 -- a place in preorder after a node: whose tree reaches over it holds the node
@@ -147,6 +148,16 @@ outer f s e p k back end h cut attached up among =
     let some : is_among k (until end back) ≡ true = grind (arith, among, filter_among (λ k. not (is_within f k e)) (until end back) k) in
     grind (arith, filter_among (λ k. not (is_within f k e)) (until end back) p, among_tie f s p k back end h cut attached up some)
 
+stands_outer : (f : Forest) (o : Option ℕ) (s e k : ℕ) (back : List ℕ) (end : Option ℕ) → IsForest f → IsCut f s back → is_attached f s ≡ true → parent_of f k ≡ o → is_among k (filter (λ k. not (is_within f k e)) (until end back)) ≡ true → not (stands_below o (filter (λ k. not (is_within f k e)) (until end back))) ≡ unwrap_or (option_map (λ p. is_within f p s || is_within f p e) o) true
+stands_outer f None s e k back end h cut attached up among = refl
+stands_outer f (Some p) s e k back end h cut attached up among = outer f s e p k back end h cut attached up among
+
+outermost_is : (f : Forest) (start end : Point) → IsForest f → IsCut f start.key (nodes_behind f start) → is_attached f start.key ≡ true →
+    filter (λ k. unwrap_or (option_map (λ p. is_within f p start.key || is_within f p end.key) (parent_of f k)) true) (covered f start end) ≡ outermost f (covered f start end)
+outermost_is f start end h cut attached =
+    sym (filter_alike (λ k. not (stands_below (parent_of f k) (covered f start end))) (λ k. unwrap_or (option_map (λ p. is_within f p start.key || is_within f p end.key) (parent_of f k)) true) (covered f start end)
+    (λ k among. stands_outer f (parent_of f k) start.key end.key k (nodes_behind f start) (first_of (nodes_behind f end)) h cut attached refl among))
+
 -- ---- the place of a point
 
 cut_child : (f : Forest) (k i : ℕ) (o : Option ℕ) → Sound f → is_attached f k ≡ true → slice_get (children_of f k) i ≡ o → IsCut f k (from_child f k o)
@@ -158,3 +169,8 @@ cut_child f k i (Some c) s attached e =
 cut_place : (f : Forest) (k offset : ℕ) (kind : PointKind) → Sound f → is_attached f k ≡ true → IsCut f k (behind_place f k offset kind)
 cut_place f k offset point.Text s attached = cut_behind f k (in_order_with f k s attached) attached
 cut_place f k offset point.Element s attached = cut_child f k offset (slice_get (children_of f k) offset) s attached refl
+
+-- a covered node is below none of them exactly where its parent's tree holds a point
+pub outer_tie : (f : Forest) (start end : Point) → Sound f → is_attached f start.key ≡ true →
+    filter (λ k. unwrap_or (option_map (λ p. is_within f p start.key || is_within f p end.key) (parent_of f k)) true) (covered f start end) ≡ outermost f (covered f start end)
+outer_tie f start end s attached = outermost_is f start end (in_order_with f start.key s attached) (cut_place f start.key start.offset start.kind s attached) attached

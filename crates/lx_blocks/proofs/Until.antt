@@ -118,3 +118,11 @@ filter_among test (x ∷ xs) q = elim (eqb_tells x q) [
   | inl own ↦ grind (arith, own, ap test own.1, filter_among test xs q)
   | inr other ↦ grind (arith, other, filter_among test xs q)
 ]
+
+-- tests that agree on the members
+pub filter_alike : (test other : ℕ → Bool) (xs : List ℕ) → ((q : ℕ) → is_among q xs ≡ true → test q ≡ other q) → filter test xs ≡ filter other xs
+filter_alike test other [] same = refl
+filter_alike test other (x ∷ xs) same =
+    let rest : filter test xs ≡ filter other xs = filter_alike test other xs (λ q among. same q (grind (arith, among))) in
+    let here : test x ≡ other x = same x (grind (arith, eqb_tells x x)) in
+    ap (λ ys. cond (test x) (x ∷ ys) ys) rest ∙ ap (λ b. cond b (x ∷ filter other xs) (filter other xs)) here

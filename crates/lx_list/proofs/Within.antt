@@ -8,12 +8,12 @@ use Rattle.lx_trees.specs.Siblings.{is_among, NoRepeats, first_of}
 use Rattle.lx_trees.proofs.NamedTrees.{count-without-alone}
 use Rattle.lx_trees.proofs.Subtrees.{alone-alone}
 use Rattle.lx_forest.specs.Forest.{Forest}
-use Rattle.lx_forest.specs.Lookups.{key_of, has, ancestors, is_attached, keys_within, from, behind, depth, IsForest}
-use Rattle.lx_forest.proofs.Walks.{NoRepeats-preorder_of}
+use Rattle.lx_forest.specs.Lookups.{key_of, has, parent_of, ancestors, is_attached, keys_within, from, behind, depth, IsForest}
+use Rattle.lx_forest.proofs.Walks.{NoRepeats-preorder_of, ancestors-step, ancestors-top}
 use Rattle.lx_forest.proofs.Within.{is_within-ancestors}
 use Rattle.lx_forest.proofs.Up.{attached_above}
 use Rattle.lx_links.specs.Stands.{Sound}
-use Rattle.lx_links.proofs.Up.{in_order_at}
+use Rattle.lx_links.proofs.Up.{in_order, in_order_at}
 use Rattle.lx_links.proofs.Ordered.{there_within}
 use Rattle.lx_blocks.specs.Places.{until}
 use Rattle.lx_blocks.specs.Walks.{left_from, key_of_step}
@@ -63,6 +63,17 @@ above_attached test f k b s attached e =
     let there : has k f ≡ true = there_within f 0 k attached in
     let h : IsForest f = in_order_at f k s there in
     attached_above f b k h attached (is_within-ancestors f b k h there ∙ more_among k b (ancestors f k) (found_among test (ancestors f k) b e))
+
+pub found_attached : (test : ℕ → Bool) (o : Option ℕ) (f : Forest) (k : ℕ) → Sound f → is_attached f k ≡ true → o ≡ find test (ancestors f k) → IfSome o (λ b. is_attached f b ≡ true)
+found_attached test None f k s attached e = tt
+found_attached test (Some b) f k s attached e = above_attached test f k b s attached (sym e)
+
+-- the way up begins with the parent
+pub find_above : (test : ℕ → Bool) (f : Forest) (q p : ℕ) → Sound f → parent_of f q ≡ Some p → find test (ancestors f q) ≡ find test (p ∷ ancestors f p)
+find_above test f q p s up = ap (find test) (ancestors-step f q p (in_order f q p s up) up)
+
+pub find_none_above : (test : ℕ → Bool) (f : Forest) (q : ℕ) → parent_of f q ≡ None → find test (ancestors f q) ≡ None
+find_none_above test f q top = ap (find test) (ancestors-top f q top)
 
 -- what is attached has a depth
 pub depth_known : (f : Forest) (q : ℕ) → is_attached f q ≡ true → depth f q ≢ None

@@ -1,16 +1,22 @@
 -- What an outline is once the events between two trees were followed, and how many reads that took.
-use Rattle.std.proofs.Common.{◌≡◌, ◌∙◌, ℕ, ◌+◌, ◌-◌, ◌<◌, ◌≤◌, List, ap, arith}
+use Rattle.std.proofs.Common.{◌≡◌, ◌∙◌, ℕ, ◌+◌, ◌-◌, ◌<◌, ◌≤◌, true, cond, nat_eq, List, None, ap, arith}
+use Rattle.std.specs.Prelude.{sum_by}
+use Rattle.std.specs.Map.{lookup}
 use Rattle.lx_node.specs.Limits.{most_nodes, most_characters}
 use Rattle.lx_trees.specs.NamedTrees.{total}
+use Rattle.lx_trees.specs.Siblings.{is_among}
 use Rattle.lx_forest.specs.Forest.{Label, Forest}
 use Rattle.lx_forest.specs.Weights.{weight, own_weight}
 use Rattle.lx_links.specs.Stands.{Sound}
 use Rattle.lx_outline.specs.declared.event.Event.{Event}
-use Rattle.lx_outline.specs.Events.{IsSame, AreEvents}
-use Rattle.lx_outline.specs.Outline.{characters_in}
-use Rattle.lx_outline.specs.Reading.{one_in, weight_among}
-use Rattle.lx_outline.proofs.Followed.{AreFollowed, followed}
-use Rattle.lx_outline.proofs.Weighed.{old_part, new_part, weights_follow, total_weight}
+use Rattle.lx_outline.specs.declared.headings.Heading.{Heading}
+use Rattle.lx_outline.specs.Events.{IsSame, ascends, AreEvents}
+use Rattle.lx_outline.specs.Outline.{characters_in, heading_at}
+use Rattle.lx_outline.specs.Reading.{one_in, weight_among, is_named_in, heading_reads, is_over_one, is_changed, headings_size}
+use Rattle.lx_outline.proofs.FewReads.{few_reads}
+use Rattle.lx_outline.proofs.Followed.{AreFollowed, followed, once_ascending}
+use Rattle.lx_outline.proofs.Renewed.{headings_follow}
+use Rattle.lx_outline.proofs.Weighed.{old_part, new_part, weights_follow, same_one_weight, same_text_weight, total_weight}
 
 -- two trees that were read, with the events between them
 pub record AreBetween (old new : Forest) (events : List Event) : Type 0 where
@@ -56,3 +62,52 @@ module _ (old new : Forest) (events : List Event) (b : AreBetween old new events
   whole : (of : Label → ℕ) → ((q : ℕ) → IsSame old new q → own_weight of old q ≡ own_weight of new q)
       → weight of old + weight_among of new events ≡ weight of new + weight_among of old events
   whole of same = weights_follow old new events b.before b.after b.told of same
+
+  -- the number of nodes, and that of characters
+  pub nodes_moved : (f g : Forest) (was gone come : ℕ) → f ≡ old → g ≡ new → total old ≤ most_nodes → total new ≤ most_nodes
+      → was ≡ total old → gone ≡ weight_among one_in f events → come ≡ weight_among one_in g events → IsMoved was gone come (total new)
+  nodes_moved f g was gone come at_old at_new few many is going coming =
+      let all = whole one_in (same_one_weight old new) in
+      let before : gone ≡ weight_among one_in old events = going ∙ ap (λ f. weight_among one_in f events) at_old in
+      let after : come ≡ weight_among one_in new events = coming ∙ ap (λ f. weight_among one_in f events) at_new in
+      record {
+        fits = omega (arith, is, after, few, few_new many);
+        enough = omega (arith, is, before, after, all, total_weight old);
+        left = omega (arith, is, before, after, all, total_weight old, total_weight new);
+      }
+
+  pub characters_moved : (f g : Forest) (was gone come : ℕ) → f ≡ old → g ≡ new → weight characters_in old ≤ most_characters → weight characters_in new ≤ most_characters
+      → was ≡ weight characters_in old → gone ≡ weight_among characters_in f events → come ≡ weight_among characters_in g events → IsMoved was gone come (weight characters_in new)
+  characters_moved f g was gone come at_old at_new short long is going coming =
+      let all = whole characters_in (same_text_weight old new) in
+      let before : gone ≡ weight_among characters_in old events = going ∙ ap (λ f. weight_among characters_in f events) at_old in
+      let after : come ≡ weight_among characters_in new events = coming ∙ ap (λ f. weight_among characters_in f events) at_new in
+      record {
+        fits = omega (arith, is, after, short, short_new long);
+        enough = omega (arith, is, before, after, all);
+        left = omega (arith, is, before, after, all);
+      }
+
+  -- the headings, of which those that have a node of an event are read anew
+  pub headings_are : (f g : Forest) (touched keys : List ℕ) (was left is : List (ℕ × Heading)) → f ≡ new → g ≡ new → keys ≡ touched
+      → ((q : ℕ) → is_among q touched ≡ is_over_one f events q)
+      → ((q : ℕ) → lookup (nat_eq q) was ≡ heading_at old q)
+      → ((q : ℕ) → lookup (nat_eq q) left ≡ cond (is_named_in events q) None (lookup (nat_eq q) was))
+      → ((q : ℕ) → lookup (nat_eq q) is ≡ cond (is_among q keys) (heading_at g q) (lookup (nat_eq q) left))
+      → (q : ℕ) → lookup (nat_eq q) is ≡ heading_at new q
+  headings_are f g touched keys was left is at_f at_g same over outline forgotten renewed =
+      headings_follow old new events b.before b.after b.told was left is (λ q. is_among q keys) outline forgotten
+      (λ q. ap (is_among q) same ∙ over q ∙ ap (λ f. is_over_one f events q) at_f)
+      (λ q. renewed q ∙ ap (λ g. cond (is_among q keys) (heading_at g q) (lookup (nat_eq q) left)) at_g)
+
+  -- what these take
+  pub reads_within : (f g : Forest) (touched keys : List ℕ) → f ≡ new → g ≡ new → keys ≡ touched
+      → ((q : ℕ) → is_among q touched ≡ is_over_one f events q) → ascends touched ≡ true
+      → sum_by (heading_reads g) keys ≤ headings_size (is_changed events) new
+  reads_within f g touched keys at_f at_g same over rising =
+      omega (
+        arith,
+        ap (λ ks. sum_by (heading_reads g) ks) same,
+        ap (λ g. sum_by (heading_reads g) touched) at_g,
+        few_reads old new events b.after b.told touched (once_ascending touched rising) (λ q. over q ∙ ap (λ f. is_over_one f events q) at_f),
+      )

@@ -1,11 +1,11 @@
 -- A walk through the tree that lists its headings.
-use Rattle.std.proofs.Common.{◌≡◌, ◌∙◌, ℕ, true, false, List, [], ◌++◌, Option, sym, ap, arith}
+use Rattle.std.proofs.Common.{◌≡◌, ◌∙◌, ℕ, true, false, List, [], ◌++◌, Option, Some, sym, ap, arith}
 use Rattle.std.proofs.lemmas.Bool.Decides.{nat_tests}
 use Rattle.lx_trees.specs.NamedTrees as named
 use Rattle.lx_trees.proofs.NamedTrees.{alone-absent}
 use Rattle.lx_forest.specs.Forest.{Forest}
-use Rattle.lx_forest.specs.Lookups.{key_of, has, from, preorder}
-use Rattle.lx_forest.proofs.Walks.{from-root}
+use Rattle.lx_forest.specs.Lookups.{key_of, has, depth, from, preorder}
+use Rattle.lx_forest.proofs.Walks.{from-root, depth-root}
 use Rattle.lx_links.specs.Stands.{Sound}
 use Rattle.lx_links.proofs.Up.{in_order_at}
 use Rattle.lx_outline.specs.declared.headings.Entry.{Entry}
@@ -14,6 +14,9 @@ use Rattle.lx_outline.specs.Reading.{left_from, IsAt}
 
 pub first_left : (f : Forest) (root : ℕ) → root ≡ 0 → Sound f → has root f ≡ true → from f root ≡ preorder f
 first_left f root is s there = ap (from f) is ∙ from-root f (in_order_at f root s there)
+
+pub first_deep : (f : Forest) (root : ℕ) → root ≡ 0 → Sound f → has root f ≡ true → depth f root ≡ Some 0
+first_deep f root is s there = ap (depth f) is ∙ depth-root f (in_order_at f root s there)
 
 pub none_left : (f : Forest) (root : ℕ) → root ≡ 0 → has root f ≡ false → [] ≡ preorder f
 none_left f root is out =

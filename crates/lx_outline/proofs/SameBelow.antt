@@ -8,7 +8,7 @@ use Rattle.lx_trees.specs.Spots.{children_at}
 use Rattle.lx_trees.specs.Trees.{nil, tree, joined}
 use Rattle.lx_trees.specs.NamedTrees.{total}
 use Rattle.lx_forest.specs.Forest.{Label, Forest}
-use Rattle.lx_forest.specs.Lookups.{has, parent_of, children_of, alone, trees_of, is_within, IsForest}
+use Rattle.lx_forest.specs.Lookups.{has, kind_of, parent_of, children_of, alone, trees_of, is_within, IsForest}
 use Rattle.lx_forest.proofs.Edits.{key-spot}
 use Rattle.lx_forest.proofs.Lookups.{alone-spot, has-child, parent_of-self}
 use Rattle.lx_forest.proofs.Walks.{total-alone-lt}
@@ -17,6 +17,7 @@ use Rattle.lx_links.specs.Stands.{Sound}
 use Rattle.lx_links.proofs.Placed.{parent_of-child}
 use Rattle.lx_links.proofs.Up.{in_order_at}
 use Rattle.lx_outline.specs.Events.{IsSame}
+use Rattle.lx_outline.specs.Outline.{text_of, heading_by, heading_at}
 use Rattle.lx_outline.proofs.HeadingText.{IsThere, is_there}
 
 label_same : (x y : Label) → x.key ≡ y.key → x.kind ≡ y.kind → x.fields ≡ y.fields → x ≡ y
@@ -64,3 +65,8 @@ module _ (old new : Forest) (before : Sound old) (after : Sound new) where
       ∙ ap (λ l. tree l (trees_of new (children_of new q)) nil) (same_label old new q x y own.1)
       ∙ ap (λ t. tree x.at.label t nil) (below ∙ ap (trees_of old) (sym own.1.children))
       ∙ sym (tree_at old q x (in_order_at old q before own.0))
+
+  pub heading_kept : (q : ℕ) → has q new ≡ true → ((r : ℕ) → is_within new q r ≡ true → IsKept old new r) → heading_at old q ≡ heading_at new q
+  heading_kept q there kept =
+      ap (λ o. heading_by o (text_of (alone q old))) (kept q (is_within-self new q ∙ there)).1.kind
+      ∙ ap (λ t. heading_by (kind_of new q) (text_of t)) (sym (same_by (total (alone q new) + 1) q (omega arith) there kept))

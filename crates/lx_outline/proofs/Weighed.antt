@@ -9,7 +9,7 @@ use Rattle.lx_trees.specs.Siblings.{is_among}
 use Rattle.lx_trees.specs.Trees.{nil, tree}
 use Rattle.lx_node.specs.declared.fields.Fields.{Fields}
 use Rattle.lx_forest.specs.Forest.{Label, Forest}
-use Rattle.lx_forest.specs.Lookups.{has}
+use Rattle.lx_forest.specs.Lookups.{has, label_of}
 use Rattle.lx_forest.specs.Weights.{weight, weight_in, own_weight}
 use Rattle.lx_links.specs.Stands.{Sound}
 use Rattle.lx_outline.specs.declared.event.Event.{Event}
@@ -30,6 +30,21 @@ by_fields : (o : Option Label) → weight_in characters_in o ≡ text_weight (op
 unfolding text_weight
 by_fields None = refl
 by_fields (Some l) = refl
+
+pub same_text_weight : (old new : Forest) (q : ℕ) → IsSame old new q → own_weight characters_in old q ≡ own_weight characters_in new q
+same_text_weight old new q same = by_fields (label_of old q) ∙ ap text_weight same.fields ∙ sym (by_fields (label_of new q))
+
+one_weight : Option Fields → ℕ
+one_weight None = 0
+one_weight (Some own) = 1
+
+by_presence : (o : Option Label) → weight_in one_in o ≡ one_weight (option_map (λ (l : Label). l.fields) o)
+unfolding one_weight
+by_presence None = refl
+by_presence (Some l) = refl
+
+pub same_one_weight : (old new : Forest) (q : ℕ) → IsSame old new q → own_weight one_in old q ≡ own_weight one_in new q
+same_one_weight old new q same = by_presence (label_of old q) ∙ ap one_weight same.fields ∙ sym (by_presence (label_of new q))
 
 pub total_weight : (f : Forest) → total f ≡ weight one_in f
 total_weight nil = refl

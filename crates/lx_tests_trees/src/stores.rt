@@ -180,6 +180,22 @@ fn a_fork_differs_where_it_was_written(rt: HostRuntime) -> Result<(), Fail> {
     Ok(())
 }
 
+/// Where a store differs from its fork, out of which the last key of all was taken.
+fn differences_far(alloc: Global) -> Result<Vec<Key>, NoMemory> {
+    let mut count = Copies::new();
+    let store = three(alloc, &mut count)?;
+    let mut fork = store.fork(&mut count)?;
+    let _taken = fork.take(Key(u32::MAX), &mut count)?;
+    differences(alloc, &store, &fork)
+}
+
+#[test]
+fn a_far_key_is_found(rt: HostRuntime) -> Result<(), Fail> {
+    let keys = differences_far(rt.alloc())?;
+    assert_eq!(rt; keys.as_slice(), [Key(u32::MAX)].as_slice());
+    Ok(())
+}
+
 fn keys_of_three(alloc: Global) -> Result<Vec<Key>, NoMemory> {
     let store = three(alloc, &mut Copies::new())?;
     store.keys()
