@@ -1,66 +1,36 @@
 -- A piece of a text is in it by its characters just where it does by its bytes.
-use Rattle.std.proofs.Common.{◌≡◌, ◌∙◌, ℕ, get_or, ◌==◌, ◌↔◌, Bool, true, false, ◌&&◌, ◌||◌, List, [], ◌∷◌, ◌++◌, length, take, refl, sym, ap, subst, None, encode_utf8_all, IsUtf8, arith, length-append}
-use Rattle.std.specs.Bool.{MatchBool}
+use Rattle.std.proofs.Common.{◌≡◌, ◌∙◌, ℕ, get_or, ◌↔◌, Bool, true, List, [], ◌∷◌, ◌++◌, length, take, refl, sym, ap, subst, None, encode_utf8_all, IsUtf8, arith, length-append, ◌⊎◌, inl, inr}
+use Rattle.std.specs.Bool.{Decides, MatchBool}
 use Rattle.std.specs.Str.{chars, IsCharBoundary}
 use Rattle.std.specs.Str.Iter.{HasSubslice}
 use Rattle.std.specs.Str.Pattern.{FindsText, HasMatch}
 use Rattle.std.proofs.Math.Seq.{take-append_seam, get_or-append_seam}
-use Rattle.std.proofs.lemmas.Bool.Decides.{Decides-eqb, Decides-and}
+use Rattle.std.proofs.lemmas.Bool.Decides.{Decides-eqb, Decides-and, Decides-or, Decides-like, same_from_decides}
 use Rattle.std.proofs.lemmas.Str.{chars-nil, chars-append, encodes-append, encodes-chars, IsCharBoundary-start, IsUtf8-take}
 use Rattle.std.proofs.lemmas.Str.Pattern.{contains_text}
 use Rattle.lx_rules.specs.Pieces.{begins, has_piece}
 
 -- ---- the test says whether the text is something, the piece, and something
 
-begins-told : (piece text : List ℕ) → begins piece text ≡ true → (back : List ℕ) × (text ≡ piece ++ back)
-begins-told [] text e = (text, refl)
-begins-told (p ∷ piece) [] e = absurd (cc)
-begins-told (p ∷ piece) (c ∷ text) e =
-    let parts = (Decides-and _ _ (Decides-eqb p c) (λ (h : begins piece text ≡ true). h, λ (h : begins piece text ≡ true). h)).0 e in
-    let rest = begins-told piece text parts.1 in
-    (rest.0, ap (λ x. x ∷ text) (sym parts.0) ∙ ap (λ xs. p ∷ xs) rest.1)
+begins_tells : (piece text : List ℕ) → Decides (begins piece text) ((back : List ℕ) × (text ≡ piece ++ back))
+begins_tells [] text = (λ e. (text, refl), λ h. refl)
+begins_tells (p ∷ piece) [] = (λ e. absurd (cc), λ h. absurd (cc h.1))
+begins_tells (p ∷ piece) (c ∷ text) =
+    Decides-like _ (λ h. (h.1.0, cc (h.0, h.1.1))) (λ h. (cc h.1, (h.0, cc h.1))) (Decides-and _ _ (Decides-eqb p c) (begins_tells piece text))
 
-told-here : (piece text : List ℕ) → begins piece text ≡ true → HasSubslice text piece
-told-here piece text e = let rest = begins-told piece text e in ([], rest.0, rest.1)
+in_none : (piece front back : List ℕ) → [] ≡ front ++ (piece ++ back) → (rest : List ℕ) × ([] ≡ piece ++ rest)
+in_none piece [] back e = (back, e)
+in_none piece (x ∷ front) back e = absurd (cc)
 
-told-behind : (piece text : List ℕ) (c : ℕ) → HasSubslice text piece → HasSubslice (c ∷ text) piece
-told-behind piece text c h = (c ∷ h.0, h.1, ap (λ xs. c ∷ xs) h.2)
+in_some : (piece front back text : List ℕ) (c : ℕ) → (c ∷ text) ≡ front ++ (piece ++ back) → ((rest : List ℕ) × ((c ∷ text) ≡ piece ++ rest)) ⊎ HasSubslice text piece
+in_some piece [] back text c e = inl (back, e)
+in_some piece (x ∷ front) back text c e = inr (front, back, cc)
 
-either : (a b : Bool) {P : Type 0} → (a ≡ true → P) → (b ≡ true → P) → (a || b) ≡ true → P
-either true b f g e = f refl
-either false b f g e = g e
-
-pub has_piece-told : (piece text : List ℕ) → has_piece piece text ≡ true → HasSubslice text piece
-has_piece-told piece [] e = told-here piece [] e
-has_piece-told piece (c ∷ text) e =
-    either (begins piece (c ∷ text)) (has_piece piece text) (told-here piece (c ∷ text)) (λ h. told-behind piece text c (has_piece-told piece text h)) e
-
-and : (a b : Bool) → a ≡ true → b ≡ true → (a && b) ≡ true
-and true b e h = h
-and false b e h = absurd (cc)
-
-or_left : (a b : Bool) → a ≡ true → (a || b) ≡ true
-or_left true b e = refl
-or_left false b e = absurd (cc)
-
-or_right : (a b : Bool) → b ≡ true → (a || b) ≡ true
-or_right true b e = refl
-or_right false b e = e
-
-begins-found : (piece back : List ℕ) → begins piece (piece ++ back) ≡ true
-begins-found [] back = refl
-begins-found (p ∷ piece) back = and (p == p) _ ((Decides-eqb p p).1 refl) (begins-found piece back)
-
-found-here : (piece text : List ℕ) → begins piece text ≡ true → has_piece piece text ≡ true
-found-here piece [] e = e
-found-here piece (c ∷ text) e = or_left _ _ e
-
-found : (piece front back : List ℕ) → has_piece piece (front ++ (piece ++ back)) ≡ true
-found piece [] back = found-here piece (piece ++ back) (begins-found piece back)
-found piece (c ∷ front) back = or_right _ _ (found piece front back)
-
-pub has_piece-found : (piece text : List ℕ) → HasSubslice text piece → has_piece piece text ≡ true
-has_piece-found piece text h = ap (has_piece piece) h.2 ∙ found piece h.0 h.1
+has_piece_tells : (piece text : List ℕ) → Decides (has_piece piece text) (HasSubslice text piece)
+has_piece_tells piece [] = Decides-like _ (λ h. ([], h.0, h.1)) (λ h. in_none piece h.0 h.1 h.2) (begins_tells piece [])
+has_piece_tells piece (c ∷ text) =
+    Decides-like _ (λ s. elim s [ inl h ↦ ([], h.0, h.1) | inr h ↦ (c ∷ h.0, h.1, ap (λ xs. c ∷ xs) h.2) ]) (λ h. in_some piece h.0 h.1 text c h.2)
+    (Decides-or _ _ (begins_tells piece (c ∷ text)) (has_piece_tells piece text))
 
 -- ---- bytes and characters
 
@@ -93,11 +63,6 @@ bytes_piece bytes piece whole part h = (
 
 -- ---- over the answer of std's search, which is about bytes
 
-same_answers : (a b : Bool) → (a ≡ true → b ≡ true) → (b ≡ true → a ≡ true) → a ≡ b
-same_answers true b f g = sym (f refl)
-same_answers false true f g = g refl
-same_answers false false f g = refl
-
 module _ (r : Bool) (piece bytes : List ℕ) (answer : MatchBool r (HasMatch (FindsText piece) bytes) (FindsText piece bytes None)) (whole : IsUtf8 bytes) (part : IsUtf8 piece) where
   pub piece_told : (r ≡ true) ↔ HasSubslice (chars bytes) (chars piece)
   piece_told =
@@ -105,5 +70,4 @@ module _ (r : Bool) (piece bytes : List ℕ) (answer : MatchBool r (HasMatch (Fi
       (λ e. chars_piece bytes piece whole part (told.0 e), λ h. told.1 (bytes_piece bytes piece whole part h))
 
   pub piece_same : r ≡ has_piece (chars piece) (chars bytes)
-  piece_same =
-      same_answers r _ (λ e. has_piece-found (chars piece) (chars bytes) (piece_told.0 e)) (λ e. piece_told.1 (has_piece-told (chars piece) (chars bytes) e))
+  piece_same = same_from_decides r _ piece_told (has_piece_tells (chars piece) (chars bytes))

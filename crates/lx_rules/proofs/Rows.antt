@@ -4,7 +4,7 @@ use Rattle.std.proofs.Math.Pow.{shl_exact}
 use Rattle.std.proofs.lemmas.Bool.Decides.{Decides-eqb, nat_tests}
 use Rattle.std.proofs.lemmas.Nat.Bits.{bit_at-zero, bit_at-pow_same, bit_at-pow_other}
 use Rattle.lx_node.specs.declared.kind.Kind.{Kind}
-use Rattle.lx_node.specs.declared.kind.Kind.TheVariants.{Root, Paragraph, Heading, Quote, List as ListKind, Item, Link, Table, Row, Cell, Text, Tab, Break, Rule, Embed}
+use Rattle.lx_node.specs.declared.kind.Kind.TheVariants.{Root}
 use Rattle.lx_step.specs.Types.{row_of}
 use Rattle.lx_rules.specs.Types.{is_on, set_of_row}
 
@@ -17,21 +17,7 @@ no_bit row k beyond within = ap (λ n. n == 1) (bit_at-zero k) ∙ grind (arith,
 
 pub row_within : (kind : Kind) → row_of kind < 15
 unfolding row_of
-row_within Root = omega arith
-row_within Paragraph = omega arith
-row_within (Heading level) = omega arith
-row_within Quote = omega arith
-row_within (ListKind type) = omega arith
-row_within Item = omega arith
-row_within Link = omega arith
-row_within Table = omega arith
-row_within Row = omega arith
-row_within Cell = omega arith
-row_within Text = omega arith
-row_within Tab = omega arith
-row_within Break = omega arith
-row_within Rule = omega arith
-row_within Embed = omega arith
+row_within kind = elim kind as (λ k. row_of k < 15) [ Root ↦ omega arith | _ ↦ omega arith ]
 
 of_row : (row : ℕ) (kind : Kind) (b : Bool) → nat_lt row 15 ≡ b → is_on (if b then 2 ^ row else 0) kind ≡ (row == row_of kind)
 of_row row kind true e = one_bit row (row_of kind) _ refl

@@ -3,6 +3,5 @@ pub mod AnyRules
 pub mod Answers
 pub mod Idle
 pub mod Pieces
-pub mod SeenExtra
-pub mod SeenFields
+pub mod Places
 pub mod Types

@@ -1,16 +1,14 @@
-ghost use Rattle.std.specs.Prelude.{◌≡◌, not};
+ghost use Rattle.std.specs.Prelude.{◌≡◌};
 ghost use Rattle.std.specs.List.{list_all, list_any};
 ghost use Rattle.lx_node.specs.Kinds as kinds;
 ghost use Rattle.lx_node.specs.OfKind as of_kind;
-ghost use Rattle.lx_node.specs.Same.{same_fields};
 ghost use Rattle.lx_step.specs.Patches as patches;
-ghost use Rattle.lx_step.specs.Patches.{with_members};
 ghost use Rattle.lx_rules.specs.Idle as idles;
 ghost use Rattle.lx_rules.specs.Types as types;
 
-use crate::seen_fields::FieldsSeen;
+use crate::changes::differs;
 use crate::types::{is_kind, same_kind};
-use lx_node::{Fields, Kind, Txt, View};
+use lx_node::{Kind, Txt, View};
 use lx_step::{Member, NewNode, Patch, SelfEdit};
 
 #[tactic(auto, unfolding(crate::specs::Idle::is_root))]
@@ -92,15 +90,6 @@ fn are_in_range(members: &[Member]) -> bool
     ensures { result ≡ list_all patches.is_in_range members.now }
 {
     members.iter().all(|member| is_in_range(member))
-}
-
-/// Whether writing members into fields, in their order, changes these. It writes only in thought, and takes no memory.
-fn differs<'a>(fields: &'a Fields, members: &'a [Member]) -> bool
-    ensures { result ≡ not (same_fields (with_members members.now fields.now) fields.now) }
-{
-    let mut seen = FieldsSeen::of(fields);
-    seen.write_all(members);
-    !seen.is(fields)
 }
 
 /// Whether the numbers of a patch are within their ranges, it is one of the view's kind and it changes the fields. It

@@ -4,11 +4,9 @@
 
 mod any_rule;
 mod built_in;
+mod changes;
 mod conditions;
 mod idling;
-mod same_parts;
-mod seen_fields;
-mod seen_parts;
 mod transform;
 mod types;
 

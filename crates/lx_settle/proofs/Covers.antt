@@ -7,7 +7,7 @@ use Rattle.lx_draft.specs.Working.{Working}
 use Rattle.lx_draft.specs.Faults.{after}
 use Rattle.lx_draft.specs.Rounds.{round_by}
 use Rattle.lx_draft.specs.Covering.{Covers, IsReady, AreCovered}
-use Rattle.lx_draft.proofs.Covered.{new_then}
+use Rattle.lx_draft.proofs.Covered.{covers-then, new_then}
 use Rattle.lx_edit.specs.InTurn.{in_turn}
 use Rattle.lx_rules.specs.Answers.{Answers}
 use Rattle.lx_settle.specs.Acting.{rules_step}
@@ -18,20 +18,9 @@ use Rattle.lx_settle.proofs.Carried.{IsCarried}
 use Rattle.lx_settle.proofs.Rest.{acts_are_marked}
 use Rattle.lx_settle.proofs.Turned.{IsTurn, rules_turned, leaf_turned}
 
-covers_then : (f g h : Forest) (m n o : Marked) → Covers f m g n → Covers g n h o → Covers f m h o
-covers_then f g h m n o a b = record {
-  touched = λ q e. b.touched q (a.touched q e);
-  noted = λ q e. b.noted q (a.noted q e);
-  seen = λ q. elim (b.seen q) [
-    | inl later ↦ elim (a.seen q) [ inl same ↦ inl (later.0 ∙ same.0, later.1 ∙ same.1) | inr new ↦ inr (b.touched q new) ]
-    | inr new ↦ inr new
-  ];
-  above = λ up. b.above (a.above up);
-}
-
 marked_then : (u v w : Working) → AreMarked u v → IsCarried v w → AreMarked u w
 marked_then u v w a c = record {
-  marks = covers_then u.forest v.forest w.forest u.marks v.marks w.marks a.marks c.covered.marks;
+  marks = covers-then u.forest v.forest w.forest u.marks v.marks w.marks a.marks c.covered.marks;
   kinds = record { each = λ q kind e. c.covered.kinds.each q kind (a.kinds.each q kind e) };
   keys = new_then u v w a.keys c.covered.keys;
   ready = c.covered.ready;

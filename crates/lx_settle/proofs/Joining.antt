@@ -30,6 +30,7 @@ use Rattle.lx_settle.proofs.Turned.{rules_turned, leaf_turned}
 use Rattle.lx_settle.proofs.Acted.{next_attached, join_carried}
 use Rattle.lx_settle.proofs.Rest.{acts_are_marked}
 use Rattle.lx_settle.proofs.JoinStep.{IsJoinedAt, join_stood, apart_behind, apart_before, simple_kind}
+use Rattle.lx_settle.proofs.Settled.{no_leaf}
 
 -- ---- the invariant
 
@@ -265,10 +266,7 @@ none_pending : (w : Working) (q : ℕ) (t : TextFields) → w.fresh.leaves ≡ [
 none_pending w q t leaves s is p = elim p [
   | inl among ↦ cc
   | inr touched ↦ no_element w.forest w.fresh q t s is (no_leaf w.fresh.leaves (is_true_flag (flag_in w.fresh.elements q)) q leaves touched)
-] where
-  no_leaf : (xs : List ℕ) (b : Bool) (q : ℕ) → xs ≡ [] → (is_among q xs || b) ≡ true → b ≡ true
-  no_leaf [] b q is e = e
-  no_leaf (x ∷ xs) b q is e = absurd (cc)
+]
 
 full_now : (w : Working) (q : ℕ) → w.fresh.leaves ≡ [] → IsJoining [] w → is_attached w.forest q ≡ true → is_empty_text (simple_at w.forest q) ≡ false
 full_now w q leaves j there = elim (j.full q there) [ inl full ↦ full | inr pending ↦ by_text (simple_at w.forest q) refl pending ] where

@@ -1,3 +1,4 @@
+pub mod Tests
 pub mod Seen
 pub mod Carried
 pub mod Turned

@@ -10,25 +10,13 @@ use Rattle.lx_step.specs.declared.rule.SelfEdit.TheVariants.{Replace, Wrap, Befo
 use Rattle.lx_rules.specs.Types.{is_kind, same_kind}
 use Rattle.lx_rules.specs.Idle.{is_root, is_held, is_suited, may_stand}
 use Rattle.lx_settle.specs.Acting.{CanBeMade, has_work_at}
+use Rattle.lx_settle.proofs.Tests.{first_of, second_of}
 
 -- nothing holds a root
 no_root_inside : (outer : Kind) → may_hold outer Root ≡ false
 unfolding may_hold is_block is_inline is_paragraph is_heading is_list is_item is_link is_row is_cell
 no_root_inside Root = refl
-no_root_inside Paragraph = refl
-no_root_inside (Heading level) = refl
-no_root_inside Quote = refl
-no_root_inside (ListKind type) = refl
-no_root_inside Item = refl
-no_root_inside Link = refl
-no_root_inside Table = refl
-no_root_inside Row = refl
-no_root_inside Cell = refl
-no_root_inside Text = refl
-no_root_inside Tab = refl
-no_root_inside Break = refl
-no_root_inside Rule = refl
-no_root_inside Embed = refl
+no_root_inside outer = refl
 
 inside_other : (outer inner : Kind) → may_hold outer inner ≡ true → inner ≢ Root
 inside_other outer inner e = λ root.
@@ -38,12 +26,6 @@ inside_other outer inner e = λ root.
 held_other : (outer : Option Kind) (inner : Kind) → is_held outer inner ≡ true → inner ≢ Root
 held_other None inner e = absurd (cc)
 held_other (Some outer) inner e = inside_other outer inner e
-
-first_of : (a b : Bool) → (a && b) ≡ true → a ≡ true
-first_of a b e = grind (arith, e)
-
-second_of : (a b : Bool) → (a && b) ≡ true → b ≡ true
-second_of a b e = grind (arith, e)
 
 stands_made : (v : View) (new : NewNode) (rest : Bool) → (may_stand v new && rest) ≡ true → CanBeMade new
 stands_made v new rest e =

@@ -27,6 +27,7 @@ use Rattle.lx_draft.specs.Beside.{before_at, put_before_step, behind_at, put_beh
 use Rattle.lx_draft.specs.Covering.{IsReady}
 use Rattle.lx_draft.proofs.Put.{both_none, can_put}
 use Rattle.lx_draft.proofs.Covered.{answered}
+use Rattle.lx_draft.proofs.Gaps.{parent_here}
 use Rattle.lx_draft.proofs.Touched.{is_some-kind_of}
 use Rattle.lx_edit.specs.InTurn.{in_turn}
 use Rattle.lx_edit.specs.Conditions.{misfit_among, children_fault}
@@ -47,13 +48,10 @@ below_root f k q h below root = let both : ◌≡◌ {A = Option ℕ} None (Some
 out_of : (a b : Bool) → a ≡ false → (a && b) ≡ false
 out_of a b e = grind (arith, e)
 
-has-below : (f : Forest) (k q : ℕ) → parent_of f k ≡ Some q → has k f ≡ true
-has-below f k q below = has-child f k q below
-
 pub can_move : (f : Forest) (k p q : ℕ) → IsForest f → parent_of f k ≡ Some q → has p f ≡ true → is_within f k p ≡ false → CanPut p k (take_out k f)
 can_move f k p q h below there apart = record {
   other = below_root f k q h below;
-  there = has-taken f k k h (has-below f k q below);
+  there = has-taken f k k h (has-child f k q below);
   detached = parent_of-take_out k f k h ∙ grind (arith, eqb_tells k k);
   parent = has-taken f k p h there;
   outside = is_within-take_out k f k p h ∙ out_of (is_within f k p) _ apart;
@@ -203,13 +201,6 @@ apart_child f from to c h apart below =
       within_parent f from c h below =
           is_within-up f from c from h below (λ same. grind (arith, parent_of-self f c h, below, same, eqb_tells from c)) ∙ is_within-self f from ∙ has-parent_of f c from below
 
--- the children of one element go to another
-pub child_parent : (f : Forest) (k c : ℕ) → IsForest f → is_among c (children_of f k) ≡ true → parent_of f c ≡ Some k
-child_parent f k c h among = elim (is_named_tells (parent_of f c) k) [
-  | inl named ↦ named.1
-  | inr other ↦ absurd (grind (arith, among, other.0, is_among-children_of f c k h))
-]
-
 pub not_own_child : (f : Forest) (k : ℕ) → IsForest f → is_among k (children_of f k) ≡ false
 not_own_child f k h = is_among-children_of f k k h ∙ parent_of-self f k h
 
@@ -234,7 +225,7 @@ children_exhausts from to w r m =
     (rw (m.from_there, m.to_there, m.from_element, m.to_element, m.apart) (misfits_none w.forest (kind_of w.forest to) (children_of w.forest from) m.fits))
     (exhausts_then (in_turn (moved_to_end to) (children_of w.forest from) w) (λ v. Ok (brought from to (size_of w.forest to) (ends_of w.selection) v))
     (all_end from to (children_of w.forest from) w r (NoRepeats-children_of w.forest from r.in_order) m.to_there (λ c among.
-    let below = child_parent w.forest from c r.in_order among in
+    let below = parent_here w.forest from c r.in_order among in
     record { below = below; apart = apart_child w.forest from to c r.in_order m.apart below; fits = m.fits c among }))
     (λ u e. exhausts_ok (brought from to (size_of w.forest to) (ends_of w.selection) u)))
 

@@ -10,6 +10,7 @@ use Rattle.lx_forest.proofs.Lookups.{is_among-children_of, NoRepeats-children_of
 use Rattle.lx_forest.proofs.Siblings.{parent_of-next, parent_of-previous}
 use Rattle.lx_forest.proofs.Walks.{cases_option}
 use Rattle.lx_settle.proofs.Owned.{top_root}
+use Rattle.lx_draft.proofs.Gaps.{child_of}
 
 -- two children of one node
 pub record AreSiblings (f : Forest) (k n : ℕ) : Type 0 where
@@ -31,9 +32,6 @@ previous_by f (Some p) k n h up e = record { parent = p; first = up; second = pa
 pub previous_siblings : (f : Forest) (k n : ℕ) → IsForest f → previous_of f k ≡ Some n → AreSiblings f k n
 previous_siblings f k n h e = previous_by f (parent_of f k) k n h refl e
 
-child_among : (f : Forest) (p k : ℕ) → IsForest f → parent_of f k ≡ Some p → is_among k (children_of f p) ≡ true
-child_among f p k h up = is_among-children_of f k p h ∙ ap (λ o. is_named o p) up ∙ grind (arith, eqb_tells p p)
-
 step_on : (n : ℕ) → suc n ≡ n + 1
 step_on n = omega arith
 
@@ -48,7 +46,7 @@ pub previous_next : (f : Forest) (k n : ℕ) → IsForest f → previous_of f k 
 previous_next f k n h e =
     let s = previous_siblings f k n h e in
     ap (λ o. next_in (children_below f o) n) s.second
-    ∙ next_in_back (children_of f s.parent) k n (NoRepeats-children_of f s.parent h) (child_among f s.parent k h s.first)
+    ∙ next_in_back (children_of f s.parent) k n (NoRepeats-children_of f s.parent h) (child_of f s.parent k h s.first)
     (sym (ap (λ o. previous_in (children_below f o) k) s.first) ∙ e)
 
 next_in_other : (xs : List ℕ) (k n : ℕ) → NoRepeats xs → is_among k xs ≡ true → next_in xs k ≡ Some n → k ≢ n
@@ -61,7 +59,7 @@ next_in_other xs k n once among e same =
 pub next_other : (f : Forest) (k n : ℕ) → IsForest f → next_of f k ≡ Some n → k ≢ n
 next_other f k n h e =
     let s = next_siblings f k n h e in
-    next_in_other (children_of f s.parent) k n (NoRepeats-children_of f s.parent h) (child_among f s.parent k h s.first)
+    next_in_other (children_of f s.parent) k n (NoRepeats-children_of f s.parent h) (child_of f s.parent k h s.first)
     (sym (ap (λ o. next_in (children_below f o) k) s.first) ∙ e)
 
 -- an attached node other than the root is below another

@@ -21,6 +21,7 @@ use Rattle.lx_forest.proofs.Edits.{has-root}
 use Rattle.lx_forest.proofs.Lookups.{kind_of-with_new, parent_of-with_new, children_of-with_new, kind_of-put_in, parent_of-put_in, children_of-put_in, parent_of-self, has-parent_of}
 use Rattle.lx_forest.proofs.Walks.{no_parent}
 use Rattle.lx_forest.proofs.Within.{is_within-parent, is_within-with_new, is_within-put_in}
+use Rattle.lx_links.proofs.Up.{not_within}
 use Rattle.lx_draft.specs.Working.{Working}
 use Rattle.lx_draft.specs.Selecting.{unlike}
 use Rattle.lx_draft.specs.Faults.{after, over_counts, over_limits, put_fault}
@@ -40,12 +41,7 @@ use Rattle.lx_settle.specs.Acting.{with_made}
 use Rattle.lx_settle.proofs.Owned.{ready_path}
 use Rattle.lx_settle.proofs.Exhausted.{Exhausts, exhausts_ok, exhausts_then, exhausts_allowed, misfit_none, bound_none, new_exhausts, put_exhausts, remove_exhausts}
 use Rattle.lx_settle.proofs.Moving.{CanMerge, before_exhausts, behind_exhausts, end_exhausts, misfits_none, children_exhausts, children-parent}
-
-first_of : (a b : Bool) → (a && b) ≡ true → a ≡ true
-first_of a b e = grind (arith, e)
-
-second_of : (a b : Bool) → (a && b) ≡ true → b ≡ true
-second_of a b e = grind (arith, e)
+use Rattle.lx_settle.proofs.Tests.{first_of, second_of}
 
 -- ---- what a view says
 
@@ -75,7 +71,7 @@ pub record HasPlace (f : Forest) (k : ℕ) (inner : Kind) : Type 0 where
   pub below : parent_of f k ≡ Some parent
   pub fits : holds may_hold (kind_of f parent) (Some inner) ≡ true
 
-held_by : (o : Option Kind) (inner : Kind) → is_held o inner ≡ true → holds may_hold o (Some inner) ≡ true
+pub held_by : (o : Option Kind) (inner : Kind) → is_held o inner ≡ true → holds may_hold o (Some inner) ≡ true
 held_by None inner e = absurd (cc)
 held_by (Some outer) inner e = e
 
@@ -259,11 +255,9 @@ added_stands made k f g kind h a there place =
       can = added_can made place.parent f g kind h a above;
       under = added_can made k f g kind h a there;
       fits = added_fits made place.parent f g kind a above place.fits;
-      apart = a.within k made there ∙ outside f k made a.free;
+      apart = a.within k made there ∙ not_within f k made a.free;
       other = apart_key f k made there a.free;
-    } where
-      outside : (f : Forest) (k q : ℕ) → has q f ≡ false → is_within f k q ≡ false
-      outside f k q free = grind (arith, free, count-alone-le key_of q k f)
+    }
 
 instead_none : (k made p : ℕ) (f : Forest) → CanStand k made p f → instead_fault k made f ≡ None
 instead_none k made p f c =

@@ -42,6 +42,7 @@ use Rattle.lx_edit.proofs.Climbed.{first_part, taken-forest}
 use Rattle.lx_edit.proofs.Paths.{moved_before_path}
 use Rattle.lx_rules.specs.Types.{is_kind, same_kind}
 use Rattle.lx_rules.specs.Idle.{differs, has_work, is_root, is_held, is_suited, may_stand, has_text}
+use Rattle.lx_draft.proofs.Gaps.{parent_here}
 use Rattle.lx_settle.specs.Acting.{written, patched_in, with_made, is_element_at, merged, has_work_at, act_step}
 use Rattle.lx_settle.proofs.Owned.{ready_path, work_at, root_at}
 use Rattle.lx_settle.proofs.Written.{sees}
@@ -49,18 +50,10 @@ use Rattle.lx_settle.proofs.Rest.{there}
 use Rattle.lx_settle.proofs.Neighbours.{next_siblings, next_other, attached_parent}
 use Rattle.lx_settle.proofs.Alike.{same_hold, same_element}
 use Rattle.lx_settle.proofs.Exhausted.{Exhausts, exhausts_ok, exhausts_then, exhausts_allowed, new_exhausts, set_exhausts, splice_exhausts, take_exhausts, remove_exhausts}
-use Rattle.lx_settle.proofs.Moving.{IsMovable, HasMoved, can_move, fits-taken, before_exhausts, moved-parent, moved-movable, apart_among, first_among, later_among, apart_child, child_parent, not_own_child, misfits_none, children_exhausts, children-parent}
+use Rattle.lx_settle.proofs.Moving.{IsMovable, HasMoved, can_move, fits-taken, before_exhausts, moved-parent, moved-movable, apart_among, first_among, later_among, apart_child, not_own_child, misfits_none, children_exhausts, children-parent}
 use Rattle.lx_settle.proofs.Joinable.{end_none}
-use Rattle.lx_settle.proofs.Placed.{ViewTells, view_tells, has_place, all_fit, fits_by, added, added_stands, new_before_exhausts, new_behind_exhausts, new_child_exhausts, before_put, replace_exhausts, wrap_exhausts}
-
-first_of : (a b : Bool) → (a && b) ≡ true → a ≡ true
-first_of a b e = grind (arith, e)
-
-second_of : (a b : Bool) → (a && b) ≡ true → b ≡ true
-second_of a b e = grind (arith, e)
-
-not_true : (a : Bool) → not a ≡ true → a ≡ false
-not_true a e = grind (arith, e)
+use Rattle.lx_settle.proofs.Placed.{held_by, ViewTells, view_tells, has_place, all_fit, fits_by, added, added_stands, new_before_exhausts, new_behind_exhausts, new_child_exhausts, before_put, replace_exhausts, wrap_exhausts}
+use Rattle.lx_settle.proofs.Tests.{first_of, second_of, not_true}
 
 like_by : (test : Kind → Bool) (o : Option Kind) (kind : Kind) → o ≡ Some kind → test kind ≡ true → unlike test o ≡ None
 like_by test None kind is e = refl
@@ -130,7 +123,7 @@ unwrap_exhausts k p w r below element fits =
     (rw (has-child w.forest k p below, element, below) (misfits_none w.forest (kind_of w.forest p) (children_of w.forest k) fits))
     (exhausts_then (in_turn (moved_before k) (children_of w.forest k) w) (λ v. remove_step k (brought_up k (parent_of w.forest k) (index_of w.forest k) (ends_of w.selection) v))
     (all_before k p (children_of w.forest k) w r (NoRepeats-children_of w.forest k r.in_order) below (λ c among.
-    let child = child_parent w.forest k c r.in_order among in
+    let child = parent_here w.forest k c r.in_order among in
     record { below = child; apart = apart_child w.forest k p c r.in_order (is_within-parent w.forest k p r.in_order below) child; fits = fits c among }))
     (λ v e. remove_exhausts k p (brought_up k (parent_of w.forest k) (index_of w.forest k) (ends_of w.selection) v)
     (ap (λ f. parent_of f k) (brought-forest k (parent_of w.forest k) (index_of w.forest k) (ends_of w.selection) v)
@@ -151,7 +144,7 @@ merge_exhausts k n a b w r held next is_a is_b element alike =
       apart = is_within-up w.forest n k s.parent r.in_order s.first (next_other w.forest k n r.in_order next) ∙ is_within-parent w.forest n s.parent r.in_order s.second;
       fits = λ c among. fits_by (kind_of w.forest k) (kind_of w.forest c) (λ inner at.
           ap (λ o. holds may_hold o (Some inner)) is_a ∙ sym (same_hold b a inner alike)
-          ∙ ap (λ o. holds may_hold o (Some inner)) (sym is_b) ∙ ap (holds may_hold (kind_of w.forest n)) (sym at) ∙ held.each c n (child_parent w.forest n c r.in_order among));
+          ∙ ap (λ o. holds may_hold o (Some inner)) (sym is_b) ∙ ap (holds may_hold (kind_of w.forest n)) (sym at) ∙ held.each c n (parent_here w.forest n c r.in_order among));
     }))
     (λ u e. remove_exhausts n s.parent u (children-parent n k w u r e ∙ s.second))
 
@@ -183,9 +176,7 @@ patch_exhausts ms k x w suited known seen ranged =
 text_fields_of : (k : Kind) (f : Fields) → is_text k ≡ true → IsOfKind k f → (t : TextFields) × (text_fields k f ≡ Some t)
 unfolding is_text is_of_kind fits_kind is_text_of
 text_fields_of kind.Text (fields.Text t) text of = (t, refl)
-text_fields_of kind.Text (fields.Element e) text of = absurd (grind (arith, of))
-text_fields_of kind.Text (fields.Embed s) text of = absurd (grind (arith, of))
-text_fields_of kind.Text fields.Bare text of = absurd (grind (arith, of))
+text_fields_of kind.Text _ text of = absurd (grind (arith, of))
 text_fields_of _ f text of = absurd (cc)
 
 pub add_exhausts : (text : List ℕ) (k : ℕ) (x : View) (w : Working) → IsSuited w.forest → view_of w.forest k ≡ Some x → is_text x.kind ≡ true → Exhausts (splice_step k (length_at w.forest k) (length_at w.forest k) text w)
@@ -230,7 +221,7 @@ replace_new new k x w r known t held fit =
       fits = λ c among.
           let was : is_among c (children_of w.forest k) ≡ true = ap (is_among c) (sym (a.children k)) ∙ among in
           ap (λ o. holds may_hold o (kind_of u.forest c)) a.own
-          ∙ ap (holds may_hold (Some new.kind)) (a.kinds c (has-child w.forest c k (child_parent w.forest k c r.in_order was)))
+          ∙ ap (holds may_hold (Some new.kind)) (a.kinds c (has-child w.forest c k (parent_here w.forest k c r.in_order was)))
           ∙ children_fit w.forest k x (Some new.kind) (may_hold new.kind) t fit (λ inner h. h) c was;
     }))
 
@@ -249,10 +240,6 @@ merged_exhausts k (Some n) x w r held t next element alike = by_kind (kind_of w.
   by_kind : (o : Option Kind) → kind_of w.forest n ≡ o → is_kind o x.kind ≡ true → Exhausts (after (children_step n k w) (remove_step n))
   by_kind None is e = absurd (cc)
   by_kind (Some b) is e = merge_exhausts k n x.kind b w r held next t.kind is element e
-
-held_inner : (o : Option Kind) (inner : Kind) → is_held o inner ≡ true → holds may_hold o (Some inner) ≡ true
-held_inner None inner e = absurd (cc)
-held_inner (Some outer) inner e = e
 
 pub seen_exhausts : (edit : SelfEdit) (k : ℕ) (x : View) (w : Working) → IsReady w → IsHeld may_hold w.forest → IsSuited w.forest → is_attached w.forest k ≡ true → view_of w.forest k ≡ Some x → has_work x edit ≡ true → Exhausts (act_step edit k w)
 unfolding act_step
@@ -278,7 +265,7 @@ seen_exhausts Unwrap k x w r held suited here seen work =
     let above : x.parent ≡ kind_of w.forest p.0 = t.parent ∙ ap (kind_at w.forest) p.1 in
     unwrap_exhausts k p.0 w r p.1 (like_by is_element (kind_of w.forest k) x.kind t.kind (first_of (is_element x.kind) rest work))
     (children_fit w.forest k x (kind_of w.forest p.0) (is_held x.parent) t (second_of (not (is_root x.kind)) (list_all (is_held x.parent) x.children) more)
-    (λ inner h. held_inner (kind_of w.forest p.0) inner (ap (λ o. is_held o inner) (sym above) ∙ h)))
+    (λ inner h. held_by (kind_of w.forest p.0) inner (ap (λ o. is_held o inner) (sym above) ∙ h)))
 seen_exhausts (Before new) k x w r held suited here seen work =
     new_before_exhausts new k w r (has_place w.forest k x new.kind (view_tells w.forest k x seen) (stands_held x new (not (is_kind x.prev new.kind)) work))
 seen_exhausts (After new) k x w r held suited here seen work =

@@ -34,17 +34,9 @@ use Rattle.lx_settle.proofs.Settled.{settled_rests}
 use Rattle.lx_settle.proofs.Acted.{attached-made, act_carried, join_carried}
 use Rattle.lx_settle.proofs.Owned.{work_at, remove_top, replace_top, unwrap_top, wrap_parent, put_parent, put_before_previous, put_behind_next, gone, below_new, above_new, behind_new, before_new, merge_changes}
 use Rattle.lx_settle.proofs.Written.{set_changes, add_changes}
+use Rattle.lx_settle.proofs.Tests.{first_of, second_of, not_true}
 
 -- ---- what has work isn't the root
-
-first_of : (a b : Bool) → (a && b) ≡ true → a ≡ true
-first_of a b e = grind (arith, e)
-
-second_of : (a b : Bool) → (a && b) ≡ true → b ≡ true
-second_of a b e = grind (arith, e)
-
-not_true : (a : Bool) → not a ≡ true → a ≡ false
-not_true a e = grind (arith, e)
 
 stands : (x : View) (new : NewNode) (rest : Bool) → (may_stand x new && rest) ≡ true → is_root x.kind ≡ false
 stands x new rest e =

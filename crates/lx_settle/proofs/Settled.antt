@@ -162,6 +162,10 @@ leaves_taken rules w k ks leaves u = record {
         | inr still ↦ inr (due_either (taken w).fresh q ∙ still)
       ]
 
+pub no_leaf : (xs : List ℕ) (b : Bool) (q : ℕ) → xs ≡ [] → (is_among q xs || b) ≡ true → b ≡ true
+no_leaf [] b q is e = e
+no_leaf (x ∷ xs) b q is e = absurd (cc)
+
 elements_taken : (rules : List Answers) (w : Working) (es : List (ℕ × Bool)) → w.fresh.leaves ≡ [] → w.fresh.elements ≡ es → IsUnderWay rules [] w → IsUnderWay rules (turns_of es) (taken w)
 elements_taken rules w es leaves elements u = record {
   each = λ q there marked. elim (u.each q there marked) [
@@ -172,10 +176,7 @@ elements_taken rules w es leaves elements u = record {
     | inr rest ↦ inr rest
   ];
   ready = record { in_order = u.ready.in_order; free = u.ready.free };
-} where
-  no_leaf : (xs : List ℕ) (b : Bool) (q : ℕ) → xs ≡ [] → (is_among q xs || b) ≡ true → b ≡ true
-  no_leaf [] b q is e = e
-  no_leaf (x ∷ xs) b q is e = absurd (cc)
+}
 
 -- where nothing is marked anew, all rests
 all_rest : (rules : List Answers) (w : Working) → w.fresh.leaves ≡ [] → w.fresh.elements ≡ [] → IsUnderWay rules [] w → IsRested rules w.forest w.marks

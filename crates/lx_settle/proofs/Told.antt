@@ -20,6 +20,7 @@ use Rattle.lx_settle.proofs.Rest.{there}
 use Rattle.lx_settle.proofs.Exhausted.{Exhausts}
 use Rattle.lx_settle.proofs.Joinable.{join_around_exhausts}
 use Rattle.lx_settle.proofs.Refused.{act_exhausts}
+use Rattle.lx_settle.proofs.Tests.{first_of, second_of}
 
 -- ---- a draft with an attached node
 
@@ -38,12 +39,7 @@ told_by fault.Memory r h told = tt
 pub act_told : (e : Fault) (edit : SelfEdit) (k : ℕ) (w : Working) → Sound w.forest → IsWorking w → (is_attached w.forest k && has_work_at (view_of w.forest k) edit) ≡ true → TellsStep e (act_step edit k w) → IsExhausted e
 act_told e edit k w sound working busy told =
     let here : is_attached w.forest k ≡ true = first_of (is_attached w.forest k) (has_work_at (view_of w.forest k) edit) busy in
-    told_by e (act_step edit k w) (act_exhausts edit k w (ready_by k w sound working here) sound.held sound.suited here (second_of (is_attached w.forest k) (has_work_at (view_of w.forest k) edit) busy)) told where
-      first_of : (a b : Bool) → (a && b) ≡ true → a ≡ true
-      first_of a b e = grind (arith, e)
-
-      second_of : (a b : Bool) → (a && b) ≡ true → b ≡ true
-      second_of a b e = grind (arith, e)
+    told_by e (act_step edit k w) (act_exhausts edit k w (ready_by k w sound working here) sound.held sound.suited here (second_of (is_attached w.forest k) (has_work_at (view_of w.forest k) edit) busy)) told
 
 pub join_told : (e : Fault) (k : ℕ) (w : Working) → Sound w.forest → IsWorking w → is_attached w.forest k ≡ true → TellsStep e (join_around_step k w) → IsExhausted e
 join_told e k w sound working here told =

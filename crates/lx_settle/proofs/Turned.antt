@@ -16,6 +16,7 @@ use Rattle.lx_settle.specs.Acting.{act_step, has_work_at, edit_step, answered_at
 use Rattle.lx_settle.specs.Passes.{leaf_step}
 use Rattle.lx_settle.specs.Rested.{is_due, is_uneasy}
 use Rattle.lx_settle.proofs.Carried.{IsCarried, carried_self, carried_then}
+use Rattle.lx_settle.proofs.Tests.{first_of, second_of}
 
 -- what is owed of edits of rules and of the join step
 pub record ActsAreMarked : Type 0 where
@@ -68,13 +69,8 @@ turns_stood step busy k each (a ∷ rest) w v r e =
 edit_by : ActsAreMarked → (k : ℕ) (edit : SelfEdit) (taken : Bool) (w v : Working) → (is_attached w.forest k && has_work_at (view_of w.forest k) edit) ≡ taken → IsReady w
     → cond taken (act_step edit k w) (Ok w) ≡ Ok v → IsCarried w v × Stood k w v (has_work_at (view_of w.forest k) edit ≡ false)
 edit_by laws k edit true w v is r e =
-    let a = laws.act edit k w v r (left_of (is_attached w.forest k) (has_work_at (view_of w.forest k) edit) is) (right_of (is_attached w.forest k) (has_work_at (view_of w.forest k) edit) is) e in
-    (a.0, λ there unmarked. absurd (grind (arith, a.1 there, unmarked))) where
-      left_of : (a b : Bool) → (a && b) ≡ true → a ≡ true
-      left_of a b e = grind (arith, e)
-
-      right_of : (a b : Bool) → (a && b) ≡ true → b ≡ true
-      right_of a b e = grind (arith, e)
+    let a = laws.act edit k w v r (first_of (is_attached w.forest k) (has_work_at (view_of w.forest k) edit) is) (second_of (is_attached w.forest k) (has_work_at (view_of w.forest k) edit) is) e in
+    (a.0, λ there unmarked. absurd (grind (arith, a.1 there, unmarked)))
 edit_by laws k edit false w v is r e =
     let same : v ≡ w = cc in
     (carried_nothing w v r e, λ there unmarked. (same, none_left (is_attached w.forest k) (has_work_at (view_of w.forest k) edit) is (subst (λ x. is_attached x.forest k ≡ true) same there))) where

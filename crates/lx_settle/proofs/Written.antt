@@ -62,9 +62,7 @@ element_written m old = ap (λ x. let e : ElementFields = record old { extra = x
 seen_written : (m : Member) (f : Fields) → with_member m (seen_fields f) ≡ seen_fields (with_member m f)
 unfolding with_member
 seen_written m (fields.Element old) = ap (λ x. fields.Element x) (element_written m old)
-seen_written m (fields.Text old) = refl
-seen_written m (fields.Embed old) = refl
-seen_written m fields.Bare = refl
+seen_written m _ = refl
 
 all_written : (ms : List Member) (f : Fields) → with_members ms (seen_fields f) ≡ seen_fields (with_members ms f)
 all_written [] f = refl
