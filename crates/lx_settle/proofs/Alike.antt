@@ -1,9 +1,8 @@
 -- Kinds that are one hold the same.
-use Rattle.std.proofs.Common.{◌≡◌, ◌∙◌, ℕ, true, cond, eqb, refl, sym, ap, arith, inl, inr}
-use Rattle.std.proofs.lemmas.Bool.Decides.{eqb_tells}
+use Rattle.std.proofs.Common.{◌≡◌, ◌∙◌, ℕ, true, cond, eqb, refl, sym, ap}
 use Rattle.lx_node.specs.Kinds.{is_element, may_hold}
 use Rattle.lx_node.specs.declared.kind.Kind.{Kind}
-use Rattle.lx_node.specs.declared.kind.Kind.TheVariants.{Root, Paragraph, Heading, Quote, List as ListKind, Item, Link, Table, Row, Cell, Text, Tab, Break, Rule, Embed}
+use Rattle.lx_node.specs.declared.kind.Kind.TheVariants.{Root, Paragraph, Heading, Quote, List as ListKind, Item, Link, Table, Row, Cell, Embed}
 use Rattle.lx_node.specs.declared.kind.ListType.TheVariants.{Bullet}
 use Rattle.lx_step.specs.Types.{row_of}
 use Rattle.lx_links.proofs.Ordered.{test_equal}

@@ -1,12 +1,10 @@
 -- Whatever settling does is covered by the marks of the whole update.
-use Rattle.std.proofs.Common.{◌≡◌, ◌∙◌, ℕ, zero, suc, Bool, List, [], ◌∷◌, Result, Ok, Err, refl, subst, inl, inr}
+use Rattle.std.proofs.Common.{◌≡◌, ◌∙◌, ℕ, zero, suc, Bool, List, [], ◌∷◌, Result, Ok, Err, refl, subst}
 use Rattle.lx_node.specs.declared.cause.Cause.{Cause}
-use Rattle.lx_marks.specs.Marks.{Marked}
-use Rattle.lx_forest.specs.Forest.{Forest}
 use Rattle.lx_draft.specs.Working.{Working}
 use Rattle.lx_draft.specs.Faults.{after}
 use Rattle.lx_draft.specs.Rounds.{round_by}
-use Rattle.lx_draft.specs.Covering.{Covers, IsReady, AreCovered}
+use Rattle.lx_draft.specs.Covering.{IsReady, AreCovered}
 use Rattle.lx_draft.proofs.Covered.{covers-then, new_then}
 use Rattle.lx_edit.specs.InTurn.{in_turn}
 use Rattle.lx_rules.specs.Answers.{Answers}

@@ -3,7 +3,7 @@ use Rattle.std.proofs.Common.{◌≡◌, ◌≢◌, Bool, true, false, ◌&&◌,
 use Rattle.std.specs.List.{list_all, list_any}
 use Rattle.lx_node.specs.Kinds.{is_block, is_inline, is_paragraph, is_heading, is_list, is_item, is_link, is_row, is_cell, may_hold}
 use Rattle.lx_node.specs.declared.kind.Kind.{Kind}
-use Rattle.lx_node.specs.declared.kind.Kind.TheVariants.{Root, Paragraph, Heading, Quote, List as ListKind, Item, Link, Table, Row, Cell, Text, Tab, Break, Rule, Embed}
+use Rattle.lx_node.specs.declared.kind.Kind.TheVariants.{Root}
 use Rattle.lx_node.specs.declared.node.View.{View}
 use Rattle.lx_step.specs.declared.rule.NewNode.{NewNode}
 use Rattle.lx_step.specs.declared.rule.SelfEdit.TheVariants.{Replace, Wrap, Before, After, Child}

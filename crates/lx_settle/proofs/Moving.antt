@@ -9,7 +9,7 @@ use Rattle.lx_trees.specs.Siblings.{is_among, is_named, index_in, NoRepeats}
 use Rattle.lx_node.specs.declared.kind.Kind.{Kind}
 use Rattle.lx_node.specs.declared.cause.Cause.{Cause}
 use Rattle.lx_trees.proofs.Positions.{index_in-lt}
-use Rattle.lx_trees.proofs.Siblings.{is_named_tells, is_some-index_in}
+use Rattle.lx_trees.proofs.Siblings.{is_some-index_in}
 use Rattle.lx_forest.specs.Forest.{Forest}
 use Rattle.lx_forest.specs.Lookups.{has, kind_of, parent_of, children_of, children_below, size_of, index_of, is_within, holds, IsForest}
 use Rattle.lx_forest.specs.Edits.{take_out, put_in, CanPut}

@@ -1,12 +1,11 @@
 -- Neighbours, and what is above them.
 use Rattle.std.proofs.Common.{◌≡◌, ◌≢◌, ◌∙◌, ℕ, suc, ◌+◌, true, List, Option, None, Some, refl, sym, ap, arith, inl, inr}
 use Rattle.std.specs.Prelude.{slice_get}
-use Rattle.std.proofs.lemmas.Bool.Decides.{eqb_tells}
-use Rattle.lx_trees.specs.Siblings.{is_among, is_named, next_in, previous_in, NoRepeats}
+use Rattle.lx_trees.specs.Siblings.{is_among, next_in, previous_in, NoRepeats}
 use Rattle.lx_trees.proofs.Positions.{place_in, index_in-among, index_in-slice_get, slice_get-place_in, next_in-slice_get, previous_in-place}
 use Rattle.lx_forest.specs.Forest.{Forest}
 use Rattle.lx_forest.specs.Lookups.{parent_of, children_of, children_below, previous_of, next_of, is_attached, IsForest}
-use Rattle.lx_forest.proofs.Lookups.{is_among-children_of, NoRepeats-children_of}
+use Rattle.lx_forest.proofs.Lookups.{NoRepeats-children_of}
 use Rattle.lx_forest.proofs.Siblings.{parent_of-next, parent_of-previous}
 use Rattle.lx_forest.proofs.Walks.{cases_option}
 use Rattle.lx_settle.proofs.Owned.{top_root}

@@ -13,8 +13,7 @@ use Rattle.lx_node.specs.declared.fields.Fields.{Fields}
 use Rattle.lx_node.specs.declared.node.View.{View}
 use Rattle.lx_step.specs.declared.rule.NewNode.{NewNode}
 use Rattle.lx_forest.specs.Forest.{Forest, Label}
-use Rattle.lx_trees.proofs.Subtrees.{count-alone-le}
-use Rattle.lx_forest.specs.Lookups.{key_of, has, spot, kind_of, parent_of, children_of, next_of, size_of, index_of, is_within, holds, IsForest}
+use Rattle.lx_forest.specs.Lookups.{has, spot, kind_of, parent_of, children_of, next_of, size_of, index_of, is_within, holds, IsForest}
 use Rattle.lx_forest.specs.Edits.{with_new, put_in, CanPut}
 use Rattle.lx_forest.specs.Views.{kind_at, with_kind, kinds_of, viewed, view_of}
 use Rattle.lx_forest.proofs.Edits.{has-root}

@@ -1,6 +1,6 @@
 -- What an error of settling says: that no count was left, that too much would be written, that rest wasn't reached, or
 -- that memory ran out.
-use Rattle.std.proofs.Common.{◌≡◌, ◌≢◌, ◌∙◌, ℕ, Bool, true, ◌&&◌, Result, Ok, Err, IfErr, sym, ap, arith}
+use Rattle.std.proofs.Common.{◌≡◌, ◌≢◌, ◌∙◌, ℕ, true, ◌&&◌, Result, Ok, Err, IfErr, sym, ap}
 use Rattle.lx_trees.specs.Trees.{nil}
 use Rattle.lx_node.specs.declared.cause.Cause.{Cause}
 use Rattle.lx_node.specs.declared.cause.Fault.{Fault}
