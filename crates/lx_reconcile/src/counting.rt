@@ -1,10 +1,10 @@
 //! How many nodes of one tree aren't kept from another one.
 
-ghost use Rattle.std.specs.Prelude.{◌≡◌, ◌==◌, ◌&&◌, ◌+◌, ℕ, List, length, true, None, Some, Ok, IfOk};
+ghost use Rattle.std.specs.Prelude.{◌≡◌, ◌&&◌, ◌+◌, ℕ, List, length, true, None, Some, Ok, IfOk};
 ghost use Rattle.lx_forest.specs.Lookups.{alone, trees_of, children_of, first_child, next_of, has, is_attached};
 ghost use Rattle.lx_links.specs.Stands.{Sound};
 ghost use Rattle.lx_reconcile.specs.Allowed as allowed;
-ghost use Rattle.lx_reconcile.specs.Allowed.{AreUnkept, is_parent, is_only, places_of, tag_number};
+ghost use Rattle.lx_reconcile.specs.Allowed.{AreUnkept, is_parent, is_only, places_of, is_tag};
 ghost use Rattle.lx_render.specs.Render as shown;
 ghost use Rattle.lx_reconcile.specs.Counting.{IsInTree, unkept_in};
 
@@ -27,7 +27,7 @@ fn is_below(node: &Node, parent: Option<Key>) -> bool
 
 /// Whether a node was below this parent with the element that it has now.
 fn was_here(was: &Node, parent: Option<Key>, now: &Node) -> bool
-    ensures { result ≡ (is_parent was.now.parent parent && tag_number (shown.tag_of was.now.kind was.now.fields) == tag_number (shown.tag_of now.now.kind now.now.fields)) }
+    ensures { result ≡ (is_parent was.now.parent parent && is_tag (shown.tag_of was.now.kind was.now.fields) (shown.tag_of now.now.kind now.now.fields)) }
 {
     is_below(was, parent) && has_same_tag(was, now)
 }
