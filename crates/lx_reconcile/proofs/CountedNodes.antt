@@ -1,5 +1,5 @@
 -- Which nodes are found kept, and how many aren't.
-use Rattle.std.proofs.Common.{◌≡◌, ◌∙◌, ◌+◌, ◌<◌, ◌≤◌, ℕ, ◌&&◌, ◌^◌, Bool, true, false, cond, eqb, ◌∷◌, Option, None, Some, option_map, is_some, inl, inr, refl, sym, ap, arith}
+use Rattle.std.proofs.Common.{◌≡◌, ◌∙◌, ◌+◌, ◌<◌, ◌≤◌, ℕ, ◌&&◌, ◌^◌, Bool, true, false, cond, ◌∷◌, Option, None, Some, option_map, is_some, inl, inr, refl, sym, ap, arith}
 use Rattle.std.proofs.lemmas.Bool.{cases_Bool}
 use Rattle.std.proofs.lemmas.Option.{same_Some}
 use Rattle.lx_trees.specs.Trees.{nil, tree, joined}
@@ -19,7 +19,7 @@ use Rattle.lx_forest.proofs.Walks.{spot_in_tree, is_attached-up, total-alone-lt}
 use Rattle.lx_links.specs.Stands.{node_of, Sound}
 use Rattle.lx_links.proofs.Up.{in_order_at}
 use Rattle.lx_render.specs.Render.{tag_of}
-use Rattle.lx_reconcile.specs.Allowed.{places_of, tag_number, is_parent, is_only}
+use Rattle.lx_reconcile.specs.Allowed.{places_of, is_tag, is_parent, is_only}
 use Rattle.lx_reconcile.specs.Counting.{IsInTree, unkept_in}
 use Rattle.lx_reconcile.proofs.Attached.{tree_order}
 use Rattle.lx_reconcile.proofs.Children.{label_from, is_read, tree_read, total_read, child_left, next_place}
@@ -79,10 +79,10 @@ module _ (f : Forest) (parent : Option ℕ) (q : ℕ) (s : Sound f) (above : IsI
     either false = refl
 
   pub kept_some : (tag : Tag) (n : Node) → Some n ≡ option_map node_of (record_at f q)
-      → (is_parent n.parent parent && eqb (tag_number (tag_of n.kind n.fields)) (tag_number tag)) ≡ is_only parent tag (places_of q None (alone 0 f))
+      → (is_parent n.parent parent && is_tag (tag_of n.kind n.fields) tag) ≡ is_only parent tag (places_of q None (alone 0 f))
   kept_some tag n e =
       let x = is_seen f q n e in
-      let same = λ (t : Tag). eqb (tag_number t) (tag_number tag) in
+      let same = λ (t : Tag). is_tag t tag in
       ap (λ p. is_parent p parent && same (tag_of n.kind n.fields)) x.parent
       ∙ ap (λ t. is_parent x.at.parent parent && same t) x.tag
       ∙ elim (cases_Bool (is_attached f q)) [

@@ -249,6 +249,3 @@ count-numbered q id (tree face below rest) =
 module _ (w : HostTree) (w_is : IsNumbered w) (parent : ℕ) (there : 0 < count parent w.hosts) (f : Forest) where
   once : count parent w.hosts ≡ 1
   once = omega (arith, w_is.once parent, there)
-
--- One tree, after all others: its host isn't placed.
-module _ (w : HostTree) (w_is : IsNumbered w) (label : Label) (below : Forest) where

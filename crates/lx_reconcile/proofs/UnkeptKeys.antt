@@ -1,5 +1,5 @@
 -- The nodes that aren't kept, by their keys: those that `unkept` counts are all of them, each once.
-use Rattle.std.proofs.Common.{◌≡◌, ◌∙◌, ◌+◌, ◌<◌, ℕ, Bool, true, false, cond, eqb, ◌||◌, ◌⊎◌, length, List, [], ◌∷◌, ◌++◌, Option, None, Some, option_map, is_some, inl, inr, refl, sym, ap, subst, arith, eq-eqb, eqb-true, append-nil, length-append}
+use Rattle.std.proofs.Common.{◌≡◌, ◌∙◌, ◌+◌, ◌<◌, ℕ, Bool, true, false, cond, eqb, ◌||◌, ◌⊎◌, length, List, [], ◌∷◌, ◌++◌, Option, None, Some, option_map, is_some, inl, inr, refl, sym, ap, subst, arith, eq-eqb, append-nil, length-append}
 use Rattle.std.proofs.lemmas.Bool.{cases_Bool, cases_lt, and_parts, ltb-true, lt-ltb}
 use Rattle.std.proofs.Math.Bool.{or-false}
 use Rattle.std.proofs.lemmas.Bool.Decides.{eqb_tells}
@@ -18,10 +18,10 @@ use Rattle.lx_forest.proofs.Edits.{parent_of-root, is_some-spot, key-spot}
 use Rattle.lx_forest.proofs.Lookups.{alone-spot}
 use Rattle.lx_links.specs.Stands.{Sound}
 use Rattle.lx_render.specs.Render.{tag_of}
-use Rattle.lx_reconcile.specs.Allowed.{places_of, tag_number, is_parent, is_only, IsKept, kept_root, kept_below, AreUnkept, unkept}
+use Rattle.lx_reconcile.specs.Allowed.{places_of, is_tag, is_parent, is_only, IsKept, kept_root, kept_below, AreUnkept, unkept}
 use Rattle.lx_reconcile.proofs.Attached.{tree_order, tree_sound, tree_there}
 use Rattle.lx_reconcile.proofs.Kept.{places_at, places_of-absent, places_of-spot, has_place}
-use Rattle.lx_reconcile.proofs.UnkeptNodes.{same_tag, same_parent, kept_here}
+use Rattle.lx_reconcile.proofs.UnkeptNodes.{is_tag-Decides, same_parent, kept_here}
 
 -- ---- the keys of those that are counted
 
@@ -157,14 +157,14 @@ kept_at old new _ k tag h at (kept_below q p other kept was is) =
 only_one : (p : Option ℕ) (tag : Tag) (places : List (Option ℕ × Tag)) → is_only p tag places ≡ true → places ≡ (p, tag) ∷ []
 only_one p tag [] e = absurd (cc)
 only_one p tag (place ∷ []) e =
-    let both = and_parts (is_parent place.0 p) (eqb (tag_number place.1) (tag_number tag)) e in
+    let both = and_parts (is_parent place.0 p) (is_tag place.1 tag) e in
     let up : place.0 ≡ p = same_parent place.0 p both.0 in
-    let own : place.1 ≡ tag = same_tag place.1 tag (eqb-true (tag_number place.1) (tag_number tag) both.1) in
+    let own : place.1 ≡ tag = (is_tag-Decides place.1 tag).0 both.1 in
     ap (λ o. (o, place.1) ∷ []) up ∙ ap (λ t. (p, t) ∷ []) own
 only_one p tag (place ∷ more ∷ rest) e = absurd (cc)
 
 is_one : (k : ℕ) (tag : Tag) (places : List (Option ℕ × Tag)) → places ≡ (Some k, tag) ∷ [] → is_only (Some k) tag places ≡ true
-is_one k tag places e = ap (is_only (Some k) tag) e ∙ rw (eq-eqb k k refl, eq-eqb (tag_number tag) (tag_number tag) refl) refl
+is_one k tag places e = ap (is_only (Some k) tag) e ∙ rw (eq-eqb k k refl, (is_tag-Decides tag tag).1 refl) refl
 
 module _ (old new : Forest) (h : IsForest new) where
   -- below a node that isn't kept none is
@@ -256,7 +256,7 @@ root_here old l h key kind =
     from_spot (Some s) at =
         let up : s.parent ≡ None = sym (ap parent_at at) ∙ parent_of-root old h in
         let own : s.label.kind ≡ Root = kind_at_root old s h at in
-        rw (up, own, kind) refl
+        rw (up, own, kind) ((is_tag-Decides (tag_of Root l.fields) (tag_of Root l.fields)).1 refl)
 
 told_tree : (old new : Forest) (l : Label) (b : Forest) → IsForest old → IsForest new → new ≡ tree l b nil → l.key ≡ 0 → l.kind ≡ Root
     → (keys : List ℕ) × AreUnkept old new keys × (length keys ≡ unkept old None new)

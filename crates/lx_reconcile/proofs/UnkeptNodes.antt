@@ -1,6 +1,11 @@
 -- How many nodes aren't kept, and which children that are met aren't.
-use Rattle.std.proofs.Common.{◌≡◌, ◌∙◌, ◌+◌, ◌≤◌, ℕ, ◌&&◌, Bool, true, false, cond, eqb, get_or, List, [], ◌∷◌, Option, None, Some, option_map, inl, inr, refl, sym, ap, arith, eq-eqb}
-use Rattle.std.proofs.lemmas.Bool.Decides.{eqb_tells}
+use Rattle.std.proofs.Common.{◌≡◌, ◌∙◌, ◌+◌, ◌≤◌, ℕ, ◌&&◌, Bool, true, false, cond, filter, List, [], ◌∷◌, Option, None, Some, option_map, inl, inr, refl, sym, ap, arith}
+use Rattle.std.specs.Bool.{Decides}
+use Rattle.std.proofs.lemmas.Bool.{cases_Bool}
+use Rattle.std.proofs.lemmas.Bool.Decides.{eqb_tells, Decides-like}
+use Rattle.lx_node.specs.Same.{same_text}
+use Rattle.lx_node.proofs.Same.{same_text-Decides}
+use Rattle.lx_host.specs.Words.{tag_word}
 use Rattle.std.proofs.lemmas.Option.{same_Some}
 use Rattle.lx_trees.specs.Trees.{nil, tree, joined}
 use Rattle.lx_trees.specs.NamedTrees.{total}
@@ -14,10 +19,10 @@ use Rattle.lx_forest.specs.Forest.{Label, Forest}
 use Rattle.lx_forest.specs.Lookups.{spot, label_of, children_of, IsForest}
 use Rattle.lx_forest.proofs.Lookups.{is_among-children_of}
 use Rattle.lx_render.specs.Render.{tag_of}
-use Rattle.lx_reconcile.specs.Allowed.{places_of, tag_number, is_parent, is_only, unkept}
+use Rattle.lx_reconcile.specs.Allowed.{places_of, is_tag, is_parent, is_only, unkept}
 use Rattle.lx_reconcile.proofs.Kept.{places_at, places_of-spot}
 
--- ---- a tag by its number
+-- ---- a tag by its word
 
 abbrev all_tags : List Tag
 all_tags =
@@ -28,49 +33,57 @@ all_tags =
     ∷ Inline (Some Sub) Strong ∷ Inline (Some Sub) Em ∷ Inline (Some Sub) Span
     ∷ Inline (Some Sup) Strong ∷ Inline (Some Sup) Em ∷ Inline (Some Sup) Span ∷ []
 
-tag_at : (t : Tag) → get_or all_tags (tag_number t) Div ≡ t
-tag_at Div = refl
-tag_at P = refl
-tag_at H1 = refl
-tag_at H2 = refl
-tag_at H3 = refl
-tag_at H4 = refl
-tag_at H5 = refl
-tag_at H6 = refl
-tag_at Blockquote = refl
-tag_at Ul = refl
-tag_at Ol = refl
-tag_at Li = refl
-tag_at A = refl
-tag_at Table = refl
-tag_at Tr = refl
-tag_at Th = refl
-tag_at Td = refl
-tag_at Br = refl
-tag_at Hr = refl
-tag_at (Inline None Strong) = refl
-tag_at (Inline None Em) = refl
-tag_at (Inline None Span) = refl
-tag_at (Inline (Some Code) Strong) = refl
-tag_at (Inline (Some Code) Em) = refl
-tag_at (Inline (Some Code) Span) = refl
-tag_at (Inline (Some Mark) Strong) = refl
-tag_at (Inline (Some Mark) Em) = refl
-tag_at (Inline (Some Mark) Span) = refl
-tag_at (Inline (Some Sub) Strong) = refl
-tag_at (Inline (Some Sub) Em) = refl
-tag_at (Inline (Some Sub) Span) = refl
-tag_at (Inline (Some Sup) Strong) = refl
-tag_at (Inline (Some Sup) Em) = refl
-tag_at (Inline (Some Sup) Span) = refl
+-- the tags that have this word
+abbrev with_word : List ℕ → List Tag
+with_word word = filter (λ t. same_text (tag_word t) word) all_tags
 
-pub same_tag : (a b : Tag) → tag_number a ≡ tag_number b → a ≡ b
-same_tag a b e = sym (tag_at a) ∙ ap (λ n. get_or all_tags n Div) e ∙ tag_at b
+one_tag : (t : Tag) → with_word (tag_word t) ≡ t ∷ []
+unfolding same_text tag_word
+one_tag Div = refl
+one_tag P = refl
+one_tag H1 = refl
+one_tag H2 = refl
+one_tag H3 = refl
+one_tag H4 = refl
+one_tag H5 = refl
+one_tag H6 = refl
+one_tag Blockquote = refl
+one_tag Ul = refl
+one_tag Ol = refl
+one_tag Li = refl
+one_tag A = refl
+one_tag Table = refl
+one_tag Tr = refl
+one_tag Th = refl
+one_tag Td = refl
+one_tag Br = refl
+one_tag Hr = refl
+one_tag (Inline None Strong) = refl
+one_tag (Inline None Em) = refl
+one_tag (Inline None Span) = refl
+one_tag (Inline (Some Code) Strong) = refl
+one_tag (Inline (Some Code) Em) = refl
+one_tag (Inline (Some Code) Span) = refl
+one_tag (Inline (Some Mark) Strong) = refl
+one_tag (Inline (Some Mark) Em) = refl
+one_tag (Inline (Some Mark) Span) = refl
+one_tag (Inline (Some Sub) Strong) = refl
+one_tag (Inline (Some Sub) Em) = refl
+one_tag (Inline (Some Sub) Span) = refl
+one_tag (Inline (Some Sup) Strong) = refl
+one_tag (Inline (Some Sup) Em) = refl
+one_tag (Inline (Some Sup) Span) = refl
 
-other_tag : (a b : Tag) → (a ≡ b → ⊥) → eqb (tag_number a) (tag_number b) ≡ false
-other_tag a b other = elim (eqb_tells (tag_number a) (tag_number b)) [
-  | inl same ↦ absurd (other (same_tag a b same.1))
-  | inr e ↦ e.0
+same_word : (a b : Tag) → tag_word a ≡ tag_word b → a ≡ b
+same_word a b e = let one = sym (one_tag a) ∙ ap with_word e ∙ one_tag b in cc
+
+pub is_tag-Decides : (a b : Tag) → Decides (is_tag a b) (a ≡ b)
+is_tag-Decides a b = Decides-like _ (same_word a b) (ap tag_word) (same_text-Decides (tag_word a) (tag_word b))
+
+other_tag : (a b : Tag) → (a ≡ b → ⊥) → is_tag a b ≡ false
+other_tag a b other = elim (cases_Bool (is_tag a b)) [
+  | inl same ↦ absurd (other ((is_tag-Decides a b).0 same))
+  | inr differ ↦ differ
 ]
 
 pub same_parent : (o p : Option ℕ) → is_parent o p ≡ true → o ≡ p
@@ -116,8 +129,8 @@ other_unkept old k x l h was other = ap (is_only (Some k) (tag_of l.kind l.field
   from_spot (Some s) at =
       let same : Some s.label ≡ Some x = sym (ap (option_map (λ (s : Spot Label). s.label)) at) ∙ was in
       let own : s.label ≡ x = same_Some s.label x same in
-      let differ : eqb (tag_number (tag_of s.label.kind s.label.fields)) (tag_number (tag_of l.kind l.fields)) ≡ false =
-      other_tag (tag_of s.label.kind s.label.fields) (tag_of l.kind l.fields) (λ e. other (sym (ap (λ (l : Label). tag_of l.kind l.fields) own) ∙ e)) in
+      let differ : is_tag (tag_of s.label.kind s.label.fields) (tag_of l.kind l.fields) ≡ false =
+      other_tag _ _ (λ e. other (sym (ap (λ (l : Label). tag_of l.kind l.fields) own) ∙ e)) in
       not_second (is_parent s.parent (Some k)) _ differ
 
 -- but one that was one there with the same element is
@@ -131,7 +144,7 @@ same_kept old k x l h among was same =
     from_spot (Some s) named is =
         let own : s.label ≡ x = same_Some s.label x is in
         let tags : tag_of s.label.kind s.label.fields ≡ tag_of l.kind l.fields = ap (λ (l : Label). tag_of l.kind l.fields) own ∙ same in
-        rw (sym (by_parent s.parent k) ∙ named, eq-eqb (tag_number (tag_of s.label.kind s.label.fields)) (tag_number (tag_of l.kind l.fields)) (ap tag_number tags)) refl
+        rw (sym (by_parent s.parent k) ∙ named, (is_tag-Decides (tag_of s.label.kind s.label.fields) (tag_of l.kind l.fields)).1 tags) refl
 
 -- ---- how many aren't kept
 

@@ -1,16 +1,13 @@
 -- Which operations a commit may have: those that turn the view of the old tree into the view of the new one, keep the
 -- hosts of kept nodes, and touch no other hosts than those of marked nodes, and of children of those that stay.
-use Rattle.std.specs.Prelude.{◌≡◌, ◌≢◌, ◌↔◌, ℕ, ◌+◌, ◌*◌, ◌==◌, ◌&&◌, ◌++◌, if◌then◌else◌, Bool, true, false, List, [], ◌∷◌, length, filter, Option, None, Some}
+use Rattle.std.specs.Prelude.{◌≡◌, ◌≢◌, ◌↔◌, ℕ, ◌+◌, ◌==◌, ◌&&◌, ◌++◌, if◌then◌else◌, Bool, true, false, List, [], ◌∷◌, length, filter, Option, None, Some}
 use Rattle.std.specs.List.{AllByRecursion}
+use Rattle.lx_node.specs.Same.{same_text}
 use Rattle.lx_trees.specs.Trees.{Trees, nil, tree}
 use Rattle.lx_trees.specs.NamedTrees.{total}
 use Rattle.lx_trees.specs.Siblings.{is_among, NoRepeats}
 use Rattle.lx_host.specs.declared.tag.Tag.{Tag}
-use Rattle.lx_host.specs.declared.tag.Tag.TheVariants.{Div, P, H1, H2, H3, H4, H5, H6, Blockquote, Ul, Ol, Li, A, Table, Tr, Th, Td, Br, Hr, Inline}
-use Rattle.lx_host.specs.declared.tag.Inner.{Inner}
-use Rattle.lx_host.specs.declared.tag.Inner.TheVariants.{Strong, Em, Span}
-use Rattle.lx_host.specs.declared.tag.Outer.{Outer}
-use Rattle.lx_host.specs.declared.tag.Outer.TheVariants.{Code, Mark, Sub, Sup}
+use Rattle.lx_host.specs.Words.{tag_word}
 use Rattle.lx_host.specs.declared.op.Op.{Op}
 use Rattle.lx_host.specs.declared.op.Op.TheVariants.{Create, Place, Drop, Text, Attr, Break}
 use Rattle.lx_host.specs.Hosts as hosts
@@ -132,42 +129,9 @@ pub record AreAllowed (old new : Forest) (touched : ℕ → Bool) (before : Host
 
 -- ---- how many nodes aren't kept
 
--- the number of an outer element, 0 where there is none
-abbrev pub outer_number : Option Outer → ℕ
-outer_number None = 0
-outer_number (Some Code) = 1
-outer_number (Some Mark) = 2
-outer_number (Some Sub) = 3
-outer_number (Some Sup) = 4
-
--- the number of an inner element
-abbrev pub inner_number : Inner → ℕ
-inner_number Strong = 0
-inner_number Em = 1
-inner_number Span = 2
-
--- each tag has a number of its own, by which two tags are compared
-abbrev pub tag_number : Tag → ℕ
-tag_number Div = 0
-tag_number P = 1
-tag_number H1 = 2
-tag_number H2 = 3
-tag_number H3 = 4
-tag_number H4 = 5
-tag_number H5 = 6
-tag_number H6 = 7
-tag_number Blockquote = 8
-tag_number Ul = 9
-tag_number Ol = 10
-tag_number Li = 11
-tag_number A = 12
-tag_number Table = 13
-tag_number Tr = 14
-tag_number Th = 15
-tag_number Td = 16
-tag_number Br = 17
-tag_number Hr = 18
-tag_number (Inline outer inner) = 19 + 3 * outer_number outer + inner_number inner
+-- whether two tags are one: no two have the same word
+abbrev pub is_tag : Tag → Tag → Bool
+is_tag a b = same_text (tag_word a) (tag_word b)
 
 -- whether two parents are one, or both are missing
 abbrev pub is_parent : Option ℕ → Option ℕ → Bool
@@ -178,7 +142,7 @@ is_parent _ _ = false
 -- whether a place is the only one of a list
 abbrev pub is_only : Option ℕ → Tag → List (Option ℕ × Tag) → Bool
 is_only parent tag [] = false
-is_only parent tag (place ∷ []) = is_parent place.0 parent && (tag_number place.1 == tag_number tag)
+is_only parent tag (place ∷ []) = is_parent place.0 parent && is_tag place.1 tag
 is_only parent tag (place ∷ more ∷ rest) = false
 
 -- how many nodes of these trees, which are below a kept node, aren't kept: none below one that isn't is

@@ -5,6 +5,7 @@ pub mod Counting
 pub mod Created
 pub mod Families
 pub mod Handled
+pub mod Looking
 pub mod Making
 pub mod Reading
 pub mod Reconciled

@@ -1,10 +1,10 @@
 //! How many nodes of one tree aren't kept from another one.
 
-ghost use Rattle.std.specs.Prelude.{◌≡◌, ◌==◌, ◌&&◌, ◌+◌, ℕ, List, length, true, None, Some, Ok, IfOk};
+ghost use Rattle.std.specs.Prelude.{◌≡◌, ◌&&◌, ◌+◌, ℕ, List, length, true, None, Some, Ok, IfOk};
 ghost use Rattle.lx_forest.specs.Lookups.{alone, trees_of, children_of, first_child, next_of, has, is_attached};
 ghost use Rattle.lx_links.specs.Stands.{Sound};
 ghost use Rattle.lx_reconcile.specs.Allowed as allowed;
-ghost use Rattle.lx_reconcile.specs.Allowed.{AreUnkept, is_parent, is_only, places_of, tag_number};
+ghost use Rattle.lx_reconcile.specs.Allowed.{AreUnkept, is_parent, is_only, places_of, is_tag};
 ghost use Rattle.lx_render.specs.Render as shown;
 ghost use Rattle.lx_reconcile.specs.Counting.{IsInTree, unkept_in};
 
@@ -27,7 +27,7 @@ fn is_below(node: &Node, parent: Option<Key>) -> bool
 
 /// Whether a node was below this parent with the element that it has now.
 fn was_here(was: &Node, parent: Option<Key>, now: &Node) -> bool
-    ensures { result ≡ (is_parent was.now.parent parent && tag_number (shown.tag_of was.now.kind was.now.fields) == tag_number (shown.tag_of now.now.kind now.now.fields)) }
+    ensures { result ≡ (is_parent was.now.parent parent && is_tag (shown.tag_of was.now.kind was.now.fields) (shown.tag_of now.now.kind now.now.fields)) }
 {
     is_below(was, parent) && has_same_tag(was, now)
 }
@@ -40,11 +40,11 @@ fn is_kept<S, L: Look<S>>(
     key: Key,
     now: &Node,
 ) -> bool
-    requires in_tree { kept ≡ true → IsInTree (L.whole before.old) parent key }
-    ensures sound { kept ≡ true → Sound (L.whole before.old) }
-    ensures kept { result ≡ (kept && is_only parent (shown.tag_of now.now.kind now.now.fields) (places_of key None (alone 0 (L.whole before.old)))) }
-    ensures in_tree { result ≡ true → is_attached (L.whole before.old) key ≡ true }
-    ensures same { L.whole before.new ≡ L.whole before.old }
+    requires in_tree { kept ≡ true → IsInTree (L.backing before.old).whole parent key }
+    ensures sound { kept ≡ true → Sound (L.backing before.old).whole }
+    ensures kept { result ≡ (kept && is_only parent (shown.tag_of now.now.kind now.now.fields) (places_of key None (alone 0 (L.backing before.old).whole))) }
+    ensures in_tree { result ≡ true → is_attached (L.backing before.old).whole key ≡ true }
+    ensures same { (L.backing before.new).whole ≡ (L.backing before.old).whole }
 {
     if !kept {
         return false;
@@ -65,14 +65,14 @@ fn count_child<B, A, O: Look<B>, N: Look<A>>(
     kept: bool,
     key: Key,
 ) -> (u32, Option<Key>)
-    requires there { has key (N.whole after.old) ≡ true }
-    requires in_tree { kept ≡ true → IsInTree (O.whole before.old) parent key }
-    ensures count { result.0 ≡ unkept_in kept (alone 0 (O.whole before.old)) parent (alone key (N.whole after.old)) }
-    ensures next { result.1 ≡ next_of (N.whole after.old) key }
-    ensures sound_before { kept ≡ true → Sound (O.whole before.old) }
-    ensures sound_after { Sound (N.whole after.old) }
-    ensures before { O.whole before.new ≡ O.whole before.old }
-    ensures after { N.whole after.new ≡ N.whole after.old }
+    requires there { has key (N.backing after.old).whole ≡ true }
+    requires in_tree { kept ≡ true → IsInTree (O.backing before.old).whole parent key }
+    ensures count { result.0 ≡ unkept_in kept (alone 0 (O.backing before.old).whole) parent (alone key (N.backing after.old).whole) }
+    ensures next { result.1 ≡ next_of (N.backing after.old).whole key }
+    ensures sound_before { kept ≡ true → Sound (O.backing before.old).whole }
+    ensures sound_after { Sound (N.backing after.old).whole }
+    ensures before { (O.backing before.new).whole ≡ (O.backing before.old).whole }
+    ensures after { (N.backing after.new).whole ≡ (N.backing after.old).whole }
 {
     let Some(found) = N::look(after, key) else {
         unreachable!();
@@ -96,12 +96,12 @@ fn count_children<B, A, O: Look<B>, N: Look<A>>(
     kept: bool,
     first: Option<Key>,
 ) -> u32
-    requires sound { Sound (N.whole after.old) }
-    requires first { first ≡ first_child (N.whole after.old) key }
-    requires in_tree { kept ≡ true → is_attached (O.whole before.old) key ≡ true }
-    ensures count { result ≡ unkept_in kept (alone 0 (O.whole before.old)) (Some key) (trees_of (N.whole after.old) (children_of (N.whole after.old) key)) }
-    ensures before { O.whole before.new ≡ O.whole before.old }
-    ensures after { N.whole after.new ≡ N.whole after.old }
+    requires sound { Sound (N.backing after.old).whole }
+    requires first { first ≡ first_child (N.backing after.old).whole key }
+    requires in_tree { kept ≡ true → is_attached (O.backing before.old).whole key ≡ true }
+    ensures count { result ≡ unkept_in kept (alone 0 (O.backing before.old).whole) (Some key) (trees_of (N.backing after.old).whole (children_of (N.backing after.old).whole key)) }
+    ensures before { (O.backing before.new).whole ≡ (O.backing before.old).whole }
+    ensures after { (N.backing after.new).whole ≡ (N.backing after.old).whole }
 {
     let mut at = first;
     let mut count = 0;

@@ -8,6 +8,7 @@ ghost use Rattle.lx_forest.specs.Lookups.{alone, trees_of, children_of, first_ch
 ghost use Rattle.lx_forest.specs.Records.{record_at};
 ghost use Rattle.lx_forest.specs.Views.{kind_at};
 ghost use Rattle.lx_links.specs.Stands.{node_of, Sound};
+ghost use Rattle.lx_reconcile.specs.Looking.{Stays};
 ghost use Rattle.lx_reconcile.specs.Created.{create_op, creations, creation_of};
 
 use crate::looks::{Look, Looked};
@@ -21,9 +22,7 @@ pub(crate) fn read_kind<S, L: Look<S>>(source: &mut S, key: Option<Key>) -> Opti
     requires there { (k : ℕ) → key ≡ Some k → has k (L.forest source.old) ≡ true }
     ensures kind { result ≡ kind_at (L.forest source.old) key }
     ensures same { L.forest source.new ≡ L.forest source.old }
-    ensures lag { L.lag source.new ≤ L.lag source.old }
-    ensures place { L.place source.new ≡ L.place source.old }
-    ensures whole { L.whole source.new ≡ L.whole source.old }
+    ensures backing { Stays (L.backing source.old) (L.backing source.new) }
     ensures reads { L.count source.new ≤ L.count source.old + 1 }
 {
     let found = L::look(source, key?)?;
@@ -42,9 +41,7 @@ fn create_host<S, L: Look<S>>(
     requires there { (k : ℕ) → node.now.last ≡ Some k → has k (L.forest source.old) ≡ true }
     ensures ops { OnOk result (ops.new.items ≡ ops.old.items ++ create_op id (record { key = key; kind = node.now.kind; fields = node.now.fields }) (kind_at (L.forest source.old) node.now.last) ∷ []) }
     ensures same { L.forest source.new ≡ L.forest source.old }
-    ensures lag { L.lag source.new ≤ L.lag source.old }
-    ensures place { L.place source.new ≡ L.place source.old }
-    ensures whole { L.whole source.new ≡ L.whole source.old }
+    ensures backing { Stays (L.backing source.old) (L.backing source.new) }
     ensures reads { L.count source.new ≤ L.count source.old + 1 }
 {
     let last = read_kind::<S, L>(source, node.last);
@@ -78,9 +75,7 @@ pub fn create_tree<S, L: Look<S>>(
     ensures ops { OnOk result (ops.new.items ≡ ops.old.items ++ creation_of id (alone key (L.forest source.old))) }
     ensures next { IfOk result (λ next. next ≡ id + total (alone key (L.forest source.old))) }
     ensures same { L.forest source.new ≡ L.forest source.old }
-    ensures lag { L.lag source.new ≤ L.lag source.old }
-    ensures place { L.place source.new ≡ L.place source.old }
-    ensures whole { L.whole source.new ≡ L.whole source.old }
+    ensures backing { Stays (L.backing source.old) (L.backing source.new) }
     ensures reads { L.count source.new + 1 ≤ L.count source.old + 2 * total (alone key (L.forest source.old)) }
 {
     create_host::<S, L>(alloc, source, key, node, id, ops)?;
@@ -105,9 +100,7 @@ pub fn create_children<S, L: Look<S>>(
     ensures ops { OnOk result (ops.new.items ≡ ops.old.items ++ creations host (host + 1) (trees_of (L.forest source.old) (children_of (L.forest source.old) key))) }
     ensures next { IfOk result (λ next. next ≡ host + 1 + total (trees_of (L.forest source.old) (children_of (L.forest source.old) key))) }
     ensures same { L.forest source.new ≡ L.forest source.old }
-    ensures lag { L.lag source.new ≤ L.lag source.old }
-    ensures place { L.place source.new ≡ L.place source.old }
-    ensures whole { L.whole source.new ≡ L.whole source.old }
+    ensures backing { Stays (L.backing source.old) (L.backing source.new) }
     ensures reads { L.count source.new ≤ L.count source.old + 2 * total (trees_of (L.forest source.old) (children_of (L.forest source.old) key)) }
 {
     let mut at = first;
@@ -141,9 +134,7 @@ fn create_child<S, L: Look<S>>(
     ensures next_id { IfOk result (λ next. next.0 ≡ id + total (alone key (L.forest source.old))) }
     ensures next { IfOk result (λ next. next.1 ≡ next_of (L.forest source.old) key) }
     ensures same { L.forest source.new ≡ L.forest source.old }
-    ensures lag { L.lag source.new ≤ L.lag source.old }
-    ensures place { L.place source.new ≡ L.place source.old }
-    ensures whole { L.whole source.new ≡ L.whole source.old }
+    ensures backing { Stays (L.backing source.old) (L.backing source.new) }
     ensures reads { L.count source.new ≤ L.count source.old + 2 * total (alone key (L.forest source.old)) }
 {
     let Some(found) = L::look(source, key) else {

@@ -8,6 +8,7 @@ ghost use Rattle.lx_host.specs.Hosts.{Face, with_ending};
 ghost use Rattle.lx_forest.specs.Lookups.{has};
 ghost use Rattle.lx_forest.specs.Views.{kind_at};
 ghost use Rattle.lx_render.specs.Render as shown;
+ghost use Rattle.lx_reconcile.specs.Looking.{Stays};
 ghost use Rattle.lx_reconcile.specs.Changing.{next_order, Writes, Changes, shown_face};
 
 use crate::creation::read_kind;
@@ -231,9 +232,7 @@ pub(crate) fn is_ended<S, L: Look<S>>(source: &mut S, node: &Node) -> bool
     requires there { (k : ℕ) → node.now.last ≡ Some k → has k (L.forest source.old) ≡ true }
     ensures ended { result ≡ shown.needs_break node.now.kind (kind_at (L.forest source.old) node.now.last) }
     ensures same { L.forest source.new ≡ L.forest source.old }
-    ensures lag { L.lag source.new ≤ L.lag source.old }
-    ensures place { L.place source.new ≡ L.place source.old }
-    ensures whole { L.whole source.new ≡ L.whole source.old }
+    ensures backing { Stays (L.backing source.old) (L.backing source.new) }
     ensures reads { L.count source.new ≤ L.count source.old + 1 }
 {
     let last = read_kind::<S, L>(source, node.last);

@@ -7,6 +7,7 @@ ghost use Rattle.lx_forest.specs.Forest.{Forest};
 ghost use Rattle.lx_forest.specs.Records.{record_at};
 ghost use Rattle.lx_forest.specs.Lookups.{alone, has, next_of};
 ghost use Rattle.lx_links.specs.Stands.{node_of, Sound};
+ghost use Rattle.lx_reconcile.specs.Looking.{Backing, Stays};
 
 use lx_links::Records;
 use lx_node::{Key, Node};
@@ -40,26 +41,18 @@ pub trait Look<S> {
     /// How many reads it has made.
     ghost count: { S → ℕ };
 
-    /// How many more the records themselves have made.
-    ghost lag: { S → ℕ };
-
-    /// The forest of the records themselves.
-    ghost whole: { S → Forest };
-
-    /// What the source borrows, if anything, which stays.
-    ghost place: { S → ℕ };
+    /// The records behind it.
+    ghost backing: { S → Backing };
 
     /// The node of the key, where the forest has one. It counts the call, up to 2^64 - 1.
     fn look(source: &mut S, key: Key) -> Option<Self::Item>
         ensures found { has key (forest source.old) ≡ true → option_map Self.Item.lent result ≡ option_map node_of (record_at (forest source.old) key) }
         ensures sound { Sound (forest source.old) }
-        ensures whole_found { option_map Self.Item.lent result ≡ option_map node_of (record_at (whole source.old) key) }
-        ensures whole_sound { Sound (whole source.old) }
+        ensures whole_found { option_map Self.Item.lent result ≡ option_map node_of (record_at (backing source.old).whole key) }
+        ensures whole_sound { Sound (backing source.old).whole }
         ensures same { forest source.new ≡ forest source.old }
         ensures reads { count source.new ≤ count source.old + 1 }
-        ensures lag { lag source.new ≤ lag source.old }
-        ensures whole { whole source.new ≡ whole source.old }
-        ensures place { place source.new ≡ place source.old };
+        ensures backing { Stays (backing source.old) (backing source.new) };
 }
 
 /// The way to look nodes up in records that lend them for this lifetime.
@@ -72,11 +65,7 @@ impl<'a, R: Records<'a>> Look<R> for Reads<'a> {
 
     ghost count = { R.count };
 
-    ghost lag = { λ r. 0 };
-
-    ghost whole = { R.forest };
-
-    ghost place = { λ r. 0 };
+    ghost backing = { λ r. record { lag = 0; whole = R.forest r; place = 0 } };
 
     fn look(source: &mut R, key: Key) -> Option<&'a Node> {
         source.read(key)
@@ -118,11 +107,7 @@ impl<'a, 'r, R: Records<'a>> Look<Tally<'r, R>> for Tallied<'a> {
 
     ghost count = { λ t. t.reads };
 
-    ghost lag = { λ t. R.count t.source.now - t.reads };
-
-    ghost whole = { λ t. R.forest t.source.now };
-
-    ghost place = { λ t. t.source.ghost_name };
+    ghost backing = { λ t. record { lag = R.count t.source.now - t.reads; whole = R.forest t.source.now; place = t.source.ghost_name } };
 
     fn look(tally: &mut Tally<'r, R>, key: Key) -> Option<&'a Node> {
         tally.reads = tally.reads.saturating_add(1);
@@ -135,9 +120,7 @@ pub(crate) fn found<S, L: Look<S>>(source: &mut S, key: Key) -> L::Item
     requires there { has key (L.forest source.old) ≡ true }
     ensures found { Some (L.Item.lent result) ≡ option_map node_of (record_at (L.forest source.old) key) }
     ensures same { L.forest source.new ≡ L.forest source.old }
-    ensures lag { L.lag source.new ≤ L.lag source.old }
-    ensures place { L.place source.new ≡ L.place source.old }
-    ensures whole { L.whole source.new ≡ L.whole source.old }
+    ensures backing { Stays (L.backing source.old) (L.backing source.new) }
     ensures sound { Sound (L.forest source.old) }
     ensures reads { L.count source.new ≤ L.count source.old + 1 }
 {
@@ -152,9 +135,7 @@ pub(crate) fn next_after<S, L: Look<S>>(source: &mut S, key: Key) -> Option<Key>
     requires there { has key (L.forest source.old) ≡ true }
     ensures next { result ≡ next_of (L.forest source.old) key }
     ensures same { L.forest source.new ≡ L.forest source.old }
-    ensures lag { L.lag source.new ≤ L.lag source.old }
-    ensures place { L.place source.new ≡ L.place source.old }
-    ensures whole { L.whole source.new ≡ L.whole source.old }
+    ensures backing { Stays (L.backing source.old) (L.backing source.new) }
     ensures reads { L.count source.new ≤ L.count source.old + 1 }
 {
     let item = found::<S, L>(source, key);

@@ -10,6 +10,7 @@ ghost use Rattle.lx_forest.specs.Lookups.{alone, roots, trees_of, children_of, f
 ghost use Rattle.lx_forest.specs.Records.{record_at};
 ghost use Rattle.lx_links.specs.Stands.{node_of, Sound};
 ghost use Rattle.lx_forest.specs.Covered.{AreCovered};
+ghost use Rattle.lx_reconcile.specs.Looking.{Stays};
 ghost use Rattle.lx_reconcile.specs.Allowed.{hosts_of, marked_children, staying, unkept, Shows};
 ghost use Rattle.lx_reconcile.specs.Allowing.{marking, IsAllowed};
 ghost use Rattle.lx_render.specs.Render as shown;
@@ -101,9 +102,7 @@ fn make_child<S, L: Look<S>>(
     ensures ops { OnOk result (written.new.ops.items ≡ written.old.ops.items ++ creation_of written.old.next (alone key (L.forest after.old)) ++ op.Place host written.old.next before ∷ []) }
     ensures end { OnOk result (written.new.next ≡ written.old.next + total (alone key (L.forest after.old))) }
     ensures same { L.forest after.new ≡ L.forest after.old }
-    ensures lag { L.lag after.new ≤ L.lag after.old }
-    ensures place { L.place after.new ≡ L.place after.old }
-    ensures whole { L.whole after.new ≡ L.whole after.old }
+    ensures backing { Stays (L.backing after.old) (L.backing after.new) }
     ensures reads { L.count after.new ≤ L.count after.old + 2 * total (alone key (L.forest after.old)) }
 {
     let item = found::<S, L>(after, key);
@@ -133,9 +132,7 @@ fn replace_child<S, L: Look<S>>(
     ensures ops { OnOk result (written.new.ops.items ≡ written.old.ops.items ++ creation_of written.old.next (alone key (L.forest after.old)) ++ op.Place host written.old.next (Some old) ∷ [] ++ op.Drop old ∷ []) }
     ensures end { OnOk result (written.new.next ≡ written.old.next + total (alone key (L.forest after.old))) }
     ensures same { L.forest after.new ≡ L.forest after.old }
-    ensures lag { L.lag after.new ≤ L.lag after.old }
-    ensures place { L.place after.new ≡ L.place after.old }
-    ensures whole { L.whole after.new ≡ L.whole after.old }
+    ensures backing { Stays (L.backing after.old) (L.backing after.new) }
     ensures reads { L.count after.new ≤ L.count after.old + 2 * total (alone key (L.forest after.old)) }
 {
     make_child::<S, L>(alloc, after, host, key, Some(old), written)?;
@@ -172,12 +169,8 @@ fn moves_of<B, A, O: Look<B>, N: Look<A>>(
     ensures part { IfOk result (λ moves. IsPart (marking given.now.marks.now).noted (children_of (O.forest before.old) parent.now.key) (children_of (N.forest after.old) parent.now.key) moves.items) }
     ensures before { O.forest before.new ≡ O.forest before.old }
     ensures after { N.forest after.new ≡ N.forest after.old }
-    ensures lag_before { O.lag before.new ≤ O.lag before.old }
-    ensures place_before { O.place before.new ≡ O.place before.old }
-    ensures whole_before { O.whole before.new ≡ O.whole before.old }
-    ensures lag_after { N.lag after.new ≤ N.lag after.old }
-    ensures place_after { N.place after.new ≡ N.place after.old }
-    ensures whole_after { N.whole after.new ≡ N.whole after.old }
+    ensures backing_before { Stays (O.backing before.old) (O.backing before.new) }
+    ensures backing_after { Stays (N.backing after.old) (N.backing after.new) }
     ensures reads_before { O.count before.new ≤ O.count before.old + length (children_of (O.forest before.old) parent.now.key) }
     ensures reads_after { N.count after.new ≤ N.count after.old + length (children_of (N.forest after.old) parent.now.key) }
 {
@@ -211,12 +204,8 @@ pub(crate) fn reconcile_node<B, A, O: Look<B>, N: Look<A>>(
     ensures done { OnOk result (Reconciles (O.forest before.old) (N.forest after.old) (marking given.now.marks.now) given.now.hosts.now.tree key written.old.next written.old.ops.items written.new.ops.items written.new.next) }
     ensures before { O.forest before.new ≡ O.forest before.old }
     ensures after { N.forest after.new ≡ N.forest after.old }
-    ensures lag_before { O.lag before.new ≤ O.lag before.old }
-    ensures place_before { O.place before.new ≡ O.place before.old }
-    ensures whole_before { O.whole before.new ≡ O.whole before.old }
-    ensures lag_after { N.lag after.new ≤ N.lag after.old }
-    ensures place_after { N.place after.new ≡ N.place after.old }
-    ensures whole_after { N.whole after.new ≡ N.whole after.old }
+    ensures backing_before { Stays (O.backing before.old) (O.backing before.new) }
+    ensures backing_after { Stays (N.backing after.old) (N.backing after.new) }
     ensures reads { O.count before.new + N.count after.new ≤ O.count before.old + N.count after.old + reads_below (O.forest before.old) (N.forest after.old) (marking given.now.marks.now).noted key }
 {
     let host = host_of(given.hosts, key);
@@ -254,12 +243,8 @@ fn make_moves<B, A, O: Look<B>, N: Look<A>>(
     ensures done { OnOk result (MakesMoves (O.forest before.old) (N.forest after.old) (marking given.now.marks.now) given.now.hosts.now.tree parent.now.key moves.now written.old.next written.old.ops.items written.new.ops.items written.new.next) }
     ensures before { O.forest before.new ≡ O.forest before.old }
     ensures after { N.forest after.new ≡ N.forest after.old }
-    ensures lag_before { O.lag before.new ≤ O.lag before.old }
-    ensures place_before { O.place before.new ≡ O.place before.old }
-    ensures whole_before { O.whole before.new ≡ O.whole before.old }
-    ensures lag_after { N.lag after.new ≤ N.lag after.old }
-    ensures place_after { N.place after.new ≡ N.place after.old }
-    ensures whole_after { N.whole after.new ≡ N.whole after.old }
+    ensures backing_before { Stays (O.backing before.old) (O.backing before.new) }
+    ensures backing_after { Stays (N.backing after.old) (N.backing after.new) }
     ensures reads { O.count before.new + N.count after.new ≤ O.count before.old + N.count after.old + reads_in (O.forest before.old) (marking given.now.marks.now).noted (Some parent.now.key) (trees_of (N.forest after.old) (standing moves.now)) }
 {
     for step in moves {
@@ -285,12 +270,8 @@ fn make_move<B, A, O: Look<B>, N: Look<A>>(
     ensures done { OnOk result (MakesMoves (O.forest before.old) (N.forest after.old) (marking given.now.marks.now) given.now.hosts.now.tree parent.now.key (step ∷ []) written.old.next written.old.ops.items written.new.ops.items written.new.next) }
     ensures before { O.forest before.new ≡ O.forest before.old }
     ensures after { N.forest after.new ≡ N.forest after.old }
-    ensures lag_before { O.lag before.new ≤ O.lag before.old }
-    ensures place_before { O.place before.new ≡ O.place before.old }
-    ensures whole_before { O.whole before.new ≡ O.whole before.old }
-    ensures lag_after { N.lag after.new ≤ N.lag after.old }
-    ensures place_after { N.place after.new ≡ N.place after.old }
-    ensures whole_after { N.whole after.new ≡ N.whole after.old }
+    ensures backing_before { Stays (O.backing before.old) (O.backing before.new) }
+    ensures backing_after { Stays (N.backing after.old) (N.backing after.new) }
     ensures reads { O.count before.new + N.count after.new ≤ O.count before.old + N.count after.old + reads_in (O.forest before.old) (marking given.now.marks.now).noted (Some parent.now.key) (trees_of (N.forest after.old) (standing (step ∷ []))) }
 {
     match step {
@@ -341,12 +322,8 @@ fn reconcile_child<B, A, O: Look<B>, N: Look<A>>(
     ensures done { OnOk result (MakesMoves (O.forest before.old) (N.forest after.old) (marking given.now.marks.now) given.now.hosts.now.tree parent.now.key (Stay key ∷ []) written.old.next written.old.ops.items written.new.ops.items written.new.next) }
     ensures before { O.forest before.new ≡ O.forest before.old }
     ensures after { N.forest after.new ≡ N.forest after.old }
-    ensures lag_before { O.lag before.new ≤ O.lag before.old }
-    ensures place_before { O.place before.new ≡ O.place before.old }
-    ensures whole_before { O.whole before.new ≡ O.whole before.old }
-    ensures lag_after { N.lag after.new ≤ N.lag after.old }
-    ensures place_after { N.place after.new ≡ N.place after.old }
-    ensures whole_after { N.whole after.new ≡ N.whole after.old }
+    ensures backing_before { Stays (O.backing before.old) (O.backing before.new) }
+    ensures backing_after { Stays (N.backing after.old) (N.backing after.new) }
     ensures reads { O.count before.new + N.count after.new ≤ O.count before.old + N.count after.old + reads_in (O.forest before.old) (marking given.now.marks.now).noted (Some parent.now.key) (alone key (N.forest after.old)) }
 {
     if !is_noted(given.marks, key) {
@@ -387,12 +364,8 @@ pub(crate) fn reconcile_root<B, A, O: Look<B>, N: Look<A>>(
     ensures fits { 8 * (marked_children (staying (marking marks.now).noted (N.forest after.old)) (O.forest before.old) + marked_children (marking marks.now).noted (N.forest after.old) + unkept (O.forest before.old) None (N.forest after.old) + 1) < last_u64 }
     ensures before { O.forest before.new ≡ O.forest before.old }
     ensures after { N.forest after.new ≡ N.forest after.old }
-    ensures lag_before { O.lag before.new ≤ O.lag before.old }
-    ensures place_before { O.place before.new ≡ O.place before.old }
-    ensures whole_before { O.whole before.new ≡ O.whole before.old }
-    ensures lag_after { N.lag after.new ≤ N.lag after.old }
-    ensures place_after { N.place after.new ≡ N.place after.old }
-    ensures whole_after { N.whole after.new ≡ N.whole after.old }
+    ensures backing_before { Stays (O.backing before.old) (O.backing before.new) }
+    ensures backing_after { Stays (N.backing after.old) (N.backing after.new) }
     ensures reads { O.count before.new + N.count after.new ≤ O.count before.old + N.count after.old + 8 * (marked_children (staying (marking marks.now).noted (N.forest after.old)) (O.forest before.old) + marked_children (marking marks.now).noted (N.forest after.old) + unkept (O.forest before.old) None (N.forest after.old) + 1) }
 {
     let key = Key::root();

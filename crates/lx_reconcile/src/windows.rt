@@ -6,6 +6,7 @@ ghost use Rattle.std.specs.Option.{option_or};
 ghost use Rattle.lx_trees.specs.Siblings.{is_among, is_named, is_place, last_of, NoRepeats};
 ghost use Rattle.lx_forest.specs.Lookups.{children_of, has, next_of, IsForest};
 ghost use Rattle.lx_links.specs.Stands.{Sound};
+ghost use Rattle.lx_reconcile.specs.Looking.{Stays};
 ghost use Rattle.lx_reconcile.specs.Allowing.{marking};
 ghost use Rattle.lx_reconcile.specs.Walk as walks;
 ghost use Rattle.lx_reconcile.specs.Windows.{between_names, start_of, end_of, marked_among, Takes, IsWindow, IsWindowOfMarks, IsWalkIn};
@@ -61,9 +62,7 @@ fn take_before<S, L: Look<S>>(
     requires run { IsWindow (children_of (L.forest source.old) key) window.old }
     ensures taken { IfOk result (λ marked. Takes (marking marks.now).noted (children_of (L.forest source.old) key) window.old window.new marked) }
     ensures same { L.forest source.new ≡ L.forest source.old }
-    ensures lag { L.lag source.new ≤ L.lag source.old }
-    ensures place { L.place source.new ≡ L.place source.old }
-    ensures whole { L.whole source.new ≡ L.whole source.old }
+    ensures backing { Stays (L.backing source.old) (L.backing source.new) }
     ensures reads { L.count source.new ≤ L.count source.old + 1 }
 {
     let Some(child) = window.before else {
@@ -87,9 +86,7 @@ fn take_behind<S, L: Look<S>>(
     requires run { IsWindow (children_of (L.forest source.old) key) window.old }
     ensures taken { IfOk result (λ marked. Takes (marking marks.now).noted (children_of (L.forest source.old) key) window.old window.new marked) }
     ensures same { L.forest source.new ≡ L.forest source.old }
-    ensures lag { L.lag source.new ≤ L.lag source.old }
-    ensures place { L.place source.new ≡ L.place source.old }
-    ensures whole { L.whole source.new ≡ L.whole source.old }
+    ensures backing { Stays (L.backing source.old) (L.backing source.new) }
     ensures reads { L.count source.new ≤ L.count source.old + 1 }
 {
     let Some(child) = window.behind else {
@@ -115,9 +112,7 @@ fn take_one<S, L: Look<S>>(
     requires run { IsWindow (children_of (L.forest source.old) key) window.old }
     ensures taken { IfOk result (λ marked. Takes (marking marks.now).noted (children_of (L.forest source.old) key) window.old window.new marked) }
     ensures same { L.forest source.new ≡ L.forest source.old }
-    ensures lag { L.lag source.new ≤ L.lag source.old }
-    ensures place { L.place source.new ≡ L.place source.old }
-    ensures whole { L.whole source.new ≡ L.whole source.old }
+    ensures backing { Stays (L.backing source.old) (L.backing source.new) }
     ensures reads { L.count source.new ≤ L.count source.old + 1 }
 {
     if window.before.is_none() || (behind && window.behind.is_some()) {
@@ -142,9 +137,7 @@ pub(crate) fn marked_window<S, L: Look<S>>(
     requires size { marked_among (marking marks.now).noted (children_of (L.forest source.old) key) ≤ family.size }
     ensures window { IfOk result (λ window. IsWindowOfMarks (marking marks.now).noted (children_of (L.forest source.old) key) window) }
     ensures same { L.forest source.new ≡ L.forest source.old }
-    ensures lag { L.lag source.new ≤ L.lag source.old }
-    ensures place { L.place source.new ≡ L.place source.old }
-    ensures whole { L.whole source.new ≡ L.whole source.old }
+    ensures backing { Stays (L.backing source.old) (L.backing source.new) }
     ensures reads { L.count source.new ≤ L.count source.old + length (children_of (L.forest source.old) key) }
 {
     let mut window = window_at::<S, L>(alloc, source, key, family.child)?;
@@ -171,9 +164,7 @@ fn window_at<S, L: Look<S>>(
     ensures run { IfOk result (λ window. IsWindow (children_of (L.forest source.old) key) window) }
     ensures keys { IfOk result (λ window. window.keys.items ≡ child ∷ []) }
     ensures same { L.forest source.new ≡ L.forest source.old }
-    ensures lag { L.lag source.new ≤ L.lag source.old }
-    ensures place { L.place source.new ≡ L.place source.old }
-    ensures whole { L.whole source.new ≡ L.whole source.old }
+    ensures backing { Stays (L.backing source.old) (L.backing source.new) }
     ensures reads { L.count source.new ≤ L.count source.old + 1 }
 {
     let item = found::<S, L>(source, child);
@@ -223,9 +214,7 @@ fn next_in_run<S, L: Look<S>>(source: &mut S, run: &Run, key: Key) -> Option<Key
     requires there { has key (L.forest source.old) ≡ true }
     ensures next { result ≡ (if is_named run.now.last key then None else next_of (L.forest source.old) key) }
     ensures same { L.forest source.new ≡ L.forest source.old }
-    ensures lag { L.lag source.new ≤ L.lag source.old }
-    ensures place { L.place source.new ≡ L.place source.old }
-    ensures whole { L.whole source.new ≡ L.whole source.old }
+    ensures backing { Stays (L.backing source.old) (L.backing source.new) }
     ensures reads { L.count source.new ≤ L.count source.old + 1 }
 {
     match run.last {
@@ -245,9 +234,7 @@ fn keys_in<S, L: Look<S>>(
     requires first { is_place run.now.first (children_of (L.forest source.old) key) ≡ true }
     ensures keys { IfOk result (λ keys. keys.items ≡ between_names run.now.first run.now.last (children_of (L.forest source.old) key)) }
     ensures same { L.forest source.new ≡ L.forest source.old }
-    ensures lag { L.lag source.new ≤ L.lag source.old }
-    ensures place { L.place source.new ≡ L.place source.old }
-    ensures whole { L.whole source.new ≡ L.whole source.old }
+    ensures backing { Stays (L.backing source.old) (L.backing source.new) }
     ensures reads { L.count source.new ≤ L.count source.old + length (children_of (L.forest source.old) key) }
 {
     let mut keys = Vec::new(alloc);
@@ -313,9 +300,7 @@ pub(crate) fn moves_in<S, L: Look<S>>(
     requires first { is_place (start_of window.old first) (children_of (L.forest after.old) key) ≡ true }
     ensures walk { IfOk result (λ moves. IsWalkIn window.old first (children_of (L.forest after.old) key) moves.items) }
     ensures same { L.forest after.new ≡ L.forest after.old }
-    ensures lag { L.lag after.new ≤ L.lag after.old }
-    ensures place { L.place after.new ≡ L.place after.old }
-    ensures whole { L.whole after.new ≡ L.whole after.old }
+    ensures backing { Stays (L.backing after.old) (L.backing after.new) }
     ensures reads { L.count after.new ≤ L.count after.old + length (children_of (L.forest after.old) key) }
 {
     let run = run_after(window, first);

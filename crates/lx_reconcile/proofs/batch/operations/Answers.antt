@@ -14,8 +14,8 @@ returns-clause-told g c =
     omega (
       arith,
       c.reconcile_root.ensures.fits,
-      c.reconcile_root.ensures.lag_before,
-      c.reconcile_root.ensures.lag_after,
+      c.reconcile_root.ensures.backing_before.0,
+      c.reconcile_root.ensures.backing_after.0,
       c.reconcile_root.ensures.reads,
       ap count c.new-first.ensures.source,
       ap count c.new-second.ensures.source,

@@ -21,9 +21,7 @@ pub create_children-loop-at-preserved : goal.create_children-loop-at-preserved
 create_children-loop-at-preserved g t c = record {
   same = c.in-Ok.ensures.same ∙ c.loop-at.invariant.same;
   made = made_child _ _ _ _ _ _ _ _ _ _ _ _ c.loop-at.invariant.same c.requires.sound c.in-Some.is c.loop-at.invariant.made c.in-Ok.ensures.next c.in-Ok.ensures.next_id c.in-Ok.ensures.ops;
-  lag = omega (arith, c.in-Ok.ensures.lag, c.loop-at.invariant.lag);
-  place = c.in-Ok.ensures.place ∙ c.loop-at.invariant.place;
-  whole = c.in-Ok.ensures.whole ∙ c.loop-at.invariant.whole;
+  backing = search rules;
   reads = omega (arith, c.loop-at.invariant.reads, c.in-Ok.ensures.reads, left_with _ _ c.args.key c.in-Some.child _ _ c.loop-at.invariant.same c.requires.sound c.in-Some.is c.loop-at.invariant.made.place c.in-Ok.ensures.next);
 }
 

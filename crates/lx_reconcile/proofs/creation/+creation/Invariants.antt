@@ -2,6 +2,7 @@ use Rattle.std.proofs.Common.{◌≡◌, ◌+◌, ◌*◌, ◌≤◌, length}
 use Rattle.lx_trees.specs.NamedTrees.{total}
 use Rattle.lx_trees.specs.Siblings.{from_name}
 use Rattle.lx_forest.specs.Lookups.{alone, trees_of, children_of}
+use Rattle.lx_reconcile.specs.Looking.{Stays}
 use Rattle.lx_reconcile.proofs.Children.{IsMadeUpTo}
 use Rattle.lx_reconcile.proofs.creation.+creation.Given as goal
 
@@ -18,9 +19,7 @@ abbrev pub invariant-create_children-loop-at : goal.invariant-create_children-lo
 invariant-create_children-loop-at g l = record {
   same : g.L.Look.forest l.source ≡ g.L.Look.forest l.initial.source;
   made : IsMadeUpTo (g.L.Look.forest l.initial.source) l.fn.key l.host l.initial.ops.items l.at l.id l.ops.items;
-  lag : g.L.Look.lag l.source ≤ g.L.Look.lag l.initial.source;
-  place : g.L.Look.place l.source ≡ g.L.Look.place l.initial.source;
-  whole : g.L.Look.whole l.source ≡ g.L.Look.whole l.initial.source;
+  backing : Stays (g.L.Look.backing l.initial.source) (g.L.Look.backing l.source);
   reads : g.L.Look.count l.source + 2 * total (trees_of (g.L.Look.forest l.initial.source) (from_name l.at (children_of (g.L.Look.forest l.initial.source) l.fn.key))) ≤ g.L.Look.count l.initial.source + 2 * total (trees_of (g.L.Look.forest l.initial.source) (children_of (g.L.Look.forest l.initial.source) l.fn.key));
 }
 

@@ -87,12 +87,8 @@ make_moves-loop-step-init g t c = record {
   before = refl;
   after = refl;
   made = Made.makes_none;
-  lag_before = omega arith;
-  lag_after = omega arith;
-  place_before = refl;
-  place_after = refl;
-  whole_before = refl;
-  whole_after = refl;
+  backing_before = search rules;
+  backing_after = search rules;
   reads = omega arith;
 }
 
@@ -114,12 +110,8 @@ make_moves-loop-step-preserved g t c =
       before = told.before ∙ had.before;
       after = told.after ∙ had.after;
       made = Made.makes_next c.args.moves.now c.loop-step.step-index c.loop-step-test.true c.step-item.is had.made (Made.moves_still had.before had.after told.done);
-      lag_before = omega (arith, told.lag_before, had.lag_before);
-      lag_after = omega (arith, told.lag_after, had.lag_after);
-      place_before = told.place_before ∙ had.place_before;
-      place_after = told.place_after ∙ had.place_after;
-      whole_before = told.whole_before ∙ had.whole_before;
-      whole_after = told.whole_after ∙ had.whole_after;
+      backing_before = search rules;
+      backing_after = search rules;
       reads = reads_up_to g t (goal.at.make_moves-loop-step-preserved g t c).After-make_move;
     }
 

@@ -5,6 +5,7 @@ use Rattle.lx_reconcile.specs.Allowing.{marking}
 use Rattle.lx_reconcile.specs.Reading.{reads_in}
 use Rattle.lx_reconcile.specs.Walk.{standing}
 use Rattle.lx_reconcile.specs.Making.{MakesMoves, standing_total}
+use Rattle.lx_reconcile.specs.Looking.{Stays}
 use Rattle.lx_reconcile.proofs.reconciling.+reconciling.Given as goal
 
 abbrev pub decreases-reconcile_node : goal.decreases-reconcile_node
@@ -24,11 +25,7 @@ invariant-make_moves-loop-step g l = record {
   before : g.O.Look.forest l.before ≡ g.O.Look.forest l.initial.before;
   after : g.N.Look.forest l.after ≡ g.N.Look.forest l.initial.after;
   made : MakesMoves (g.O.Look.forest l.initial.before) (g.N.Look.forest l.initial.after) (marking l.given.marks.now) l.given.hosts.now.tree l.parent.key (take l.step-index l.moves) l.initial.written.next l.initial.written.ops.items l.written.ops.items l.written.next;
-  lag_before : g.O.Look.lag l.before ≤ g.O.Look.lag l.initial.before;
-  place_before : g.O.Look.place l.before ≡ g.O.Look.place l.initial.before;
-  whole_before : g.O.Look.whole l.before ≡ g.O.Look.whole l.initial.before;
-  lag_after : g.N.Look.lag l.after ≤ g.N.Look.lag l.initial.after;
-  place_after : g.N.Look.place l.after ≡ g.N.Look.place l.initial.after;
-  whole_after : g.N.Look.whole l.after ≡ g.N.Look.whole l.initial.after;
+  backing_before : Stays (g.O.Look.backing l.initial.before) (g.O.Look.backing l.before);
+  backing_after : Stays (g.N.Look.backing l.initial.after) (g.N.Look.backing l.after);
   reads : g.O.Look.count l.before + g.N.Look.count l.after ≤ g.O.Look.count l.initial.before + g.N.Look.count l.initial.after + reads_in (g.O.Look.forest l.initial.before) (marking l.given.marks.now).noted (Some l.parent.key) (trees_of (g.N.Look.forest l.initial.after) (standing (take l.step-index l.moves)));
 }

@@ -1,4 +1,4 @@
-use Rattle.std.proofs.Common.{◌∙◌, ◌∷◌, [], cond, None, ap, arith, length, length-append}
+use Rattle.std.proofs.Common.{◌∙◌, ◌∷◌, [], cond, None, ap, arith, rules, length, length-append}
 use Rattle.lx_trees.specs.Siblings.{is_named}
 use Rattle.lx_forest.specs.Lookups.{children_of}
 use Rattle.lx_reconcile.proofs.Between.{found_more, found_fewer, found_within}
@@ -25,9 +25,7 @@ loop-at-preserved g c =
       same = c.next_in_run-at.ensures.same ∙ c.loop-at.invariant.same;
       found = found_more (children_of f c.args.key) c.args.run.now.first c.args.run.now.last c.loop-at.at c.next_in_run-at.result c.in-Some.child c.loop-at.keys.items _ next.once c.in-Some.is c.loop-at.invariant.found
           (c.next_in_run-at.ensures.next ∙ ap (cond (is_named c.args.run.now.last c.in-Some.child) None) next.next) c.in_ok-push.ensures.items;
-      lag = omega (arith, c.next_in_run-at.ensures.lag, c.loop-at.invariant.lag);
-      place = c.next_in_run-at.ensures.place ∙ c.loop-at.invariant.place;
-      whole = c.next_in_run-at.ensures.whole ∙ c.loop-at.invariant.whole;
+      backing = search rules;
       reads = omega (arith, c.next_in_run-at.ensures.reads, c.loop-at.invariant.reads, ap length c.in_ok-push.ensures.items, length-append c.loop-at.keys.items (c.in-Some.child ∷ []));
     }
 

@@ -1,6 +1,7 @@
 use Rattle.std.proofs.Common.{◌≡◌, ◌+◌, ◌≤◌, length}
 use Rattle.lx_trees.specs.Siblings.{from_name}
 use Rattle.lx_forest.specs.Lookups.{children_of}
+use Rattle.lx_reconcile.specs.Looking.{Stays}
 use Rattle.lx_reconcile.proofs.Between.{AreFound}
 use Rattle.lx_reconcile.proofs.windows.keys_in.Given as goal
 
@@ -8,9 +9,7 @@ abbrev pub invariant-loop-at : goal.invariant-loop-at
 invariant-loop-at g l = record {
   same : g.L.Look.forest l.source ≡ g.L.Look.forest l.initial.source;
   found : AreFound (children_of (g.L.Look.forest l.initial.source) l.fn.key) l.run.first l.run.last l.at l.keys.items;
-  lag : g.L.Look.lag l.source ≤ g.L.Look.lag l.initial.source;
-  place : g.L.Look.place l.source ≡ g.L.Look.place l.initial.source;
-  whole : g.L.Look.whole l.source ≡ g.L.Look.whole l.initial.source;
+  backing : Stays (g.L.Look.backing l.initial.source) (g.L.Look.backing l.source);
   reads : g.L.Look.count l.source ≤ g.L.Look.count l.initial.source + length l.keys.items;
 }
 
