@@ -1,21 +1,22 @@
 -- What is read after a join: below any node but the two the same as before, since the texts come next to each other, and
 -- nothing is below them.
 use Rattle.lx_draft.proofs.Gaps.{parent_here}
+use Rattle.lx_draft.specs.Faults.{text_in}
 use Rattle.lx_draft.specs.Working.{Working}
+use Rattle.lx_edit.specs.Texts.{text_or_none}
 use Rattle.lx_forest.proofs.Lookups.{NoRepeats-children_of}
 use Rattle.lx_forest.proofs.Order.{IsForest-take_out, IsForest-with_fields}
 use Rattle.lx_forest.specs.Edits.{with_fields}
 use Rattle.lx_forest.specs.Forest.{Forest}
 use Rattle.lx_forest.specs.Lookups.{IsForest, IsHeld, children_of, kind_of, parent_of}
-use Rattle.lx_edit_laws.proofs.JoinSpots.{children_left, label_other, neither, spot_other, text_first}
+use Rattle.lx_edit_laws.proofs.JoinSpots.{children_left, children_other, label_other, text_first}
 use Rattle.lx_edit_laws.proofs.JoinSteps.{AreJoined, with_behind}
-use Rattle.lx_edit_laws.proofs.Reading.{childless_text, down, read-leaf, read-level_same, reads-same, reads_of}
+use Rattle.lx_edit_laws.proofs.Reading.{childless_text, read-leaf, reads-same, reads_by, reads_known, reads_of}
 use Rattle.lx_edit_laws.specs.Reading.{read_below, text_at}
 use Rattle.lx_trees.proofs.Siblings.{is_named_tells, names_without-absent_list, next_in-among}
 use Rattle.lx_node.specs.Kinds.{may_hold}
 use Rattle.lx_trees.specs.Siblings.{NoRepeats, is_among, names_without, next_in}
-use Rattle.lx_trees.specs.Spots.{children_at}
-use Rattle.std.proofs.Common.{List, Some, [], ap, append_assoc, ap₂, arith, eqb, false, inl, inr, refl, subst, sym, true, ℕ, ◌++◌, ◌∙◌, ◌∷◌, ◌≡◌, ◌≢◌}
+use Rattle.std.proofs.Common.{Bool, List, Some, [], ap, append_assoc, ap₂, arith, eqb, false, inl, inr, subst, sym, true, ℕ, ◌++◌, ◌∙◌, ◌∷◌, ◌≡◌, ◌≢◌}
 use Rattle.std.proofs.lemmas.Bool.Decides.{eqb_tells}
 use Rattle.lx_node.specs.declared.kind.Kind.TheVariants as kinds
 
@@ -62,33 +63,21 @@ module _ (first second : ℕ) (w v : Working) (h : IsForest w.forest) (held : Is
       ∙ text_first first second w v h j
       ∙ ap₂ (λ a b. a ++ b) (sym (read-leaf w.forest first h (leaf first j.first_text))) (sym (read-leaf w.forest second h (leaf second j.second_text)))
 
-  IsRead : ℕ → Type 0
-  IsRead b = b ≢ first → b ≢ second → read_below v.forest b ≡ read_below w.forest b
-
-  -- the same is read below the children but the two
-  child_read : (b : ℕ) → ((c : ℕ) → parent_of w.forest c ≡ Some b → IsRead c) → (q : ℕ) → is_among q (children_of w.forest b) ≡ true → q ≢ first → q ≢ second → read_below v.forest q ≡ read_below w.forest q
-  unfolding IsRead
-  child_read b each q among a c = each q (parent_here w.forest b q h among) a c
-
-  level : (b : ℕ) → ((c : ℕ) → parent_of w.forest c ≡ Some b → IsRead c) → IsRead b
-  unfolding IsRead
-  level b each off_first off_second = elim (is_named_tells (parent_of w.forest first) b) [
-    | inl above ↦
-        let same : j.place.parent ≡ b = let f : Some j.place.parent ≡ Some b = sym j.place.up ∙ above.1 in cc in
-        read-level_same w.forest v.forest b h order_after (label_other first second w v h j b off_first)
-        (ap (reads_of v.forest) (children_left first second w v h j b)
-        ∙ reads_joined w.forest v.forest first second (children_of w.forest b) (NoRepeats-children_of w.forest b h)
-        (ap (λ p. next_in (children_of w.forest p) first) (sym same) ∙ j.place.next) read_first (child_read b each))
-    | inr far ↦
-        let off : is_among b (first ∷ second ∷ []) ≢ true = λ among. absurd (grind (arith, among, off_first, off_second, eqb_tells first b, eqb_tells second b)) in
-        let not_child : (k : ℕ) → parent_of w.forest k ≡ parent_of w.forest first → (q : ℕ) → is_among q (children_of w.forest b) ≡ true → q ≢ k =
-        λ k up q among own. far.1 (sym up ∙ subst (λ c. parent_of w.forest c ≡ Some b) own (parent_here w.forest b q h among)) in
-        read-level_same w.forest v.forest b h order_after (label_other first second w v h j b off_first)
-        (ap (λ s. reads_of v.forest (children_at s)) (spot_other first second w v h j b off far.1)
-        ∙ reads-same w.forest v.forest (children_of w.forest b)
-        (λ q among. child_read b each q among (not_child first refl q among) (not_child second (j.place.below ∙ sym j.place.up) q among)))
-  ]
+  abbrev skip : ℕ → Bool
+  skip q = is_among q (first ∷ second ∷ [])
 
   pub read_joined : (b : ℕ) → is_among b (first ∷ second ∷ []) ≢ true → read_below v.forest b ≡ read_below w.forest b
-  unfolding IsRead
-  read_joined b apart = let far = neither b first second apart in down w.forest h IsRead level b far.0 far.1
+  read_joined b apart = reads_by w.forest v.forest skip h order_after (λ b clear known. record {
+    text = ap (λ l. text_or_none (text_in l)) (label_other first second w v h j b (λ same. absurd (grind (arith, same, clear, eqb_tells first b))));
+    below = elim (is_named_tells (parent_of w.forest first) b) [
+      | inl above ↦
+          let same : j.place.parent ≡ b = let f : Some j.place.parent ≡ Some b = sym j.place.up ∙ above.1 in cc in
+          ap (reads_of v.forest) (children_left first second w v h j b)
+          ∙ reads_joined w.forest v.forest first second (children_of w.forest b) (NoRepeats-children_of w.forest b h)
+          (ap (λ p. next_in (children_of w.forest p) first) (sym same) ∙ j.place.next) read_first
+          (λ q among x y. known.child q (parent_here w.forest b q h among) (grind (arith, x, y, eqb_tells first q, eqb_tells second q)))
+      | inr far ↦
+          ap (reads_of v.forest) (children_other first second w v h j b far.1)
+          ∙ reads_known w.forest v.forest skip b h known (λ q up. grind (arith, up, far, j.place.up, j.place.below, eqb_tells first q, eqb_tells second q))
+    ];
+  }) b (grind (arith, apart))

@@ -1,6 +1,7 @@
 -- What a join did: two texts were beside each other, the first got the second's text after its own, and the second was
 -- taken out.
 use Rattle.lx_draft.proofs.Covered.{answered}
+use Rattle.lx_draft.proofs.Gaps.{child_of}
 use Rattle.lx_draft.proofs.Put.{both_none}
 use Rattle.lx_draft.proofs.Touched.{is_some-kind_of}
 use Rattle.lx_draft.specs.Faults.{answer, label_fault, over_counts, over_limits, piece_fault, splice_fault, text_fields, text_in}
@@ -12,33 +13,33 @@ use Rattle.lx_edit.specs.Conditions.{is_key, join_fault, length_at, length_in, n
 use Rattle.lx_edit.specs.Edits.{pointed}
 use Rattle.lx_edit.specs.Texts.{join_step, text_or_none, texts_joined}
 use Rattle.lx_forest.proofs.Edits.{is_some-spot}
-use Rattle.lx_forest.proofs.Lookups.{NoRepeats-children_of, is_among-children_of, parent_of-with_fields}
+use Rattle.lx_forest.proofs.Lookups.{NoRepeats-children_of, parent_of-with_fields}
 use Rattle.lx_forest.proofs.Siblings.{parent_of-next, siblings-with_fields}
-use Rattle.lx_forest.proofs.Walks.{cases_option}
 use Rattle.lx_forest.specs.Edits.{take_out, with_fields}
 use Rattle.lx_forest.specs.Forest.{Forest, Label}
-use Rattle.lx_forest.specs.Lookups.{IsForest, children_below, children_of, has, index_of, kind_of, label_of, next_of, parent_of, siblings, spot}
+use Rattle.lx_forest.specs.Lookups.{IsForest, children_below, children_of, has, index_of, kind_of, label_of, next_of, parent_of, spot}
 use Rattle.lx_links.specs.Faults.{detach_fault, unknown}
 use Rattle.lx_edit_laws.proofs.SplitLaws.{kind_by}
+use Rattle.lx_edit_laws.proofs.SplitPoints.{each_twice}
 use Rattle.lx_edit_laws.specs.Reading.{text_at}
-use Rattle.lx_trees.proofs.Siblings.{first_of-among, is_some-index_in}
+use Rattle.lx_trees.proofs.Positions.{place_in, index_in-among}
+use Rattle.lx_trees.proofs.Siblings.{first_of-among}
 use Rattle.lx_node.specs.Kinds.{is_text}
 use Rattle.lx_node.specs.Limits.{last_u32}
-use Rattle.lx_trees.specs.Siblings.{NoRepeats, index_in, is_among, next_in}
+use Rattle.lx_trees.specs.Siblings.{NoRepeats, index_in, next_in}
 use Rattle.lx_trees.specs.Spots.{Spot}
+use Rattle.lx_node.specs.declared.cause.Cause.{Cause}
 use Rattle.lx_node.specs.declared.cause.Cause.TheVariants.{BadPlace}
 use Rattle.lx_node.specs.declared.cause.Point.{Point}
 use Rattle.lx_node.specs.declared.fields.Fields.{Fields}
 use Rattle.lx_node.specs.declared.fields.TextFields.{TextFields}
 use Rattle.lx_select.specs.Rules.{join_moves, splice_moves, take_moves}
 use Rattle.lx_select.specs.Selection.{each_point}
-use Rattle.lx_select.specs.declared.selection.Selection.{Selection}
-use Rattle.lx_select.specs.declared.selection.Selection.TheVariants.{Cells, Nodes, Nothing, Range}
 use Rattle.lx_text.proofs.Appended.{spliced-end}
 use Rattle.lx_text.proofs.Places.{length-append}
 use Rattle.lx_text.proofs.Told.{told-all}
 use Rattle.lx_text.specs.Texts.{text_length}
-use Rattle.std.proofs.Common.{List, None, Ok, Option, Some, [], ap, ap₂, arith, cond, inl, inr, is_some, length, option_map, refl, subst, sym, true, ℕ, ◌++◌, ◌∙◌, ◌∷◌, ◌≡◌, ◌≢◌, ◌≤◌}
+use Rattle.std.proofs.Common.{List, None, Ok, Option, Some, [], ap, ap₂, arith, cond, inl, inr, length, option_map, refl, subst, sym, true, ℕ, ◌++◌, ◌∙◌, ◌∷◌, ◌≡◌, ◌≢◌, ◌≤◌}
 use Rattle.std.proofs.lemmas.Bool.Decides.{eqb_tells}
 use Rattle.std.specs.Option.{option_or}
 use Rattle.lx_node.specs.declared.kind.Kind.TheVariants as kinds
@@ -81,29 +82,19 @@ next_apart (x ∷ xs) q n once e same =
       | inr other ↦ next_apart xs q n once.1 (grind (arith, other, e)) same
     ]
 
--- a node with a parent is at an index there
-stands : (f : Forest) (k p : ℕ) → IsForest f → parent_of f k ≡ Some p → (i : ℕ) × (index_of f k ≡ Some i)
-stands f k p h up =
-    let among : is_some (index_of f k) ≡ true = is_some-index_in (siblings f k) k ∙ ap (λ o. is_among k (children_below f o)) up ∙ is_among-children_of f k p h ∙ rw up (grind (arith, eqb_tells p p)) in
-    elim (cases_option (index_of f k)) [
-      | inl none ↦ absurd (grind (arith, among, none))
-      | inr (i, at) ↦ (i, at)
-    ]
-
 beside_by : (f : Forest) (o : Option ℕ) (first second : ℕ) → IsForest f → parent_of f first ≡ o → next_of f first ≡ Some second → AreBeside f first second
 beside_by f None first second h up e = absurd (let both : ◌≡◌ {A = Option ℕ} None (Some second) = sym (ap (λ o. next_in (children_below f o) first) up) ∙ e in cc)
 beside_by f (Some p) first second h up e =
     let next : next_in (children_of f p) first ≡ Some second = sym (ap (λ o. next_in (children_below f o) first) up) ∙ e in
     let below : parent_of f second ≡ Some p = parent_of-next f first second p h up e in
-    let place = stands f second p h below in
     record {
       parent = p;
       up = up;
       below = below;
       next = next;
       apart = next_apart (children_of f p) first second (NoRepeats-children_of f p h) next;
-      index = place.0;
-      at = place.1;
+      index = place_in (children_of f p) second;
+      at = ap (λ o. index_in (children_below f o) second) below ∙ index_in-among (children_of f p) second (child_of f p second h below);
     }
 
 -- what comes next is a child of the same node
@@ -136,14 +127,12 @@ record NoneOf (first second : ℕ) (f : Forest) : Type 0 where
 
 none_of : (first second : ℕ) (f : Forest) → join_fault first second f ≡ None → NoneOf first second f
 none_of first second f e =
-    let a = both_none (unknown f first) (option_or (unknown f second) (option_or (unlike is_text (kind_of f first)) (option_or (unlike is_text (kind_of f second)) (no_next f first second)))) e in
-    let b = both_none (unknown f second) (option_or (unlike is_text (kind_of f first)) (option_or (unlike is_text (kind_of f second)) (no_next f first second))) a.1 in
-    let c = both_none (unlike is_text (kind_of f first)) (option_or (unlike is_text (kind_of f second)) (no_next f first second)) b.1 in
+    let texts : Option Cause = option_or (unlike is_text (kind_of f second)) (no_next f first second) in
+    let a = both_none (unknown f first) (option_or (unknown f second) (option_or (unlike is_text (kind_of f first)) texts)) e in
+    let b = both_none (unknown f second) (option_or (unlike is_text (kind_of f first)) texts) a.1 in
+    let c = both_none (unlike is_text (kind_of f first)) texts b.1 in
     let d = both_none (unlike is_text (kind_of f second)) (no_next f first second) c.1 in
     record { first_there = a.0; second_there = b.0; first_like = c.0; second_like = d.0; next = d.1 }
-
-known_there : (f : Forest) (k : ℕ) → unknown f k ≡ None → has k f ≡ true
-known_there f k e = grind (arith, e)
 
 -- what these causes say where they aren't there
 next_is : (o : Option ℕ) (k : ℕ) → cond (is_key o k) None (Some (BadPlace k)) ≡ None → o ≡ Some k
@@ -152,13 +141,6 @@ next_is (Some x) k e = grind (arith, e, eqb_tells x k)
 
 like_text : (f : Forest) (k : ℕ) → has k f ≡ true → unlike is_text (kind_of f k) ≡ None → kind_of f k ≡ Some kinds.Text
 like_text f k there e = kind_by (kind_of f k) (is_some-kind_of f k ∙ there) e
-
--- points that are moved twice
-each_point-then : (f g : Point → Point) (s : Selection) → each_point f (each_point g s) ≡ each_point (λ x. f (g x)) s
-each_point-then f g Nothing = refl
-each_point-then f g (Range a b format) = refl
-each_point-then f g (Nodes keys) = refl
-each_point-then f g (Cells table a b) = refl
 
 -- what the splice left
 record IsSpliced (first second : ℕ) (w s : Working) : Type 0 where
@@ -220,16 +202,16 @@ joined_of first second w s v h none fits spliced e =
       own = spliced.own;
       own_is = spliced.own_is;
       place = place;
-      first_text = like_text w.forest first (known_there w.forest first none.first_there) none.first_like;
-      second_text = like_text w.forest second (known_there w.forest second none.second_there) none.second_like;
+      first_text = like_text w.forest first (grind (arith, none.first_there)) none.first_like;
+      second_text = like_text w.forest second (grind (arith, none.second_there)) none.second_like;
       forest =
           taken.forest ∙ ap (take_out second) (spliced.forest ∙ ap (λ x. with_fields first x w.forest) (spliced_fields w.forest first spliced.own text spliced.own_is room));
       selection =
           taken.selection
           ∙ ap₂ (λ p i. take_points p i u.selection) up at
           ∙ ap (λ x. each_point (take_moves place.parent place.index) (each_point (join_moves first end second) x)) spliced.selection
-          ∙ ap (each_point (take_moves place.parent place.index)) (each_point-then (join_moves first end second) (splice_moves first end end (length_told text)) w.selection)
-          ∙ each_point-then (take_moves place.parent place.index) (λ x. join_moves first end second (splice_moves first end end (length_told text) x)) w.selection;
+          ∙ ap (each_point (take_moves place.parent place.index)) (each_twice (splice_moves first end end (length_told text)) (join_moves first end second) w.selection)
+          ∙ each_twice (λ x. join_moves first end second (splice_moves first end end (length_told text) x)) (take_moves place.parent place.index) w.selection;
     }
 
 -- what a join did that wasn't refused, where offsets can say every place of both texts

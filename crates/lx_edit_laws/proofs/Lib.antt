@@ -1,4 +1,3 @@
-pub mod JoinCuts
 pub mod JoinPoints
 pub mod JoinRead
 pub mod JoinSpots
@@ -15,7 +14,6 @@ pub mod SplitPoints
 pub mod SplitTexts
 pub mod WrapAll
 pub mod WrapBack
-pub mod WrapBeside
 pub mod WrapLists
 pub mod WrapReads
 pub mod WrapSteps

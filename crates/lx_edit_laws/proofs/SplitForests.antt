@@ -5,9 +5,9 @@ use Rattle.std.proofs.lemmas.Bool.Decides.{eqb_tells}
 use Rattle.lx_trees.specs.Siblings.{index_in}
 use Rattle.lx_node.specs.declared.fields.Fields.{Fields}
 use Rattle.lx_forest.specs.Forest.{Forest, Label}
-use Rattle.lx_forest.specs.Lookups.{has, spot, label_of, parent_of, children_of, index_of, children_below, IsForest}
+use Rattle.lx_forest.specs.Lookups.{has, label_of, parent_of, children_of, index_of, children_below, IsForest}
 use Rattle.lx_forest.specs.Edits.{with_new, with_fields, put_in, fields_at, CanPut}
-use Rattle.lx_forest.proofs.Edits.{count-with_new, count-with_fields, count-put_in, spot-with_new, spot-with_fields, spot-put_in}
+use Rattle.lx_forest.proofs.Edits.{count-with_new, count-with_fields, count-put_in}
 use Rattle.lx_forest.proofs.Order.{IsForest-with_new, IsForest-with_fields, IsForest-put_in}
 use Rattle.lx_forest.proofs.Lookups.{NoRepeats-children_of, key-label_of, has-child, label_of-with_new, label_of-with_fields, label_of-put_in, parent_of-with_new, parent_of-with_fields, parent_of-put_in, children_of-with_new, children_of-with_fields, children_of-put_in}
 use Rattle.lx_edit_laws.specs.Reading.{in_place_of}
@@ -24,7 +24,6 @@ pub record CutsTo (f g : Forest) (k p : ℕ) (x : Fields) (l : Label) : Type 0 w
   pub parents : (q : ℕ) → q ≢ l.key → parent_of g q ≡ parent_of f q
   pub order : children_of g p ≡ in_place_of k (k ∷ l.key ∷ []) (children_of f p)
   pub children : (q : ℕ) → q ≢ p → children_of g q ≡ children_of f q
-  pub others : (q : ℕ) → q ≢ k → q ≢ l.key → q ≢ p → spot g q ≡ spot f q
 
 -- a forest with a new node, and with the fields of another
 module _ (f : Forest) (k p i : ℕ) (x : Fields) (l : Label) (h : IsForest f) (free : has l.key f ≡ false) (up : parent_of f k ≡ Some p) where
@@ -65,9 +64,6 @@ module _ (f : Forest) (k p i : ℕ) (x : Fields) (l : Label) (h : IsForest f) (f
   keys_halved : (q : ℕ) → has q halved ≡ (has q f || eqb q l.key)
   keys_halved q = grind (arith, count-with_fields q k x a, count-with_new q l f, eqb_tells q l.key, eqb_tells l.key q)
 
-  spot_halved : (q : ℕ) → q ≢ k → q ≢ l.key → spot halved q ≡ spot f q
-  spot_halved q other old = grind (arith, other, old, spot-with_fields k x a q, spot-with_new l f q h free, eqb_tells q l.key, eqb_tells q k)
-
   -- put right after k
   pub cuts : CanPut p l.key halved → index_of halved k ≡ Some i → CutsTo f (put_in p (slice_get (children_of halved p) (i + 1)) l.key halved) k p x l
   cuts can at =
@@ -88,5 +84,4 @@ module _ (f : Forest) (k p i : ℕ) (x : Fields) (l : Label) (h : IsForest f) (f
             ∙ names_with-behind n k i (children_of halved p) (NoRepeats-children_of halved p b_ordered) place
             ∙ ap (in_place_of k (k ∷ n ∷ [])) (children_halved p);
         children = λ q other. children_of-put_in p before n halved q b_ordered can ∙ grind (arith, other, eqb_tells q p, children_halved q);
-        others = λ q other old above. spot-put_in p before n halved q b_ordered can ∙ grind (arith, other, old, above, eqb_tells q p, eqb_tells q n, spot_halved q other old);
       }

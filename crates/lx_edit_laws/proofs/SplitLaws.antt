@@ -1,12 +1,12 @@
 -- What a split leaves, law by law.
-use Rattle.std.proofs.Common.{◌≡◌, ◌≢◌, ◌∙◌, ℕ, ◌≤◌, Bool, true, false, cond, List, [], ◌∷◌, length, map, Option, None, Some, Ok, refl, sym, ap, subst, arith, append-nil, inl, inr}
+use Rattle.std.proofs.Common.{◌≡◌, ◌≢◌, ◌∙◌, ℕ, ◌≤◌, eqb, not, ◌||◌, Bool, true, false, cond, List, [], ◌∷◌, length, map, Option, None, Some, Ok, refl, sym, ap, subst, arith, append-nil, inl, inr}
 use Rattle.std.specs.Option.{option_or}
 use Rattle.std.specs.Prelude.{is_some}
+use Rattle.std.proofs.lemmas.Bool.{or_parts}
 use Rattle.std.proofs.lemmas.Bool.Decides.{eqb_tells, nat_tests}
 use Rattle.lx_node.specs.Kinds.{is_text, may_hold}
 use Rattle.lx_node.specs.Limits.{last_u32}
 use Rattle.lx_trees.specs.Siblings.{is_among}
-use Rattle.lx_trees.specs.Spots.{children_at}
 use Rattle.lx_node.specs.declared.kind.Kind.{Kind}
 use Rattle.lx_node.specs.declared.kind.Kind.TheVariants as kinds
 use Rattle.lx_node.specs.declared.fields.TextFields.{TextFields}
@@ -31,11 +31,11 @@ use Rattle.lx_edit.specs.Conditions.{length_at, bad_offset, split_fault}
 use Rattle.lx_edit.specs.Texts.{text_or_none, cut_at, split_step, keys_from}
 use Rattle.lx_edit_laws.specs.Reading.{text_at, texts_of, read_below, in_place_of, place_among, PlacesAreKept}
 use Rattle.lx_edit_laws.specs.Splits.{cut_from, IsSplit, SplitsAreTold}
-use Rattle.lx_edit_laws.proofs.Reading.{down, reads_of, read-leaf, reads-leaves, reads-same, reads-in_place, read-level_same, childless_text}
-use Rattle.lx_edit_laws.proofs.ReadingPlaces.{in_place_of-self}
-use Rattle.lx_edit_laws.proofs.SplitPieces.{IsParted, ends_self, parted}
-use Rattle.lx_edit_laws.proofs.SplitPoints.{PointsGo, none_go, points_go}
+use Rattle.lx_edit_laws.proofs.Reading.{reads_of, read-leaf, reads-leaves, reads_by, reads_known, reads-in_place, childless_text}
+use Rattle.lx_edit_laws.proofs.SplitPieces.{AllStay, stay_self, IsParted, ends_self}
+use Rattle.lx_edit_laws.proofs.SplitPoints.{PointsGo, none_go, parted}
 use Rattle.lx_edit_laws.proofs.SplitTexts.{whole-is}
+use Rattle.lx_edit_laws.proofs.WrapTrees.{same_spot_by}
 
 -- ---- what isn't refused
 
@@ -56,12 +56,12 @@ kind_by (Some kind) known e = by_test (is_text kind) refl e where
   by_test true is e = ap (λ x. Some x) (text_kind kind is)
   by_test false is e = absurd (cc)
 
-record IsCutUp (k : ℕ) (list : List ℕ) (w v : Working) : Type 0 where
-  kind_is : kind_of w.forest k ≡ Some kinds.Text
-  allowed : bad_offset 0 (text_at w.forest k) list ≡ None
-  cut : cut_at k 0 list w ≡ Ok v
+pub record IsCutUp (k : ℕ) (list : List ℕ) (w v : Working) : Type 0 where
+  pub kind_is : kind_of w.forest k ≡ Some kinds.Text
+  pub allowed : bad_offset 0 (text_at w.forest k) list ≡ None
+  pub cut : cut_at k 0 list w ≡ Ok v
 
-cut_up : (k : ℕ) (list : List ℕ) (w v : Working) → split_step k list w ≡ Ok v → IsCutUp k list w v
+pub cut_up : (k : ℕ) (list : List ℕ) (w v : Working) → split_step k list w ≡ Ok v → IsCutUp k list w v
 unfolding split_step
 cut_up k list w v e = by_fault (split_fault k list w.forest) refl e where
   by_fault : (o : Option Cause) → split_fault k list w.forest ≡ o → after (answer o w) (cut_at k 0 list) ≡ Ok v → IsCutUp k list w v
@@ -74,35 +74,27 @@ cut_up k list w v e = by_fault (split_fault k list w.forest) refl e where
 
 -- ---- what is left
 
-record IsLeft (k : ℕ) (list new : List ℕ) (w v : Working) : Type 0 where
-  in_order : IsForest v.forest
-  kind_is : kind_of w.forest k ≡ Some kinds.Text
-  pieces : map (text_at v.forest) (k ∷ new) ≡ cut_from 0 list (text_at w.forest k)
-  whole : texts_of v.forest (k ∷ new) ≡ text_at w.forest k
-  order : (p : ℕ) → parent_of w.forest k ≡ Some p → children_of v.forest p ≡ in_place_of k (k ∷ new) (children_of w.forest p)
-  alike : (q : ℕ) (text : TextFields) → is_among q (k ∷ new) ≡ true → text_in (label_of w.forest k) ≡ Some text →
+pub record IsLeft (k : ℕ) (list new : List ℕ) (w v : Working) : Type 0 where
+  pub stay : AllStay k new w v
+  pub kind_is : kind_of w.forest k ≡ Some kinds.Text
+  pub pieces : map (text_at v.forest) (k ∷ new) ≡ cut_from 0 list (text_at w.forest k)
+  pub whole : texts_of v.forest (k ∷ new) ≡ text_at w.forest k
+  pub alike : (q : ℕ) (text : TextFields) → is_among q (k ∷ new) ≡ true → text_in (label_of w.forest k) ≡ Some text →
       label_of v.forest q ≡ Some (record { key = q; kind = kinds.Text; fields = text_replaced text (text_at v.forest q) })
-  labels : (q : ℕ) → has q w.forest ≡ true → q ≢ k → label_of v.forest q ≡ label_of w.forest q
-  others : (q : ℕ) → has q w.forest ≡ true → q ≢ k → parent_of w.forest k ≢ Some q → spot v.forest q ≡ spot w.forest q
-  bare : children_of w.forest k ≡ [] → (q : ℕ) → is_among q (k ∷ new) ≡ true → children_of v.forest q ≡ []
-  points : PointsGo k new w v
+  pub points : PointsGo k new w v
 
 left_by_cuts : (k : ℕ) (list : List ℕ) (t : TextFields) (w v : Working) → kind_of w.forest k ≡ Some kinds.Text → text_in (label_of w.forest k) ≡ Some t → text_length t.text ≤ last_u32
     → IsParted k 0 list (keys_from w.next_key (length list)) t.text t w v → PointsGo k (keys_from w.next_key (length list)) w v → IsLeft k list (keys_from w.next_key (length list)) w v
 left_by_cuts k list t w v kind here few r go =
     let own : t.text ≡ text_at w.forest k = sym (ap text_or_none here) in
     record {
-      in_order = r.ready.in_order;
+      stay = r.stay;
       kind_is = kind;
       pieces = r.pieces ∙ ap (cut_from 0 list) own;
       whole = r.whole ∙ whole-is t.text few ∙ own;
-      order = r.order;
       alike = λ q text among is.
           let same : t ≡ text = let f : Some t ≡ Some text = sym here ∙ is in cc in
           r.alike q among ∙ ap (λ u. let m : Label = record { key = q; kind = kinds.Text; fields = text_replaced u (text_at v.forest q) } in Some m) same;
-      labels = r.labels;
-      others = r.others;
-      bare = r.bare;
       points = go;
     }
 
@@ -115,15 +107,11 @@ left_same : (k : ℕ) (w : Working) → IsReady w → kind_of w.forest k ≡ Som
 left_same k w ready kind none =
     let own : text_at w.forest k ≡ [] = ap text_or_none none in
     record {
-      in_order = ready.in_order;
+      stay = stay_self k w ready;
       kind_is = kind;
       pieces = ap (λ s. s ∷ []) (own ∙ sym nothing_cut ∙ ap (λ s. slice_of 0 (length_told s) s) (sym own));
       whole = append-nil (text_at w.forest k);
-      order = λ p up. sym (in_place_of-self k (children_of w.forest p));
       alike = λ q text among is. let bad : None ≡ Some text = sym none ∙ is in absurd (cc);
-      labels = λ q so other. refl;
-      others = λ q so other above. refl;
-      bare = λ empty q among. let same : q ≡ k = grind (arith, among, eqb_tells k q) in ap (children_of w.forest) same ∙ empty;
       points = none_go k w;
     }
 
@@ -134,12 +122,12 @@ left_by k list w v ready few c = by_text (text_in (label_of w.forest k)) refl li
       let short : text_length t.text ≤ last_u32 = subst (λ s. text_length (text_or_none s) ≤ last_u32) here few in
       let good : bad_offset 0 t.text list ≡ None = ap (λ s. bad_offset 0 s list) (sym (ap text_or_none here)) ∙ allowed in
       let whole : t.text ≡ slice_of 0 (length_told t.text) t.text = sym (whole-is t.text short) in
-      let start = offset_start t.text in
-      left_by_cuts k list t w v c.kind_is here short (parted k 0 list t.text t w v ready here whole start short good cut) (points_go k 0 list t.text t w v ready here whole start short good cut)
+      let both = parted k 0 list t.text t w v ready here whole (offset_start t.text) short good cut in
+      left_by_cuts k list t w v c.kind_is here short both.0 both.1
   by_text None here [] allowed cut = subst (IsLeft k [] [] w) (ends_self w v cut) (left_same k w ready c.kind_is here)
   by_text None here (o ∷ rest) allowed cut = absurd (no_offset o rest (ap (λ s. bad_offset 0 s (o ∷ rest)) (sym (ap text_or_none here)) ∙ allowed))
 
-left : (k : ℕ) (list pieces : List ℕ) (w v : Working) → IsSplit k list pieces w v → IsLeft k list (keys_from w.next_key (length list)) w v
+pub left : (k : ℕ) (list pieces : List ℕ) (w v : Working) → IsSplit k list pieces w v → IsLeft k list (keys_from w.next_key (length list)) w v
 left k list pieces w v s = left_by k list w v s.ready s.fits (cut_up k list w v s.split)
 
 -- ---- points
@@ -161,40 +149,33 @@ places k new w v go = (
 -- ---- what is read
 
 module _ (k : ℕ) (list new : List ℕ) (w v : Working) (h : IsForest w.forest) (held : IsHeld may_hold w.forest) (a : IsLeft k list new w v) where
-  IsRead : ℕ → Type 0
-  IsRead b = b ≢ k → has b w.forest ≡ true → read_below v.forest b ≡ read_below w.forest b
-
   leaf : children_of w.forest k ≡ []
   leaf = childless_text w.forest k h held a.kind_is
 
   pieces_read : reads_of v.forest (k ∷ new) ≡ read_below w.forest k
-  pieces_read = reads-leaves v.forest (k ∷ new) a.in_order (a.bare leaf) ∙ a.whole ∙ sym (read-leaf w.forest k h leaf)
+  pieces_read = reads-leaves v.forest (k ∷ new) a.stay.ready.in_order (a.stay.bare leaf) ∙ a.whole ∙ sym (read-leaf w.forest k h leaf)
 
-  -- of a child that is read the same below
-  child_read : (b q : ℕ) → ((c : ℕ) → parent_of w.forest c ≡ Some b → IsRead c) → is_among q (children_of w.forest b) ≡ true → q ≢ k → read_below v.forest q ≡ read_below w.forest q
-  unfolding IsRead
-  child_read b q each among other = let up : parent_of w.forest q ≡ Some b = parent_here w.forest b q h among in each q up other (has-child w.forest q b up)
-
-  level : (b : ℕ) → ((c : ℕ) → parent_of w.forest c ≡ Some b → IsRead c) → IsRead b
-  unfolding IsRead
-  level b each other so = elim (is_named_tells (parent_of w.forest k) b) [
-    | inl above ↦
-        read-level_same w.forest v.forest b h a.in_order (a.labels b so other) (
-        ap (reads_of v.forest) (a.order b above.1)
-        ∙ reads-in_place w.forest v.forest k (k ∷ new) (children_of w.forest b) (NoRepeats-children_of w.forest b h) pieces_read (λ q among apart. child_read b q each among apart)
-        )
-    | inr far ↦
-        let same : spot v.forest b ≡ spot w.forest b = a.others b so other far.1 in
-        let apart : (q : ℕ) → is_among q (children_of w.forest b) ≡ true → q ≢ k = λ q among own. far.1 (subst (λ c. parent_of w.forest c ≡ Some b) own (parent_here w.forest b q h among)) in
-        read-level_same w.forest v.forest b h a.in_order (a.labels b so other) (
-        ap (λ s. reads_of v.forest (children_at s)) same
-        ∙ reads-same w.forest v.forest (children_of w.forest b) (λ q among. child_read b q each among (apart q among))
-        )
-  ]
+  -- nothing is said of the text, and of what isn't there
+  abbrev skip : ℕ → Bool
+  skip q = eqb q k || not (has q w.forest)
 
   same_read : (b : ℕ) → b ≢ k → has b w.forest ≡ true → read_below v.forest b ≡ read_below w.forest b
-  unfolding IsRead
-  same_read b = down w.forest h IsRead level b
+  same_read b other so = reads_by w.forest v.forest skip h a.stay.ready.in_order (λ b clear known.
+      let c = or_parts (eqb b k) (not (has b w.forest)) clear in
+      let so : has b w.forest ≡ true = grind (arith, c.1) in
+      record {
+        text = ap (λ l. text_or_none (text_in l)) (a.stay.labels b so (λ same. absurd (grind (arith, same, c.0, eqb_tells b k))));
+        below = elim (is_named_tells (parent_of w.forest k) b) [
+          | inl above ↦
+              ap (reads_of v.forest) (a.stay.order b above.1)
+              ∙ reads-in_place w.forest v.forest k (k ∷ new) (children_of w.forest b) (NoRepeats-children_of w.forest b h) pieces_read (λ q among apart.
+              let up = parent_here w.forest b q h among in
+              known.child q up (grind (arith, apart, has-child w.forest q b up, eqb_tells q k)))
+          | inr far ↦
+              ap (reads_of v.forest) (a.stay.children b so far.1)
+              ∙ reads_known w.forest v.forest skip b h known (λ q up. grind (arith, up, far, has-child w.forest q b up, eqb_tells q k))
+        ];
+      }) b (grind (arith, other, so, eqb_tells b k))
 
 -- ---- the laws
 
@@ -202,9 +183,11 @@ pub told-splits : SplitsAreTold
 told-splits = record {
   pieces = λ k list pieces w v s. ap (map (text_at v.forest)) s.pieces_are ∙ (left k list pieces w v s).pieces;
   whole = λ k list pieces w v s. ap (texts_of v.forest) s.pieces_are ∙ (left k list pieces w v s).whole;
-  order = λ k list pieces w v p s up. (left k list pieces w v s).order p up ∙ ap (λ ks. in_place_of k ks (children_of w.forest p)) (sym s.pieces_are);
+  order = λ k list pieces w v p s up. (left k list pieces w v s).stay.order p up ∙ ap (λ ks. in_place_of k ks (children_of w.forest p)) (sym s.pieces_are);
   alike = λ k list pieces w v q text s among here. (left k list pieces w v s).alike q text (ap (is_among q) (sym s.pieces_are) ∙ among) here;
-  others = λ k list pieces w v q s so other above. (left k list pieces w v s).others q so other above;
+  others = λ k list pieces w v q s so other above.
+      let stay = (left k list pieces w v s).stay in
+      same_spot_by (spot v.forest q) (spot w.forest q) (stay.labels q so other) (stay.parents q so) (stay.children q so above);
   points = λ k list pieces w v s. subst (λ ks. PlacesAreKept (k ∷ []) ks w v) (sym s.pieces_are) (places k (keys_from w.next_key (length list)) w v (left k list pieces w v s).points);
   read = λ k list pieces w v b s held so other. same_read k list (keys_from w.next_key (length list)) w v s.ready.in_order held (left k list pieces w v s) b other so;
 }

@@ -1,16 +1,14 @@
 -- What all the cuts of a split leave: its pieces, their order, and the nodes that stay.
-use Rattle.std.proofs.Common.{◌≡◌, ◌≢◌, ◌∙◌, ℕ, ◌+◌, ◌-◌, ◌≤◌, true, false, List, [], ◌∷◌, ◌++◌, length, map, None, Some, Result, Ok, refl, sym, ap, ap₂, subst, arith, append-nil, inl, inr}
+use Rattle.std.proofs.Common.{◌≡◌, ◌≢◌, ◌∙◌, ℕ, ◌-◌, ◌≤◌, true, false, List, [], ◌∷◌, ◌++◌, map, None, Some, Result, Ok, refl, sym, ap, ap₂, subst, arith, append-nil, inl, inr}
 use Rattle.std.proofs.lemmas.Bool.Decides.{eqb_tells}
 use Rattle.lx_trees.specs.Siblings.{is_named, is_among}
-use Rattle.lx_trees.specs.Spots.{children_at}
 use Rattle.lx_node.specs.declared.kind.Kind.TheVariants as kinds
 use Rattle.lx_node.specs.declared.fields.TextFields.{TextFields}
 use Rattle.lx_node.specs.declared.cause.Cause.{Cause}
 use Rattle.lx_node.specs.Limits.{last_u32}
 use Rattle.lx_text.specs.Texts.{is_offset, slice_of, text_length}
 use Rattle.lx_forest.specs.Forest.{Forest, Label}
-use Rattle.lx_forest.specs.Lookups.{has, spot, label_of, parent_of, children_of}
-use Rattle.lx_forest.proofs.Edits.{is_some-spot}
+use Rattle.lx_forest.specs.Lookups.{has, label_of, parent_of, children_of}
 use Rattle.lx_forest.proofs.Lookups.{is_among-children_of}
 use Rattle.lx_forest.proofs.Walks.{no_parent}
 use Rattle.lx_draft.specs.Working.{Working}
@@ -19,30 +17,41 @@ use Rattle.lx_draft.specs.Selecting.{length_told}
 use Rattle.lx_draft.specs.Faults.{text_in}
 use Rattle.lx_draft.specs.Steps.{text_replaced}
 use Rattle.lx_edit.specs.Conditions.{bad_offset}
-use Rattle.lx_edit.specs.Texts.{text_or_none, cut_in_two, cut_at, keys_from}
-use Rattle.lx_edit.proofs.Climbed.{first_part}
+use Rattle.lx_edit.specs.Texts.{text_or_none}
 use Rattle.lx_edit_laws.specs.Reading.{text_at, texts_of, in_place_of}
 use Rattle.lx_edit_laws.specs.Splits.{cut_from}
+use Rattle.lx_edit_laws.proofs.Reading.{absent}
 use Rattle.lx_edit_laws.proofs.ReadingPlaces.{in_place_of-self, in_place_of-twice}
-use Rattle.lx_edit_laws.proofs.SplitCuts.{text_label, label_is, IsCut, cut_tells, new_free, stays_there, not_new, text_there, parent_there, not_above, above_old, far_from, far_from_new}
-use Rattle.lx_edit_laws.proofs.SplitTexts.{IsCutAt, piece-front, piece-back, piece-parts, offsets}
+use Rattle.lx_edit_laws.proofs.SplitCuts.{text_label, label_is, IsCut, new_free, stays_there, not_new, text_there, parent_there, not_above, above_old, far_from, far_from_new}
+use Rattle.lx_edit_laws.proofs.SplitTexts.{IsCutAt, piece-front, piece-parts, offsets}
+
+-- What a text and new ones leave that are its pieces: they are in its place, and have no children if it had none. All other
+-- nodes stay as they were.
+pub record AllStay (k : ℕ) (new : List ℕ) (w v : Working) : Type 0 where
+  pub ready : IsReady v
+  pub order : (p : ℕ) → parent_of w.forest k ≡ Some p → children_of v.forest p ≡ in_place_of k (k ∷ new) (children_of w.forest p)
+  pub labels : (q : ℕ) → has q w.forest ≡ true → q ≢ k → label_of v.forest q ≡ label_of w.forest q
+  pub parents : (q : ℕ) → has q w.forest ≡ true → parent_of v.forest q ≡ parent_of w.forest q
+  pub children : (q : ℕ) → has q w.forest ≡ true → parent_of w.forest k ≢ Some q → children_of v.forest q ≡ children_of w.forest q
+  pub bare : children_of w.forest k ≡ [] → (q : ℕ) → is_among q (k ∷ new) ≡ true → children_of v.forest q ≡ []
+
+pub stay_self : (k : ℕ) (w : Working) → IsReady w → AllStay k [] w w
+stay_self k w ready = record {
+  ready = ready;
+  order = λ p up. sym (in_place_of-self k (children_of w.forest p));
+  labels = λ q so other. refl;
+  parents = λ q so. refl;
+  children = λ q so above. refl;
+  bare = λ none q among. let same : q ≡ k = grind (arith, among, eqb_tells k q) in ap (children_of w.forest) same ∙ none;
+}
 
 -- The text k of the draft w, which has what is after a place of a whole text, was cut at offsets of that, and the new ones
 -- are these.
 pub record IsParted (k start : ℕ) (offsets new text : List ℕ) (t : TextFields) (w v : Working) : Type 0 where
-  pub ready : IsReady v
+  pub stay : AllStay k new w v
   pub pieces : map (text_at v.forest) (k ∷ new) ≡ cut_from start offsets text
   pub whole : texts_of v.forest (k ∷ new) ≡ slice_of start (length_told text) text
-  pub order : (p : ℕ) → parent_of w.forest k ≡ Some p → children_of v.forest p ≡ in_place_of k (k ∷ new) (children_of w.forest p)
   pub alike : (q : ℕ) → is_among q (k ∷ new) ≡ true → label_of v.forest q ≡ Some (record { key = q; kind = kinds.Text; fields = text_replaced t (text_at v.forest q) })
-  pub labels : (q : ℕ) → has q w.forest ≡ true → q ≢ k → label_of v.forest q ≡ label_of w.forest q
-  pub others : (q : ℕ) → has q w.forest ≡ true → q ≢ k → parent_of w.forest k ≢ Some q → spot v.forest q ≡ spot w.forest q
-  pub bare : children_of w.forest k ≡ [] → (q : ℕ) → is_among q (k ∷ new) ≡ true → children_of v.forest q ≡ []
-
--- ---- a node that isn't there
-
-pub childless : (f : Forest) (q : ℕ) → has q f ≡ false → children_of f q ≡ []
-childless f q gone = grind (arith, gone, is_some-spot f q)
 
 -- ---- labels of texts
 
@@ -57,21 +66,17 @@ with_own f q t text e = e ∙ ap (λ s. Some (label_with q t s)) (sym (text_told
 
 -- ---- nothing is cut
 
-not_cut : (k start : ℕ) (text : List ℕ) (t : TextFields) (w : Working) → IsReady w → text_in (label_of w.forest k) ≡ Some t → t.text ≡ slice_of start (length_told text) text → IsParted k start [] [] text t w w
+pub not_cut : (k start : ℕ) (text : List ℕ) (t : TextFields) (w : Working) → IsReady w → text_in (label_of w.forest k) ≡ Some t → t.text ≡ slice_of start (length_told text) text → IsParted k start [] [] text t w w
 not_cut k start text t w ready here is =
     let own : text_at w.forest k ≡ slice_of start (length_told text) text = ap text_or_none here ∙ is in
     let label : label_of w.forest k ≡ Some (label_with k t (text_at w.forest k)) = with_own w.forest k t t.text (label_is w.forest k t here) in
     record {
-      ready = ready;
+      stay = stay_self k w ready;
       pieces = ap (λ s. s ∷ []) own;
       whole = append-nil (text_at w.forest k) ∙ own;
-      order = λ p up. sym (in_place_of-self k (children_of w.forest p));
       alike = λ q among.
           let same : k ≡ q = grind (arith, among, eqb_tells k q) in
           subst (λ x. label_of w.forest x ≡ Some (label_with x t (text_at w.forest x))) same label;
-      labels = λ q here other. refl;
-      others = λ q here other above. refl;
-      bare = λ none q among. let same : q ≡ k = grind (arith, among, eqb_tells k q) in ap (children_of w.forest) same ∙ none;
     }
 
 -- ---- one more cut
@@ -87,7 +92,7 @@ module _ (k start o : ℕ) (rest new text : List ℕ) (t : TextFields) (w u v : 
   -- the first piece stays as this cut left it
   pub first_label : label_of v.forest k ≡ Some (label_with k t (slice_of start o text))
   first_label =
-      r.labels k (stays_there ready c k (text_there ready c)) c.other
+      r.stay.labels k (stays_there ready c k (text_there ready c)) c.other
       ∙ c.cuts_to.own (text_label k t) (label_is w.forest k t here)
       ∙ ap (λ s. Some (label_with k t s)) (piece-front start o text t.text place is)
 
@@ -96,7 +101,7 @@ module _ (k start o : ℕ) (rest new text : List ℕ) (t : TextFields) (w u v : 
 
   first_bare : children_of w.forest k ≡ [] → children_of v.forest k ≡ []
   first_bare none =
-      ap children_at (r.others k (stays_there ready c k (text_there ready c)) c.other (far_from_new ready c k (not_above ready c)))
+      r.stay.children k (stays_there ready c k (text_there ready c)) (far_from_new ready c k (not_above ready c))
       ∙ c.cuts_to.children k (not_above ready c) ∙ none
 
   ordered : (p : ℕ) → parent_of w.forest k ≡ Some p → children_of v.forest p ≡ in_place_of k (k ∷ n ∷ new) (children_of w.forest p)
@@ -104,32 +109,39 @@ module _ (k start o : ℕ) (rest new text : List ℕ) (t : TextFields) (w u v : 
       let same : c.parent ≡ p = sym (above_old ready c p up) in
       let above : parent_of u.forest n ≡ Some p = c.cuts_to.up ∙ ap (λ x. Some x) same in
       let cut : children_of u.forest p ≡ in_place_of k (k ∷ n ∷ []) (children_of w.forest p) = subst (λ x. children_of u.forest x ≡ in_place_of k (k ∷ n ∷ []) (children_of w.forest x)) same c.cuts_to.order in
-      let absent : is_among n (children_of w.forest p) ≡ false = is_among-children_of w.forest n p ready.in_order ∙ ap (λ y. is_named y p) (no_parent w.forest n (new_free ready c)) in
-      r.order p above ∙ ap (in_place_of n (n ∷ new)) cut ∙ in_place_of-twice k n (n ∷ new) (children_of w.forest p) c.other absent
+      let nobodys : is_among n (children_of w.forest p) ≡ false = is_among-children_of w.forest n p ready.in_order ∙ ap (λ y. is_named y p) (no_parent w.forest n (new_free ready c)) in
+      r.stay.order p above ∙ ap (in_place_of n (n ∷ new)) cut ∙ in_place_of-twice k n (n ∷ new) (children_of w.forest p) c.other nobodys
+
+  all_stay : AllStay k (n ∷ new) w v
+  all_stay = record {
+    ready = r.stay.ready;
+    order = ordered;
+    labels = λ q so other. r.stay.labels q (stays_there ready c q so) (not_new ready c q so) ∙ c.cuts_to.labels q other (not_new ready c q so);
+    parents = λ q so. r.stay.parents q (stays_there ready c q so) ∙ c.cuts_to.parents q (not_new ready c q so);
+    children = λ q so above.
+        let far : q ≢ c.parent = far_from ready c q above in
+        r.stay.children q (stays_there ready c q so) (far_from_new ready c q far) ∙ c.cuts_to.children q far;
+    bare = λ none q among. elim (eqb_tells k q) [
+      | inl own ↦ subst (λ x. children_of v.forest x ≡ []) own.1 (first_bare none)
+      | inr other ↦
+          let alone : children_of u.forest n ≡ [] =
+          c.cuts_to.children n (λ same. not_new ready c c.parent (parent_there ready c) (sym same)) ∙ (absent w.forest n (new_free ready c)).children in
+          r.stay.bare alone q (grind (arith, among, other))
+    ];
+  }
 
   pub one_more : IsParted k start (o ∷ rest) (n ∷ new) text t w v
   one_more = record {
-    ready = r.ready;
+    stay = all_stay;
     pieces = ap₂ (λ s ss. s ∷ ss) first_text r.pieces;
     whole = ap₂ (λ s ss. s ++ ss) first_text r.whole ∙ piece-parts start o text place;
-    order = ordered;
     alike = λ q among. elim (eqb_tells k q) [
       | inl own ↦ subst (λ x. label_of v.forest x ≡ Some (label_with x t (text_at v.forest x))) own.1 (with_own v.forest k t (slice_of start o text) first_label)
       | inr other ↦ r.alike q (grind (arith, among, other))
     ];
-    labels = λ q so other. r.labels q (stays_there ready c q so) (not_new ready c q so) ∙ c.cuts_to.labels q other (not_new ready c q so);
-    others = λ q so other above.
-        let far : q ≢ c.parent = far_from ready c q above in
-        r.others q (stays_there ready c q so) (not_new ready c q so) (far_from_new ready c q far) ∙ c.cuts_to.others q other (not_new ready c q so) far;
-    bare = λ none q among. elim (eqb_tells k q) [
-      | inl own ↦ subst (λ x. children_of v.forest x ≡ []) own.1 (first_bare none)
-      | inr other ↦
-          let alone : children_of u.forest n ≡ [] = c.cuts_to.children n (λ same. not_new ready c c.parent (parent_there ready c) (sym same)) ∙ childless w.forest n (new_free ready c) in
-          r.bare alone q (grind (arith, among, other))
-    ];
   }
 
--- ---- the whole
+-- ---- offsets
 
 -- a place that offsets are looked for after
 pub cut_place : (start o : ℕ) (rest text : List ℕ) → is_offset start text ≡ true → text_length text ≤ last_u32 → bad_offset start text (o ∷ rest) ≡ None → IsCutAt start o text
@@ -139,17 +151,3 @@ cut_place start o rest text begin few none =
 
 pub ends_self : (w v : Working) → ◌≡◌ {A = Result Working Cause} (Ok w) (Ok v) → w ≡ v
 ends_self w v e = cc
-
-pub parted : (k start : ℕ) (list text : List ℕ) (t : TextFields) (w v : Working) → IsReady w → text_in (label_of w.forest k) ≡ Some t → t.text ≡ slice_of start (length_told text) text
-    → is_offset start text ≡ true → text_length text ≤ last_u32 → bad_offset start text list ≡ None → cut_at k start list w ≡ Ok v → IsParted k start list (keys_from w.next_key (length list)) text t w v
-parted k start [] text t w v ready here is begin few none e = subst (IsParted k start [] [] text t w) (ends_self w v e) (not_cut k start text t w ready here is)
-parted k start (o ∷ rest) text t w v ready here is begin few none e =
-    let part = first_part (cut_in_two k (o - start) w) (cut_at w.next_key o rest) v e in
-    let u : Working = part.0 in
-    let c : IsCut k (o - start) t w u = cut_tells k (o - start) t w u ready here part.1 in
-    let place : IsCutAt start o text = cut_place start o rest text begin few none in
-    let here_now : text_in (label_of u.forest w.next_key) ≡ Some (cut_text (o - start) t) = ap text_in c.cuts_to.new in
-    let r : IsParted w.next_key o rest (keys_from u.next_key (length rest)) text (cut_text (o - start) t) u v =
-    parted w.next_key o rest text (cut_text (o - start) t) u v c.ready here_now (piece-back start o text t.text place is) place.second few (offsets start o text rest none).others part.2 in
-    one_more k start o rest (keys_from (w.next_key + 1) (length rest)) text t w u v ready here is place c
-    (subst (λ m. IsParted w.next_key o rest (keys_from m (length rest)) text (cut_text (o - start) t) u v) c.next r)

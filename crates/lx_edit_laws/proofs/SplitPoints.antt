@@ -23,7 +23,7 @@ use Rattle.lx_edit.specs.Texts.{cut_in_two, cut_at, keys_from}
 use Rattle.lx_edit.proofs.Climbed.{first_part}
 use Rattle.lx_edit_laws.specs.Reading.{place_among}
 use Rattle.lx_edit_laws.proofs.SplitCuts.{IsCut, cut_tells, points_cut, stays_there, not_new, text_there, parent_there, not_above, far_from, far_from_new}
-use Rattle.lx_edit_laws.proofs.SplitPieces.{IsParted, cut_text, cut_place, first_label, ends_self, parted}
+use Rattle.lx_edit_laws.proofs.SplitPieces.{IsParted, not_cut, cut_text, cut_place, first_label, one_more, ends_self}
 use Rattle.lx_edit_laws.proofs.SplitTexts.{IsCutAt, piece-length, piece-back, rest-told, offsets}
 
 -- ---- points of a selection
@@ -128,7 +128,7 @@ none_go k w = record {
 }
 
 -- keys from one on are none that is less
-below_keys : (q k : ℕ) (count : ℕ) → q < k → is_among q (keys_from k count) ≡ false
+pub below_keys : (q k : ℕ) (count : ℕ) → q < k → is_among q (keys_from k count) ≡ false
 below_keys q k zero less = refl
 below_keys q k (suc count) less = grind (arith, less, eqb_tells k q, below_keys q (k + 1) count (omega (arith, less)))
 
@@ -214,28 +214,29 @@ module _ (k start o : ℕ) (rest new text : List ℕ) (t : TextFields) (w u v : 
   }
 
 -- a key that is there comes before the next one
-less_than_next : (k : ℕ) (w : Working) → IsReady w → has k w.forest ≡ true → k < w.next_key
+pub less_than_next : (k : ℕ) (w : Working) → IsReady w → has k w.forest ≡ true → k < w.next_key
 less_than_next k w ready there = elim (cases_lt k w.next_key) [
   | inl less ↦ less
   | inr over ↦ absurd (grind (arith, there, ready.free k over))
 ]
 
-pub points_go : (k start : ℕ) (list text : List ℕ) (t : TextFields) (w v : Working) → IsReady w → text_in (label_of w.forest k) ≡ Some t → t.text ≡ slice_of start (length_told text) text
-    → is_offset start text ≡ true → text_length text ≤ last_u32 → bad_offset start text list ≡ None → cut_at k start list w ≡ Ok v → PointsGo k (keys_from w.next_key (length list)) w v
-points_go k start [] text t w v ready here is begin few none e = subst (PointsGo k [] w) (ends_self w v e) (none_go k w)
-points_go k start (o ∷ rest) text t w v ready here is begin few none e =
-    let part = first_part (cut_in_two k (o - start) w) (cut_at w.next_key o rest) v e in
+-- all cuts of a split
+pub parted : (k start : ℕ) (list text : List ℕ) (t : TextFields) (w v : Working) → IsReady w → text_in (label_of w.forest k) ≡ Some t
+    → t.text ≡ slice_of start (length_told text) text → is_offset start text ≡ true → text_length text ≤ last_u32 → bad_offset start text list ≡ None
+    → cut_at k start list w ≡ Ok v → IsParted k start list (keys_from w.next_key (length list)) text t w v × PointsGo k (keys_from w.next_key (length list)) w v
+parted k start [] text t w v ready here is begin few none e =
+    subst (λ x. IsParted k start [] [] text t w x × PointsGo k [] w x) (ends_self w v e) (not_cut k start text t w ready here is, none_go k w)
+parted k start (o ∷ rest) text t w v ready here is begin few none e =
+    let n : ℕ = w.next_key in
+    let cut : TextFields = cut_text (o - start) t in
+    let part = first_part (cut_in_two k (o - start) w) (cut_at n o rest) v e in
     let u : Working = part.0 in
     let c : IsCut k (o - start) t w u = cut_tells k (o - start) t w u ready here part.1 in
     let place : IsCutAt start o text = cut_place start o rest text begin few none in
-    let here_now : text_in (label_of u.forest w.next_key) ≡ Some (cut_text (o - start) t) = ap text_in c.cuts_to.new in
-    let is_now : (cut_text (o - start) t).text ≡ slice_of o (length_told text) text = piece-back start o text t.text place is in
-    let none_now : bad_offset o text rest ≡ None = (offsets start o text rest none).others in
-    let r : IsParted w.next_key o rest (keys_from u.next_key (length rest)) text (cut_text (o - start) t) u v =
-    parted w.next_key o rest text (cut_text (o - start) t) u v c.ready here_now is_now place.second few none_now part.2 in
-    let go : PointsGo w.next_key (keys_from u.next_key (length rest)) u v = points_go w.next_key o rest text (cut_text (o - start) t) u v c.ready here_now is_now place.second few none_now part.2 in
-    let new : List ℕ = keys_from (w.next_key + 1) (length rest) in
-    let absent : is_among k (w.next_key ∷ new) ≡ false = below_keys k w.next_key (suc (length rest)) (less_than_next k w ready (text_there ready c)) in
-    one_goes k start o rest new text t w u v ready here is place c
-    (subst (λ m. IsParted w.next_key o rest (keys_from m (length rest)) text (cut_text (o - start) t) u v) c.next r)
-    absent (subst (λ m. PointsGo w.next_key (keys_from m (length rest)) u v) c.next go)
+    let further = parted n o rest text cut u v c.ready (ap text_in c.cuts_to.new) (piece-back start o text t.text place is) place.second few (offsets start o text rest none).others part.2 in
+    let both = subst (λ m. IsParted n o rest (keys_from m (length rest)) text cut u v × PointsGo n (keys_from m (length rest)) u v) c.next further in
+    let new : List ℕ = keys_from (n + 1) (length rest) in
+    let absent : is_among k (n ∷ new) ≡ false = below_keys k n (suc (length rest)) (less_than_next k w ready (text_there ready c)) in (
+      one_more k start o rest new text t w u v ready here is place c both.0,
+      one_goes k start o rest new text t w u v ready here is place c both.0 absent both.1,
+    )

@@ -6,7 +6,7 @@ use Rattle.lx_draft.specs.Working.{Working}
 use Rattle.lx_edit_laws.specs.Reading.{in_place_of}
 use Rattle.lx_edit_laws.specs.Wraps.{IsWrapped, WrapsAreTold}
 use Rattle.lx_edit_laws.proofs.WrapBack.{was_wrapped, outer_children, outer_place, read_wrapped, unwrapped_again}
-use Rattle.lx_edit_laws.proofs.WrapTold.{children_behind, replaced_behind, read_unwrapped, unwrapped_in_place}
+use Rattle.lx_edit_laws.proofs.WrapTold.{went_all, replaced_behind, read_unwrapped, unwrapped_in_place}
 
 -- the parent is the one that is asked about
 place_told : (k outer : ℕ) (w v : Working) (p : ℕ) → IsWrapped k outer w v → parent_of w.forest k ≡ Some p → children_of v.forest p ≡ in_place_of k (outer ∷ []) (children_of w.forest p)
@@ -23,6 +23,6 @@ told-wraps = record {
   unwrap_read = λ k w v b ready e other. read_unwrapped k w v b ready.in_order e other;
   unwrapped = λ k p w v ready e up some. unwrapped_in_place k p w v ready.in_order e up some;
   undone = λ k outer w v u e back. let s = was_wrapped k outer w v e in unwrapped_again w.forest s.0 k outer v u s.1 back;
-  moved = λ from to w v ready apart e. (children_behind from to w v ready.in_order apart e).there;
+  moved = λ from to w v ready apart e. (went_all from to w v ready.in_order apart e).over.there;
   replaced = λ k with w v ready e. replaced_behind k with w v ready.in_order e;
 }

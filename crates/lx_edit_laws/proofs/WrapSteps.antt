@@ -1,10 +1,9 @@
 -- What one step leaves of a forest: a node taken out, put before another, and moved.
-use Rattle.std.proofs.Common.{◌≡◌, ◌≢◌, ◌∙◌, ℕ, Bool, true, false, cond, eqb, List, [], ◌∷◌, Option, None, Some, Result, Ok, Err, refl, sym, ap, subst, arith, inl, inr}
+use Rattle.std.proofs.Common.{◌≡◌, ◌≢◌, ◌∙◌, ℕ, true, false, List, [], Option, None, Some, Result, Ok, Err, refl, sym, ap, subst, arith, inl, inr}
 use Rattle.std.specs.Prelude.{slice_get, option_map}
 use Rattle.std.specs.Option.{option_or}
 use Rattle.std.proofs.lemmas.Bool.Decides.{eqb_tells}
 use Rattle.std.proofs.lemmas.Option.{slice_get_past}
-use Rattle.lx_trees.specs.Siblings.{names_without, names_with}
 use Rattle.lx_node.specs.Kinds.{is_text, is_element, may_hold, may_be_empty, is_item}
 use Rattle.lx_node.specs.declared.kind.Kind.{Kind}
 use Rattle.lx_node.specs.declared.kind.Kind.TheVariants as kinds
@@ -13,8 +12,8 @@ use Rattle.lx_node.specs.declared.cause.Cause.{Cause}
 use Rattle.lx_forest.specs.Forest.{Forest, Label}
 use Rattle.lx_forest.specs.Lookups.{label_of, kind_of, parent_of, children_of, size_of, IsForest}
 use Rattle.lx_forest.specs.Edits.{take_out, put_in, CanPut}
-use Rattle.lx_forest.proofs.Lookups.{label_of-take_out, label_of-put_in, parent_of-take_out, parent_of-put_in, children_of-take_out, children_of-put_in}
-use Rattle.lx_forest.proofs.Order.{IsForest-take_out, IsForest-put_in}
+use Rattle.lx_forest.proofs.Lookups.{parent_of-take_out}
+use Rattle.lx_forest.proofs.Order.{IsForest-take_out}
 use Rattle.lx_forest.proofs.Walks.{cases_option}
 use Rattle.lx_links.specs.Faults.{unknown, not_below, detach_fault, misfit}
 use Rattle.lx_draft.specs.Working.{Working}
@@ -29,6 +28,7 @@ use Rattle.lx_edit.specs.Edits.{moved_before, moved_to_end, may_not_be_left}
 use Rattle.lx_edit.specs.Texts.{text_or_none}
 use Rattle.lx_edit.proofs.Climbed.{first_part}
 use Rattle.lx_edit_laws.specs.Reading.{text_at}
+use Rattle.lx_edit_laws.proofs.WrapTrees.{WasMoved}
 
 -- ---- one after another
 
@@ -80,13 +80,6 @@ before_below k other w v e =
 
 -- ---- a node that is moved
 
--- the node k came from below another among the children of p
-pub record WasMoved (f g : Forest) (p k : ℕ) (before : Option ℕ) : Type 0 where
-  pub above : ℕ
-  pub up : parent_of f k ≡ Some above
-  pub can : CanPut p k (take_out k f)
-  pub is : g ≡ put_in p before k (take_out k f)
-
 pub was_moved_to_end : (to k : ℕ) (w v : Working) → moved_to_end to k w ≡ Ok v → WasMoved w.forest v.forest to k None
 unfolding moved_to_end
 was_moved_to_end to k w v e =
@@ -116,28 +109,6 @@ was_moved_before other k p w v h up apart e =
       can = subst (CanPut p k) taken.0 put.0;
       is = put.1 ∙ ap (put_in p (Some other) k) taken.0;
     }
-
--- what is read of any node then
-pub IsForest-moved : (f g : Forest) (p k : ℕ) (before : Option ℕ) → IsForest f → WasMoved f g p k before → IsForest g
-IsForest-moved f g p k before h m = subst IsForest (sym m.is) (IsForest-put_in p before k (take_out k f) (IsForest-take_out k f h) m.can)
-
-pub label_of-moved : (f g : Forest) (p k : ℕ) (before : Option ℕ) (q : ℕ) → IsForest f → WasMoved f g p k before → label_of g q ≡ label_of f q
-label_of-moved f g p k before q h m =
-    ap (λ x. label_of x q) m.is ∙ label_of-put_in p before k (take_out k f) q (IsForest-take_out k f h) m.can ∙ label_of-take_out k f q h
-
-pub parent_of-moved : (f g : Forest) (p k : ℕ) (before : Option ℕ) (q : ℕ) → IsForest f → WasMoved f g p k before → parent_of g q ≡ cond (eqb q k) (Some p) (parent_of f q)
-parent_of-moved f g p k before q h m =
-    ap (λ x. parent_of x q) m.is ∙ parent_of-put_in p before k (take_out k f) q (IsForest-take_out k f h) m.can
-    ∙ ap (cond (eqb q k) (Some p)) (parent_of-take_out k f q h) ∙ same (eqb q k) where
-      same : (b : Bool) → cond b (Some p) (cond b None (parent_of f q)) ≡ cond b (Some p) (parent_of f q)
-      same true = refl
-      same false = refl
-
-pub children_of-moved : (f g : Forest) (p k : ℕ) (before : Option ℕ) (q : ℕ) → IsForest f → WasMoved f g p k before
-    → children_of g q ≡ cond (eqb q p) (names_with before (k ∷ []) (names_without k (children_of f q))) (names_without k (children_of f q))
-children_of-moved f g p k before q h m =
-    ap (λ x. children_of x q) m.is ∙ children_of-put_in p before k (take_out k f) q (IsForest-take_out k f h) m.can
-    ∙ ap (λ xs. cond (eqb q p) (names_with before (k ∷ []) xs) xs) (children_of-take_out k f q h)
 
 -- ---- what has no text
 

@@ -1,5 +1,5 @@
 -- What wrapping, unwrapping, moving children and replacing leave.
-use Rattle.std.proofs.Common.{◌≡◌, ◌≢◌, ◌∙◌, ℕ, Bool, true, false, cond, List, [], ◌∷◌, ◌++◌, Option, None, Some, Ok, refl, sym, ap, ap₂, subst, arith, Result}
+use Rattle.std.proofs.Common.{◌≡◌, ◌≢◌, ◌∙◌, ℕ, Bool, true, false, cond, List, [], ◌∷◌, ◌++◌, not, Option, None, Some, Ok, refl, sym, ap, ap₂, subst, arith, Result}
 use Rattle.std.specs.Option.{option_or}
 use Rattle.std.proofs.lemmas.Bool.Decides.{eqb_tells}
 use Rattle.lx_node.specs.Kinds.{is_element}
@@ -9,7 +9,7 @@ use Rattle.lx_node.specs.declared.cause.Cause.{Cause}
 use Rattle.lx_select.specs.Selection.{ends_of}
 use Rattle.lx_trees.proofs.Siblings.{is_among-names_with, names_without-absent_list}
 use Rattle.lx_forest.specs.Forest.{Forest}
-use Rattle.lx_forest.specs.Lookups.{kind_of, parent_of, children_of, size_of, index_of, ancestors, IsForest}
+use Rattle.lx_forest.specs.Lookups.{kind_of, parent_of, children_of, size_of, index_of, IsForest}
 use Rattle.lx_forest.specs.Edits.{take_out}
 use Rattle.lx_forest.proofs.Lookups.{NoRepeats-children_of, parent_of-self, children_of-take_out}
 use Rattle.lx_links.specs.Faults.{unknown, not_below}
@@ -20,28 +20,43 @@ use Rattle.lx_draft.specs.Beside.{put_before_step}
 use Rattle.lx_draft.proofs.Put.{both_none}
 use Rattle.lx_draft.proofs.Gaps.{child_of, parent_here}
 use Rattle.lx_edit.specs.InTurn.{in_turn}
-use Rattle.lx_edit.specs.Conditions.{kind_above, misfit_among, children_fault, replace_fault, unwrap_fault}
+use Rattle.lx_edit.specs.Conditions.{inside, kind_above, misfit_among, children_fault, replace_fault, unwrap_fault}
 use Rattle.lx_edit.specs.Edits.{pointed, moved_before, moved_to_end, remove_step, brought, children_moved, children_step, kept, texts_pointed, replace_step, brought_up, unwrapped, unwrap_step}
 use Rattle.lx_edit.specs.Texts.{text_or_none}
 use Rattle.lx_edit.proofs.Climbed.{first_part}
 use Rattle.lx_edit_laws.specs.Reading.{text_at, read_below, in_place_of}
-use Rattle.lx_edit_laws.proofs.WrapLists.{in_its_place}
+use Rattle.lx_edit_laws.proofs.Reading.{read-leaf, read_without}
+use Rattle.lx_edit_laws.proofs.WrapLists.{in_its_place, filter-gone}
 use Rattle.lx_edit_laws.proofs.WrapSteps.{was_allowed, was_same, has_above, was_put_before, before_below, silent_element}
-use Rattle.lx_edit_laws.proofs.WrapBeside.{not_child, beside, MayStandBefore, not_new, not_self, apart, beside-order, beside-up, beside-up_new, beside-elsewhere}
-use Rattle.lx_edit_laws.proofs.WrapTurns.{CameBehind, came_behind, came_before, removed_alone, removed_read}
+use Rattle.lx_edit_laws.proofs.WrapTrees.{not_child, beside, MayStandBefore, not_new, not_self, apart, beside-order, beside-up, beside-up_new, beside-elsewhere}
+use Rattle.lx_edit_laws.proofs.WrapTurns.{WentOver, went_over, came_before, removed_alone, HoldsAsSilentGo, was_removed}
 
 -- ---- children that go elsewhere
 
-pub children_behind : (from to : ℕ) (w v : Working) → IsForest w.forest → from ≢ to → children_step from to w ≡ Ok v → CameBehind w.forest v.forest to (children_of w.forest from)
+-- all of them
+pub record WentAll (f g : Forest) (from to : ℕ) : Type 0 where
+  pub over : WentOver f g from to (children_of f from)
+  pub none : children_of g from ≡ []
+  pub silent : text_at f from ≡ []
+
+pub went_all : (from to : ℕ) (w v : Working) → IsForest w.forest → from ≢ to → children_step from to w ≡ Ok v → WentAll w.forest v.forest from to
 unfolding children_step
-children_behind from to w v h apart e =
+went_all from to w v h two e =
     let f : Forest = w.forest in
     let ks : List ℕ = children_of f from in
+    let kinds : Option Cause = option_or (unlike is_element (kind_of f to)) (option_or (inside f from to) (misfit_among f (kind_of f to) ks)) in
     let allowed = was_allowed (children_fault from to f) w v (children_moved from to) e in
     let a = first_part (in_turn (moved_to_end to) ks w) (λ u. Ok (brought from to (size_of f to) (ends_of w.selection) u)) v allowed.1 in
     let same : a.0.forest ≡ v.forest = ap (λ (x : Working). x.forest) (was_same (brought from to (size_of f to) (ends_of w.selection) a.0) v a.2) in
-    let elsewhere : (c : ℕ) → is_among c ks ≡ true → is_among c (children_of f to) ≡ false = λ c among. not_child f c from to h (parent_here f from c h among) apart in
-    subst (λ g. CameBehind f g to ks) same (came_behind to ks w a.0 h (NoRepeats-children_of f from h) elsewhere a.1)
+    let over : WentOver f v.forest from to ks =
+    subst (λ g. WentOver f g from to ks) same (went_over from to ks w a.0 h two (NoRepeats-children_of f from h) (λ c among. parent_here f from c h among) a.1) in
+    let known = both_none (unknown f from) (option_or (unknown f to) (option_or (unlike is_element (kind_of f from)) kinds)) allowed.0 in
+    let other = both_none (unknown f to) (option_or (unlike is_element (kind_of f from)) kinds) known.1 in
+    record {
+      over = over;
+      none = over.left ∙ filter-gone (λ q. not (is_among q ks)) ks (λ q among. ap not among);
+      silent = silent_element f from (both_none (unlike is_element (kind_of f from)) kinds other.1).0;
+    }
 
 -- ---- a node that stands for another, with its children
 
@@ -97,14 +112,13 @@ module _ (k with : ℕ) (w v : Working) (r : WasReplaced k with w v) where
   put_up_with : parent_of r.mid.forest with ≡ Some r.parent
   put_up_with = ap (λ f. parent_of f with) r.put ∙ beside-up_new w.forest r.parent k with r.may
 
-  went : CameBehind r.mid.forest r.moved.forest with (children_of r.mid.forest k)
-  went = children_behind k with r.mid r.moved put_order (apart w.forest r.parent k with r.may) r.each
+  went : WentOver r.mid.forest r.moved.forest k with (children_of r.mid.forest k)
+  went = (went_all k with r.mid r.moved put_order (apart w.forest r.parent k with r.may) r.each).over
 
   stays_put : (q : ℕ) → parent_of r.mid.forest q ≡ Some r.parent → parent_of r.last.forest q ≡ Some r.parent
   stays_put q up =
-      ap (λ f. parent_of f q) r.same
-      ∙ went.up q (not_child r.mid.forest q r.parent k put_order up (not_self w.forest r.parent k with r.may))
-      ∙ up
+      ap (λ f. parent_of f q) r.same ∙ went.up q
+      ∙ grind (arith, up, not_child r.mid.forest q r.parent k put_order up (not_self w.forest r.parent k with r.may))
 
   -- nothing above goes too, since the second is there
   gone_alone : v.forest ≡ take_out k r.last.forest
@@ -166,13 +180,16 @@ was_unwrapped k w v e =
       gone = a.2;
     }
 
+pub reads_stay : (b : ℕ) → HoldsAsSilentGo (λ f g. read_below g b ≡ read_below f b)
+reads_stay b = record { self = λ f. refl; then = λ f g h one other. other ∙ one; out = λ k f h silent. read_without f k h silent b }
+
 pub read_unwrapped : (k : ℕ) (w v : Working) (b : ℕ) → IsForest w.forest → unwrap_step k w ≡ Ok v → b ≢ k → read_below v.forest b ≡ read_below w.forest b
-unfolding remove_step
 read_unwrapped k w v b h e other =
     let u = was_unwrapped k w v e in
     let came = came_before u.parent k (children_of w.forest k) w u.mid h u.up refl u.each in
     let mute : text_at u.mid.forest k ≡ [] = ap (λ o. text_or_none (text_in o)) (came.label k) ∙ u.silent in
-    removed_read b k (ancestors u.last.forest k) u.last v (subst IsForest (sym u.same) came.in_order) (ap (λ f. children_of f k) u.same ∙ came.none) (ap (λ f. text_at f k) u.same ∙ mute) u.gone
+    let silent : read_below u.last.forest k ≡ [] = ap (λ f. read_below f k) u.same ∙ read-leaf u.mid.forest k came.in_order came.none ∙ mute in
+    was_removed (λ f g. read_below g b ≡ read_below f b) (reads_stay b) k u.last v (subst IsForest (sym u.same) came.in_order) silent u.gone
     ∙ ap (λ f. read_below f b) u.same
     ∙ came.read u.silent b other
 

@@ -1,106 +1,193 @@
--- The keys of any tree after a node was taken out or put somewhere.
-use Rattle.std.proofs.Common.{◌≡◌, ◌≢◌, ◌∙◌, ℕ, true, false, not, List, ◌∷◌, ◌++◌, Option, None, Some, refl, ap, arith, option_map, inl, inr}
-use Rattle.std.specs.List.{filter}
+-- A node that was put somewhere, or moved, in a forest; and what undoes that.
+use Rattle.std.proofs.Common.{◌≡◌, ◌≢◌, ◌∙◌, ℕ, true, false, cond, eqb, [], ◌∷◌, Option, None, Some, refl, sym, ap, ap₂, subst, arith}
+use Rattle.std.specs.Prelude.{option_map}
 use Rattle.std.proofs.lemmas.Bool.Decides.{eqb_tells}
-use Rattle.lx_trees.specs.Trees.{nil}
-use Rattle.lx_trees.specs.NamedTrees as named
-use Rattle.lx_trees.specs.Siblings.{is_among, names_without, names_with, first_of}
-use Rattle.lx_trees.specs.Spots.{Spot, children_at}
-use Rattle.lx_trees.specs.Walks as ways
-use Rattle.lx_trees.proofs.NamedTrees.{alone-absent, without-absent, put_below-absent, count-without-alone}
-use Rattle.lx_trees.proofs.Preorder.{preorder-without, preorder-put_below}
+use Rattle.lx_trees.specs.Siblings.{is_among, next_in, names_without, names_with}
+use Rattle.lx_trees.specs.Spots.{Spot, parent_at, children_at}
 use Rattle.lx_trees.proofs.Siblings.{names_without-absent_list}
-use Rattle.lx_trees.proofs.Spots.{moved, spot_below-alone}
-use Rattle.lx_trees.proofs.Subtrees.{alone-alone, count-alone-le}
-use Rattle.lx_trees.proofs.Walks as walks
-use Rattle.lx_trees.proofs.Cuts.{preorder-cut}
+use Rattle.lx_trees.proofs.Positions.{names_without-names_with}
 use Rattle.lx_forest.specs.Forest.{Forest, Label}
-use Rattle.lx_forest.specs.Lookups.{key_of, has, spot, alone, parent_of, children_of, is_within, keys_within, IsForest}
+use Rattle.lx_forest.specs.Lookups.{spot, label_of, parent_of, children_of, IsForest}
 use Rattle.lx_forest.specs.Edits.{take_out, put_in, CanPut}
-use Rattle.lx_forest.proofs.Lookups.{is_among-children_of}
-use Rattle.lx_forest.proofs.Within.{alone-take_out_inside, alone-take_out_outside, alone-put_in_inside, alone-put_in_outside, is_within-top, is_within-self, is_within-parent}
+use Rattle.lx_forest.proofs.Lookups.{is_among-children_of, parent_of-self, NoRepeats-children_of, label_of-take_out, label_of-put_in, parent_of-take_out, parent_of-put_in, children_of-take_out, children_of-put_in}
+use Rattle.lx_forest.proofs.Within.{is_within-self}
+use Rattle.lx_forest.proofs.Order.{IsForest-take_out, IsForest-put_in, same_forest}
+use Rattle.lx_edit_laws.proofs.WrapLists.{where_it_was, swapped}
 
--- ---- a tree by itself
+-- ---- keys
 
-pub distinct_tree : (f : Forest) (b : ℕ) → IsForest f → named.IsDistinct key_of (alone b f)
-distinct_tree f b h q = omega (arith, count-alone-le key_of q b f, h.once q)
+pub own : (q : ℕ) → eqb q q ≡ true
+own q = grind (arith, eqb_tells q q)
 
--- a tree in another is the same there
-pub tree_inside : (f : Forest) (b k : ℕ) → IsForest f → is_within f b k ≡ true → alone k (alone b f) ≡ alone k f
-tree_inside f b k h inside = alone-alone key_of k b f (grind (arith, h.once k, inside, count-without-alone key_of k b f))
+pub different : (q k : ℕ) → q ≢ k → eqb q k ≡ false
+different q k other = grind (arith, other, eqb_tells q k)
 
-pub tree_outside : (f : Forest) (b k : ℕ) → is_within f b k ≡ false → alone k (alone b f) ≡ nil
-tree_outside f b k outside = alone-absent key_of k (alone b f) (grind (arith, outside))
+-- a node is below one parent alone
+pub not_child : (f : Forest) (k p q : ℕ) → IsForest f → parent_of f k ≡ Some p → p ≢ q → is_among k (children_of f q) ≡ false
+not_child f k p q h up other = is_among-children_of f k q h ∙ rw up (different q p (λ e. other (sym e)))
 
--- nothing in a tree has its root as a child
-not_below : (f : Forest) (b k : ℕ) → IsForest f → is_within f b k ≡ true → is_among b (children_of f k) ≡ false
-not_below f b k h inside = by_parent (parent_of f b) refl where
-  by_parent : (o : Option ℕ) → parent_of f b ≡ o → is_among b (children_of f k) ≡ false
-  by_parent None up = is_among-children_of f b k h ∙ rw up refl
-  by_parent (Some p) up =
-      elim (eqb_tells k p) [
-        | inl own ↦ absurd (grind (arith, inside, own.1, is_within-parent f b p h up))
-        | inr other ↦ is_among-children_of f b k h ∙ rw up other.0
-      ]
+-- ---- forests that are read alike
 
--- and the same children
-pub children_inside : (f : Forest) (b k : ℕ) → IsForest f → is_within f b k ≡ true → children_at (spot (alone b f) k) ≡ children_of f k
-children_inside f b k h inside =
-    ap children_at (spot_below-alone key_of None None b f k (h.once b) (grind (arith, h.once k, inside, count-without-alone key_of k b f)))
-    ∙ by_spot (spot f k)
-    ∙ names_without-absent_list b (children_of f k) (not_below f b k h inside) where
-      by_spot : (o : Option (Spot Label)) → children_at (option_map (moved None b k) o) ≡ names_without b (children_at o)
-      by_spot None = refl
-      by_spot (Some s) = refl
+-- two nodes with the same label, parent and children stand alike
+pub same_spot_by : (o r : Option (Spot Label)) → option_map (λ (s : Spot Label). s.label) o ≡ option_map (λ (s : Spot Label). s.label) r
+    → parent_at o ≡ parent_at r → children_at o ≡ children_at r → o ≡ r
+same_spot_by None None a b c = refl
+same_spot_by None (Some s) a b c = absurd (cc)
+same_spot_by (Some s) None a b c = absurd (cc)
+same_spot_by (Some s) (Some t) a b c =
+    let labels : s.label ≡ t.label = cc in
+    ap (λ x. let made : Spot Label = record { label = x; parent = s.parent; children = s.children } in Some made) labels
+    ∙ ap₂ (λ x y. let made : Spot Label = record { label = t.label; parent = x; children = y } in Some made) b c
 
--- of a tree, what comes before a node in it, the node, the tree of its first child, and what comes after that
-pub cut_at_first : (f : Forest) (b k c : ℕ) (cs : List ℕ) → IsForest f → is_within f b k ≡ true → is_within f b c ≡ true → children_of f k ≡ c ∷ cs
-    → (front : List ℕ) × ((rest : List ℕ) × (keys_within f b ≡ front ++ (k ∷ (keys_within f c ++ rest))))
-cut_at_first f b k c cs h inside also below =
-    let t : Forest = alone b f in
-    let once = distinct_tree f b h in
-    let cut = preorder-cut key_of t k once (grind (arith, inside)) in
-    let first : first_of (children_at (spot t k)) ≡ Some c = ap first_of (children_inside f b k h inside ∙ below) in (
-      cut.0,
-      (
-        ways.behind key_of t c,
-        cut.1 ∙ ap (λ ks. cut.0 ++ ks) (walks.from-child key_of t k c once first ∙ ap (λ (s : Forest). k ∷ (named.preorder key_of s ++ ways.behind key_of t c)) (tree_inside f b c h also)),
-      ),
-    )
+pub same_reads : (f g : Forest) → IsForest f → IsForest g → ((q : ℕ) → label_of f q ≡ label_of g q) → ((q : ℕ) → parent_of f q ≡ parent_of g q)
+    → ((q : ℕ) → children_of f q ≡ children_of g q) → f ≡ g
+same_reads f g h j labels parents children = same_forest f g h j (λ q. same_spot_by (spot f q) (spot g q) (labels q) (parents q) (children q))
 
--- ---- taken out
+-- to take out what was put in undoes that
+take-put : (f : Forest) (p k : ℕ) (before : Option ℕ) → IsForest f → CanPut p k f → take_out k (put_in p before k f) ≡ f
+take-put f p k before h can =
+    let g : Forest = put_in p before k f in
+    let order : IsForest g = IsForest-put_in p before k f h can in
+    same_reads (take_out k g) f (IsForest-take_out k g order) h
+    (λ q. label_of-take_out k g q order ∙ label_of-put_in p before k f q h can)
+    (λ q. parent_of-take_out k g q order ∙ grind (arith, parent_of-put_in p before k f q h can, can.detached, eqb_tells q k))
+    (λ q. children_of-take_out k g q order ∙ ap (names_without k) (children_of-put_in p before k f q h can)
+    ∙ grind (
+      arith,
+      is_among-children_of f k q h,
+      can.detached,
+      names_without-names_with before k (children_of f q),
+      names_without-absent_list k (children_of f q),
+      eqb_tells q p,
+    ))
 
--- the keys of a tree that isn't in the one taken out: those of that one are gone
-pub keys-take_outside : (f : Forest) (k b : ℕ) → IsForest f → is_within f k b ≡ false → keys_within (take_out k f) b ≡ filter (λ q. not (has q (alone k (alone b f)))) (keys_within f b)
-keys-take_outside f k b h outside =
-    ap (named.preorder key_of) (alone-take_out_outside b k f outside)
-    ∙ preorder-without key_of (λ q. not (has q (alone k (alone b f)))) k (alone b f) (distinct_tree f b h) (λ q some. refl)
+-- ---- a node that is moved
 
-pub keys-take_inside : (f : Forest) (k b : ℕ) → IsForest f → is_within f k b ≡ true → keys_within (take_out k f) b ≡ keys_within f b
-keys-take_inside f k b h inside = ap (named.preorder key_of) (alone-take_out_inside b k f h inside)
+-- the node k came from below another among the children of p
+pub record WasMoved (f g : Forest) (p k : ℕ) (before : Option ℕ) : Type 0 where
+  pub above : ℕ
+  pub up : parent_of f k ≡ Some above
+  pub can : CanPut p k (take_out k f)
+  pub is : g ≡ put_in p before k (take_out k f)
 
--- where the node wasn't in the tree, nothing is gone
-pub keys-take_elsewhere : (f : Forest) (k b : ℕ) → is_within f k b ≡ false → is_within f b k ≡ false → keys_within (take_out k f) b ≡ keys_within f b
-keys-take_elsewhere f k b outside absent =
-    ap (named.preorder key_of) (alone-take_out_outside b k f outside ∙ without-absent key_of k (alone b f) (grind (arith, absent)))
+-- what is read of any node then
+module _ (f g : Forest) (p k : ℕ) (before : Option ℕ) (h : IsForest f) (m : WasMoved f g p k before) where
+  out_order : IsForest (take_out k f)
+  out_order = IsForest-take_out k f h
 
--- ---- put somewhere
+  pub IsForest-moved : IsForest g
+  IsForest-moved = subst IsForest (sym m.is) (IsForest-put_in p before k (take_out k f) out_order m.can)
 
-tree-put : (f : Forest) (p k b : ℕ) (before : Option ℕ) → IsForest f → CanPut p k f → is_within f k b ≡ false → alone b (put_in p before k f) ≡ named.put_below key_of p before (alone k f) (alone b f)
-tree-put f p k b before h can outside =
-    let other : k ≢ b = λ e. absurd (grind (arith, e, outside, is_within-self f k, can.there)) in
-    alone-put_in_outside b p before k f h can outside
-    ∙ ap (named.put_below key_of p before (alone k f)) (without-absent key_of k (alone b f) (grind (arith, is_within-top f b k h can.detached other)))
+  pub label_of-moved : (q : ℕ) → label_of g q ≡ label_of f q
+  label_of-moved q = ap (λ x. label_of x q) m.is ∙ label_of-put_in p before k (take_out k f) q out_order m.can ∙ label_of-take_out k f q h
 
-pub keys-put_before : (f : Forest) (p x k b : ℕ) → IsForest f → CanPut p k f → is_within f k b ≡ false → is_within f b p ≡ true → is_among x (children_of f p) ≡ true
-    → keys_within (put_in p (Some x) k f) b ≡ names_with (Some x) (keys_within f k) (keys_within f b)
-keys-put_before f p x k b h can outside inside among =
-    ap (named.preorder key_of) (tree-put f p k b (Some x) h can outside)
-    ∙ preorder-put_below key_of p (Some x) (alone k f) (alone b f) (distinct_tree f b h) (grind (arith, inside)) (ap (is_among x) (children_inside f b p h inside) ∙ among)
+  pub parent_of-moved : (q : ℕ) → parent_of g q ≡ cond (eqb q k) (Some p) (parent_of f q)
+  parent_of-moved q =
+      ap (λ x. parent_of x q) m.is
+      ∙ grind (arith, parent_of-put_in p before k (take_out k f) q out_order m.can, parent_of-take_out k f q h, eqb_tells q k)
 
-pub keys-put_inside : (f : Forest) (p k b : ℕ) (before : Option ℕ) → IsForest f → CanPut p k f → is_within f k b ≡ true → keys_within (put_in p before k f) b ≡ keys_within f b
-keys-put_inside f p k b before h can inside = ap (named.preorder key_of) (alone-put_in_inside b p before k f h can inside)
+  pub children_of-moved : (q : ℕ) → children_of g q ≡ cond (eqb q p) (names_with before (k ∷ []) (names_without k (children_of f q))) (names_without k (children_of f q))
+  children_of-moved q =
+      ap (λ x. children_of x q) m.is ∙ children_of-put_in p before k (take_out k f) q out_order m.can
+      ∙ ap (λ xs. cond (eqb q p) (names_with before (k ∷ []) xs) xs) (children_of-take_out k f q h)
 
-pub keys-put_elsewhere : (f : Forest) (p k b : ℕ) (before : Option ℕ) → IsForest f → CanPut p k f → is_within f k b ≡ false → is_within f b p ≡ false → keys_within (put_in p before k f) b ≡ keys_within f b
-keys-put_elsewhere f p k b before h can outside absent =
-    ap (named.preorder key_of) (tree-put f p k b before h can outside ∙ put_below-absent key_of p before (alone k f) (alone b f) (grind (arith, absent)))
+  -- without the node it is the old forest without it
+  pub take-moved : take_out k g ≡ take_out k f
+  take-moved = ap (take_out k) m.is ∙ take-put (take_out k f) p k before out_order m.can
+
+  -- so one that moves twice moves once
+  pub moved_twice : (u : Forest) (to : ℕ) (next : Option ℕ) → WasMoved g u to k next → WasMoved f u to k next
+  moved_twice u to next n = record {
+    above = m.above;
+    up = m.up;
+    can = subst (CanPut to k) take-moved n.can;
+    is = n.is ∙ ap (put_in to next k) take-moved;
+  }
+
+-- one that goes to where it is leaves the forest as it is
+pub moved_back : (f u : Forest) (p k : ℕ) → IsForest f → parent_of f k ≡ Some p → WasMoved f u p k (next_in (children_of f p) k) → u ≡ f
+moved_back f u p k h up m =
+    let next : Option ℕ = next_in (children_of f p) k in
+    same_reads u f (IsForest-moved f u p k next h m) h (label_of-moved f u p k next h m)
+    (λ q. grind (arith, parent_of-moved f u p k next h m q, up, eqb_tells q k))
+    (λ q. children_of-moved f u p k next h m q
+    ∙ grind (
+      arith,
+      up,
+      is_among-children_of f k q h,
+      where_it_was k (children_of f q) (NoRepeats-children_of f q h),
+      names_without-absent_list k (children_of f q),
+      eqb_tells q p,
+      eqb_tells p p,
+    ))
+
+-- ---- a detached node that is put before another
+
+abbrev pub beside : ℕ → ℕ → ℕ → Forest → Forest
+beside p k new f = put_in p (Some k) new f
+
+-- the new one may come before k, which is a child of p
+pub record MayStandBefore (f : Forest) (p k new : ℕ) : Type 0 where
+  pub in_order : IsForest f
+  pub up : parent_of f k ≡ Some p
+  pub can : CanPut p new f
+
+module _ (f : Forest) (p k new : ℕ) (s : MayStandBefore f p k new) where
+  -- the three are three
+  pub not_new : p ≢ new
+  not_new e = absurd (grind (arith, e, s.can.outside, is_within-self f new, s.can.there))
+
+  pub not_self : p ≢ k
+  not_self e = absurd (grind (arith, e, s.up, parent_of-self f k s.in_order, eqb_tells p k))
+
+  pub apart : k ≢ new
+  apart e = absurd (grind (arith, e, s.up, s.can.detached))
+
+  pub beside-order : IsForest (beside p k new f)
+  beside-order = IsForest-put_in p (Some k) new f s.in_order s.can
+
+  pub beside-label : (q : ℕ) → label_of (beside p k new f) q ≡ label_of f q
+  beside-label q = label_of-put_in p (Some k) new f q s.in_order s.can
+
+  pub beside-parent : (q : ℕ) → parent_of (beside p k new f) q ≡ cond (eqb q new) (Some p) (parent_of f q)
+  beside-parent q = parent_of-put_in p (Some k) new f q s.in_order s.can
+
+  pub beside-children : (q : ℕ) → children_of (beside p k new f) q ≡ cond (eqb q p) (names_with (Some k) (new ∷ []) (children_of f q)) (children_of f q)
+  beside-children q = children_of-put_in p (Some k) new f q s.in_order s.can
+
+  -- p is the parent of both
+  pub beside-up : parent_of (beside p k new f) k ≡ Some p
+  beside-up = grind (arith, beside-parent k, apart, s.up, eqb_tells k new)
+
+  pub beside-up_new : parent_of (beside p k new f) new ≡ Some p
+  beside-up_new = grind (arith, beside-parent new, eqb_tells new new)
+
+  -- any other node has the children that it had
+  pub beside-elsewhere : (q : ℕ) → q ≢ p → children_of (beside p k new f) q ≡ children_of f q
+  beside-elsewhere q other = grind (arith, beside-children q, other, eqb_tells q p)
+
+  -- where k comes before the new one, and that is taken out, the forest is the old one
+  pub stood_aside : (u : Forest) → WasMoved (beside p k new f) u p k (Some new) → take_out new u ≡ f
+  stood_aside u m =
+      let b : Forest = beside p k new f in
+      let order : IsForest u = IsForest-moved b u p k (Some new) beside-order m in
+      same_reads (take_out new u) f (IsForest-take_out new u order) s.in_order
+      (λ q. label_of-take_out new u q order ∙ label_of-moved b u p k (Some new) beside-order m q ∙ beside-label q)
+      (λ q. parent_of-take_out new u q order
+      ∙ grind (arith, parent_of-moved b u p k (Some new) beside-order m q, beside-parent q, s.can.detached, s.up, eqb_tells q new, eqb_tells q k))
+      (λ q. children_of-take_out new u q order
+      ∙ ap (names_without new) (children_of-moved b u p k (Some new) beside-order m q
+      ∙ ap (λ xs. cond (eqb q p) (names_with (Some new) (k ∷ []) (names_without k xs)) (names_without k xs)) (beside-children q))
+      ∙ grind (
+        arith,
+        apart,
+        s.up,
+        s.can.detached,
+        is_among-children_of f k q s.in_order,
+        is_among-children_of f new q s.in_order,
+        swapped k new (children_of f q) (NoRepeats-children_of f q s.in_order),
+        names_without-absent_list k (children_of f q),
+        names_without-absent_list new (children_of f q),
+        eqb_tells q p,
+        eqb_tells p q,
+      ))

@@ -30,13 +30,14 @@ use Rattle.lx_list.specs.Making.{with_like, item_fields, change_step, with_inden
 use Rattle.lx_list.specs.Indenting.{wrapped_like, wrapped_in, nested_by, deeper, indented}
 use Rattle.lx_list.specs.Outdenting.{moved_out, parted, gone_if_empty, out_of, out_from, out_by, shallower, outdented}
 use Rattle.lx_list.proofs.Above.{list_above}
-use Rattle.lx_edit_laws.proofs.WrapSteps.{was_same, WasMoved, was_put, was_put_before, was_moved_to_end, was_moved_before}
-use Rattle.lx_edit_laws.proofs.WrapBeside.{own, different, beside, MayStandBefore, not_new, beside-order, beside-up, beside-elsewhere}
+use Rattle.lx_edit_laws.proofs.Reading.{absent as is_absent}
+use Rattle.lx_edit_laws.proofs.WrapSteps.{was_same, was_put, was_put_before, was_moved_to_end, was_moved_before}
+use Rattle.lx_edit_laws.proofs.WrapTrees.{own, different, WasMoved, beside, MayStandBefore, not_new, beside-order, beside-up, beside-elsewhere}
 use Rattle.lx_edit_laws.proofs.WrapTurns.{removed_alone}
 use Rattle.lx_list_laws.specs.Levels.{nested_before, nested_behind, GoesAndComes, PointsStay}
-use Rattle.lx_list_laws.proofs.LevelWraps.{prepared, HasSunk, sunk_order, sunk_kind, x_sunk, list_up, item_up, list_holds, item_holds, x_not_item, x_not_list, risen_order, risen_kind, list_still, item_still, x_again, list_left, item_left, back_again_in}
+use Rattle.lx_list_laws.proofs.LevelWraps.{prepared, HasSunk, x_not_item, x_not_list, now_order, now_kind, x_up, list_up, item_up, item_holds, sunk_list, left_list, risen, back_again_in}
 use Rattle.lx_list_laws.proofs.LevelPoints.{off_outside, before_stays, put_stays, to_end_stays, moved_before_stays, sent_stays, removed_stays}
-use Rattle.lx_list_laws.proofs.LevelSteps.{chosen, label_known, was_made, two_order, two_kind, two_parent, two_children, childless, was_removed}
+use Rattle.lx_list_laws.proofs.LevelSteps.{chosen, label_known, was_made, two_order, two_kind, two_parent, two_children, was_removed}
 
 -- ---- down
 
@@ -77,7 +78,7 @@ went_down x p l w v ready up like e =
     let two : n ≢ m = λ same. absurd (omega (arith, same, made.next)) in
     let new : Forest = with_new ml (with_new nl f) in
     let order : IsForest new = two_order f nl ml ready.in_order free_n free_m in
-    let empty : (q : ℕ) → has q f ≡ false → children_of new q ≡ [] = λ q free. two_children f nl ml ready.in_order free_n free_m q ∙ childless f q free in
+    let empty : (q : ℕ) → has q f ≡ false → children_of new q ≡ [] = λ q free. two_children f nl ml ready.in_order free_n free_m q ∙ (is_absent f q free).children in
     let up_new : parent_of new x ≡ Some p = two_parent f nl ml ready.in_order free_n free_m x ∙ up in
     let is_new : b.0.forest ≡ new = made_list.forest ∙ ap (with_new ml) made.forest in
     let put = was_put_before n x p b.0 c.0 (subst IsForest (sym is_new) order) (ap (λ z. parent_of z x) is_new ∙ up_new) c.1 in
@@ -153,8 +154,11 @@ module _ (w v : Working) (p x : ℕ) (h : IsForest w.forest) (s : WentDown w v p
 
   -- what is removed once x has come out
   module _ (r u : Working) (up : WasMoved v.forest r.forest p x (Some item)) (list_is : is_list s.list.kind ≡ true) (e : remove_step list r ≡ Ok u) where
+    rose : WasMoved (prepared p x item list new) r.forest p x (Some item)
+    rose = risen new v.forest p x item list s.sunk r.forest up
+
     r_order : IsForest r.forest
-    r_order = risen_order new v.forest p x item list s.sunk r.forest up
+    r_order = now_order new v.forest p x item list s.sunk r.forest p (Some item) rose
 
     two : item ≢ list
     two = s.sunk.two
@@ -162,29 +166,29 @@ module _ (w v : Working) (p x : ℕ) (h : IsForest w.forest) (s : WentDown w v p
     both_gone : (u.forest ≡ take_out item (take_out list r.forest)) × (has_point_on p r.selection ≡ false → has_point_on item r.selection ≡ false → has_point_on list r.selection ≡ false → u.selection ≡ r.selection)
     both_gone =
         let f : Forest = r.forest in
-        let there = list_still new v.forest p x item list s.sunk f up in
+        let there = list_up new v.forest p x item list s.sunk r.forest p (Some item) rose in
         let a = was_removed list item r u r_order there e in
         let g : Forest = a.0.forest in
         let gone : g ≡ take_out list f = a.2 in
         let order : IsForest g = subst IsForest (sym gone) (IsForest-take_out list f r_order) in
         let above : parent_of g item ≡ Some p =
         ap (λ z. parent_of z item) gone ∙ parent_of-take_out list f item r_order
-        ∙ ap (λ b. cond b None (parent_of f item)) (different item list two) ∙ item_still new v.forest p x item list s.sunk f up in
+        ∙ ap (λ b. cond b None (parent_of f item)) (different item list two) ∙ item_up new v.forest p x item list s.sunk r.forest p (Some item) rose in
         let empty : children_of g item ≡ [] =
         ap (λ z. children_of z item) gone ∙ children_of-take_out list f item r_order
-        ∙ ap (names_without list) (item_left new v.forest p x item list s.sunk f up) ∙ grind (arith, eqb_tells list list) in
+        ∙ ap (names_without list) (item_holds new v.forest p x item list s.sunk r.forest p (Some item) rose (not_new new p x item s.sunk.may)) ∙ grind (arith, eqb_tells list list) in
         let outer : kind_of g item ≡ Some Item =
-        ap (λ z. kind_of z item) gone ∙ kind_of-take_out list f item r_order ∙ risen_kind new v.forest p x item list s.sunk f up item ∙ item_kind in
-        let inner : kind_of f list ≡ Some s.list.kind = risen_kind new v.forest p x item list s.sunk f up list ∙ list_kind in
+        ap (λ z. kind_of z item) gone ∙ kind_of-take_out list f item r_order ∙ now_kind new v.forest p x item list s.sunk r.forest p (Some item) rose item ∙ item_kind in
+        let inner : kind_of f list ≡ Some s.list.kind = now_kind new v.forest p x item list s.sunk r.forest p (Some item) rose list ∙ list_kind in
         let goes : may_not_be_left (kind_of g item) (kind_of f list) ≡ true = ap₂ may_not_be_left outer inner ∙ item_goes s.list.kind list_is in
         let next : Some item ≡ goes_next (kind_of f list) g (parent_of f list) =
         sym (ap (goes_next (kind_of f list) g) there ∙ too (length (children_of g item) == 0) (is_some (parent_of g item)) (may_not_be_left (kind_of g item) (kind_of f list))
         (ap (λ (ks : List ℕ). length ks == 0) empty) (ap is_some above) goes) in
         let rest : remove_step item a.0 ≡ Ok u = climbed list r a.0 (Some item) r_order a.1 next ∙ e in
-        let x_up : parent_of g x ≡ Some p =
+        let above_x : parent_of g x ≡ Some p =
         ap (λ z. parent_of z x) gone ∙ parent_of-take_out list f x r_order
-        ∙ ap (λ b. cond b None (parent_of f x)) (different x list (x_not_list new v.forest p x item list s.sunk)) ∙ x_again new v.forest p x item list s.sunk f up in
-        let among : is_among x (children_of g p) ≡ true = child_of g p x order x_up in
+        ∙ ap (λ b. cond b None (parent_of f x)) (different x list (x_not_list new v.forest p x item list s.sunk)) ∙ x_up new v.forest p x item list s.sunk r.forest p (Some item) rose in
+        let among : is_among x (children_of g p) ≡ true = child_of g p x order above_x in
         let other : x ≢ item = x_not_item new v.forest p x item list s.sunk in (
           removed_alone item p x a.0 u order above among other rest ∙ ap (take_out item) gone,
           λ off_p off_n off_m.
@@ -207,27 +211,27 @@ module _ (w v : Working) (p x : ℕ) (h : IsForest w.forest) (s : WentDown w v p
   unfolding outdented out_of moved_out
   went_up u is list_is e =
       let g : Forest = v.forest in
-      let x_is : is_at is_item g x ≡ true = ap (passes is_item) (sunk_kind new g p x item list s.sunk x ∙ x_kind) ∙ is in
-      let item_is : is_at is_item g item ≡ true = ap (passes is_item) (sunk_kind new g p x item list s.sunk item ∙ item_kind) ∙ item_item in
+      let x_is : is_at is_item g x ≡ true = ap (passes is_item) (now_kind new g p x item list s.sunk g list None s.sunk.moved x ∙ x_kind) ∙ is in
+      let item_is : is_at is_item g item ≡ true = ap (passes is_item) (now_kind new g p x item list s.sunk g list None s.sunk.moved item ∙ item_kind) ∙ item_item in
       let by : out_by x (parent_of g x) v ≡ Ok u = chosen (is_at is_item g x) (out_by x (parent_of g x) v) (change_step (with_indent shallower) x v) u x_is e in
-      let from : out_from x list (parent_of g list) v ≡ Ok u = sym (ap (λ o. out_by x o v) (x_sunk new g p x item list s.sunk)) ∙ by in
-      let in_item : out_from x list (Some item) v ≡ Ok u = sym (ap (λ o. out_from x list o v) (list_up new g p x item list s.sunk)) ∙ from in
+      let from : out_from x list (parent_of g list) v ≡ Ok u = sym (ap (λ o. out_by x o v) (x_up new g p x item list s.sunk g list None s.sunk.moved)) ∙ by in
+      let in_item : out_from x list (Some item) v ≡ Ok u = sym (ap (λ o. out_from x list o v) (list_up new g p x item list s.sunk g list None s.sunk.moved)) ∙ from in
       let out : out_of x list item v ≡ Ok u = chosen (is_at is_item g item) (out_of x list item v) (Ok v) u item_is in_item in
       let a = first_part (moved_out x list item v) (gone_if_empty list) u out in
-      let x_first : is_named (first_child g list) x ≡ true = ap (λ ks. is_named (first_of ks) x) (list_holds new g p x item list s.sunk) ∙ own x in
-      let list_first : is_named (first_child g item) list ≡ true = ap (λ ks. is_named (first_of ks) list) (item_holds new g p x item list s.sunk) ∙ own list in
+      let x_first : is_named (first_child g list) x ≡ true = ap (λ ks. is_named (first_of ks) x) (sunk_list new g p x item list s.sunk) ∙ own x in
+      let list_first : is_named (first_child g item) list ≡ true = ap (λ ks. is_named (first_of ks) list) (item_holds new g p x item list s.sunk g list None s.sunk.moved (λ e. s.sunk.two (sym e))) ∙ own list in
       let before : moved_before item x v ≡ Ok a.0 =
       chosen (is_named (first_child g list) x && is_named (first_child g item) list) (moved_before item x v)
       (cond (is_none (next_of g x)) (moved_behind item x v) (parted x list item v)) a.0 (ap₂ ◌&&◌ x_first list_first) a.1 in
       let up : WasMoved g a.0.forest p x (Some item) =
-      was_moved_before item x p v a.0 (sunk_order new g p x item list s.sunk) (item_up new g p x item list s.sunk) (λ same. x_not_item new g p x item list s.sunk (sym same)) before in
-      let left : (size_of a.0.forest list == 0) ≡ true = ap (λ (ks : List ℕ). length ks == 0) (list_left new g p x item list s.sunk a.0.forest up) in
+      was_moved_before item x p v a.0 (now_order new g p x item list s.sunk g list None s.sunk.moved) (item_up new g p x item list s.sunk g list None s.sunk.moved) (λ same. x_not_item new g p x item list s.sunk (sym same)) before in
+      let left : (size_of a.0.forest list == 0) ≡ true = ap (λ (ks : List ℕ). length ks == 0) (left_list new g p x item list s.sunk a.0.forest up) in
       let removes : remove_step list a.0 ≡ Ok u = chosen (size_of a.0.forest list == 0) (remove_step list a.0) (Ok a.0) u left a.2 in (
         all_back a.0 u up list_is removes,
         λ off_p off_n off_m.
             let mid : a.0.selection ≡ v.selection =
-            moved_before_stays item x list p v a.0 (sunk_order new g p x item list s.sunk) (item_up new g p x item list s.sunk) (λ same. x_not_item new g p x item list s.sunk (sym same)) before
-            (x_sunk new g p x item list s.sunk) off_m off_p in
+            moved_before_stays item x list p v a.0 (now_order new g p x item list s.sunk g list None s.sunk.moved) (item_up new g p x item list s.sunk g list None s.sunk.moved) (λ same. x_not_item new g p x item list s.sunk (sym same)) before
+            (x_up new g p x item list s.sunk g list None s.sunk.moved) off_m off_p in
             (both_gone a.0 u up list_is removes).1 (ap (has_point_on p) mid ∙ off_p) (ap (has_point_on item) mid ∙ off_n) (ap (has_point_on list) mid ∙ off_m) ∙ mid,
       )
 

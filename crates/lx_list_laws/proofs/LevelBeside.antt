@@ -10,7 +10,7 @@ use Rattle.lx_trees.proofs.Siblings.{first_of-among, names_without-absent_list, 
 use Rattle.lx_select.specs.Selection.{has_point_on}
 use Rattle.lx_forest.specs.Forest.{Forest, Label}
 use Rattle.lx_forest.specs.Lookups.{kind_of, parent_of, children_of, children_below, size_of, first_child, previous_of, next_of, is_within, holds, IsForest, IsHeld}
-use Rattle.lx_forest.proofs.Lookups.{NoRepeats-children_of, has-child, has-parent_of, parent_of-self}
+use Rattle.lx_forest.proofs.Lookups.{NoRepeats-children_of, children_of-take_out, has-child, has-parent_of, parent_of-self}
 use Rattle.lx_forest.proofs.Siblings.{parent_of-previous, parent_of-next}
 use Rattle.lx_forest.proofs.Walks.{cases_option}
 use Rattle.lx_forest.proofs.Within.{is_within-parent, is_within-self, is_within-up}
@@ -25,10 +25,9 @@ use Rattle.lx_list.specs.Indenting.{moved_to_front, nested_by, deeper, indented}
 use Rattle.lx_list.specs.Outdenting.{moved_out, parted, gone_if_empty, out_of, out_from, out_by, shallower, outdented}
 use Rattle.lx_list.proofs.Above.{list_above}
 use Rattle.lx_edit_laws.proofs.WrapLists.{names_with-end}
-use Rattle.lx_edit_laws.proofs.WrapBeside.{own, different, not_child}
-use Rattle.lx_edit_laws.proofs.WrapSteps.{was_same, WasMoved, IsForest-moved, label_of-moved, parent_of-moved, children_of-moved, was_moved_to_end, was_moved_before}
+use Rattle.lx_edit_laws.proofs.WrapTrees.{own, different, not_child, WasMoved, IsForest-moved, label_of-moved, parent_of-moved, children_of-moved, take-moved, moved_twice, moved_back}
+use Rattle.lx_edit_laws.proofs.WrapSteps.{was_same, was_moved_to_end, was_moved_before}
 use Rattle.lx_list_laws.specs.Levels.{nested_before, nested_behind, has_points_within, GoesAndComes, PointsStay}
-use Rattle.lx_list_laws.proofs.LevelTrees.{at_front, back, left_without}
 use Rattle.lx_list_laws.proofs.LevelPoints.{off_outside, to_end_stays, to_front_stays, moved_before_stays, moved_behind_stays}
 use Rattle.lx_list_laws.proofs.LevelSteps.{chosen, unless, label_known, was_moved_behind, was_moved_to_front}
 
@@ -50,6 +49,10 @@ before_itself before x (y ∷ ys) apart e =
       | inl same ↦ absurd (grind (arith, same, apart, e, eqb_tells x x))
       | inr other ↦ before_itself (Some y) x ys (grind (arith, other.0, eqb_tells x y, eqb_tells y x)) (grind (arith, other.0, e))
     ]
+
+at_front : (x : ℕ) (xs : List ℕ) → names_with (first_of xs) (x ∷ []) xs ≡ x ∷ xs
+at_front x [] = refl
+at_front x (y ∷ ys) = grind (arith, eqb_tells y y)
 
 -- nothing comes after what is put at the end
 last_behind : (x : ℕ) (xs : List ℕ) → is_among x xs ≡ false → next_in (xs ++ (x ∷ [])) x ≡ None
@@ -147,13 +150,13 @@ module _ (x list p holder : ℕ) (w v : Working) (s : WentIn x list p holder w v
   g_order = IsForest-moved f g list x s.place s.in_order s.went
 
   g_kind : (q : ℕ) → kind_of g q ≡ kind_of f q
-  g_kind q = ap (option_map (λ (l : Label). l.kind)) (label_of-moved f g list x s.place q s.in_order s.went)
+  g_kind q = ap (option_map (λ (l : Label). l.kind)) (label_of-moved f g list x s.place s.in_order s.went q)
 
   g_parent : (q : ℕ) → q ≢ x → parent_of g q ≡ parent_of f q
-  g_parent q other = parent_of-moved f g list x s.place q s.in_order s.went ∙ ap (λ b. cond b (Some list) (parent_of f q)) (different q x other)
+  g_parent q other = parent_of-moved f g list x s.place s.in_order s.went q ∙ ap (λ b. cond b (Some list) (parent_of f q)) (different q x other)
 
   x_in : parent_of g x ≡ Some list
-  x_in = parent_of-moved f g list x s.place x s.in_order s.went ∙ ap (λ b. cond b (Some list) (parent_of f x)) (own x)
+  x_in = parent_of-moved f g list x s.place s.in_order s.went x ∙ ap (λ b. cond b (Some list) (parent_of f x)) (own x)
 
   list_still : parent_of g list ≡ Some holder
   list_still = g_parent list list_not_x ∙ list_up
@@ -164,13 +167,13 @@ module _ (x list p holder : ℕ) (w v : Working) (s : WentIn x list p holder w v
   g_children : (q : ℕ) → q ≢ list → children_of g q ≡ names_without x (children_of f q)
   g_children q other =
       let xs : List ℕ = names_without x (children_of f q) in
-      children_of-moved f g list x s.place q s.in_order s.went ∙ ap (λ b. cond b (names_with s.place (x ∷ []) xs) xs) (different q list other)
+      children_of-moved f g list x s.place s.in_order s.went q ∙ ap (λ b. cond b (names_with s.place (x ∷ []) xs) xs) (different q list other)
 
   -- the list has x at the place, the neighbour has what it had, and their parent has lost x
   pub list_holds : children_of g list ≡ names_with s.place (x ∷ []) (children_of f list)
   list_holds =
       let xs : List ℕ = names_without x (children_of f list) in
-      children_of-moved f g list x s.place list s.in_order s.went ∙ ap (λ b. cond b (names_with s.place (x ∷ []) xs) xs) (own list)
+      children_of-moved f g list x s.place s.in_order s.went list ∙ ap (λ b. cond b (names_with s.place (x ∷ []) xs) xs) (own list)
       ∙ ap (names_with s.place (x ∷ [])) (names_without-absent_list x (children_of f list) absent)
 
   pub first_still : first_child g holder ≡ Some list
@@ -194,7 +197,7 @@ module _ (x list p holder : ℕ) (w v : Working) (s : WentIn x list p holder w v
   pub came_back : (y u : Working) → WasMoved g y.forest p x (next_in (children_of f p) x) → gone_if_empty list y ≡ Ok u
       → (has_point_on list v.selection ≡ false → has_point_on p v.selection ≡ false → y.selection ≡ v.selection) → (u.forest ≡ f) × PointsStay x w v u
   came_back y u came e comes =
-      let same : y.forest ≡ f = back f g y.forest p list x (record { in_order = s.in_order; up = s.up; place = s.place; went = s.went; came = came }) in
+      let same : y.forest ≡ f = moved_back f y.forest p x s.in_order s.up (moved_twice f g list x s.place s.in_order s.went y.forest p (next_in (children_of f p) x) came) in
       let some : (size_of y.forest list == 0) ≡ false = ap (λ z. size_of z list == 0) same ∙ not_none (children_of f list) s.some in
       let stays : y ≡ u = was_same y u (unless (size_of y.forest list == 0) (remove_step list y) (Ok y) u some e) in
       let off : (q : ℕ) → has_points_within f x w.selection ≡ true → is_within f x q ≡ false → has_point_on q w.selection ≡ false = λ q points outside. off_outside f x q w.selection points outside in
@@ -229,7 +232,9 @@ back_behind x list p holder w v u s at previous e =
     (ap (λ b. b && is_named (first_child g holder) list) later) a.1) in
     let moved = was_moved_behind holder x p v a.0 (g_order x list p holder w v s) (holder_still x list p holder w v s) s.apart behind in
     let place : next_in (names_without x (children_of g p)) holder ≡ next_in xs x =
-    ap (λ ks. next_in ks holder) (left_without f g list x s.place p s.in_order s.went)
+    ap (λ ks. next_in ks holder)
+    (sym (children_of-take_out x g p (g_order x list p holder w v s))
+    ∙ ap (λ z. children_of z p) (take-moved f g list x s.place s.in_order s.went) ∙ children_of-take_out x f p s.in_order)
     ∙ next_in-names_without x holder xs (NoRepeats-children_of f p s.in_order) (different holder x s.apart)
     ∙ ap (λ o. cond (is_named o holder) (next_in xs x) (next_in xs holder)) previous
     ∙ ap (λ b. cond b (next_in xs x) (next_in xs holder)) (own holder) in

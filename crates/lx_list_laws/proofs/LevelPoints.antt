@@ -1,22 +1,19 @@
 -- Steps about nodes on which no point is leave the selection as it is.
-use Rattle.std.proofs.Common.{◌≡◌, ◌≢◌, ◌∙◌, ℕ, ◌&&◌, ◌||◌, ◌==◌, Bool, true, false, cond, List, [], ◌∷◌, length, Option, None, Some, Result, Ok, refl, sym, ap, subst, arith}
+use Rattle.std.proofs.Common.{◌≡◌, ◌≢◌, ◌∙◌, ℕ, ◌==◌, true, false, Option, None, Some, Ok, refl, sym, ap, subst, arith}
 use Rattle.std.specs.Option.{option_or}
+use Rattle.std.proofs.lemmas.Bool.{and_parts, or_parts}
 use Rattle.std.proofs.lemmas.Bool.Decides.{eqb_tells}
 use Rattle.lx_trees.specs.Siblings.{is_among}
-use Rattle.lx_trees.proofs.Siblings.{is_among-names_without}
 use Rattle.lx_node.specs.declared.cause.Point.{Point}
-use Rattle.lx_node.specs.declared.cause.Cause.{Cause}
 use Rattle.lx_select.specs.declared.selection.Selection.{Selection}
 use Rattle.lx_select.specs.declared.selection.Selection.TheVariants.{Nothing, Range, Nodes, Cells}
 use Rattle.lx_select.specs.Selection.{has_point_on}
 use Rattle.lx_select.specs.Rules.{take_moves, is_behind}
 use Rattle.lx_select.proofs.Apart.{put-apart}
 use Rattle.lx_forest.specs.Forest.{Forest}
-use Rattle.lx_forest.specs.Lookups.{kind_of, parent_of, children_of, size_of, next_of, index_of, is_within, ancestors, IsForest}
-use Rattle.lx_forest.specs.Edits.{take_out}
-use Rattle.lx_forest.proofs.Lookups.{parent_of-take_out, children_of-take_out}
+use Rattle.lx_forest.specs.Lookups.{parent_of, children_of, size_of, next_of, index_of, is_within, IsForest}
+use Rattle.lx_forest.proofs.Lookups.{parent_of-take_out}
 use Rattle.lx_forest.proofs.Order.{IsForest-take_out}
-use Rattle.lx_forest.proofs.Walks.{ancestors-step}
 use Rattle.lx_links.specs.Faults.{detach_fault}
 use Rattle.lx_draft.specs.Working.{Working}
 use Rattle.lx_draft.specs.Faults.{over_counts, put_fault}
@@ -24,19 +21,11 @@ use Rattle.lx_draft.specs.Steps.{take_points, node_taken, node_placed, take_step
 use Rattle.lx_draft.specs.Beside.{gap_index, put_before_step, put_behind_step}
 use Rattle.lx_draft.proofs.Covered.{answered}
 use Rattle.lx_draft.proofs.Gaps.{before_is, behind_is}
-use Rattle.lx_edit.specs.Edits.{moved_before, moved_behind, moved_to_end, sent_away, goes_too, removed, remove_step}
-use Rattle.lx_edit.proofs.Climbed.{first_part, sent_away-apart, sent_away-forest, taken-forest}
+use Rattle.lx_edit.specs.Edits.{moved_before, moved_behind, moved_to_end, sent_away, remove_step}
+use Rattle.lx_edit.proofs.Climbed.{first_part, sent_away-apart, taken-forest}
 use Rattle.lx_list.specs.Indenting.{moved_to_front}
-use Rattle.lx_edit_laws.proofs.WrapSteps.{was_same}
+use Rattle.lx_edit_laws.proofs.WrapTurns.{left_alone}
 use Rattle.lx_list_laws.specs.Levels.{has_points_within}
-
-neither : (a b : Bool) → (a || b) ≡ false → (a ≡ false) × (b ≡ false)
-neither true b e = absurd (cc)
-neither false b e = (refl, e)
-
-both : (a b : Bool) → (a && b) ≡ true → (a ≡ true) × (b ≡ true)
-both true b e = (refl, e)
-both false b e = absurd (cc)
 
 -- no point in the tree of x is on a node outside
 outside_point : (f : Forest) (x q : ℕ) (p : Point) → is_within f x p.key ≡ true → is_within f x q ≡ false → (p.key == q) ≡ false
@@ -45,7 +34,7 @@ outside_point f x q p inside outside = grind (arith, eqb_tells p.key q, inside, 
 pub off_outside : (f : Forest) (x q : ℕ) (s : Selection) → has_points_within f x s ≡ true → is_within f x q ≡ false → has_point_on q s ≡ false
 off_outside f x q Nothing points outside = refl
 off_outside f x q (Range a b format) points outside =
-    let each = both (is_within f x a.key) (is_within f x b.key) points in rw (outside_point f x q a each.0 outside, outside_point f x q b each.1 outside) refl
+    let each = and_parts (is_within f x a.key) (is_within f x b.key) points in rw (outside_point f x q a each.0 outside, outside_point f x q b each.1 outside) refl
 off_outside f x q (Nodes keys) points outside = refl
 off_outside f x q (Cells table a b) points outside = refl
 
@@ -58,7 +47,7 @@ take_leaves p index a off = grind (arith, off)
 take_apart : (p : ℕ) (o : Option ℕ) (s : Selection) → has_point_on p s ≡ false → take_points (Some p) o s ≡ s
 take_apart p None s off = refl
 take_apart p (Some index) Nothing off = refl
-take_apart p (Some index) (Range a b format) off = let each = neither (a.key == p) (b.key == p) off in rw (take_leaves p index a each.0, take_leaves p index b each.1) refl
+take_apart p (Some index) (Range a b format) off = let each = or_parts (a.key == p) (b.key == p) off in rw (take_leaves p index a each.0, take_leaves p index b each.1) refl
 take_apart p (Some index) (Nodes keys) off = refl
 take_apart p (Some index) (Cells table a b) off = refl
 
@@ -124,24 +113,7 @@ moved_behind_stays other k from p w v h up apart e below off off_to =
 pub sent_stays : (k p : ℕ) (w v : Working) → take_step k (sent_away k w) ≡ Ok v → parent_of w.forest k ≡ Some p → has_point_on k w.selection ≡ false → has_point_on p w.selection ≡ false → v.selection ≡ w.selection
 sent_stays k p w v e up off off_above = take_stays k p w v (ap (take_step k) (sym (sent_away-apart k w off)) ∙ e) up off_above
 
-not_empty : (xs : List ℕ) (s : ℕ) → is_among s xs ≡ true → (length xs == 0) ≡ false
-not_empty [] s among = absurd (cc)
-not_empty (x ∷ xs) s among = grind arith
-
-stays_if : (goes : Bool) (u v : Working) (further : Result Working Cause) → goes ≡ false → cond goes further (Ok u) ≡ Ok v → u ≡ v
-stays_if true u v further is e = absurd (cc)
-stays_if false u v further is e = was_same u v e
-
 -- where another child is left, nothing above goes too
-pub removed_stays : (k p s : ℕ) (w v : Working) → IsForest w.forest → parent_of w.forest k ≡ Some p → is_among s (children_of w.forest p) ≡ true → s ≢ k → remove_step k w ≡ Ok v
-    → has_point_on k w.selection ≡ false → has_point_on p w.selection ≡ false → v.selection ≡ w.selection
-unfolding remove_step
-removed_stays k p s w v h up among other e off off_above =
-    let above : removed k (p ∷ ancestors w.forest p) w ≡ Ok v = ap (λ ks. removed k ks w) (sym (ancestors-step w.forest k p h up)) ∙ e in
-    let a = first_part (take_step k (sent_away k w)) (λ u. cond (goes_too (kind_of w.forest k) u.forest p) (removed p (ancestors w.forest p) u) (Ok u)) v above in
-    let gone : a.0.forest ≡ take_out k w.forest = taken-forest k (sent_away k w) a.0 a.1 ∙ ap (take_out k) (sent_away-forest k w) in
-    let left : is_among s (children_of a.0.forest p) ≡ true =
-    ap (λ f. is_among s (children_of f p)) gone ∙ ap (is_among s) (children_of-take_out k w.forest p h) ∙ is_among-names_without k s (children_of w.forest p) ∙ grind (arith, among, other, eqb_tells s k) in
-    let stays : goes_too (kind_of w.forest k) a.0.forest p ≡ false = grind (arith, not_empty (children_of a.0.forest p) s left) in
-    sym (ap (λ (x : Working). x.selection) (stays_if (goes_too (kind_of w.forest k) a.0.forest p) a.0 v (removed p (ancestors w.forest p) a.0) stays a.2))
-    ∙ sent_stays k p w a.0 a.1 up off off_above
+pub removed_stays : (k p s : ℕ) (w v : Working) → IsForest w.forest → parent_of w.forest k ≡ Some p → is_among s (children_of w.forest p) ≡ true → s ≢ k
+    → remove_step k w ≡ Ok v → has_point_on k w.selection ≡ false → has_point_on p w.selection ≡ false → v.selection ≡ w.selection
+removed_stays k p s w v h up among other e off off_above = sent_stays k p w v (left_alone k p s w v h up among other e) up off off_above

@@ -3,7 +3,7 @@ use Rattle.std.proofs.Common.{◌≡◌, ◌≢◌, ◌∙◌, ℕ, ◌+◌, Boo
 use Rattle.std.specs.Prelude.{slice_get, option_map}
 use Rattle.std.proofs.lemmas.Bool.Decides.{eqb_tells}
 use Rattle.lx_trees.specs.Siblings.{first_of, next_in, names_without}
-use Rattle.lx_trees.specs.Spots.{Spot, children_at}
+use Rattle.lx_trees.specs.Spots.{Spot}
 use Rattle.lx_node.specs.Strings.{characters_of}
 use Rattle.lx_node.specs.declared.kind.Kind.{Kind}
 use Rattle.lx_node.specs.declared.fields.Fields.{Fields}
@@ -24,7 +24,8 @@ use Rattle.lx_draft.proofs.Gaps.{gap_at, behind_is, next_is_place}
 use Rattle.lx_edit.specs.Edits.{moved_behind, sent_away, goes_too, removed, remove_step}
 use Rattle.lx_edit.proofs.Climbed.{first_part, sent_away-forest, taken-forest}
 use Rattle.lx_list.specs.Indenting.{moved_to_front}
-use Rattle.lx_edit_laws.proofs.WrapSteps.{was_taken, was_put, WasMoved}
+use Rattle.lx_edit_laws.proofs.WrapSteps.{was_taken, was_put}
+use Rattle.lx_edit_laws.proofs.WrapTrees.{WasMoved}
 
 -- ---- choices
 
@@ -69,13 +70,6 @@ module _ (f : Forest) (one two : Label) (h : IsForest f) (free : has one.key f �
 
   pub two_children : (q : ℕ) → children_of (with_new two (with_new one f)) q ≡ children_of f q
   two_children q = children_of-with_new two (with_new one f) q one_order later ∙ children_of-with_new one f q h free
-
--- a key that is free has no children
-pub childless : (f : Forest) (q : ℕ) → has q f ≡ false → children_of f q ≡ []
-childless f q free = by_spot (spot f q) refl where
-  by_spot : (o : Option (Spot Label)) → spot f q ≡ o → children_at o ≡ []
-  by_spot None is = refl
-  by_spot (Some s) is = absurd (grind (arith, free, is, is_some-spot f q))
 
 -- one that is there has a label
 pub label_known : (f : Forest) (k : ℕ) → has k f ≡ true → (l : Label) × (label_of f k ≡ Some l)

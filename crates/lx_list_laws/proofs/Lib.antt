@@ -4,7 +4,6 @@ pub mod LevelCommands
 pub mod LevelPoints
 pub mod LevelSteps
 pub mod LevelTold
-pub mod LevelTrees
 pub mod LevelWraps
 pub mod ReadCommands
 pub mod ReadDissolved

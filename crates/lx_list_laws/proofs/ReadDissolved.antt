@@ -12,6 +12,7 @@ use Rattle.lx_node.specs.declared.kind.Kind.TheVariants as kinds
 use Rattle.lx_node.specs.declared.kind.Kind.TheVariants.{Paragraph}
 use Rattle.lx_node.specs.declared.cause.Cause.{Cause}
 use Rattle.lx_trees.proofs.NamedTrees.{is_among-preorder, NoRepeats-preorder}
+use Rattle.lx_trees.proofs.Subtrees.{count-alone-le}
 use Rattle.lx_forest.specs.Forest.{Forest}
 use Rattle.lx_forest.specs.Lookups.{key_of, has, alone, kind_of, parent_of, children_of, size_of, ancestors, is_within, keys_within, IsForest, IsHeld}
 use Rattle.lx_forest.proofs.Edits.{has-root, parent_of-root}
@@ -31,12 +32,11 @@ use Rattle.lx_edit.proofs.Paths.{remove_path}
 use Rattle.lx_blocks.specs.Blocks.{passes, is_at, is_line}
 use Rattle.lx_list.specs.Dissolving.{emptied_into, paragraph_made, dissolved, is_in_item, is_outermost, outermost_above, dissolved_if, dissolved_around}
 use Rattle.lx_edit_laws.specs.Reading.{read_below}
-use Rattle.lx_edit_laws.proofs.Reading.{down, reads_of, read-level}
-use Rattle.lx_edit_laws.proofs.WrapTrees.{distinct_tree}
+use Rattle.lx_edit_laws.proofs.Reading.{down, spread-none, reads_of, read-level, IsKnown, reads_known, reads-instead}
 use Rattle.lx_edit_laws.proofs.WrapSteps.{was_same, was_taken, before_below}
 use Rattle.lx_list_laws.specs.Reading.{stand_first, InlinesFirst, IsSound, ReadsAs}
 use Rattle.lx_list_laws.proofs.ReadOrder.{first-same, first-others}
-use Rattle.lx_list_laws.proofs.ReadForests.{IsKnown, reads_by, reads_known, reads-instead}
+use Rattle.lx_list_laws.proofs.ReadForests.{reads_told}
 use Rattle.lx_list_laws.proofs.ReadSound.{StaysSound, stays_then, stays_selected, sound_path}
 use Rattle.lx_list_laws.proofs.ReadEdits.{parent_made, was_removed}
 use Rattle.lx_list_laws.proofs.ReadSaid.{inlines, said, second, at_there, both_kinds, MaySay, AreSaid, are_said}
@@ -45,10 +45,6 @@ use Rattle.lx_list_laws.proofs.ReadLines.{said-lines, is_listed, listed_below, l
 -- the lines of a list
 abbrev lines_of : Forest → ℕ → List ℕ
 lines_of f list = filter (is_line f) (keys_within f list)
-
-reads_none : (g : Forest) (xs : List ℕ) → ((q : ℕ) → is_among q xs ≡ true → read_below g q ≡ []) → reads_of g xs ≡ []
-reads_none g [] each = refl
-reads_none g (x ∷ xs) each = ap₂ (λ a b. a ++ b) (each x (grind (arith, eqb_tells x x))) (reads_none g xs (λ q among. each q (grind (arith, among))))
 
 first : (a b : Bool) → (a && b) ≡ true → a ≡ true
 first true b e = refl
@@ -127,7 +123,7 @@ module _ (f g : Forest) (p list : ℕ) (m : IsEmptied f g p list) where
   empty_below b inside here = down f order (λ q. is_within f list q ≡ true → is_at is_listed f q ≡ true → read_below g q ≡ []) (λ q each within listed.
       read-level g q m.all.told.behind
       ∙ ap₂ (λ x y. x ++ y) (m.all.told.texts q ∙ listed_silent f q listed)
-      (reads_none g (children_of g q) (λ c among.
+      (spread-none (read_below g) (children_of g q) (λ c among.
       let l = left_below q c within listed among in
       each c l.child (within_below f list c q order l.child within) (listed_below f c q m.held l.child listed l.other)))) b inside here
 
@@ -163,8 +159,7 @@ module _ (f g : Forest) (p list : ℕ) (m : IsEmptied f g p list) where
             let there : has b f ≡ true = not_not (has b f) (right_false (is_within f list b) (not (has b f)) clear) in
             let away : is_among b (lines_of f list) ≡ false = among_lines f list b ∙ ap (λ x. x && is_line f b) outside in
             ap (reads_of g) (m.all.others b there other.0 away)
-            ∙ reads_known f g spared b m.all.told k (λ q among.
-            let up = parent_here f b q order among in
+            ∙ reads_known f g spared b order k (λ q up.
             beside_spared q b up (λ same. absurd (grind (arith, other.0, same, up, m.up, eqb_tells b p))) outside)
       ] where
         left_false : (x y : Bool) → (x || y) ≡ false → x ≡ false
@@ -184,7 +179,7 @@ module _ (f g : Forest) (p list : ℕ) (m : IsEmptied f g p list) where
 
   emptied_read : read_below g 0 ≡ read_below f 0
   emptied_read =
-      reads_by f g spared m.all.told emptied_level 0
+      reads_told f g spared m.all.told emptied_level 0
       (ap₂ (λ x y. x || not y) (is_within-top f list 0 order (parent_of-root f order) root_other) (has-root f order))
 
   -- inline children come first in each item still
@@ -265,7 +260,7 @@ may_say f p list h held up is =
     record {
       up = up;
       place = ap (passes is_inline) k.2 ∙ k.4 (sym (ap (passes is_list) k.3) ∙ is);
-      once = NoRepeats-filter (is_line f) (keys_within f list) (NoRepeats-preorder key_of (alone list f) (distinct_tree f list h));
+      once = NoRepeats-filter (is_line f) (keys_within f list) (NoRepeats-preorder key_of (alone list f) (λ q. omega (arith, count-alone-le key_of q list f, h.once q)));
       there = λ q among. at_there is_text_block f q (block q among);
       apart = λ q among. grind (arith, inside q among, is_within-parent f list p h up, eqb_tells q p);
       block = λ q among. block_apart f q (block q among);

@@ -1,43 +1,34 @@
 -- What the edits leave of which lists are made: what is read, and whether inline children come first in each item.
-use Rattle.std.proofs.Common.{◌≡◌, ◌≢◌, ◌∙◌, ℕ, ◌⊎◌, Bool, true, false, cond, eqb, ◌&&◌, List, [], ◌∷◌, ◌++◌, length, Option, None, Some, Ok, refl, sym, ap, subst, arith, inl, inr}
-use Rattle.std.specs.Prelude.{is_some, option_map}
-use Rattle.std.specs.Option.{option_or}
+use Rattle.std.proofs.Common.{◌≡◌, ◌≢◌, ◌∙◌, ℕ, ◌⊎◌, Bool, true, false, cond, eqb, List, [], ◌∷◌, ◌++◌, Option, None, Some, Ok, refl, sym, ap, subst, arith, inl, inr}
+use Rattle.std.specs.Prelude.{option_map}
 use Rattle.std.proofs.lemmas.Bool.Decides.{eqb_tells}
 use Rattle.std.proofs.lemmas.Option.{slice_get_past}
 use Rattle.lx_trees.specs.Siblings.{names_without, names_with}
-use Rattle.lx_node.specs.Kinds.{is_inline, is_item, is_text, is_element}
+use Rattle.lx_node.specs.Kinds.{is_inline, is_item, is_text}
 use Rattle.lx_node.specs.declared.kind.Kind.{Kind}
 use Rattle.lx_node.specs.declared.fields.Fields.{Fields}
-use Rattle.lx_select.specs.Selection.{ends_of}
 use Rattle.lx_forest.specs.Forest.{Forest, Label}
-use Rattle.lx_forest.specs.Lookups.{has, label_of, kind_of, parent_of, children_of, size_of, ancestors, IsForest}
+use Rattle.lx_forest.specs.Lookups.{has, label_of, kind_of, parent_of, children_of, size_of, IsForest}
 use Rattle.lx_forest.specs.Edits.{with_new, take_out, put_in, CanPut}
-use Rattle.lx_forest.proofs.Lookups.{NoRepeats-children_of, label_of-with_new, kind_of-with_new, parent_of-with_new, children_of-with_new, label_of-put_in, parent_of-put_in, children_of-put_in, kind_of-take_out, children_of-take_out}
-use Rattle.lx_forest.proofs.Order.{IsForest-take_out, IsForest-put_in}
+use Rattle.lx_forest.proofs.Lookups.{label_of-with_new, kind_of-with_new, parent_of-with_new, children_of-with_new, label_of-put_in, parent_of-put_in, children_of-put_in, kind_of-take_out, children_of-take_out}
+use Rattle.lx_forest.proofs.Order.{IsForest-put_in}
 use Rattle.lx_forest.proofs.Within.{is_within-self}
-use Rattle.lx_links.specs.Faults.{unknown}
 use Rattle.lx_draft.specs.Working.{Working}
-use Rattle.lx_draft.specs.Selecting.{unlike}
 use Rattle.lx_draft.specs.Faults.{text_in}
-use Rattle.lx_draft.specs.Steps.{new_step, take_step, put_step}
+use Rattle.lx_draft.specs.Steps.{new_step, put_step}
 use Rattle.lx_draft.specs.Beside.{put_before_step}
-use Rattle.lx_draft.proofs.Gaps.{parent_here}
-use Rattle.lx_draft.proofs.Put.{both_none}
 use Rattle.lx_draft.proofs.Touched.{is_some-kind_of}
-use Rattle.lx_edit.specs.InTurn.{in_turn}
-use Rattle.lx_edit.specs.Conditions.{inside, misfit_among, children_fault}
-use Rattle.lx_edit.specs.Edits.{moved_to_end, sent_away, goes_too, may_not_be_left, removed, remove_step, brought, children_moved, children_step}
+use Rattle.lx_edit.specs.Edits.{remove_step}
 use Rattle.lx_edit.specs.Texts.{text_or_none}
-use Rattle.lx_edit.proofs.Climbed.{first_part, sent_away-forest, taken-forest}
 use Rattle.lx_blocks.specs.Blocks.{passes, is_at}
 use Rattle.lx_edit_laws.specs.Reading.{text_at, read_below}
-use Rattle.lx_edit_laws.proofs.Reading.{read-leaf}
-use Rattle.lx_edit_laws.proofs.WrapBeside.{own}
-use Rattle.lx_edit_laws.proofs.WrapSteps.{was_allowed, was_same, was_put, was_put_before, before_below, silent, silent_element, silent_gone}
+use Rattle.lx_edit_laws.proofs.Reading.{absent, read_without}
+use Rattle.lx_edit_laws.proofs.WrapTurns.{WentOver, was_removed as removal}
+use Rattle.lx_edit_laws.proofs.WrapTold.{WentAll}
+use Rattle.lx_edit_laws.proofs.WrapSteps.{was_put, was_put_before, before_below, silent}
 use Rattle.lx_list_laws.specs.Reading.{stand_first, InlinesFirst, IsSound}
-use Rattle.lx_list_laws.proofs.ReadOrder.{first-same, first-without, first-with, filter-all}
-use Rattle.lx_list_laws.proofs.ReadForests.{absent, CameNew, read_without}
-use Rattle.lx_list_laws.proofs.ReadOver.{WentOver, went_over}
+use Rattle.lx_list_laws.proofs.ReadOrder.{first-same, first-without, first-with}
+use Rattle.lx_list_laws.proofs.ReadForests.{CameNew, came_empty}
 use Rattle.lx_list_laws.proofs.ReadSound.{new_forest, is_free, sound_new}
 
 -- ---- a new node among the children of another
@@ -160,10 +151,7 @@ first_born w v kind p before b clear place first = record { each = λ x item. by
 
   by_key : (x : ℕ) → is_at is_item v.forest x ≡ true → ((eqb x w.next_key ≡ true) × (x ≡ w.next_key)) ⊎ ((eqb x w.next_key ≡ false) × (x ≢ w.next_key)) → stand_first (is_at is_inline v.forest) (children_of v.forest x) ≡ true
   by_key x item (inl own) =
-      let apart : eqb x p ≡ false = ap (λ q. eqb q p) own.1 ∙ b.came.other in
-      let none : children_of v.forest x ≡ [] =
-      b.came.children x ∙ ap (λ t. cond t (names_with before (w.next_key ∷ []) (children_of w.forest x)) (children_of w.forest x)) apart
-      ∙ ap (children_of w.forest) own.1 ∙ (absent w.forest w.next_key b.came.free).children in
+      let none : children_of v.forest x ≡ [] = ap (children_of v.forest) own.1 ∙ came_empty w.forest v.forest w.next_key p before b.came in
       ap (stand_first (is_at is_inline v.forest)) none
   by_key x item (inr other) =
       let was : is_at is_item w.forest x ≡ true = sym (ap (passes is_item) (b.kinds x ∙ ap (λ t. cond t (Some kind) (kind_of w.forest x)) other.0)) ∙ item in
@@ -172,26 +160,6 @@ first_born w v kind p before b clear place first = record { each = λ x item. by
       ∙ by_place x was (eqb x p) refl
 
 -- ---- all children of a node go to another
-
-pub record WentAll (f g : Forest) (from to : ℕ) : Type 0 where
-  pub over : WentOver f g from to (children_of f from)
-  pub none : children_of g from ≡ []
-  pub silent : text_at f from ≡ []
-
-pub went_all : (from to : ℕ) (w v : Working) → IsForest w.forest → from ≢ to → children_step from to w ≡ Ok v → WentAll w.forest v.forest from to
-unfolding children_step
-went_all from to w v h two e =
-    let f : Forest = w.forest in
-    let ks : List ℕ = children_of f from in
-    let allowed = was_allowed (children_fault from to f) w v (children_moved from to) e in
-    let a = first_part (in_turn (moved_to_end to) ks w) (λ u. Ok (brought from to (size_of f to) (ends_of w.selection) u)) v allowed.1 in
-    let same : a.0.forest ≡ v.forest = ap (λ (x : Working). x.forest) (was_same (brought from to (size_of f to) (ends_of w.selection) a.0) v a.2) in
-    let over : WentOver f v.forest from to ks =
-    subst (λ g. WentOver f g from to ks) same (went_over from to ks w a.0 h two (NoRepeats-children_of f from h) (λ c among. parent_here f from c h among) a.1) in
-    let known = both_none (unknown f from) (option_or (unknown f to) (option_or (unlike is_element (kind_of f from)) (option_or (unlike is_element (kind_of f to)) (option_or (inside f from to) (misfit_among f (kind_of f to) ks))))) allowed.0 in
-    let other = both_none (unknown f to) (option_or (unlike is_element (kind_of f from)) (option_or (unlike is_element (kind_of f to)) (option_or (inside f from to) (misfit_among f (kind_of f to) ks)))) known.1 in
-    let element = both_none (unlike is_element (kind_of f from)) (option_or (unlike is_element (kind_of f to)) (option_or (inside f from to) (misfit_among f (kind_of f to) ks))) other.1 in
-    record { over = over; none = over.left ∙ filter-all ks; silent = silent_element f from element.0 }
 
 -- whether a node is of a kind stays
 pub kinds_went : (test : Kind → Bool) (f g : Forest) (from to : ℕ) (ks : List ℕ) → WentOver f g from to ks → (q : ℕ) → is_at test g q ≡ is_at test f q
@@ -224,41 +192,9 @@ first_out f k h first = record {
       ∙ first-without (is_at is_inline f) k (children_of f x) (first.each x was);
 }
 
--- one node taken out, with all below it
-taken_out : (k : ℕ) (w v : Working) → IsForest w.forest → read_below w.forest k ≡ [] → take_step k (sent_away k w) ≡ Ok v → WasRemoved w.forest v.forest × IsForest v.forest
-taken_out k w v h silent e =
-    let is : take_out k w.forest ≡ v.forest = sym (taken-forest k (sent_away k w) v e ∙ ap (take_out k) (sent_away-forest k w)) in
-    (subst (WasRemoved w.forest) is (record { read = read_without w.forest k h silent; first = first_out w.forest k h }), subst IsForest is (IsForest-take_out k w.forest h))
-
-removed_then : (f g h : Forest) → WasRemoved f g → WasRemoved g h → WasRemoved f h
-removed_then f g h a b = record { read = λ q. b.read q ∙ a.read q; first = λ x. b.first (a.first x) }
-
--- what goes too has no children and no text
-empty : (xs : List ℕ) → eqb (length xs) 0 ≡ true → xs ≡ []
-empty [] e = refl
-empty (x ∷ xs) e = absurd (grind (arith, e))
-
-goes_silent : (inner : Option Kind) (f : Forest) (p : ℕ) → IsForest f → goes_too inner f p ≡ true → read_below f p ≡ []
-goes_silent inner f p h e = by_tests (eqb (size_of f p) 0) (is_some (parent_of f p)) (may_not_be_left (kind_of f p) inner) refl refl e where
-  by_tests : (a b c : Bool) → eqb (size_of f p) 0 ≡ a → may_not_be_left (kind_of f p) inner ≡ c → (a && (b && c)) ≡ true → read_below f p ≡ []
-  by_tests true true true none kind all = read-leaf f p h (empty (children_of f p) none) ∙ silent_gone f p inner kind
-  by_tests true true false none kind all = absurd (cc)
-  by_tests true false c none kind all = absurd (cc)
-  by_tests false b c none kind all = absurd (cc)
-
-goes_on : (p : ℕ) (above : List ℕ) (inner : Option Kind) (u v : Working) (goes : Bool) → IsForest u.forest
-    → (read_below u.forest p ≡ [] → removed p above u ≡ Ok v → WasRemoved u.forest v.forest)
-    → goes_too inner u.forest p ≡ goes → cond goes (removed p above u) (Ok u) ≡ Ok v → WasRemoved u.forest v.forest
-goes_on p above inner u v false h again is e = subst (λ (x : Working). WasRemoved u.forest x.forest) (was_same u v e) (record { read = λ q. refl; first = λ x. x })
-goes_on p above inner u v true h again is e = again (goes_silent inner u.forest p h is) e
-
-removed_silent : (k : ℕ) (above : List ℕ) (w v : Working) → IsForest w.forest → read_below w.forest k ≡ [] → removed k above w ≡ Ok v → WasRemoved w.forest v.forest
-removed_silent k [] w v h silent e = (taken_out k w v h silent e).0
-removed_silent k (p ∷ above) w v h silent e =
-    let a = first_part (take_step k (sent_away k w)) (λ u. cond (goes_too (kind_of w.forest k) u.forest p) (removed p above u) (Ok u)) v e in
-    let out = taken_out k w a.0 h silent a.1 in
-    removed_then w.forest a.0.forest v.forest out.0 (goes_on p above (kind_of w.forest k) a.0 v (goes_too (kind_of w.forest k) a.0.forest p) out.1 (λ none f. removed_silent p above a.0 v out.1 none f) refl a.2)
-
 pub was_removed : (k : ℕ) (w v : Working) → IsForest w.forest → read_below w.forest k ≡ [] → remove_step k w ≡ Ok v → WasRemoved w.forest v.forest
-unfolding remove_step
-was_removed k w v h silent e = removed_silent k (ancestors w.forest k) w v h silent e
+was_removed k w v h silent e = removal WasRemoved (record {
+  self = λ f. record { read = λ b. refl; first = λ x. x };
+  then = λ f g h a b. record { read = λ q. b.read q ∙ a.read q; first = λ x. b.first (a.first x) };
+  out = λ k f h silent. record { read = read_without f k h silent; first = first_out f k h };
+}) k w v h silent e

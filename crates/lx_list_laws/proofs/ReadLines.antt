@@ -1,73 +1,22 @@
 -- What is read below a list is what its lines say, one after another, where inline children come first in each item.
-use Rattle.std.proofs.Common.{◌≡◌, ◌∙◌, ℕ, ◌⊎◌, Bool, true, false, cond, eqb, ◌&&◌, ◌||◌, List, [], ◌∷◌, ◌++◌, Option, None, Some, refl, sym, ap, ap₂, subst, arith, inl, inr, append_assoc, append-nil}
+use Rattle.std.proofs.Common.{◌≡◌, ◌∙◌, ℕ, ◌⊎◌, Bool, true, false, cond, eqb, ◌&&◌, ◌||◌, List, [], ◌∷◌, ◌++◌, Option, None, Some, refl, sym, ap, ap₂, subst, arith, inl, inr, append_assoc}
 use Rattle.std.specs.List.{filter, list_any}
 use Rattle.std.proofs.lemmas.Bool.{cases_Bool}
 use Rattle.std.proofs.lemmas.Bool.Decides.{eqb_tells}
-use Rattle.lx_trees.specs.NamedTrees as named
 use Rattle.lx_trees.specs.Siblings.{is_among}
-use Rattle.lx_trees.specs.Spots.{Spot}
 use Rattle.lx_node.specs.Kinds.{may_hold, is_inline, is_item, is_list, is_text, is_text_block}
 use Rattle.lx_node.specs.declared.kind.Kind.{Kind}
 use Rattle.lx_node.specs.declared.kind.Kind.TheVariants as kinds
-use Rattle.lx_trees.proofs.NamedTrees.{preorder-joined}
-use Rattle.lx_forest.specs.Forest.{Forest, Label}
-use Rattle.lx_forest.specs.Lookups.{key_of, has, alone, trees_of, spot, kind_of, parent_of, children_of, size_of, keys_within, IsForest, IsHeld}
-use Rattle.lx_forest.proofs.Edits.{key-spot, is_some-spot}
-use Rattle.lx_forest.proofs.Lookups.{alone-spot}
+use Rattle.lx_forest.specs.Forest.{Forest}
+use Rattle.lx_forest.specs.Lookups.{kind_of, parent_of, children_of, size_of, IsForest, IsHeld}
 use Rattle.lx_draft.proofs.Gaps.{parent_here}
 use Rattle.lx_blocks.specs.Blocks.{passes, is_at, is_line}
 use Rattle.lx_edit_laws.specs.Reading.{text_at, read_below}
-use Rattle.lx_edit_laws.proofs.Reading.{down, reads_of, read-level}
+use Rattle.lx_edit_laws.proofs.Reading.{down, spread, spread-same, spread-none, below, below-level, reads_of, read-level}
 use Rattle.lx_edit_laws.proofs.WrapLists.{filter-gone}
 use Rattle.lx_edit_laws.proofs.WrapSteps.{silent}
 use Rattle.lx_list_laws.specs.Reading.{stand_first, InlinesFirst}
 use Rattle.lx_list_laws.proofs.ReadSaid.{inlines, said, at_there, both_kinds, inline_below}
-
--- ---- what nodes give, one after another
-
-abbrev pub spread : (ℕ → List ℕ) → List ℕ → List ℕ
-spread give [] = []
-spread give (k ∷ ks) = give k ++ spread give ks
-
-spread-append : (give : ℕ → List ℕ) (xs ys : List ℕ) → spread give (xs ++ ys) ≡ spread give xs ++ spread give ys
-spread-append give [] ys = refl
-spread-append give (x ∷ xs) ys = ap (λ t. give x ++ t) (spread-append give xs ys) ∙ sym (append_assoc (give x) (spread give xs) (spread give ys))
-
-spread-same : (one other : ℕ → List ℕ) (xs : List ℕ) → ((q : ℕ) → is_among q xs ≡ true → one q ≡ other q) → spread one xs ≡ spread other xs
-spread-same one other [] each = refl
-spread-same one other (x ∷ xs) each =
-    ap₂ (λ a b. a ++ b) (each x (grind (arith, eqb_tells x x))) (spread-same one other xs (λ q among. each q (grind (arith, among))))
-
-spread-none : (give : ℕ → List ℕ) (xs : List ℕ) → ((q : ℕ) → is_among q xs ≡ true → give q ≡ []) → spread give xs ≡ []
-spread-none give [] each = refl
-spread-none give (x ∷ xs) each =
-    ap₂ (λ a b. a ++ b) (each x (grind (arith, eqb_tells x x))) (spread-none give xs (λ q among. each q (grind (arith, among))))
-
-spread-reads : (f : Forest) (xs : List ℕ) → reads_of f xs ≡ spread (read_below f) xs
-spread-reads f [] = refl
-spread-reads f (x ∷ xs) = ap (λ t. read_below f x ++ t) (spread-reads f xs)
-
--- what the nodes of a tree give
-abbrev pub below : (ℕ → List ℕ) → Forest → ℕ → List ℕ
-below give f k = spread give (keys_within f k)
-
-spread-trees : (give : ℕ → List ℕ) (f : Forest) (ks : List ℕ) → spread give (named.preorder key_of (trees_of f ks)) ≡ spread (below give f) ks
-spread-trees give f [] = refl
-spread-trees give f (k ∷ ks) =
-    ap (spread give) (preorder-joined key_of (alone k f) (trees_of f ks))
-    ∙ spread-append give (keys_within f k) (named.preorder key_of (trees_of f ks))
-    ∙ ap (λ t. below give f k ++ t) (spread-trees give f ks)
-
-below-level : (give : ℕ → List ℕ) (f : Forest) (k : ℕ) → IsForest f → has k f ≡ true → below give f k ≡ give k ++ spread (below give f) (children_of f k)
-below-level give f k h there = by_spot (spot f k) refl where
-  by_spot : (o : Option (Spot Label)) → spot f k ≡ o → below give f k ≡ give k ++ spread (below give f) (children_of f k)
-  by_spot None is = absurd (grind (arith, there, is, is_some-spot f k))
-  by_spot (Some s) is =
-      let keys : List ℕ = named.preorder key_of (trees_of f s.children) in
-      ap (λ t. spread give (named.preorder key_of t)) (alone-spot f k s h is)
-      ∙ ap₂ (λ q ks. give q ++ spread give ks) (key-spot f k s is) (append-nil keys)
-      ∙ ap (λ t. give k ++ t) (spread-trees give f s.children)
-      ∙ rw is refl
 
 -- ---- what lines give
 
@@ -103,7 +52,7 @@ inline_no_block kind e = absurd (cc)
 
 inline_says_nothing : (f : Forest) → IsForest f → IsHeld may_hold f → (k : ℕ) → is_at is_inline f k ≡ true → below (says f) f k ≡ []
 inline_says_nothing f h held k is = down f h (λ q. is_at is_inline f q ≡ true → below (says f) f q ≡ []) (λ b each here.
-    below-level (says f) f b h (at_there is_inline f b here)
+    below-level (says f) f b h (λ free. absurd (grind (arith, free, at_there is_inline f b here)))
     ∙ ap₂ (λ x y. x ++ y) (ap (λ t. cond t (reads_of f (inlines f b)) []) (no_line f b (by_kind is_inline is_text_block inline_no_block f b here)))
     (spread-none (below (says f) f) (children_of f b) (λ c among. let up = parent_here f b c h among in each c up (inline_below f c b held up here)))) k is
 
@@ -227,13 +176,14 @@ lines_read f h held first k is = down f h (λ q. is_at is_listed f q ≡ true �
       let others : (q : ℕ) → is_among q (children_of f b) ≡ true → is_at is_inline f q ≡ false → read_below f q ≡ below (says f) f q =
       λ q among other. let up = parent_here f b q h among in each q up (listed_below f q b held up here other) in
       let one : read_below f b ≡ spread (read_below f) (children_of f b) =
-      read-level f b h ∙ ap₂ (λ t u. t ++ u) (listed_silent f b here) (spread-reads f (children_of f b)) in
-      let two : below (says f) f b ≡ says f b ++ spread (below (says f) f) (children_of f b) = below-level (says f) f b h (at_there is_listed f b here) in
+      read-level f b h ∙ ap (λ t. t ++ reads_of f (children_of f b)) (listed_silent f b here) in
+      let two : below (says f) f b ≡ says f b ++ spread (below (says f) f) (children_of f b) =
+      below-level (says f) f b h (λ free. absurd (grind (arith, free, at_there is_listed f b here))) in
       one ∙ elim (list_or_item f b here) [
         | inl list ↦
             spread-same (read_below f) (below (says f) f) (children_of f b) (λ q among. others q among (none_in_list f q b held (parent_here f b q h among) list))
             ∙ sym (ap (λ t. cond t (reads_of f (inlines f b)) [] ++ spread (below (says f) f) (children_of f b)) (list_no_line f b list))
         | inr item ↦
             mixed (is_at is_inline f) (below (says f) f) (read_below f) (children_of f b) (first.each b item) (λ q among inline. inline_says_nothing f h held q inline) others
-            ∙ ap (λ t. t ++ spread (below (says f) f) (children_of f b)) (sym (spread-reads f (inlines f b)) ∙ sym (line_says f b (is_block_at f b item)))
+            ∙ ap (λ t. t ++ spread (below (says f) f) (children_of f b)) (sym (line_says f b (is_block_at f b item)))
       ] ∙ sym two

@@ -3,8 +3,7 @@ use Rattle.std.proofs.Common.{◌≡◌, ◌≢◌, ◌∙◌, ℕ, ◌⊎◌, B
 use Rattle.std.specs.Prelude.{option_map}
 use Rattle.std.specs.List.{list_all}
 use Rattle.std.proofs.lemmas.Bool.Decides.{eqb_tells}
-use Rattle.lx_trees.specs.Siblings.{is_among, NoRepeats, names_with, previous_in}
-use Rattle.lx_trees.proofs.Siblings.{is_among-append}
+use Rattle.lx_trees.specs.Siblings.{NoRepeats, names_with, previous_in}
 use Rattle.lx_node.specs.Kinds.{is_inline, is_item, is_list, is_text}
 use Rattle.lx_node.specs.declared.kind.Kind.{Kind}
 use Rattle.lx_node.specs.declared.kind.Kind.TheVariants.{Item, List as ListKind}
@@ -25,7 +24,7 @@ use Rattle.lx_draft.specs.Working.{Working}
 use Rattle.lx_draft.specs.Faults.{after, text_in, text_fields}
 use Rattle.lx_draft.specs.Steps.{new_step, put_step}
 use Rattle.lx_draft.specs.Beside.{put_before_step}
-use Rattle.lx_draft.proofs.Gaps.{child_of, parent_here}
+use Rattle.lx_draft.proofs.Gaps.{child_of}
 use Rattle.lx_edit.specs.InTurn.{in_turn}
 use Rattle.lx_edit.specs.Edits.{children_step, remove_step}
 use Rattle.lx_edit.specs.Texts.{text_or_none}
@@ -37,15 +36,16 @@ use Rattle.lx_list.specs.Making.{list_fields, item_fields, unchecked, changed, s
 use Rattle.lx_list.proofs.Above.{list_above}
 use Rattle.lx_edit_laws.specs.Reading.{text_at, read_below}
 use Rattle.lx_edit_laws.proofs.Reading.{read-leaf}
-use Rattle.lx_edit_laws.proofs.WrapBeside.{own}
+use Rattle.lx_edit_laws.proofs.WrapTrees.{own}
+use Rattle.lx_edit_laws.proofs.WrapTold.{WentAll, went_all}
 use Rattle.lx_edit_laws.proofs.WrapLists.{names_with-end}
 use Rattle.lx_edit_laws.proofs.WrapSteps.{was_same}
 use Rattle.lx_list_laws.specs.Reading.{stand_first, InlinesFirst, IsSound, ReadsAs}
 use Rattle.lx_list_laws.proofs.ReadOrder.{all-same, first-same, first-all, StandBeside, beside-previous, beside-with, beside-apart}
-use Rattle.lx_list_laws.proofs.ReadForests.{reads_alike, absent, CameNew, read_came}
-use Rattle.lx_list_laws.proofs.ReadOver.{GoesBackIn, up_item, read_back, read_back_in}
+use Rattle.lx_list_laws.proofs.ReadForests.{reads_alike, CameNew, came_here, came_elsewhere, came_empty, read_came}
+use Rattle.lx_list_laws.proofs.ReadOver.{both_up, GoesBackIn, up_item, read_back, read_back_in}
 use Rattle.lx_list_laws.proofs.ReadSound.{StaysSound, stays_then, stays_selected, set_forest, sound_path}
-use Rattle.lx_list_laws.proofs.ReadEdits.{IsBorn, born_last, born_before, kinds_born, first_born, WentAll, went_all, first_went, was_removed}
+use Rattle.lx_list_laws.proofs.ReadEdits.{IsBorn, born_last, born_before, kinds_born, first_born, first_went, was_removed}
 
 -- ---- what an edit keeps
 
@@ -101,24 +101,17 @@ record HasItem (f u : Forest) (p line list item : ℕ) : Type 0 where
   kept : children_of u line ≡ children_of f line
   apart : line ≢ item
 
-both_up : (f : Forest) (p a b : ℕ) → IsForest f → StandBeside (children_of f p) a b → (parent_of f a ≡ Some p) × (parent_of f b ≡ Some p)
-both_up f p a b h s =
-    let among : (q : ℕ) → is_among q (a ∷ b ∷ s.rest) ≡ true → parent_of f q ≡ Some p =
-    λ q e. parent_here f p q h (ap (is_among q) s.is ∙ is_among-append q s.front (a ∷ b ∷ s.rest) ∙ grind (arith, e)) in
-    (among a (grind (arith, eqb_tells a a)), among b (grind (arith, eqb_tells b b)))
-
 has_item : (f u : Forest) (line list item : ℕ) (m : MayBeItem f line list) → CameNew f u item list None → HasItem f u m.parent line list item
 has_item f u line list item m c =
     let h : IsForest f = c.told.before in
     let up = both_up f m.parent list line h m.beside in
     let two : eqb list line ≡ false = (beside-apart m.beside.front m.beside.rest list line (subst NoRepeats m.beside.is (NoRepeats-children_of f m.parent h))).two in
-    let elsewhere : (q : ℕ) → eqb q list ≡ false → children_of u q ≡ children_of f q =
-    λ q other. c.children q ∙ ap (λ b. cond b (names_with None (item ∷ []) (children_of f q)) (children_of f q)) other in
+    let elsewhere : (q : ℕ) → eqb q list ≡ false → children_of u q ≡ children_of f q = came_elsewhere f u item list None c in
     let here : children_of u m.parent ≡ children_of f m.parent = elsewhere m.parent (grind (arith, up.0, parent_of-self f list h, eqb_tells list m.parent, eqb_tells m.parent list)) in
     record {
       beside = record { front = m.beside.front; rest = m.beside.rest; is = here ∙ m.beside.is };
-      last = c.children list ∙ ap (λ b. cond b (names_with None (item ∷ []) (children_of f list)) (children_of f list)) (own list) ∙ names_with-end item (children_of f list);
-      leaf = elsewhere item c.other ∙ (absent f item c.free).children;
+      last = came_here f u item list None c ∙ names_with-end item (children_of f list);
+      leaf = came_empty f u item list None c;
       kept = elsewhere line (grind (arith, two, eqb_tells list line, eqb_tells line list));
       apart = λ same. absurd (grind (arith, same, has-child f line m.parent up.1, c.free));
     }
@@ -129,7 +122,7 @@ item_filled f u x line list item m c t =
     let i = has_item f u line list item m c in
     let h : IsForest u = c.told.behind in
     let back : GoesBackIn u x m.parent list line item = record {
-      back = record { in_order = h; over = t.over; none = t.none; silent = t.silent; beside = i.beside };
+      back = record { in_order = h; all = t; beside = i.beside };
       ahead = children_of f list;
       last = i.last;
       leaf = i.leaf;
@@ -195,14 +188,12 @@ has_list w v type p other up b =
     let f : Forest = w.forest in
     let n : ℕ = w.next_key in
     let h : IsForest f = b.came.told.before in
-    let elsewhere : (q : ℕ) → eqb q p ≡ false → children_of v.forest q ≡ children_of f q =
-    λ q away. b.came.children q ∙ ap (λ t. cond t (names_with (Some other) (n ∷ []) (children_of f q)) (children_of f q)) away in
-    let here : children_of v.forest p ≡ names_with (Some other) (n ∷ []) (children_of f p) =
-    b.came.children p ∙ ap (λ t. cond t (names_with (Some other) (n ∷ []) (children_of f p)) (children_of f p)) (own p) in
+    let elsewhere : (q : ℕ) → eqb q p ≡ false → children_of v.forest q ≡ children_of f q = came_elsewhere f v.forest n p (Some other) b.came in
+    let here : children_of v.forest p ≡ names_with (Some other) (n ∷ []) (children_of f p) = came_here f v.forest n p (Some other) b.came in
     let at = beside-with n other (children_of f p) (child_of f p other h up) in
     record {
       beside = record { front = at.front; rest = at.rest; is = here ∙ at.is };
-      leaf = elsewhere n b.came.other ∙ (absent f n b.came.free).children;
+      leaf = came_empty f v.forest n p (Some other) b.came;
       children = elsewhere other (grind (arith, up, parent_of-self f other h, eqb_tells other p));
       kind = b.kinds n ∙ ap (λ t. cond t (Some (ListKind type)) (kind_of f n)) (own n);
       apart = λ same. absurd (grind (arith, same, has-child f other p up, b.came.free));
@@ -336,7 +327,7 @@ list_filled w u x type p list up b t =
     let l = has_list w u type p list up b in
     let h : IsForest u.forest = b.came.told.behind in
     let ups = both_up u.forest p w.next_key list h l.beside in
-    read_back u.forest x p list w.next_key (record { in_order = h; over = t.over; none = t.none; silent = t.silent; beside = l.beside }) 0
+    read_back u.forest x p list w.next_key (record { in_order = h; all = t; beside = l.beside }) 0
     (not_root u.forest w.next_key p h ups.0) (not_root u.forest list p h ups.1)
 
 keeps_retyped_with : (type : ListType) (list : ℕ) (o : Option Fields) (w v : Working) → IsSound w → is_at is_inline w.forest list ≡ false → retyped_with type list o w ≡ Ok v → Keeps w v

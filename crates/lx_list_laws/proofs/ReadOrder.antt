@@ -1,12 +1,11 @@
 -- Lists of names of which those that pass a test come before the others; and names that are beside each other.
 use Rattle.std.proofs.Common.{◌≡◌, ◌∙◌, ℕ, Bool, true, false, eqb, not, ◌&&◌, List, [], ◌∷◌, ◌++◌, Some, refl, ap, ap₂, arith, inl, inr}
 use Rattle.std.specs.List.{filter, list_any, list_all}
-use Rattle.std.proofs.lemmas.Bool.{cases_Bool}
 use Rattle.std.proofs.lemmas.Bool.Decides.{eqb_tells}
 use Rattle.std.proofs.lemmas.Option.{same_Some}
 use Rattle.lx_trees.specs.Siblings.{is_among, NoRepeats, names_without, names_with, previous_from, previous_in}
 use Rattle.lx_links.proofs.Detached.{is_among-filter}
-use Rattle.lx_edit_laws.proofs.WrapLists.{apart, filter-gone}
+use Rattle.lx_edit_laws.proofs.WrapLists.{apart}
 use Rattle.lx_list_laws.specs.Reading.{stand_first}
 
 -- ---- two tests that say the same
@@ -33,50 +32,31 @@ first-same s t (x ∷ xs) each =
 
 -- ---- what is left where some leave
 
--- of names that leave one after another
-pub filter-without : (k : ℕ) (ks xs : List ℕ) → filter (λ q. not (is_among q ks)) (names_without k xs) ≡ filter (λ q. not (is_among q (k ∷ ks))) xs
-filter-without k ks [] = refl
-filter-without k ks (x ∷ xs) = grind (arith, filter-without k ks xs, eqb_tells x k, eqb_tells k x)
-
 -- where all leave that pass a test, the others are left
 pub filter-others : (t : ℕ → Bool) (xs : List ℕ) → filter (λ q. not (is_among q (filter t xs))) xs ≡ filter (λ q. not (t q)) xs
 filter-others t xs =
     filter-same (λ q. not (is_among q (filter t xs))) (λ q. not (t q)) xs (λ q among. ap not (is_among-filter t q xs ∙ ap (λ b. b && t q) among))
 
-pub filter-all : (xs : List ℕ) → filter (λ q. not (is_among q xs)) xs ≡ []
-filter-all xs = filter-gone (λ q. not (is_among q xs)) xs (λ q among. ap not among)
-
 -- ---- those that come first
 
 any-others : (t : ℕ → Bool) (xs : List ℕ) → list_any t (filter (λ q. not (t q)) xs) ≡ false
 any-others t [] = refl
-any-others t (x ∷ xs) = elim (cases_Bool (t x)) [
-  | inl is ↦ rw is (any-others t xs)
-  | inr is ↦ rw is (rw is (any-others t xs))
-]
+any-others t (x ∷ xs) = grind (arith, any-others t xs)
 
 -- where all that pass the test have left
 pub first-others : (t : ℕ → Bool) (xs : List ℕ) → stand_first t (filter (λ q. not (t q)) xs) ≡ true
 first-others t [] = refl
-first-others t (x ∷ xs) = elim (cases_Bool (t x)) [
-  | inl is ↦ rw is (first-others t xs)
-  | inr is ↦ rw is (rw is (ap not (any-others t xs)))
-]
+first-others t (x ∷ xs) = grind (arith, first-others t xs, any-others t xs)
 
 -- where all pass it
 pub first-all : (t : ℕ → Bool) (xs : List ℕ) → list_all t xs ≡ true → stand_first t xs ≡ true
 first-all t [] all = refl
-first-all t (x ∷ xs) all = elim (cases_Bool (t x)) [
-  | inl is ↦ rw is (first-all t xs (grind (arith, all, is)))
-  | inr is ↦ absurd (grind (arith, all, is))
-]
+first-all t (x ∷ xs) all = grind (arith, all, first-all t xs)
 
 -- where one leaves
 any-without : (t : ℕ → Bool) (k : ℕ) (xs : List ℕ) → list_any t xs ≡ false → list_any t (names_without k xs) ≡ false
 any-without t k [] none = refl
-any-without t k (x ∷ xs) none =
-    let rest : list_any t (names_without k xs) ≡ false = any-without t k xs (grind (arith, none)) in
-    grind (arith, none, rest)
+any-without t k (x ∷ xs) none = grind (arith, none, any-without t k xs)
 
 none-first : (t : ℕ → Bool) (ys : List ℕ) → list_any t ys ≡ false → stand_first t ys ≡ true
 none-first t [] none = refl
@@ -84,34 +64,16 @@ none-first t (y ∷ ys) none = grind (arith, none)
 
 pub first-without : (t : ℕ → Bool) (k : ℕ) (xs : List ℕ) → stand_first t xs ≡ true → stand_first t (names_without k xs) ≡ true
 first-without t k [] first = refl
-first-without t k (x ∷ xs) first = elim (cases_Bool (t x)) [
-  | inl is ↦
-      let rest : stand_first t (names_without k xs) ≡ true = first-without t k xs (grind (arith, first, is)) in
-      grind (arith, rest, is)
-  | inr is ↦
-      let none : list_any t (names_without k xs) ≡ false = any-without t k xs (grind (arith, first, is)) in
-      grind (arith, none, is, none-first t (names_without k xs) none)
-]
+first-without t k (x ∷ xs) first = grind (arith, first, first-without t k xs, any-without t k xs, none-first t (names_without k xs))
 
 -- where one comes before another, and neither passes it
 any-with : (t : ℕ → Bool) (n o : ℕ) (xs : List ℕ) → t n ≡ false → list_any t xs ≡ false → list_any t (names_with (Some o) (n ∷ []) xs) ≡ false
 any-with t n o [] new none = grind (arith, new)
-any-with t n o (x ∷ xs) new none =
-    let rest : list_any t (names_with (Some o) (n ∷ []) xs) ≡ false = any-with t n o xs new (grind (arith, none)) in
-    grind (arith, none, new, rest)
+any-with t n o (x ∷ xs) new none = grind (arith, none, new, any-with t n o xs new)
 
 pub first-with : (t : ℕ → Bool) (n o : ℕ) (xs : List ℕ) → t n ≡ false → t o ≡ false → stand_first t xs ≡ true → stand_first t (names_with (Some o) (n ∷ []) xs) ≡ true
 first-with t n o [] new old first = grind (arith, new)
-first-with t n o (x ∷ xs) new old first = elim (cases_Bool (t x)) [
-  | inl is ↦
-      let other : eqb x o ≡ false = grind (arith, is, old, eqb_tells x o) in
-      let rest : stand_first t (names_with (Some o) (n ∷ []) xs) ≡ true = first-with t n o xs new old (grind (arith, first, is)) in
-      grind (arith, rest, is, other)
-  | inr is ↦
-      let none : list_any t xs ≡ false = grind (arith, first, is) in
-      let rest : list_any t (names_with (Some o) (n ∷ []) xs) ≡ false = any-with t n o xs new none in
-      grind (arith, rest, is, none, new)
-]
+first-with t n o (x ∷ xs) new old first = grind (arith, first, new, old, eqb_tells x o, first-with t n o xs new old, any-with t n o xs new)
 
 -- ---- names beside each other
 

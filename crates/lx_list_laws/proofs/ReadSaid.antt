@@ -29,14 +29,15 @@ use Rattle.lx_edit.proofs.Paths.{from_, points, every, put_before_path, moved_to
 use Rattle.lx_blocks.specs.Blocks.{passes, is_at}
 use Rattle.lx_list.specs.Dissolving.{emptied_into, paragraph_made}
 use Rattle.lx_edit_laws.specs.Reading.{read_below}
-use Rattle.lx_edit_laws.proofs.Reading.{reads_of, reads-same, read-level}
-use Rattle.lx_edit_laws.proofs.WrapBeside.{own, not_child}
+use Rattle.lx_edit_laws.proofs.Reading.{reads_of, reads-same, read-level, absent, reads_known, kind_known}
+use Rattle.lx_edit_laws.proofs.WrapTrees.{not_child}
+use Rattle.lx_edit_laws.proofs.WrapTurns.{WentOver, went_over}
 use Rattle.lx_edit_laws.proofs.WrapLists.{names_with-none, names_with-twice}
 use Rattle.lx_edit_laws.proofs.WrapSteps.{was_same}
 use Rattle.lx_list_laws.specs.Reading.{IsSound}
 use Rattle.lx_list_laws.proofs.ReadOrder.{filter-same, filter-others}
-use Rattle.lx_list_laws.proofs.ReadForests.{AreTold, reads_by, reads_known, absent, CameNew}
-use Rattle.lx_list_laws.proofs.ReadOver.{WentOver, went_over, told_over}
+use Rattle.lx_list_laws.proofs.ReadForests.{AreTold, reads_told, CameNew, came_here, came_elsewhere, came_empty}
+use Rattle.lx_list_laws.proofs.ReadOver.{told_over}
 use Rattle.lx_list_laws.proofs.ReadSound.{StaysSound, stays_then, stays_selected, sound_path}
 use Rattle.lx_list_laws.proofs.ReadEdits.{born_at, kinds_born, kinds_went}
 
@@ -74,12 +75,6 @@ inline_holds kinds.Embed inner is h = absurd (cc)
 inline_holds outer inner is h = absurd (cc)
 
 -- what is there is of a kind, and what is of a kind is there
-pub kind_known : (f : Forest) (k : ℕ) → has k f ≡ true → (kind : Kind) × (kind_of f k ≡ Some kind)
-kind_known f k there = by_kind (kind_of f k) refl where
-  by_kind : (o : Option Kind) → kind_of f k ≡ o → (kind : Kind) × (kind_of f k ≡ Some kind)
-  by_kind None is = absurd (grind (arith, there, is, is_some-kind_of f k))
-  by_kind (Some kind) is = (kind, is)
-
 pub at_there : (test : Kind → Bool) (f : Forest) (q : ℕ) → is_at test f q ≡ true → has q f ≡ true
 at_there test f q is = by_kind (kind_of f q) refl where
   by_kind : (o : Option Kind) → kind_of f q ≡ o → has q f ≡ true
@@ -103,9 +98,9 @@ inline_below f q p held up is =
 pub inline_read : (f g : Forest) → AreTold f g → IsHeld may_hold f → ((q : ℕ) → is_at is_inline f q ≡ true → children_of g q ≡ children_of f q) → (q : ℕ) → is_at is_inline f q ≡ true → read_below g q ≡ read_below f q
 inline_read f g t held same q is =
     let skip : ℕ → Bool = λ c. not (is_at is_inline f c) in
-    reads_by f g skip t (λ b clear k.
+    reads_told f g skip t (λ b clear k.
     let here : is_at is_inline f b ≡ true = not_not (is_at is_inline f b) clear in
-    ap (reads_of g) (same b here) ∙ reads_known f g skip b t k (λ c among. ap not (inline_below f c b held (parent_here f b c t.before among) here))) q (ap not is) where
+    ap (reads_of g) (same b here) ∙ reads_known f g skip b t.before k (λ c up. ap not (inline_below f c b held up here))) q (ap not is) where
       not_not : (b : Bool) → not b ≡ false → b ≡ true
       not_not true e = refl
       not_not false e = absurd (cc)
@@ -140,7 +135,7 @@ record IsSaid (f g : Forest) (p list line n : ℕ) : Type 0 where
 module _ (f u g : Forest) (p list line n : ℕ) (c : CameNew f u n p (Some list)) (here : has line f ≡ true) (apart : eqb line p ≡ false) (up : parent_of f list ≡ Some p)
     (inline : (q : ℕ) → is_at is_inline u q ≡ is_at is_inline f q) (o : WentOver u g line n (inlines u line)) where
   kept : (q : ℕ) → eqb q p ≡ false → children_of u q ≡ children_of f q
-  kept q other = c.children q ∙ ap (λ t. cond t (names_with (Some list) (n ∷ []) (children_of f q)) (children_of f q)) other
+  kept = came_elsewhere f u n p (Some list) c
 
   not_new : (q : ℕ) → has q f ≡ true → eqb q n ≡ false
   not_new q there = grind (arith, there, c.free, eqb_tells q n)
@@ -151,7 +146,7 @@ module _ (f u g : Forest) (p list line n : ℕ) (c : CameNew f u n p (Some list)
   is_filled : children_of g n ≡ inlines f line
   is_filled =
       o.there
-      ∙ ap (λ ks. ks ++ inlines u line) (kept n c.other ∙ (absent f n c.free).children)
+      ∙ ap (λ ks. ks ++ inlines u line) (came_empty f u n p (Some list) c)
       ∙ ap (filter (is_at is_inline u)) (kept line apart)
       ∙ filter-same (is_at is_inline u) (is_at is_inline f) (children_of f line) (λ q among. inline q)
 
@@ -164,7 +159,7 @@ module _ (f u g : Forest) (p list line n : ℕ) (c : CameNew f u n p (Some list)
   is_here : children_of g p ≡ names_with (Some list) (n ∷ []) (children_of f p)
   is_here =
       o.others p (λ e. absurd (grind (arith, e, apart, eqb_tells line p))) (λ e. absurd (grind (arith, e, c.other, eqb_tells n p)))
-      ∙ c.children p ∙ ap (λ t. cond t (names_with (Some list) (n ∷ []) (children_of f p)) (children_of f p)) (own p)
+      ∙ came_here f u n p (Some list) c
 
   is_other : (q : ℕ) → eqb q p ≡ false → eqb q n ≡ false → eqb q line ≡ false → children_of g q ≡ children_of f q
   is_other q x y z = o.others q (λ e. absurd (grind (arith, e, z, eqb_tells q line))) (λ e. absurd (grind (arith, e, y, eqb_tells q n))) ∙ kept q x
