@@ -1,5 +1,5 @@
 -- What steps or a rule come to is what they make of the editor.
-use Rattle.std.proofs.Common.{◌≡◌, ◌≢◌, ◌∙◌, ℕ, ◌+◌, ◌≤◌, Bool, false, if◌then◌else◌, List, Option, Some, Result, Ok, Err, refl, sym, ap, subst}
+use Rattle.std.proofs.Common.{◌≡◌, ◌≢◌, ◌∙◌, ℕ, Bool, false, if◌then◌else◌, List, Option, Some, Result, Ok, Err, refl, sym, ap, subst}
 use Rattle.lx_node.specs.declared.cause.Cause.{Cause}
 use Rattle.lx_host.specs.declared.op.Op.{Op}
 use Rattle.lx_step.specs.declared.built_in.Turn.{Turn}
@@ -43,7 +43,7 @@ pub may_conclude_turn : (turn : Turn) (e : Editor) (verdict : Verdict) → IsTur
 may_conclude_turn turn e (Refused cause step) judged = tt
 may_conclude_turn turn e Idle judged = tt
 may_conclude_turn turn e (Commit frozen batch shown) judged = absurd judged
-may_conclude_turn turn e (Turned way state batch marks) judged = (subst (λ t. MayTurn e t state batch) (sym judged.0) judged.1, judged.2)
+may_conclude_turn turn e (Turned way state batch marks) judged = (subst (λ t. MayTurn e t state.value batch) (sym judged.0) judged.1, judged.2)
 
 pub may_conclude_answer : (r : Result Ending (Cause × Option ℕ)) (e : Editor) (verdict : Verdict) (handled : Bool) → IsAnswerJudged r e verdict handled → MayConclude e verdict
 may_conclude_answer (Err refused) e verdict handled judged = subst (MayConclude e) (sym judged.0) tt

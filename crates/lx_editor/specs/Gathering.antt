@@ -1,5 +1,6 @@
 -- Updates that wait for a line which commits them, and what such a line begins with.
-use Rattle.std.specs.Prelude.{◌≡◌, ◌≤◌, ◌⊎◌, ℕ, ◌+◌, ◌==◌, Bool, not, List, Option, None, Some, unwrap_or, Result, Ok, Err}
+use Rattle.std.specs.Prelude.{◌≡◌, ◌≤◌, ◌⊎◌, ℕ, ◌+◌, ◌==◌, Bool, not, List, Option, None, Some, option_map, unwrap_or, Result, Ok, Err}
+use Rattle.std.specs.Global.{Box}
 use Rattle.lx_step.specs.declared.line.Tags.{Tags}
 use Rattle.lx_step.specs.declared.step.Step.{Step}
 use Rattle.lx_step.specs.Lines.{untagged, both_tags}
@@ -14,6 +15,10 @@ use Rattle.lx_editor.specs.declared.recording.Recording.{Recording}
 use Rattle.lx_editor.specs.Editor.{Editor}
 
 -- ---- what a line begins with
+
+-- what is pending lies in a box
+abbrev pub unboxed : Option (Box Pending) → Option Pending
+unboxed p = option_map (λ (b : Box Pending). b.value) p
 
 -- a draft of what is committed
 abbrev pub started_of : Editor → Working

@@ -1,5 +1,6 @@
 -- What steps and rules come to before anything is changed. Only this crate's own contracts cite it.
-use Rattle.std.specs.Prelude.{◌≡◌, ◌≤◌, ◌⊎◌, ℕ, Bool, true, false, List, [], ◌∷◌, Option, None, Some, unwrap_or, Result, Ok, Err}
+use Rattle.std.specs.Prelude.{◌≡◌, ◌≤◌, ◌⊎◌, ℕ, Bool, true, false, List, [], ◌∷◌, Option, None, Some, option_map, unwrap_or, Result, Ok, Err}
+use Rattle.std.specs.Global.{Box}
 use Rattle.lx_node.specs.declared.cause.Cause.{Cause}
 use Rattle.lx_marks.specs.Marks.{Marked, unmarked, is_touched, is_noted, with_leaf}
 use Rattle.lx_step.specs.declared.built_in.Turn.{Turn}
@@ -115,8 +116,8 @@ pub record MayCommit (old : Editor) (left : Left) (batch : Told) : Type 0 where
   pub few : batch.reads ≤ most_reads old.tree left.tree (is_noted left.marks)
 
 -- the marks that cover the trees before and after: these, where a document was loaded, and else those of what is frozen
-abbrev pub covering : Frozen → Option Marked → Marked
-covering frozen shown = unwrap_or shown frozen.marks
+abbrev pub covering : Frozen → Option (Box Marked) → Marked
+covering frozen shown = unwrap_or (option_map (λ (b : Box Marked). b.value) shown) frozen.marks
 
 -- the marks cover the committed tree and the one after
 abbrev pub IsCoveredBy : Editor → Forest → Marked → Type 0
@@ -125,7 +126,7 @@ IsCoveredBy old after marks = AreCovered old.tree after (marking marks)
 -- What is left under the editor's rules is to be committed, or can't be shown, or is nothing new.
 abbrev pub IsWeighed : Editor → Left → Verdict → Type 0
 IsWeighed old left (Commit frozen batch shown) =
-    (left_of old.rules frozen ≡ left) × MayCommit old left batch × IsCoveredBy old frozen.state.links (covering frozen shown)
+    (left_of old.rules frozen.value ≡ left) × MayCommit old left batch × IsCoveredBy old frozen.value.state.links (covering frozen.value shown)
 IsWeighed old left (Turned turn state batch marks) = ⊥
 IsWeighed old left (Refused cause step) = IsUnshowable old left cause step old
 IsWeighed old left Idle = (left.rules ≡ old.rules) × IsNothingNew old left
@@ -152,7 +153,7 @@ pub record MayTurn (old : Editor) (turn : Turn) (state : State) (batch : Told) :
 
 -- what an undo or a redo comes to
 abbrev pub IsTurnJudged : Turn → Editor → Verdict → Type 0
-IsTurnJudged turn old (Turned way state batch marks) = (way ≡ turn) × MayTurn old turn state batch × IsCoveredBy old state.links marks
+IsTurnJudged turn old (Turned way state batch marks) = (way ≡ turn) × MayTurn old turn state.value batch × IsCoveredBy old state.value.links marks.value
 IsTurnJudged turn old (Refused cause step) = IsUnshowableEntry turn old cause step old
 IsTurnJudged turn old Idle = entry_of turn old.history ≡ None
 IsTurnJudged turn old (Commit frozen batch shown) = ⊥
@@ -172,13 +173,13 @@ IsForCause refusal.Memory = ⊥
 
 -- what has to hold for a verdict to be carried out: where there is a commit, it may be made, and its marks cover the two trees
 abbrev pub MayConclude : Editor → Verdict → Type 0
-MayConclude old (Commit frozen batch shown) = MayCommit old (left_of old.rules frozen) batch × IsCoveredBy old frozen.state.links (covering frozen shown)
-MayConclude old (Turned turn state batch marks) = MayTurn old turn state batch × IsCoveredBy old state.links marks
+MayConclude old (Commit frozen batch shown) = MayCommit old (left_of old.rules frozen.value) batch × IsCoveredBy old frozen.value.state.links (covering frozen.value shown)
+MayConclude old (Turned turn state batch marks) = MayTurn old turn state.value batch × IsCoveredBy old state.value.links marks.value
 MayConclude old verdict = Unit {0}
 
 -- the outcome that a verdict has, and the editor that it leaves
 abbrev pub IsConcluded : Editor → Recording → Verdict → Outcome → Editor → Type 0
-IsConcluded old how (Commit frozen batch shown) (made.Committed number ops) new = IsCommitted old how (left_of old.rules frozen) number ops new
+IsConcluded old how (Commit frozen batch shown) (made.Committed number ops) new = IsCommitted old how (left_of old.rules frozen.value) number ops new
 IsConcluded old how (Commit frozen batch shown) other new = ⊥
 IsConcluded old how (Turned turn state batch marks) (made.Committed number ops) new = IsTurned turn how.moment old number ops new
 IsConcluded old how (Turned turn state batch marks) other new = ⊥

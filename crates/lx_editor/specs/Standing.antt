@@ -14,7 +14,7 @@ use Rattle.lx_settle.specs.Joined.{IsJoined}
 use Rattle.lx_list.specs.Numbered.{IsNumbered}
 use Rattle.lx_editor.specs.declared.editor.Editor.TheInside.{Inside}
 use Rattle.lx_editor.specs.Editor.{Editor}
-use Rattle.lx_editor.specs.Gathering.{IsPending, started_of}
+use Rattle.lx_editor.specs.Gathering.{IsPending, started_of, unboxed}
 
 -- the editor that the code's fields mean
 abbrev pub editor_of : Inside → Editor
@@ -22,7 +22,7 @@ editor_of a = record {
   tree = a.state.links;
   selection = a.state.selection;
   next_key = a.next_key;
-  pending = a.pending;
+  pending = unboxed a.pending;
   commits = a.commits;
   view = a.view.tree;
   last = a.last;

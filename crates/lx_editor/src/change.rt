@@ -36,12 +36,16 @@ pub(crate) struct Telling {
 }
 
 /// The marks that cover the trees before and after: these, where a document was loaded, and else those of what is frozen.
-fn marks_of(frozen: &Frozen, shown: Option<Marks>) -> Result<Marks, NoMemory>
-    ensures { IfOk result (λ marks. marks ≡ covering frozen.now shown) }
+fn marks_of(
+    alloc: Global,
+    frozen: &Frozen,
+    shown: Option<Box<Marks>>,
+) -> Result<Box<Marks>, NoMemory>
+    ensures { IfOk result (λ marks. marks.value ≡ covering frozen.now shown) }
 {
     match shown {
         Some(marks) => Ok(marks),
-        None => frozen.marks.copy(),
+        None => Ok(Box::new(alloc, frozen.marks.copy()?)?),
     }
 }
 
@@ -65,15 +69,16 @@ impl Telling {
         alloc: Global,
         before: &State,
         batch: &Batch,
-        marks: Marks,
+        marks: Box<Marks>,
     ) -> Result<(), NoMemory>
-        ensures { OnOk result (IsNoted self.old.asked batch.now.ops before.now marks self.new.change) }
+        ensures { OnOk result (IsNoted self.old.asked batch.now.ops before.now marks.value self.new.change) }
     {
         if !self.asked {
             return Ok(());
         }
         let ops = batch.copy_ops(alloc)?.into_vec();
         let before = before.copy(alloc)?;
+        let marks = Box::into_inner(marks);
         self.set(Change { ops, before, marks });
         Ok(())
     }
@@ -85,14 +90,14 @@ impl Telling {
         before: &State,
         batch: &Batch,
         frozen: &Frozen,
-        shown: Option<Marks>,
+        shown: Option<Box<Marks>>,
     ) -> Result<(), NoMemory>
         ensures { OnOk result (IsNoted self.old.asked batch.now.ops before.now (covering frozen.now shown) self.new.change) }
     {
         if !self.asked {
             return Ok(());
         }
-        let marks = marks_of(frozen, shown)?;
+        let marks = marks_of(alloc, frozen, shown)?;
         self.note(alloc, before, batch, marks)
     }
 

@@ -25,7 +25,7 @@ pub struct Editor {
     pub(crate) state: State,
     pub(crate) next_key: u32,
     /// Updates that wait for a line which commits them, if there are any.
-    pub(crate) pending: Option<Pending>,
+    pub(crate) pending: Option<Box<Pending>>,
     pub(crate) commits: u32,
     pub(crate) view: HostTree,
     pub(crate) last: Option<Batch>,
@@ -226,16 +226,17 @@ impl Editor {
     pub(crate) fn commit(
         &mut self,
         alloc: Global,
-        frozen: Frozen,
+        frozen: Box<Frozen>,
         batch: Batch,
         how: Recording,
     ) -> Result<(), NoMemory>
         requires room { self.old.commits < last_u32 }
-        requires may { MayCommit self.old (left_of self.old.rules frozen) batch }
-        ensures committed { OnOk result (IsCommitted self.old how (left_of self.old.rules frozen) (self.old.commits + 1) batch.ops self.new) }
+        requires may { MayCommit self.old (left_of self.old.rules frozen.value) batch }
+        ensures committed { OnOk result (IsCommitted self.old how (left_of self.old.rules frozen.value) (self.old.commits + 1) batch.ops self.new) }
         ensures commits { OnOk result (self.new.commits ≡ self.old.commits + 1) }
         ensures unchanged { OnErr result (self.new ≡ self.old) }
     {
+        let frozen = Box::into_inner(frozen);
         let ops = batch.copy_ops(alloc)?;
         let entry = frozen.state.copy(alloc)?;
         self.history.prepare()?;

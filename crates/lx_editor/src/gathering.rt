@@ -58,7 +58,7 @@ impl Editor {
         ensures taken { self.new ≡ with_nothing_pending self.old }
     {
         match self.pending.take() {
-            Some(pending) => Ok(pending.draft),
+            Some(pending) => Ok(Box::into_inner(pending).draft),
             None => Draft::start(alloc, &self.state, self.next_key),
         }
     }
@@ -120,19 +120,19 @@ impl Editor {
     }
 
     /// Keeps what is pending with one line more.
-    fn keep(&mut self, pending: Pending)
-        requires { IsPending (started_of self.old) pending }
-        ensures { self.new ≡ with_pending self.old pending }
+    fn keep(&mut self, pending: Box<Pending>)
+        requires { IsPending (started_of self.old) pending.value }
+        ensures { self.new ≡ with_pending self.old pending.value }
     {
         self.pending = Some(pending);
     }
 
     /// What is pending with these steps after it. Nothing is pending then, until this is.
-    fn gather(&mut self, alloc: Global, steps: &[Step], tags: Tags) -> Result<Pending, Refusal>
+    fn gather(&mut self, alloc: Global, steps: &[Step], tags: Tags) -> Result<Box<Pending>, Refusal>
         requires sound { All IsSound steps.now }
-        ensures gathered { IfOk result (λ pending. gathered_by self.old steps.now ≡ Ok pending.draft) }
-        ensures line { IfOk result (λ pending. pending ≡ with_line tags (pending_of self.old) pending.draft) }
-        ensures pending { IfOk result (IsPending (started_of self.old)) }
+        ensures gathered { IfOk result (λ pending. gathered_by self.old steps.now ≡ Ok pending.value.draft) }
+        ensures line { IfOk result (λ pending. pending.value ≡ with_line tags (pending_of self.old) pending.value.draft) }
+        ensures pending { IfOk result (λ pending. IsPending (started_of self.old) pending.value) }
         ensures refused { IfErr result (λ e. TellsRefusal e (gathered_by self.old steps.now)) }
         ensures taken { self.new ≡ with_nothing_pending self.old }
     {
@@ -146,11 +146,15 @@ impl Editor {
             Ok(draft) => draft,
             Err(refusal) => return Err(refusal),
         };
-        Ok(Pending {
+        let pending = Pending {
             draft,
             lines: before + 1,
             tags: how.tags,
-        })
+        };
+        match Box::new(alloc, pending) {
+            Ok(boxed) => Ok(boxed),
+            Err(_) => Err(Refusal::Memory),
+        }
     }
 
     /// Commits what is pending, as an update without steps: it comes to rest under the rules, and is committed and

@@ -108,13 +108,12 @@ impl Editor {
     pub(crate) fn judge_marked(
         &self,
         alloc: Global,
-        draft: Draft,
+        mut draft: Draft,
         on: TypeRow,
     ) -> Result<Verdict, NoMemory>
         requires covered { drafts.AreCovered (started_of self.now) draft }
         ensures judged { IfOk result (IsJudged (left_for self.now.rules on draft) self.now) }
     {
-        let mut draft = draft;
         match mark_type(alloc, &mut draft, on) {
             Ok(()) => self.judge_draft(alloc, draft),
             Err(fault) => verdict_of_fault(fault),
@@ -134,11 +133,11 @@ impl Editor {
 
     /// What is to be done with what is left: it is committed, unless it is nothing new, or the view has no ids to
     /// show it.
-    fn weigh(&self, alloc: Global, frozen: Frozen) -> Result<Verdict, NoMemory>
-        requires left { IsLeft (left_of self.now.rules frozen) }
-        requires covered { AreCovered self.now.tree frozen.state.links (marking frozen.marks) }
-        requires grown { HasGrown self.now.tree self.now.next_key (left_of self.now.rules frozen) }
-        ensures weighed { IfOk result (IsWeighed self.now (left_of self.now.rules frozen)) }
+    fn weigh(&self, alloc: Global, frozen: Box<Frozen>) -> Result<Verdict, NoMemory>
+        requires left { IsLeft (left_of self.now.rules frozen.value) }
+        requires covered { AreCovered self.now.tree frozen.value.state.links (marking frozen.value.marks) }
+        requires grown { HasGrown self.now.tree self.now.next_key (left_of self.now.rules frozen.value) }
+        ensures weighed { IfOk result (IsWeighed self.now (left_of self.now.rules frozen.value)) }
     {
         if frozen.marks.is_empty() && frozen.state.selection.is_equal(&self.state.selection) {
             return Ok(Verdict::Idle);

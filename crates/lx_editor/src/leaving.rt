@@ -15,14 +15,17 @@ use std::alloc::Global;
 
 /// What a draft leaves for a commit: it comes to rest under the rules, its items get their numbers, and it is frozen. No step
 /// is refused for it.
-pub(crate) fn rest(alloc: Global, draft: Draft, rules: &[AnyRule]) -> Result<Frozen, Refusal>
+pub(crate) fn rest(
+    alloc: Global,
+    mut draft: Draft,
+    rules: &[AnyRule],
+) -> Result<Box<Frozen>, Refusal>
     requires may { MayRest draft }
-    ensures left { IfOk result (λ frozen. LeavesAtRest draft (left_of rules.now frozen)) }
-    ensures stands { IfOk result (λ frozen. IsLeftOf draft (left_of rules.now frozen)) }
-    ensures imported { IfOk result (λ frozen. IsLeftOfImport draft (left_of rules.now frozen)) }
+    ensures left { IfOk result (λ frozen. LeavesAtRest draft (left_of rules.now frozen.value)) }
+    ensures stands { IfOk result (λ frozen. IsLeftOf draft (left_of rules.now frozen.value)) }
+    ensures imported { IfOk result (λ frozen. IsLeftOfImport draft (left_of rules.now frozen.value)) }
     ensures refused { IfErr result (λ e. TellsRefusal e (rested_by rules.now draft)) }
 {
-    let mut draft = draft;
     match settle(alloc, &mut draft, rules) {
         Ok(()) => {}
         Err(Fault::Cause(cause)) => return Err(Refusal::Cause { cause, step: None }),
@@ -34,7 +37,10 @@ pub(crate) fn rest(alloc: Global, draft: Draft, rules: &[AnyRule]) -> Result<Fro
         Err(Fault::Memory) => return Err(Refusal::Memory),
     }
     match draft.freeze() {
-        Ok(frozen) => Ok(frozen),
+        Ok(frozen) => match Box::new(alloc, frozen) {
+            Ok(boxed) => Ok(boxed),
+            Err(_) => Err(Refusal::Memory),
+        },
         Err(Fault::Cause(cause)) => Err(Refusal::Cause { cause, step: None }),
         Err(Fault::Memory) => Err(Refusal::Memory),
     }

@@ -106,22 +106,31 @@ impl Editor {
 
     /// What is to be done with what is left of a document: it is committed, unless the view has no ids to show it. The
     /// children of the old root are all gone, so their hosts are.
-    fn weigh_load(&self, alloc: Global, frozen: Frozen) -> Result<Verdict, NoMemory>
-        requires left { IsLeft (left_of self.now.rules frozen) }
-        requires shown { IsShownBy self.now.tree (left_of self.now.rules frozen) (with_leaves (children_of self.now.tree 0) frozen.marks) }
-        requires grown { HasGrown self.now.tree self.now.next_key (left_of self.now.rules frozen) }
-        requires anew { is_touched frozen.marks 0 ≡ true }
-        ensures weighed { IfOk result (IsWeighed self.now (left_of self.now.rules frozen)) }
+    fn weigh_load(&self, alloc: Global, frozen: Box<Frozen>) -> Result<Verdict, NoMemory>
+        requires left { IsLeft (left_of self.now.rules frozen.value) }
+        requires shown { IsShownBy self.now.tree (left_of self.now.rules frozen.value) (with_leaves (children_of self.now.tree 0) frozen.value.marks) }
+        requires grown { HasGrown self.now.tree self.now.next_key (left_of self.now.rules frozen.value) }
+        requires anew { is_touched frozen.value.marks 0 ≡ true }
+        ensures weighed { IfOk result (IsWeighed self.now (left_of self.now.rules frozen.value)) }
         ensures anew { IfOk result (λ verdict. is_idle verdict ≡ false) }
     {
-        let shown = with_children_gone(&frozen.marks, &self.state.links)?;
-        let links = &frozen.state.links;
-        match reconcile(alloc, &self.state.links, links, &shown, &self.view) {
-            Ok(batch) => Ok(Verdict::Commit {
-                frozen,
-                batch,
-                shown: Some(shown),
-            }),
+        let left = frozen.as_ref();
+        let shown = with_children_gone(&left.marks, &self.state.links)?;
+        match reconcile(
+            alloc,
+            &self.state.links,
+            &left.state.links,
+            &shown,
+            &self.view,
+        ) {
+            Ok(batch) => {
+                let shown = Box::new(alloc, shown)?;
+                Ok(Verdict::Commit {
+                    frozen,
+                    batch,
+                    shown: Some(shown),
+                })
+            }
             Err(Fault::Cause(cause)) => Ok(Verdict::Refused { cause, step: None }),
             Err(Fault::Memory) => Err(NoMemory),
         }

@@ -34,23 +34,24 @@ impl Outcome {
     }
 }
 
-/// What steps, a dispatch or a rule come to, before anything is changed.
+/// What steps, a dispatch or a rule come to, before anything is changed. What is large lies in a box, so that a verdict is
+/// handed on without being copied whole.
 #[derive(Drop)]
 pub(crate) enum Verdict {
     /// What they left is committed, with these operations. The marks that cover the trees before and after are those that are
     /// shown, where a document was loaded, and else those of what is frozen.
     Commit {
-        frozen: Frozen,
+        frozen: Box<Frozen>,
         batch: Batch,
-        shown: Option<Marks>,
+        shown: Option<Box<Marks>>,
     },
     /// The history goes to its next entry, a copy of which is this state, with these operations. The marks cover the trees
     /// before and after.
     Turned {
         turn: Turn,
-        state: State,
+        state: Box<State>,
         batch: Batch,
-        marks: Marks,
+        marks: Box<Marks>,
     },
     /// They are refused for a cause. The step, from 0, is the one that was refused, where it was one.
     Refused {

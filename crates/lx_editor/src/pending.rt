@@ -13,7 +13,7 @@ pub(crate) struct Pending {
 }
 
 /// Nothing is pending any more.
-pub(crate) fn forget(pending: &mut Option<Pending>)
+pub(crate) fn forget(pending: &mut Option<Box<Pending>>)
     ensures { pending.new ≡ None }
 {
     *pending = None;

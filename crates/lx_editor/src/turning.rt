@@ -1,6 +1,7 @@
 //! Undo and redo: the history goes to another of its states, which is committed.
 
 ghost use Rattle.lx_node.specs.Limits.{last_u32};
+ghost use Rattle.std.specs.Prelude.{◌≡◌, IfOk};
 
 use crate::editor::Editor;
 use crate::outcome::{Outcome, Verdict};
@@ -16,8 +17,16 @@ use lx_script::{Reply, write_reply};
 use lx_step::{Tags, Turn};
 use std::alloc::Global;
 
+/// A copy of a state, in a box.
+fn boxed_copy(alloc: Global, state: &State) -> Result<Box<State>, NoMemory>
+    ensures links { IfOk result (λ made. made.value.links ≡ state.now.links) }
+    ensures selection { IfOk result (λ made. made.value.selection ≡ state.now.selection) }
+{
+    Ok(Box::new(alloc, state.copy(alloc)?)?)
+}
+
 impl Editor {
-    ghost use Rattle.std.specs.Prelude.{◌≡◌, ◌+◌, ◌<◌, ◌≤◌, length, IfOk, OnOk, OnErr};
+    ghost use Rattle.std.specs.Prelude.{◌+◌, ◌<◌, ◌≤◌, length, OnOk, OnErr};
     ghost use Rattle.lx_step.specs.declared.built_in.Turn.TheVariants as way;
     ghost use Rattle.lx_script.specs.Replies.{reply_text};
     ghost use Rattle.lx_script.specs.declared.reply.Reply.TheVariants.{Cleared};
@@ -82,15 +91,19 @@ impl Editor {
         let Some(entry) = self.history.state_at(turn) else {
             return Ok(Verdict::Idle);
         };
-        let state = entry.copy(alloc)?;
-        let marks = differences(alloc, &self.state.links, &state.links)?;
-        match reconcile(alloc, &self.state.links, &state.links, &marks, &self.view) {
-            Ok(batch) => Ok(Verdict::Turned {
-                turn,
-                state,
-                batch,
-                marks,
-            }),
+        let state = boxed_copy(alloc, entry)?;
+        let links = &state.links;
+        let marks = differences(alloc, &self.state.links, links)?;
+        match reconcile(alloc, &self.state.links, links, &marks, &self.view) {
+            Ok(batch) => {
+                let marks = Box::new(alloc, marks)?;
+                Ok(Verdict::Turned {
+                    turn,
+                    state,
+                    batch,
+                    marks,
+                })
+            }
             Err(Fault::Cause(cause)) => Ok(Verdict::Refused { cause, step: None }),
             Err(Fault::Memory) => Err(NoMemory),
         }
@@ -102,16 +115,17 @@ impl Editor {
         &mut self,
         alloc: Global,
         turn: Turn,
-        state: State,
+        state: Box<State>,
         batch: Batch,
         moment: u64,
     ) -> Result<(), NoMemory>
         requires room { self.old.commits < last_u32 }
-        requires may { MayTurn self.old turn state batch }
+        requires may { MayTurn self.old turn state.value batch }
         ensures turned { OnOk result (IsTurned turn moment self.old (self.old.commits + 1) batch.ops self.new) }
         ensures commits { OnOk result (self.new.commits ≡ self.old.commits + 1) }
         ensures unchanged { OnErr result (self.new ≡ self.old) }
     {
+        let state = Box::into_inner(state);
         let ops = batch.copy_ops(alloc)?;
         self.history.prepare()?;
         follow(&mut self.view, ops)?;
