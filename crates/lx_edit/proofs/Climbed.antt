@@ -12,8 +12,9 @@ use Rattle.lx_forest.proofs.Up.{ancestors-take_out_outside}
 use Rattle.lx_forest.proofs.Within.{is_within-parent}
 use Rattle.lx_draft.specs.Working.{Working}
 use Rattle.lx_node.specs.declared.cause.Fault.{Fault}
-use Rattle.lx_node.specs.declared.cause.Fault.TheVariants as fault
-use Rattle.lx_draft.specs.Faults.{answer, after, TellsStep}
+use Rattle.lx_draft.specs.Faults.{answer, after}
+use Rattle.lx_edit.specs.Standing.{Refuses}
+use Rattle.lx_edit.proofs.Standing.{refuses_all}
 use Rattle.lx_draft.specs.Steps.{take_step}
 use Rattle.lx_edit.specs.Edits.{sent_from, sent_away, goes_too, goes_next, removed, remove_step}
 
@@ -122,6 +123,5 @@ unfolding remove_step
 climb_refused k w cause e = climb_refused_by k (ancestors w.forest k) w cause e
 
 -- ... and so is all of it
-pub climb_told : (k : ℕ) (w : Working) (fault : Fault) (all : Result Working Cause) → remove_step k w ≡ all → TellsStep fault (take_step k (sent_away k w)) → TellsStep fault all
-climb_told k w (fault.Cause cause) all same told = sym same ∙ climb_refused k w cause told
-climb_told k w fault.Memory all same told = tt
+pub climb_told : (k : ℕ) (w : Working) {fault : Fault} {new : Working} (all : Result Working Cause) → remove_step k w ≡ all → Refuses (take_step k (sent_away k w)) fault new → Refuses all fault new
+climb_told k w all same refused = refuses_all (λ cause told. sym same ∙ climb_refused k w cause told) refused

@@ -6,10 +6,11 @@ use Rattle.std.proofs.lemmas.Bool.Decides.{nat_tests}
 use Rattle.lx_node.specs.declared.cause.Cause.{Cause}
 use Rattle.lx_node.specs.declared.cause.Cause.TheVariants.{StepLimit}
 use Rattle.lx_node.specs.declared.cause.Fault.{Fault}
-use Rattle.lx_node.specs.declared.cause.Fault.TheVariants as fault
 use Rattle.lx_node.specs.Limits.{most_counts}
 use Rattle.lx_draft.specs.Working.{Working}
-use Rattle.lx_draft.specs.Faults.{answer, after, over_counts, text_in, TellsStep}
+use Rattle.lx_draft.specs.Faults.{answer, after, over_counts, text_in}
+use Rattle.lx_edit.specs.Standing.{Refuses}
+use Rattle.lx_edit.proofs.Standing.{refuses_all}
 use Rattle.lx_draft.specs.Steps.{take_step, splice_step, marked_if}
 use Rattle.lx_forest.specs.Forest.{Forest}
 use Rattle.lx_forest.specs.Lookups.{kind_of, label_of, ancestors}
@@ -148,12 +149,11 @@ on_went k w v whole r few goes made grew left =
       sym (goes (join_on more.0 k) ∙ ap (λ x. after x (join_on more.0 k)) made) ∙ more.2,
     )
 
-on_stopped : (k : ℕ) (w : Working) (whole r : Result Working Cause) (fault : Fault) → w.counted ≤ most_counts → ((again : Working → Result Working Cause) → joined_behind (found_behind w.forest k) k again w ≡ after r again)
-    → TellsStep fault r → Left join_on k w whole → TellsStep fault whole
-on_stopped k w whole r (fault.Cause cause) few goes told left =
+on_stopped : (k : ℕ) (w : Working) (whole r : Result Working Cause) {fault : Fault} {new : Working} → w.counted ≤ most_counts → ((again : Working → Result Working Cause) → joined_behind (found_behind w.forest k) k again w ≡ after r again)
+    → Refuses r fault new → Left join_on k w whole → Refuses whole fault new
+on_stopped k w whole r few goes refused left =
     let more = on_left k w whole few left in
-    sym more.2 ∙ goes (join_on more.0 k) ∙ ap (λ x. after x (join_on more.0 k)) told
-on_stopped k w whole r fault.Memory few goes told left = tt
+    refuses_all (λ cause told. sym more.2 ∙ goes (join_on more.0 k) ∙ ap (λ x. after x (join_on more.0 k)) told) refused
 
 on_empty : (k other : ℕ) (w : Working) → Empty other ≡ found_behind w.forest k → (again : Working → Result Working Cause) → joined_behind (found_behind w.forest k) k again w ≡ after (remove_step other w) again
 on_empty k other w found again = ap (λ f. joined_behind f k again w) (sym found)
@@ -169,11 +169,11 @@ pub on_joined : (k other : ℕ) (w v : Working) (whole : Result Working Cause) �
 on_joined k other w v whole few found made left =
     on_went k w v whole (join_step k other w) few (on_alike k other w found) made (join_grows k other w v made few).more left
 
-pub on_removing : (k other : ℕ) (w : Working) (whole : Result Working Cause) (fault : Fault) → w.counted ≤ most_counts → Empty other ≡ found_behind w.forest k → TellsStep fault (remove_step other w) → Left join_on k w whole → TellsStep fault whole
-on_removing k other w whole fault few found told left = on_stopped k w whole (remove_step other w) fault few (on_empty k other w found) told left
+pub on_removing : (k other : ℕ) (w : Working) (whole : Result Working Cause) {fault : Fault} {new : Working} → w.counted ≤ most_counts → Empty other ≡ found_behind w.forest k → Refuses (remove_step other w) fault new → Left join_on k w whole → Refuses whole fault new
+on_removing k other w whole few found told left = on_stopped k w whole (remove_step other w) few (on_empty k other w found) told left
 
-pub on_joining : (k other : ℕ) (w : Working) (whole : Result Working Cause) (fault : Fault) → w.counted ≤ most_counts → Alike other ≡ found_behind w.forest k → TellsStep fault (join_step k other w) → Left join_on k w whole → TellsStep fault whole
-on_joining k other w whole fault few found told left = on_stopped k w whole (join_step k other w) fault few (on_alike k other w found) told left
+pub on_joining : (k other : ℕ) (w : Working) (whole : Result Working Cause) {fault : Fault} {new : Working} → w.counted ≤ most_counts → Alike other ≡ found_behind w.forest k → Refuses (join_step k other w) fault new → Left join_on k w whole → Refuses whole fault new
+on_joining k other w whole few found told left = on_stopped k w whole (join_step k other w) few (on_alike k other w found) told left
 
 -- ---- before
 
@@ -200,11 +200,10 @@ back_went k j w v whole r few goes made grew left =
       sym (goes (join_back more.0) (join_on enough k) ∙ ap (λ x. after x (join_back more.0 j)) made) ∙ more.2,
     )
 
-back_stopped : (k j : ℕ) (w : Working) (whole r : Result Working Cause) (fault : Fault) → w.counted ≤ most_counts → GoesBack k j w r → TellsStep fault r → Left join_back k w whole → TellsStep fault whole
-back_stopped k j w whole r (fault.Cause cause) few goes told left =
+back_stopped : (k j : ℕ) (w : Working) (whole r : Result Working Cause) {fault : Fault} {new : Working} → w.counted ≤ most_counts → GoesBack k j w r → Refuses r fault new → Left join_back k w whole → Refuses whole fault new
+back_stopped k j w whole r few goes refused left =
     let more = back_left k w whole few left in
-    sym more.2 ∙ goes (join_back more.0) (join_on enough k) ∙ ap (λ x. after x (join_back more.0 j)) told
-back_stopped k j w whole r fault.Memory few goes told left = tt
+    refuses_all (λ cause told. sym more.2 ∙ goes (join_back more.0) (join_on enough k) ∙ ap (λ x. after x (join_back more.0 j)) told) refused
 
 back_empty : (k other : ℕ) (w : Working) → Empty other ≡ found_before w.forest k → GoesBack k k w (remove_step other w)
 back_empty k other w found again last = ap (λ f. joined_before f k again last w) (sym found)
@@ -220,8 +219,8 @@ pub back_joined : (k other : ℕ) (w v : Working) (whole : Result Working Cause)
 back_joined k other w v whole few found made left =
     back_went k other w v whole (join_step other k w) few (back_alike k other w found) made (join_grows other k w v made few).more left
 
-pub back_removing : (k other : ℕ) (w : Working) (whole : Result Working Cause) (fault : Fault) → w.counted ≤ most_counts → Empty other ≡ found_before w.forest k → TellsStep fault (remove_step other w) → Left join_back k w whole → TellsStep fault whole
-back_removing k other w whole fault few found told left = back_stopped k k w whole (remove_step other w) fault few (back_empty k other w found) told left
+pub back_removing : (k other : ℕ) (w : Working) (whole : Result Working Cause) {fault : Fault} {new : Working} → w.counted ≤ most_counts → Empty other ≡ found_before w.forest k → Refuses (remove_step other w) fault new → Left join_back k w whole → Refuses whole fault new
+back_removing k other w whole few found told left = back_stopped k k w whole (remove_step other w) few (back_empty k other w found) told left
 
-pub back_joining : (k other : ℕ) (w : Working) (whole : Result Working Cause) (fault : Fault) → w.counted ≤ most_counts → Alike other ≡ found_before w.forest k → TellsStep fault (join_step other k w) → Left join_back k w whole → TellsStep fault whole
-back_joining k other w whole fault few found told left = back_stopped k other w whole (join_step other k w) fault few (back_alike k other w found) told left
+pub back_joining : (k other : ℕ) (w : Working) (whole : Result Working Cause) {fault : Fault} {new : Working} → w.counted ≤ most_counts → Alike other ≡ found_before w.forest k → Refuses (join_step other k w) fault new → Left join_back k w whole → Refuses whole fault new
+back_joining k other w whole few found told left = back_stopped k other w whole (join_step other k w) few (back_alike k other w found) told left

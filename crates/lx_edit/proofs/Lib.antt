@@ -1,3 +1,4 @@
+pub mod Standing
 pub mod Turns
 pub mod Climbed
 pub mod Tails

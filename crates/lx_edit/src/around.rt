@@ -1,11 +1,10 @@
-ghost use Rattle.std.specs.Prelude.{◌≡◌, ◌≤◌, Ok, OnOk, IfErr};
+ghost use Rattle.std.specs.Prelude.{◌≡◌, ◌≤◌};
 ghost use Rattle.std.specs.Option.{option_copied};
 ghost use Rattle.lx_forest.specs.Lookups as lookups;
 ghost use Rattle.lx_node.specs.Limits.{most_counts};
-ghost use Rattle.lx_draft.specs.Faults.{TellsStep};
 ghost use Rattle.lx_edit.specs.Texts as texts;
 ghost use Rattle.lx_edit.specs.Texts.{join_around_step};
-ghost use Rattle.lx_edit.specs.Standing.{StillStands};
+ghost use Rattle.lx_edit.specs.Standing.{Does};
 
 use crate::conditions::admitted;
 use crate::join::join_texts;
@@ -33,9 +32,7 @@ pub enum Found {
 /// node, and as the edits are that it makes.
 #[tactic(auto, unfolding(crate::specs::Texts::join_around_step))]
 pub fn join_around(alloc: Global, draft: &mut Draft, key: Key) -> Result<(), Fault>
-    ensures ok { OnOk result (join_around_step key draft.old ≡ Ok draft.new) }
-    ensures err { IfErr result (λ e. TellsStep e (join_around_step key draft.old)) }
-    ensures standing { IfErr result (λ e. StillStands e draft.new) }
+    ensures { Does (join_around_step key draft.old) draft.new result }
 {
     let fault = draft.links().missing(key);
     admitted(draft, fault)?;
@@ -44,9 +41,7 @@ pub fn join_around(alloc: Global, draft: &mut Draft, key: Key) -> Result<(), Fau
 
 /// Joins a node that is there with what is around it.
 fn join_there(alloc: Global, draft: &mut Draft, key: Key) -> Result<(), Fault>
-    ensures ok { OnOk result (texts.joined_around key draft.old ≡ Ok draft.new) }
-    ensures err { IfErr result (λ e. TellsStep e (texts.joined_around key draft.old)) }
-    ensures standing { IfErr result (λ e. StillStands e draft.new) }
+    ensures { Does (texts.joined_around key draft.old) draft.new result }
 {
     match emptiness(draft, key) {
         Some(true) => remove(draft, key),
@@ -57,9 +52,7 @@ fn join_there(alloc: Global, draft: &mut Draft, key: Key) -> Result<(), Fault>
 
 /// Joins a text with what comes before it, and then with what comes after.
 fn join_back(alloc: Global, draft: &mut Draft, key: Key) -> Result<(), Fault>
-    ensures ok { OnOk result (texts.join_back texts.enough key draft.old ≡ Ok draft.new) }
-    ensures err { IfErr result (λ e. TellsStep e (texts.join_back texts.enough key draft.old)) }
-    ensures standing { IfErr result (λ e. StillStands e draft.new) }
+    ensures { Does (texts.join_back texts.enough key draft.old) draft.new result }
 {
     let mut at = key;
     'back: loop {
@@ -80,9 +73,7 @@ fn join_back(alloc: Global, draft: &mut Draft, key: Key) -> Result<(), Fault>
 
 /// Joins a text with what comes after it.
 fn join_on(alloc: Global, draft: &mut Draft, key: Key) -> Result<(), Fault>
-    ensures ok { OnOk result (texts.join_on texts.enough key draft.old ≡ Ok draft.new) }
-    ensures err { IfErr result (λ e. TellsStep e (texts.join_on texts.enough key draft.old)) }
-    ensures standing { IfErr result (λ e. StillStands e draft.new) }
+    ensures { Does (texts.join_on texts.enough key draft.old) draft.new result }
 {
     'on: loop {
         let found = found_behind(draft, key);

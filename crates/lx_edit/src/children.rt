@@ -1,9 +1,7 @@
-ghost use Rattle.std.specs.Prelude.{◌≡◌, Ok, OnOk, IfErr};
-ghost use Rattle.lx_draft.specs.Faults.{TellsStep};
 ghost use Rattle.lx_edit.specs.Edits as edits;
 ghost use Rattle.lx_edit.specs.Edits.{children_step};
 ghost use Rattle.lx_edit.specs.InTurn.{in_turn};
-ghost use Rattle.lx_edit.specs.Standing.{StillStands};
+ghost use Rattle.lx_edit.specs.Standing.{Does};
 
 use crate::conditions::{admitted, children_fault};
 use crate::places::children_of;
@@ -17,9 +15,7 @@ use std::alloc::Global;
 /// hold one of the children; and as the draft's own edits are, where 100,000 counts were taken.
 #[tactic(auto, unfolding(crate::specs::Edits::children_step))]
 pub fn move_children(alloc: Global, draft: &mut Draft, from: Key, to: Key) -> Result<(), Fault>
-    ensures ok { OnOk result (children_step from to draft.old ≡ Ok draft.new) }
-    ensures err { IfErr result (λ e. TellsStep e (children_step from to draft.old)) }
-    ensures standing { IfErr result (λ e. StillStands e draft.new) }
+    ensures { Does (children_step from to draft.old) draft.new result }
 {
     let fault = children_fault(draft.links(), from, to);
     admitted(draft, fault)?;
@@ -28,9 +24,7 @@ pub fn move_children(alloc: Global, draft: &mut Draft, from: Key, to: Key) -> Re
 
 /// The children with the points that were on their parent, where nothing refuses them.
 fn carry_children(alloc: Global, draft: &mut Draft, from: Key, to: Key) -> Result<(), Fault>
-    ensures ok { OnOk result (edits.children_moved from to draft.old ≡ Ok draft.new) }
-    ensures err { IfErr result (λ e. TellsStep e (edits.children_moved from to draft.old)) }
-    ensures standing { IfErr result (λ e. StillStands e draft.new) }
+    ensures { Does (edits.children_moved from to draft.old) draft.new result }
 {
     let children = children_of(alloc, draft.links(), from)?;
     let size = draft.links().size(to);
@@ -41,17 +35,12 @@ fn carry_children(alloc: Global, draft: &mut Draft, from: Key, to: Key) -> Resul
 }
 
 /// Moves nodes, one after another, to the end of an element's children. Points go as these edits move them.
-#[tactic(auto, using(crate::proofs::Turns::turns_done))]
+#[tactic(auto, unfolding(crate::specs::InTurn::in_turn))]
 pub fn move_each(draft: &mut Draft, to: Key, keys: &[Key]) -> Result<(), Fault>
-    ensures ok { OnOk result (in_turn (edits.moved_to_end to) keys.now draft.old ≡ Ok draft.new) }
-    ensures err { IfErr result (λ e. TellsStep e (in_turn (edits.moved_to_end to) keys.now draft.old)) }
-    ensures standing { IfErr result (λ e. StillStands e draft.new) }
+    ensures { Does (in_turn (edits.moved_to_end to) keys.now draft.old) draft.new result }
 {
     for key in keys {
-        match move_to_end(draft, to, *key) {
-            Ok(()) => {}
-            Err(fault) => return Err(fault),
-        }
+        move_to_end(draft, to, *key)?;
     }
     Ok(())
 }
@@ -59,9 +48,7 @@ pub fn move_each(draft: &mut Draft, to: Key, keys: &[Key]) -> Result<(), Fault>
 /// Takes a node out, and puts it at the end of an element's children.
 #[tactic(auto, unfolding(crate::specs::Edits::moved_to_end))]
 pub fn move_to_end(draft: &mut Draft, parent: Key, key: Key) -> Result<(), Fault>
-    ensures ok { OnOk result (edits.moved_to_end parent key draft.old ≡ Ok draft.new) }
-    ensures err { IfErr result (λ e. TellsStep e (edits.moved_to_end parent key draft.old)) }
-    ensures standing { IfErr result (λ e. StillStands e draft.new) }
+    ensures { Does (edits.moved_to_end parent key draft.old) draft.new result }
 {
     draft.take(key)?;
     let index = draft.links().size(parent);

@@ -1,8 +1,6 @@
-ghost use Rattle.std.specs.Prelude.{◌≡◌, Ok, OnOk, IfErr};
-ghost use Rattle.lx_draft.specs.Faults.{TellsStep};
 ghost use Rattle.lx_edit.specs.Texts as texts;
 ghost use Rattle.lx_edit.specs.Texts.{join_step};
-ghost use Rattle.lx_edit.specs.Standing.{StillStands};
+ghost use Rattle.lx_edit.specs.Standing.{Does};
 
 use crate::conditions::{admitted, join_fault};
 use crate::texts::{length_at, text_of};
@@ -16,9 +14,7 @@ use std::alloc::Global;
 /// bring what was written above 16,777,216 scalar values.
 #[tactic(auto, unfolding(crate::specs::Texts::join_step))]
 pub fn join_texts(alloc: Global, draft: &mut Draft, first: Key, second: Key) -> Result<(), Fault>
-    ensures ok { OnOk result (join_step first second draft.old ≡ Ok draft.new) }
-    ensures err { IfErr result (λ e. TellsStep e (join_step first second draft.old)) }
-    ensures standing { IfErr result (λ e. StillStands e draft.new) }
+    ensures { Does (join_step first second draft.old) draft.new result }
 {
     let fault = join_fault(draft.links(), first, second);
     admitted(draft, fault)?;
@@ -27,9 +23,7 @@ pub fn join_texts(alloc: Global, draft: &mut Draft, first: Key, second: Key) -> 
 
 /// Joins two texts that nothing keeps apart.
 fn join(alloc: Global, draft: &mut Draft, first: Key, second: Key) -> Result<(), Fault>
-    ensures ok { OnOk result (texts.texts_joined first second draft.old ≡ Ok draft.new) }
-    ensures err { IfErr result (λ e. TellsStep e (texts.texts_joined first second draft.old)) }
-    ensures standing { IfErr result (λ e. StillStands e draft.new) }
+    ensures { Does (texts.texts_joined first second draft.old) draft.new result }
 {
     let end = length_at(draft, first);
     let text = text_of(alloc, draft, second)?;

@@ -1,13 +1,12 @@
-ghost use Rattle.std.specs.Prelude.{◌≡◌, ◌+◌, ◌≤◌, Ok, OnOk, IfOk, IfErr};
+ghost use Rattle.std.specs.Prelude.{◌≡◌, ◌+◌, ◌≤◌, OnOk, IfOk};
 ghost use Rattle.lx_node.specs.Kinds as kinds;
 ghost use Rattle.lx_forest.specs.Lookups as lookups;
 ghost use Rattle.lx_forest.specs.Lookups.{IsForest};
 ghost use Rattle.lx_node.specs.Limits.{most_counts};
 ghost use Rattle.lx_draft.specs.Steps.{take_step};
-ghost use Rattle.lx_draft.specs.Faults.{TellsStep};
 ghost use Rattle.lx_edit.specs.Edits as edits;
 ghost use Rattle.lx_edit.specs.Edits.{remove_step};
-ghost use Rattle.lx_edit.specs.Standing.{StillStands};
+ghost use Rattle.lx_edit.specs.Standing.{Does};
 
 use crate::places::{beside, element_point};
 use lx_draft::{Draft, PointRule};
@@ -21,9 +20,7 @@ use lx_node::{Fault, Key, Kind};
 /// otherwise to where it was in its parent. It is refused where there is no such node, where it is
 /// below nothing, and where 100,000 counts were taken.
 pub fn remove(draft: &mut Draft, key: Key) -> Result<(), Fault>
-    ensures ok { OnOk result (remove_step key draft.old ≡ Ok draft.new) }
-    ensures err { IfErr result (λ e. TellsStep e (remove_step key draft.old)) }
-    ensures standing { IfErr result (λ e. StillStands e draft.new) }
+    ensures { Does (remove_step key draft.old) draft.new result }
 {
     let mut next = Some(key);
     while let Some(at) = next {
@@ -38,13 +35,11 @@ pub fn remove(draft: &mut Draft, key: Key) -> Result<(), Fault>
 /// Takes a node out, and answers its parent where that has to go too.
 #[tactic(auto, using(crate::proofs::Climbed::taken_once, crate::proofs::Climbed::order_before))]
 fn remove_one(draft: &mut Draft, key: Key) -> Result<Option<Key>, Fault>
-    ensures taken { OnOk result (take_step key (edits.sent_away key draft.old) ≡ Ok draft.new) }
+    ensures does { Does (take_step key (edits.sent_away key draft.old)) draft.new result }
     ensures order { OnOk result (IsForest draft.old.forest) }
     ensures counted { OnOk result (draft.new.counted ≡ draft.old.counted + 1) }
     ensures within { OnOk result (draft.new.counted ≤ most_counts) }
     ensures emptied { IfOk result (λ next. next ≡ edits.goes_next (lookups.kind_of draft.old.forest key) draft.new.forest (lookups.parent_of draft.old.forest key)) }
-    ensures err { IfErr result (λ e. TellsStep e (take_step key (edits.sent_away key draft.old))) }
-    ensures standing { IfErr result (λ e. StillStands e draft.new) }
 {
     let kind = draft.links().kind(key);
     let parent = draft.links().parent(key);

@@ -1,10 +1,9 @@
-ghost use Rattle.std.specs.Prelude.{◌≡◌, Ok, OnOk, IfOk, IfErr};
+ghost use Rattle.std.specs.Prelude.{◌≡◌, OnOk, IfOk};
 ghost use Rattle.lx_forest.specs.Lookups as lookups;
-ghost use Rattle.lx_draft.specs.Faults.{TellsStep};
 ghost use Rattle.lx_draft.specs.Selecting as selecting;
 ghost use Rattle.lx_edit.specs.Edits as edits;
 ghost use Rattle.lx_edit.specs.Edits.{replace_step, wrap_step};
-ghost use Rattle.lx_edit.specs.Standing.{StillStands};
+ghost use Rattle.lx_edit.specs.Standing.{Does};
 
 use crate::children::{move_children, move_to_end};
 use crate::conditions::{admitted, replace_fault, wrap_fault};
@@ -29,9 +28,7 @@ pub fn replace(
     with: Key,
     keep: bool,
 ) -> Result<(), Fault>
-    ensures ok { OnOk result (replace_step key with keep draft.old ≡ Ok draft.new) }
-    ensures err { IfErr result (λ e. TellsStep e (replace_step key with keep draft.old)) }
-    ensures standing { IfErr result (λ e. StillStands e draft.new) }
+    ensures { Does (replace_step key with keep draft.old) draft.new result }
 {
     let fault = replace_fault(draft.links(), key, with, keep);
     admitted(draft, fault)?;
@@ -83,9 +80,7 @@ fn is_text(links: &Links, key: Key) -> bool
 /// outer one's children. It is refused as a replacing is, and where the outer one may not hold the other.
 #[tactic(auto, unfolding(crate::specs::Edits::wrap_step))]
 pub fn wrap(draft: &mut Draft, key: Key, outer: Key) -> Result<(), Fault>
-    ensures ok { OnOk result (wrap_step key outer draft.old ≡ Ok draft.new) }
-    ensures err { IfErr result (λ e. TellsStep e (wrap_step key outer draft.old)) }
-    ensures standing { IfErr result (λ e. StillStands e draft.new) }
+    ensures { Does (wrap_step key outer draft.old) draft.new result }
 {
     let fault = wrap_fault(draft.links(), key, outer);
     admitted(draft, fault)?;

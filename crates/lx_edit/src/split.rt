@@ -1,9 +1,8 @@
-ghost use Rattle.std.specs.Prelude.{◌≡◌, ◌+◌, ◌++◌, ◌∷◌, [], Ok, OnOk, IfOk, IfErr, length};
+ghost use Rattle.std.specs.Prelude.{◌≡◌, ◌+◌, ◌++◌, ◌∷◌, [], OnOk, IfOk, length};
 ghost use Rattle.lx_trees.specs.Trees.{nil};
-ghost use Rattle.lx_draft.specs.Faults.{TellsStep};
 ghost use Rattle.lx_edit.specs.Texts as texts;
 ghost use Rattle.lx_edit.specs.Texts.{split_step, keys_from};
-ghost use Rattle.lx_edit.specs.Standing.{StillStands};
+ghost use Rattle.lx_edit.specs.Standing.{Does};
 
 use crate::conditions::{admitted, split_fault};
 use crate::texts::{length_at, tail_of};
@@ -20,10 +19,8 @@ use std::alloc::Global;
 /// written above 16,777,216 scalar values.
 #[tactic(auto, unfolding(crate::specs::Texts::split_step))]
 pub fn split_text(alloc: Global, draft: &mut Draft, key: Key, at: &[u32]) -> Result<Vec<Key>, Fault>
-    ensures ok { OnOk result (split_step key at.now draft.old ≡ Ok draft.new) }
+    ensures does { Does (split_step key at.now draft.old) draft.new result }
     ensures keys { IfOk result (λ keys. keys.items ≡ keys_from draft.old.next_key (length at.now)) }
-    ensures err { IfErr result (λ e. TellsStep e (split_step key at.now draft.old)) }
-    ensures standing { IfErr result (λ e. StillStands e draft.new) }
 {
     let fault = split_fault(draft, key, at);
     admitted(draft, fault)?;
@@ -32,10 +29,8 @@ pub fn split_text(alloc: Global, draft: &mut Draft, key: Key, at: &[u32]) -> Res
 
 /// Cuts a text at each of the offsets, from the left.
 fn cut_at(alloc: Global, draft: &mut Draft, key: Key, offsets: &[u32]) -> Result<Vec<Key>, Fault>
-    ensures ok { OnOk result (texts.cut_at key 0 offsets.now draft.old ≡ Ok draft.new) }
+    ensures does { Does (texts.cut_at key 0 offsets.now draft.old) draft.new result }
     ensures keys { IfOk result (λ keys. keys.items ≡ keys_from draft.old.next_key (length offsets.now)) }
-    ensures err { IfErr result (λ e. TellsStep e (texts.cut_at key 0 offsets.now draft.old)) }
-    ensures standing { IfErr result (λ e. StillStands e draft.new) }
 {
     let mut keys = Vec::new(alloc);
     let mut piece = key;
@@ -61,11 +56,9 @@ fn keep_key(keys: &mut Vec<Key>, key: Key) -> Result<(), NoMemory>
 /// Cuts a text in two at an offset, and answers the key of the new text after it.
 #[tactic(auto, unfolding(crate::specs::Texts::cut_in_two), using(crate::proofs::Tails::no_characters))]
 fn cut_in_two(alloc: Global, draft: &mut Draft, key: Key, offset: u32) -> Result<Key, Fault>
-    ensures ok { OnOk result (texts.cut_in_two key offset draft.old ≡ Ok draft.new) }
+    ensures does { Does (texts.cut_in_two key offset draft.old) draft.new result }
     ensures key { IfOk result (λ new. new ≡ draft.old.next_key) }
     ensures next_key { OnOk result (draft.new.next_key ≡ draft.old.next_key + 1) }
-    ensures err { IfErr result (λ e. TellsStep e (texts.cut_in_two key offset draft.old)) }
-    ensures standing { IfErr result (λ e. StillStands e draft.new) }
 {
     let end = length_at(draft, key);
     let new = make_tail(alloc, draft, key, offset)?;
@@ -77,11 +70,9 @@ fn cut_in_two(alloc: Global, draft: &mut Draft, key: Key, offset: u32) -> Result
 /// Makes a new text of what comes after an offset, with the points there, and answers its key.
 #[tactic(auto, unfolding(crate::specs::Texts::tail_made))]
 fn make_tail(alloc: Global, draft: &mut Draft, key: Key, offset: u32) -> Result<Key, Fault>
-    ensures ok { OnOk result (texts.tail_made key offset draft.old ≡ Ok draft.new) }
+    ensures does { Does (texts.tail_made key offset draft.old) draft.new result }
     ensures key { IfOk result (λ new. new ≡ draft.old.next_key) }
     ensures next_key { OnOk result (draft.new.next_key ≡ draft.old.next_key + 1) }
-    ensures err { IfErr result (λ e. TellsStep e (texts.tail_made key offset draft.old)) }
-    ensures standing { IfErr result (λ e. StillStands e draft.new) }
 {
     let fields = tail_of(alloc, draft, key, offset)?;
     let new = draft.new_node(Kind::Text, fields)?;

@@ -1,10 +1,9 @@
-ghost use Rattle.std.specs.Prelude.{◌≡◌, Ok, OnOk, IfErr};
-ghost use Rattle.lx_draft.specs.Faults.{TellsStep};
+ghost use Rattle.std.specs.Prelude.{◌≡◌};
 ghost use Rattle.lx_edit.specs.InTurn.{in_turn};
 ghost use Rattle.lx_edit.specs.Edits as edits;
 ghost use Rattle.lx_edit.specs.Edits.{unwrap_step};
 ghost use Rattle.lx_edit.specs.Brought.{BringsUp};
-ghost use Rattle.lx_edit.specs.Standing.{StillStands};
+ghost use Rattle.lx_edit.specs.Standing.{Does};
 
 use crate::conditions::{admitted, unwrap_fault};
 use crate::places::children_of;
@@ -19,9 +18,7 @@ use std::alloc::Global;
 /// children, and where 100,000 counts were taken.
 #[tactic(auto, unfolding(crate::specs::Edits::unwrap_step))]
 pub fn unwrap(alloc: Global, draft: &mut Draft, key: Key) -> Result<(), Fault>
-    ensures ok { OnOk result (unwrap_step key draft.old ≡ Ok draft.new) }
-    ensures err { IfErr result (λ e. TellsStep e (unwrap_step key draft.old)) }
-    ensures standing { IfErr result (λ e. StillStands e draft.new) }
+    ensures { Does (unwrap_step key draft.old) draft.new result }
 {
     let fault = unwrap_fault(draft.links(), key);
     admitted(draft, fault)?;
@@ -30,9 +27,7 @@ pub fn unwrap(alloc: Global, draft: &mut Draft, key: Key) -> Result<(), Fault>
 
 /// The children with the points that were on their parent, where nothing refuses them.
 fn unfold_children(alloc: Global, draft: &mut Draft, key: Key) -> Result<(), Fault>
-    ensures ok { OnOk result (edits.unwrapped key draft.old ≡ Ok draft.new) }
-    ensures err { IfErr result (λ e. TellsStep e (edits.unwrapped key draft.old)) }
-    ensures standing { IfErr result (λ e. StillStands e draft.new) }
+    ensures { Does (edits.unwrapped key draft.old) draft.new result }
 {
     let children = children_of(alloc, draft.links(), key)?;
     let parent = draft.links().parent(key);
@@ -71,17 +66,12 @@ fn bring_up(
 }
 
 /// Moves nodes, in order, before another.
-#[tactic(auto, using(crate::proofs::Turns::turns_done))]
+#[tactic(auto, unfolding(crate::specs::InTurn::in_turn))]
 fn move_each_before(draft: &mut Draft, other: Key, keys: &[Key]) -> Result<(), Fault>
-    ensures ok { OnOk result (in_turn (edits.moved_before other) keys.now draft.old ≡ Ok draft.new) }
-    ensures err { IfErr result (λ e. TellsStep e (in_turn (edits.moved_before other) keys.now draft.old)) }
-    ensures standing { IfErr result (λ e. StillStands e draft.new) }
+    ensures { Does (in_turn (edits.moved_before other) keys.now draft.old) draft.new result }
 {
     for key in keys {
-        match move_before(draft, other, *key) {
-            Ok(()) => {}
-            Err(fault) => return Err(fault),
-        }
+        move_before(draft, other, *key)?;
     }
     Ok(())
 }
@@ -89,9 +79,7 @@ fn move_each_before(draft: &mut Draft, other: Key, keys: &[Key]) -> Result<(), F
 /// Takes a node out, and puts it before another.
 #[tactic(auto, unfolding(crate::specs::Edits::moved_before))]
 pub fn move_before(draft: &mut Draft, other: Key, key: Key) -> Result<(), Fault>
-    ensures ok { OnOk result (edits.moved_before other key draft.old ≡ Ok draft.new) }
-    ensures err { IfErr result (λ e. TellsStep e (edits.moved_before other key draft.old)) }
-    ensures standing { IfErr result (λ e. StillStands e draft.new) }
+    ensures { Does (edits.moved_before other key draft.old) draft.new result }
 {
     draft.take(key)?;
     draft.put_before(key, other)
@@ -100,9 +88,7 @@ pub fn move_before(draft: &mut Draft, other: Key, key: Key) -> Result<(), Fault>
 /// Takes a node out, and puts it right after another.
 #[tactic(auto, unfolding(crate::specs::Edits::moved_behind))]
 pub fn move_behind(draft: &mut Draft, other: Key, key: Key) -> Result<(), Fault>
-    ensures ok { OnOk result (edits.moved_behind other key draft.old ≡ Ok draft.new) }
-    ensures err { IfErr result (λ e. TellsStep e (edits.moved_behind other key draft.old)) }
-    ensures standing { IfErr result (λ e. StillStands e draft.new) }
+    ensures { Does (edits.moved_behind other key draft.old) draft.new result }
 {
     draft.take(key)?;
     draft.put_behind(key, other)
