@@ -1,11 +1,10 @@
 //! Items are checked.
 
-ghost use Rattle.std.specs.Prelude.{◌≡◌, Ok, OnOk, IfErr};
+ghost use Rattle.std.specs.Prelude.{◌≡◌};
 ghost use Rattle.lx_node.specs.Kinds as kinds;
 ghost use Rattle.lx_forest.specs.Lookups as lookups;
 ghost use Rattle.lx_draft.specs.Selecting.{unlike};
-ghost use Rattle.lx_draft.specs.Faults.{TellsStep};
-ghost use Rattle.lx_edit.specs.Standing.{StillStands};
+ghost use Rattle.lx_edit.specs.Standing.{Does};
 ghost use Rattle.lx_list.specs.Checking as checking;
 ghost use Rattle.lx_list.specs.Checking.{set_checked_step, toggle_checked_step};
 
@@ -44,9 +43,7 @@ fn no_item(links: &Links, key: Key) -> Option<Cause>
 /// was written would come above 16,777,216 scalar values.
 #[tactic(auto, unfolding(crate::specs::Checking::set_checked_step))]
 pub fn set_checked(alloc: Global, draft: &mut Draft, item: Key, checked: bool) -> Result<(), Fault>
-    ensures ok { OnOk result (set_checked_step item checked draft.old ≡ Ok draft.new) }
-    ensures err { IfErr result (λ e. TellsStep e (set_checked_step item checked draft.old)) }
-    ensures standing { IfErr result (λ e. StillStands e draft.new) }
+    ensures { Does (set_checked_step item checked draft.old) draft.new result }
 {
     let fault = item_fault(draft.links(), item);
     admitted(draft, fault)?;
@@ -81,9 +78,7 @@ fn is_checked(links: &Links, item: Key) -> bool
 /// that block.
 #[tactic(auto, unfolding(crate::specs::Checking::toggle_checked_step))]
 pub fn toggle_checked(alloc: Global, draft: &mut Draft) -> Result<(), Fault>
-    ensures ok { OnOk result (toggle_checked_step draft.old ≡ Ok draft.new) }
-    ensures err { IfErr result (λ e. TellsStep e (toggle_checked_step draft.old)) }
-    ensures standing { IfErr result (λ e. StillStands e draft.new) }
+    ensures { Does (toggle_checked_step draft.old) draft.new result }
 {
     let range = range_of(draft)?;
     match block(draft.links(), range.anchor.key) {

@@ -1,11 +1,10 @@
 //! An item without children ends its list.
 
-ghost use Rattle.std.specs.Prelude.{◌≡◌, true, Some, Ok, OnOk, IfErr};
+ghost use Rattle.std.specs.Prelude.{◌≡◌, true, Some};
 ghost use Rattle.lx_node.specs.Kinds as kinds;
 ghost use Rattle.lx_node.specs.OfKind.{IsOfKind};
 ghost use Rattle.lx_forest.specs.Lookups as lookups;
-ghost use Rattle.lx_draft.specs.Faults.{TellsStep};
-ghost use Rattle.lx_edit.specs.Standing.{StillStands};
+ghost use Rattle.lx_edit.specs.Standing.{Does};
 ghost use Rattle.lx_blocks.specs.Blocks as blocks;
 ghost use Rattle.lx_list.specs.Ending as ending;
 ghost use Rattle.lx_list.specs.Ending.{paragraph_in_item_step};
@@ -31,9 +30,7 @@ fn part_rest(
 ) -> Result<(), Fault>
     requires list { kinds.is_list kind ≡ true }
     requires of_kind { IsOfKind kind fields }
-    ensures ok { OnOk result (ending.rest_parted paragraph items.now (Some (record { key = list; kind = kind; fields = fields })) draft.old ≡ Ok draft.new) }
-    ensures err { IfErr result (λ e. TellsStep e (ending.rest_parted paragraph items.now (Some (record { key = list; kind = kind; fields = fields })) draft.old)) }
-    ensures standing { IfErr result (λ e. StillStands e draft.new) }
+    ensures { Does (ending.rest_parted paragraph items.now (Some (record { key = list; kind = kind; fields = fields })) draft.old) draft.new result }
 {
     match items {
         [] => Ok(()),
@@ -50,9 +47,7 @@ fn part_rest(
 #[tactic(auto, unfolding(crate::specs::Ending::paragraph_behind), using(crate::proofs::Made::paragraph_suits))]
 fn put_paragraph(alloc: Global, draft: &mut Draft, item: Key, list: Key) -> Result<(), Fault>
     requires { blocks.is_at kinds.is_list draft.old.forest list ≡ true }
-    ensures ok { OnOk result (ending.paragraph_behind item list draft.old ≡ Ok draft.new) }
-    ensures err { IfErr result (λ e. TellsStep e (ending.paragraph_behind item list draft.old)) }
-    ensures standing { IfErr result (λ e. StillStands e draft.new) }
+    ensures { Does (ending.paragraph_behind item list draft.old) draft.new result }
 {
     let items = items_behind(alloc, draft.links(), list, item)?;
     let (kind, fields) = like(alloc, draft.links(), list)?;
@@ -66,9 +61,7 @@ fn put_paragraph(alloc: Global, draft: &mut Draft, item: Key, list: Key) -> Resu
 /// Ends a list at an item, by what the list is in.
 fn end_list(alloc: Global, draft: &mut Draft, item: Key, list: Key) -> Result<(), Fault>
     requires { blocks.is_at kinds.is_list draft.old.forest list ≡ true }
-    ensures ok { OnOk result (ending.ended_by item list (lookups.parent_of draft.old.forest list) draft.old ≡ Ok draft.new) }
-    ensures err { IfErr result (λ e. TellsStep e (ending.ended_by item list (lookups.parent_of draft.old.forest list) draft.old)) }
-    ensures standing { IfErr result (λ e. StillStands e draft.new) }
+    ensures { Does (ending.ended_by item list (lookups.parent_of draft.old.forest list) draft.old) draft.new result }
 {
     match draft.links().parent(list) {
         Some(above) => {
@@ -92,9 +85,7 @@ fn end_list(alloc: Global, draft: &mut Draft, item: Key, list: Key) -> Result<()
 #[tactic(auto, unfolding(crate::specs::Ending::paragraph_in_item_step), using(crate::proofs::Above::list_above))]
 pub fn paragraph_in_item(alloc: Global, draft: &mut Draft, item: Key) -> Result<(), Fault>
     requires { blocks.is_at kinds.is_item draft.old.forest item ≡ true }
-    ensures ok { OnOk result (paragraph_in_item_step item draft.old ≡ Ok draft.new) }
-    ensures err { IfErr result (λ e. TellsStep e (paragraph_in_item_step item draft.old)) }
-    ensures standing { IfErr result (λ e. StillStands e draft.new) }
+    ensures { Does (paragraph_in_item_step item draft.old) draft.new result }
 {
     ready(draft)?;
     match draft.links().parent(item) {

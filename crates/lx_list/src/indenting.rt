@@ -1,10 +1,9 @@
 //! Lines go one level deeper.
 
-ghost use Rattle.std.specs.Prelude.{◌≡◌, true, Ok, OnOk, IfErr};
+ghost use Rattle.std.specs.Prelude.{◌≡◌, true};
 ghost use Rattle.lx_node.specs.Kinds as kinds;
 ghost use Rattle.lx_forest.specs.Lookups as lookups;
-ghost use Rattle.lx_draft.specs.Faults.{TellsStep};
-ghost use Rattle.lx_edit.specs.Standing.{StillStands};
+ghost use Rattle.lx_edit.specs.Standing.{Does};
 ghost use Rattle.lx_blocks.specs.Blocks as blocks;
 ghost use Rattle.lx_list.specs.Indenting as indenting;
 
@@ -22,9 +21,7 @@ use std::alloc::Global;
 #[tactic(auto, using(crate::proofs::Made::item_suits, crate::proofs::Made::no_root))]
 fn wrap(alloc: Global, draft: &mut Draft, item: Key, list: Key) -> Result<(), Fault>
     requires { blocks.is_at kinds.is_list draft.old.forest list ≡ true }
-    ensures ok { OnOk result (indenting.wrapped_like item (lookups.label_of draft.old.forest list) draft.old ≡ Ok draft.new) }
-    ensures err { IfErr result (λ e. TellsStep e (indenting.wrapped_like item (lookups.label_of draft.old.forest list) draft.old)) }
-    ensures standing { IfErr result (λ e. StillStands e draft.new) }
+    ensures { Does (indenting.wrapped_like item (lookups.label_of draft.old.forest list) draft.old) draft.new result }
 {
     let (kind, fields) = like(alloc, draft.links(), list)?;
     let outer = draft.new_node(Kind::Item, item_fields(alloc, None))?;
@@ -38,9 +35,7 @@ fn wrap(alloc: Global, draft: &mut Draft, item: Key, list: Key) -> Result<(), Fa
 #[tactic(auto, using(crate::proofs::Above::list_above))]
 fn wrap_in(alloc: Global, draft: &mut Draft, item: Key) -> Result<(), Fault>
     requires { blocks.is_at kinds.is_item draft.old.forest item ≡ true }
-    ensures ok { OnOk result (indenting.wrapped_in item (lookups.parent_of draft.old.forest item) draft.old ≡ Ok draft.new) }
-    ensures err { IfErr result (λ e. TellsStep e (indenting.wrapped_in item (lookups.parent_of draft.old.forest item) draft.old)) }
-    ensures standing { IfErr result (λ e. StillStands e draft.new) }
+    ensures { Does (indenting.wrapped_in item (lookups.parent_of draft.old.forest item) draft.old) draft.new result }
 {
     match draft.links().parent(item) {
         Some(list) => wrap(alloc, draft, item, list),
@@ -50,9 +45,7 @@ fn wrap_in(alloc: Global, draft: &mut Draft, item: Key) -> Result<(), Fault>
 
 /// Moves the items of a further list after those of a list, and removes what holds the further one.
 fn take_from(alloc: Global, draft: &mut Draft, list: Key, further: Key) -> Result<(), Fault>
-    ensures ok { OnOk result (indenting.taken_from list further (lookups.parent_of draft.old.forest further) draft.old ≡ Ok draft.new) }
-    ensures err { IfErr result (λ e. TellsStep e (indenting.taken_from list further (lookups.parent_of draft.old.forest further) draft.old)) }
-    ensures standing { IfErr result (λ e. StillStands e draft.new) }
+    ensures { Does (indenting.taken_from list further (lookups.parent_of draft.old.forest further) draft.old) draft.new result }
 {
     match draft.links().parent(further) {
         Some(holder) => {
@@ -72,9 +65,7 @@ fn move_between(
     further: Key,
     item: Key,
 ) -> Result<(), Fault>
-    ensures ok { OnOk result (indenting.moved_between list further item draft.old ≡ Ok draft.new) }
-    ensures err { IfErr result (λ e. TellsStep e (indenting.moved_between list further item draft.old)) }
-    ensures standing { IfErr result (λ e. StillStands e draft.new) }
+    ensures { Does (indenting.moved_between list further item draft.old) draft.new result }
 {
     move_to_end(draft, list, item)?;
     take_from(alloc, draft, list, further)
@@ -83,9 +74,7 @@ fn move_between(
 /// Moves an item to the front of a list.
 #[tactic(auto, unfolding(crate::specs::Indenting::moved_to_front))]
 fn move_to_front(draft: &mut Draft, list: Key, item: Key) -> Result<(), Fault>
-    ensures ok { OnOk result (indenting.moved_to_front list item draft.old ≡ Ok draft.new) }
-    ensures err { IfErr result (λ e. TellsStep e (indenting.moved_to_front list item draft.old)) }
-    ensures standing { IfErr result (λ e. StillStands e draft.new) }
+    ensures { Does (indenting.moved_to_front list item draft.old) draft.new result }
 {
     draft.take(item)?;
     draft.put(item, list, 0)
@@ -100,9 +89,7 @@ fn nest(
     item: Key,
 ) -> Result<(), Fault>
     requires { blocks.is_at kinds.is_item draft.old.forest item ≡ true }
-    ensures ok { OnOk result (indenting.nested_by before behind item draft.old ≡ Ok draft.new) }
-    ensures err { IfErr result (λ e. TellsStep e (indenting.nested_by before behind item draft.old)) }
-    ensures standing { IfErr result (λ e. StillStands e draft.new) }
+    ensures { Does (indenting.nested_by before behind item draft.old) draft.new result }
 {
     match (before, behind) {
         (Some(list), Some(further)) => move_between(alloc, draft, list, further, item),
@@ -115,9 +102,7 @@ fn nest(
 /// Nests an item, and indents any other line by one more.
 #[tactic(auto, unfolding(crate::specs::Indenting::indented))]
 pub(crate) fn indent_line(alloc: Global, draft: &mut Draft, line: Key) -> Result<(), Fault>
-    ensures ok { OnOk result (indenting.indented line draft.old ≡ Ok draft.new) }
-    ensures err { IfErr result (λ e. TellsStep e (indenting.indented line draft.old)) }
-    ensures standing { IfErr result (λ e. StillStands e draft.new) }
+    ensures { Does (indenting.indented line draft.old) draft.new result }
 {
     ready(draft)?;
     let links = draft.links();

@@ -1,11 +1,10 @@
 //! Lines become items of lists.
 
-ghost use Rattle.std.specs.Prelude.{◌≡◌, true, Ok, OnOk, IfErr};
+ghost use Rattle.std.specs.Prelude.{◌≡◌, true};
 ghost use Rattle.std.specs.List.{list_all};
 ghost use Rattle.lx_node.specs.Kinds as kinds;
 ghost use Rattle.lx_forest.specs.Lookups as lookups;
-ghost use Rattle.lx_draft.specs.Faults.{TellsStep};
-ghost use Rattle.lx_edit.specs.Standing.{StillStands};
+ghost use Rattle.lx_edit.specs.Standing.{Does};
 ghost use Rattle.lx_blocks.specs.Blocks as blocks;
 ghost use Rattle.lx_list.specs.Listing as listing;
 
@@ -29,9 +28,7 @@ fn make_item(
     line: Key,
     list: Key,
 ) -> Result<(), Fault>
-    ensures ok { OnOk result (listing.item_made list_type line list draft.old ≡ Ok draft.new) }
-    ensures err { IfErr result (λ e. TellsStep e (listing.item_made list_type line list draft.old)) }
-    ensures standing { IfErr result (λ e. StillStands e draft.new) }
+    ensures { Does (listing.item_made list_type line list draft.old) draft.new result }
 {
     let fields = item_fields(alloc, unchecked(list_type));
     let item = draft.new_node(Kind::Item, fields)?;
@@ -44,9 +41,7 @@ fn make_item(
 /// Makes a list before a line, whose only item takes what is in the line.
 #[tactic(auto, unfolding(crate::specs::Listing::list_made), using(crate::proofs::Made::list_suits))]
 fn make_list(alloc: Global, draft: &mut Draft, list_type: ListType, line: Key) -> Result<(), Fault>
-    ensures ok { OnOk result (listing.list_made list_type line draft.old ≡ Ok draft.new) }
-    ensures err { IfErr result (λ e. TellsStep e (listing.list_made list_type line draft.old)) }
-    ensures standing { IfErr result (λ e. StillStands e draft.new) }
+    ensures { Does (listing.list_made list_type line draft.old) draft.new result }
 {
     let fields = list_fields(alloc);
     let list = draft.new_node(Kind::List(list_type), fields)?;
@@ -56,9 +51,7 @@ fn make_list(alloc: Global, draft: &mut Draft, list_type: ListType, line: Key) -
 
 /// Makes a line an item of the list before it, where that is one of the type, and else of a new one.
 fn itemize(alloc: Global, draft: &mut Draft, list_type: ListType, line: Key) -> Result<(), Fault>
-    ensures ok { OnOk result (listing.itemized list_type line (lookups.previous_of draft.old.forest line) draft.old ≡ Ok draft.new) }
-    ensures err { IfErr result (λ e. TellsStep e (listing.itemized list_type line (lookups.previous_of draft.old.forest line) draft.old)) }
-    ensures standing { IfErr result (λ e. StillStands e draft.new) }
+    ensures { Does (listing.itemized list_type line (lookups.previous_of draft.old.forest line) draft.old) draft.new result }
 {
     match draft.links().previous(line) {
         Some(list) => {
@@ -92,9 +85,7 @@ pub(crate) fn list_line(
     list_type: ListType,
     line: Key,
 ) -> Result<(), Fault>
-    ensures ok { OnOk result (listing.listed list_type line draft.old ≡ Ok draft.new) }
-    ensures err { IfErr result (λ e. TellsStep e (listing.listed list_type line draft.old)) }
-    ensures standing { IfErr result (λ e. StillStands e draft.new) }
+    ensures { Does (listing.listed list_type line draft.old) draft.new result }
 {
     ready(draft)?;
     if is_item_at(draft.links(), line) {

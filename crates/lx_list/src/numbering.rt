@@ -1,15 +1,14 @@
 //! Items get their numbers.
 
-ghost use Rattle.std.specs.Prelude.{◌≡◌, ◌+◌, ◌<◌, ◌^◌, ◌++◌, ◌∷◌, [], length, if◌then◌else◌, false, IsTrue, Ok, OnOk, IfOk, IfErr, filter};
+ghost use Rattle.std.specs.Prelude.{◌≡◌, ◌+◌, ◌<◌, ◌^◌, ◌++◌, ◌∷◌, [], length, if◌then◌else◌, false, IsTrue, Ok, OnOk, IfOk, filter};
 ghost use Rattle.lx_node.specs.Kinds as kinds;
 ghost use Rattle.lx_forest.specs.Lookups as lookups;
 ghost use Rattle.lx_forest.specs.Lookups.{IsHeld};
 ghost use Rattle.lx_forest.specs.Suited.{IsSuited};
 ghost use Rattle.lx_links.specs.Stands.{Sound};
 ghost use Rattle.lx_draft.specs.Covering.{IsReady};
-ghost use Rattle.lx_draft.specs.Faults.{TellsStep};
 ghost use Rattle.lx_edit.specs.InTurn.{in_turn};
-ghost use Rattle.lx_edit.specs.Standing.{StillStands};
+ghost use Rattle.lx_edit.specs.Standing.{Does};
 ghost use Rattle.lx_blocks.specs.Blocks as blocks;
 ghost use Rattle.lx_list.specs.Numbering as numbering;
 ghost use Rattle.lx_list.specs.Numbering.{number_step};
@@ -53,19 +52,15 @@ fn start_of(links: &Links, list: Key) -> u32
 }
 
 /// Gives items their numbers, from this one on.
+#[tactic(auto, unfolding(crate::specs::Numbering::numbered_from))]
 fn number_items(alloc: Global, draft: &mut Draft, items: &[Key], first: u32) -> Result<(), Fault>
     requires few { first + length items.now < 2 ^ 32 }
-    ensures ok { OnOk result (numbering.numbered_from first items.now draft.old ≡ Ok draft.new) }
-    ensures err { IfErr result (λ e. TellsStep e (numbering.numbered_from first items.now draft.old)) }
-    ensures standing { IfErr result (λ e. StillStands e draft.new) }
+    ensures { Does (numbering.numbered_from first items.now draft.old) draft.new result }
 {
     let mut number = first;
     for item in items {
         let nests = is_nesting(draft.links(), *item);
-        match number_item(alloc, draft, *item, number) {
-            Ok(()) => {}
-            Err(fault) => return Err(fault),
-        }
+        number_item(alloc, draft, *item, number)?;
         number = following(number, nests);
     }
     Ok(())
@@ -99,9 +94,7 @@ fn lists_of(alloc: Global, links: &Links) -> Result<Vec<Key>, NoMemory>
 
 /// Gives the items of a list their numbers.
 fn number_list(alloc: Global, draft: &mut Draft, list: Key) -> Result<(), Fault>
-    ensures ok { OnOk result (numbering.list_numbered list draft.old ≡ Ok draft.new) }
-    ensures err { IfErr result (λ e. TellsStep e (numbering.list_numbered list draft.old)) }
-    ensures standing { IfErr result (λ e. StillStands e draft.new) }
+    ensures { Does (numbering.list_numbered list draft.old) draft.new result }
 {
     let first = start_of(draft.links(), list);
     let items = children_of(alloc, draft.links(), list)?;
@@ -109,17 +102,12 @@ fn number_list(alloc: Global, draft: &mut Draft, list: Key) -> Result<(), Fault>
 }
 
 /// Gives the items of lists their numbers.
-#[tactic(auto, using(lx_edit::proofs::Turns::turns_done))]
+#[tactic(auto, unfolding(lx_edit::specs::InTurn::in_turn))]
 fn number_lists(alloc: Global, draft: &mut Draft, lists: &[Key]) -> Result<(), Fault>
-    ensures ok { OnOk result (in_turn numbering.list_numbered lists.now draft.old ≡ Ok draft.new) }
-    ensures err { IfErr result (λ e. TellsStep e (in_turn numbering.list_numbered lists.now draft.old)) }
-    ensures standing { IfErr result (λ e. StillStands e draft.new) }
+    ensures { Does (in_turn numbering.list_numbered lists.now draft.old) draft.new result }
 {
     for list in lists {
-        match number_list(alloc, draft, *list) {
-            Ok(()) => {}
-            Err(fault) => return Err(fault),
-        }
+        number_list(alloc, draft, *list)?;
     }
     Ok(())
 }
@@ -154,10 +142,8 @@ fn number_standing(draft: &mut Draft) -> bool
 #[tactic(auto, unfolding(crate::specs::Numbering::number_step), using(crate::proofs::Renumbered::renumbered, crate::proofs::Itemless::number_itemless))]
 pub fn number(alloc: Global, draft: &mut Draft) -> Result<(), Fault>
     requires since { BeganNumbered draft.old }
-    ensures ok { OnOk result (number_step draft.old ≡ Ok draft.new) }
+    ensures does { Does (number_step draft.old) draft.new result }
     ensures numbered { OnOk result (IsRenumbered draft.old.forest draft.new.forest) }
-    ensures err { IfErr result (λ e. TellsStep e (number_step draft.old)) }
-    ensures standing { IfErr result (λ e. StillStands e draft.new) }
 {
     ready(draft)?;
     if draft.links().items() == 0 {

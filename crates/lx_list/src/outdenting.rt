@@ -1,11 +1,10 @@
 //! Lines go one level up.
 
-ghost use Rattle.std.specs.Prelude.{◌≡◌, ◌&&◌, true, Ok, OnOk, IfErr};
+ghost use Rattle.std.specs.Prelude.{◌≡◌, ◌&&◌, true};
 ghost use Rattle.lx_node.specs.Kinds as kinds;
 ghost use Rattle.lx_trees.specs.Siblings.{is_named};
 ghost use Rattle.lx_forest.specs.Lookups as lookups;
-ghost use Rattle.lx_draft.specs.Faults.{TellsStep};
-ghost use Rattle.lx_edit.specs.Standing.{StillStands};
+ghost use Rattle.lx_edit.specs.Standing.{Does};
 ghost use Rattle.lx_blocks.specs.Blocks as blocks;
 ghost use Rattle.lx_list.specs.Outdenting as outdenting;
 
@@ -30,9 +29,7 @@ fn part_with(
     list: Key,
 ) -> Result<(), Fault>
     requires { blocks.is_at kinds.is_list draft.old.forest list ≡ true }
-    ensures ok { OnOk result (outdenting.parted_like item behind.now outer (lookups.label_of draft.old.forest list) draft.old ≡ Ok draft.new) }
-    ensures err { IfErr result (λ e. TellsStep e (outdenting.parted_like item behind.now outer (lookups.label_of draft.old.forest list) draft.old)) }
-    ensures standing { IfErr result (λ e. StillStands e draft.new) }
+    ensures { Does (outdenting.parted_like item behind.now outer (lookups.label_of draft.old.forest list) draft.old) draft.new result }
 {
     let (kind, fields) = like(alloc, draft.links(), list)?;
     let new = draft.new_node(Kind::Item, item_fields(alloc, None))?;
@@ -47,9 +44,7 @@ fn part_with(
 #[tactic(auto, unfolding(crate::specs::Outdenting::parted))]
 fn part(alloc: Global, draft: &mut Draft, item: Key, list: Key, outer: Key) -> Result<(), Fault>
     requires { blocks.is_at kinds.is_list draft.old.forest list ≡ true }
-    ensures ok { OnOk result (outdenting.parted item list outer draft.old ≡ Ok draft.new) }
-    ensures err { IfErr result (λ e. TellsStep e (outdenting.parted item list outer draft.old)) }
-    ensures standing { IfErr result (λ e. StillStands e draft.new) }
+    ensures { Does (outdenting.parted item list outer draft.old) draft.new result }
 {
     let behind = items_behind(alloc, draft.links(), list, item)?;
     part_with(alloc, draft, item, &behind, outer, list)
@@ -69,9 +64,7 @@ fn is_first(links: &Links, parent: Key, key: Key) -> bool
 #[tactic(auto, unfolding(crate::specs::Outdenting::moved_out))]
 fn move_out(alloc: Global, draft: &mut Draft, item: Key, list: Key, outer: Key) -> Result<(), Fault>
     requires { blocks.is_at kinds.is_list draft.old.forest list ≡ true }
-    ensures ok { OnOk result (outdenting.moved_out item list outer draft.old ≡ Ok draft.new) }
-    ensures err { IfErr result (λ e. TellsStep e (outdenting.moved_out item list outer draft.old)) }
-    ensures standing { IfErr result (λ e. StillStands e draft.new) }
+    ensures { Does (outdenting.moved_out item list outer draft.old) draft.new result }
 {
     let links = draft.links();
     if is_first(links, list, item) && is_first(links, outer, list) {
@@ -85,9 +78,7 @@ fn move_out(alloc: Global, draft: &mut Draft, item: Key, list: Key, outer: Key) 
 
 /// Removes a list in which nothing is left.
 fn remove_if_empty(draft: &mut Draft, list: Key) -> Result<(), Fault>
-    ensures ok { OnOk result (outdenting.gone_if_empty list draft.old ≡ Ok draft.new) }
-    ensures err { IfErr result (λ e. TellsStep e (outdenting.gone_if_empty list draft.old)) }
-    ensures standing { IfErr result (λ e. StillStands e draft.new) }
+    ensures { Does (outdenting.gone_if_empty list draft.old) draft.new result }
 {
     if draft.links().size(list) == 0 {
         remove(draft, list)
@@ -106,9 +97,7 @@ pub(crate) fn take_out_of(
     outer: Key,
 ) -> Result<(), Fault>
     requires { blocks.is_at kinds.is_list draft.old.forest list ≡ true }
-    ensures ok { OnOk result (outdenting.out_of item list outer draft.old ≡ Ok draft.new) }
-    ensures err { IfErr result (λ e. TellsStep e (outdenting.out_of item list outer draft.old)) }
-    ensures standing { IfErr result (λ e. StillStands e draft.new) }
+    ensures { Does (outdenting.out_of item list outer draft.old) draft.new result }
 {
     move_out(alloc, draft, item, list, outer)?;
     remove_if_empty(draft, list)
@@ -117,9 +106,7 @@ pub(crate) fn take_out_of(
 /// The same, where the list is in an item.
 fn take_out_from(alloc: Global, draft: &mut Draft, item: Key, list: Key) -> Result<(), Fault>
     requires { blocks.is_at kinds.is_list draft.old.forest list ≡ true }
-    ensures ok { OnOk result (outdenting.out_from item list (lookups.parent_of draft.old.forest list) draft.old ≡ Ok draft.new) }
-    ensures err { IfErr result (λ e. TellsStep e (outdenting.out_from item list (lookups.parent_of draft.old.forest list) draft.old)) }
-    ensures standing { IfErr result (λ e. StillStands e draft.new) }
+    ensures { Does (outdenting.out_from item list (lookups.parent_of draft.old.forest list) draft.old) draft.new result }
 {
     match draft.links().parent(list) {
         Some(outer) => {
@@ -137,9 +124,7 @@ fn take_out_from(alloc: Global, draft: &mut Draft, item: Key, list: Key) -> Resu
 #[tactic(auto, using(crate::proofs::Above::list_above))]
 fn take_out(alloc: Global, draft: &mut Draft, item: Key) -> Result<(), Fault>
     requires { blocks.is_at kinds.is_item draft.old.forest item ≡ true }
-    ensures ok { OnOk result (outdenting.out_by item (lookups.parent_of draft.old.forest item) draft.old ≡ Ok draft.new) }
-    ensures err { IfErr result (λ e. TellsStep e (outdenting.out_by item (lookups.parent_of draft.old.forest item) draft.old)) }
-    ensures standing { IfErr result (λ e. StillStands e draft.new) }
+    ensures { Does (outdenting.out_by item (lookups.parent_of draft.old.forest item) draft.old) draft.new result }
 {
     match draft.links().parent(item) {
         Some(list) => take_out_from(alloc, draft, item, list),
@@ -150,9 +135,7 @@ fn take_out(alloc: Global, draft: &mut Draft, item: Key) -> Result<(), Fault>
 /// Moves an item out of its list, and indents any other line by one less.
 #[tactic(auto, unfolding(crate::specs::Outdenting::outdented))]
 pub(crate) fn outdent_line(alloc: Global, draft: &mut Draft, line: Key) -> Result<(), Fault>
-    ensures ok { OnOk result (outdenting.outdented line draft.old ≡ Ok draft.new) }
-    ensures err { IfErr result (λ e. TellsStep e (outdenting.outdented line draft.old)) }
-    ensures standing { IfErr result (λ e. StillStands e draft.new) }
+    ensures { Does (outdenting.outdented line draft.old) draft.new result }
 {
     ready(draft)?;
     if is_item_at(draft.links(), line) {

@@ -1,13 +1,12 @@
 //! Lists become lists of another type.
 
-ghost use Rattle.std.specs.Prelude.{◌≡◌, true, Some, Ok, OnOk, IfOk, IfErr};
+ghost use Rattle.std.specs.Prelude.{◌≡◌, true, Some, IfOk};
 ghost use Rattle.lx_node.specs.Kinds as kinds;
 ghost use Rattle.lx_node.specs.OfKind.{IsOfKind};
 ghost use Rattle.lx_node.specs.declared.kind.Kind.TheVariants.{List as ListKind};
 ghost use Rattle.lx_forest.specs.Lookups as lookups;
-ghost use Rattle.lx_draft.specs.Faults.{TellsStep};
 ghost use Rattle.lx_edit.specs.InTurn.{in_turn};
-ghost use Rattle.lx_edit.specs.Standing.{StillStands};
+ghost use Rattle.lx_edit.specs.Standing.{Does};
 ghost use Rattle.lx_blocks.specs.Blocks as blocks;
 ghost use Rattle.lx_list.specs.Listing as listing;
 
@@ -43,9 +42,7 @@ fn has_mark(links: &Links, item: Key) -> bool
 
 /// In a check list, gives an item a check mark where it has none. In another list it loses its own.
 fn remark(alloc: Global, draft: &mut Draft, list_type: ListType, item: Key) -> Result<(), Fault>
-    ensures ok { OnOk result (listing.remarked list_type item draft.old ≡ Ok draft.new) }
-    ensures err { IfErr result (λ e. TellsStep e (listing.remarked list_type item draft.old)) }
-    ensures standing { IfErr result (λ e. StillStands e draft.new) }
+    ensures { Does (listing.remarked list_type item draft.old) draft.new result }
 {
     match list_type {
         ListType::Check => {
@@ -60,22 +57,17 @@ fn remark(alloc: Global, draft: &mut Draft, list_type: ListType, item: Key) -> R
 }
 
 /// The same for items, one after another.
-#[tactic(auto, using(lx_edit::proofs::Turns::turns_done))]
+#[tactic(auto, unfolding(lx_edit::specs::InTurn::in_turn))]
 fn remark_each(
     alloc: Global,
     draft: &mut Draft,
     list_type: ListType,
     items: &[Key],
 ) -> Result<(), Fault>
-    ensures ok { OnOk result (in_turn (listing.remarked list_type) items.now draft.old ≡ Ok draft.new) }
-    ensures err { IfErr result (λ e. TellsStep e (in_turn (listing.remarked list_type) items.now draft.old)) }
-    ensures standing { IfErr result (λ e. StillStands e draft.new) }
+    ensures { Does (in_turn (listing.remarked list_type) items.now draft.old) draft.new result }
 {
     for item in items {
-        match remark(alloc, draft, list_type, *item) {
-            Ok(()) => {}
-            Err(fault) => return Err(fault),
-        }
+        remark(alloc, draft, list_type, *item)?;
     }
     Ok(())
 }
@@ -99,9 +91,7 @@ fn list_fields_at(
 #[tactic(auto, unfolding(crate::specs::Listing::retyped))]
 fn retype(alloc: Global, draft: &mut Draft, list_type: ListType, list: Key) -> Result<(), Fault>
     requires { blocks.is_at kinds.is_list draft.old.forest list ≡ true }
-    ensures ok { OnOk result (listing.retyped list_type list draft.old ≡ Ok draft.new) }
-    ensures err { IfErr result (λ e. TellsStep e (listing.retyped list_type list draft.old)) }
-    ensures standing { IfErr result (λ e. StillStands e draft.new) }
+    ensures { Does (listing.retyped list_type list draft.old) draft.new result }
 {
     let fields = list_fields_at(alloc, draft.links(), list, list_type)?;
     let new = draft.new_node(Kind::List(list_type), fields)?;
@@ -121,9 +111,7 @@ pub(crate) fn retype_above(
     item: Key,
 ) -> Result<(), Fault>
     requires { blocks.is_at kinds.is_item draft.old.forest item ≡ true }
-    ensures ok { OnOk result (listing.retyped_above list_type (lookups.parent_of draft.old.forest item) draft.old ≡ Ok draft.new) }
-    ensures err { IfErr result (λ e. TellsStep e (listing.retyped_above list_type (lookups.parent_of draft.old.forest item) draft.old)) }
-    ensures standing { IfErr result (λ e. StillStands e draft.new) }
+    ensures { Does (listing.retyped_above list_type (lookups.parent_of draft.old.forest item) draft.old) draft.new result }
 {
     match draft.links().parent(item) {
         Some(list) => {

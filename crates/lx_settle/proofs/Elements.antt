@@ -1,12 +1,10 @@
 -- A pass over elements, seen from one element after another.
-use Rattle.std.proofs.Common.{◌≡◌, ◌∙◌, ℕ, Bool, true, false, cond, eqb, ◌&&◌, not, List, [], ◌∷◌, ◌++◌, Result, Ok, Err, IfErr, subst, refl, sym, ap}
+use Rattle.std.proofs.Common.{◌≡◌, ◌∙◌, ℕ, Bool, true, false, cond, eqb, ◌&&◌, not, List, [], ◌∷◌, ◌++◌, Result, Ok, Err, refl, sym, ap}
 use Rattle.std.specs.Prelude.{is_some}
 use Rattle.lx_node.specs.declared.cause.Cause.{Cause}
-use Rattle.lx_node.specs.declared.cause.Fault.{Fault}
-use Rattle.lx_node.specs.declared.cause.Fault.TheVariants as fault
 use Rattle.lx_marks.specs.Marks.{flag_in}
 use Rattle.lx_draft.specs.Working.{Working}
-use Rattle.lx_draft.specs.Faults.{after, TellsStep}
+use Rattle.lx_draft.specs.Faults.{after}
 use Rattle.lx_edit.specs.InTurn.{in_turn}
 use Rattle.lx_rules.specs.Answers.{Answers}
 use Rattle.lx_settle.specs.Acting.{rules_step}
@@ -56,20 +54,9 @@ unfolding root_step
 root_in_turn rules es w = root_by rules (is_some (flag_in es 0)) w
 
 -- each element in its order, and then the root
-element_turns : (rules : List Answers) (es : List (ℕ × Bool)) (w : Working) → element_pass rules es w ≡ after (in_turn (element_step rules) es w) (root_step rules es)
+pub element_turns : (rules : List Answers) (es : List (ℕ × Bool)) (w : Working) → element_pass rules es w ≡ after (in_turn (element_step rules) es w) (root_step rules es)
 unfolding element_pass
 element_turns rules es w =
     in_both (rules_step rules) (flagged_first es) (cond (is_some (flag_in es 0)) (0 ∷ []) []) w
     ∙ ap (λ r. after r (in_turn (rules_step rules) (cond (is_some (flag_in es 0)) (0 ∷ []) []))) (sym (flagged_in_turn rules es w))
     ∙ after_same (in_turn (element_step rules) es w) (in_turn (rules_step rules) (cond (is_some (flag_in es 0)) (0 ∷ []) [])) (root_step rules es) (root_in_turn rules es)
-
-pub elements_done : (rules : List Answers) (es : List (ℕ × Bool)) (w u : Working) (r : Result Working Cause) → in_turn (element_step rules) es w ≡ Ok u → root_step rules es u ≡ r → element_pass rules es w ≡ r
-elements_done rules es w u r first last = element_turns rules es w ∙ ap (λ s. after s (root_step rules es)) first ∙ last
-
-pub elements_refused : (rules : List Answers) (es : List (ℕ × Bool)) (w : Working) (e : Fault) → TellsStep e (in_turn (element_step rules) es w) → TellsStep e (element_pass rules es w)
-elements_refused rules es w (fault.Cause cause) told = element_turns rules es w ∙ ap (λ s. after s (root_step rules es)) told
-elements_refused rules es w fault.Memory told = tt
-
-pub root_refused : {T : Type 0} (rules : List Answers) (es : List (ℕ × Bool)) (w u : Working) (r : Result T Fault) → in_turn (element_step rules) es w ≡ Ok u → IfErr r (λ e. TellsStep e (root_step rules es u)) → IfErr r (λ e. TellsStep e (element_pass rules es w))
-root_refused rules es w u r first told =
-    subst (λ s. IfErr r (λ e. TellsStep e s)) (sym (elements_done rules es w u (root_step rules es u) first refl)) told

@@ -2,13 +2,14 @@
 use Rattle.std.proofs.Common.{◌≡◌, ◌∙◌, ℕ, zero, suc, ◌+◌, ◌-◌, ◌<◌, ◌≤◌, Bool, true, false, List, [], ◌∷◌, Result, Ok, Err, refl, sym, ap, arith}
 use Rattle.lx_node.specs.declared.cause.Cause.{Cause}
 use Rattle.lx_node.specs.declared.cause.Fault.{Fault}
-use Rattle.lx_node.specs.declared.cause.Fault.TheVariants as fault
 use Rattle.lx_marks.specs.Marks.{Marked}
 use Rattle.lx_draft.specs.Working.{Working}
-use Rattle.lx_draft.specs.Faults.{after, TellsStep}
+use Rattle.lx_draft.specs.Faults.{after}
 use Rattle.lx_draft.specs.Rounds.{round_of, round_by as next_by, rounded, elements_left}
 use Rattle.lx_draft.specs.declared.rounds.Round.{Round}
 use Rattle.lx_draft.specs.declared.rounds.Round.TheVariants.{Leaves, Elements, Rest}
+use Rattle.lx_edit.specs.Standing.{Refuses}
+use Rattle.lx_edit.proofs.Standing.{refuses_all}
 use Rattle.lx_rules.specs.Answers.{Answers}
 use Rattle.lx_settle.specs.Passes.{leaf_pass, element_pass}
 use Rattle.lx_settle.specs.Settling.{taken, goes_on, round_by, round_step, ended, passed, rounds, most_rounds}
@@ -81,27 +82,27 @@ refused_by rules (Leaves ks) n w cause e = refused (leaf_pass rules ks (taken w)
 refused_by rules (Elements es) n w cause e = refused (element_pass rules es (taken w)) (rounds rules n) cause e
 refused_by rules Rest n w cause e = absurd (cc)
 
-pub round_told : (rules : List Answers) (n : ℕ) (w : Working) (e : Fault) (whole : Result Working Cause) → rounds rules (suc n) w ≡ whole → TellsStep e (round_step rules w) → TellsStep e whole
+pub round_refused : (rules : List Answers) (n : ℕ) (w : Working) (cause : Cause) → round_step rules w ≡ Err cause → rounds rules (suc n) w ≡ Err cause
 unfolding rounds round_step
-round_told rules n w (fault.Cause cause) whole is t = sym is ∙ refused_by rules (round_of w.fresh) n w cause t
-round_told rules n w fault.Memory whole is t = tt
+round_refused rules n w cause e = refused_by rules (round_of w.fresh) n w cause e
 
 -- ---- with so many rounds passed
 
 left : (passed : ℕ) → passed < most_rounds → most_rounds - passed ≡ suc (most_rounds - (passed + 1))
 left passed e = omega (arith, e)
 
-pub stops : (rules : List Answers) (passed : ℕ) (w v : Working) (b : Bool) (whole : Result Working Cause) → passed < most_rounds → rounds rules (most_rounds - passed) w ≡ whole → b ≡ true → round_step rules w ≡ Ok (b, v) → whole ≡ Ok v
-stops rules passed w v b whole within is t e =
-    sym is ∙ ap (λ n. rounds rules n w) (left passed within) ∙ round_done rules (most_rounds - (passed + 1)) w v (e ∙ ap (λ x. Ok (x, v)) t)
+pub stops : (rules : List Answers) (passed : ℕ) (w v : Working) (b : Bool) → passed < most_rounds → b ≡ true → round_step rules w ≡ Ok (b, v) → rounds rules (most_rounds - passed) w ≡ Ok v
+stops rules passed w v b within t e = ap (λ n. rounds rules n w) (left passed within) ∙ round_done rules (most_rounds - (passed + 1)) w v (e ∙ ap (λ x. Ok (x, v)) t)
 
 pub goes : (rules : List Answers) (passed : ℕ) (w v : Working) (b : Bool) (whole : Result Working Cause) → passed < most_rounds → rounds rules (most_rounds - passed) w ≡ whole → b ≡ false → round_step rules w ≡ Ok (b, v)
     → rounds rules (most_rounds - (passed + 1)) v ≡ whole
 goes rules passed w v b whole within is f e =
     sym (round_on rules (most_rounds - (passed + 1)) w v (e ∙ ap (λ x. Ok (x, v)) f)) ∙ sym (ap (λ n. rounds rules n w) (left passed within)) ∙ is
 
-pub tells : (rules : List Answers) (passed : ℕ) (w : Working) (e : Fault) (whole : Result Working Cause) → passed < most_rounds → rounds rules (most_rounds - passed) w ≡ whole → TellsStep e (round_step rules w) → TellsStep e whole
-tells rules passed w e whole within is t = round_told rules (most_rounds - (passed + 1)) w e whole (sym (ap (λ n. rounds rules n w) (left passed within)) ∙ is) t
+pub tells : (rules : List Answers) (passed : ℕ) (w : Working) (whole : Result Working Cause) {fault : Fault} {new : Working} → passed < most_rounds → rounds rules (most_rounds - passed) w ≡ whole
+    → Refuses (round_step rules w) fault new → Refuses whole fault new
+tells rules passed w whole within is refused =
+    refuses_all (λ cause told. sym is ∙ ap (λ n. rounds rules n w) (left passed within) ∙ round_refused rules (most_rounds - (passed + 1)) w cause told) refused
 
 pub last : (rules : List Answers) (passed : ℕ) (w : Working) (whole : Result Working Cause) → most_rounds ≤ passed → rounds rules (most_rounds - passed) w ≡ whole → ended (round_of w.fresh) w ≡ whole
 unfolding rounds

@@ -12,7 +12,7 @@ use Rattle.lx_forest.specs.Views.{view_of}
 use Rattle.lx_links.specs.Stands.{Sound}
 use Rattle.lx_draft.specs.Working.{Working, IsWorking}
 use Rattle.lx_draft.specs.Covering.{IsReady}
-use Rattle.lx_draft.specs.Faults.{TellsStep}
+use Rattle.lx_edit.specs.Standing.{Does}
 use Rattle.lx_edit.specs.Texts.{join_around_step}
 use Rattle.lx_settle.specs.Acting.{has_work_at, act_step}
 use Rattle.lx_settle.specs.Exhausted.{IsExhausted}
@@ -30,22 +30,22 @@ not_failed f k here failed = let none : is_attached nil k ≡ true = ap (λ g. i
 ready_by : (k : ℕ) (w : Working) → Sound w.forest → IsWorking w → is_attached w.forest k ≡ true → IsReady w
 ready_by k w sound working here = record { in_order = sound.in_order (not_failed w.forest k here); free = working.free }
 
-told_by : (e : Fault) (r : Result Working Cause) → Exhausts r → TellsStep e r → IsExhausted e
-told_by (fault.Cause cause) r h told = h cause told
-told_by fault.Memory r h told = tt
+-- the error of a call that takes a step which only a limit refuses
+told_by : {T : Type 0} (step : Result Working Cause) (new : Working) (r : Result T Fault) → Exhausts step → Does step new r → IfErr r IsExhausted
+told_by step new (Ok t) h does = tt
+told_by step new (Err (fault.Cause cause)) h refused = h cause refused.told
+told_by step new (Err fault.Memory) h refused = tt
 
 -- ---- errors of one edit, and of the join step
 
-pub act_told : (e : Fault) (edit : SelfEdit) (k : ℕ) (w : Working) → Sound w.forest → IsWorking w → (is_attached w.forest k && has_work_at (view_of w.forest k) edit) ≡ true → TellsStep e (act_step edit k w) → IsExhausted e
-act_told e edit k w sound working busy told =
+pub act_told : {T : Type 0} (edit : SelfEdit) (k : ℕ) (w new : Working) (r : Result T Fault) → Sound w.forest → IsWorking w
+    → (is_attached w.forest k && has_work_at (view_of w.forest k) edit) ≡ true → Does (act_step edit k w) new r → IfErr r IsExhausted
+act_told edit k w new r sound working busy =
     let here : is_attached w.forest k ≡ true = first_of (is_attached w.forest k) (has_work_at (view_of w.forest k) edit) busy in
-    told_by e (act_step edit k w) (act_exhausts edit k w (ready_by k w sound working here) sound.held sound.suited here (second_of (is_attached w.forest k) (has_work_at (view_of w.forest k) edit) busy)) told
+    let work : has_work_at (view_of w.forest k) edit ≡ true = second_of (is_attached w.forest k) (has_work_at (view_of w.forest k) edit) busy in
+    told_by (act_step edit k w) new r (act_exhausts edit k w (ready_by k w sound working here) sound.held sound.suited here work)
 
-pub join_told : (e : Fault) (k : ℕ) (w : Working) → Sound w.forest → IsWorking w → is_attached w.forest k ≡ true → TellsStep e (join_around_step k w) → IsExhausted e
-join_told e k w sound working here told =
-    told_by e (join_around_step k w) (join_around_exhausts k w (ready_by k w sound working here) (there w.forest k here) here) told
-
--- the error of a call
-pub if_told : {T : Type 0} (r : Result T Fault) (P : Fault → Type 0) → ((e : Fault) → P e → IsExhausted e) → IfErr r P → IfErr r IsExhausted
-if_told (Ok t) P h e = e
-if_told (Err fault) P h e = h fault e
+pub join_told : {T : Type 0} (k : ℕ) (w new : Working) (r : Result T Fault) → Sound w.forest → IsWorking w → is_attached w.forest k ≡ true
+    → Does (join_around_step k w) new r → IfErr r IsExhausted
+join_told k w new r sound working here =
+    told_by (join_around_step k w) new r (join_around_exhausts k w (ready_by k w sound working here) (there w.forest k here) here)

@@ -1,12 +1,11 @@
 //! What an edit of a rule does to the node at which the rule was asked.
 
-ghost use Rattle.std.specs.Prelude.{◌≡◌, true, Ok, OnOk, IfOk, IfErr};
+ghost use Rattle.std.specs.Prelude.{◌≡◌, true, IfOk};
 ghost use Rattle.lx_step.specs.declared.rule.SelfEdit.TheVariants as edits;
 ghost use Rattle.lx_forest.specs.Lookups as lookups;
 ghost use Rattle.lx_forest.specs.Views.{view_of};
-ghost use Rattle.lx_draft.specs.Faults.{TellsStep};
 ghost use Rattle.lx_draft.specs.Steps.{new_step};
-ghost use Rattle.lx_edit.specs.Standing.{StillStands};
+ghost use Rattle.lx_edit.specs.Standing.{Does};
 ghost use Rattle.lx_settle.specs.Acting as acting;
 ghost use Rattle.lx_settle.specs.Acting.{act_step, CanBeMade};
 
@@ -20,9 +19,7 @@ use std::alloc::Global;
 /// it is made of. What has no work isn't asked for: its new node need not be one that can be made.
 pub(crate) fn act(alloc: Global, draft: &mut Draft, edit: &SelfEdit, key: Key) -> Result<(), Fault>
     requires { acting.has_work_at (view_of draft.old.forest key) edit.now ≡ true }
-    ensures ok { OnOk result (act_step edit.now key draft.old ≡ Ok draft.new) }
-    ensures err { IfErr result (λ e. TellsStep e (act_step edit.now key draft.old)) }
-    ensures standing { IfErr result (λ e. StillStands e draft.new) }
+    ensures { Does (act_step edit.now key draft.old) draft.new result }
 {
     match edit {
         SelfEdit::Set(patch) => write_patch(alloc, draft, patch, key),
@@ -41,9 +38,7 @@ pub(crate) fn act(alloc: Global, draft: &mut Draft, edit: &SelfEdit, key: Key) -
 /// Writes members of the node's fields, where all of them can be set on it.
 #[tactic(auto, unfolding(crate::specs::Acting::act_step))]
 fn write_patch(alloc: Global, draft: &mut Draft, patch: &Patch, key: Key) -> Result<(), Fault>
-    ensures ok { OnOk result (act_step (edits.Set patch.now) key draft.old ≡ Ok draft.new) }
-    ensures err { IfErr result (λ e. TellsStep e (act_step (edits.Set patch.now) key draft.old)) }
-    ensures standing { IfErr result (λ e. StillStands e draft.new) }
+    ensures { Does (act_step (edits.Set patch.now) key draft.old) draft.new result }
 {
     match patched(alloc, draft, patch, key)? {
         Some(fields) => draft.set(key, fields),
@@ -73,9 +68,7 @@ fn patched(
 /// Puts a text after that of the node.
 #[tactic(auto, unfolding(crate::specs::Acting::act_step))]
 fn add_text(draft: &mut Draft, text: &Txt, key: Key) -> Result<(), Fault>
-    ensures ok { OnOk result (act_step (edits.Add text.now) key draft.old ≡ Ok draft.new) }
-    ensures err { IfErr result (λ e. TellsStep e (act_step (edits.Add text.now) key draft.old)) }
-    ensures standing { IfErr result (λ e. StillStands e draft.new) }
+    ensures { Does (act_step (edits.Add text.now) key draft.old) draft.new result }
 {
     let end = length_at(draft, key);
     draft.splice(key, end, end, text.as_str())
@@ -83,18 +76,14 @@ fn add_text(draft: &mut Draft, text: &Txt, key: Key) -> Result<(), Fault>
 
 #[tactic(auto, unfolding(crate::specs::Acting::act_step))]
 fn remove_node(draft: &mut Draft, key: Key) -> Result<(), Fault>
-    ensures ok { OnOk result (act_step edits.Remove key draft.old ≡ Ok draft.new) }
-    ensures err { IfErr result (λ e. TellsStep e (act_step edits.Remove key draft.old)) }
-    ensures standing { IfErr result (λ e. StillStands e draft.new) }
+    ensures { Does (act_step edits.Remove key draft.old) draft.new result }
 {
     remove(draft, key)
 }
 
 #[tactic(auto, unfolding(crate::specs::Acting::act_step))]
 fn unwrap_node(alloc: Global, draft: &mut Draft, key: Key) -> Result<(), Fault>
-    ensures ok { OnOk result (act_step edits.Unwrap key draft.old ≡ Ok draft.new) }
-    ensures err { IfErr result (λ e. TellsStep e (act_step edits.Unwrap key draft.old)) }
-    ensures standing { IfErr result (λ e. StillStands e draft.new) }
+    ensures { Does (act_step edits.Unwrap key draft.old) draft.new result }
 {
     unwrap(alloc, draft, key)
 }
@@ -102,10 +91,8 @@ fn unwrap_node(alloc: Global, draft: &mut Draft, key: Key) -> Result<(), Fault>
 /// Makes a new node that is below nothing yet, and answers its key.
 fn make(alloc: Global, draft: &mut Draft, new: &NewNode) -> Result<Key, Fault>
     requires { CanBeMade new.now }
-    ensures ok { OnOk result (new_step new.now.kind new.now.fields draft.old ≡ Ok draft.new) }
+    ensures does { Does (new_step new.now.kind new.now.fields draft.old) draft.new result }
     ensures key { IfOk result (λ key. key ≡ draft.old.next_key) }
-    ensures err { IfErr result (λ e. TellsStep e (new_step new.now.kind new.now.fields draft.old)) }
-    ensures standing { IfErr result (λ e. StillStands e draft.new) }
 {
     let fields = new.fields.copy(alloc)?;
     draft.new_node(new.kind, fields)
@@ -124,9 +111,7 @@ fn is_element(draft: &Draft, key: Key) -> bool
 #[tactic(auto, unfolding(crate::specs::Acting::act_step))]
 fn replace_by_new(alloc: Global, draft: &mut Draft, new: &NewNode, key: Key) -> Result<(), Fault>
     requires { CanBeMade new.now }
-    ensures ok { OnOk result (act_step (edits.Replace new.now) key draft.old ≡ Ok draft.new) }
-    ensures err { IfErr result (λ e. TellsStep e (act_step (edits.Replace new.now) key draft.old)) }
-    ensures standing { IfErr result (λ e. StillStands e draft.new) }
+    ensures { Does (act_step (edits.Replace new.now) key draft.old) draft.new result }
 {
     let keep = new.kind.is_element() && is_element(draft, key);
     let made = make(alloc, draft, new)?;
@@ -137,9 +122,7 @@ fn replace_by_new(alloc: Global, draft: &mut Draft, new: &NewNode, key: Key) -> 
 #[tactic(auto, unfolding(crate::specs::Acting::act_step))]
 fn wrap_in_new(alloc: Global, draft: &mut Draft, new: &NewNode, key: Key) -> Result<(), Fault>
     requires { CanBeMade new.now }
-    ensures ok { OnOk result (act_step (edits.Wrap new.now) key draft.old ≡ Ok draft.new) }
-    ensures err { IfErr result (λ e. TellsStep e (act_step (edits.Wrap new.now) key draft.old)) }
-    ensures standing { IfErr result (λ e. StillStands e draft.new) }
+    ensures { Does (act_step (edits.Wrap new.now) key draft.old) draft.new result }
 {
     let made = make(alloc, draft, new)?;
     wrap(draft, key, made)
@@ -149,9 +132,7 @@ fn wrap_in_new(alloc: Global, draft: &mut Draft, new: &NewNode, key: Key) -> Res
 #[tactic(auto, unfolding(crate::specs::Acting::act_step))]
 fn put_new_before(alloc: Global, draft: &mut Draft, new: &NewNode, key: Key) -> Result<(), Fault>
     requires { CanBeMade new.now }
-    ensures ok { OnOk result (act_step (edits.Before new.now) key draft.old ≡ Ok draft.new) }
-    ensures err { IfErr result (λ e. TellsStep e (act_step (edits.Before new.now) key draft.old)) }
-    ensures standing { IfErr result (λ e. StillStands e draft.new) }
+    ensures { Does (act_step (edits.Before new.now) key draft.old) draft.new result }
 {
     let made = make(alloc, draft, new)?;
     draft.put_before(made, key)
@@ -161,9 +142,7 @@ fn put_new_before(alloc: Global, draft: &mut Draft, new: &NewNode, key: Key) -> 
 #[tactic(auto, unfolding(crate::specs::Acting::act_step))]
 fn put_new_behind(alloc: Global, draft: &mut Draft, new: &NewNode, key: Key) -> Result<(), Fault>
     requires { CanBeMade new.now }
-    ensures ok { OnOk result (act_step (edits.After new.now) key draft.old ≡ Ok draft.new) }
-    ensures err { IfErr result (λ e. TellsStep e (act_step (edits.After new.now) key draft.old)) }
-    ensures standing { IfErr result (λ e. StillStands e draft.new) }
+    ensures { Does (act_step (edits.After new.now) key draft.old) draft.new result }
 {
     let made = make(alloc, draft, new)?;
     draft.put_behind(made, key)
@@ -173,9 +152,7 @@ fn put_new_behind(alloc: Global, draft: &mut Draft, new: &NewNode, key: Key) -> 
 #[tactic(auto, unfolding(crate::specs::Acting::act_step))]
 fn put_new_child(alloc: Global, draft: &mut Draft, new: &NewNode, key: Key) -> Result<(), Fault>
     requires { CanBeMade new.now }
-    ensures ok { OnOk result (act_step (edits.Child new.now) key draft.old ≡ Ok draft.new) }
-    ensures err { IfErr result (λ e. TellsStep e (act_step (edits.Child new.now) key draft.old)) }
-    ensures standing { IfErr result (λ e. StillStands e draft.new) }
+    ensures { Does (act_step (edits.Child new.now) key draft.old) draft.new result }
 {
     let made = make(alloc, draft, new)?;
     let size = draft.links().size(key);
@@ -185,9 +162,7 @@ fn put_new_child(alloc: Global, draft: &mut Draft, new: &NewNode, key: Key) -> R
 /// Brings the children of the next sibling after those of the node, and removes that sibling.
 #[tactic(auto, unfolding(crate::specs::Acting::act_step))]
 fn merge_next(alloc: Global, draft: &mut Draft, key: Key) -> Result<(), Fault>
-    ensures ok { OnOk result (act_step edits.MergeNext key draft.old ≡ Ok draft.new) }
-    ensures err { IfErr result (λ e. TellsStep e (act_step edits.MergeNext key draft.old)) }
-    ensures standing { IfErr result (λ e. StillStands e draft.new) }
+    ensures { Does (act_step edits.MergeNext key draft.old) draft.new result }
 {
     match draft.links().next(key) {
         Some(next) => {

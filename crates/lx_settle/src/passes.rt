@@ -1,4 +1,4 @@
-ghost use Rattle.std.specs.Prelude.{◌≡◌, Ok, ◌&&◌, OnOk, IfOk, IfErr, is_some};
+ghost use Rattle.std.specs.Prelude.{◌≡◌, ◌&&◌, IfOk, IfErr, is_some};
 ghost use Rattle.lx_marks.specs.Marks.{flag_in};
 ghost use Rattle.lx_forest.specs.Lookups.{is_attached, kind_of};
 ghost use Rattle.lx_forest.specs.Views.{view_of};
@@ -6,8 +6,7 @@ ghost use Rattle.lx_edit.specs.InTurn.{in_turn};
 ghost use Rattle.lx_rules.specs.Idle as idles;
 ghost use Rattle.lx_links.specs.Stands.{Sound};
 ghost use Rattle.lx_draft.specs.Working.{IsWorking};
-ghost use Rattle.lx_draft.specs.Faults.{TellsStep};
-ghost use Rattle.lx_edit.specs.Standing.{StillStands};
+ghost use Rattle.lx_edit.specs.Standing.{Does};
 ghost use Rattle.lx_rules.specs.Answers.{asked};
 ghost use Rattle.lx_settle.specs.Acting as acting;
 ghost use Rattle.lx_settle.specs.Acting.{all_asked};
@@ -47,11 +46,9 @@ fn has_work_seen(view: &View, edit: &SelfEdit) -> bool
 
 /// An edit, passed over where it is idle at its present view, and where the node isn't in the root's
 /// tree any more.
-#[tactic(auto, unfolding(crate::specs::Acting::edit_step))]
+#[tactic(auto, unfolding(crate::specs::Acting::edit_step), using(crate::proofs::Told::act_told))]
 fn run_edit(alloc: Global, draft: &mut Draft, edit: &SelfEdit, key: Key) -> Result<(), Fault>
-    ensures ok { OnOk result (acting.edit_step key edit.now draft.old ≡ Ok draft.new) }
-    ensures err { IfErr result (λ e. TellsStep e (acting.edit_step key edit.now draft.old)) }
-    ensures standing { IfErr result (λ e. StillStands e draft.new) }
+    ensures does { Does (acting.edit_step key edit.now draft.old) draft.new result }
     ensures refused { IfErr result IsExhausted }
 {
     if has_work(alloc, draft, edit, key)? {
@@ -62,18 +59,13 @@ fn run_edit(alloc: Global, draft: &mut Draft, edit: &SelfEdit, key: Key) -> Resu
 }
 
 /// Edits of a node, in turn.
-#[tactic(auto, using(lx_edit::proofs::Turns::turns_done))]
+#[tactic(auto, unfolding(lx_edit::specs::InTurn::in_turn))]
 fn run_edits(alloc: Global, draft: &mut Draft, edits: &[SelfEdit], key: Key) -> Result<(), Fault>
-    ensures ok { OnOk result (in_turn (acting.edit_step key) edits.now draft.old ≡ Ok draft.new) }
-    ensures err { IfErr result (λ e. TellsStep e (in_turn (acting.edit_step key) edits.now draft.old)) }
-    ensures standing { IfErr result (λ e. StillStands e draft.new) }
+    ensures does { Does (in_turn (acting.edit_step key) edits.now draft.old) draft.new result }
     ensures refused { IfErr result IsExhausted }
 {
     for edit in edits {
-        match run_edit(alloc, draft, edit, key) {
-            Ok(()) => {}
-            Err(fault) => return Err(fault),
-        }
+        run_edit(alloc, draft, edit, key)?;
     }
     Ok(())
 }
@@ -109,9 +101,7 @@ fn is_asked<T: Transform>(draft: &Draft, rule: &T, key: Key) -> bool
 /// A rule at a node.
 #[tactic(auto, unfolding(crate::specs::Acting::rule_step))]
 fn run_rule<T: Transform>(alloc: Global, draft: &mut Draft, rule: &T, key: Key) -> Result<(), Fault>
-    ensures ok { OnOk result (acting.rule_step key (asked (T.rows rule.now) (T.answers rule.now)) draft.old ≡ Ok draft.new) }
-    ensures err { IfErr result (λ e. TellsStep e (acting.rule_step key (asked (T.rows rule.now) (T.answers rule.now)) draft.old)) }
-    ensures standing { IfErr result (λ e. StillStands e draft.new) }
+    ensures does { Does (acting.rule_step key (asked (T.rows rule.now) (T.answers rule.now)) draft.old) draft.new result }
     ensures refused { IfErr result IsExhausted }
 {
     let edits = answered(alloc, draft, rule, key)?;
@@ -119,68 +109,54 @@ fn run_rule<T: Transform>(alloc: Global, draft: &mut Draft, rule: &T, key: Key) 
 }
 
 /// The rules at a node, in their order.
-#[tactic(auto, unfolding(crate::specs::Acting::rules_step), using(lx_edit::proofs::Turns::turns_done))]
+#[tactic(auto, unfolding(crate::specs::Acting::rules_step, lx_edit::specs::InTurn::in_turn))]
 pub(crate) fn run_rules<T: Transform>(
     alloc: Global,
     draft: &mut Draft,
     rules: &[T],
     key: Key,
 ) -> Result<(), Fault>
-    ensures ok { OnOk result (acting.rules_step (all_asked T.rows T.answers rules.now) key draft.old ≡ Ok draft.new) }
-    ensures err { IfErr result (λ e. TellsStep e (acting.rules_step (all_asked T.rows T.answers rules.now) key draft.old)) }
-    ensures standing { IfErr result (λ e. StillStands e draft.new) }
+    ensures does { Does (acting.rules_step (all_asked T.rows T.answers rules.now) key draft.old) draft.new result }
     ensures refused { IfErr result IsExhausted }
 {
     for rule in rules {
-        match run_rule(alloc, draft, rule, key) {
-            Ok(()) => {}
-            Err(fault) => return Err(fault),
-        }
+        run_rule(alloc, draft, rule, key)?;
     }
     Ok(())
 }
 
 /// A leaf in its turn, if it is in the root's tree: it is joined with what is around it, and then the rules.
-#[tactic(auto, unfolding(crate::specs::Passes::leaf_step))]
+#[tactic(auto, unfolding(crate::specs::Passes::leaf_step), using(crate::proofs::Told::join_told))]
 fn take_leaf<T: Transform>(
     alloc: Global,
     draft: &mut Draft,
     rules: &[T],
     key: Key,
 ) -> Result<(), Fault>
-    ensures ok { OnOk result (passes.leaf_step (all_asked T.rows T.answers rules.now) key draft.old ≡ Ok draft.new) }
-    ensures err { IfErr result (λ e. TellsStep e (passes.leaf_step (all_asked T.rows T.answers rules.now) key draft.old)) }
-    ensures standing { IfErr result (λ e. StillStands e draft.new) }
+    ensures does { Does (passes.leaf_step (all_asked T.rows T.answers rules.now) key draft.old) draft.new result }
     ensures refused { IfErr result IsExhausted }
 {
     if draft.links().is_attached(key) {
-        match join_around(alloc, draft, key) {
-            Ok(()) => run_rules(alloc, draft, rules, key),
-            Err(fault) => Err(fault),
-        }
+        join_around(alloc, draft, key)?;
+        run_rules(alloc, draft, rules, key)
     } else {
         Ok(())
     }
 }
 
 /// Leaves in their order.
-#[tactic(auto, unfolding(crate::specs::Passes::leaf_pass), using(lx_edit::proofs::Turns::turns_done))]
+#[tactic(auto, unfolding(crate::specs::Passes::leaf_pass, lx_edit::specs::InTurn::in_turn))]
 pub(crate) fn leaf_pass<T: Transform>(
     alloc: Global,
     draft: &mut Draft,
     rules: &[T],
     keys: &[Key],
 ) -> Result<(), Fault>
-    ensures ok { OnOk result (passes.leaf_pass (all_asked T.rows T.answers rules.now) keys.now draft.old ≡ Ok draft.new) }
-    ensures err { IfErr result (λ e. TellsStep e (passes.leaf_pass (all_asked T.rows T.answers rules.now) keys.now draft.old)) }
-    ensures standing { IfErr result (λ e. StillStands e draft.new) }
+    ensures does { Does (passes.leaf_pass (all_asked T.rows T.answers rules.now) keys.now draft.old) draft.new result }
     ensures refused { IfErr result IsExhausted }
 {
     for key in keys {
-        match take_leaf(alloc, draft, rules, *key) {
-            Ok(()) => {}
-            Err(fault) => return Err(fault),
-        }
+        take_leaf(alloc, draft, rules, *key)?;
     }
     Ok(())
 }
@@ -193,9 +169,7 @@ fn take_element<T: Transform>(
     rules: &[T],
     element: &(Key, bool),
 ) -> Result<(), Fault>
-    ensures ok { OnOk result (passes.element_step (all_asked T.rows T.answers rules.now) element.now draft.old ≡ Ok draft.new) }
-    ensures err { IfErr result (λ e. TellsStep e (passes.element_step (all_asked T.rows T.answers rules.now) element.now draft.old)) }
-    ensures standing { IfErr result (λ e. StillStands e draft.new) }
+    ensures does { Does (passes.element_step (all_asked T.rows T.answers rules.now) element.now draft.old) draft.new result }
     ensures refused { IfErr result IsExhausted }
 {
     let (node, flag) = *element;
@@ -207,23 +181,18 @@ fn take_element<T: Transform>(
 }
 
 /// Elements in their order, without the root.
-#[tactic(auto, using(lx_edit::proofs::Turns::turns_done))]
+#[tactic(auto, unfolding(lx_edit::specs::InTurn::in_turn))]
 fn take_elements<T: Transform>(
     alloc: Global,
     draft: &mut Draft,
     rules: &[T],
     elements: &[(Key, bool)],
 ) -> Result<(), Fault>
-    ensures ok { OnOk result (in_turn (passes.element_step (all_asked T.rows T.answers rules.now)) elements.now draft.old ≡ Ok draft.new) }
-    ensures err { IfErr result (λ e. TellsStep e (in_turn (passes.element_step (all_asked T.rows T.answers rules.now)) elements.now draft.old)) }
-    ensures standing { IfErr result (λ e. StillStands e draft.new) }
+    ensures does { Does (in_turn (passes.element_step (all_asked T.rows T.answers rules.now)) elements.now draft.old) draft.new result }
     ensures refused { IfErr result IsExhausted }
 {
     for element in elements {
-        match take_element(alloc, draft, rules, element) {
-            Ok(()) => {}
-            Err(fault) => return Err(fault),
-        }
+        take_element(alloc, draft, rules, element)?;
     }
     Ok(())
 }
@@ -248,9 +217,7 @@ fn take_root<T: Transform>(
     rules: &[T],
     elements: &[(Key, bool)],
 ) -> Result<(), Fault>
-    ensures ok { OnOk result (passes.root_step (all_asked T.rows T.answers rules.now) elements.now draft.old ≡ Ok draft.new) }
-    ensures err { IfErr result (λ e. TellsStep e (passes.root_step (all_asked T.rows T.answers rules.now) elements.now draft.old)) }
-    ensures standing { IfErr result (λ e. StillStands e draft.new) }
+    ensures does { Does (passes.root_step (all_asked T.rows T.answers rules.now) elements.now draft.old) draft.new result }
     ensures refused { IfErr result IsExhausted }
 {
     if has_root(elements) {
@@ -261,16 +228,14 @@ fn take_root<T: Transform>(
 }
 
 /// The rules on elements whose flag is true, in their order, and on the root last if it is there at all.
-#[tactic(auto, using(crate::proofs::Elements::elements_done, crate::proofs::Elements::elements_refused))]
+#[tactic(auto, using(crate::proofs::Elements::element_turns))]
 pub(crate) fn element_pass<T: Transform>(
     alloc: Global,
     draft: &mut Draft,
     rules: &[T],
     elements: &[(Key, bool)],
 ) -> Result<(), Fault>
-    ensures ok { OnOk result (passes.element_pass (all_asked T.rows T.answers rules.now) elements.now draft.old ≡ Ok draft.new) }
-    ensures err { IfErr result (λ e. TellsStep e (passes.element_pass (all_asked T.rows T.answers rules.now) elements.now draft.old)) }
-    ensures standing { IfErr result (λ e. StillStands e draft.new) }
+    ensures does { Does (passes.element_pass (all_asked T.rows T.answers rules.now) elements.now draft.old) draft.new result }
     ensures refused { IfErr result IsExhausted }
 {
     take_elements(alloc, draft, rules, elements)?;

@@ -1,7 +1,6 @@
-ghost use Rattle.std.specs.Prelude.{◌≡◌, ◌+◌, ◌-◌, ◌≤◌, Ok, OnOk, IfOk, IfErr};
-ghost use Rattle.lx_draft.specs.Faults.{TellsStep};
+ghost use Rattle.std.specs.Prelude.{◌+◌, ◌-◌, ◌≤◌, IfErr};
 ghost use Rattle.lx_draft.specs.Rounds.{round_of};
-ghost use Rattle.lx_edit.specs.Standing.{StillStands};
+ghost use Rattle.lx_edit.specs.Standing.{Does, Gives};
 ghost use Rattle.lx_settle.specs.Acting.{all_asked};
 ghost use Rattle.lx_settle.specs.Exhausted.{IsExhausted};
 ghost use Rattle.lx_settle.specs.Settling as settling;
@@ -15,9 +14,7 @@ use std::alloc::Global;
 /// A round, or the end of settling: true where nothing was left to handle.
 #[tactic(auto, unfolding(crate::specs::Settling::round_step))]
 fn round<T: Transform>(alloc: Global, draft: &mut Draft, rules: &[T]) -> Result<bool, Fault>
-    ensures ok { IfOk result (λ rests. settling.round_step (all_asked T.rows T.answers rules.now) draft.old ≡ Ok (rests, draft.new)) }
-    ensures err { IfErr result (λ e. TellsStep e (settling.round_step (all_asked T.rows T.answers rules.now) draft.old)) }
-    ensures standing { IfErr result (λ e. StillStands e draft.new) }
+    ensures gives { Gives (settling.round_step (all_asked T.rows T.answers rules.now) draft.old) (λ rests. (rests, draft.new)) draft.new result }
     ensures refused { IfErr result IsExhausted }
 {
     match draft.take_round() {
@@ -40,18 +37,14 @@ fn round<T: Transform>(alloc: Global, draft: &mut Draft, rules: &[T]) -> Result<
 /// over. It is refused as `NoRest` exactly where a 101st round would begin; where 100,000 counts were taken;
 /// where the edits would bring what was written above 16,777,216 scalar values; and for nothing else. A draft
 /// on which it was refused is only fit to be dropped.
-#[tactic(auto, unfolding(crate::specs::Settling::settle_step))]
+#[tactic(auto, unfolding(crate::specs::Settling::settle_step), using(crate::proofs::Rounds::stops, crate::proofs::Rounds::goes, crate::proofs::Rounds::tells, crate::proofs::Rounds::last))]
 pub fn settle<T: Transform>(alloc: Global, draft: &mut Draft, rules: &[T]) -> Result<(), Fault>
-    ensures ok { OnOk result (settling.settle_step (all_asked T.rows T.answers rules.now) draft.old ≡ Ok draft.new) }
-    ensures err { IfErr result (λ e. TellsStep e (settling.settle_step (all_asked T.rows T.answers rules.now) draft.old)) }
-    ensures standing { IfErr result (λ e. StillStands e draft.new) }
+    ensures does { Does (settling.settle_step (all_asked T.rows T.answers rules.now) draft.old) draft.new result }
     ensures refused { IfErr result IsExhausted }
 {
     for passed in 0..100u32 {
-        match round(alloc, draft, rules) {
-            Ok(true) => return Ok(()),
-            Ok(false) => {}
-            Err(fault) => return Err(fault),
+        if round(alloc, draft, rules)? {
+            return Ok(());
         }
     }
     end(draft)
@@ -60,9 +53,7 @@ pub fn settle<T: Transform>(alloc: Global, draft: &mut Draft, rules: &[T]) -> Re
 /// Settling ends where nothing is left to handle; otherwise a round more would begin than there may be.
 #[tactic(auto, using(crate::proofs::Rounds::rest_taken, crate::proofs::Rounds::ended_rest))]
 fn end(draft: &mut Draft) -> Result<(), Fault>
-    ensures ok { OnOk result (settling.ended (round_of draft.old.fresh) draft.old ≡ Ok draft.new) }
-    ensures err { IfErr result (λ e. TellsStep e (settling.ended (round_of draft.old.fresh) draft.old)) }
-    ensures standing { IfErr result (λ e. StillStands e draft.new) }
+    ensures does { Does (settling.ended (round_of draft.old.fresh) draft.old) draft.new result }
     ensures refused { IfErr result IsExhausted }
 {
     match draft.take_round() {

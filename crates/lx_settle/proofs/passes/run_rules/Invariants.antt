@@ -6,5 +6,5 @@ use Rattle.lx_settle.proofs.passes.run_rules.Given as goal
 -- those that are left, after those that were asked, come to what all come to
 abbrev pub invariant-loop-rule : goal.invariant-loop-rule
 invariant-loop-rule g l =
-    let rules = all_asked g.T.Transform.rows g.T.Transform.answers l.fn.rules in
-    in_turn (rule_step l.key) (drop l.rule-index rules) l.draft ≡ in_turn (rule_step l.key) rules l.fn.draft
+    in_turn (rule_step l.key) (all_asked g.T.Transform.rows g.T.Transform.answers (drop l.rule-index l.rules)) l.draft
+    ≡ in_turn (rule_step l.key) (all_asked g.T.Transform.rows g.T.Transform.answers l.fn.rules) l.fn.draft
