@@ -1,11 +1,10 @@
 //! New nodes like others.
 
-ghost use Rattle.std.specs.Prelude.{◌≡◌, ◌≢◌, Some, true, OnOk, IfOk, IfErr, IfSome, IfNone, None};
+ghost use Rattle.std.specs.Prelude.{◌≡◌, ◌≢◌, Some, true, IfOk, IfSome, IfNone, None};
 ghost use Rattle.lx_node.specs.OfKind.{IsOfKind};
 ghost use Rattle.lx_node.specs.declared.kind.Kind.TheVariants.{Root};
 ghost use Rattle.lx_forest.specs.Lookups as lookups;
-ghost use Rattle.lx_draft.specs.Faults.{TellsStep};
-ghost use Rattle.lx_edit.specs.Standing.{StillStands};
+ghost use Rattle.lx_edit.specs.Standing.{Does};
 ghost use Rattle.lx_blocks.specs.Making as making;
 
 use lx_draft::Draft;
@@ -27,10 +26,8 @@ pub fn node_at(links: &Links, key: Key) -> Option<&Node>
 pub fn make_like(alloc: Global, draft: &mut Draft, key: Key) -> Result<Key, Fault>
     requires there { lookups.has key draft.old.forest ≡ true }
     requires other { lookups.kind_of draft.old.forest key ≢ Some Root }
-    ensures ok { OnOk result (making.new_like (lookups.label_of draft.old.forest key) draft.old ≡ Ok draft.new) }
+    ensures does { Does (making.new_like (lookups.label_of draft.old.forest key) draft.old) draft.new result }
     ensures key { IfOk result (λ new. new ≡ draft.old.next_key) }
-    ensures err { IfErr result (λ e. TellsStep e (making.new_like (lookups.label_of draft.old.forest key) draft.old)) }
-    ensures standing { IfErr result (λ e. StillStands e draft.new) }
 {
     match node_at(draft.links(), key) {
         Some(node) => {

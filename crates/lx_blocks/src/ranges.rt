@@ -1,13 +1,12 @@
 //! The range that a command needs, and the caret.
 
-ghost use Rattle.std.specs.Prelude.{◌≡◌, true, Ok, is_some, IfOk, IfErr};
+ghost use Rattle.std.specs.Prelude.{◌≡◌, true, is_some, IfOk};
 ghost use Rattle.std.specs.Option.{option_copied};
 ghost use Rattle.lx_node.specs.OfKind as of_kind;
 ghost use Rattle.lx_node.specs.declared.cause.Cause.TheVariants.{NoSelection};
 ghost use Rattle.lx_node.specs.declared.cause.Fault.TheVariants as fault;
 ghost use Rattle.lx_forest.specs.Lookups as lookups;
-ghost use Rattle.lx_draft.specs.Faults.{TellsStep};
-ghost use Rattle.lx_edit.specs.Standing.{StillStands};
+ghost use Rattle.lx_edit.specs.Standing.{Gives};
 ghost use Rattle.lx_blocks.specs.Ranges as ranges;
 
 use crate::blocks::{frame, same_node};
@@ -52,11 +51,9 @@ pub fn no_range(kind: SelectionKind) -> Fault
 /// where a point of it doesn't lie in the root's tree, and where one lies in another cell than the other.
 #[tactic(auto, unfolding(crate::specs::Ranges::range_of))]
 pub fn range_of(draft: &Draft) -> Result<Ranged, Fault>
-    ensures ok { IfOk result (λ range. ranges.range_of draft.now ≡ Ok range) }
+    ensures gives { Gives (ranges.range_of draft.now) (λ range. range) draft.now result }
     ensures anchor { IfOk result (λ range. lookups.is_attached draft.now.forest range.anchor.key ≡ true) }
     ensures focus { IfOk result (λ range. lookups.is_attached draft.now.forest range.focus.key ≡ true) }
-    ensures err { IfErr result (λ e. TellsStep e (ranges.range_of draft.now)) }
-    ensures standing { IfErr result (λ e. StillStands e draft.now) }
 {
     admitted(draft, None)?;
     match draft.selection() {

@@ -13,7 +13,7 @@ StillStands (fault.Cause cause) w = w.forest ≢ nil
 StillStands fault.Memory w = Unit {0}
 
 -- an error of a call that takes a step: the step is refused for that cause, or memory ran out; and what is left stands
-pub record Refuses (step : Result Working Cause) (fault : Fault) (new : Working) : Type 0 where
+pub record Refuses {A : Type 0} (step : Result A Cause) (fault : Fault) (new : Working) : Type 0 where
   pub told : TellsStep fault step
   pub stands : StillStands fault new
 
@@ -21,3 +21,8 @@ pub record Refuses (step : Result Working Cause) (fault : Fault) (new : Working)
 abbrev pub Does : {T : Type 0} → Result Working Cause → Working → Result T Fault → Type 0
 Does step new (Ok _) = step ≡ Ok new
 Does step new (Err fault) = Refuses step fault new
+
+-- ... and so does one that answers what is among what the step makes, or what it reads
+abbrev pub Gives : {A T : Type 0} → Result A Cause → (T → A) → Working → Result T Fault → Type 0
+Gives step made new (Ok t) = step ≡ Ok (made t)
+Gives step made new (Err fault) = Refuses step fault new
