@@ -85,6 +85,7 @@ fn goes_below(spot: &Spot, row: u32) -> bool
 }
 
 /// The cells that start in a row and go on below.
+#[tactic(auto, using(crate::proofs::Kept::kept_first))]
 fn going_below(alloc: Global, spots: &[Spot], row: u32) -> Result<Vec<Spot>, NoMemory>
     ensures { IfOk result (λ found. found.items ≡ filter (spec.goes_below row) spots.now) }
 {

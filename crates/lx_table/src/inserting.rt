@@ -52,7 +52,7 @@ fn make_cell_at(
 }
 
 /// Fills a new row with so many cells.
-#[tactic(auto, unfolding(lx_edit::specs::InTurn::in_turn), using(crate::proofs::Counting::counted_on, crate::proofs::Counting::counted_out))]
+#[tactic(auto, unfolding(lx_edit::specs::InTurn::in_turn), using(crate::proofs::Counting::counted))]
 fn make_row_cells(
     alloc: Global,
     draft: &mut Draft,
@@ -87,7 +87,7 @@ fn make_row(
 }
 
 /// Makes so many rows.
-#[tactic(auto, unfolding(lx_edit::specs::InTurn::in_turn), using(crate::proofs::Counting::counted_on, crate::proofs::Counting::counted_out))]
+#[tactic(auto, unfolding(lx_edit::specs::InTurn::in_turn), using(crate::proofs::Counting::counted))]
 fn make_rows(
     alloc: Global,
     draft: &mut Draft,

@@ -38,6 +38,7 @@ fn is_narrow_at(spot: &Spot, column: u32) -> bool
 }
 
 /// The cells that are in a column and in others too.
+#[tactic(auto, using(crate::proofs::Kept::kept_first))]
 fn wide_at(alloc: Global, spots: &[Spot], column: u32) -> Result<Vec<Spot>, NoMemory>
     ensures { IfOk result (λ found. found.items ≡ filter (spec.is_wide_at column) spots.now) }
 {
@@ -49,6 +50,7 @@ fn wide_at(alloc: Global, spots: &[Spot], column: u32) -> Result<Vec<Spot>, NoMe
 }
 
 /// The cells that are in a column and in no other.
+#[tactic(auto, using(crate::proofs::Kept::kept_first))]
 fn narrow_at(alloc: Global, spots: &[Spot], column: u32) -> Result<Vec<Spot>, NoMemory>
     ensures { IfOk result (λ found. found.items ≡ filter (spec.is_narrow_at column) spots.now) }
 {
