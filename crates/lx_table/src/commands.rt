@@ -1,9 +1,7 @@
 //! The commands of tables. Each but `insert_table` first gives each cell of the table the rows that it covers, by one set
 //! for each cell in preorder, also where that changes nothing.
 
-ghost use Rattle.std.specs.Prelude.{◌≡◌, Ok, OnOk, IfErr};
-ghost use Rattle.lx_draft.specs.Faults.{TellsStep};
-ghost use Rattle.lx_edit.specs.Standing.{StillStands};
+ghost use Rattle.lx_edit.specs.Standing.{Does};
 ghost use Rattle.lx_table.specs.Growing.{insert_row_step, insert_column_step};
 ghost use Rattle.lx_table.specs.Making.{insert_table_step};
 ghost use Rattle.lx_table.specs.Merging.{merge_cells_step, unmerge_step};
@@ -38,9 +36,7 @@ pub fn insert_table(
     columns: u16,
     headers: bool,
 ) -> Result<(), Fault>
-    ensures ok { OnOk result (insert_table_step rows columns headers draft.old ≡ Ok draft.new) }
-    ensures err { IfErr result (λ e. TellsStep e (insert_table_step rows columns headers draft.old)) }
-    ensures standing { IfErr result (λ e. StillStands e draft.new) }
+    ensures { Does (insert_table_step rows columns headers draft.old) draft.new result }
 {
     insert_table_at(alloc, draft, rows, columns, headers)
 }
@@ -56,9 +52,7 @@ pub fn insert_table(
 /// * with `NoSelection` and what the selection is, where there is no caret's cell;
 /// * with `BadPlace` and 1001, where a cell would span more than 1000 rows.
 pub fn insert_row(alloc: Global, draft: &mut Draft, behind: bool) -> Result<(), Fault>
-    ensures ok { OnOk result (insert_row_step behind draft.old ≡ Ok draft.new) }
-    ensures err { IfErr result (λ e. TellsStep e (insert_row_step behind draft.old)) }
-    ensures standing { IfErr result (λ e. StillStands e draft.new) }
+    ensures { Does (insert_row_step behind draft.old) draft.new result }
 {
     insert_row_at(alloc, draft, behind)
 }
@@ -70,9 +64,7 @@ pub fn insert_row(alloc: Global, draft: &mut Draft, behind: bool) -> Result<(), 
 ///
 /// It is refused for the same causes as `insert_row`, with 1001 where a cell would span more than 1000 columns.
 pub fn insert_column(alloc: Global, draft: &mut Draft, behind: bool) -> Result<(), Fault>
-    ensures ok { OnOk result (insert_column_step behind draft.old ≡ Ok draft.new) }
-    ensures err { IfErr result (λ e. TellsStep e (insert_column_step behind draft.old)) }
-    ensures standing { IfErr result (λ e. StillStands e draft.new) }
+    ensures { Does (insert_column_step behind draft.old) draft.new result }
 {
     insert_column_at(alloc, draft, behind)
 }
@@ -84,9 +76,7 @@ pub fn insert_column(alloc: Global, draft: &mut Draft, behind: bool) -> Result<(
 ///
 /// It is refused for the same causes as `insert_row` but `BadPlace`.
 pub fn delete_row(alloc: Global, draft: &mut Draft) -> Result<(), Fault>
-    ensures ok { OnOk result (delete_row_step draft.old ≡ Ok draft.new) }
-    ensures err { IfErr result (λ e. TellsStep e (delete_row_step draft.old)) }
-    ensures standing { IfErr result (λ e. StillStands e draft.new) }
+    ensures { Does (delete_row_step draft.old) draft.new result }
 {
     delete_row_at(alloc, draft)
 }
@@ -97,9 +87,7 @@ pub fn delete_row(alloc: Global, draft: &mut Draft) -> Result<(), Fault>
 ///
 /// It is refused for the same causes as `insert_row` but `BadPlace`.
 pub fn delete_column(alloc: Global, draft: &mut Draft) -> Result<(), Fault>
-    ensures ok { OnOk result (delete_column_step draft.old ≡ Ok draft.new) }
-    ensures err { IfErr result (λ e. TellsStep e (delete_column_step draft.old)) }
-    ensures standing { IfErr result (λ e. StillStands e draft.new) }
+    ensures { Does (delete_column_step draft.old) draft.new result }
 {
     delete_column_at(alloc, draft)
 }
@@ -116,9 +104,7 @@ pub fn delete_column(alloc: Global, draft: &mut Draft) -> Result<(), Fault>
 /// * as the edits are of which it is made, where 100,000 counts were taken, and where what was written would come above
 ///   16,777,216 scalar values.
 pub fn merge_cells(alloc: Global, draft: &mut Draft) -> Result<(), Fault>
-    ensures ok { OnOk result (merge_cells_step draft.old ≡ Ok draft.new) }
-    ensures err { IfErr result (λ e. TellsStep e (merge_cells_step draft.old)) }
-    ensures standing { IfErr result (λ e. StillStands e draft.new) }
+    ensures { Does (merge_cells_step draft.old) draft.new result }
 {
     merge_selected(alloc, draft)
 }
@@ -129,9 +115,7 @@ pub fn merge_cells(alloc: Global, draft: &mut Draft) -> Result<(), Fault>
 ///
 /// It is refused for the same causes as `insert_row` but `BadPlace`.
 pub fn unmerge(alloc: Global, draft: &mut Draft) -> Result<(), Fault>
-    ensures ok { OnOk result (unmerge_step draft.old ≡ Ok draft.new) }
-    ensures err { IfErr result (λ e. TellsStep e (unmerge_step draft.old)) }
-    ensures standing { IfErr result (λ e. StillStands e draft.new) }
+    ensures { Does (unmerge_step draft.old) draft.new result }
 {
     unmerge_at(alloc, draft)
 }

@@ -1,10 +1,9 @@
 //! A row deleted.
 
-ghost use Rattle.std.specs.Prelude.{◌≡◌, ◌≤◌, ◌-◌, ◌+◌, ◌<◌, ◌^◌, [], All, filter, Ok, OnOk, IfOk, IfErr};
+ghost use Rattle.std.specs.Prelude.{◌≡◌, ◌≤◌, ◌-◌, ◌+◌, ◌<◌, ◌^◌, [], All, filter, IfOk};
 ghost use Rattle.std.specs.List.{list_all, slice_get};
-ghost use Rattle.lx_draft.specs.Faults.{TellsStep};
 ghost use Rattle.lx_edit.specs.InTurn.{in_turn};
-ghost use Rattle.lx_edit.specs.Standing.{StillStands};
+ghost use Rattle.lx_edit.specs.Standing.{Does};
 ghost use Rattle.lx_trees.specs.NamedTrees.{total};
 ghost use Rattle.lx_forest.specs.Lookups as lookups;
 ghost use Rattle.lx_links.specs.Stands.{Sound};
@@ -29,9 +28,7 @@ use std::alloc::Global;
 /// Puts a new paragraph in the place of a table, and the caret into it.
 #[tactic(auto, unfolding(crate::specs::Shrinking::table_replaced), using(crate::proofs::Suits::paragraph_suits))]
 pub(crate) fn replace_table(alloc: Global, draft: &mut Draft, table: Key) -> Result<(), Fault>
-    ensures ok { OnOk result (spec.table_replaced table draft.old ≡ Ok draft.new) }
-    ensures err { IfErr result (λ e. TellsStep e (spec.table_replaced table draft.old)) }
-    ensures standing { IfErr result (λ e. StillStands e draft.new) }
+    ensures { Does (spec.table_replaced table draft.old) draft.new result }
 {
     let paragraph = draft.new_node(Kind::Paragraph, Fields::plain_element(alloc))?;
     replace(alloc, draft, table, paragraph, false)?;
@@ -58,9 +55,7 @@ fn are_in_row_alone(spots: &[Spot], row: u32) -> bool
 
 /// Takes a row from a cell.
 fn lower(alloc: Global, draft: &mut Draft, spot: &Spot) -> Result<(), Fault>
-    ensures ok { OnOk result (spec.lower spot.now draft.old ≡ Ok draft.new) }
-    ensures err { IfErr result (λ e. TellsStep e (spec.lower spot.now draft.old)) }
-    ensures standing { IfErr result (λ e. StillStands e draft.new) }
+    ensures { Does (spec.lower spot.now draft.old) draft.new result }
 {
     set_spans(
         alloc,
@@ -72,17 +67,12 @@ fn lower(alloc: Global, draft: &mut Draft, spot: &Spot) -> Result<(), Fault>
 }
 
 /// Takes a row from each cell.
-#[tactic(auto, using(lx_edit::proofs::Turns::turns_done))]
+#[tactic(auto, unfolding(lx_edit::specs::InTurn::in_turn))]
 fn lower_each(alloc: Global, draft: &mut Draft, spots: &[Spot]) -> Result<(), Fault>
-    ensures ok { OnOk result (in_turn spec.lower spots.now draft.old ≡ Ok draft.new) }
-    ensures err { IfErr result (λ e. TellsStep e (in_turn spec.lower spots.now draft.old)) }
-    ensures standing { IfErr result (λ e. StillStands e draft.new) }
+    ensures { Does (in_turn spec.lower spots.now draft.old) draft.new result }
 {
     for spot in spots {
-        match lower(alloc, draft, spot) {
-            Ok(()) => {}
-            Err(fault) => return Err(fault),
-        }
+        lower(alloc, draft, spot)?;
     }
     Ok(())
 }
@@ -95,6 +85,7 @@ fn goes_below(spot: &Spot, row: u32) -> bool
 }
 
 /// The cells that start in a row and go on below.
+#[tactic(auto, using(crate::proofs::Kept::kept_first))]
 fn going_below(alloc: Global, spots: &[Spot], row: u32) -> Result<Vec<Spot>, NoMemory>
     ensures { IfOk result (λ found. found.items ≡ filter (spec.goes_below row) spots.now) }
 {
@@ -115,9 +106,7 @@ fn move_down(
     spot: &Spot,
 ) -> Result<(), Fault>
     requires { IsSmall spot.now }
-    ensures ok { OnOk result (spec.moved_down spots.now next spot.now draft.old ≡ Ok draft.new) }
-    ensures err { IfErr result (λ e. TellsStep e (spec.moved_down spots.now next spot.now draft.old)) }
-    ensures standing { IfErr result (λ e. StillStands e draft.new) }
+    ensures { Does (spec.moved_down spots.now next spot.now draft.old) draft.new result }
 {
     lower(alloc, draft, spot)?;
     draft.take(spot.cell)?;
@@ -126,7 +115,7 @@ fn move_down(
 }
 
 /// Moves cells into the next row.
-#[tactic(auto, using(lx_edit::proofs::Turns::turns_done))]
+#[tactic(auto, unfolding(lx_edit::specs::InTurn::in_turn))]
 fn move_each_down(
     alloc: Global,
     draft: &mut Draft,
@@ -135,15 +124,10 @@ fn move_each_down(
     moved: &[Spot],
 ) -> Result<(), Fault>
     requires { All IsSmall moved.now }
-    ensures ok { OnOk result (in_turn (spec.moved_down spots.now next) moved.now draft.old ≡ Ok draft.new) }
-    ensures err { IfErr result (λ e. TellsStep e (in_turn (spec.moved_down spots.now next) moved.now draft.old)) }
-    ensures standing { IfErr result (λ e. StillStands e draft.new) }
+    ensures { Does (in_turn (spec.moved_down spots.now next) moved.now draft.old) draft.new result }
 {
     for spot in moved {
-        match move_down(alloc, draft, spots, next, spot) {
-            Ok(()) => {}
-            Err(fault) => return Err(fault),
-        }
+        move_down(alloc, draft, spots, next, spot)?;
     }
     Ok(())
 }
@@ -157,9 +141,7 @@ fn move_all_down(
     next: Option<Key>,
 ) -> Result<(), Fault>
     requires { All IsSmall spots.now }
-    ensures ok { OnOk result (spec.all_moved_down spots.now row next draft.old ≡ Ok draft.new) }
-    ensures err { IfErr result (λ e. TellsStep e (spec.all_moved_down spots.now row next draft.old)) }
-    ensures standing { IfErr result (λ e. StillStands e draft.new) }
+    ensures { Does (spec.all_moved_down spots.now row next draft.old) draft.new result }
 {
     match next {
         Some(next) => {
@@ -220,9 +202,7 @@ pub(crate) fn first_spot(spots: &[Spot]) -> Option<Spot>
 
 /// Puts the caret into the cell that covers a place, or else into the first cell.
 fn set_caret_near(draft: &mut Draft, left: &[Spot], row: u32, column: u32) -> Result<(), Fault>
-    ensures ok { OnOk result (spec.caret_near left.now row column draft.old ≡ Ok draft.new) }
-    ensures err { IfErr result (λ e. TellsStep e (spec.caret_near left.now row column draft.old)) }
-    ensures standing { IfErr result (λ e. StillStands e draft.new) }
+    ensures { Does (spec.caret_near left.now row column draft.old) draft.new result }
 {
     let spot = spot_at(left, row, column).or(first_spot(left));
     set_caret_at(draft, &spot)
@@ -236,9 +216,7 @@ fn set_caret_without_row(
     row: u32,
     column: u32,
 ) -> Result<(), Fault>
-    ensures ok { OnOk result (spec.caret_without_row (spec.without_at row (lookups.children_of draft.old.forest table)) row column draft.old ≡ Ok draft.new) }
-    ensures err { IfErr result (λ e. TellsStep e (spec.caret_without_row (spec.without_at row (lookups.children_of draft.old.forest table)) row column draft.old)) }
-    ensures standing { IfErr result (λ e. StillStands e draft.new) }
+    ensures { Does (spec.caret_without_row (spec.without_at row (lookups.children_of draft.old.forest table)) row column draft.old) draft.new result }
 {
     let keys = rows_without(alloc, draft.links(), table, row)?;
     let left = spots_without_row(alloc, draft.links(), table, row, &keys)?;
@@ -249,9 +227,7 @@ fn set_caret_without_row(
 
 /// Removes the row at an index, where there is one.
 fn remove_row(draft: &mut Draft, row: Option<Key>) -> Result<(), Fault>
-    ensures ok { OnOk result (spec.row_removed row draft.old ≡ Ok draft.new) }
-    ensures err { IfErr result (λ e. TellsStep e (spec.row_removed row draft.old)) }
-    ensures standing { IfErr result (λ e. StillStands e draft.new) }
+    ensures { Does (spec.row_removed row draft.old) draft.new result }
 {
     match row {
         Some(key) => remove(draft, key),
@@ -271,9 +247,7 @@ fn take_row(
 ) -> Result<(), Fault>
     requires small { All IsSmall spots.now }
     requires within { row + 1 < 2 ^ 32 }
-    ensures ok { OnOk result (spec.row_taken table spots.now row column draft.old ≡ Ok draft.new) }
-    ensures err { IfErr result (λ e. TellsStep e (spec.row_taken table spots.now row column draft.old)) }
-    ensures standing { IfErr result (λ e. StillStands e draft.new) }
+    ensures { Does (spec.row_taken table spots.now row column draft.old) draft.new result }
 {
     let above = crossing(alloc, spots, row)?;
     lower_each(alloc, draft, &above)?;
@@ -287,9 +261,7 @@ fn take_row(
 /// Deletes the row of a cell.
 fn delete_row_of(alloc: Global, draft: &mut Draft, place: &Place) -> Result<(), Fault>
     requires small { places.IsSmallPlace place.now }
-    ensures ok { OnOk result (spec.row_deleted (places.place_seen place.now) draft.old ≡ Ok draft.new) }
-    ensures err { IfErr result (λ e. TellsStep e (spec.row_deleted (places.place_seen place.now) draft.old)) }
-    ensures standing { IfErr result (λ e. StillStands e draft.new) }
+    ensures { Does (spec.row_deleted (places.place_seen place.now) draft.old) draft.new result }
 {
     let spot = &place.spot;
     if are_in_row_alone(&place.spots, spot.row) {
@@ -309,9 +281,7 @@ fn delete_row_of(alloc: Global, draft: &mut Draft, place: &Place) -> Result<(), 
 /// Deletes the row of the caret's cell.
 #[tactic(auto, unfolding(crate::specs::Shrinking::delete_row_step))]
 pub(crate) fn delete_row_at(alloc: Global, draft: &mut Draft) -> Result<(), Fault>
-    ensures ok { OnOk result (spec.delete_row_step draft.old ≡ Ok draft.new) }
-    ensures err { IfErr result (λ e. TellsStep e (spec.delete_row_step draft.old)) }
-    ensures standing { IfErr result (λ e. StillStands e draft.new) }
+    ensures { Does (spec.delete_row_step draft.old) draft.new result }
 {
     let place = place_of(alloc, draft)?;
     set_heights(alloc, draft, &place.spots)?;

@@ -1,9 +1,8 @@
 //! A table inserted.
 
-ghost use Rattle.std.specs.Prelude.{◌≡◌, ◌≤◌, if◌then◌else◌, Ok, OnOk, IfErr};
-ghost use Rattle.lx_draft.specs.Faults.{TellsStep};
+ghost use Rattle.std.specs.Prelude.{◌≡◌, ◌≤◌, if◌then◌else◌};
 ghost use Rattle.lx_edit.specs.InTurn.{in_turn};
-ghost use Rattle.lx_edit.specs.Standing.{StillStands};
+ghost use Rattle.lx_edit.specs.Standing.{Does};
 ghost use Rattle.lx_edit.specs.Texts.{keys_from};
 ghost use Rattle.lx_forest.specs.Lookups as lookups;
 ghost use Rattle.lx_table.specs.Making as spec;
@@ -46,15 +45,14 @@ fn make_cell_at(
     key: Key,
     column: u32,
 ) -> Result<(), Fault>
-    ensures ok { OnOk result (spec.cell_made_at headers row key column draft.old ≡ Ok draft.new) }
-    ensures err { IfErr result (λ e. TellsStep e (spec.cell_made_at headers row key column draft.old)) }
-    ensures standing { IfErr result (λ e. StillStands e draft.new) }
+    ensures { Does (spec.cell_made_at headers row key column draft.old) draft.new result }
 {
     let header = header_in(headers, row, column);
     make_cell(alloc, draft, header, key, column)
 }
 
 /// Fills a new row with so many cells.
+#[tactic(auto, unfolding(lx_edit::specs::InTurn::in_turn), using(crate::proofs::Counting::counted))]
 fn make_row_cells(
     alloc: Global,
     draft: &mut Draft,
@@ -63,15 +61,10 @@ fn make_row_cells(
     key: Key,
     columns: u32,
 ) -> Result<(), Fault>
-    ensures ok { OnOk result (in_turn (spec.cell_made_at headers row key) (keys_from 0 columns) draft.old ≡ Ok draft.new) }
-    ensures err { IfErr result (λ e. TellsStep e (in_turn (spec.cell_made_at headers row key) (keys_from 0 columns) draft.old)) }
-    ensures standing { IfErr result (λ e. StillStands e draft.new) }
+    ensures { Does (in_turn (spec.cell_made_at headers row key) (keys_from 0 columns) draft.old) draft.new result }
 {
     for column in 0..columns {
-        match make_cell_at(alloc, draft, headers, row, key, column) {
-            Ok(()) => {}
-            Err(fault) => return Err(fault),
-        }
+        make_cell_at(alloc, draft, headers, row, key, column)?;
     }
     Ok(())
 }
@@ -86,9 +79,7 @@ fn make_row(
     table: Key,
     row: u32,
 ) -> Result<(), Fault>
-    ensures ok { OnOk result (spec.row_made headers columns table row draft.old ≡ Ok draft.new) }
-    ensures err { IfErr result (λ e. TellsStep e (spec.row_made headers columns table row draft.old)) }
-    ensures standing { IfErr result (λ e. StillStands e draft.new) }
+    ensures { Does (spec.row_made headers columns table row draft.old) draft.new result }
 {
     let key = draft.new_node(Kind::Row, Fields::plain_element(alloc))?;
     make_row_cells(alloc, draft, headers, row, key, columns)?;
@@ -96,6 +87,7 @@ fn make_row(
 }
 
 /// Makes so many rows.
+#[tactic(auto, unfolding(lx_edit::specs::InTurn::in_turn), using(crate::proofs::Counting::counted))]
 fn make_rows(
     alloc: Global,
     draft: &mut Draft,
@@ -104,15 +96,10 @@ fn make_rows(
     table: Key,
     rows: u32,
 ) -> Result<(), Fault>
-    ensures ok { OnOk result (in_turn (spec.row_made headers columns table) (keys_from 0 rows) draft.old ≡ Ok draft.new) }
-    ensures err { IfErr result (λ e. TellsStep e (in_turn (spec.row_made headers columns table) (keys_from 0 rows) draft.old)) }
-    ensures standing { IfErr result (λ e. StillStands e draft.new) }
+    ensures { Does (in_turn (spec.row_made headers columns table) (keys_from 0 rows) draft.old) draft.new result }
 {
     for row in 0..rows {
-        match make_row(alloc, draft, headers, columns, table, row) {
-            Ok(()) => {}
-            Err(fault) => return Err(fault),
-        }
+        make_row(alloc, draft, headers, columns, table, row)?;
     }
     Ok(())
 }
@@ -160,9 +147,7 @@ fn first_cell(links: &Links, table: Key) -> Option<Key>
 
 /// Puts the caret into a cell, where there is one.
 fn set_caret_in_cell(draft: &mut Draft, cell: Option<Key>) -> Result<(), Fault>
-    ensures ok { OnOk result (spec.caret_in_cell cell draft.old ≡ Ok draft.new) }
-    ensures err { IfErr result (λ e. TellsStep e (spec.caret_in_cell cell draft.old)) }
-    ensures standing { IfErr result (λ e. StillStands e draft.new) }
+    ensures { Does (spec.caret_in_cell cell draft.old) draft.new result }
 {
     match cell {
         Some(cell) => set_caret_in(draft, cell),
@@ -180,9 +165,7 @@ fn make_table(
     headers: bool,
     place: Key,
 ) -> Result<(), Fault>
-    ensures ok { OnOk result (spec.table_made rows columns headers place draft.old ≡ Ok draft.new) }
-    ensures err { IfErr result (λ e. TellsStep e (spec.table_made rows columns headers place draft.old)) }
-    ensures standing { IfErr result (λ e. StillStands e draft.new) }
+    ensures { Does (spec.table_made rows columns headers place draft.old) draft.new result }
 {
     let table = draft.new_node(Kind::Table, Fields::plain_element(alloc))?;
     make_rows(alloc, draft, headers, columns, table, rows)?;
@@ -207,9 +190,7 @@ pub(crate) fn insert_table_at(
     columns: u16,
     headers: bool,
 ) -> Result<(), Fault>
-    ensures ok { OnOk result (spec.insert_table_step rows columns headers draft.old ≡ Ok draft.new) }
-    ensures err { IfErr result (λ e. TellsStep e (spec.insert_table_step rows columns headers draft.old)) }
-    ensures standing { IfErr result (λ e. StillStands e draft.new) }
+    ensures { Does (spec.insert_table_step rows columns headers draft.old) draft.new result }
 {
     let focus = focus_of(draft)?;
     match neighbour_of(draft.links(), focus) {

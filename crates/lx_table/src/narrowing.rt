@@ -1,10 +1,9 @@
 //! A column deleted.
 
-ghost use Rattle.std.specs.Prelude.{◌≡◌, ◌≤◌, ◌-◌, ◌+◌, ◌<◌, ◌^◌, filter, map, Ok, OnOk, IfOk, IfErr};
-ghost use Rattle.lx_draft.specs.Faults.{TellsStep};
+ghost use Rattle.std.specs.Prelude.{◌≡◌, ◌≤◌, ◌-◌, ◌+◌, ◌<◌, ◌^◌, filter, map, IfOk};
 ghost use Rattle.lx_edit.specs.InTurn.{in_turn};
 ghost use Rattle.lx_edit.specs.Edits.{remove_step};
-ghost use Rattle.lx_edit.specs.Standing.{StillStands};
+ghost use Rattle.lx_edit.specs.Standing.{Does};
 ghost use Rattle.lx_trees.specs.NamedTrees.{total};
 ghost use Rattle.lx_forest.specs.Lookups as lookups;
 ghost use Rattle.lx_table.specs.Grid as grid;
@@ -39,6 +38,7 @@ fn is_narrow_at(spot: &Spot, column: u32) -> bool
 }
 
 /// The cells that are in a column and in others too.
+#[tactic(auto, using(crate::proofs::Kept::kept_first))]
 fn wide_at(alloc: Global, spots: &[Spot], column: u32) -> Result<Vec<Spot>, NoMemory>
     ensures { IfOk result (λ found. found.items ≡ filter (spec.is_wide_at column) spots.now) }
 {
@@ -50,6 +50,7 @@ fn wide_at(alloc: Global, spots: &[Spot], column: u32) -> Result<Vec<Spot>, NoMe
 }
 
 /// The cells that are in a column and in no other.
+#[tactic(auto, using(crate::proofs::Kept::kept_first))]
 fn narrow_at(alloc: Global, spots: &[Spot], column: u32) -> Result<Vec<Spot>, NoMemory>
     ensures { IfOk result (λ found. found.items ≡ filter (spec.is_narrow_at column) spots.now) }
 {
@@ -77,9 +78,7 @@ fn narrow_cells(alloc: Global, spots: &[Spot], column: u32) -> Result<Vec<Key>, 
 
 /// Takes a column from a cell.
 fn narrow(alloc: Global, draft: &mut Draft, spot: &Spot) -> Result<(), Fault>
-    ensures ok { OnOk result (spec.narrower spot.now draft.old ≡ Ok draft.new) }
-    ensures err { IfErr result (λ e. TellsStep e (spec.narrower spot.now draft.old)) }
-    ensures standing { IfErr result (λ e. StillStands e draft.new) }
+    ensures { Does (spec.narrower spot.now draft.old) draft.new result }
 {
     set_spans(
         alloc,
@@ -91,26 +90,19 @@ fn narrow(alloc: Global, draft: &mut Draft, spot: &Spot) -> Result<(), Fault>
 }
 
 /// Takes a column from each cell.
-#[tactic(auto, using(lx_edit::proofs::Turns::turns_done))]
+#[tactic(auto, unfolding(lx_edit::specs::InTurn::in_turn))]
 fn narrow_each(alloc: Global, draft: &mut Draft, spots: &[Spot]) -> Result<(), Fault>
-    ensures ok { OnOk result (in_turn spec.narrower spots.now draft.old ≡ Ok draft.new) }
-    ensures err { IfErr result (λ e. TellsStep e (in_turn spec.narrower spots.now draft.old)) }
-    ensures standing { IfErr result (λ e. StillStands e draft.new) }
+    ensures { Does (in_turn spec.narrower spots.now draft.old) draft.new result }
 {
     for spot in spots {
-        match narrow(alloc, draft, spot) {
-            Ok(()) => {}
-            Err(fault) => return Err(fault),
-        }
+        narrow(alloc, draft, spot)?;
     }
     Ok(())
 }
 
 /// Puts the caret into the cell that covers a place, or else the one that covers the place before it, or else the first cell.
 fn set_caret_beside(draft: &mut Draft, left: &[Spot], row: u32, column: u32) -> Result<(), Fault>
-    ensures ok { OnOk result (spec.caret_beside left.now row column draft.old ≡ Ok draft.new) }
-    ensures err { IfErr result (λ e. TellsStep e (spec.caret_beside left.now row column draft.old)) }
-    ensures standing { IfErr result (λ e. StillStands e draft.new) }
+    ensures { Does (spec.caret_beside left.now row column draft.old) draft.new result }
 {
     let before = spot_at(left, row, column.saturating_sub(1));
     let near = before.or(first_spot(left));
@@ -134,17 +126,12 @@ fn spots_without(
 }
 
 /// Removes cells, one after another.
-#[tactic(auto, using(lx_edit::proofs::Turns::turns_done))]
+#[tactic(auto, unfolding(lx_edit::specs::InTurn::in_turn))]
 fn remove_each(draft: &mut Draft, cells: &[Key]) -> Result<(), Fault>
-    ensures ok { OnOk result (in_turn remove_step cells.now draft.old ≡ Ok draft.new) }
-    ensures err { IfErr result (λ e. TellsStep e (in_turn remove_step cells.now draft.old)) }
-    ensures standing { IfErr result (λ e. StillStands e draft.new) }
+    ensures { Does (in_turn remove_step cells.now draft.old) draft.new result }
 {
     for cell in cells {
-        match remove(draft, *cell) {
-            Ok(()) => {}
-            Err(fault) => return Err(fault),
-        }
+        remove(draft, *cell)?;
     }
     Ok(())
 }
@@ -159,9 +146,7 @@ fn take_column(
     row: u32,
     column: u32,
 ) -> Result<(), Fault>
-    ensures ok { OnOk result (spec.column_taken table spots.now row column draft.old ≡ Ok draft.new) }
-    ensures err { IfErr result (λ e. TellsStep e (spec.column_taken table spots.now row column draft.old)) }
-    ensures standing { IfErr result (λ e. StillStands e draft.new) }
+    ensures { Does (spec.column_taken table spots.now row column draft.old) draft.new result }
 {
     let wide = wide_at(alloc, spots, column)?;
     narrow_each(alloc, draft, &wide)?;
@@ -174,9 +159,7 @@ fn take_column(
 /// Deletes the column of a cell.
 fn delete_column_of(alloc: Global, draft: &mut Draft, place: &Place) -> Result<(), Fault>
     requires small { places.IsSmallPlace place.now }
-    ensures ok { OnOk result (spec.column_deleted (places.place_seen place.now) draft.old ≡ Ok draft.new) }
-    ensures err { IfErr result (λ e. TellsStep e (spec.column_deleted (places.place_seen place.now) draft.old)) }
-    ensures standing { IfErr result (λ e. StillStands e draft.new) }
+    ensures { Does (spec.column_deleted (places.place_seen place.now) draft.old) draft.new result }
 {
     let spot = &place.spot;
     if end_column(&place.spots) == 1 {
@@ -196,9 +179,7 @@ fn delete_column_of(alloc: Global, draft: &mut Draft, place: &Place) -> Result<(
 /// Deletes the column of the caret's cell.
 #[tactic(auto, unfolding(crate::specs::Shrinking::delete_column_step))]
 pub(crate) fn delete_column_at(alloc: Global, draft: &mut Draft) -> Result<(), Fault>
-    ensures ok { OnOk result (spec.delete_column_step draft.old ≡ Ok draft.new) }
-    ensures err { IfErr result (λ e. TellsStep e (spec.delete_column_step draft.old)) }
-    ensures standing { IfErr result (λ e. StillStands e draft.new) }
+    ensures { Does (spec.delete_column_step draft.old) draft.new result }
 {
     let place = place_of(alloc, draft)?;
     set_heights(alloc, draft, &place.spots)?;

@@ -1,10 +1,9 @@
 //! The cell by which a command goes.
 
-ghost use Rattle.std.specs.Prelude.{◌≡◌, ◌≢◌, ◌≤◌, Ok, Some, OnOk, IfOk, IfErr, IfSome, option_map};
+ghost use Rattle.std.specs.Prelude.{◌≡◌, ◌≢◌, ◌≤◌, Some, OnOk, IfOk, IfSome, option_map};
 ghost use Rattle.lx_trees.specs.Trees.{nil};
 ghost use Rattle.lx_trees.specs.NamedTrees.{total};
-ghost use Rattle.lx_draft.specs.Faults.{TellsStep};
-ghost use Rattle.lx_edit.specs.Standing.{StillStands};
+ghost use Rattle.lx_edit.specs.Standing.{Gives};
 ghost use Rattle.lx_table.specs.Places as spec;
 ghost use Rattle.lx_table.specs.Spots.{most_cells};
 
@@ -37,10 +36,8 @@ pub(crate) fn are_attached(links: &Links, table: Key, anchor: Key, focus: Key) -
 /// is where a point or key of it isn't in the root's tree, and where one point is in another cell than the other.
 #[tactic(auto, unfolding(crate::specs::Places::focus_of))]
 pub(crate) fn focus_of(draft: &Draft) -> Result<Key, Fault>
-    ensures ok { IfOk result (λ key. spec.focus_of draft.now ≡ Ok key) }
+    ensures gives { Gives (spec.focus_of draft.now) (λ key. key) draft.now result }
     ensures living { OnOk result (draft.now.forest ≢ nil) }
-    ensures err { IfErr result (λ e. TellsStep e (spec.focus_of draft.now)) }
-    ensures standing { IfErr result (λ e. StillStands e draft.now) }
 {
     admitted(draft, None)?;
     match draft.selection() {
@@ -101,10 +98,8 @@ fn place_of_cell(alloc: Global, links: &Links, cell: Option<Key>) -> Result<Opti
 /// `NoSelection` and what the selection is.
 #[tactic(auto, unfolding(crate::specs::Places::place_of))]
 pub(crate) fn place_of(alloc: Global, draft: &Draft) -> Result<Place, Fault>
-    ensures ok { IfOk result (λ place. spec.place_of draft.now ≡ Ok (spec.place_seen place)) }
+    ensures gives { Gives (spec.place_of draft.now) spec.place_seen draft.now result }
     ensures small { IfOk result spec.IsSmallPlace }
-    ensures err { IfErr result (λ e. TellsStep e (spec.place_of draft.now)) }
-    ensures standing { IfErr result (λ e. StillStands e draft.now) }
 {
     let focus = focus_of(draft)?;
     let links = draft.links();
