@@ -3,8 +3,8 @@ use Rattle.std.proofs.Common.{◌≡◌, refl, subst, ℕ, List, [], ◌∷◌, 
 use Rattle.std.specs.Option.{option_or}
 use Rattle.std.specs.Str.{bytes_eq}
 use Rattle.std.proofs.lemmas.Option.{cond_some}
-use Rattle.serde_json.specs.Data.{Data, Members, no_members, member}
-use Rattle.serde_json.specs.Find.{as_bool, as_null, as_str}
+use Rattle.serde_json.specs.Data.{Data}
+use Rattle.serde_json.specs.Find.{get, as_bool, as_null, as_str}
 use Rattle.lx_node.specs.declared.kind.Kind.{Kind}
 use Rattle.lx_node.specs.declared.kind.Kind.TheVariants as kind
 use Rattle.lx_node.specs.declared.fields.Extra.{Extra}
@@ -19,10 +19,10 @@ use Rattle.lx_step.specs.Patches.{has, with_member, is_in_range, IsInRange}
 use Rattle.lx_step.proofs.Kept.{keeps_kind_with}
 use Rattle.lx_fields.specs.declared.words.Name.{Name}
 use Rattle.lx_fields.specs.declared.words.Name.TheVariants as name
-use Rattle.lx_fields.specs.Documents.{default_extra, default_fields, extra_with_value, item_with_value, with_given, given_by, name_in, or_bad, fields_with, document_fields, members_in}
+use Rattle.lx_fields.specs.Documents.{default_extra, default_fields, extra_with_value, item_with_value, with_given, takes, given_by, or_bad, fields_with, document_fields}
 use Rattle.lx_fields.specs.Members.{direction_of, settable}
 use Rattle.lx_fields.specs.Values.{word_in, named, string_of, whole_of, number_within, or_null_of}
-use Rattle.lx_fields.specs.Words.{levels, list_types, aligns, modes}
+use Rattle.lx_fields.specs.Words.{names, levels, list_types, aligns, modes}
 
 -- ---- what holds of all that an option can be
 
@@ -160,10 +160,10 @@ given_keeps kind name.Value d old new is of =
     mapped (IsOfKind kind) (λ value. item_with_value value old) (number_within 0 1200000 d) (λ value at. value_keeps kind value old (up_to 1200000 d value at) of) new is
 given_keeps kind known d old new is of = member_keeps kind (settable known d) old new (settable-ranged known d) is of
 
-given_by_keeps : (kind : Kind) (found : Option Name) (d : Data) (old new : Fields) → given_by kind found d old ≡ Some new → IsOfKind kind old → IsOfKind kind new
+given_by_keeps : (kind : Kind) (known : Name) (o : Option Data) (old new : Fields) → given_by kind known o old ≡ Some new → IsOfKind kind old → IsOfKind kind new
 unfolding given_by
-given_by_keeps kind None d old new is of = let same : old ≡ new = cc in subst (IsOfKind kind) same of
-given_by_keeps kind (Some known) d old new is of = null_keeps (is_some (as_null d)) is
+given_by_keeps kind known None old new is of = let same : old ≡ new = cc in subst (IsOfKind kind) same of
+given_by_keeps kind known (Some d) old new is of = null_keeps (is_some (as_null d)) is
   where
     null_keeps : (test : Bool) → (if test then Some old else with_given kind known d old) ≡ Some new → IsOfKind kind new
     null_keeps true is = let same : old ≡ new = cc in subst (IsOfKind kind) same of
@@ -174,11 +174,15 @@ after : (kind : Kind) (text : List ℕ) (go_on : Fields → Result Fields (List 
 after kind text go_on new keeps None of is = absurd (cc)
 after kind text go_on new keeps (Some mid) of is = keeps mid is (of mid refl)
 
-pub fields_keep : (kind : Kind) (members : Members) (old new : Fields) → fields_with kind members old ≡ Ok new → IsOfKind kind old → IsOfKind kind new
-fields_keep kind no_members old new is of = let same : old ≡ new = cc in subst (IsOfKind kind) same of
-fields_keep kind (member text d rest) old new is of =
-    after kind text (fields_with kind rest) new (λ mid. fields_keep kind rest mid new)
-    (given_by kind (name_in kind text) d old) (λ mid at. given_by_keeps kind (name_in kind text) d old mid at of) is
+pub fields_keep : (kind : Kind) (rows : List (List ℕ × Name)) (find : List ℕ → Option Data) (old new : Fields) → fields_with kind rows find old ≡ Ok new → IsOfKind kind old → IsOfKind kind new
+fields_keep kind [] find old new is of = let same : old ≡ new = cc in subst (IsOfKind kind) same of
+fields_keep kind (row ∷ rows) find old new is of =
+    let go_on = fields_with kind rows find in
+    let P : Bool → Type 0 = λ test. (if test then or_bad row.0 go_on (given_by kind row.1 (find row.0) old) else go_on old) ≡ Ok new → IsOfKind kind new in
+    elim (takes kind row.1) as P [
+      | true ↦ λ is. after kind row.0 go_on new (λ mid. fields_keep kind rows find mid new) (given_by kind row.1 (find row.0) old) (λ mid at. given_by_keeps kind row.1 (find row.0) old mid at of) is
+      | false ↦ λ is. fields_keep kind rows find old new is of
+    ] is
 
 pub default_of_kind : (kind : Kind) → IsTrue (is_possible kind) → IsOfKind kind (default_fields kind)
 unfolding is_of_kind fits_kind is_element_of is_text_of are_text_fields are_tab_fields are_embed_fields are_bare is_tab_text is_normal is_extra_of is_plain is_list_extra is_item_extra is_link_extra is_cell_extra is_span default_fields default_extra
@@ -191,4 +195,4 @@ default_of_kind of possible = and (is_possible of) _ possible (fit of)
 -- what an object gives a node of a kind that a node can be are fields of the kind
 pub document_fields_of_kind : (kind : Kind) (d : Data) (new : Fields) → IsTrue (is_possible kind) → document_fields kind d ≡ Ok new → IsOfKind kind new
 unfolding document_fields
-document_fields_of_kind kind d new possible is = fields_keep kind (members_in d) (default_fields kind) new is (default_of_kind kind possible)
+document_fields_of_kind kind d new possible is = fields_keep kind names (λ name. get name d) (default_fields kind) new is (default_of_kind kind possible)

@@ -30,12 +30,12 @@ use Rattle.lx_fields.specs.declared.words.Name.{Name}
 use Rattle.lx_fields.specs.declared.words.Name.TheVariants as name
 use Rattle.lx_script.specs.declared.words.Verb.{Verb}
 use Rattle.lx_script.specs.declared.words.Verb.TheVariants as verb
-use Rattle.lx_fields.specs.Documents.{document_fields, members_in}
+use Rattle.lx_fields.specs.Documents.{document_fields}
 use Rattle.lx_script.specs.Commands.{built_in_name, command_with, command_in, command_of, payload_in}
 use Rattle.lx_script.specs.Grammar.{update_with, update_of, flush_told, flush_of, dispatch_form_of, rule_form_of, listener_form_of, show_of, clear_of, clearings, form_of}
 use Rattle.lx_script.specs.Listeners.{listener_of, listener_with, when_in}
 use Rattle.lx_script.specs.Patches.{patch_member, patch_members, patch_of}
-use Rattle.lx_script.specs.NewNodes.{or_default, kind_with, may_all_be_given, new_fields}
+use Rattle.lx_script.specs.NewNodes.{or_default, kind_with, may_all_be_given, members_in, new_fields}
 use Rattle.lx_script.specs.References.{reference_of, selection_of}
 use Rattle.lx_script.specs.Rules.{rule_of}
 use Rattle.lx_script.specs.Steps.{fields_in, new_in, new_with, new_of, set_of, patch_from, one_node, two_nodes, step_for, step_of, queued_in, script_in, script_from, truth_in}
