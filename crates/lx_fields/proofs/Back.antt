@@ -5,6 +5,7 @@ use Rattle.std.proofs.lemmas.Bool.{leb-true}
 use Rattle.serde_json.specs.Data.{Data, boolean, string}
 use Rattle.lx_node.specs.Kinds.{is_element, is_list, is_item, is_link, is_cell, is_text, has_characters, is_embed}
 use Rattle.lx_node.specs.OfKind.{is_span}
+use Rattle.lx_node.specs.Same.{same_mode, same_align}
 use Rattle.lx_node.specs.declared.kind.Kind.{Kind}
 use Rattle.lx_node.specs.declared.kind.Kind.TheVariants as kind
 use Rattle.lx_node.specs.declared.kind.ListType.{ListType}
@@ -60,7 +61,7 @@ direction_given direction.Rtl element = record { same = rw element refl }
 
 pub align_given : {kind : Kind} {d : Direction} {old : Align} {i t : ℕ} {s : List ℕ} {x : Extra} (a : Align) → is_element kind ≡ true
     → Gives kind name.Format (Some (string (align_word a))) (made d old i t s x) (made d a i t s x)
-unfolding given_by with_given settable has with_member element_with_member
+unfolding same_align given_by with_given settable has with_member element_with_member
 align_given align.Unset element = record { same = rw element refl }
 align_given align.Left element = record { same = rw element refl }
 align_given align.Center element = record { same = rw element refl }
@@ -195,7 +196,7 @@ unfolding given_by with_given settable has with_member text_with_member
 format_given n characters range = record { same = rw (short n range, characters) refl }
 
 pub mode_given : {text style : List ℕ} {format detail : ℕ} {old : Mode} (m : Mode) → Gives kind.Text name.Mode (Some (string (mode_word m))) (told text format detail old style) (told text format detail m style)
-unfolding is_text given_by with_given settable has with_member text_with_member
+unfolding same_mode is_text given_by with_given settable has with_member text_with_member
 mode_given mode.Normal = record { same = refl }
 mode_given mode.Token = record { same = refl }
 mode_given mode.Segmented = record { same = refl }

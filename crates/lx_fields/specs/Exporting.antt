@@ -13,13 +13,12 @@ use Rattle.lx_node.specs.declared.fields.TextFields.{TextFields}
 use Rattle.lx_node.specs.declared.fields.Extra.{Extra}
 use Rattle.lx_node.specs.declared.fields.Extra.TheVariants as extra
 use Rattle.lx_node.specs.declared.fields.Mode.{Mode}
-use Rattle.lx_node.specs.declared.fields.Mode.TheVariants as mode
 use Rattle.lx_node.specs.declared.fields.Direction.{Direction}
 use Rattle.lx_node.specs.declared.fields.Direction.TheVariants as direction
 use Rattle.lx_node.specs.declared.fields.Align.{Align}
-use Rattle.lx_node.specs.declared.fields.Align.TheVariants as align
+use Rattle.lx_node.specs.Same.{same_mode, same_align}
 use Rattle.lx_fields.specs.Parts.{natural, text_data, or_null}
-use Rattle.lx_fields.specs.Words.{levels}
+use Rattle.lx_fields.specs.Words.{levels, aligns, modes}
 
 -- members by their names, in the order in which they are put; one that has no value is left out
 abbrev pub Written : Type 0
@@ -33,21 +32,18 @@ direction_data direction.Unset = null
 direction_data direction.Ltr = string (codes "ltr")
 direction_data direction.Rtl = string (codes "rtl")
 
+-- the word that stands for this in a table of words
+abbrev pub word_for : {A : Type 0} → (A → A → Bool) → List (List ℕ × A) → A → List ℕ
+word_for same [] a = []
+word_for same (row ∷ rows) a = if same row.1 a then row.0 else word_for same rows a
+
 -- the word of an alignment, which is empty where it is unset
 abbrev pub align_word : Align → List ℕ
-align_word align.Unset = codes ""
-align_word align.Left = codes "left"
-align_word align.Center = codes "center"
-align_word align.Right = codes "right"
-align_word align.Justify = codes "justify"
-align_word align.Start = codes "start"
-align_word align.End = codes "end"
+align_word align = word_for same_align aligns align
 
 -- the word of a text's mode
 abbrev pub mode_word : Mode → List ℕ
-mode_word mode.Normal = codes "normal"
-mode_word mode.Token = codes "token"
-mode_word mode.Segmented = codes "segmented"
+mode_word mode = word_for same_mode modes mode
 
 -- the word of a list's type
 abbrev pub list_word : ListType → List ℕ
@@ -60,14 +56,9 @@ abbrev pub list_tag : ListType → List ℕ
 list_tag Number = codes "ol"
 list_tag other = codes "ul"
 
--- the word for a number in a table of words
-abbrev pub word_for : List (List ℕ × ℕ) → ℕ → List ℕ
-word_for [] n = []
-word_for (row ∷ rows) n = if row.1 == n then row.0 else word_for rows n
-
 -- the tag of a heading's level
 abbrev pub level_word : ℕ → List ℕ
-level_word level = word_for levels level
+level_word level = word_for (λ a b. a == b) levels level
 
 -- ---- members
 

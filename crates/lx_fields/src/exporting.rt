@@ -22,6 +22,7 @@ const VERSION: u8 = 1;
 
 // ---- words
 
+#[tactic(auto, unfolding(lx_node::specs::Same::same_align))]
 fn align_word(align: Align) -> &'static str
     ensures { result.now ≡ exporting.align_word align }
 {
@@ -36,6 +37,7 @@ fn align_word(align: Align) -> &'static str
     }
 }
 
+#[tactic(auto, unfolding(lx_node::specs::Same::same_mode))]
 fn mode_word(mode: Mode) -> &'static str
     ensures { result.now ≡ exporting.mode_word mode }
 {
