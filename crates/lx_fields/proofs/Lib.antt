@@ -3,6 +3,5 @@ pub mod Characters
 pub mod Exported
 pub mod Objects
 pub mod ReadBack
-pub mod Sorted
 pub mod Sound
 pub mod Written

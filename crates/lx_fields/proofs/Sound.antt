@@ -1,17 +1,18 @@
 -- What an object gives is sound: fields of their kinds, and members that are within their ranges.
 use Rattle.std.proofs.Common.{◌≡◌, refl, subst, ℕ, List, [], ◌∷◌, Bool, true, false, ◌&&◌, leb, IsTrue, if◌then◌else◌, Option, None, Some, option_map, option_and_then, is_some, Result, Ok}
+use Rattle.std.specs.List.{list_all}
 use Rattle.std.specs.Option.{option_or}
 use Rattle.std.specs.Str.{bytes_eq}
 use Rattle.std.proofs.lemmas.Option.{cond_some}
-use Rattle.serde_json.specs.Data.{Data, Members, no_members, member}
-use Rattle.serde_json.specs.Find.{as_bool, as_null, as_str}
+use Rattle.serde_json.specs.Data.{Data}
+use Rattle.serde_json.specs.Find.{get, as_bool, as_null, as_str}
 use Rattle.lx_node.specs.declared.kind.Kind.{Kind}
 use Rattle.lx_node.specs.declared.kind.Kind.TheVariants as kind
 use Rattle.lx_node.specs.declared.fields.Extra.{Extra}
 use Rattle.lx_node.specs.declared.fields.Extra.TheVariants as extra
 use Rattle.lx_node.specs.declared.fields.Fields.{Fields}
 use Rattle.lx_node.specs.declared.fields.Fields.TheVariants as fields
-use Rattle.lx_node.specs.Kinds.{is_possible}
+use Rattle.lx_node.specs.Kinds.{is_possible, type_name}
 use Rattle.lx_node.specs.OfKind.{IsOfKind, is_of_kind, fits_kind, is_element_of, is_text_of, are_text_fields, are_tab_fields, are_embed_fields, are_bare, is_tab_text, is_normal, is_extra_of, is_plain, is_list_extra, is_item_extra, is_link_extra, is_cell_extra, is_span}
 use Rattle.lx_step.specs.declared.member.Member.{Member}
 use Rattle.lx_step.specs.declared.member.Member.TheVariants as set
@@ -19,10 +20,11 @@ use Rattle.lx_step.specs.Patches.{has, with_member, is_in_range, IsInRange}
 use Rattle.lx_step.proofs.Kept.{keeps_kind_with}
 use Rattle.lx_fields.specs.declared.words.Name.{Name}
 use Rattle.lx_fields.specs.declared.words.Name.TheVariants as name
-use Rattle.lx_fields.specs.Documents.{default_extra, default_fields, extra_with_value, item_with_value, with_given, given_by, name_in, or_bad, fields_with, document_fields, members_in}
+use Rattle.lx_fields.specs.Documents.{default_extra, default_fields, extra_with_value, item_with_value, with_given, takes, given_by, or_bad, fields_with, document_fields}
 use Rattle.lx_fields.specs.Members.{direction_of, settable}
+use Rattle.lx_fields.specs.Types.{or_kept, told_by}
 use Rattle.lx_fields.specs.Values.{word_in, named, string_of, whole_of, number_within, or_null_of}
-use Rattle.lx_fields.specs.Words.{levels, list_types, aligns, modes}
+use Rattle.lx_fields.specs.Words.{kind_in, names, levels, list_types, aligns, modes}
 
 -- ---- what holds of all that an option can be
 
@@ -42,23 +44,58 @@ pub tested : {B : Type 0} (P : B → Type 0) (test : Bool) (o : Option B) → ((
 tested P true o holds b is = holds b is
 tested P false o holds b is = absurd (cc)
 
+-- ---- what holds of two truths holds of each
+
+left : (a b : Bool) → IsTrue (a && b) → IsTrue a
+left true b is = refl
+left false b is = absurd (cc)
+
+right : (a b : Bool) → IsTrue (a && b) → IsTrue b
+right true b is = is
+right false b is = absurd (cc)
+
 -- ---- tables of words
 
 abbrev pub EachRow : {A : Type 0} → (A → Type 0) → List (List ℕ × A) → Type 0
 EachRow P [] = Unit {0}
 EachRow P (row ∷ rows) = P row.1 × EachRow P rows
 
+-- what holds of all holds of each row
+pub all_rows : {A : Type 0} (P : A → Type 0) → ((a : A) → P a) → (rows : List (List ℕ × A)) → EachRow P rows
+all_rows P holds [] = tt
+all_rows P holds (row ∷ rows) = (holds row.1, all_rows P holds rows)
+
+-- what a test of each row says
+pub rows_tested : {A : Type 0} (test : A → Bool) (rows : List (List ℕ × A)) → IsTrue (list_all (λ row. test row.1) rows) → EachRow (λ a. IsTrue (test a)) rows
+rows_tested test [] all = tt
+rows_tested test (row ∷ rows) all = (left (test row.1) _ all, rows_tested test rows (right (test row.1) _ all))
+
+first_holds : {A : Type 0} (P : A → Type 0) (test : Bool) (first : A) (rest : Option A) → P first → ((a : A) → rest ≡ Some a → P a) → (a : A) → (if test then Some first else rest) ≡ Some a → P a
+first_holds P true first rest here later a is = let same : first ≡ a = cc in subst P same here
+first_holds P false first rest here later a is = later a is
+
 -- what holds of each row of a table holds of what a word stands for, and of what a string stands for
 word_holds : {A : Type 0} (P : A → Type 0) (rows : List (List ℕ × A)) → EachRow P rows → (text : List ℕ) (a : A) → word_in rows text ≡ Some a → P a
 word_holds P [] each text a is = absurd (cc)
-word_holds {A = A} P (row ∷ rows) each text a is = here (bytes_eq row.0 text) each.0 (word_holds P rows each.1 text a) is
-  where
-    here : (test : Bool) → P row.1 → (word_in rows text ≡ Some a → P a) → (if test then Some row.1 else word_in rows text) ≡ Some a → P a
-    here true holds rest is = let same : row.1 ≡ a = cc in subst P same holds
-    here false holds rest is = rest is
+word_holds P (row ∷ rows) each text a is = first_holds P (bytes_eq row.0 text) row.1 (word_in rows text) each.0 (word_holds P rows each.1 text) a is
 
 pub named_holds : {A : Type 0} (P : A → Type 0) (rows : List (List ℕ × A)) → EachRow P rows → (d : Data) (a : A) → named rows d ≡ Some a → P a
 named_holds P rows each d a is = chained P (word_in rows) (as_str d) (λ text at. word_holds P rows each text) a is
+
+-- what a test of each of these kinds says of that of a type
+pub kind_tested : (test : Kind → Bool) (kinds : List Kind) → IsTrue (list_all test kinds) → (text : List ℕ) (of : Kind) → kind_in kinds text ≡ Some of → IsTrue (test of)
+kind_tested test [] all text of is = absurd (cc)
+kind_tested test (first ∷ kinds) all text of is =
+    first_holds (λ of. IsTrue (test of)) (bytes_eq (type_name first) text) first (kind_in kinds text) (left (test first) _ all) (kind_tested test kinds (right (test first) _ all) text) of is
+
+kept_holds : {A : Type 0} (P : Kind → Type 0) (make : A → Kind) (kind : Kind) (o : Option A) → ((a : A) → o ≡ Some a → P (make a)) → P kind → P (or_kept kind (option_map make o))
+kept_holds P make kind None told was = was
+kept_holds P make kind (Some a) told was = told a refl
+
+-- what holds of a kind, and of each that a table has in its place, holds of the one that a member tells
+pub told_by_holds : {A : Type 0} (P : Kind → Type 0) (make : A → Kind) (kind : Kind) (rows : List (List ℕ × A)) (o : Option Data) → EachRow (λ a. P (make a)) rows → P kind → P (told_by make kind rows o)
+told_by_holds P make kind rows None each was = was
+told_by_holds P make kind rows (Some d) each was = kept_holds P make kind (named rows d) (named_holds (λ a. P (make a)) rows each d) was
 
 -- ---- numbers within bounds
 
@@ -68,14 +105,6 @@ within least most (Some m) n is =
     let parts = cond_some (leb least m && leb m most) m n is in
     let P : ℕ → Type 0 = λ k. IsTrue (leb least k && leb k most) in
     subst P parts.1 parts.0
-
-left : (a b : Bool) → IsTrue (a && b) → IsTrue a
-left true b is = refl
-left false b is = absurd (cc)
-
-right : (a b : Bool) → IsTrue (a && b) → IsTrue b
-right true b is = is
-right false b is = absurd (cc)
 
 and : (a b : Bool) → IsTrue a → IsTrue b → IsTrue (a && b)
 and true b of_a of_b = of_b
@@ -160,10 +189,10 @@ given_keeps kind name.Value d old new is of =
     mapped (IsOfKind kind) (λ value. item_with_value value old) (number_within 0 1200000 d) (λ value at. value_keeps kind value old (up_to 1200000 d value at) of) new is
 given_keeps kind known d old new is of = member_keeps kind (settable known d) old new (settable-ranged known d) is of
 
-given_by_keeps : (kind : Kind) (found : Option Name) (d : Data) (old new : Fields) → given_by kind found d old ≡ Some new → IsOfKind kind old → IsOfKind kind new
+given_by_keeps : (kind : Kind) (known : Name) (o : Option Data) (old new : Fields) → given_by kind known o old ≡ Some new → IsOfKind kind old → IsOfKind kind new
 unfolding given_by
-given_by_keeps kind None d old new is of = let same : old ≡ new = cc in subst (IsOfKind kind) same of
-given_by_keeps kind (Some known) d old new is of = null_keeps (is_some (as_null d)) is
+given_by_keeps kind known None old new is of = let same : old ≡ new = cc in subst (IsOfKind kind) same of
+given_by_keeps kind known (Some d) old new is of = null_keeps (is_some (as_null d)) is
   where
     null_keeps : (test : Bool) → (if test then Some old else with_given kind known d old) ≡ Some new → IsOfKind kind new
     null_keeps true is = let same : old ≡ new = cc in subst (IsOfKind kind) same of
@@ -174,11 +203,15 @@ after : (kind : Kind) (text : List ℕ) (go_on : Fields → Result Fields (List 
 after kind text go_on new keeps None of is = absurd (cc)
 after kind text go_on new keeps (Some mid) of is = keeps mid is (of mid refl)
 
-pub fields_keep : (kind : Kind) (members : Members) (old new : Fields) → fields_with kind members old ≡ Ok new → IsOfKind kind old → IsOfKind kind new
-fields_keep kind no_members old new is of = let same : old ≡ new = cc in subst (IsOfKind kind) same of
-fields_keep kind (member text d rest) old new is of =
-    after kind text (fields_with kind rest) new (λ mid. fields_keep kind rest mid new)
-    (given_by kind (name_in kind text) d old) (λ mid at. given_by_keeps kind (name_in kind text) d old mid at of) is
+pub fields_keep : (kind : Kind) (rows : List (List ℕ × Name)) (find : List ℕ → Option Data) (old new : Fields) → fields_with kind rows find old ≡ Ok new → IsOfKind kind old → IsOfKind kind new
+fields_keep kind [] find old new is of = let same : old ≡ new = cc in subst (IsOfKind kind) same of
+fields_keep kind (row ∷ rows) find old new is of =
+    let go_on = fields_with kind rows find in
+    let P : Bool → Type 0 = λ test. (if test then or_bad row.0 go_on (given_by kind row.1 (find row.0) old) else go_on old) ≡ Ok new → IsOfKind kind new in
+    elim (takes kind row.1) as P [
+      | true ↦ λ is. after kind row.0 go_on new (λ mid. fields_keep kind rows find mid new) (given_by kind row.1 (find row.0) old) (λ mid at. given_by_keeps kind row.1 (find row.0) old mid at of) is
+      | false ↦ λ is. fields_keep kind rows find old new is of
+    ] is
 
 pub default_of_kind : (kind : Kind) → IsTrue (is_possible kind) → IsOfKind kind (default_fields kind)
 unfolding is_of_kind fits_kind is_element_of is_text_of are_text_fields are_tab_fields are_embed_fields are_bare is_tab_text is_normal is_extra_of is_plain is_list_extra is_item_extra is_link_extra is_cell_extra is_span default_fields default_extra
@@ -191,4 +224,4 @@ default_of_kind of possible = and (is_possible of) _ possible (fit of)
 -- what an object gives a node of a kind that a node can be are fields of the kind
 pub document_fields_of_kind : (kind : Kind) (d : Data) (new : Fields) → IsTrue (is_possible kind) → document_fields kind d ≡ Ok new → IsOfKind kind new
 unfolding document_fields
-document_fields_of_kind kind d new possible is = fields_keep kind (members_in d) (default_fields kind) new is (default_of_kind kind possible)
+document_fields_of_kind kind d new possible is = fields_keep kind names (λ name. get name d) (default_fields kind) new is (default_of_kind kind possible)

@@ -1,5 +1,6 @@
 -- Members that are put one after another.
-use Rattle.std.proofs.Common.{◌≡◌, ◌∙◌, refl, sym, ap, ℕ, List, [], ◌∷◌, ◌++◌, Bool, true, false, not, ◌&&◌, ◌||◌, ◌==◌, suc, length, bytes_eq, arith, eqb-true, Option, None, Some, Result, Ok, Err, OnOk}
+use Rattle.std.proofs.Common.{◌≡◌, ◌∙◌, refl, ap, ℕ, List, [], ◌∷◌, ◌++◌, Bool, true, false, not, ◌&&◌, ◌||◌, ◌==◌, if◌then◌else◌, suc, length, bytes_eq, Decides, arith, eqb-true, Option, None, Some}
+use Rattle.std.specs.Option.{option_or}
 use Rattle.std.proofs.lemmas.Slice.Eq.{bytes_eq-Decides}
 use Rattle.std.specs.Ordering.{nat_cmp, match_ordering}
 use Rattle.std.specs.declared.cmp.Ordering.{Ordering}
@@ -8,27 +9,9 @@ use Rattle.std.specs.Cmp.Lexicographic.{slice_cmp}
 use Rattle.serde_json.specs.Data.{Data, Members, no_members, member, put}
 use Rattle.serde_json.specs.Find.{get_member}
 use Rattle.serde_json.specs.Written.{has_float, members_have_float}
-use Rattle.serde_json.proofs.Views.{get_member-put_other}
-use Rattle.lx_fields.specs.Exporting.{Written, written_onto, is_empty}
+use Rattle.serde_json.proofs.Views.{get_member-put, get_member-put_other}
+use Rattle.lx_fields.specs.Exporting.{Written, put_any, written_onto, is_empty}
 use Rattle.lx_fields.specs.Parts.{or_null}
-
--- putting two lists is putting one after the other
-pub onto_both : (found : Members) (xs ys : Written) → written_onto found (xs ++ ys) ≡ written_onto (written_onto found xs) ys
-onto_both found [] ys = refl
-onto_both found (x ∷ xs) ys = onto_both (put x.0 x.1 found) xs ys
-
--- four lists that are put one after another are put as one
-pub onto_four : (start begun first second third last : Members) (a b c d : Written) → begun ≡ start
-    → first ≡ written_onto begun a → second ≡ written_onto first b → third ≡ written_onto second c → last ≡ written_onto third d → last ≡ written_onto start (a ++ b ++ c ++ d)
-onto_four start begun first second third last a b c d of_begun of_first of_second of_third of_last =
-    let more = λ (xs : Written) (found : Members). written_onto found xs in
-    of_last ∙ ap (more d) (of_third ∙ ap (more c) (of_second ∙ ap (more b) (of_first ∙ ap (more a) of_begun)))
-    ∙ sym (onto_both start (a ++ b ++ c) d ∙ ap (more d) (onto_both start (a ++ b) c ∙ ap (more c) (onto_both start a b)))
-
--- what follows from a call's success
-pub on_ok : {A B P Q : Type 0} (r : Result A B) → (P → Q) → OnOk r P → OnOk r Q
-on_ok (Ok a) so holds = so holds
-on_ok (Err e) so holds = tt
 
 never_empty : (n : ℕ) (b : Bool) → (suc n == 0) ≡ b → false ≡ b
 never_empty n true is = absurd (omega (arith, eqb-true (suc n) 0 is))
@@ -53,30 +36,32 @@ pub second_true : (a b : Bool) → (a && b) ≡ true → b ≡ true
 second_true true b is = is
 second_true false b is = absurd (cc)
 
--- ---- found that are not among those that are put
+-- ---- what is found among members that are put
 
--- none of what is put has this name
-abbrev pub lacks : List ℕ → Written → Bool
-lacks name [] = true
-lacks name (x ∷ xs) = not (bytes_eq name x.0) && lacks name xs
+-- what is found under a name after these are put, where this was found before
+abbrev pub found : List ℕ → Written → Option Data → Option Data
+found name [] before = before
+found name (m ∷ ms) before = found name ms (if bytes_eq name m.0 then option_or m.1 before else before)
 
-pub lacks-both : (name : List ℕ) (xs ys : Written) → lacks name xs ≡ true → lacks name ys ≡ true → lacks name (xs ++ ys) ≡ true
-lacks-both name [] ys of_xs of_ys = of_ys
-lacks-both name (x ∷ xs) ys of_xs of_ys =
-    let here = not (bytes_eq name x.0) in
-    both_true here (lacks name (xs ++ ys)) (first_true here (lacks name xs) of_xs) (lacks-both name xs ys (second_true here (lacks name xs) of_xs) of_ys)
+as_before : (test : Bool) (before : Option Data) → before ≡ (if test then before else before)
+as_before true before = refl
+as_before false before = refl
 
-apart : (b : Bool) → not b ≡ true → b ≡ true → ⊥
-apart true is same = absurd (cc)
-apart false is same = absurd (cc)
+found-put : (name other : List ℕ) (o : Option Data) (of : Members) → get_member name (put_any other o of) ≡ (if bytes_eq name other then option_or o (get_member name of) else get_member name of)
+found-put name other None of = as_before (bytes_eq name other) (get_member name of)
+found-put name other (Some d) of =
+    elim (bytes_eq name other) as (λ test. Decides test (name ≡ other) → get_member name (put other d of) ≡ (if test then Some d else get_member name of)) [
+      | true ↦ λ is. ap (λ n. get_member n (put other d of)) (is.0 refl) ∙ get_member-put other d of
+      | false ↦ λ is. get_member-put_other name other d of (λ same. let no : false ≡ true = is.1 same in absurd (cc))
+    ] (bytes_eq-Decides name other)
 
--- what isn't put stays as it was
-pub get-onto : (name : List ℕ) (found : Members) (xs : Written) → lacks name xs ≡ true → get_member name (written_onto found xs) ≡ get_member name found
-get-onto name found [] is = refl
-get-onto name found (x ∷ xs) is =
-    let here = not (bytes_eq name x.0) in
-    let other = λ (same : name ≡ x.0). apart (bytes_eq name x.0) (first_true here (lacks name xs) is) ((bytes_eq-Decides name x.0).1 same) in
-    get-onto name (put x.0 x.1 found) xs (second_true here (lacks name xs) is) ∙ get_member-put_other name x.0 x.1 found other
+pub found-onto : (name : List ℕ) (of : Members) (ms : Written) → get_member name (written_onto of ms) ≡ found name ms (get_member name of)
+found-onto name of [] = refl
+found-onto name of (m ∷ ms) = found-onto name (put_any m.0 m.1 of) ms ∙ ap (found name ms) (found-put name m.0 m.1 of)
+
+pub found-both : (name : List ℕ) (xs ys : Written) (before : Option Data) → found name (xs ++ ys) before ≡ found name ys (found name xs before)
+found-both name [] ys before = refl
+found-both name (x ∷ xs) ys before = found-both name xs ys (if bytes_eq name x.0 then option_or x.1 before else before)
 
 -- ---- floats
 
@@ -100,24 +85,30 @@ pub has_float-or_null : {A : Type 0} (data_of : A → Data) → ((a : A) → has
 has_float-or_null data_of of_some None = refl
 has_float-or_null data_of of_some (Some a) = of_some a
 
+-- a member without a value or a float
+abbrev pub is_whole : Option Data → Bool
+is_whole None = true
+is_whole (Some d) = not (has_float d)
+
 -- none of what is put has a float
 abbrev pub are_whole : Written → Bool
 are_whole [] = true
-are_whole (x ∷ xs) = not (has_float x.1) && are_whole xs
+are_whole (m ∷ ms) = is_whole m.1 && are_whole ms
 
 pub are_whole-both : (xs ys : Written) → are_whole xs ≡ true → are_whole ys ≡ true → are_whole (xs ++ ys) ≡ true
 are_whole-both [] ys of_xs of_ys = of_ys
 are_whole-both (x ∷ xs) ys of_xs of_ys =
-    let here = not (has_float x.1) in
-    both_true here (are_whole (xs ++ ys)) (first_true here (are_whole xs) of_xs) (are_whole-both xs ys (second_true here (are_whole xs) of_xs) of_ys)
+    both_true (is_whole x.1) (are_whole (xs ++ ys)) (first_true (is_whole x.1) (are_whole xs) of_xs) (are_whole-both xs ys (second_true (is_whole x.1) (are_whole xs) of_xs) of_ys)
 
 not_true : (b : Bool) → not b ≡ true → b ≡ false
 not_true true is = absurd (cc)
 not_true false is = refl
 
-pub members_have_float-onto : (found : Members) (xs : Written) → members_have_float found ≡ false → are_whole xs ≡ true → members_have_float (written_onto found xs) ≡ false
-members_have_float-onto found [] of_members is = of_members
-members_have_float-onto found (x ∷ xs) of_members is =
-    let here = not (has_float x.1) in
-    members_have_float-onto (put x.0 x.1 found) xs
-    (members_have_float-put x.0 x.1 found (not_true (has_float x.1) (first_true here (are_whole xs) is)) of_members) (second_true here (are_whole xs) is)
+whole-put : (name : List ℕ) (o : Option Data) (of : Members) → members_have_float of ≡ false → is_whole o ≡ true → members_have_float (put_any name o of) ≡ false
+whole-put name None of none is = none
+whole-put name (Some d) of none is = members_have_float-put name d of (not_true (has_float d) is) none
+
+pub members_have_float-onto : (of : Members) (ms : Written) → members_have_float of ≡ false → are_whole ms ≡ true → members_have_float (written_onto of ms) ≡ false
+members_have_float-onto of [] none is = none
+members_have_float-onto of (m ∷ ms) none is =
+    members_have_float-onto (put_any m.0 m.1 of) ms (whole-put m.0 m.1 of none (first_true (is_whole m.1) (are_whole ms) is)) (second_true (is_whole m.1) (are_whole ms) is)

@@ -1,7 +1,7 @@
 -- The fields that an object gives a node: a document's, or those of a new node.
 use Rattle.std.specs.Prelude.{◌≡◌, ℕ, List, [], ◌∷◌, Bool, ◌||◌, chars, is_some, if◌then◌else◌, Option, None, Some, option_map, option_and_then, Result, Ok, Err}
-use Rattle.serde_json.specs.Data.{Data, object, Members, no_members, member}
-use Rattle.serde_json.specs.Find.{as_null}
+use Rattle.serde_json.specs.Data.{Data}
+use Rattle.serde_json.specs.Find.{get, as_null}
 use Rattle.lx_node.specs.declared.kind.Kind.{Kind}
 use Rattle.lx_node.specs.declared.kind.Kind.TheVariants as kind
 use Rattle.lx_node.specs.declared.fields.Extra.{Extra}
@@ -88,30 +88,26 @@ with_given kind known d old = option_and_then (λ member. if has kind member the
 abbrev pub name_in : Kind → List ℕ → Option Name
 name_in kind text = option_and_then (λ known. if takes kind known then Some known else None) (word_in names text)
 
--- the fields with what a member gives: nothing where the kind has no such member, or where it is null
-unfoldable pub given_by : Kind → Option Name → Data → Fields → Option Fields
-given_by kind None d old = Some old
-given_by kind (Some known) d old = if is_some (as_null d) then Some old else with_given kind known d old
+-- the fields with what a member of the kind gives: nothing where it is missing or null
+unfoldable pub given_by : Kind → Name → Option Data → Fields → Option Fields
+given_by kind known None old = Some old
+given_by kind known (Some d) old = if is_some (as_null d) then Some old else with_given kind known d old
 
 -- what goes on with fields, if there are any; else the member of this name is the bad one
 abbrev pub or_bad : List ℕ → (Fields → Result Fields (List ℕ)) → Option Fields → Result Fields (List ℕ)
 or_bad text go_on None = Err (chars text)
 or_bad text go_on (Some fields) = go_on fields
 
--- The fields with what all members give, in byte order of their names; or the name of the first whose value isn't one that
--- it takes.
-abbrev pub fields_with : Kind → Members → Fields → Result Fields (List ℕ)
-fields_with kind no_members old = Ok old
-fields_with kind (member text d rest) old = or_bad text (fields_with kind rest) (given_by kind (name_in kind text) d old)
+-- The fields with what those of these members give that the kind has, in their order, where each is found by its name; or
+-- the name of the first whose value isn't one that it takes.
+abbrev pub fields_with : Kind → List (List ℕ × Name) → (List ℕ → Option Data) → Fields → Result Fields (List ℕ)
+fields_with kind [] find old = Ok old
+fields_with kind (row ∷ rows) find old =
+    if takes kind row.1 then or_bad row.0 (fields_with kind rows find) (given_by kind row.1 (find row.0) old) else fields_with kind rows find old
 
--- the members of an object; any other value has none
-abbrev pub members_in : Data → Members
-members_in (object members) = members
-members_in d = no_members
-
--- the fields that an object gives a node of the kind
+-- the fields that an object gives a node of the kind; any other value has no members
 unfoldable pub document_fields : Kind → Data → Result Fields (List ℕ)
-document_fields kind d = fields_with kind (members_in d) (default_fields kind)
+document_fields kind d = fields_with kind names (λ name. get name d) (default_fields kind)
 
 -- An object gives no fields for the first of its bad members; or memory ran out.
 abbrev pub TellsBad : Result Fields (List ℕ) → FieldFault → Type 0

@@ -47,13 +47,13 @@ aligns =
 abbrev pub modes : List (List ℕ × Mode)
 modes = (codes "normal", Normal) ∷ (codes "token", Token) ∷ (codes "segmented", Segmented) ∷ []
 
--- the members of nodes that documents and scripts name
+-- the members of nodes that documents and scripts name, in byte order
 abbrev pub names : List (List ℕ × Name)
 names =
-    (codes "direction", name.Direction) ∷ (codes "format", name.Format) ∷ (codes "indent", name.Indent)
-    ∷ (codes "textFormat", name.TextFormat) ∷ (codes "textStyle", name.TextStyle) ∷ (codes "tag", name.Tag)
-    ∷ (codes "listType", name.ListType) ∷ (codes "start", name.Start) ∷ (codes "checked", name.Checked) ∷ (codes "value", name.Value)
-    ∷ (codes "rel", name.Rel) ∷ (codes "target", name.Target) ∷ (codes "title", name.Title) ∷ (codes "url", name.Url)
-    ∷ (codes "headerState", name.HeaderState) ∷ (codes "colSpan", name.ColSpan) ∷ (codes "rowSpan", name.RowSpan)
-    ∷ (codes "backgroundColor", name.Background) ∷ (codes "text", name.Text) ∷ (codes "style", name.Style)
-    ∷ (codes "detail", name.Detail) ∷ (codes "mode", name.Mode) ∷ (codes "src", name.Src) ∷ []
+    (codes "backgroundColor", name.Background) ∷ (codes "checked", name.Checked) ∷ (codes "colSpan", name.ColSpan)
+    ∷ (codes "detail", name.Detail) ∷ (codes "direction", name.Direction) ∷ (codes "format", name.Format)
+    ∷ (codes "headerState", name.HeaderState) ∷ (codes "indent", name.Indent) ∷ (codes "listType", name.ListType)
+    ∷ (codes "mode", name.Mode) ∷ (codes "rel", name.Rel) ∷ (codes "rowSpan", name.RowSpan) ∷ (codes "src", name.Src)
+    ∷ (codes "start", name.Start) ∷ (codes "style", name.Style) ∷ (codes "tag", name.Tag) ∷ (codes "target", name.Target)
+    ∷ (codes "text", name.Text) ∷ (codes "textFormat", name.TextFormat) ∷ (codes "textStyle", name.TextStyle)
+    ∷ (codes "title", name.Title) ∷ (codes "url", name.Url) ∷ (codes "value", name.Value) ∷ []

@@ -1,12 +1,12 @@
 //! The object that is written for a node, as documents have it.
 
-ghost use Rattle.std.specs.Prelude.{◌≡◌, ◌==◌, [], ◌∷◌, Option, codes, Ok, IfOk, OnOk};
-ghost use Rattle.serde_json.specs.Data.{Data, null, string, array, put as with_member};
+ghost use Rattle.std.specs.Prelude.{◌≡◌, ◌==◌, Option, option_map, Ok, IfOk, OnOk};
+ghost use Rattle.serde_json.specs.Data.{put as with_member};
 ghost use Rattle.serde_json.specs.View.{view, items_view, members_view};
 ghost use Rattle.lx_node.specs.OfKind.{IsOfKind};
 ghost use Rattle.lx_fields.specs.Documents.{document_fields};
 ghost use Rattle.lx_fields.specs.Exporting as exporting;
-ghost use Rattle.lx_fields.specs.Exporting.{written_onto, kept, is_paragraph, is_empty, direction_data, checked_members, extra_members, kind_members, element_members, text_members, field_members};
+ghost use Rattle.lx_fields.specs.Exporting.{written_onto, is_empty, layout_members, typed_members, extra_members, element_members, text_members, field_members, kind_members, node_members};
 ghost use Rattle.lx_fields.specs.Parts.{natural, text_data, or_null};
 ghost use Rattle.lx_fields.specs.Storable.{IsText, IsTextIfAny, IsShort, IsExtraStorable, IsLinkStorable, IsElementStorable, IsTextStorable, IsStorable};
 ghost use Rattle.lx_node.specs.declared.fields.Extra.TheVariants as extra;
@@ -22,6 +22,7 @@ const VERSION: u8 = 1;
 
 // ---- words
 
+#[tactic(auto, unfolding(lx_node::specs::Same::same_align))]
 fn align_word(align: Align) -> &'static str
     ensures { result.now ≡ exporting.align_word align }
 {
@@ -36,6 +37,7 @@ fn align_word(align: Align) -> &'static str
     }
 }
 
+#[tactic(auto, unfolding(lx_node::specs::Same::same_mode))]
 fn mode_word(mode: Mode) -> &'static str
     ensures { result.now ≡ exporting.mode_word mode }
 {
@@ -111,6 +113,21 @@ fn string_or_null(alloc: Global, text: &Option<Txt>) -> Result<Value, AllocError
 
 // ---- members
 
+/// Puts a member of this name, where there is one.
+fn put_any(
+    members: &mut Map<String, Value>,
+    alloc: Global,
+    name: &str,
+    value: Option<Value>,
+) -> Result<(), AllocError>
+    ensures { OnOk result (members_view members.new.entries ≡ exporting.put_any name.now (option_map view value) (members_view members.old.entries)) }
+{
+    match value {
+        Some(value) => put(members, alloc, name, value),
+        None => Ok(()),
+    }
+}
+
 /// A number, which it also says to have 16 bits.
 fn put_short(
     members: &mut Map<String, Value>,
@@ -130,8 +147,7 @@ fn put_layout(
     alloc: Global,
     element: &ElementFields,
 ) -> Result<(), AllocError>
-    ensures written { OnOk result (members_view members.new.entries ≡ written_onto (members_view members.old.entries)
-        ((codes "direction", direction_data element.now.direction) ∷ (codes "format", string (exporting.align_word element.now.format)) ∷ (codes "indent", natural element.now.indent) ∷ [])) }
+    ensures written { OnOk result (members_view members.new.entries ≡ written_onto (members_view members.old.entries) (layout_members element.now)) }
     ensures indent { OnOk result (IsShort element.now.indent) }
 {
     let direction = direction_value(alloc, element.direction)?;
@@ -142,81 +158,55 @@ fn put_layout(
 }
 
 /// A member that a paragraph always includes, and another element only where it isn't the default.
-fn put_kept(
-    members: &mut Map<String, Value>,
-    alloc: Global,
-    kind: Kind,
-    is_default: bool,
-    name: &str,
-    value: Value,
-) -> Result<(), AllocError>
-    ensures { OnOk result (members_view members.new.entries ≡ written_onto (members_view members.old.entries) (kept (is_paragraph kind) is_default name.now (view value))) }
+fn kept(kind: Kind, is_default: bool, value: Value) -> Option<Value>
+    ensures { option_map view result ≡ exporting.kept kind is_default (view value) }
 {
     match kind {
-        Kind::Paragraph => put(members, alloc, name, value),
+        Kind::Paragraph => Some(value),
         _ => {
             if is_default {
-                return Ok(());
+                return None;
             }
-            put(members, alloc, name, value)
+            Some(value)
         }
     }
 }
 
 /// The format of texts that are put into an element.
-fn put_text_format(
-    members: &mut Map<String, Value>,
-    alloc: Global,
-    kind: Kind,
-    format: u16,
-) -> Result<(), AllocError>
-    ensures written { OnOk result (members_view members.new.entries ≡ written_onto (members_view members.old.entries) (kept (is_paragraph kind) (format == 0) (codes "textFormat") (natural format))) }
+fn typed_format(kind: Kind, format: u16) -> Option<Value>
+    ensures written { option_map view result ≡ exporting.kept kind (format == 0) (natural format) }
     ensures short { IsShort format }
 {
     let is_default = format == 0;
-    put_kept(
-        members,
-        alloc,
-        kind,
-        is_default,
-        "textFormat",
-        Value::from(format),
-    )
+    kept(kind, is_default, Value::from(format))
 }
 
 /// The style of texts that are put into an element.
 #[tactic(auto, using(crate::proofs::Written::is_empty_told))]
-fn put_text_style(
-    members: &mut Map<String, Value>,
-    alloc: Global,
-    kind: Kind,
-    style: &Txt,
-) -> Result<(), AllocError>
-    ensures written { OnOk result (members_view members.new.entries ≡ written_onto (members_view members.old.entries) (kept (is_paragraph kind) (is_empty style.now) (codes "textStyle") (text_data style.now))) }
-    ensures scalar { OnOk result (IsText style.now) }
+fn typed_style(alloc: Global, kind: Kind, style: &Txt) -> Result<Option<Value>, AllocError>
+    ensures written { IfOk result (λ made. option_map view made ≡ exporting.kept kind (is_empty style.now) (text_data style.now)) }
+    ensures scalar { IsText style.now }
 {
     let text = string_value(alloc, style)?;
     let is_default = style.is_empty();
-    put_kept(members, alloc, kind, is_default, "textStyle", text)
+    Ok(kept(kind, is_default, text))
 }
 
-/// What a heading's tag says, or a list's type and tag.
-fn put_kind(members: &mut Map<String, Value>, alloc: Global, kind: Kind) -> Result<(), AllocError>
-    ensures { OnOk result (members_view members.new.entries ≡ written_onto (members_view members.old.entries) (kind_members kind)) }
+/// Format and style of texts that are put into an element.
+fn put_typed(
+    members: &mut Map<String, Value>,
+    alloc: Global,
+    kind: Kind,
+    element: &ElementFields,
+) -> Result<(), AllocError>
+    ensures written { OnOk result (members_view members.new.entries ≡ written_onto (members_view members.old.entries) (typed_members kind element.now)) }
+    ensures short { OnOk result (IsShort element.now.text_format) }
+    ensures scalar { OnOk result (IsText element.now.text_style) }
 {
-    match kind {
-        Kind::Heading(level) => {
-            let tag = Value::try_from_str(alloc, level_word(level))?;
-            put(members, alloc, "tag", tag)
-        }
-        Kind::List(list_type) => {
-            let word = Value::try_from_str(alloc, list_word(list_type))?;
-            put(members, alloc, "listType", word)?;
-            let tag = Value::try_from_str(alloc, list_tag(list_type))?;
-            put(members, alloc, "tag", tag)
-        }
-        _ => Ok(()),
-    }
+    let format = typed_format(kind, element.text_format);
+    put_any(members, alloc, "textFormat", format)?;
+    let style = typed_style(alloc, kind, &element.text_style)?;
+    put_any(members, alloc, "textStyle", style)
 }
 
 /// An item's number, and whether it is checked where it says anything of that.
@@ -226,8 +216,7 @@ fn put_item(
     value: u32,
     checked: Option<bool>,
 ) -> Result<(), AllocError>
-    ensures { OnOk result (members_view members.new.entries ≡ written_onto (members_view members.old.entries)
-        ((codes "value", natural value) ∷ checked_members checked)) }
+    ensures { OnOk result (members_view members.new.entries ≡ written_onto (members_view members.old.entries) (extra_members (extra.Item value checked))) }
 {
     put(members, alloc, "value", Value::from(value))?;
     match checked {
@@ -245,8 +234,7 @@ fn put_link(
     title: &Option<Txt>,
     url: &Txt,
 ) -> Result<(), AllocError>
-    ensures written { OnOk result (members_view members.new.entries ≡ written_onto (members_view members.old.entries)
-        ((codes "rel", or_null text_data rel.now) ∷ (codes "target", or_null text_data target.now) ∷ (codes "title", or_null text_data title.now) ∷ (codes "url", text_data url.now) ∷ [])) }
+    ensures written { OnOk result (members_view members.new.entries ≡ written_onto (members_view members.old.entries) (extra_members (extra.Link rel.now target.now title.now url.now))) }
     ensures scalar { OnOk result (IsLinkStorable rel.now target.now title.now url.now) }
 {
     let rel = string_or_null(alloc, rel)?;
@@ -268,8 +256,7 @@ fn put_cell(
     col_span: u16,
     background: &Option<Txt>,
 ) -> Result<(), AllocError>
-    ensures written { OnOk result (members_view members.new.entries ≡ written_onto (members_view members.old.entries)
-        ((codes "headerState", natural header) ∷ (codes "rowSpan", natural row_span) ∷ (codes "colSpan", natural col_span) ∷ (codes "backgroundColor", or_null text_data background.now) ∷ [])) }
+    ensures written { OnOk result (members_view members.new.entries ≡ written_onto (members_view members.old.entries) (extra_members (extra.Cell header row_span col_span background.now))) }
     ensures scalar { OnOk result (IsTextIfAny background.now) }
 {
     put(members, alloc, "headerState", Value::from(header))?;
@@ -318,9 +305,7 @@ fn put_element(
     ensures storable { OnOk result (IsElementStorable element.now) }
 {
     put_layout(members, alloc, element)?;
-    put_text_format(members, alloc, kind, element.text_format)?;
-    put_text_style(members, alloc, kind, &element.text_style)?;
-    put_kind(members, alloc, kind)?;
+    put_typed(members, alloc, kind, element)?;
     put_extra(members, alloc, &element.extra)
 }
 
@@ -343,22 +328,18 @@ fn put_text(
     put(members, alloc, "style", style)
 }
 
-/// The members for the fields, and for an element what is written for its children.
+/// The members for the fields.
 fn put_fields(
     members: &mut Map<String, Value>,
     alloc: Global,
     kind: Kind,
     fields: &Fields,
-    children: Vec<Value>,
 ) -> Result<(), AllocError>
-    ensures written { OnOk result (members_view members.new.entries ≡ written_onto (members_view members.old.entries) (field_members kind fields.now (items_view children.items))) }
+    ensures written { OnOk result (members_view members.new.entries ≡ written_onto (members_view members.old.entries) (field_members kind fields.now)) }
     ensures storable { OnOk result (IsStorable fields.now) }
 {
     match fields {
-        Fields::Element(element) => {
-            put(members, alloc, "children", Value::Array(children))?;
-            put_element(members, alloc, kind, element)
-        }
+        Fields::Element(element) => put_element(members, alloc, kind, element),
         Fields::Text(text) => put_text(members, alloc, text),
         Fields::Embed(source) => {
             let source = string_value(alloc, source)?;
@@ -366,6 +347,52 @@ fn put_fields(
         }
         Fields::Bare => Ok(()),
     }
+}
+
+/// What a heading's tag says, or a list's type and tag.
+fn put_kind(members: &mut Map<String, Value>, alloc: Global, kind: Kind) -> Result<(), AllocError>
+    ensures { OnOk result (members_view members.new.entries ≡ written_onto (members_view members.old.entries) (kind_members kind)) }
+{
+    match kind {
+        Kind::Heading(level) => {
+            let tag = Value::try_from_str(alloc, level_word(level))?;
+            put(members, alloc, "tag", tag)
+        }
+        Kind::List(list_type) => {
+            let word = Value::try_from_str(alloc, list_word(list_type))?;
+            put(members, alloc, "listType", word)?;
+            let tag = Value::try_from_str(alloc, list_tag(list_type))?;
+            put(members, alloc, "tag", tag)
+        }
+        _ => Ok(()),
+    }
+}
+
+/// An element's children.
+fn children_value(fields: &Fields, children: Vec<Value>) -> Option<Value>
+    ensures { option_map view result ≡ exporting.children_data fields.now (items_view children.items) }
+{
+    match fields {
+        Fields::Element(_) => Some(Value::Array(children)),
+        _ => None,
+    }
+}
+
+/// A node's type, the version, and an element's children.
+fn put_node(
+    members: &mut Map<String, Value>,
+    alloc: Global,
+    kind: Kind,
+    fields: &Fields,
+    children: Vec<Value>,
+) -> Result<(), AllocError>
+    ensures { OnOk result (members_view members.new.entries ≡ written_onto (members_view members.old.entries) (node_members kind fields.now (items_view children.items))) }
+{
+    let name = Value::try_from_str(alloc, kind.type_name())?;
+    put(members, alloc, "type", name)?;
+    put(members, alloc, "version", Value::from(VERSION))?;
+    let children = children_value(fields, children);
+    put_any(members, alloc, "children", children)
 }
 
 /// The object of a node, which also says that its fields are such as code has them.
@@ -380,10 +407,9 @@ fn node_object(
     ensures storable { OnOk result (IsStorable fields.now) }
 {
     let mut members = Map::new(alloc);
-    let name = Value::try_from_str(alloc, kind.type_name())?;
-    put(&mut members, alloc, "type", name)?;
-    put(&mut members, alloc, "version", Value::from(VERSION))?;
-    put_fields(&mut members, alloc, kind, fields, children)?;
+    put_fields(&mut members, alloc, kind, fields)?;
+    put_kind(&mut members, alloc, kind)?;
+    put_node(&mut members, alloc, kind, fields, children)?;
     Ok(Value::Object(members))
 }
 

@@ -1,19 +1,20 @@
 //! The fields that an object gives a node: a document's, or those of a new node.
 
-ghost use Rattle.std.specs.Prelude.{◌≡◌, ◌↔◌, IfOk, IfErr, chars, OnErr, IsTrue, Some, None, Ok, Err, if◌then◌else◌, option_and_then, OnOk};
+ghost use Rattle.std.specs.Prelude.{◌≡◌, IfOk, IfErr, chars, IsTrue, Some, None, Ok, Err, if◌then◌else◌, map, option_map, option_and_then, OnOk};
 ghost use Rattle.lx_node.specs.Kinds.{is_possible};
 ghost use Rattle.lx_node.specs.OfKind.{IsOfKind};
 ghost use Rattle.lx_step.specs.Patches.{has, with_member};
 ghost use Rattle.lx_fields.specs.Members as members;
-ghost use Rattle.serde_json.specs.View.{view, members_view};
+ghost use Rattle.serde_json.specs.Find.{get};
+ghost use Rattle.serde_json.specs.View.{view};
 ghost use Rattle.lx_fields.specs.Documents as documents;
 
 use crate::members::settable;
 use crate::values::long_within;
-use crate::words::{Name, level_of, list_type_of, name_of};
+use crate::words::{NAMES, Name, level_of, list_type_of, name_of};
 use lx_node::{ElementFields, Extra, Fields, Kind, ListType, NoMemory, TextFields, Txt};
 use lx_step::Member;
-use serde_json::{Map, Value};
+use serde_json::Value;
 use std::alloc::Global;
 
 /// Why an object gives no fields.
@@ -175,25 +176,27 @@ fn give(
     }
 }
 
-/// Writes what a member gives, if the kind has it and it isn't null. It answers whether its value is one that
-/// it takes.
+/// Writes what a member of the kind gives, if it is there and isn't null. It answers whether its value is one that it
+/// takes.
 #[tactic(auto, unfolding(crate::specs::Documents::given_by))]
 fn give_by(
     alloc: Global,
     kind: Kind,
-    name: Option<Name>,
-    value: &Value,
+    name: Name,
+    value: Option<&Value>,
     fields: &mut Fields,
 ) -> Result<bool, NoMemory>
-    ensures { IfOk result (λ is_taken. documents.given_by kind name (view value.now) fields.old ≡ (if is_taken then Some fields.new else None)) }
+    ensures { IfOk result (λ is_taken. documents.given_by kind name (option_map (λ v. view v.now) value.entry) fields.old ≡ (if is_taken then Some fields.new else None)) }
 {
-    let Some(name) = name else {
-        return Ok(true);
-    };
-    if value.is_null() {
-        return Ok(true);
+    match value {
+        None => Ok(true),
+        Some(value) => {
+            if value.is_null() {
+                return Ok(true);
+            }
+            give(alloc, kind, name, value, fields)
+        }
     }
-    give(alloc, kind, name, value, fields)
 }
 
 /// The fault that the member of this name has a bad value.
@@ -206,22 +209,24 @@ fn bad(alloc: Global, text: &str) -> FieldFault
     }
 }
 
-/// Writes what the members of an object give.
+/// Writes what those of these members of an object give that the kind has.
 fn give_all(
     alloc: Global,
     kind: Kind,
-    object: &Map<String, Value>,
+    rows: &[(&str, Name)],
+    object: &Value,
     fields: &mut Fields,
 ) -> Result<(), FieldFault>
-    ensures ok { OnOk result (documents.fields_with kind (members_view object.now.entries) fields.old ≡ Ok fields.new) }
-    ensures err { IfErr result (documents.TellsBad (documents.fields_with kind (members_view object.now.entries) fields.old)) }
+    ensures ok { OnOk result (documents.fields_with kind (map (λ row. (row.0.now, row.1)) rows.now) (λ name. get name (view object.now)) fields.old ≡ Ok fields.new) }
+    ensures err { IfErr result (documents.TellsBad (documents.fields_with kind (map (λ row. (row.0.now, row.1)) rows.now) (λ name. get name (view object.now)) fields.old)) }
 {
-    'members: for (name, value) in object.iter() {
-        let text = name.as_str();
-        match give_by(alloc, kind, name_in(kind, text), value, fields) {
-            Ok(true) => {}
-            Ok(false) => return Err(bad(alloc, text)),
-            Err(_) => return Err(FieldFault::Memory),
+    'rows: for (text, name) in rows {
+        if takes(kind, *name) {
+            match give_by(alloc, kind, *name, object.get(*text), fields) {
+                Ok(true) => {}
+                Ok(false) => return Err(bad(alloc, *text)),
+                Err(_) => return Err(FieldFault::Memory),
+            }
         }
     }
     Ok(())
@@ -249,10 +254,7 @@ pub fn fields_of(alloc: Global, kind: Kind, from: &Value) -> Result<Fields, Fiel
         Ok(fields) => fields,
         Err(_) => return Err(FieldFault::Memory),
     };
-    let Some(object) = from.as_object() else {
-        return Ok(fields);
-    };
-    match give_all(alloc, kind, object, &mut fields) {
+    match give_all(alloc, kind, &NAMES, from, &mut fields) {
         Ok(()) => Ok(fields),
         Err(fault) => Err(let_go(fields, fault)),
     }

@@ -139,36 +139,36 @@ pub(crate) fn mode_of(value: &Value) -> Option<Mode>
     )
 }
 
+/// The members' names in byte order, and what they stand for.
+pub(crate) const NAMES: [(&str, Name); 23] = [
+    ("backgroundColor", Name::Background),
+    ("checked", Name::Checked),
+    ("colSpan", Name::ColSpan),
+    ("detail", Name::Detail),
+    ("direction", Name::Direction),
+    ("format", Name::Format),
+    ("headerState", Name::HeaderState),
+    ("indent", Name::Indent),
+    ("listType", Name::ListType),
+    ("mode", Name::Mode),
+    ("rel", Name::Rel),
+    ("rowSpan", Name::RowSpan),
+    ("src", Name::Src),
+    ("start", Name::Start),
+    ("style", Name::Style),
+    ("tag", Name::Tag),
+    ("target", Name::Target),
+    ("text", Name::Text),
+    ("textFormat", Name::TextFormat),
+    ("textStyle", Name::TextStyle),
+    ("title", Name::Title),
+    ("url", Name::Url),
+    ("value", Name::Value),
+];
+
 /// The member of this name.
 pub fn name_of(text: &str) -> Option<Name>
     ensures { result ≡ values.word_in words.names text.now }
 {
-    word_in(
-        &[
-            ("direction", Name::Direction),
-            ("format", Name::Format),
-            ("indent", Name::Indent),
-            ("textFormat", Name::TextFormat),
-            ("textStyle", Name::TextStyle),
-            ("tag", Name::Tag),
-            ("listType", Name::ListType),
-            ("start", Name::Start),
-            ("checked", Name::Checked),
-            ("value", Name::Value),
-            ("rel", Name::Rel),
-            ("target", Name::Target),
-            ("title", Name::Title),
-            ("url", Name::Url),
-            ("headerState", Name::HeaderState),
-            ("colSpan", Name::ColSpan),
-            ("rowSpan", Name::RowSpan),
-            ("backgroundColor", Name::Background),
-            ("text", Name::Text),
-            ("style", Name::Style),
-            ("detail", Name::Detail),
-            ("mode", Name::Mode),
-            ("src", Name::Src),
-        ],
-        text,
-    )
+    word_in(&NAMES, text)
 }

@@ -31,35 +31,30 @@ use Rattle.lx_json.specs.Growing.{children_told}
 use Rattle.lx_json.specs.GivenBack.{IsGivenBack, AreGivenBack}
 use Rattle.lx_json.specs.Back.{pieces_of}
 use Rattle.lx_json.proofs.Looked.{tree_of-object, with_children, children_told-list, children_told-leaf}
+use Rattle.lx_fields.proofs.Sound.{all_rows, told_by_holds}
 use Rattle.lx_fields.proofs.Exported.{type-there, children-there, kind-back, is-object}
 
 -- ---- the kind
 
+heading_held : (parent : Kind) (level to : ℕ) → may_hold parent (Heading to) ≡ may_hold parent (Heading level)
+unfolding may_hold is_block is_inline is_paragraph is_heading is_list is_item is_link is_row is_cell
+heading_held Root level to = refl
+heading_held _ level to = refl
+
+list_held : (parent : Kind) (type to : ListType) → may_hold parent (ListKind to) ≡ may_hold parent (ListKind type)
+unfolding may_hold is_block is_inline is_paragraph is_heading is_list is_item is_link is_row is_cell
+list_held Root type to = refl
+list_held _ type to = refl
+
 -- what a kind is said to be, a parent may hold as it may hold the kind
-heading_held : (parent : Kind) (level : ℕ) (o : Option ℕ) → may_hold parent (or_kept (Heading level) (option_map (λ level. Heading level) o)) ≡ may_hold parent (Heading level)
-unfolding may_hold is_block is_inline is_paragraph is_heading is_list is_item is_link is_row is_cell
-heading_held parent level None = refl
-heading_held Root level (Some to) = refl
-heading_held _ level (Some to) = refl
-
-list_held : (parent : Kind) (type : ListType) (o : Option ListType) → may_hold parent (or_kept (ListKind type) (option_map (λ type. ListKind type) o)) ≡ may_hold parent (ListKind type)
-unfolding may_hold is_block is_inline is_paragraph is_heading is_list is_item is_link is_row is_cell
-list_held parent type None = refl
-list_held Root type (Some to) = refl
-list_held _ type (Some to) = refl
-
-heading_told : (parent : Kind) (level : ℕ) (o : Option Data) → may_hold parent (told_by (λ level. Heading level) (Heading level) levels o) ≡ may_hold parent (Heading level)
-heading_told parent level None = refl
-heading_told parent level (Some d) = heading_held parent level (word_named levels d)
-
-list_told : (parent : Kind) (type : ListType) (o : Option Data) → may_hold parent (told_by (λ type. ListKind type) (ListKind type) list_types o) ≡ may_hold parent (ListKind type)
-list_told parent type None = refl
-list_told parent type (Some d) = list_held parent type (word_named list_types d)
-
 may_hold-told : (parent kind : Kind) (d : Data) → may_hold parent (kind_told kind d) ≡ may_hold parent kind
 unfolding kind_told
-may_hold-told parent (Heading level) d = heading_told parent level (get (codes "tag") d)
-may_hold-told parent (ListKind type) d = list_told parent type (get (codes "listType") d)
+may_hold-told parent (Heading level) d =
+    let P : Kind → Type 0 = λ kind. may_hold parent kind ≡ may_hold parent (Heading level) in
+    told_by_holds P (λ level. Heading level) (Heading level) levels (get (codes "tag") d) (all_rows (λ to. P (Heading to)) (heading_held parent level) levels) refl
+may_hold-told parent (ListKind type) d =
+    let P : Kind → Type 0 = λ kind. may_hold parent kind ≡ may_hold parent (ListKind type) in
+    told_by_holds P (λ type. ListKind type) (ListKind type) list_types (get (codes "listType") d) (all_rows (λ to. P (ListKind to)) (list_held parent type) list_types) refl
 may_hold-told parent _ d = refl
 
 placed : (parent kind : Kind) (o : Option Kind) (text : List ℕ) (d : Data) → option_map (λ base. kind_told base d) o ≡ Some kind → may_hold parent kind ≡ true → placed_kind (Some parent) o text d ≡ Ok kind

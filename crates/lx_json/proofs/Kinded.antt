@@ -9,6 +9,7 @@ use Rattle.lx_node.specs.declared.cause.Cause.{Cause}
 use Rattle.lx_fields.specs.Types.{kind_of_type, or_kept, told_by, kind_told}
 use Rattle.lx_fields.specs.Values.{word_in, named}
 use Rattle.lx_fields.specs.Words.{kind_in, made_kinds, levels, list_types}
+use Rattle.lx_fields.proofs.Sound.{all_rows, rows_tested, kind_tested, told_by_holds}
 use Rattle.lx_json.specs.Pieces.{is_root, IsToldKind}
 use Rattle.std.specs.Str.{chars}
 use Rattle.std.specs.Ordering.{nat_cmp, match_ordering}
@@ -36,20 +37,7 @@ kind_unlike (Some parent) d = refl
 -- at the root another type is refused
 pub placed_top : (kind : Kind) (text : List ℕ) (d : Data) → kind ≢ Root → placed_kind None (Some kind) text d ≡ Err (BadState (codes "/type"))
 placed_top Root text d other = absurd (other refl)
-placed_top Paragraph text d other = refl
-placed_top (Heading level) text d other = refl
-placed_top Quote text d other = refl
-placed_top (ListKind type) text d other = refl
-placed_top Item text d other = refl
-placed_top Link text d other = refl
-placed_top Table text d other = refl
-placed_top Row text d other = refl
-placed_top Cell text d other = refl
-placed_top Text text d other = refl
-placed_top Tab text d other = refl
-placed_top Break text d other = refl
-placed_top Rule text d other = refl
-placed_top Embed text d other = refl
+placed_top _ text d other = refl
 
 -- ---- the first of the bad members
 
@@ -69,136 +57,36 @@ first_named bs utf8 other = by_order (slice_cmp nat_cmp (chars bs) (codes "child
 pub bad_children : (is_bad : Bool) (r : Result Fields (List ℕ)) (fields : Fields) → is_bad ≡ true → r ≡ Ok fields → fields_or_bad (first_bad is_bad r) ≡ Err (BadState (member_place (codes "children")))
 bad_children is_bad r fields bad is = ap (λ b. fields_or_bad (first_bad b r)) bad ∙ ap (λ r. fields_or_bad (first_bad true r)) is
 
--- ---- kinds that a node can be
+-- ---- kinds that a node can be, and the root's kind, which is the root's alone
 
-abbrev all_of : {A : Type 0} → (A → Bool) → List A → Bool
-all_of test [] = true
-all_of test (a ∷ rest) = test a && all_of test rest
-
-left : (a b : Bool) → (a && b) ≡ true → a ≡ true
-left true b e = refl
-left false b e = absurd (cc)
-
-right : (a b : Bool) → (a && b) ≡ true → b ≡ true
-right true b e = e
-right false b e = absurd (cc)
-
-found : {A : Type 0} (test : A → Bool) (b : Bool) (a c : A) (rest : Option A) → test a ≡ true → (rest ≡ Some c → test c ≡ true) → (if b then Some a else rest) ≡ Some c → test c ≡ true
-found test true a c rest here later is = let same : a ≡ c = cc in ap test (sym same) ∙ here
-found test false a c rest here later is = later is
-
-kind_in-all : (test : Kind → Bool) (kinds : List Kind) (text : List ℕ) (kind : Kind) → all_of test kinds ≡ true → kind_in kinds text ≡ Some kind → test kind ≡ true
-kind_in-all test [] text kind all is = absurd (cc)
-kind_in-all test (k ∷ kinds) text kind all is = found test _ k kind (kind_in kinds text) (left _ _ all) (kind_in-all test kinds text kind (right _ _ all)) is
-
-word_in-all : {A : Type 0} (test : A → Bool) (rows : List (List ℕ × A)) (text : List ℕ) (a : A) → all_of (λ row. test row.1) rows ≡ true → word_in rows text ≡ Some a → test a ≡ true
-word_in-all test [] text a all is = absurd (cc)
-word_in-all test (row ∷ rows) text a all is = found test _ row.1 a (word_in rows text) (left _ _ all) (word_in-all test rows text a (right _ _ all)) is
-
-told-kept : {A : Type 0} (make : A → Kind) (kind : Kind) (o : Option A) → is_possible kind ≡ true → ((a : A) → o ≡ Some a → is_possible (make a) ≡ true) → is_possible (or_kept kind (option_map make o)) ≡ true
-told-kept make kind None was each = was
-told-kept make kind (Some a) was each = each a refl
-
-in_string : {A : Type 0} (make : A → Kind) (kind : Kind) (rows : List (List ℕ × A)) (o : Option (List ℕ)) → all_of (λ row. is_possible (make row.1)) rows ≡ true → is_possible kind ≡ true → is_possible (or_kept kind (option_map make (option_and_then (word_in rows) o))) ≡ true
-in_string make kind rows None all was = was
-in_string make kind rows (Some text) all was = told-kept make kind (word_in rows text) was (λ a is. word_in-all (λ a. is_possible (make a)) rows text a all is)
-
-told_by-possible : {A : Type 0} (make : A → Kind) (kind : Kind) (rows : List (List ℕ × A)) (o : Option Data) → all_of (λ row. is_possible (make row.1)) rows ≡ true → is_possible kind ≡ true → is_possible (told_by make kind rows o) ≡ true
-told_by-possible make kind rows None all was = was
-told_by-possible make kind rows (Some d) all was = in_string make kind rows (as_str d) all was
-
-levels_possible : all_of (λ row. is_possible (Heading row.1)) levels ≡ true
+type_possible : (text : List ℕ) (kind : Kind) → kind_of_type text ≡ Some kind → is_possible kind ≡ true
 unfolding is_possible
-levels_possible = refl
-
-lists_possible : all_of (λ row. is_possible (ListKind row.1)) list_types ≡ true
-unfolding is_possible
-lists_possible = refl
-
-types_possible : all_of is_possible (Root ∷ made_kinds) ≡ true
-unfolding is_possible
-types_possible = refl
+type_possible text kind is = kind_tested is_possible (Root ∷ made_kinds) refl text kind is
 
 kind_told-possible : (kind : Kind) (d : Data) → is_possible kind ≡ true → is_possible (kind_told kind d) ≡ true
-unfolding kind_told
-kind_told-possible (Heading level) d was = told_by-possible (λ level. Heading level) (Heading level) levels (get (codes "tag") d) levels_possible was
-kind_told-possible (ListKind type) d was = told_by-possible (λ type. ListKind type) (ListKind type) list_types (get (codes "listType") d) lists_possible was
-kind_told-possible Root d was = was
-kind_told-possible Paragraph d was = was
-kind_told-possible Quote d was = was
-kind_told-possible Item d was = was
-kind_told-possible Link d was = was
-kind_told-possible Table d was = was
-kind_told-possible Row d was = was
-kind_told-possible Cell d was = was
-kind_told-possible Text d was = was
-kind_told-possible Tab d was = was
-kind_told-possible Break d was = was
-kind_told-possible Rule d was = was
-kind_told-possible Embed d was = was
-
--- ---- the root's kind is the root's alone
-
-told-below : {A : Type 0} (make : A → Kind) (kind : Kind) (o : Option A) → is_root kind ≡ false → ((a : A) → is_root (make a) ≡ false) → is_root (or_kept kind (option_map make o)) ≡ false
-told-below make kind None was each = was
-told-below make kind (Some a) was each = each a
-
-told_by-below : {A : Type 0} (make : A → Kind) (kind : Kind) (rows : List (List ℕ × A)) (o : Option Data) → is_root kind ≡ false → ((a : A) → is_root (make a) ≡ false) → is_root (told_by make kind rows o) ≡ false
-told_by-below make kind rows None was each = was
-told_by-below make kind rows (Some d) was each = told-below make kind (named rows d) was each
+unfolding kind_told is_possible
+kind_told-possible (Heading level) d was =
+    told_by_holds (λ kind. is_possible kind ≡ true) (λ level. Heading level) (Heading level) levels (get (codes "tag") d) (rows_tested (λ level. is_possible (Heading level)) levels refl) was
+kind_told-possible (ListKind type) d was =
+    told_by_holds (λ kind. is_possible kind ≡ true) (λ type. ListKind type) (ListKind type) list_types (get (codes "listType") d) (rows_tested (λ type. is_possible (ListKind type)) list_types refl) was
+kind_told-possible _ d was = was
 
 kind_told-below : (kind : Kind) (d : Data) → is_root kind ≡ false → is_root (kind_told kind d) ≡ false
 unfolding kind_told
-kind_told-below (Heading level) d was = told_by-below (λ level. Heading level) (Heading level) levels (get (codes "tag") d) was (λ a. refl)
-kind_told-below (ListKind type) d was = told_by-below (λ type. ListKind type) (ListKind type) list_types (get (codes "listType") d) was (λ a. refl)
-kind_told-below Root d was = was
-kind_told-below Paragraph d was = was
-kind_told-below Quote d was = was
-kind_told-below Item d was = was
-kind_told-below Link d was = was
-kind_told-below Table d was = was
-kind_told-below Row d was = was
-kind_told-below Cell d was = was
-kind_told-below Text d was = was
-kind_told-below Tab d was = was
-kind_told-below Break d was = was
-kind_told-below Rule d was = was
-kind_told-below Embed d was = was
+kind_told-below (Heading level) d was =
+    told_by_holds (λ kind. is_root kind ≡ false) (λ level. Heading level) (Heading level) levels (get (codes "tag") d) (all_rows (λ level. is_root (Heading level) ≡ false) (λ level. refl) levels) was
+kind_told-below (ListKind type) d was =
+    told_by_holds (λ kind. is_root kind ≡ false) (λ type. ListKind type) (ListKind type) list_types (get (codes "listType") d) (all_rows (λ type. is_root (ListKind type) ≡ false) (λ type. refl) list_types) was
+kind_told-below _ d was = was
 
 holds_no_root : (parent : Kind) → may_hold parent Root ≡ false
 unfolding may_hold is_block is_inline is_item is_row is_cell is_link is_paragraph is_heading is_list
 holds_no_root Root = refl
-holds_no_root Paragraph = refl
-holds_no_root (Heading level) = refl
-holds_no_root Quote = refl
-holds_no_root (ListKind type) = refl
-holds_no_root Item = refl
-holds_no_root Link = refl
-holds_no_root Table = refl
-holds_no_root Row = refl
-holds_no_root Cell = refl
-holds_no_root Text = refl
-holds_no_root Tab = refl
-holds_no_root Break = refl
-holds_no_root Rule = refl
-holds_no_root Embed = refl
+holds_no_root _ = refl
 
 held_below : (parent kind : Kind) → may_hold parent kind ≡ true → is_root kind ≡ false
 held_below parent Root holds = absurd (let none = holds_no_root parent in cc)
-held_below parent Paragraph holds = refl
-held_below parent (Heading level) holds = refl
-held_below parent Quote holds = refl
-held_below parent (ListKind type) holds = refl
-held_below parent Item holds = refl
-held_below parent Link holds = refl
-held_below parent Table holds = refl
-held_below parent Row holds = refl
-held_below parent Cell holds = refl
-held_below parent Text holds = refl
-held_below parent Tab holds = refl
-held_below parent Break holds = refl
-held_below parent Rule holds = refl
-held_below parent Embed holds = refl
+held_below parent _ holds = refl
 
 -- ---- the kind of a node
 
@@ -213,20 +101,7 @@ root_possible = refl
 top_kind : (o : Option Kind) (text : List ℕ) (d : Data) (kind : Kind) → placed_kind None o text d ≡ Ok kind → kind ≡ Root
 top_kind None text d kind e = absurd (cc)
 top_kind (Some Root) text d kind e = cc
-top_kind (Some Paragraph) text d kind e = absurd (cc)
-top_kind (Some (Heading level)) text d kind e = absurd (cc)
-top_kind (Some Quote) text d kind e = absurd (cc)
-top_kind (Some (ListKind type)) text d kind e = absurd (cc)
-top_kind (Some Item) text d kind e = absurd (cc)
-top_kind (Some Link) text d kind e = absurd (cc)
-top_kind (Some Table) text d kind e = absurd (cc)
-top_kind (Some Row) text d kind e = absurd (cc)
-top_kind (Some Cell) text d kind e = absurd (cc)
-top_kind (Some Text) text d kind e = absurd (cc)
-top_kind (Some Tab) text d kind e = absurd (cc)
-top_kind (Some Break) text d kind e = absurd (cc)
-top_kind (Some Rule) text d kind e = absurd (cc)
-top_kind (Some Embed) text d kind e = absurd (cc)
+top_kind (Some _) text d kind e = absurd (cc)
 
 is_top : (kind : Kind) → kind ≡ Root → IsToldKind None kind
 is_top kind is = record { possible = ap is_possible is ∙ root_possible; below = λ some. absurd (cc); top = λ none. is }
@@ -248,7 +123,7 @@ told_kind None unlike d kind e = absurd (cc)
 told_kind (Some parent) unlike d kind e = absurd (cc)
 told_kind None (typed text) d kind e = is_top kind (top_kind (kind_of_type text) text d kind e)
 told_kind (Some parent) (typed text) d kind e =
-    placed_below parent (kind_of_type text) text d kind (λ k is. kind_in-all is_possible (Root ∷ made_kinds) text k types_possible is) e
+    placed_below parent (kind_of_type text) text d kind (type_possible text) e
 
 pub not_root : (kind : Kind) → is_root kind ≡ false → kind ≢ Root
 not_root kind is = λ same. absurd (let all = ap is_root same in cc)

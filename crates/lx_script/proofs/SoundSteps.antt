@@ -30,19 +30,19 @@ use Rattle.lx_fields.specs.declared.words.Name.{Name}
 use Rattle.lx_fields.specs.declared.words.Name.TheVariants as name
 use Rattle.lx_script.specs.declared.words.Verb.{Verb}
 use Rattle.lx_script.specs.declared.words.Verb.TheVariants as verb
-use Rattle.lx_fields.specs.Documents.{document_fields, members_in}
+use Rattle.lx_fields.specs.Documents.{document_fields}
 use Rattle.lx_script.specs.Commands.{built_in_name, command_with, command_in, command_of, payload_in}
 use Rattle.lx_script.specs.Grammar.{update_with, update_of, flush_told, flush_of, dispatch_form_of, rule_form_of, listener_form_of, show_of, clear_of, clearings, form_of}
 use Rattle.lx_script.specs.Listeners.{listener_of, listener_with, when_in}
 use Rattle.lx_script.specs.Patches.{patch_member, patch_members, patch_of}
-use Rattle.lx_script.specs.NewNodes.{or_default, kind_with, may_all_be_given, new_fields}
+use Rattle.lx_script.specs.NewNodes.{or_default, kind_with, may_all_be_given, members_in, new_fields}
 use Rattle.lx_script.specs.References.{reference_of, selection_of}
 use Rattle.lx_script.specs.Rules.{rule_of}
 use Rattle.lx_script.specs.Steps.{fields_in, new_in, new_with, new_of, set_of, patch_from, one_node, two_nodes, step_for, step_of, queued_in, script_in, script_from, truth_in}
 use Rattle.lx_fields.specs.Values.{word_in, named, string_of, whole_of, number_within, has_only, required, optional, first_member, list_of}
 use Rattle.lx_fields.specs.Words.{kind_in, levels, list_types, made_kinds, names}
 use Rattle.lx_script.specs.Words.{kind_named, questions, verbs}
-use Rattle.lx_fields.proofs.Sound.{EachRow, mapped, either, chained, tested, named_holds, up_to, settable-ranged, document_fields_of_kind}
+use Rattle.lx_fields.proofs.Sound.{EachRow, rows_tested, kind_tested, mapped, either, chained, tested, named_holds, up_to, settable-ranged, document_fields_of_kind}
 
 -- ---- what two options hold, and what a result holds
 
@@ -92,52 +92,29 @@ patch_ranged d made is = chained (All IsInRange) patch_members (as_object d) (λ
 abbrev IsNewKind : Kind → Type 0
 IsNewKind of = IsTrue (is_possible of) × (of ≢ kind.Root)
 
-abbrev EachKind : List Kind → Type 0
-EachKind [] = Unit {0}
-EachKind (of ∷ kinds) = IsNewKind of × EachKind kinds
+-- whether a node can be of the kind and it isn't the root's
+abbrev is_new : Kind → Bool
+is_new kind.Root = false
+is_new of = is_possible of
 
-kind_holds : (kinds : List Kind) → EachKind kinds → (text : List ℕ) (of : Kind) → kind_in kinds text ≡ Some of → IsNewKind of
-kind_holds [] each text of is = absurd (cc)
-kind_holds (first ∷ kinds) each text of is = here (bytes_eq (type_name first) text) each.0 (kind_holds kinds each.1 text of) is
-  where
-    here : (test : Bool) → IsNewKind first → (kind_in kinds text ≡ Some of → IsNewKind of) → (if test then Some first else kind_in kinds text) ≡ Some of → IsNewKind of
-    here true holds rest is = let same : first ≡ of = cc in subst IsNewKind same holds
-    here false holds rest is = rest is
-
-each_made : EachKind made_kinds
+new_kind : (of : Kind) → is_new of ≡ true → IsNewKind of
 unfolding is_possible
-each_made = (
-  (refl, λ e. cc),
-  (
-    (refl, λ e. cc),
-    (
-      (refl, λ e. cc),
-      (
-        (refl, λ e. cc),
-        (
-          (refl, λ e. cc),
-          (
-            (refl, λ e. cc),
-            (
-              (refl, λ e. cc),
-              ((refl, λ e. cc), ((refl, λ e. cc), ((refl, λ e. cc), ((refl, λ e. cc), ((refl, λ e. cc), ((refl, λ e. cc), ((refl, λ e. cc), tt))))))),
-            ),
-          ),
-        ),
-      ),
-    ),
-  ),
-)
+new_kind kind.Root is = absurd (cc)
+new_kind _ is = (is, λ e. cc)
+
+named_is_new : (text : List ℕ) (of : Kind) → kind_in made_kinds text ≡ Some of → IsNewKind of
+unfolding is_possible
+named_is_new text of is = new_kind of (kind_tested is_new made_kinds refl text of is)
 
 made_is_new : (d : Data) (of : Kind) → kind_named d ≡ Some of → IsNewKind of
-made_is_new d of is = chained IsNewKind (kind_in made_kinds) (as_str d) (λ text at. kind_holds made_kinds each_made text) of is
+made_is_new d of is = chained IsNewKind (kind_in made_kinds) (as_str d) (λ text at. named_is_new text) of is
 
 IsLevel : ℕ → Type 0
 IsLevel level = IsTrue (leb 1 level && leb level 6)
 
 each_level : EachRow IsLevel levels
 unfolding IsLevel
-each_level = (refl, (refl, (refl, (refl, (refl, (refl, tt))))))
+each_level = rows_tested (λ level. leb 1 level && leb level 6) levels refl
 
 default_holds : {A : Type 0} (P : A → Type 0) (default : A) (reads : Data → Option A) → P default → ((d : Data) (a : A) → reads d ≡ Some a → P a)
     → (o : Option Data) (a : A) → or_default default reads o ≡ Some a → P a

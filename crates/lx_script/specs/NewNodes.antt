@@ -1,14 +1,14 @@
 -- The kind and the fields of a new node, by its type and an object of fields.
 use Rattle.std.specs.Prelude.{Bool, true, false, ◌&&◌, codes, is_some, if◌then◌else◌, Option, None, Some, option_map}
 use Rattle.std.specs.Result.{result_ok}
-use Rattle.serde_json.specs.Data.{Data, Members, no_members, member}
+use Rattle.serde_json.specs.Data.{Data, object, Members, no_members, member}
 use Rattle.serde_json.specs.Find.{get, as_null}
 use Rattle.lx_node.specs.declared.kind.Kind.{Kind}
 use Rattle.lx_node.specs.declared.kind.Kind.TheVariants.{Heading, List as ListKind}
 use Rattle.lx_node.specs.declared.fields.Fields.{Fields}
 use Rattle.lx_fields.specs.declared.words.Name.{Name}
 use Rattle.lx_fields.specs.declared.words.Name.TheVariants as name
-use Rattle.lx_fields.specs.Documents.{document_fields, members_in, name_in}
+use Rattle.lx_fields.specs.Documents.{document_fields, name_in}
 use Rattle.lx_fields.specs.Values.{named}
 use Rattle.lx_fields.specs.Words.{levels, list_types}
 
@@ -37,6 +37,11 @@ may_be_given (Some known) d = true
 abbrev pub may_all_be_given : Kind → Members → Bool
 may_all_be_given kind no_members = true
 may_all_be_given kind (member text d rest) = may_be_given (name_in kind text) d && may_all_be_given kind rest
+
+-- the members of an object; any other value has none
+abbrev pub members_in : Data → Members
+members_in (object members) = members
+members_in d = no_members
 
 -- the fields of a new node, which are those that a document's object gives
 unfoldable pub new_fields : Kind → Data → Option Fields

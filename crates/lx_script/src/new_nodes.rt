@@ -3,7 +3,6 @@
 ghost use Rattle.std.specs.Prelude.{◌≡◌, IfOk, codes, option_map};
 ghost use Rattle.serde_json.specs.View.{view, members_view};
 ghost use Rattle.serde_json.specs.Find.{get};
-ghost use Rattle.lx_fields.specs.Documents.{members_in};
 ghost use Rattle.lx_script.specs.NewNodes as new_nodes;
 ghost use Rattle.lx_fields.specs.Values.{named};
 ghost use Rattle.lx_fields.specs.Words.{levels, list_types};
@@ -86,7 +85,7 @@ fn may_all_be_given(kind: Kind, object: &Map<String, Value>) -> bool
 
 /// Whether a new node of the kind may be given all that an object has, or nothing for what is no object.
 fn may_have(kind: Kind, object: &Value) -> bool
-    ensures { result ≡ new_nodes.may_all_be_given kind (members_in (view object.now)) }
+    ensures { result ≡ new_nodes.may_all_be_given kind (new_nodes.members_in (view object.now)) }
 {
     match object.as_object() {
         Some(members) => may_all_be_given(kind, members),
