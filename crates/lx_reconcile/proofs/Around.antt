@@ -15,12 +15,12 @@ use Rattle.lx_reconcile.specs.declared.moves.Move.{Move}
 use Rattle.lx_reconcile.specs.Making.{IsBetween}
 use Rattle.lx_reconcile.specs.Walk.{toward, IsWalk, IsPart}
 use Rattle.lx_reconcile.specs.Windows.{IsWindowOfMarks, IsWalkIn, start_of, end_of, between_names}
-use Rattle.lx_reconcile.proofs.Children.{first_place}
-use Rattle.lx_reconcile.proofs.Neighbours.{child_there, siblings_of}
-use Rattle.lx_reconcile.proofs.Lists.{NoRepeats-right}
+use Rattle.lx_reconcile.proofs.Children.{first_place, child_there}
+use Rattle.lx_reconcile.proofs.Neighbours.{siblings_of}
+use Rattle.lx_reconcile.proofs.Lists.{NoRepeats-right, last_of-among}
 use Rattle.lx_reconcile.proofs.Parts.{none_part, part_of_window}
-use Rattle.lx_reconcile.proofs.Runs.{none_of}
-use Rattle.lx_reconcile.proofs.Shared.{AgreeAround, IsShared, shared, shared_run, first_shared, last_is, last_of-among, next_in-last}
+use Rattle.lx_reconcile.proofs.Shared.{AgreeAround, IsShared, shared, shared_run, first_shared, last_is, next_in-last}
+use Rattle.std.proofs.lemmas.List.{nil_from_length}
 
 once_left : (xs ys : List ℕ) → NoRepeats (xs ++ ys) → NoRepeats xs
 once_left [] ys once = tt
@@ -101,8 +101,8 @@ module _ (old new : Forest) (mk : Marking) (v : HostTree) (b : IsBetween old new
     full : w.keys.items ≡ [] → (m.is.front ≡ []) × (m.is.back ≡ [])
     full none =
         let sum = ap length (sym m.is.list ∙ m.none none) in (
-          none_of m.is.front (omega (arith, sum, length-append m.is.front (w.keys.items ++ m.is.back))),
-          none_of m.is.back (omega (arith, sum, length-append m.is.front (w.keys.items ++ m.is.back), length-append w.keys.items m.is.back)),
+          nil_from_length m.is.front (omega (arith, sum, length-append m.is.front (w.keys.items ++ m.is.back))),
+          nil_from_length m.is.back (omega (arith, sum, length-append m.is.front (w.keys.items ++ m.is.back), length-append w.keys.items m.is.back)),
         )
 
     run : IsShared m.is.front w.keys.items m.is.back news

@@ -1,5 +1,5 @@
 -- The keys of a run of a node's children, as they are read one after another.
-use Rattle.std.proofs.Common.{◌≡◌, ◌∙◌, ◌+◌, ◌-◌, ◌<◌, ◌≤◌, Bor, get_or, ℕ, Bool, true, false, cond, List, [], ◌∷◌, ◌++◌, length, length-append, Option, None, Some, refl, sym, ap, subst, arith, append-nil, append_assoc, inl, inr}
+use Rattle.std.proofs.Common.{◌≡◌, ◌∙◌, ◌+◌, ◌-◌, ◌<◌, ◌≤◌, Bor, get_or, ℕ, Bool, true, false, cond, List, [], ◌∷◌, ◌++◌, length, length-append, Option, None, Some, refl, sym, ap, subst, arith, append_assoc, inl, inr}
 use Rattle.std.specs.Option.{option_copied}
 use Rattle.std.specs.Slice.{IsGetResult}
 use Rattle.std.proofs.lemmas.Bool.Decides.{eqb_tells}
@@ -10,11 +10,6 @@ use Rattle.lx_reconcile.specs.Windows.{up_to_end, between_names}
 use Rattle.lx_reconcile.proofs.Children.{next_place}
 use Rattle.lx_reconcile.proofs.Shared.{split}
 use Rattle.lx_reconcile.proofs.Lists.{NoRepeats-right}
-
--- nothing is left where no next one is named
-between-none : (last : Option ℕ) (kids : List ℕ) → between_names None last kids ≡ []
-between-none None kids = refl
-between-none (Some l) kids = refl
 
 -- these keys of the run are found, and `at` is the next one
 pub record AreFound (kids : List ℕ) (first last at : Option ℕ) (keys : List ℕ) : Type 0 where
@@ -54,10 +49,6 @@ found_more kids first last at next child keys more once here f is more_is =
           ∙ sym (ap (λ ks. keys ++ ks) (ap (λ o. between_names o last kids) here ∙ between-step kids child last next once among is))
           ∙ f.list;
     }
-
-pub found_all : (kids : List ℕ) (first last at : Option ℕ) (keys : List ℕ) → at ≡ None → AreFound kids first last at keys → keys ≡ between_names first last kids
-found_all kids first last at keys none f =
-    sym (append-nil keys) ∙ sym (ap (λ ks. keys ++ ks) (ap (λ o. between_names o last kids) none ∙ between-none last kids)) ∙ f.list
 
 -- fewer are left after the next one
 pub found_fewer : (kids : List ℕ) (last at next : Option ℕ) (child : ℕ) → NoRepeats kids → at ≡ Some child → is_place at kids ≡ true → next ≡ cond (is_named last child) None (next_in kids child)

@@ -181,10 +181,6 @@ pub record IsCountedUpTo (kept : Bool) (old f : Forest) (key : ℕ) (at : Option
   pub place : is_place at (children_of f key) ≡ true
   pub sum : counted + unkept_in kept old (Some key) (trees_of f (from_name at (children_of f key))) ≡ unkept_in kept old (Some key) (trees_of f (children_of f key))
 
-nothing_in : (kept : Bool) (old : Forest) (p : Option ℕ) → unkept_in kept old p nil ≡ 0
-nothing_in true old p = refl
-nothing_in false old p = refl
-
 -- the next child is there, with a smaller tree
 pub record IsChildNext (f f_now : Forest) (key child : ℕ) : Type 0 where
   pub there : has child f_now ≡ true

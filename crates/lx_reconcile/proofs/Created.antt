@@ -12,7 +12,6 @@ use Rattle.lx_host.specs.declared.op.Op.TheVariants.{Place}
 use Rattle.lx_host.specs.Hosts.{Face, Host, HostTree, id_of, one_host, shape_of, count, has, without, alone, put_below, children_of, fits_before, fits, effect, Leads, FitInTurn, IsNumbered}
 use Rattle.lx_host.proofs.Laws.{joined-nil, joined-assoc, inserted-None, count-joined, without-joined, alone-joined, put_below-joined, children_of-joined, children_of-absent, without-absent, alone-absent, put_below-absent}
 use Rattle.lx_forest.specs.Forest.{Label, Forest}
-use Rattle.lx_forest.specs.Lookups as forest
 use Rattle.lx_render.specs.Render.{render, face_of, last_kind}
 use Rattle.lx_reconcile.specs.Created.{numbered, create_op, creations, creation}
 

@@ -1,12 +1,12 @@
 -- What the operations for a node and its children come to, by what the code knows.
 use Rattle.std.specs.Result.{OnOk}
-use Rattle.std.proofs.Common.{Result, Ok, Err, ◌≡◌, ◌∙◌, ◌+◌, ◌*◌, ◌<◌, ◌≤◌, ◌⊎◌, ℕ, Bool, true, false, not, ◌&&◌, List, [], ◌∷◌, ◌++◌, length, Option, None, Some, option_map, inl, inr, refl, sym, ap, subst, arith, append_assoc, append-nil, take, drop, get_or}
+use Rattle.std.proofs.Common.{Result, Ok, Err, ◌≡◌, ◌∙◌, ◌+◌, ◌*◌, ◌<◌, ◌≤◌, ℕ, Bool, true, false, not, List, [], ◌∷◌, ◌++◌, length, Option, None, Some, option_map, refl, sym, ap, subst, arith, append_assoc, append-nil, take, drop, get_or}
 use Rattle.std.proofs.lemmas.Bool.Decides.{eqb_tells}
 use Rattle.std.proofs.lemmas.List.{take_more, drop_more, take-append-drop}
 use Rattle.std.proofs.lemmas.Option.{same_Some}
 use Rattle.std.proofs.lemmas.Result.{on_ok_weaker}
 use Rattle.lx_node.specs.Limits.{last_u32}
-use Rattle.lx_trees.specs.Trees.{Trees, nil, tree}
+use Rattle.lx_trees.specs.Trees.{nil}
 use Rattle.lx_trees.specs.NamedTrees.{total}
 use Rattle.lx_trees.specs.Siblings.{is_among}
 use Rattle.lx_trees.specs.Spots.{Spot}
@@ -44,44 +44,10 @@ use Rattle.lx_reconcile.proofs.Touched.{Due, children_touched, label_touched, cr
 use Rattle.lx_reconcile.proofs.Skipped.{skipped}
 use Rattle.lx_reconcile.proofs.StartEnd.{only_host, child_stands}
 use Rattle.lx_reconcile.proofs.Walked.{child_unkept, made_unkept, again_unkept, walk_room, walk_both, walk_stay, walk_leave, walk_place, walk_make, walk_again}
+use Rattle.std.proofs.lemmas.Bool.{and_parts, not-true}
+use Rattle.lx_reconcile.proofs.HostOf.{one_shows}
 
 -- ---- the host that shows a node
-
-append_none : (xs ys : List ℕ) → xs ++ ys ≡ [] → (xs ≡ []) × (ys ≡ [])
-append_none [] ys e = (refl, e)
-append_none (x ∷ xs) ys e = absurd (cc)
-
-append_one : (xs ys : List ℕ) (i : ℕ) → xs ++ ys ≡ i ∷ [] → ((xs ≡ i ∷ []) × (ys ≡ [])) ⊎ ((xs ≡ []) × (ys ≡ i ∷ []))
-append_one [] ys i e = inr (refl, e)
-append_one (x ∷ xs) ys i e =
-    let rest : xs ++ ys ≡ [] = cc in
-    let none = append_none xs ys rest in
-    let first : x ≡ i = cc in
-    inl (ap (λ y. y ∷ xs) first ∙ ap (λ l. i ∷ l) none.0, none.1)
-
-none_shows : (k : ℕ) (t : Trees Host) → hosts_of k t ≡ [] → hosts.host_of k t ≡ None
-none_shows k nil e = refl
-none_shows k (tree host below rest) e = elim (eqb_tells host.face.key k) [
-  | inl same ↦ absurd (let h = rw same.0 at e in cc)
-  | inr other ↦
-      let none = append_none (hosts_of k below) (hosts_of k rest) (rw other.0 at e) in
-      rw (other.0, none_shows k below none.0, none_shows k rest none.1) refl
-]
-
-one_shows : (k i : ℕ) (t : Trees Host) → hosts_of k t ≡ i ∷ [] → hosts.host_of k t ≡ Some i
-one_shows k i nil e = absurd (cc)
-one_shows k i (tree host below rest) e = elim (eqb_tells host.face.key k) [
-  | inl same ↦
-      let h : host.id ∷ (hosts_of k below ++ hosts_of k rest) ≡ i ∷ [] = rw same.0 at e in
-      let left : hosts_of k below ++ hosts_of k rest ≡ [] = cc in
-      let none = append_none (hosts_of k below) (hosts_of k rest) left in
-      let first : host.id ≡ i = cc in
-      rw (same.0, none_shows k below none.0, none_shows k rest none.1) (ap (λ x. Some x) first)
-  | inr other ↦ elim (append_one (hosts_of k below) (hosts_of k rest) i (rw other.0 at e)) [
-    | inl one ↦ rw (other.0, one_shows k i below one.0, none_shows k rest one.1) refl
-    | inr one ↦ rw (other.0, none_shows k below one.0, one_shows k i rest one.1) refl
-  ]
-]
 
 found_is : (k : ℕ) (v : HostTree) (o : Option ℕ) → o ≡ hosts.host_of k (first_tree v.hosts) → first_tree v.hosts ≡ v.hosts → hosts_of k v.hosts ≡ host_in v k ∷ [] → o ≡ Some (host_in v k)
 found_is k v o e whole shown = e ∙ ap (hosts.host_of k) whole ∙ one_shows k (host_in v k) v.hosts shown
@@ -130,19 +96,11 @@ module _ {f f_now : Forest} (e : f_now ≡ f) where
 
 -- ---- the next move
 
-both : (s t : Bool) → (s && t) ≡ true → (s ≡ true) × (t ≡ true)
-both true t e = (refl, e)
-both false t e = absurd (cc)
-
-not_both : (b : Bool) → not b ≡ true → b ≡ false
-not_both true e = absurd (cc)
-not_both false e = refl
-
 waiting_among : (olds handled : List ℕ) (before : Option ℕ) (b : ℕ) → is_waiting olds handled before ≡ true → before ≡ Some b → is_among b olds ≡ true
 waiting_among olds handled None b e is = absurd (cc)
 waiting_among olds handled (Some k) b e is =
     let same : k ≡ b = cc in
-    subst (λ q. is_among q olds ≡ true) same (both (is_among k olds) (not (is_among k handled)) e).0
+    subst (λ q. is_among q olds ≡ true) same (and_parts (is_among k olds) (not (is_among k handled)) e).0
 
 module _ {old new : Forest} {v : HostTree} where
   pub to_case : {k n : ℕ} {s t : Move} → s ≡ t → IsNext old new v k s n → IsNext old new v k t n
@@ -350,7 +308,7 @@ module _ {old new : Forest} {mk : Marking} {v : HostTree} {k c n : ℕ} {before 
   make_next = to_case e y
 
   make_other : is_among c (children_of old k) ≡ false
-  make_other = not_both (is_among c (children_of old k)) make_next.are.walk.to_come.suited.0
+  make_other = not-true (is_among c (children_of old k)) make_next.are.walk.to_come.suited.0
 
   pub make_there : has c new ≡ true
   make_there = after_there b k c (make_next.are.walk.to_come.stays c (grind (arith, eqb_tells c c)))

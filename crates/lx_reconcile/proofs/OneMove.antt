@@ -8,7 +8,6 @@ use Rattle.lx_trees.specs.NamedTrees.{total}
 use Rattle.lx_trees.specs.Siblings.{is_among, is_named, is_place, NoRepeats, names_without, names_with}
 use Rattle.lx_trees.proofs.NamedTrees as trees
 use Rattle.lx_trees.proofs.Siblings.{is_among-names_without, is_among-names_with}
-use Rattle.lx_trees.proofs.Spots.{is_among-names}
 use Rattle.lx_host.specs.declared.op.Op.{Op}
 use Rattle.lx_host.specs.declared.op.Op.TheVariants.{Place, Drop}
 use Rattle.lx_host.specs.Branches.{has_before}
@@ -20,7 +19,7 @@ use Rattle.lx_reconcile.specs.Created.{numbered, creation}
 use Rattle.lx_reconcile.specs.Reconciled.{replaced, LeadsAt, flat}
 use Rattle.lx_reconcile.proofs.Created.{count-numbered_before}
 use Rattle.lx_reconcile.proofs.Families.{with_entry, AreAt, StandsApart, stands_apart, other_id, count-at, count-flat, ids_of-flat, is_among-ids, alone-flat, without-flat, replaced-flat, inserted-flat, flat-agree, among_first, among_rest}
-use Rattle.lx_reconcile.proofs.Frames.{replaced-absent, at_then, at_numbered, at_leave, at_place, at_make, at_inner}
+use Rattle.lx_reconcile.proofs.Frames.{replaced-absent, at_then, at_numbered, at_leave, at_place, at_make, at_inner, some_among}
 
 -- ---- what is known of the ids where operations lead
 
@@ -126,12 +125,6 @@ at_moved h a ids family cs n c before id at here nonzero place other =
       | inr other ↦ rw other.0 refl
     ]
 
-first_stands : (t : Trees Host) (i : ℕ) → is_among i (ids_of t) ≡ true → 0 < count i t
-first_stands t i here = elim (cases_lt 0 (count i t)) [
-  | inl there ↦ there
-  | inr none ↦ absurd (let out = is_among-names id_of t i (omega (arith, none)) in cc)
-]
-
 -- what comes before a tree that then leaves is in its place
 without_inserted : (i : ℕ) (new t : Trees Host) → count i t < 2 → count i new ≡ 0 → is_among i (ids_of t) ≡ true → without i (inserted (Some i) new t) ≡ replaced i new t
 without_inserted i new nil once free here = absurd (cc)
@@ -143,7 +136,7 @@ without_inserted i new (tree x b r) once free here = elim (eqb_tells x.id i) [
       ∙ rw (same.0, without-absent i new free, without-absent i r none, replaced-absent i new r none) refl)
   | inr other ↦
       let later : is_among i (ids_of r) ≡ true = rw other.0 at here in
-      let there : 0 < count i r = first_stands r i later in
+      let there : 0 < count i r = some_among i r later in
       let none : count i b ≡ 0 = omega (arith, once, there) in
       rw (other.0, other.0, without-absent i b none, replaced-absent i new b none, without_inserted i new r (omega (arith, once)) free later) refl
 ]
@@ -166,7 +159,7 @@ at_again h a ids family cs n c label below id at here nonzero room =
     let m = n + total (tree label below nil) in
     at_kids h a kids n (first ++ Drop (ids c) ∷ []) (tree a (flat (with_entry c new family) cs) nil) m (λ once free.
     let among = among_kids ids family cs c at here in
-    let old_id : ids c < n = old_is_below n (ids c) kids free (first_stands kids (ids c) among) in
+    let old_id : ids c < n = old_is_below n (ids c) kids free (some_among (ids c) kids among) in
     let none : count (ids c) new ≡ 0 = count-numbered_before (ids c) n (render (tree label below nil)) old_id in
     let put = inserted (Some (ids c)) new kids in
     let same : without (ids c) put ≡ flat (with_entry c new family) cs =

@@ -6,8 +6,8 @@ use Rattle.lx_trees.specs.Siblings.{is_among, NoRepeats, first_of, last_of, next
 use Rattle.lx_trees.proofs.Siblings.{is_among-append, first_of-among}
 use Rattle.lx_reconcile.specs.declared.windows.Window.{Window}
 use Rattle.lx_reconcile.specs.Windows.{IsWindow, marked_among, Takes, IsWindowOfMarks}
-use Rattle.lx_reconcile.proofs.Lists.{NoRepeats-right, apart}
-use Rattle.lx_reconcile.proofs.Shared.{next_in-behind, previous_from-first, last_of-among, last_is}
+use Rattle.lx_reconcile.proofs.Lists.{NoRepeats-right, apart, last_of-among}
+use Rattle.lx_reconcile.proofs.Shared.{next_in-behind, previous_from-first, last_is}
 
 -- ---- where a list ends and begins
 
@@ -143,12 +143,6 @@ window_of_one children w child among before keys behind =
       before = before ∙ ap (λ xs. previous_in xs child) at.list ∙ previous_from-first None at.front child at.back at.out;
       behind = behind ∙ ap (λ xs. next_in xs child) at.list ∙ next_in-behind child at.front (child ∷ at.back) at.out ∙ grind (arith, eqb_tells child child);
     }
-
--- ---- how long it is
-
-pub none_of : (xs : List ℕ) → length xs ≡ 0 → xs ≡ []
-none_of [] e = refl
-none_of (x ∷ xs) e = absurd (omega (arith, e))
 
 -- ---- when it holds all that carry a mark
 

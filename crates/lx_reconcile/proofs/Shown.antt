@@ -18,6 +18,7 @@ use Rattle.lx_forest.specs.Lookups as forest
 use Rattle.lx_forest.specs.Lookups.{key_of}
 use Rattle.lx_render.specs.Render.{render, face_of, last_kind}
 use Rattle.lx_reconcile.specs.Allowed.{hosts_of}
+use Rattle.std.proofs.lemmas.List.{nil_from_length}
 
 -- the key of the node that a host shows
 abbrev pub key_in : Host → ℕ
@@ -119,16 +120,12 @@ length-hosts_of q nil = refl
 length-hosts_of q (tree h b r) =
     hosts_length (eqb h.face.key q) h.id (hosts_of q b) (hosts_of q r) (named.count key_in q b) (named.count key_in q r) (length-hosts_of q b) (length-hosts_of q r)
 
-list_none : (xs : List ℕ) → length xs ≡ 0 → xs ≡ []
-list_none [] e = refl
-list_none (x ∷ xs) e = absurd (omega (arith, e))
-
 list_one : (xs : List ℕ) → length xs ≡ 1 → xs ≡ unwrap_or (first_of xs) 0 ∷ []
 list_one [] e = absurd (omega (arith, e))
-list_one (x ∷ xs) e = ap (λ xs. x ∷ xs) (list_none xs (omega (arith, e)))
+list_one (x ∷ xs) e = ap (λ xs. x ∷ xs) (nil_from_length xs (omega (arith, e)))
 
 pub hosts_of-none : (q : ℕ) (t : Trees Host) → named.count key_in q t ≡ 0 → hosts_of q t ≡ []
-hosts_of-none q t e = list_none (hosts_of q t) (length-hosts_of q t ∙ e)
+hosts_of-none q t e = nil_from_length (hosts_of q t) (length-hosts_of q t ∙ e)
 
 -- the host of a node
 abbrev pub host_at : ℕ → Trees Host → ℕ

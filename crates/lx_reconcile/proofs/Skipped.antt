@@ -1,18 +1,15 @@
 -- What is below a node without a mark is the same in both trees.
-use Rattle.std.proofs.Common.{◌≡◌, ◌∙◌, ◌+◌, ◌<◌, ℕ, true, false, List, [], ◌∷◌, Option, None, Some, is_some, option_map, zero, suc, inl, inr, refl, sym, ap, arith, append-nil}
+use Rattle.std.proofs.Common.{◌≡◌, ◌∙◌, ◌+◌, ◌<◌, ℕ, true, false, List, [], ◌∷◌, Some, option_map, zero, suc, inl, inr, refl, sym, ap, arith, append-nil}
 use Rattle.std.proofs.lemmas.Bool.{cases_Bool}
 use Rattle.std.proofs.lemmas.Bool.Decides.{eqb_tells}
 use Rattle.std.proofs.lemmas.Option.{same_Some}
 use Rattle.lx_trees.specs.Trees.{nil, tree, joined}
 use Rattle.lx_trees.specs.NamedTrees.{total}
 use Rattle.lx_trees.specs.Siblings.{is_among}
-use Rattle.lx_trees.specs.Spots.{Spot, children_at}
 use Rattle.lx_host.specs.Hosts.{HostTree}
 use Rattle.lx_host.specs.declared.op.Op.{Op}
 use Rattle.lx_forest.specs.Forest.{Label, Forest}
-use Rattle.lx_forest.specs.Lookups.{has, alone, spot, label_of, children_of, trees_of, IsForest}
-use Rattle.lx_forest.proofs.Edits.{key-spot, is_some-spot}
-use Rattle.lx_forest.proofs.Lookups.{alone-spot}
+use Rattle.lx_forest.specs.Lookups.{has, alone, children_of, trees_of}
 use Rattle.lx_forest.proofs.Walks.{total-alone-lt}
 use Rattle.lx_links.proofs.Placed.{parent_of-child}
 use Rattle.lx_forest.specs.Covered.{Marking, IsAlike}
@@ -20,24 +17,7 @@ use Rattle.lx_reconcile.specs.Handled.{IsReconciled}
 use Rattle.lx_reconcile.specs.Making.{IsBetween, Reconciles}
 use Rattle.lx_reconcile.proofs.StartEnd.{child_stands}
 use Rattle.lx_reconcile.proofs.Turns.{reconciled_same}
-
--- a node that is there, by its label and its children
-record IsNode (f : Forest) (k : ℕ) : Type 0 where
-  pub label : Label
-  pub label_is : label_of f k ≡ Some label
-  pub key : label.key ≡ k
-  pub tree_is : alone k f ≡ tree label (trees_of f (children_of f k)) nil
-
-is_node : (f : Forest) (k : ℕ) → IsForest f → has k f ≡ true → IsNode f k
-is_node f k h there = from_spot (spot f k) refl where
-  from_spot : (o : Option (Spot Label)) → spot f k ≡ o → IsNode f k
-  from_spot None at = absurd (let e = is_some-spot f k in let g = ap is_some at in cc)
-  from_spot (Some x) at = record {
-    label = x.label;
-    label_is = ap (option_map (λ (s : Spot Label). s.label)) at;
-    key = key-spot f k x at;
-    tree_is = alone-spot f k x h at ∙ sym (ap (λ o. tree x.label (trees_of f (children_at o)) nil) at);
-  }
+use Rattle.lx_reconcile.proofs.Children.{stands_there}
 
 label_same : (x y : Label) → x.key ≡ y.key → x.kind ≡ y.kind → x.fields ≡ y.fields → x ≡ y
 label_same x y e f g = rw (e, f, g) refl
@@ -72,16 +52,16 @@ module _ (old new : Forest) (mk : Marking) (v : HostTree) (b : IsBetween old new
   same_below (suc fuel) k small there plain =
       let was = was_there k there plain in
       let alike : IsAlike old new k = b.covered.alike k was there (untouched k plain) in
-      let x = is_node old k b.view.before was in
-      let y = is_node new k b.view.after there in
+      let x = stands_there old k b.view.before was in
+      let y = stands_there new k b.view.after there in
       let kinds : Some y.label.kind ≡ Some x.label.kind = sym (ap (option_map (λ (l : Label). l.kind)) y.label_is) ∙ sym (b.covered.kinds k was there) ∙ ap (option_map (λ (l : Label). l.kind)) x.label_is in
       let fields : Some y.label.fields ≡ Some x.label.fields = sym (ap (option_map (λ (l : Label). l.fields)) y.label_is) ∙ sym alike.fields ∙ ap (option_map (λ (l : Label). l.fields)) x.label_is in
       let labels : y.label ≡ x.label = label_same y.label x.label (y.key ∙ sym x.key) (same_Some _ _ kinds) (same_Some _ _ fields) in
       let below : trees_of new (children_of new k) ≡ trees_of old (children_of new k) = trees_same new old (children_of new k)
       (λ c among. same_below fuel c (omega (arith, small, total-alone-lt new c k b.view.after (parent_of-child new c k b.sound among))) (child_stands new k c b.view.after among) (child_unmarked k c plain among)) in
       y.tree_is
-      ∙ ap (λ l. tree l (trees_of new (children_of new k)) nil) labels
-      ∙ ap (λ t. tree x.label t nil) (below ∙ ap (trees_of old) (sym alike.children))
+      ∙ ap (λ l. tree l y.below nil) labels
+      ∙ ap (λ t. tree x.label t nil) (y.below_is ∙ below ∙ ap (trees_of old) (sym alike.children) ∙ sym x.below_is)
       ∙ sym x.tree_is
 
   -- nothing is done there

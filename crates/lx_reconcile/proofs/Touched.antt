@@ -24,10 +24,11 @@ use Rattle.lx_reconcile.specs.Changing.{IsWriteAt, is_text, is_attr, is_break}
 use Rattle.lx_reconcile.specs.Making.{IsBetween}
 use Rattle.lx_reconcile.specs.Reconciled.{host_in}
 use Rattle.lx_reconcile.proofs.Created.{has_if, has_not}
-use Rattle.lx_reconcile.proofs.Children.{stands_there, last_among}
+use Rattle.lx_reconcile.proofs.Children.{stands_there}
 use Rattle.lx_reconcile.proofs.Due.{creation_each}
 use Rattle.lx_reconcile.proofs.Shown.{count-hosts_of, among_one}
 use Rattle.lx_reconcile.proofs.StartEnd.{only_host, child_stands}
+use Rattle.lx_reconcile.proofs.Lists.{last_of-among}
 
 -- ---- hosts and what they show
 
@@ -134,7 +135,7 @@ module _ (old new : Forest) (mk : Marking) (v : HostTree) where
     by_last None e d = ap (kind_at old) e ∙ sym (ap (kind_at new) (d ∙ e))
     by_last (Some q) e d =
         ap (kind_at old) e
-        ∙ c.kinds q (child_stands old k q b.view.before (last_among (children_of old k) q e)) (child_stands new k q b.view.after (last_among (children_of new k) q (d ∙ e)))
+        ∙ c.kinds q (child_stands old k q b.view.before (last_of-among (children_of old k) q e)) (child_stands new k q b.view.after (last_of-among (children_of new k) q (d ∙ e)))
         ∙ sym (ap (kind_at new) (d ∙ e))
 
   -- ---- operations about new hosts

@@ -39,40 +39,12 @@ with_word word = filter (λ t. same_text (tag_word t) word) all_tags
 
 one_tag : (t : Tag) → with_word (tag_word t) ≡ t ∷ []
 unfolding same_text tag_word
-one_tag Div = refl
-one_tag P = refl
-one_tag H1 = refl
-one_tag H2 = refl
-one_tag H3 = refl
-one_tag H4 = refl
-one_tag H5 = refl
-one_tag H6 = refl
-one_tag Blockquote = refl
-one_tag Ul = refl
-one_tag Ol = refl
-one_tag Li = refl
-one_tag A = refl
-one_tag Table = refl
-one_tag Tr = refl
-one_tag Th = refl
-one_tag Td = refl
-one_tag Br = refl
-one_tag Hr = refl
 one_tag (Inline None Strong) = refl
-one_tag (Inline None Em) = refl
-one_tag (Inline None Span) = refl
-one_tag (Inline (Some Code) Strong) = refl
 one_tag (Inline (Some Code) Em) = refl
-one_tag (Inline (Some Code) Span) = refl
-one_tag (Inline (Some Mark) Strong) = refl
 one_tag (Inline (Some Mark) Em) = refl
-one_tag (Inline (Some Mark) Span) = refl
-one_tag (Inline (Some Sub) Strong) = refl
 one_tag (Inline (Some Sub) Em) = refl
-one_tag (Inline (Some Sub) Span) = refl
-one_tag (Inline (Some Sup) Strong) = refl
 one_tag (Inline (Some Sup) Em) = refl
-one_tag (Inline (Some Sup) Span) = refl
+one_tag _ = refl
 
 same_word : (a b : Tag) → tag_word a ≡ tag_word b → a ≡ b
 same_word a b e = let one = sym (one_tag a) ∙ ap with_word e ∙ one_tag b in cc

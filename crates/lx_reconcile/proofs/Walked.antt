@@ -1,5 +1,5 @@
 -- The moves of a host's children by a walk, from the first to the last.
-use Rattle.std.proofs.Common.{◌≡◌, ◌≢◌, ◌∙◌, ◌+◌, ◌≤◌, ℕ, ◌&&◌, ◌||◌, Bool, true, false, not, cond, List, [], ◌∷◌, ◌++◌, map, Option, None, Some, option_map, refl, sym, ap, subst, arith}
+use Rattle.std.proofs.Common.{◌≡◌, ◌≢◌, ◌∙◌, ◌+◌, ◌≤◌, ℕ, ◌&&◌, ◌||◌, Bool, true, false, not, List, [], ◌∷◌, ◌++◌, map, Option, None, Some, option_map, refl, sym, ap, subst, arith}
 use Rattle.std.specs.List.{list_any, AllByRecursion}
 use Rattle.std.proofs.lemmas.List.Elements.{recursion_from_All}
 use Rattle.std.proofs.lemmas.Bool.Decides.{eqb_tells}
@@ -23,40 +23,26 @@ use Rattle.lx_reconcile.specs.declared.moves.Move.TheVariants.{Stay, Leave, Make
 use Rattle.lx_reconcile.specs.Created.{creation_of}
 use Rattle.lx_reconcile.specs.Reconciled.{LeadsAt, host_in}
 use Rattle.lx_reconcile.specs.Handled.{IsReconciled, IsLater}
-use Rattle.lx_reconcile.specs.Walk.{child_of, moved, suits_children, is_placing, is_waiting, standing, leaving, missing, IsWalk}
+use Rattle.lx_reconcile.specs.Walk.{child_of, moved, suits_children, is_placing, is_waiting, standing, leaving, IsWalk}
 use Rattle.lx_reconcile.specs.ToCome.{IsView, AreToCome, IsInWalk}
 use Rattle.lx_reconcile.proofs.Children.{stands_there}
 use Rattle.lx_reconcile.proofs.Kept.{not_kept_new, not_kept_tag}
 use Rattle.lx_reconcile.proofs.UnkeptNodes.{unkept-joined, unkept-below, unkept-all, new_unkept, other_unkept}
 use Rattle.lx_reconcile.proofs.StartEnd.{IsShownAt, child_stands, not_root, one_tree}
 use Rattle.lx_reconcile.proofs.Turns.{handled_none, handled_stay, handled_place, handled_leave, handled_make, handled_again, handled_face, handled_all, AreAllDone, all_done}
+use Rattle.std.proofs.lemmas.Bool.{and_parts, not-true}
+use Rattle.lx_reconcile.proofs.Lists.{is_among-missing, once-filter}
+use Rattle.lx_reconcile.proofs.InTurn.{children_among}
 
 -- ---- the children that moves are of
 
-pub children_among : (q : ℕ) (ms : List Move) → is_among q (map child_of ms) ≡ (is_among q (standing ms) || is_among q (leaving ms))
-children_among q [] = refl
-children_among q (Stay k ∷ ms) = grind (arith, children_among q ms)
-children_among q (Leave k ∷ ms) = grind (arith, children_among q ms)
-children_among q (Make k before ∷ ms) = grind (arith, children_among q ms)
-children_among q (Place k before ∷ ms) = grind (arith, children_among q ms)
-
 children_once : (ms : List Move) → NoRepeats (standing ms) → NoRepeats (leaving ms) → ((q : ℕ) → is_among q (standing ms) ≡ true → is_among q (leaving ms) ≡ false) → NoRepeats (map child_of ms)
 children_once [] s l apart = tt
-children_once (Stay k ∷ ms) s l apart = (grind (arith, children_among k ms, s.0, apart k, eqb_tells k k), children_once ms s.1 l (λ q e. apart q (grind (arith, e))))
 children_once (Leave k ∷ ms) s l apart = (grind (arith, children_among k ms, l.0, apart k, eqb_tells k k), children_once ms s l.1 (λ q e. grind (arith, apart q e)))
-children_once (Make k before ∷ ms) s l apart = (grind (arith, children_among k ms, s.0, apart k, eqb_tells k k), children_once ms s.1 l (λ q e. apart q (grind (arith, e))))
-children_once (Place k before ∷ ms) s l apart = (grind (arith, children_among k ms, s.0, apart k, eqb_tells k k), children_once ms s.1 l (λ q e. apart q (grind (arith, e))))
-
-among_missing : (q : ℕ) (xs ys : List ℕ) → is_among q (missing xs ys) ≡ (is_among q xs && not (is_among q ys))
-among_missing q [] ys = refl
-among_missing q (x ∷ xs) ys = grind (arith, among_missing q xs ys, eqb_tells x q)
-
-missing_once : (xs ys : List ℕ) → NoRepeats xs → NoRepeats (missing xs ys)
-missing_once [] ys once = tt
-missing_once (x ∷ xs) ys once = kept (is_among x ys) (missing_once xs ys once.1) where
-  kept : (b : Bool) → NoRepeats (missing xs ys) → NoRepeats (cond (not b) (x ∷ missing xs ys) (missing xs ys))
-  kept true rest = rest
-  kept false rest = (grind (arith, among_missing x xs ys, once.0), rest)
+children_once (m ∷ ms) s l apart = (
+  grind (arith, children_among (child_of m) ms, s.0, apart (child_of m), eqb_tells (child_of m) (child_of m)),
+  children_once ms s.1 l (λ q e. apart q (grind (arith, e))),
+)
 
 -- ---- before the first move
 
@@ -65,29 +51,25 @@ all_to_come olds news ms o n w = record {
   can = w.can;
   unhandled = w.unhandled;
   suited = recursion_from_All (λ m. suits_children olds m ≡ true) ms w.suited;
-  once = children_once ms (subst NoRepeats (sym w.stands) n) (subst NoRepeats (sym w.leaves) (missing_once olds news o))
-      (λ q e. ap (is_among q) w.leaves ∙ grind (arith, among_missing q olds news, sym (ap (is_among q) w.stands) ∙ e));
+  once = children_once ms (subst NoRepeats (sym w.stands) n) (subst NoRepeats (sym w.leaves) (once-filter (λ k. not (is_among k news)) olds o))
+      (λ q e. ap (is_among q) w.leaves ∙ grind (arith, is_among-missing olds news q, sym (ap (is_among q) w.stands) ∙ e));
   fresh = λ q e. refl;
   leads = w.leads;
   each = λ q e. children_among q ms ∙ grind (arith, e, ap (is_among q) w.stands);
   stays = λ q e. sym (ap (is_among q) w.stands) ∙ e;
-  gone = λ q e. grind (arith, among_missing q olds news, sym (ap (is_among q) w.leaves) ∙ e);
+  gone = λ q e. grind (arith, is_among-missing olds news q, sym (ap (is_among q) w.leaves) ∙ e);
   order = w.kept_order;
 }
 
 -- ---- after a move
 
 later_step : (m : Move) (ms : List Move) (q : ℕ) → is_among q (standing ms) ≡ true → is_among q (standing (m ∷ ms)) ≡ true
-later_step (Stay k) ms q e = grind (arith, e)
 later_step (Leave k) ms q e = e
-later_step (Make k before) ms q e = grind (arith, e)
-later_step (Place k before) ms q e = grind (arith, e)
+later_step _ ms q e = grind (arith, e)
 
 later_leaves : (m : Move) (ms : List Move) (q : ℕ) → is_among q (leaving ms) ≡ true → is_among q (leaving (m ∷ ms)) ≡ true
-later_leaves (Stay k) ms q e = e
 later_leaves (Leave k) ms q e = grind (arith, e)
-later_leaves (Make k before) ms q e = e
-later_leaves (Place k before) ms q e = e
+later_leaves _ ms q e = e
 
 later_false : (b c : Bool) → (b || c) ≡ false → c ≡ false
 later_false true c e = absurd (cc)
@@ -125,20 +107,12 @@ placed_stays olds news handled now c before ms there t = record {
 
 -- ---- the next move
 
-both : (s t : Bool) → (s && t) ≡ true → (s ≡ true) × (t ≡ true)
-both true t e = (refl, e)
-both false t e = absurd (cc)
-
-not_both : (b : Bool) → not b ≡ true → b ≡ false
-not_both true e = absurd (cc)
-not_both false e = refl
-
 is_later : (olds handled : List ℕ) (before : Option ℕ) → is_waiting olds handled before ≡ true → IsLater handled before
 is_later olds handled None e = record { later = λ b is. absurd (cc) }
 is_later olds handled (Some k) e = record {
   later = λ b is.
       let same : k ≡ b = cc in
-      ap (λ q. is_among q handled) (sym same) ∙ not_both (is_among k handled) (both (is_among k olds) (not (is_among k handled)) e).1;
+      ap (λ q. is_among q handled) (sym same) ∙ not-true (is_among k handled) (and_parts (is_among k olds) (not (is_among k handled)) e).1;
 }
 
 own_fresh : (olds news handled now : List ℕ) (m : Move) (ms : List Move) → AreToCome olds news handled now (m ∷ ms) → is_among (child_of m) handled ≡ false
@@ -223,13 +197,13 @@ module _ (old new : Forest) (v : HostTree) where
       → IsInWalk old new v k n (ops ++ op.Place (host_in v k) (host_in v c) (option_map (host_in v) before) ∷ []) a (Stay c ∷ ms) m
   walk_place k n ops a c before ms m view w =
       let t = w.to_come in
-      let can = both (is_among c w.now) (is_place before w.now && not (is_named before c)) t.can.0 in
-      let place = both (is_place before w.now) (not (is_named before c)) can.1 in
+      let can = and_parts (is_among c w.now) (is_place before w.now && not (is_named before c)) t.can.0 in
+      let place = and_parts (is_place before w.now) (not (is_named before c)) can.1 in
       record {
         handled = w.handled;
         now = names_with before (c ∷ []) (names_without c w.now);
         state = handled_place old new v k n ops a w.handled w.now m c before w.state can.0 (own_fresh (children_of old k) (children_of new k) w.handled w.now (Place c before) ms t)
-            (not_zero k c view t.suited.0) place.0 (not_both (is_named before c) place.1) (is_later (children_of old k) w.handled before t.unhandled.0);
+            (not_zero k c view t.suited.0) place.0 (not-true (is_named before c) place.1) (is_later (children_of old k) w.handled before t.unhandled.0);
         to_come = placed_stays (children_of old k) (children_of new k) w.handled w.now c before ms (placed_there c before w.now) t;
         rises = w.rises;
         grows = w.grows;
@@ -240,18 +214,18 @@ module _ (old new : Forest) (v : HostTree) where
       → IsInWalk old new v k n (ops ++ (creation_of m (forest.alone c new) ++ op.Place (host_in v k) m (option_map (host_in v) before) ∷ [])) a ms (m + total (forest.alone c new))
   walk_make k n ops a c before ms m view w room =
       let t = w.to_come in
-      let can = both (not (is_among c w.now)) (is_place before w.now) t.can.0 in
+      let can = and_parts (not (is_among c w.now)) (is_place before w.now) t.can.0 in
       let among : is_among c (children_of new k) ≡ true = t.stays c (grind (arith, eqb_tells c c)) in
       let stands = stands_there new c view.after (child_stands new k c view.after among) in
       record {
         handled = c ∷ w.handled;
         now = names_with before (c ∷ []) w.now;
         state = handled_make old new v k n ops a w.handled w.now m c before stands.label stands.below w.state view.after stands.tree_is
-            (not_kept_new old new k c view.before view.after among (not_both (is_among c (children_of old k)) t.suited.0)) room
-            (not_both (is_among c w.now) can.0) can.1 (is_later (children_of old k) w.handled before t.unhandled.0);
+            (not_kept_new old new k c view.before view.after among (not-true (is_among c (children_of old k)) t.suited.0)) room
+            (not-true (is_among c w.now) can.0) can.1 (is_later (children_of old k) w.handled before t.unhandled.0);
         to_come = one_came (children_of old k) (children_of new k) w.handled w.now (Make c before) ms t;
         rises = omega (arith, w.rises);
-        grows = omega (arith, w.grows, one_less k c (standing ms), made_unkept k c view.before view.after (child_stands new k c view.after among) (not_both (is_among c (children_of old k)) t.suited.0));
+        grows = omega (arith, w.grows, one_less k c (standing ms), made_unkept k c view.before view.after (child_stands new k c view.after among) (not-true (is_among c (children_of old k)) t.suited.0));
       }
 
   -- a child whose element is another one is made anew in place of the old one
