@@ -234,13 +234,16 @@ created_alone next hosts label below free room =
 pub count-numbered : (q id : ℕ) (t : Trees Face) → count q (numbered id t) < 2
 count-numbered q id nil = omega arith
 count-numbered q id (tree face below rest) =
-    elim (eqb_tells id q) [
-      | inl same ↦ rw same.0 (omega (arith, same.1, count-numbered_before q (id + 1) below (omega (arith, same.1)), count-numbered_before q (id + 1 + total below) rest (omega (arith, same.1))))
-      | inr other ↦ rw other.0 (elim (cases_lt q (id + 1 + total below)) [
-        | inl before ↦ omega (arith, count-numbered q (id + 1) below, count-numbered_before q (id + 1 + total below) rest before)
-        | inr behind ↦ omega (arith, count-numbered q (id + 1 + total below) rest, count-numbered_behind q (id + 1) below behind)
-      ])
-    ]
+    grind (
+      arith,
+      eqb_tells id q,
+      cases_lt q (id + 1 + total below),
+      count-numbered q (id + 1) below,
+      count-numbered q (id + 1 + total below) rest,
+      count-numbered_before q (id + 1) below,
+      count-numbered_before q (id + 1 + total below) rest,
+      count-numbered_behind q (id + 1) below,
+    )
 
 -- ---- by what is known of a host tree
 

@@ -23,7 +23,7 @@ use Rattle.lx_reconcile.specs.Created.{numbered, creation}
 use Rattle.lx_reconcile.specs.Reconciled.{replaced, LeadsAt, IsAt}
 use Rattle.lx_reconcile.specs.Allowed.{AllWriteAnew, WritesAnew}
 use Rattle.lx_reconcile.proofs.Due.{writes_append, creation_writes}
-use Rattle.lx_reconcile.proofs.Created.{host_tree, Leads-append, has_if, has_not, host_over, count_here, alone_last, without_last, count-numbered_before, count-numbered_behind, count-numbered, created_alone, total-render}
+use Rattle.lx_reconcile.proofs.Created.{host_tree, Leads-append, has_if, has_not, host_over, count-numbered_before, count-numbered_behind, count-numbered, created_alone, total-render}
 
 -- ---- other trees in place of the one at a host
 

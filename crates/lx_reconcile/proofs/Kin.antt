@@ -34,7 +34,7 @@ use Rattle.lx_reconcile.specs.Making.{IsBetween}
 use Rattle.lx_reconcile.specs.Reconciled.{flat, host_in}
 use Rattle.lx_reconcile.specs.Windows.{marked_among}
 use Rattle.lx_reconcile.proofs.Families.{ids_of-flat, is_among-ids}
-use Rattle.lx_reconcile.proofs.Shown.{count-shown, hosts_of-none}
+use Rattle.lx_reconcile.proofs.Shown.{count-shown}
 use Rattle.lx_reconcile.proofs.StartEnd.{IsShownAt, is_shown_at, shown_at_id, only_host, child_stands}
 use Rattle.lx_reconcile.proofs.Lists.{filter-among, once-filter}
 use Rattle.lx_reconcile.proofs.HostOf.{one_shows, none_shows}
@@ -60,21 +60,19 @@ pub families_more : {S T : Type 0} (v : HostTree) (key above : ℕ) (keys : List
     → AreFamilies v (keys ++ key ∷ []) new
 families_more v key above keys old new is are each = record { each = at } where
   at : (host : ℕ) → get nat_eq new host ≡ family_of (shown_below v host (keys ++ key ∷ []))
-  at host = elim (eqb_tells above host) [
-    | inl own ↦
-        let named : is_named (Some above) host ≡ true = grind (arith, own, eqb_tells host above) in
-        each host
-        ∙ ap (λ b. cond b (Some (with_child key (get nat_eq old above))) (get nat_eq old host)) own.0
-        ∙ ap (λ f. Some (with_child key f)) (ap (get nat_eq old) own.1 ∙ are.each host)
-        ∙ sym (family-push key (shown_below v host keys))
-        ∙ sym (ap family_of (below-push v host key keys ∙ ap (λ b. shown_below v host keys ++ cond b (key ∷ []) []) (ap (λ o. is_named o host) is ∙ named)))
-    | inr other ↦
-        let unnamed : is_named (Some above) host ≡ false = grind (arith, other, eqb_tells host above) in
-        each host
-        ∙ ap (λ b. cond b (Some (with_child key (get nat_eq old above))) (get nat_eq old host)) other.0
-        ∙ are.each host
-        ∙ sym (ap family_of (below-push v host key keys ∙ ap (λ b. shown_below v host keys ++ cond b (key ∷ []) []) (ap (λ o. is_named o host) is ∙ unnamed) ∙ append-nil (shown_below v host keys)))
-  ]
+  at host =
+      grind (
+        arith,
+        is,
+        eqb_tells above host,
+        eqb_tells host above,
+        each host,
+        are.each above,
+        are.each host,
+        family-push key (shown_below v host keys),
+        below-push v host key keys,
+        append-nil (shown_below v host keys),
+      )
 
 below-short : (v : HostTree) (host : ℕ) (keys : List ℕ) → length (shown_below v host keys) ≤ length keys
 below-short v host [] = omega arith
@@ -108,10 +106,10 @@ noted_among m q = is_among-append q m.leaves (keys_of m.elements) ∙ ap (λ b. 
 -- ---- hosts above and below
 
 some_counted : (n : ℕ) (f : Trees Host) → named.has id_of n f ≡ true → 0 < count n f
-some_counted n f e = elim (cases_lt 0 (count n f)) [ inl some ↦ some | inr none ↦ absurd (grind (arith, e, none)) ]
+some_counted n f e = grind (arith, e)
 
 none_counted : (n : ℕ) (f : Trees Host) → named.has id_of n f ≡ false → count n f ≡ 0
-none_counted n f e = elim (cases_lt 0 (count n f)) [ inl some ↦ absurd (grind (arith, e, some)) | inr none ↦ omega (arith, none) ]
+none_counted n f e = grind (arith, e)
 
 names-gathered : (f : Trees Host) (ks : List ℕ) → ((q : ℕ) → is_among q ks ≡ true → count q f ≡ 1) → ids_of (named.gathered id_of f ks) ≡ ks
 names-gathered f [] there = refl
@@ -191,7 +189,7 @@ module _ (old new : Forest) (mk : Marking) (v : HostTree) (b : IsBetween old new
         let there : forest.has c old ≡ true = grind (arith, some) in
         among_hosts c (children_of old k) there (λ q among. child_stands old k q b.view.before among) (sym (above_is c k there up) ∙ e)
     | inr none ↦
-        let out : host_of c (first_tree v.hosts) ≡ None = ap (host_of c) b.whole ∙ none_shows c v.hosts (hosts_of-none c v.hosts (count-shown c v.hosts old b.view.shows ∙ omega (arith, none))) in
+        let out : host_of c (first_tree v.hosts) ≡ None = ap (host_of c) b.whole ∙ none_shows c v.hosts (count-shown c v.hosts old b.view.shows ∙ omega (arith, none)) in
         absurd (let no = ap (λ o. is_named (right_above v o) (host_in v k)) out in cc)
   ]
 

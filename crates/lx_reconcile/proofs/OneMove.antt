@@ -1,7 +1,7 @@
 -- The children of a host, one move after another: what its operations lead to, and which children are after it.
-use Rattle.std.proofs.Common.{◌≡◌, ◌≢◌, ◌∙◌, ◌+◌, ◌<◌, ◌≤◌, ℕ, true, false, cond, List, [], ◌∷◌, ◌++◌, Option, None, Some, option_map, inl, inr, refl, sym, ap, subst, arith, ne_eqb, eq-eqb}
+use Rattle.std.proofs.Common.{◌≡◌, ◌≢◌, ◌∙◌, ◌+◌, ◌<◌, ◌≤◌, ℕ, true, false, List, [], ◌∷◌, ◌++◌, Option, None, Some, option_map, inl, inr, refl, sym, ap, subst, arith, ne_eqb}
 use Rattle.std.proofs.lemmas.Bool.Decides.{eqb_tells}
-use Rattle.std.proofs.lemmas.Bool.{cases_lt, cases_Bool}
+use Rattle.std.proofs.lemmas.Bool.{cases_lt}
 use Rattle.lx_node.specs.Limits.{last_u32}
 use Rattle.lx_trees.specs.Trees.{Trees, nil, tree}
 use Rattle.lx_trees.specs.NamedTrees.{total}
@@ -34,10 +34,7 @@ at_kids h a kids n ops to m given =
 pub no_repeats : (ids : ℕ → ℕ) (family : ℕ → Trees Host) (cs : List ℕ) → AreAt ids family cs → ((q : ℕ) → count q (flat family cs) < 2) → NoRepeats cs
 no_repeats ids family [] at once = tt
 no_repeats ids family (k ∷ ks) at once = (
-  elim (cases_Bool (is_among k ks)) [
-    | inl again ↦ absurd (omega (arith, once (ids k), count-joined (ids k) (family k) (flat family ks), count-at (ids k) (family k) (at k (among_first k ks)), count-flat (ids k) k family ks again))
-    | inr once_only ↦ once_only
-  ],
+  grind (arith, once (ids k), count-joined (ids k) (family k) (flat family ks), count-at (ids k) (family k) (at k (among_first k ks)), count-flat (ids k) k family ks),
   no_repeats ids family ks (λ c e. at c (among_rest c k ks e)) (λ q. omega (arith, once q, count-joined q (family k) (flat family ks))),
 )
 
@@ -67,10 +64,8 @@ at_gone h a ids family cs n c id at here nonzero =
 named_id : (ids : ℕ → ℕ) (family : ℕ → Trees Host) (cs : List ℕ) (before : Option ℕ) → AreAt ids family cs → ((q : ℕ) → count q (flat family cs) < 2) → is_place before cs ≡ true
     → (d : ℕ) → is_among d cs ≡ true → is_named (option_map ids before) (ids d) ≡ is_named before d
 named_id ids family cs None at once place d there = refl
-named_id ids family cs (Some b) at once place d there = elim (eqb_tells d b) [
-  | inl same ↦ eq-eqb (ids d) (ids b) (ap ids same.1) ∙ sym same.0
-  | inr other ↦ ne_eqb (ids d) (ids b) (other_id ids family cs b d at (stands_apart ids family cs b at once place) there other.1) ∙ sym other.0
-]
+named_id ids family cs (Some b) at once place d there =
+    grind (arith, eqb_tells d b, eqb_tells (ids d) (ids b), other_id ids family cs b d at (stands_apart ids family cs b at once place) there)
 
 has_before_ids : (ids : ℕ → ℕ) (family : ℕ → Trees Host) (cs : List ℕ) (before : Option ℕ) → AreAt ids family cs → is_place before cs ≡ true → has_before (option_map ids before) (ids_of (flat family cs)) ≡ true
 has_before_ids ids family cs None at place = refl
@@ -128,18 +123,21 @@ at_moved h a ids family cs n c before id at here nonzero place other =
 -- what comes before a tree that then leaves is in its place
 without_inserted : (i : ℕ) (new t : Trees Host) → count i t < 2 → count i new ≡ 0 → is_among i (ids_of t) ≡ true → without i (inserted (Some i) new t) ≡ replaced i new t
 without_inserted i new nil once free here = absurd (cc)
-without_inserted i new (tree x b r) once free here = elim (eqb_tells x.id i) [
-  | inl same ↦
-      let none : count i r ≡ 0 = omega (arith, once, ap {B = ℕ} (λ z. cond z 1 0) same.0) in
-      rw same.0 (
-      without-joined i new (tree x b r)
-      ∙ rw (same.0, without-absent i new free, without-absent i r none, replaced-absent i new r none) refl)
-  | inr other ↦
-      let later : is_among i (ids_of r) ≡ true = rw other.0 at here in
-      let there : 0 < count i r = some_among i r later in
-      let none : count i b ≡ 0 = omega (arith, once, there) in
-      rw (other.0, other.0, without-absent i b none, replaced-absent i new b none, without_inserted i new r (omega (arith, once)) free later) refl
-]
+without_inserted i new (tree x b r) once free here =
+    grind (
+      arith,
+      here,
+      once,
+      eqb_tells x.id i,
+      some_among i r,
+      without-joined i new (tree x b r),
+      without-absent i new free,
+      without-absent i b,
+      without-absent i r,
+      replaced-absent i new b,
+      replaced-absent i new r,
+      without_inserted i new r,
+    )
 
 among_inserted : (i : ℕ) (before : Option ℕ) (new t : Trees Host) → is_among i (ids_of t) ≡ true → is_among i (ids_of (inserted before new t)) ≡ true
 among_inserted i before new t here =

@@ -1,6 +1,6 @@
 -- What is below a node without a mark is the same in both trees.
-use Rattle.std.proofs.Common.{◌≡◌, ◌∙◌, ◌+◌, ◌<◌, ℕ, true, false, List, [], ◌∷◌, Some, option_map, zero, suc, inl, inr, refl, sym, ap, arith, append-nil}
-use Rattle.std.proofs.lemmas.Bool.{cases_Bool}
+use Rattle.std.proofs.Common.{◌≡◌, ◌∙◌, ◌+◌, ◌<◌, ℕ, true, false, List, [], ◌∷◌, Some, option_map, zero, suc, refl, sym, ap, arith, append-nil}
+use Rattle.std.proofs.lemmas.Bool.{false_from_ne_true, true_from_ne_false, false≢true}
 use Rattle.std.proofs.lemmas.Bool.Decides.{eqb_tells}
 use Rattle.std.proofs.lemmas.Option.{same_Some}
 use Rattle.lx_trees.specs.Trees.{nil, tree, joined}
@@ -29,23 +29,15 @@ trees_same f g (k ∷ ks) same =
     ∙ ap (joined (alone k g)) (trees_same f g ks (λ c e. same c (grind (arith, e))))
 
 module _ (old new : Forest) (mk : Marking) (v : HostTree) (b : IsBetween old new mk v) where
-  untouched : (k : ℕ) → mk.noted k ≡ false → mk.touched k ≡ false
-  untouched k plain = elim (cases_Bool (mk.touched k)) [
-    | inl marked ↦ absurd (let e = b.covered.noted k marked in cc)
-    | inr e ↦ e
-  ]
+  pub untouched : (k : ℕ) → mk.noted k ≡ false → mk.touched k ≡ false
+  untouched k plain = false_from_ne_true (mk.touched k) (λ marked. false≢true (sym plain ∙ b.covered.noted k marked))
 
   was_there : (k : ℕ) → has k new ≡ true → mk.noted k ≡ false → has k old ≡ true
-  was_there k there plain = elim (cases_Bool (has k old)) [
-    | inl e ↦ e
-    | inr out ↦ absurd (let e = b.covered.made k out there in let f = untouched k plain in cc)
-  ]
+  was_there k there plain = true_from_ne_false (has k old) (λ out. false≢true (sym (untouched k plain) ∙ b.covered.made k out there))
 
   child_unmarked : (k c : ℕ) → mk.noted k ≡ false → is_among c (children_of new k) ≡ true → mk.noted c ≡ false
-  child_unmarked k c plain among = elim (cases_Bool (mk.noted c)) [
-    | inl marked ↦ absurd (let e = b.covered.above c k (parent_of-child new c k b.sound among) marked in cc)
-    | inr e ↦ e
-  ]
+  child_unmarked k c plain among =
+      false_from_ne_true (mk.noted c) (λ marked. false≢true (sym plain ∙ b.covered.above c k (parent_of-child new c k b.sound among) marked))
 
   same_below : (fuel k : ℕ) → total (alone k new) < fuel → has k new ≡ true → mk.noted k ≡ false → alone k new ≡ alone k old
   same_below zero k small there plain = absurd (omega (arith, small))

@@ -1,7 +1,7 @@
 -- How many nodes aren't kept, and which children that are met aren't.
-use Rattle.std.proofs.Common.{◌≡◌, ◌∙◌, ◌+◌, ◌≤◌, ℕ, ◌&&◌, Bool, true, false, cond, filter, List, [], ◌∷◌, Option, None, Some, option_map, inl, inr, refl, sym, ap, arith}
+use Rattle.std.proofs.Common.{◌≡◌, ◌∙◌, ◌+◌, ◌≤◌, ℕ, ◌&&◌, Bool, true, false, cond, filter, List, [], ◌∷◌, Option, None, Some, option_map, refl, sym, ap, arith}
 use Rattle.std.specs.Bool.{Decides}
-use Rattle.std.proofs.lemmas.Bool.{cases_Bool}
+use Rattle.std.proofs.lemmas.Bool.{false_from_ne_true}
 use Rattle.std.proofs.lemmas.Bool.Decides.{eqb_tells, Decides-like}
 use Rattle.lx_node.specs.Same.{same_text}
 use Rattle.lx_node.proofs.Same.{same_text-Decides}
@@ -53,19 +53,12 @@ pub is_tag-Decides : (a b : Tag) → Decides (is_tag a b) (a ≡ b)
 is_tag-Decides a b = Decides-like _ (same_word a b) (ap tag_word) (same_text-Decides (tag_word a) (tag_word b))
 
 other_tag : (a b : Tag) → (a ≡ b → ⊥) → is_tag a b ≡ false
-other_tag a b other = elim (cases_Bool (is_tag a b)) [
-  | inl same ↦ absurd (other ((is_tag-Decides a b).0 same))
-  | inr differ ↦ differ
-]
+other_tag a b other = false_from_ne_true (is_tag a b) (λ same. other ((is_tag-Decides a b).0 same))
 
 pub same_parent : (o p : Option ℕ) → is_parent o p ≡ true → o ≡ p
 same_parent None None e = refl
-same_parent None (Some p) e = absurd (cc)
-same_parent (Some q) None e = absurd (cc)
-same_parent (Some q) (Some p) e = elim (eqb_tells q p) [
-  | inl same ↦ ap (λ x. Some x) same.1
-  | inr other ↦ absurd (let no = other.0 in cc)
-]
+same_parent (Some q) (Some p) e = grind (arith, e, eqb_tells q p)
+same_parent _ _ e = absurd (cc)
 
 -- ---- whether a child is kept, where its parent is
 

@@ -1,6 +1,6 @@
 -- Attributes written one after another, in byte order of their names, until they are those of another list.
-use Rattle.std.proofs.Common.{◌≡◌, ◌≢◌, ℕ, ◌+◌, ◌<◌, ◌≤◌, true, List, [], ◌∷◌, ◌++◌, length, map, take, drop, get_or, Option, None, Some, inl, inr, refl, sym, ap, ◌∙◌, subst, arith, append_assoc, append-nil, length-append, length-drop}
-use Rattle.std.proofs.lemmas.Bool.{cases_lt, and_parts}
+use Rattle.std.proofs.Common.{◌≡◌, ◌≢◌, ℕ, ◌+◌, ◌<◌, ◌≤◌, true, List, [], ◌∷◌, ◌++◌, length, map, take, drop, get_or, Option, None, Some, refl, sym, ap, ◌∙◌, subst, arith, append_assoc, append-nil, length-append, length-drop}
+use Rattle.std.proofs.lemmas.Bool.{and_parts}
 use Rattle.std.proofs.lemmas.Cmp.{nat_list_cmp_total, on_total}
 use Rattle.std.proofs.lemmas.List.{take_more, drop_more, drop_all}
 use Rattle.std.specs.Cmp.{IsTotalOrder}
@@ -213,52 +213,20 @@ pub record IsWritingAt (host : ℕ) (olds news : Attributes) (i j : ℕ) (start 
   pub old_within : i ≤ length olds
   pub new_within : j ≤ length news
 
-some_less : (xs ys : Attributes) → next_order xs ys ≡ Some Less → 0 < length xs
-some_less [] [] e = absurd (cc)
-some_less [] (b ∷ ys) e = absurd (cc)
-some_less (a ∷ xs) ys e = omega arith
-
-some_greater : (xs ys : Attributes) → next_order xs ys ≡ Some Greater → 0 < length ys
-some_greater [] [] e = absurd (cc)
-some_greater xs (b ∷ ys) e = omega arith
-some_greater (a ∷ xs) [] e = absurd (cc)
-
-some_equal : (xs ys : Attributes) → next_order xs ys ≡ Some Equal → (0 < length xs) × (0 < length ys)
-some_equal [] [] e = absurd (cc)
-some_equal [] (b ∷ ys) e = absurd (cc)
-some_equal (a ∷ xs) [] e = absurd (cc)
-some_equal (a ∷ xs) (b ∷ ys) e = (omega arith, omega arith)
-
-within_drop : (i : ℕ) (xs : Attributes) → 0 < length (drop i xs) → i < length xs
-within_drop i xs h = elim (cases_lt i (length xs)) [
-  | inl less ↦ less
-  | inr end ↦ absurd (omega (arith, h, ap length (drop_all i xs end)))
-]
-
 pub less_within : (i j : ℕ) (xs ys : Attributes) → next_order (drop i xs) (drop j ys) ≡ Some Less → i < length xs
-less_within i j xs ys e = within_drop i xs (some_less (drop i xs) (drop j ys) e)
+less_within i j xs ys e = grind (arith, e, length-drop i xs)
 
 pub greater_within : (i j : ℕ) (xs ys : Attributes) → next_order (drop i xs) (drop j ys) ≡ Some Greater → j < length ys
-greater_within i j xs ys e = within_drop j ys (some_greater (drop i xs) (drop j ys) e)
+greater_within i j xs ys e = grind (arith, e, length-drop j ys)
 
 pub equal_within : (i j : ℕ) (xs ys : Attributes) → next_order (drop i xs) (drop j ys) ≡ Some Equal → (i < length xs) × (j < length ys)
-equal_within i j xs ys e =
-    let both = some_equal (drop i xs) (drop j ys) e in
-    (within_drop i xs both.0, within_drop j ys both.1)
-
-left_less : (xs ys : Attributes) → 0 < length xs → ys ≡ [] → Some Less ≡ next_order xs ys
-left_less [] ys h e = absurd (omega (arith, h))
-left_less (a ∷ xs) ys h e = sym (rw e refl)
-
-left_greater : (xs ys : Attributes) → xs ≡ [] → 0 < length ys → Some Greater ≡ next_order xs ys
-left_greater xs [] e h = absurd (omega (arith, h))
-left_greater xs (b ∷ ys) e h = sym (rw e refl)
+equal_within i j xs ys e = (grind (arith, e, length-drop i xs), grind (arith, e, length-drop j ys))
 
 pub only_old : (i j : ℕ) (xs ys : Attributes) → i < length xs → length ys ≤ j → Some Less ≡ next_order (drop i xs) (drop j ys)
-only_old i j xs ys h e = left_less (drop i xs) (drop j ys) (omega (arith, length-drop i xs, h)) (drop_all j ys e)
+only_old i j xs ys h e = grind (arith, h, length-drop i xs, drop_all j ys e)
 
 pub only_new : (i j : ℕ) (xs ys : Attributes) → length xs ≤ i → j < length ys → Some Greater ≡ next_order (drop i xs) (drop j ys)
-only_new i j xs ys e h = left_greater (drop i xs) (drop j ys) (drop_all i xs e) (omega (arith, length-drop j ys, h))
+only_new i j xs ys e h = grind (arith, h, length-drop j ys, drop_all i xs e)
 
 -- what is at a place
 met : (xs : Attributes) (i : ℕ) (x : Name × List ℕ) → i < length xs → x ≡ get_or xs i x → drop i xs ≡ x ∷ drop (i + 1) xs
