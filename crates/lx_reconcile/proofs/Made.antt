@@ -107,7 +107,7 @@ module _ {old new : Forest} {v : HostTree} where
   to_case {k} {n} e x = subst (λ s. IsNext old new v k s n) e x
 
   stay_both : {k c n : ℕ} → IsNext old new v k (Stay c) n → (is_among c (children_of old k) ≡ true) × (is_among c (children_of new k) ≡ true)
-  stay_both {k} {c} {n} x = walk_both old new v k x.are.from x.are.ops x.are.a c x.more n x.are.walk
+  stay_both x = walk_both x.are.walk
 
   next_behind : {k n : ℕ} {s : Move} → IsNext old new v k s n → v.next ≤ n
   next_behind x = omega (arith, x.are.behind, x.are.walk.rises)
@@ -135,7 +135,7 @@ module _ {old new : Forest} {mk : Marking} {v : HostTree} where
     pushed = r.pushed;
     list = r.list;
     due = r.due;
-    leads = λ from ops a more w. walk_stay old new v k from ops a c more n r.pushed m h there w r.done;
+    leads = λ from ops a more w. walk_stay h there w r.done;
   }
 
 -- ---- a child that stays
@@ -154,7 +154,7 @@ module _ {old new : Forest} {mk : Marking} {v : HostTree} {k c n : ℕ} (b : IsB
   stay_shown = child_shown b k c (stay_both x).0
 
   pub stay_room : n + unkept old (Some c) (trees_of new (children_of new c)) ≤ last_u32
-  stay_room = omega (arith, x.are.room, walk_room old new v k x.are.from x.are.ops x.are.a c (Stay c) x.more n x.are.walk refl, child_unkept old new v k c b.view.after stay_after)
+  stay_room = omega (arith, x.are.room, walk_room c x.are.walk refl, child_unkept old new k c b.view.after stay_after)
 
   -- nothing is done for a child without a mark
   pub stay_skipped : (start : List Op) → mk.noted c ≡ false → MakesMoves old new mk v k (Stay c ∷ []) n start start n
@@ -199,8 +199,8 @@ module _ {old new : Forest} {mk : Marking} {v : HostTree} {k c n : ℕ} (b : IsB
           omega (
             arith,
             x.are.room,
-            walk_room old new v k x.are.from x.are.ops x.are.a c (Stay c) x.more n x.are.walk refl,
-            again_unkept old new v k c (label_from c was) (label_from c now) b.view.before b.view.after stay_after was_label now_label other,
+            walk_room c x.are.walk refl,
+            again_unkept old new k c b.view.before b.view.after stay_after was_label now_label other,
           )
 
       -- with another element it has another kind or other fields
@@ -228,7 +228,7 @@ module _ {old new : Forest} {mk : Marking} {v : HostTree} {k c n : ℕ} (b : IsB
                 (drop_due old new mk v c b stay_before again_touched, tt);
             leads = λ low ops a more w.
                 walk_to k low (ops ++ ((made ++ placing) ++ dropping)) a more (n + total (alone c new)) m (sym next)
-                (walk_again old new v k low ops a c more n (label_from c was) (label_from c now) b.view w was_label now_label other again_room);
+                (walk_again b.view w was_label now_label other again_room);
           }
 
       pub again_done : {A E : Type 0} (r : Result A E) {h i : ℕ} {new_now : Forest} (start end : List Op) (m : ℕ) → new_now ≡ new → h ≡ host_in v k → i ≡ host_in v c
@@ -300,7 +300,7 @@ module _ {old new : Forest} {mk : Marking} {v : HostTree} {k c n : ℕ} {s : Mov
     pushed = op.Drop (host_in v c) ∷ [];
     list = is ∙ ap (λ i. start ++ op.Drop i ∷ []) id;
     due = (child_drop_due old new mk v k c b leave_next.are.there leave_among leave_touched, tt);
-    leads = λ from ops a more w. walk_leave old new v k from ops a c more n b.view w;
+    leads = λ from ops a more w. walk_leave b.view w;
   })
 
 module _ {old new : Forest} {mk : Marking} {v : HostTree} {k c n : ℕ} {before : Option ℕ} {s : Move} (e : s ≡ Make c before) (b : IsBetween old new mk v) (y : IsNext old new v k s n) where
@@ -319,7 +319,7 @@ module _ {old new : Forest} {mk : Marking} {v : HostTree} {k c n : ℕ} {before 
   pub make_room : n + total (alone c new) ≤ last_u32
   make_room =
       let x = make_next in
-      omega (arith, x.are.room, walk_room old new v k x.are.from x.are.ops x.are.a c (Make c before) x.more n x.are.walk refl, made_unkept old new v k c b.view.before b.view.after make_there make_other)
+      omega (arith, x.are.room, walk_room c x.are.walk refl, made_unkept old new k c b.view.before b.view.after make_there make_other)
 
   makes_make : (h : ℕ) (place : Option ℕ) (start end : List Op) (m : ℕ) → h ≡ host_in v k → place ≡ option_map (host_in v) before → m ≡ n + total (alone c new) → end ≡ start ++ creation_of n (alone c new) ++ op.Place h n place ∷ []
       → MakesMoves old new mk v k (Make c before ∷ []) n start end m
@@ -331,7 +331,7 @@ module _ {old new : Forest} {mk : Marking} {v : HostTree} {k c n : ℕ} {before 
         pushed = made ++ placing;
         list = is ∙ ap (λ i. start ++ made ++ op.Place i n place ∷ []) id ∙ ap (λ o. start ++ made ++ op.Place (host_in v k) n o ∷ []) at ∙ append_assoc start made placing;
         due = each_append (Due old new mk v) made placing (creation_due old new mk v n c b make_there from) (new_due old new mk v (host_in v k) n (option_map (host_in v) before) b.view.numbered from, tt);
-        leads = λ low ops a more w. walk_to k low (ops ++ (made ++ placing)) a more (n + total (alone c new)) m (sym next) (walk_make old new v k low ops a c before more n b.view w make_room);
+        leads = λ low ops a more w. walk_to k low (ops ++ (made ++ placing)) a more (n + total (alone c new)) m (sym next) (walk_make b.view w make_room);
       }
 
   pub make_done : {A E : Type 0} (r : Result A E) {h : ℕ} {place : Option ℕ} (start end : List Op) (m : ℕ) → h ≡ host_in v k → place ≡ option_map (host_in v) before
@@ -370,7 +370,7 @@ module _ {old new : Forest} {mk : Marking} {v : HostTree} {k c n : ℕ} {before 
           from = x.are.from;
           ops = x.are.ops ++ op.Place (host_in v k) (host_in v c) (option_map (host_in v) before) ∷ [];
           a = x.are.a;
-          walk = walk_place old new v k x.are.from x.are.ops x.are.a c before x.more n b.view x.are.walk;
+          walk = walk_place b.view x.are.walk;
           behind = x.are.behind;
           room = x.are.room;
           there = x.are.there;
@@ -408,7 +408,7 @@ module _ {old new : Forest} {mk : Marking} {v : HostTree} {k c n : ℕ} {before 
         due = each_append (Due old new mk v) placing r.pushed (place_due old new mk v k c (host_in v k) (option_map (host_in v) before) b place_next.are.there place_among stays place_touched placed_order, tt) r.due;
         leads = λ from ops a more w.
             subst (λ l. IsInWalk old new v k from l a more m) (append_assoc ops placing r.pushed)
-            (r.leads from (ops ++ placing) a more (walk_place old new v k from ops a c before more n b.view w));
+            (r.leads from (ops ++ placing) a more (walk_place b.view w));
       }
 
   pub place_done : {A E : Type 0} (r : Result A E) {h i : ℕ} {place : Option ℕ} (start mid end : List Op) (m : ℕ) → h ≡ host_in v k → i ≡ host_in v c → place ≡ option_map (host_in v) before → mid ≡ start ++ op.Place h i place ∷ []

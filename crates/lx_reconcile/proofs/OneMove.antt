@@ -83,7 +83,7 @@ at_new h a ids family cs n k before label below id at out place room =
     subst (λ kids. LeadsAt h (tree a (flat family cs) nil) n ops (tree a kids nil) m) (inserted-flat ids family cs before k new at out (named_id ids family cs before at once place))
     (at_make h a (flat family cs) n label below (option_map ids before) id room (has_before_ids ids family cs before at place)))
 
-without_key : (c d : ℕ) (cs : List ℕ) → is_among d (names_without c cs) ≡ true → (is_among d cs ≡ true) × (d ≢ c)
+pub without_key : (c d : ℕ) (cs : List ℕ) → is_among d (names_without c cs) ≡ true → (is_among d cs ≡ true) × (d ≢ c)
 without_key c d cs e = (grind (arith, e, is_among-names_without c d cs), λ same. grind (arith, e, is_among-names_without c d cs, eqb_tells d c, same))
 
 without_self : (c : ℕ) (cs : List ℕ) → is_among c (names_without c cs) ≡ false

@@ -16,7 +16,7 @@ use Rattle.lx_forest.specs.Covered.{Marking, IsAlike}
 use Rattle.lx_reconcile.specs.Handled.{IsReconciled}
 use Rattle.lx_reconcile.specs.Making.{IsBetween, Reconciles}
 use Rattle.lx_reconcile.proofs.StartEnd.{child_stands}
-use Rattle.lx_reconcile.proofs.Turns.{reconciled_same}
+use Rattle.lx_reconcile.proofs.Walked.{reconciled_same}
 use Rattle.lx_reconcile.proofs.Children.{stands_there}
 
 label_same : (x y : Label) → x.key ≡ y.key → x.kind ≡ y.kind → x.fields ≡ y.fields → x ≡ y
@@ -58,7 +58,7 @@ module _ (old new : Forest) (mk : Marking) (v : HostTree) (b : IsBetween old new
 
   -- nothing is done there
   pub done_plain : (k n : ℕ) → has k new ≡ true → mk.noted k ≡ false → IsReconciled old new v k n [] n
-  done_plain k n there plain = reconciled_same old new v k n b.view.before b.view.shows b.view.numbered (was_there k there plain) (same_below (total (alone k new) + 1) k (omega arith) there plain)
+  done_plain k n there plain = reconciled_same b.view (was_there k there plain) (same_below (total (alone k new) + 1) k (omega arith) there plain)
 
   pub skipped : (k n : ℕ) (start : List Op) → has k new ≡ true → mk.noted k ≡ false → Reconciles old new mk v k n start start n
   skipped k n start there plain = record { pushed = []; list = sym (append-nil start); due = tt; done = done_plain k n there plain }
