@@ -11,8 +11,9 @@ use Rattle.lx_reconcile.specs.Underway.{IsWalking, IsAlong, GoesOn, case_of, wit
 use Rattle.lx_reconcile.proofs.Lists.{missing-push}
 use Rattle.lx_reconcile.proofs.Steps.{step-same, step-gone, step-made, step-at_cursor, step-placed, next-undone}
 use Rattle.lx_reconcile.proofs.Ends.{begun, new-left, old-left, walked}
-use Rattle.lx_reconcile.proofs.Places.{drop_from, drop_none, drop_all, get_within, get_past}
+use Rattle.lx_reconcile.proofs.Places.{drop_from, drop_none, get_within, get_past}
 use Rattle.lx_reconcile.proofs.Cases.{Says, said}
+use Rattle.std.proofs.lemmas.List.{drop_all}
 
 -- the same walk by equal lists
 alike : {olds news old new back done old_too new_too back_too done_too : List ℕ} {moves moves_too : List Move} → IsWalking olds news old new back done moves →
@@ -151,7 +152,7 @@ along-ended olds news p a over =
     let old_over : length olds ≤ p.passed = omega (arith, over) in
     let new_over : length news ≤ p.reached = omega (arith, over) in
     walked olds news (missing (drop p.at olds) p.handled.keys) p.handled.keys p.moves.items
-    (alike a.walking (drop_all olds p.passed old_over) (drop_all news p.reached new_over) refl refl refl)
+    (alike a.walking (drop_all p.passed olds old_over) (drop_all p.reached news new_over) refl refl refl)
 
 -- ---- how many children are left
 

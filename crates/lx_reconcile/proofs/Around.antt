@@ -1,7 +1,7 @@
 -- The children of a node before and after, around the run that holds all the marked ones: they are the same.
-use Rattle.std.proofs.Common.{◌≡◌, ◌∙◌, ◌||◌, ℕ, true, false, cond, List, [], ◌∷◌, ◌++◌, map, length, length-append, Option, None, Some, is_none, inl, inr, refl, sym, ap, subst, arith}
+use Rattle.std.proofs.Common.{◌≡◌, ◌∙◌, ◌||◌, ℕ, true, false, cond, List, [], ◌∷◌, ◌++◌, map, length, length-append, Option, None, Some, is_none, refl, sym, ap, subst, arith}
 use Rattle.std.proofs.lemmas.Bool.Decides.{eqb_tells}
-use Rattle.std.proofs.lemmas.Bool.{cases_Bool}
+use Rattle.std.proofs.lemmas.Bool.{true_from_ne_false, false≢true}
 use Rattle.lx_trees.specs.Siblings.{is_among, is_named, is_place, NoRepeats, first_of, last_of, next_in, previous_in}
 use Rattle.lx_trees.proofs.Siblings.{is_among-append, first_of-among, next_in-among, same_names}
 use Rattle.lx_host.specs.Hosts.{HostTree}
@@ -15,12 +15,13 @@ use Rattle.lx_reconcile.specs.declared.moves.Move.{Move}
 use Rattle.lx_reconcile.specs.Making.{IsBetween}
 use Rattle.lx_reconcile.specs.Walk.{toward, IsWalk, IsPart}
 use Rattle.lx_reconcile.specs.Windows.{IsWindowOfMarks, IsWalkIn, start_of, end_of, between_names}
-use Rattle.lx_reconcile.proofs.Children.{first_place}
-use Rattle.lx_reconcile.proofs.Neighbours.{child_there, siblings_of}
-use Rattle.lx_reconcile.proofs.Lists.{NoRepeats-right}
+use Rattle.lx_reconcile.proofs.Children.{first_place, child_there}
+use Rattle.lx_reconcile.proofs.Neighbours.{siblings_of}
+use Rattle.lx_reconcile.proofs.Lists.{NoRepeats-right, last_of-among}
 use Rattle.lx_reconcile.proofs.Parts.{none_part, part_of_window}
-use Rattle.lx_reconcile.proofs.Runs.{none_of}
-use Rattle.lx_reconcile.proofs.Shared.{AgreeAround, IsShared, shared, shared_run, first_shared, last_is, last_of-among, next_in-last}
+use Rattle.lx_reconcile.proofs.Shared.{AgreeAround, IsShared, shared, shared_run, first_shared, last_is, next_in-last}
+use Rattle.std.proofs.lemmas.List.{nil_from_length}
+use Rattle.lx_reconcile.proofs.Skipped.{untouched}
 
 once_left : (xs ys : List ℕ) → NoRepeats (xs ++ ys) → NoRepeats xs
 once_left [] ys once = tt
@@ -47,21 +48,12 @@ module _ (old new : Forest) (mk : Marking) (v : HostTree) (b : IsBetween old new
     previous : previous_in news c ≡ previous_in olds c
     next : next_in news c ≡ next_in olds c
 
-  untouched : (c : ℕ) → mk.noted c ≡ false → mk.touched c ≡ false
-  untouched c plain = elim (cases_Bool (mk.touched c)) [
-    | inl marked ↦ absurd (let e = b.covered.noted c marked in cc)
-    | inr e ↦ e
-  ]
-
   stays : (c : ℕ) → is_among c olds ≡ true → mk.noted c ≡ false → IsTheSame c
   stays c among plain =
       let up : parent_of old c ≡ Some k = parent_of-child old c k b.was_sound among in
-      let still : has c new ≡ true =
-      elim (cases_Bool (has c new)) [
-        | inl e ↦ e
-        | inr gone ↦ absurd (let e = b.covered.gone c k up there gone in let f = untouched c plain in cc)
-      ] in
-      let alike : IsAlike old new c = b.covered.alike c (child_there old k c b.was_sound among) still (untouched c plain) in
+      let same : mk.touched c ≡ false = untouched old new mk v b c plain in
+      let still : has c new ≡ true = true_from_ne_false (has c new) (λ gone. false≢true (sym same ∙ b.covered.gone c k up there gone)) in
+      let alike : IsAlike old new c = b.covered.alike c (child_there old k c b.was_sound among) still same in
       let is_new : is_among c news ≡ true = child_named new c k b.sound ∙ ap (λ o. is_named o k) (sym alike.parent ∙ up) ∙ own k in
       record {
         among = is_new;
@@ -87,10 +79,7 @@ module _ (old new : Forest) (mk : Marking) (v : HostTree) (b : IsBetween old new
         ∙ grind (arith, e, is_among-append c m.is.front (w.keys.items ++ m.is.back), is_among-append c w.keys.items m.is.back)
 
     plain : (c : ℕ) → (is_among c m.is.front || is_among c m.is.back) ≡ true → mk.noted c ≡ false
-    plain c e = elim (cases_Bool (is_among c m.is.front)) [
-      | inl front ↦ m.front_plain c front
-      | inr other ↦ m.back_plain c (grind (arith, e, other))
-    ]
+    plain c e = grind (arith, e, m.front_plain c, m.back_plain c)
 
     agree : AgreeAround m.is.front w.keys.items m.is.back news
     agree c e =
@@ -101,8 +90,8 @@ module _ (old new : Forest) (mk : Marking) (v : HostTree) (b : IsBetween old new
     full : w.keys.items ≡ [] → (m.is.front ≡ []) × (m.is.back ≡ [])
     full none =
         let sum = ap length (sym m.is.list ∙ m.none none) in (
-          none_of m.is.front (omega (arith, sum, length-append m.is.front (w.keys.items ++ m.is.back))),
-          none_of m.is.back (omega (arith, sum, length-append m.is.front (w.keys.items ++ m.is.back), length-append w.keys.items m.is.back)),
+          nil_from_length m.is.front (omega (arith, sum, length-append m.is.front (w.keys.items ++ m.is.back))),
+          nil_from_length m.is.back (omega (arith, sum, length-append m.is.front (w.keys.items ++ m.is.back), length-append w.keys.items m.is.back)),
         )
 
     run : IsShared m.is.front w.keys.items m.is.back news

@@ -1,20 +1,15 @@
 -- The keys of a run of a node's children, as they are read one after another.
-use Rattle.std.proofs.Common.{◌≡◌, ◌∙◌, ◌+◌, ◌-◌, ◌<◌, ◌≤◌, Bor, get_or, ℕ, Bool, true, false, cond, List, [], ◌∷◌, ◌++◌, length, length-append, Option, None, Some, refl, sym, ap, subst, arith, append-nil, append_assoc, inl, inr}
+use Rattle.std.proofs.Common.{◌≡◌, ◌∙◌, ◌+◌, ◌-◌, ◌<◌, ◌≤◌, Bor, get_or, ℕ, Bool, true, false, cond, List, [], ◌∷◌, ◌++◌, length, length-append, Option, None, Some, refl, sym, ap, subst, arith, append_assoc, inl, inr}
 use Rattle.std.specs.Option.{option_copied}
 use Rattle.std.specs.Slice.{IsGetResult}
 use Rattle.std.proofs.lemmas.Bool.Decides.{eqb_tells}
-use Rattle.std.proofs.lemmas.Bool.{cases_Bool}
+use Rattle.std.proofs.lemmas.Bool.{false_from_ne_true, false≢true}
 use Rattle.lx_trees.specs.Siblings.{is_among, is_named, is_place, NoRepeats, last_of, next_in, from_name, up_to_name}
 use Rattle.lx_trees.proofs.Positions.{from_name-step}
 use Rattle.lx_reconcile.specs.Windows.{up_to_end, between_names}
 use Rattle.lx_reconcile.proofs.Children.{next_place}
 use Rattle.lx_reconcile.proofs.Shared.{split}
 use Rattle.lx_reconcile.proofs.Lists.{NoRepeats-right}
-
--- nothing is left where no next one is named
-between-none : (last : Option ℕ) (kids : List ℕ) → between_names None last kids ≡ []
-between-none None kids = refl
-between-none (Some l) kids = refl
 
 -- these keys of the run are found, and `at` is the next one
 pub record AreFound (kids : List ℕ) (first last at : Option ℕ) (keys : List ℕ) : Type 0 where
@@ -31,12 +26,7 @@ found_none kids first last at keys place here none = record {
 between-step : (kids : List ℕ) (child : ℕ) (last next : Option ℕ) → NoRepeats kids → is_among child kids ≡ true → next ≡ cond (is_named last child) None (next_in kids child)
     → between_names (Some child) last kids ≡ child ∷ between_names next last kids
 between-step kids child None next once among is = from_name-step kids child once among ∙ ap (λ o. child ∷ from_name o kids) (sym is)
-between-step kids child (Some l) next once among is =
-    ap (up_to_name (Some l)) (from_name-step kids child once among)
-    ∙ elim (eqb_tells child l) [
-      | inl own ↦ rw own.0 (ap (λ ks. child ∷ ks) (sym (ap (λ o. between_names o (Some l) kids) (is ∙ ap (λ b. cond b None (next_in kids child)) own.0))))
-      | inr other ↦ rw other.0 (ap (λ o. child ∷ up_to_name (Some l) (from_name o kids)) (sym (is ∙ ap (λ b. cond b None (next_in kids child)) other.0)))
-    ]
+between-step kids child (Some l) next once among is = grind (arith, is, eqb_tells child l, eqb_tells l child, from_name-step kids child once among)
 
 next_is_place : (kids : List ℕ) (child : ℕ) (b : Bool) → is_place (cond b None (next_in kids child)) kids ≡ true
 next_is_place kids child true = refl
@@ -55,10 +45,6 @@ found_more kids first last at next child keys more once here f is more_is =
           ∙ f.list;
     }
 
-pub found_all : (kids : List ℕ) (first last at : Option ℕ) (keys : List ℕ) → at ≡ None → AreFound kids first last at keys → keys ≡ between_names first last kids
-found_all kids first last at keys none f =
-    sym (append-nil keys) ∙ sym (ap (λ ks. keys ++ ks) (ap (λ o. between_names o last kids) none ∙ between-none last kids)) ∙ f.list
-
 -- fewer are left after the next one
 pub found_fewer : (kids : List ℕ) (last at next : Option ℕ) (child : ℕ) → NoRepeats kids → at ≡ Some child → is_place at kids ≡ true → next ≡ cond (is_named last child) None (next_in kids child)
     → length (from_name next kids) < length (from_name at kids)
@@ -75,10 +61,7 @@ found_fewer kids last at next child once here place is =
 up_to-short : (last : Option ℕ) (xs : List ℕ) → length (up_to_end last xs) ≤ length xs
 up_to-short None xs = omega arith
 up_to-short (Some l) [] = omega arith
-up_to-short (Some l) (x ∷ xs) = elim (eqb_tells x l) [
-  | inl own ↦ rw own.0 (omega arith)
-  | inr other ↦ rw other.0 (omega (arith, up_to-short (Some l) xs))
-]
+up_to-short (Some l) (x ∷ xs) = grind (arith, eqb_tells x l, up_to-short (Some l) xs)
 
 from-short : (first : Option ℕ) (xs : List ℕ) → length (from_name first xs) ≤ length xs
 from-short first xs = omega (arith, ap length (split first xs).list, length-append (split first xs).before (from_name first xs))
@@ -93,16 +76,10 @@ found_within kids first last at keys f =
 up_to-among : (last : Option ℕ) (xs : List ℕ) (q : ℕ) → is_among q (up_to_end last xs) ≡ true → is_among q xs ≡ true
 up_to-among None xs q e = e
 up_to-among (Some l) [] q e = e
-up_to-among (Some l) (x ∷ xs) q e = elim (eqb_tells x l) [
-  | inl own ↦ let f : is_among q (x ∷ []) ≡ true = rw own.0 at e in grind (arith, f)
-  | inr other ↦ let f : is_among q (x ∷ up_to_name (Some l) xs) ≡ true = rw other.0 at e in grind (arith, f, up_to-among (Some l) xs q)
-]
+up_to-among (Some l) (x ∷ xs) q e = grind (arith, e, eqb_tells x l, up_to-among (Some l) xs q)
 
 not_among : (x : ℕ) (xs : List ℕ) (l : ℕ) → is_among x xs ≡ false → is_among x (up_to_name (Some l) xs) ≡ false
-not_among x xs l out = elim (cases_Bool (is_among x (up_to_name (Some l) xs))) [
-  | inl e ↦ absurd (let f = up_to-among (Some l) xs x e in cc)
-  | inr e ↦ e
-]
+not_among x xs l out = false_from_ne_true (is_among x (up_to_name (Some l) xs)) (λ e. false≢true (sym out ∙ up_to-among (Some l) xs x e))
 
 up_to-once : (last : Option ℕ) (xs : List ℕ) → NoRepeats xs → NoRepeats (up_to_end last xs)
 up_to-once None xs once = once

@@ -1,7 +1,7 @@
 -- What operations make of one host: its attributes, its text and its ending, one after another.
 use Rattle.std.specs.Bool.{beq}
 use Rattle.std.specs.List.{AllByRecursion}
-use Rattle.std.proofs.Common.{◌≡◌, ◌≢◌, ◌∙◌, ℕ, Bool, true, false, List, [], ◌∷◌, ◌++◌, map, Option, Some, refl, sym, ap, subst, append_assoc, append-nil}
+use Rattle.std.proofs.Common.{◌≡◌, ◌≢◌, ◌∙◌, ℕ, Bool, true, false, List, [], ◌∷◌, ◌++◌, map, Option, Some, refl, sym, ap, subst, append_assoc, append-nil, arith}
 use Rattle.lx_trees.specs.Trees.{Trees, nil, tree}
 use Rattle.lx_node.specs.declared.kind.Kind.{Kind}
 use Rattle.lx_node.specs.declared.fields.Fields.{Fields}
@@ -54,20 +54,11 @@ changes_ending host face ending start end other is =
 pub same_ending : (host : ℕ) (face : Face) (ending : Bool) (start : List Op) → face.ending ≡ ending → Changes host face (with_ending ending face) start start
 same_ending host face ending start e = subst (λ b. Changes host face (with_ending b face) start start) e (changes_none host face start)
 
-both_same_back : (a b : Bool) → a ≡ b → beq a b ≡ true
-both_same_back true true e = refl
-both_same_back true false e = absurd (cc)
-both_same_back false true e = absurd (cc)
-both_same_back false false e = refl
-
 pub unequal_ending : (face : Face) (old new : Bool) → face.ending ≡ old → beq old new ≡ false → face.ending ≢ new
-unequal_ending face old new is differ e = absurd (let same = both_same_back old new (sym is ∙ e) in cc)
+unequal_ending face old new is differ e = grind (arith, is, differ, e)
 
 both_same : (a b : Bool) → beq a b ≡ true → a ≡ b
-both_same true true e = refl
-both_same true false e = absurd (cc)
-both_same false true e = absurd (cc)
-both_same false false e = refl
+both_same a b e = grind (arith, e)
 
 pub equal_ending : (host : ℕ) (face : Face) (old new : Bool) (start : List Op) → face.ending ≡ old → beq old new ≡ true → Changes host face (with_ending new face) start start
 equal_ending host face old new start e same = same_ending host face new start (e ∙ both_same old new same)

@@ -1,12 +1,12 @@
 -- A node as a reader sees it, and the operations for its children, one after another.
 use Rattle.std.specs.Result.{IfOk}
-use Rattle.std.proofs.Common.{Result, Ok, Err, ◌≡◌, ◌∙◌, ◌+◌, ◌<◌, ◌≤◌, ◌⊎◌, ℕ, true, false, inl, inr, List, [], ◌∷◌, ◌++◌, length, Option, None, Some, option_map, is_some, refl, sym, ap, subst, arith, append_assoc}
+use Rattle.std.proofs.Common.{Result, Ok, Err, ◌≡◌, ◌∙◌, ◌+◌, ◌<◌, ◌≤◌, ℕ, true, false, List, [], ◌∷◌, ◌++◌, length, Option, None, Some, option_map, is_some, refl, sym, ap, subst, arith, append_assoc}
 use Rattle.std.proofs.lemmas.Bool.Decides.{eqb_tells}
 use Rattle.std.proofs.lemmas.Option.{same_Some}
 use Rattle.lx_node.specs.Limits.{last_u32}
 use Rattle.lx_trees.specs.Trees.{nil, tree, joined}
 use Rattle.lx_trees.specs.NamedTrees.{total}
-use Rattle.lx_trees.specs.Siblings.{is_among, is_place, first_of, last_of, last_from, next_in, from_name}
+use Rattle.lx_trees.specs.Siblings.{is_among, is_place, first_of, last_of, next_in, from_name}
 use Rattle.lx_trees.specs.Spots.{Spot, children_at}
 use Rattle.lx_node.specs.declared.kind.Kind.{Kind}
 use Rattle.lx_node.specs.declared.fields.Fields.{Fields}
@@ -28,6 +28,7 @@ use Rattle.lx_links.proofs.Placed.{parent_of-child}
 use Rattle.lx_links.proofs.Up.{in_order, in_order_at}
 use Rattle.lx_render.specs.Render.{last_kind}
 use Rattle.lx_reconcile.specs.Created.{create_op, creation, creations, creation_of}
+use Rattle.lx_reconcile.proofs.Lists.{last_of-among}
 
 -- ---- a node that was read
 
@@ -117,27 +118,14 @@ last_kind-trees_of f (k ∷ j ∷ ks) h there =
     last_kind_more f k j ks s.label r.label s.below r.below s.tree_is r.tree_is
     ∙ last_kind-trees_of f (j ∷ ks) h (λ q e. there q (grind (arith, e)))
 
-child_there : (f : Forest) (p q : ℕ) → Sound f → is_among q (children_of f p) ≡ true → has q f ≡ true
+pub child_there : (f : Forest) (p q : ℕ) → Sound f → is_among q (children_of f p) ≡ true → has q f ≡ true
 child_there f p q s e = has-child f q p (parent_of-child f q p s e)
-
-last_from_among : (before : Option ℕ) (xs : List ℕ) (q : ℕ) → last_from before xs ≡ Some q → (before ≡ Some q) ⊎ (is_among q xs ≡ true)
-last_from_among before [] q e = inl e
-last_from_among before (x ∷ xs) q e = elim (last_from_among (Some x) xs q e) [
-  | inl same ↦ inr (let own : x ≡ q = cc in grind (arith, own, eqb_tells x q))
-  | inr rest ↦ inr (grind (arith, rest))
-]
-
-pub last_among : (xs : List ℕ) (q : ℕ) → last_of xs ≡ Some q → is_among q xs ≡ true
-last_among xs q e = elim (last_from_among None xs q e) [
-  | inl none ↦ absurd (cc)
-  | inr among ↦ among
-]
 
 -- the last child of a node that was read is there
 pub last_there : (f : Forest) (key : ℕ) (n : Node) → Sound f → Some n ≡ option_map node_of (record_at f key) → (k : ℕ) → n.last ≡ Some k → has k f ≡ true
 last_there f key n s e k is =
     let r = is_read f key n s e in
-    child_there f key k s (last_among (children_of f key) k (sym r.last ∙ is))
+    child_there f key k s (last_of-among (children_of f key) k (sym r.last ∙ is))
 
 pub last_still : (f g : Forest) (key : ℕ) (n : Node) → g ≡ f → Sound f → Some n ≡ option_map node_of (record_at f key) → (k : ℕ) → n.last ≡ Some k → has k g ≡ true
 last_still f g key n same s e k is = ap (has k) same ∙ last_there f key n s e k is

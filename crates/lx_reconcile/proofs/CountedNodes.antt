@@ -1,6 +1,6 @@
 -- Which nodes are found kept, and how many aren't.
 use Rattle.std.proofs.Common.{◌≡◌, ◌∙◌, ◌+◌, ◌<◌, ◌≤◌, ℕ, ◌&&◌, ◌^◌, Bool, true, false, cond, ◌∷◌, Option, None, Some, option_map, is_some, inl, inr, refl, sym, ap, arith}
-use Rattle.std.proofs.lemmas.Bool.{cases_Bool}
+use Rattle.std.proofs.lemmas.Bool.{cases_Bool, false_from_ne_true, true_from_ne_false, false≢true}
 use Rattle.std.proofs.lemmas.Option.{same_Some}
 use Rattle.lx_trees.specs.Trees.{nil, tree, joined}
 use Rattle.lx_trees.specs.NamedTrees.{total}
@@ -93,17 +93,13 @@ module _ (f : Forest) (parent : Option ℕ) (q : ℕ) (s : Sound f) (above : IsI
       ]
     where
       not_here : (x : Spot Label) (b : Bool) → spot f q ≡ Some x → is_attached f q ≡ false → (is_parent x.parent parent && b) ≡ false
-      not_here x b at out = elim (cases_Bool (is_parent x.parent parent)) [
-        | inl up ↦ absurd (let there = attached x at up in cc)
-        | inr other ↦ ap (λ c. c && b) other
-      ]
+      not_here x b at out = ap (λ c. c && b) (false_from_ne_true (is_parent x.parent parent) (λ up. false≢true (sym out ∙ attached x at up)))
 
   -- a kept node is in the tree
   pub kept_inside : (tag : Tag) → is_only parent tag (places_of q None (alone 0 f)) ≡ true → is_attached f q ≡ true
-  kept_inside tag e = elim (cases_Bool (is_attached f q)) [
-    | inl there ↦ there
-    | inr out ↦ absurd (let none = ap (is_only parent tag) (places ∙ ap places_at (ap (λ b. cond b (spot f q) None) out)) in cc)
-  ]
+  kept_inside tag e =
+      true_from_ne_false (is_attached f q)
+      (λ out. false≢true (sym (ap (is_only parent tag) (places ∙ ap places_at (ap (λ b. cond b (spot f q) None) out))) ∙ e))
 
 -- ---- by what the code knows
 
@@ -180,10 +176,6 @@ below_small f key s = from_spot (spot f key) refl where
 pub record IsCountedUpTo (kept : Bool) (old f : Forest) (key : ℕ) (at : Option ℕ) (counted : ℕ) : Type 0 where
   pub place : is_place at (children_of f key) ≡ true
   pub sum : counted + unkept_in kept old (Some key) (trees_of f (from_name at (children_of f key))) ≡ unkept_in kept old (Some key) (trees_of f (children_of f key))
-
-nothing_in : (kept : Bool) (old : Forest) (p : Option ℕ) → unkept_in kept old p nil ≡ 0
-nothing_in true old p = refl
-nothing_in false old p = refl
 
 -- the next child is there, with a smaller tree
 pub record IsChildNext (f f_now : Forest) (key child : ℕ) : Type 0 where

@@ -1,6 +1,6 @@
 -- The marks of a draft cover the tree that it began with and the one that it leaves.
 use Rattle.std.proofs.Common.{◌≡◌, ◌∙◌, ℕ, Bool, true, false, cond, ◌||◌, Option, None, Some, is_some, option_map, inl, inr, refl, sym, ap}
-use Rattle.std.proofs.lemmas.Bool.{cases_Bool}
+use Rattle.std.proofs.lemmas.Bool.{cases_Bool, true_from_ne_false, false≢true}
 use Rattle.lx_trees.specs.Siblings.{is_among, next_in, previous_in}
 use Rattle.lx_trees.specs.Spots.{Spot, parent_at, children_at}
 use Rattle.lx_marks.specs.Marks.{Marked, unmarked, flag_in, is_touched, is_noted, is_true_flag}
@@ -91,14 +91,9 @@ module _ (f g : Forest) (n : Marked) (h : IsForest g) (c : Covers f unmarked g n
           next = next_is f q ∙ ap next_told told ∙ sym (next_is (alone 0 g) q);
           children = ap children_at same;
         };
-    gone = λ q p up is out. elim (cases_Bool (is_touched n q)) [
-      | inl marked ↦ marked
-      | inr plain ↦ absurd (let e = still q p up is plain in cc)
-    ];
-    made = λ q out is. elim (cases_Bool (is_touched n q)) [
-      | inl marked ↦ marked
-      | inr plain ↦ absurd (let e : has q f ≡ true = sym (is_some-spot f q) ∙ ap is_some (untouched_spot q is plain) ∙ is_some-spot (alone 0 g) q ∙ is in cc)
-    ];
+    gone = λ q p up is out. true_from_ne_false (is_touched n q) (λ plain. false≢true (sym out ∙ still q p up is plain));
+    made = λ q out is. true_from_ne_false (is_touched n q)
+        (λ plain. false≢true (sym out ∙ sym (is_some-spot f q) ∙ ap is_some (untouched_spot q is plain) ∙ is_some-spot (alone 0 g) q ∙ is));
     noted = touched_noted n;
     above = λ q p up marked. c.above (λ a b e. absurd (cc)) q p marked (in_forest q p up);
   } where

@@ -12,7 +12,6 @@ use Rattle.lx_host.specs.declared.op.Op.TheVariants.{Place}
 use Rattle.lx_host.specs.Hosts.{Face, Host, HostTree, id_of, one_host, shape_of, count, has, without, alone, put_below, children_of, fits_before, fits, effect, Leads, FitInTurn, IsNumbered}
 use Rattle.lx_host.proofs.Laws.{joined-nil, joined-assoc, inserted-None, count-joined, without-joined, alone-joined, put_below-joined, children_of-joined, children_of-absent, without-absent, alone-absent, put_below-absent}
 use Rattle.lx_forest.specs.Forest.{Label, Forest}
-use Rattle.lx_forest.specs.Lookups as forest
 use Rattle.lx_render.specs.Render.{render, face_of, last_kind}
 use Rattle.lx_reconcile.specs.Created.{numbered, create_op, creations, creation}
 
@@ -235,13 +234,16 @@ created_alone next hosts label below free room =
 pub count-numbered : (q id : ℕ) (t : Trees Face) → count q (numbered id t) < 2
 count-numbered q id nil = omega arith
 count-numbered q id (tree face below rest) =
-    elim (eqb_tells id q) [
-      | inl same ↦ rw same.0 (omega (arith, same.1, count-numbered_before q (id + 1) below (omega (arith, same.1)), count-numbered_before q (id + 1 + total below) rest (omega (arith, same.1))))
-      | inr other ↦ rw other.0 (elim (cases_lt q (id + 1 + total below)) [
-        | inl before ↦ omega (arith, count-numbered q (id + 1) below, count-numbered_before q (id + 1 + total below) rest before)
-        | inr behind ↦ omega (arith, count-numbered q (id + 1 + total below) rest, count-numbered_behind q (id + 1) below behind)
-      ])
-    ]
+    grind (
+      arith,
+      eqb_tells id q,
+      cases_lt q (id + 1 + total below),
+      count-numbered q (id + 1) below,
+      count-numbered q (id + 1 + total below) rest,
+      count-numbered_before q (id + 1) below,
+      count-numbered_before q (id + 1 + total below) rest,
+      count-numbered_behind q (id + 1) below,
+    )
 
 -- ---- by what is known of a host tree
 

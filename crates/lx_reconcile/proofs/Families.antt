@@ -1,5 +1,5 @@
 -- The trees of some keys, one after another: what is read of them, and what edits make of them.
-use Rattle.std.proofs.Common.{◌≡◌, ◌≢◌, ◌∙◌, ◌+◌, ◌<◌, ◌≤◌, ℕ, Bool, true, false, cond, eqb, List, [], ◌∷◌, map, Option, option_map, inl, inr, refl, sym, ap, arith, ne_eqb, eq-eqb}
+use Rattle.std.proofs.Common.{◌≡◌, ◌≢◌, ◌∙◌, ◌+◌, ◌<◌, ◌≤◌, ℕ, true, false, cond, eqb, List, [], ◌∷◌, map, Option, option_map, refl, sym, ap, arith, ne_eqb, eq-eqb}
 use Rattle.std.proofs.lemmas.Bool.Decides.{eqb_tells}
 use Rattle.lx_trees.specs.Trees.{Trees, nil, tree, joined}
 use Rattle.lx_trees.specs.Siblings.{is_among, is_named, NoRepeats, names_without, names_with}
@@ -50,26 +50,24 @@ ids_of-flat ids family (k ∷ ks) at =
 pub count-flat : (q c : ℕ) (family : ℕ → Trees Host) (cs : List ℕ) → is_among c cs ≡ true → count q (family c) ≤ count q (flat family cs)
 count-flat q c family [] e = absurd (cc)
 count-flat q c family (k ∷ ks) e =
-    let sum = count-joined q (family k) (flat family ks) in
-    elim (eqb_tells k c) [
-      | inl same ↦ omega (arith, sum, ap (λ c. count q (family c)) same.1)
-      | inr other ↦ omega (arith, sum, count-flat q c family ks (rw other.0 at e))
-    ]
+    grind (arith, e, eqb_tells k c, count-joined q (family k) (flat family ks), count-flat q c family ks)
 
 pub count-flat_both : (q c d : ℕ) (family : ℕ → Trees Host) (cs : List ℕ) → c ≢ d → is_among c cs ≡ true → is_among d cs ≡ true
     → count q (family c) + count q (family d) ≤ count q (flat family cs)
 count-flat_both q c d family [] other e f = absurd (cc)
 count-flat_both q c d family (k ∷ ks) other e f =
-    let sum = count-joined q (family k) (flat family ks) in
-    elim (eqb_tells k c) [
-      | inl same ↦
-          let apart : eqb k d ≡ false = ne_eqb k d (λ x. other (sym same.1 ∙ x)) in
-          omega (arith, sum, ap (λ c. count q (family c)) same.1, count-flat q d family ks (rw apart at f))
-      | inr differ ↦ elim (eqb_tells k d) [
-        | inl same ↦ omega (arith, sum, ap (λ c. count q (family c)) same.1, count-flat q c family ks (rw differ.0 at e))
-        | inr neither ↦ omega (arith, sum, count-flat_both q c d family ks other (rw differ.0 at e) (rw neither.0 at f))
-      ]
-    ]
+    grind (
+      arith,
+      other,
+      e,
+      f,
+      eqb_tells k c,
+      eqb_tells k d,
+      count-joined q (family k) (flat family ks),
+      count-flat q c family ks,
+      count-flat q d family ks,
+      count-flat_both q c d family ks other,
+    )
 
 -- ---- which tree has which id
 
@@ -87,11 +85,7 @@ other_id ids family cs c d at apart there other e =
 
 pub is_among-ids : (ids : ℕ → ℕ) (c : ℕ) (cs : List ℕ) → is_among c cs ≡ true → is_among (ids c) (map ids cs) ≡ true
 is_among-ids ids c [] e = absurd (cc)
-is_among-ids ids c (k ∷ ks) e =
-    elim (eqb_tells k c) [
-      | inl same ↦ rw (eq-eqb (ids k) (ids c) (ap ids same.1)) refl
-      | inr other ↦ among_rest (ids c) (ids k) (map ids ks) (is_among-ids ids c ks (rw other.0 at e))
-    ]
+is_among-ids ids c (k ∷ ks) e = grind (arith, e, eqb_tells k c, eqb_tells (ids k) (ids c), is_among-ids ids c ks)
 
 -- ---- edits
 
@@ -99,13 +93,15 @@ pub without-flat : (ids : ℕ → ℕ) (family : ℕ → Trees Host) (cs : List 
     → without (ids c) (flat family cs) ≡ flat family (names_without c cs)
 without-flat ids family [] c at apart = refl
 without-flat ids family (k ∷ ks) c at apart =
-    let more : without (ids c) (flat family ks) ≡ flat family (names_without c ks) =
-    without-flat ids family ks c (λ d e. at d (among_rest d k ks e)) (λ d e. apart d (among_rest d k ks e)) in
-    without-joined (ids c) (family k) (flat family ks)
-    ∙ elim (eqb_tells k c) [
-      | inl same ↦ rw (same.0, more) (ap (λ t. joined t (flat family (names_without c ks))) (ap (λ i. without i (family k)) (ap ids (sym same.1)) ∙ without-at (ids k) (family k) (at k (among_first k ks))))
-      | inr other ↦ rw (other.0, more) (ap (λ t. joined t (flat family (names_without c ks))) (without-absent (ids c) (family k) (apart k (among_first k ks) other.1)))
-    ]
+    grind (
+      arith,
+      eqb_tells k c,
+      without-joined (ids c) (family k) (flat family ks),
+      without-flat ids family ks c (λ d e. at d (among_rest d k ks e)) (λ d e. apart d (among_rest d k ks e)),
+      without-at (ids k) (family k) (at k (among_first k ks)),
+      without-absent (ids c) (family k),
+      apart k (among_first k ks),
+    )
 
 -- families that agree on these keys
 pub flat-agree : (family others : ℕ → Trees Host) (cs : List ℕ) → ((c : ℕ) → is_among c cs ≡ true → family c ≡ others c) → flat family cs ≡ flat others cs
@@ -135,31 +131,35 @@ pub alone-flat : (ids : ℕ → ℕ) (family : ℕ → Trees Host) (cs : List �
     → alone (ids c) (flat family cs) ≡ family c
 alone-flat ids family [] c distinct at apart e = absurd (cc)
 alone-flat ids family (k ∷ ks) c distinct at apart e =
-    alone-joined (ids c) (family k) (flat family ks)
-    ∙ elim (eqb_tells k c) [
-      | inl same ↦
-          let here : alone (ids c) (family k) ≡ family c =
-          ap (λ c. alone (ids c) (family k)) (sym same.1) ∙ alone-at (ids k) (family k) (at k (among_first k ks)) ∙ ap family same.1 in
-          let out : is_among c ks ≡ false = ap (λ c. is_among c ks) (sym same.1) ∙ distinct.0 in
-          let none : alone (ids c) (flat family ks) ≡ nil =
-          alone-absent (ids c) (flat family ks) (count-flat_none (ids c) family ks (λ d e. apart d (among_rest d k ks e) (among_other d c ks out e))) in
-          ap (λ t. joined t (alone (ids c) (flat family ks))) here ∙ ap (joined (family c)) none ∙ joined-nil (family c)
-      | inr other ↦ ap (λ t. joined t (alone (ids c) (flat family ks))) (alone-absent (ids c) (family k) (apart k (among_first k ks) other.1))
-          ∙ alone-flat ids family ks c distinct.1 (λ d e. at d (among_rest d k ks e)) (λ d e. apart d (among_rest d k ks e)) (rw other.0 at e)
-    ]
+    let none : k ≡ c → count (ids c) (flat family ks) ≡ 0 =
+    λ same. count-flat_none (ids c) family ks (λ d e. apart d (among_rest d k ks e) (among_other d c ks (ap (λ c. is_among c ks) (sym same) ∙ distinct.0) e)) in
+    grind (
+      arith,
+      e,
+      eqb_tells k c,
+      alone-joined (ids c) (family k) (flat family ks),
+      alone-at (ids k) (family k) (at k (among_first k ks)),
+      alone-absent (ids c) (flat family ks),
+      none,
+      alone-absent (ids c) (family k),
+      apart k (among_first k ks),
+      joined-nil (family k),
+      alone-flat ids family ks c distinct.1 (λ d e. at d (among_rest d k ks e)) (λ d e. apart d (among_rest d k ks e)),
+    )
 
 pub replaced-flat : (ids : ℕ → ℕ) (family : ℕ → Trees Host) (cs : List ℕ) (c : ℕ) (to : Trees Host) → AreAt ids family cs → StandsApart ids family cs c
     → replaced (ids c) to (flat family cs) ≡ flat (with_entry c to family) cs
 replaced-flat ids family [] c to at apart = refl
 replaced-flat ids family (k ∷ ks) c to at apart =
-    let more : replaced (ids c) to (flat family ks) ≡ flat (with_entry c to family) ks =
-    replaced-flat ids family ks c to (λ d e. at d (among_rest d k ks e)) (λ d e. apart d (among_rest d k ks e)) in
-    replaced-joined (ids c) to (family k) (flat family ks)
-    ∙ ap (joined (replaced (ids c) to (family k))) more
-    ∙ ap (λ t. joined t (flat (with_entry c to family) ks)) (elim (eqb_tells k c) [
-      | inl same ↦ ap (λ i. replaced i to (family k)) (ap ids (sym same.1)) ∙ replaced-at (ids k) to (family k) (at k (among_first k ks)) ∙ rw same.0 refl
-      | inr other ↦ replaced-absent (ids c) to (family k) (apart k (among_first k ks) other.1) ∙ rw other.0 refl
-    ])
+    grind (
+      arith,
+      eqb_tells k c,
+      replaced-joined (ids c) to (family k) (flat family ks),
+      replaced-flat ids family ks c to (λ d e. at d (among_rest d k ks e)) (λ d e. apart d (among_rest d k ks e)),
+      replaced-at (ids k) to (family k) (at k (among_first k ks)),
+      replaced-absent (ids c) to (family k),
+      apart k (among_first k ks),
+    )
 
 -- one more tree, before that of a key or after all
 inserted-at : (h : ℕ) (before : Option ℕ) (new t rest : Trees Host) → IsAt h t
@@ -172,20 +172,14 @@ pub inserted-flat : (ids : ℕ → ℕ) (family : ℕ → Trees Host) (cs : List
     → inserted (option_map ids before) new (flat family cs) ≡ flat (with_entry k new family) (names_with before (k ∷ []) cs)
 inserted-flat ids family [] before k new at out named = sym (joined-nil (with_entry k new family k) ∙ with_entry-same k new family)
 inserted-flat ids family (x ∷ xs) before k new at out named =
-    let here = with_entry-same k new family in
-    let old : flat (with_entry k new family) (x ∷ xs) ≡ flat family (x ∷ xs) = flat-with_entry k new family (x ∷ xs) out in
-    let first : with_entry k new family x ≡ family x = with_entry-other k new family x (among_other x k (x ∷ xs) out (among_first x xs)) in
-    let more : inserted (option_map ids before) new (flat family xs) ≡ flat (with_entry k new family) (names_with before (k ∷ []) xs) =
-    inserted-flat ids family xs before k new (λ d e. at d (among_rest d x xs e)) (out_rest k x xs out) (λ d e. named d (among_rest d x xs e)) in
-    inserted-at (ids x) (option_map ids before) new (family x) (flat family xs) (at x (among_first x xs))
-    ∙ rw (named x (among_first x xs)) (chosen (is_named before x) first here old more)
-  where
-    out_rest : (k x : ℕ) (xs : List ℕ) → is_among k (x ∷ xs) ≡ false → is_among k xs ≡ false
-    out_rest k x xs out = grind (arith, out)
-
-    chosen : (b : Bool) → with_entry k new family x ≡ family x → with_entry k new family k ≡ new → flat (with_entry k new family) (x ∷ xs) ≡ flat family (x ∷ xs)
-        → inserted (option_map ids before) new (flat family xs) ≡ flat (with_entry k new family) (names_with before (k ∷ []) xs)
-        → cond b (joined new (joined (family x) (flat family xs))) (joined (family x) (inserted (option_map ids before) new (flat family xs)))
-        ≡ flat (with_entry k new family) (cond b (k ∷ x ∷ xs) (x ∷ names_with before (k ∷ []) xs))
-    chosen true first here old more = sym (ap (λ t. joined t (flat (with_entry k new family) (x ∷ xs))) here ∙ ap (joined new) old)
-    chosen false first here old more = ap (joined (family x)) more ∙ sym (ap (λ t. joined t (flat (with_entry k new family) (names_with before (k ∷ []) xs))) first)
+    grind (
+      arith,
+      out,
+      eqb_tells k k,
+      eqb_tells x k,
+      eqb_tells k x,
+      flat-with_entry k new family (x ∷ xs) out,
+      inserted-at (ids x) (option_map ids before) new (family x) (flat family xs) (at x (among_first x xs)),
+      named x (among_first x xs),
+      inserted-flat ids family xs before k new (λ d e. at d (among_rest d x xs e)) (grind (arith, out)) (λ d e. named d (among_rest d x xs e)),
+    )

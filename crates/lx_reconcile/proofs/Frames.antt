@@ -1,5 +1,5 @@
 -- What operations make of one host with what is below it, whatever is around it.
-use Rattle.std.proofs.Common.{◌≡◌, ◌≢◌, ◌∙◌, ◌+◌, ◌<◌, ◌≤◌, ◌⊎◌, ℕ, Bool, true, false, refl, sym, ap, subst, arith, inl, inr, eqb, IsTrue, List, [], ◌∷◌, ◌++◌, append-nil, Option, None, Some}
+use Rattle.std.proofs.Common.{◌≡◌, ◌≢◌, ◌∙◌, ◌+◌, ◌<◌, ◌≤◌, ℕ, Bool, true, false, refl, sym, ap, subst, arith, inl, inr, eqb, IsTrue, List, [], ◌∷◌, ◌++◌, append-nil, Option, None, Some}
 use Rattle.std.proofs.lemmas.Bool.{cases_lt, ne_eqb, eq-eqb, ltb-true}
 use Rattle.std.proofs.lemmas.Bool.Decides.{eqb_tells}
 use Rattle.lx_node.specs.Limits.{last_u32}
@@ -14,42 +14,16 @@ use Rattle.lx_host.specs.declared.op.Op.TheVariants.{Place, Drop, Text, Attr, Br
 use Rattle.lx_host.specs.declared.tag.Name.{Name}
 use Rattle.lx_host.specs.Hosts.{Face, Host, HostTree, id_of, ids_of, children_of, count, has, without, alone, inserted, put_below, changed, with_text, with_value, with_ending, fits_before, fits, effect, Leads, IsNumbered}
 use Rattle.lx_host.specs.Branches.{has_before}
-use Rattle.lx_host.proofs.Laws.{joined-nil, joined-assoc, count-joined, without-joined, alone-joined, put_below-joined, changed-joined, children_of-joined, without-absent, alone-absent, put_below-absent, changed-absent, children_of-absent, count-without-alone, count-changed}
-use Rattle.lx_host.proofs.Standing.{effect_place, effect_drop}
+use Rattle.lx_host.proofs.Laws.{joined-nil, joined-assoc, without-joined, alone-joined, put_below-joined, changed-joined, without-absent, alone-absent, put_below-absent, changed-absent, children_of-absent, count-without-alone, count-changed}
+use Rattle.lx_host.proofs.Standing.{effect_place, effect_drop, effect_text, effect_attr, effect_break}
+use Rattle.lx_reconcile.proofs.Created as created
 use Rattle.lx_forest.specs.Forest.{Label, Forest}
 use Rattle.lx_render.specs.Render.{render, face_of, last_kind}
 use Rattle.lx_reconcile.specs.Created.{numbered, creation}
 use Rattle.lx_reconcile.specs.Reconciled.{replaced, LeadsAt, IsAt}
 use Rattle.lx_reconcile.specs.Allowed.{AllWriteAnew, WritesAnew}
 use Rattle.lx_reconcile.proofs.Due.{writes_append, creation_writes}
-use Rattle.lx_reconcile.proofs.Created.{host_tree, Leads-append, has_if, has_not, host_over, count_here, alone_last, without_last, count-numbered_before, count-numbered_behind, count-numbered, created_alone, total-render}
-
--- ---- where a host is, if it is there once
-
-pub record IsFirst (h : ℕ) (x : Host) (below rest : Trees Host) : Type 0 where
-  pub here : eqb x.id h ≡ true
-  pub below_none : count h below ≡ 0
-  pub rest_none : count h rest ≡ 0
-
-pub record IsBelow (h : ℕ) (x : Host) (below rest : Trees Host) : Type 0 where
-  pub other : eqb x.id h ≡ false
-  pub once : count h below ≡ 1
-  pub rest_none : count h rest ≡ 0
-
-pub record IsBehind (h : ℕ) (x : Host) (below rest : Trees Host) : Type 0 where
-  pub other : eqb x.id h ≡ false
-  pub below_none : count h below ≡ 0
-  pub once : count h rest ≡ 1
-
-place_of : (h : ℕ) (x : Host) (below rest : Trees Host) → count h (tree x below rest) ≡ 1 → IsFirst h x below rest ⊎ (IsBelow h x below rest ⊎ IsBehind h x below rest)
-place_of h x below rest once =
-    elim (eqb_tells x.id h) [
-      | inl same ↦ inl (record { here = same.0; below_none = omega (arith, rw same.0 at once); rest_none = omega (arith, rw same.0 at once) })
-      | inr other ↦ elim (cases_lt 0 (count h below)) [
-        | inl some ↦ inr (inl (record { other = other.0; once = omega (arith, some, rw other.0 at once); rest_none = omega (arith, some, rw other.0 at once) }))
-        | inr none ↦ inr (inr (record { other = other.0; below_none = omega (arith, none); once = omega (arith, none, rw other.0 at once) }))
-      ]
-    ]
+use Rattle.lx_reconcile.proofs.Created.{host_tree, Leads-append, has_if, has_not, host_over, count-numbered_before, count-numbered_behind, count-numbered, created_alone, total-render}
 
 -- ---- other trees in place of the one at a host
 
@@ -71,75 +45,43 @@ replaced-twice h new newer (tree x below rest) e =
       | inr other ↦ rw other.0 (rw (other.0, replaced-twice h new newer below e, replaced-twice h new newer rest e) refl)
     ]
 
-alone-first : (h : ℕ) (x : Host) (below rest : Trees Host) → IsFirst h x below rest → alone h (tree x below rest) ≡ tree x below nil
-alone-first h x below rest p = rw (p.here, alone-absent h rest p.rest_none) refl
-
-alone-below : (h : ℕ) (x : Host) (below rest : Trees Host) → IsBelow h x below rest → alone h (tree x below rest) ≡ alone h below
-alone-below h x below rest p = rw (p.other, alone-absent h rest p.rest_none) (joined-nil (alone h below))
-
-alone-behind : (h : ℕ) (x : Host) (below rest : Trees Host) → IsBehind h x below rest → alone h (tree x below rest) ≡ alone h rest
-alone-behind h x below rest p = rw (p.other, alone-absent h below p.below_none) refl
-
-replaced-first : (h : ℕ) (new : Trees Host) (x : Host) (below rest : Trees Host) → IsFirst h x below rest → replaced h new (tree x below rest) ≡ joined new rest
-replaced-first h new x below rest p = rw (p.here, replaced-absent h new rest p.rest_none) refl
-
-replaced-below : (h : ℕ) (new : Trees Host) (x : Host) (below rest : Trees Host) → IsBelow h x below rest → replaced h new (tree x below rest) ≡ tree x (replaced h new below) rest
-replaced-below h new x below rest p = rw (p.other, replaced-absent h new rest p.rest_none) refl
-
-replaced-behind : (h : ℕ) (new : Trees Host) (x : Host) (below rest : Trees Host) → IsBehind h x below rest → replaced h new (tree x below rest) ≡ tree x below (replaced h new rest)
-replaced-behind h new x below rest p = rw (p.other, replaced-absent h new below p.below_none) refl
-
 -- the same tree there
 pub replaced-same : (h : ℕ) (t : Trees Host) → count h t ≡ 1 → replaced h (alone h t) t ≡ t
 replaced-same h nil once = absurd (omega arith)
 replaced-same h (tree x below rest) once =
-    elim (place_of h x below rest once) [
-      | inl p ↦ replaced-first h (alone h (tree x below rest)) x below rest p ∙ ap (λ b. joined b rest) (alone-first h x below rest p)
-      | inr q ↦ elim q [
-        | inl p ↦ ap (λ b. replaced h b (tree x below rest)) (alone-below h x below rest p) ∙ replaced-below h (alone h below) x below rest p ∙ ap (λ b. tree x b rest) (replaced-same h below p.once)
-        | inr p ↦ ap (λ b. replaced h b (tree x below rest)) (alone-behind h x below rest p) ∙ replaced-behind h (alone h rest) x below rest p ∙ ap (tree x below) (replaced-same h rest p.once)
-      ]
-    ]
+    grind (
+      arith,
+      eqb_tells x.id h,
+      replaced-same h below,
+      replaced-same h rest,
+      alone-absent h below,
+      alone-absent h rest,
+      replaced-absent h,
+      joined-nil (alone h below),
+    )
 
 -- ---- what is outside the tree at a host
-
-outside-first : (q h : ℕ) (x : Host) (below rest : Trees Host) → IsFirst h x below rest → count q (without h (tree x below rest)) ≡ 0 → count q rest ≡ 0
-outside-first q h x below rest p e = ap (count q) (sym (without-absent h rest p.rest_none)) ∙ rw p.here at e
-
-pub record IsOutside (q h : ℕ) (x : Host) (below rest : Trees Host) : Type 0 where
-  pub other : eqb x.id q ≡ false
-  pub below_none : count q below ≡ 0
-  pub rest_none : count q rest ≡ 0
-
-outside : (q h : ℕ) (x : Host) (below rest : Trees Host) → eqb x.id h ≡ false → count q (without h (tree x below rest)) ≡ 0 → IsOutside q h x (without h below) (without h rest)
-outside q h x below rest other e =
-    let sum = rw other at e in
-    elim (eqb_tells x.id q) [
-      | inl same ↦ absurd (omega (arith, rw same.0 at sum))
-      | inr differ ↦ record { other = differ.0; below_none = omega (arith, rw differ.0 at sum); rest_none = omega (arith, rw differ.0 at sum) }
-    ]
 
 -- another host that is there nowhere else is found in the new trees
 pub alone-replaced : (q h : ℕ) (new t : Trees Host) → count h t ≡ 1 → count q (without h t) ≡ 0 → alone q (replaced h new t) ≡ alone q new
 alone-replaced q h new nil once e = absurd (omega arith)
 alone-replaced q h new (tree x below rest) once e =
-    elim (place_of h x below rest once) [
-      | inl p ↦
-          ap (alone q) (replaced-first h new x below rest p) ∙ alone-joined q new rest
-          ∙ ap (joined (alone q new)) (alone-absent q rest (outside-first q h x below rest p e)) ∙ joined-nil (alone q new)
-      | inr r ↦ elim r [
-        | inl p ↦
-            let o = outside q h x below rest p.other e in
-            let none = ap (count q) (sym (without-absent h rest p.rest_none)) ∙ o.rest_none in
-            ap (alone q) (replaced-below h new x below rest p)
-            ∙ rw (o.other, alone-absent q rest none) (joined-nil (alone q (replaced h new below)) ∙ alone-replaced q h new below p.once o.below_none)
-        | inr p ↦
-            let o = outside q h x below rest p.other e in
-            let none = ap (count q) (sym (without-absent h below p.below_none)) ∙ o.below_none in
-            ap (alone q) (replaced-behind h new x below rest p)
-            ∙ rw (o.other, alone-absent q below none) (alone-replaced q h new rest p.once o.rest_none)
-      ]
-    ]
+    grind (
+      arith,
+      eqb_tells x.id h,
+      eqb_tells x.id q,
+      alone-replaced q h new below,
+      alone-replaced q h new rest,
+      without-absent h below,
+      without-absent h rest,
+      replaced-absent h new below,
+      replaced-absent h new rest,
+      alone-absent q below,
+      alone-absent q rest,
+      alone-joined q new rest,
+      joined-nil (alone q new),
+      joined-nil (alone q (replaced h new below)),
+    )
 
 -- ---- what is done at one host is done inside a tree that holds it
 
@@ -148,34 +90,32 @@ pub record IsDoneAt (q : ℕ) (change : Trees Host → Trees Host) : Type 0 wher
   pub absent : (t : Trees Host) → count q t ≡ 0 → change t ≡ t
   pub other : (x : Host) (below rest : Trees Host) → eqb x.id q ≡ false → change (tree x below rest) ≡ tree x (change below) (change rest)
 
+inside_first : (q h : ℕ) (change : Trees Host → Trees Host) (x : Host) (below rest : Trees Host) → IsDoneAt q change → count h (tree x below rest) ≡ 1 → count q (without h (tree x below rest)) ≡ 0
+    → (count h below ≡ 1 → count q (without h below) ≡ 0 → change below ≡ replaced h (change (alone h below)) below)
+    → (count h rest ≡ 1 → count q (without h rest) ≡ 0 → change rest ≡ replaced h (change (alone h rest)) rest)
+    → change (tree x below rest) ≡ replaced h (change (alone h (tree x below rest))) (tree x below rest)
+inside_first q h change x below rest d once e in_below in_rest =
+    grind (
+      arith,
+      eqb_tells x.id h,
+      eqb_tells x.id q,
+      d.through (tree x below nil) rest,
+      d.absent below,
+      d.absent rest,
+      d.other x below rest,
+      without-absent h below,
+      without-absent h rest,
+      alone-absent h below,
+      alone-absent h rest,
+      replaced-absent h (change (alone h below)) rest,
+      replaced-absent h (change (alone h rest)) below,
+      replaced-absent h (change (tree x below nil)) rest,
+      joined-nil (alone h below),
+    )
+
 pub inside : (q h : ℕ) (change : Trees Host → Trees Host) (t : Trees Host) → IsDoneAt q change → count h t ≡ 1 → count q (without h t) ≡ 0 → change t ≡ replaced h (change (alone h t)) t
 inside q h change nil d once e = absurd (omega arith)
-inside q h change (tree x below rest) d once e =
-    elim (place_of h x below rest once) [
-      | inl p ↦
-          d.through (tree x below nil) rest
-          ∙ ap (joined (change (tree x below nil))) (d.absent rest (outside-first q h x below rest p e))
-          ∙ sym (replaced-first h (change (tree x below nil)) x below rest p)
-          ∙ ap (λ b. replaced h (change b) (tree x below rest)) (sym (alone-first h x below rest p))
-      | inr r ↦ elim r [
-        | inl p ↦
-            let o = outside q h x below rest p.other e in
-            let none = ap (count q) (sym (without-absent h rest p.rest_none)) ∙ o.rest_none in
-            d.other x below rest o.other
-            ∙ ap (tree x (change below)) (d.absent rest none)
-            ∙ ap (λ b. tree x b rest) (inside q h change below d p.once o.below_none)
-            ∙ sym (replaced-below h (change (alone h below)) x below rest p)
-            ∙ ap (λ b. replaced h (change b) (tree x below rest)) (sym (alone-below h x below rest p))
-        | inr p ↦
-            let o = outside q h x below rest p.other e in
-            let none = ap (count q) (sym (without-absent h below p.below_none)) ∙ o.below_none in
-            d.other x below rest o.other
-            ∙ ap (λ b. tree x b (change rest)) (d.absent below none)
-            ∙ ap (tree x below) (inside q h change rest d p.once o.rest_none)
-            ∙ sym (replaced-behind h (change (alone h rest)) x below rest p)
-            ∙ ap (λ b. replaced h (change b) (tree x below rest)) (sym (alone-behind h x below rest p))
-      ]
-    ]
+inside q h change (tree x below rest) d once e = inside_first q h change x below rest d once e (inside q h change below d) (inside q h change rest d)
 
 pub changed_done : (h : ℕ) (change : Face → Face) → IsDoneAt h (changed h change)
 changed_done h change = record {
@@ -210,19 +150,16 @@ replaced_done q new = record {
 children_of-alone : (h : ℕ) (t : Trees Host) → count h t ≡ 1 → children_of h t ≡ children_of h (alone h t)
 children_of-alone h nil once = absurd (omega arith)
 children_of-alone h (tree x below rest) once =
-    elim (place_of h x below rest once) [
-      | inl p ↦
-          let own : children_of h (tree x below rest) ≡ children_of h (tree x below nil) = rw (p.here, children_of-absent h rest p.rest_none) refl in
-          own ∙ ap (children_of h) (sym (alone-first h x below rest p))
-      | inr r ↦ elim r [
-        | inl p ↦
-            let part : children_of h (tree x below rest) ≡ children_of h below = rw (p.other, children_of-absent h rest p.rest_none) (append-nil (children_of h below)) in
-            part ∙ children_of-alone h below p.once ∙ ap (children_of h) (sym (alone-below h x below rest p))
-        | inr p ↦
-            let part : children_of h (tree x below rest) ≡ children_of h rest = rw (p.other, children_of-absent h below p.below_none) refl in
-            part ∙ children_of-alone h rest p.once ∙ ap (children_of h) (sym (alone-behind h x below rest p))
-      ]
-    ]
+    grind (
+      arith,
+      eqb_tells x.id h,
+      children_of-alone h below,
+      children_of-alone h rest,
+      children_of-absent h,
+      alone-absent h,
+      append-nil (children_of h below),
+      joined-nil (alone h below),
+    )
 
 pub record IsHere (h : ℕ) (a : Host) (kids : Trees Host) (w : HostTree) : Type 0 where
   pub id : a.id ≡ h
@@ -322,25 +259,13 @@ fits_text : (h : ℕ) (text : List ℕ) (w : HostTree) → has h w.hosts ≡ fit
 unfolding fits
 fits_text h text w = refl
 
-effect_text : (h : ℕ) (text : List ℕ) (w : HostTree) → host_tree (changed h (with_text text) w.hosts) w.next ≡ effect (Text h text) w
-unfolding effect
-effect_text h text w = refl
-
 fits_attr : (h : ℕ) (name : Name) (value : Option (List ℕ)) (w : HostTree) → has h w.hosts ≡ fits (Attr h name value) w
 unfolding fits
 fits_attr h name value w = refl
 
-effect_attr : (h : ℕ) (name : Name) (value : Option (List ℕ)) (w : HostTree) → host_tree (changed h (with_value name value) w.hosts) w.next ≡ effect (Attr h name value) w
-unfolding effect
-effect_attr h name value w = refl
-
 fits_break : (h : ℕ) (ending : Bool) (w : HostTree) → has h w.hosts ≡ fits (Break h ending) w
 unfolding fits
 fits_break h ending w = refl
-
-effect_break : (h : ℕ) (ending : Bool) (w : HostTree) → host_tree (changed h (with_ending ending) w.hosts) w.next ≡ effect (Break h ending) w
-unfolding effect
-effect_break h ending w = refl
 
 -- the host, showing this
 abbrev pub showing : Face → Host → Host
@@ -396,7 +321,7 @@ pub record IsChild (h c : ℕ) (kids : Trees Host) (w : HostTree) : Type 0 where
   pub some : 0 < count c kids
   pub outside : count c (without h w.hosts) ≡ 0
 
-some_among : (c : ℕ) (kids : Trees Host) → is_among c (ids_of kids) ≡ true → 0 < count c kids
+pub some_among : (c : ℕ) (kids : Trees Host) → is_among c (ids_of kids) ≡ true → 0 < count c kids
 some_among c kids among =
     elim (cases_lt 0 (count c kids)) [
       | inl some ↦ some
@@ -511,32 +436,15 @@ fits_new new (Some before) kids free place =
 fits_made : (h : ℕ) (a : Host) (kids : Trees Host) (w : HostTree) (face : Face) (inner : Trees Host) (before : Option ℕ) (m : ℕ) → IsHere h a kids w → count w.next inner ≡ 0 → count h (host_over w.next face inner) ≡ 0 → has_before before (ids_of kids) ≡ true
     → fits (Place h w.next before) (host_tree (joined w.hosts (host_over w.next face inner)) m) ≡ true
 fits_made h a kids w face inner before m p free_inside outside place =
-    let n = w.next in
-    let new = host_over n face inner in
-    let all = joined w.hosts new in
-    let free : count n w.hosts ≡ 0 = p.numbered.below n (omega arith) in
-    let nonzero : n ≢ 0 = λ e. omega (arith, e, host_before h a kids w p) in
-    let children : children_of h all ≡ ids_of kids =
-    children_of-joined h w.hosts new ∙ ap (λ xs. children_of h w.hosts ++ xs) (children_of-absent h new outside) ∙ append-nil (children_of h w.hosts) ∙ children_here h a kids w p in
-    fits_place h n before (host_tree all m) nonzero
-    (has_if n all (omega (arith, count-joined n w.hosts new, count_here n face inner free_inside)))
-    (has_if h all (omega (arith, count-joined h w.hosts new, p.once)))
-    (has_not h (alone n all) (ap (count h) (alone_last n face inner w.hosts free) ∙ outside))
-    (ap (fits_before n before) children ∙ fits_new n before kids (free_below h a kids w p) place)
+    let free : count w.next w.hosts ≡ 0 = p.numbered.below w.next (omega arith) in
+    created.fits_place h w.next before m face inner w.hosts (λ e. omega (arith, e, host_before h a kids w p)) free free_inside (omega (arith, p.once)) outside
+    (ap (fits_before w.next before) (children_here h a kids w p) ∙ fits_new w.next before kids (free_below h a kids w p) place)
 
 made_place : (h : ℕ) (a : Host) (kids : Trees Host) (w : HostTree) (face : Face) (inner : Trees Host) (before : Option ℕ) (m : ℕ) → IsHere h a kids w
     → host_tree (replaced h (tree a (inserted before (host_over w.next face inner) kids) nil) w.hosts) m ≡ effect (Place h w.next before) (host_tree (joined w.hosts (host_over w.next face inner)) m)
 made_place h a kids w face inner before m p =
-    let n = w.next in
-    let new = host_over n face inner in
-    let all = joined w.hosts new in
-    let free : count n w.hosts ≡ 0 = p.numbered.below n (omega arith) in
-    ap (λ t. host_tree t m) (
-    sym (put_here h a kids before new w.hosts p.id p.once p.is)
-    ∙ sym (ap (λ t. put_below h before t w.hosts) (alone_last n face inner w.hosts free))
-    ∙ sym (ap (put_below h before (alone n all)) (without_last n face inner w.hosts free))
-    )
-    ∙ effect_place h n before (host_tree all m)
+    ap (λ t. host_tree t m) (sym (put_here h a kids before (host_over w.next face inner) w.hosts p.id p.once p.is))
+    ∙ created.effect_place h w.next before m face inner w.hosts (p.numbered.below w.next (omega arith))
 
 numbered_made : (h : ℕ) (a : Host) (kids : Trees Host) (w : HostTree) (f : Forest) (before : Option ℕ) → IsHere h a kids w
     → IsNumbered (host_tree (replaced h (tree a (inserted before (numbered w.next (render f)) kids) nil) w.hosts) (w.next + total f))

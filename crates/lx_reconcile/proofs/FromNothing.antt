@@ -1,11 +1,6 @@
 -- What the operations make of a new host tree that are to make it show a tree.
-use Rattle.std.proofs.Common.{◌≡◌, ◌≢◌, ◌∙◌, ◌+◌, ◌≤◌, ℕ, Bool, true, false, List, [], ◌∷◌, ◌++◌, Option, None, Some, option_map, refl, sym, ap, subst, arith, ne_eqb, append_assoc, append-nil, ◌&&◌}
+use Rattle.std.proofs.Common.{◌≡◌, ◌≢◌, ◌∙◌, ◌+◌, ◌≤◌, ℕ, true, false, List, [], ◌∷◌, ◌++◌, Option, None, Some, option_map, refl, sym, ap, subst, arith, ne_eqb, append_assoc, append-nil}
 use Rattle.std.proofs.lemmas.Option.{same_Some}
-use Rattle.std.proofs.lemmas.Cmp.{nat_list_cmp_total, on_total}
-use Rattle.std.specs.Cmp.{IsTotalOrder}
-use Rattle.std.specs.declared.cmp.Ordering.{Ordering}
-use Rattle.std.specs.declared.cmp.Ordering.TheVariants.{Less, Equal, Greater}
-use Rattle.std.specs.Ordering.{is_lt, ordering_reverse}
 use Rattle.lx_node.specs.Limits.{last_u32}
 use Rattle.lx_trees.specs.Trees.{nil, tree}
 use Rattle.lx_node.specs.Kinds.{is_text_block}
@@ -19,7 +14,7 @@ use Rattle.lx_host.specs.declared.op.Op.{Op}
 use Rattle.lx_host.specs.declared.op.Op.TheVariants.{Attr, Text}
 use Rattle.lx_host.specs.Branches as hosts
 use Rattle.lx_host.specs.Hosts.{Face, HostTree, one_host, shape_of, fits, effect, Leads, FitInTurn, new_tree}
-use Rattle.lx_host.specs.Words.{name_word, name_order, names_rise, with_attribute}
+use Rattle.lx_host.specs.Words.{names_rise, with_attribute}
 use Rattle.lx_forest.specs.Forest.{Label, Forest}
 use Rattle.lx_forest.specs.Lookups.{key_of, alone, trees_of, children_of}
 use Rattle.lx_forest.specs.Records.{record_at}
@@ -31,45 +26,7 @@ use Rattle.lx_reconcile.specs.Created.{numbered, creations, attribute_ops, text_
 use Rattle.lx_render.proofs.Rising.{attributes_are}
 use Rattle.lx_reconcile.proofs.Children.{stands_there, is_read, tree_read, total_read}
 use Rattle.lx_reconcile.proofs.Created.{host_tree, Leads-append, Leads-fits, Leads-same, IsReadyFor, created, shape_of-numbered}
-
--- ---- attributes that are given one after another
-
-order : IsTotalOrder name_order
-order = on_total name_word nat_list_cmp_total
-
-both : (s t : Bool) → (s && t) ≡ true → (s ≡ true) × (t ≡ true)
-both true t e = (refl, e)
-both false t e = absurd (cc)
-
-is_less : (o : Ordering) → is_lt o ≡ true → o ≡ Less
-is_less Less e = refl
-is_less Equal e = absurd (cc)
-is_less Greater e = absurd (cc)
-
--- the last of rising names comes after the first
-rise_to_last : (a b : Name × List ℕ) (xs : List (Name × List ℕ)) → names_rise (a ∷ xs ++ b ∷ []) ≡ true → name_order a.0 b.0 ≡ Less
-rise_to_last a b [] e = is_less (name_order a.0 b.0) (both (is_lt (name_order a.0 b.0)) true e).0
-rise_to_last a b (c ∷ xs) e =
-    let p = both (is_lt (name_order a.0 c.0)) (names_rise (c ∷ xs ++ b ∷ [])) e in
-    order.trans a.0 c.0 b.0 (is_less (name_order a.0 c.0) p.0) (rise_to_last c b xs p.1)
-
-rise_rest : (a b : Name × List ℕ) (xs : List (Name × List ℕ)) → names_rise (a ∷ xs ++ b ∷ []) ≡ true → names_rise (xs ++ b ∷ []) ≡ true
-rise_rest a b [] e = refl
-rise_rest a b (c ∷ xs) e = (both (is_lt (name_order a.0 c.0)) (names_rise (c ∷ xs ++ b ∷ [])) e).1
-
--- so it is written at the end
-written_last : (b : Name × List ℕ) (xs : List (Name × List ℕ)) → names_rise (xs ++ b ∷ []) ≡ true → with_attribute b.0 (Some b.1) xs ≡ xs ++ b ∷ []
-written_last b [] e = refl
-written_last b (a ∷ xs) e =
-    let after : name_order b.0 a.0 ≡ Greater = order.antisymm b.0 a.0 ∙ ap ordering_reverse (rise_to_last a b xs e) in
-    rw after (ap (λ l. a ∷ l) (written_last b xs (rise_rest a b xs e)))
-
-rise_front : (xs ys : List (Name × List ℕ)) → names_rise (xs ++ ys) ≡ true → names_rise xs ≡ true
-rise_front [] ys e = refl
-rise_front (a ∷ []) ys e = refl
-rise_front (a ∷ b ∷ xs) ys e =
-    let p = both (is_lt (name_order a.0 b.0)) (names_rise (b ∷ xs ++ ys)) e in
-    rw p.0 (rise_front (b ∷ xs) ys p.1)
+use Rattle.lx_reconcile.proofs.Written.{IsBehind, with_behind, behind_done}
 
 -- ---- host 0 alone
 
@@ -96,15 +53,16 @@ effect_text : (new : List ℕ) (attributes : List (Name × List ℕ)) (text : Op
 unfolding effect
 effect_text new attributes text = refl
 
-attributes_lead : (xs ys : List (Name × List ℕ)) → names_rise (xs ++ ys) ≡ true → Leads (alone_with xs None) (attribute_ops 0 ys) (alone_with (xs ++ ys) None)
-attributes_lead xs [] e = ap (λ l. alone_with l None) (append-nil xs)
-attributes_lead xs (y ∷ ys) e =
-    let step : xs ++ y ∷ ys ≡ (xs ++ y ∷ []) ++ ys = sym (append_assoc xs (y ∷ []) ys) in
-    let rising : names_rise ((xs ++ y ∷ []) ++ ys) ≡ true = sym (ap names_rise step) ∙ e in (
+attributes_lead : (xs ys : List (Name × List ℕ)) → IsBehind xs ys → Leads (alone_with xs None) (attribute_ops 0 ys) (alone_with (xs ++ ys) None)
+attributes_lead xs [] b = ap (λ l. alone_with l None) (append-nil xs)
+attributes_lead xs (y ∷ ys) b =
+    let last : with_attribute y.0 (Some y.1) xs ≡ xs ++ y ∷ [] =
+    ap (with_attribute y.0 (Some y.1)) (sym (append-nil xs)) ∙ with_behind y.0 (Some y.1) xs [] (b.first y ys refl) in (
       alone_with (xs ++ y ∷ []) None,
       fits_attribute y.0 y.1 xs None,
-      sym (ap (λ l. alone_with l None) (written_last y xs (rise_front (xs ++ y ∷ []) ys rising))) ∙ effect_attribute y.0 y.1 xs None,
-      subst (λ l. Leads (alone_with (xs ++ y ∷ []) None) (attribute_ops 0 ys) (alone_with l None)) (sym step) (attributes_lead (xs ++ y ∷ []) ys rising),
+      sym (ap (λ l. alone_with l None) last) ∙ effect_attribute y.0 y.1 xs None,
+      subst (λ l. Leads (alone_with (xs ++ y ∷ []) None) (attribute_ops 0 ys) (alone_with l None)) (append_assoc xs (y ∷ []) ys)
+          (attributes_lead (xs ++ y ∷ []) ys (behind_done xs y ys b)),
     )
 
 text_leads : (attributes : List (Name × List ℕ)) (text : Option (List ℕ)) → Leads (alone_with attributes None) (text_ops 0 text) (alone_with attributes text)
@@ -132,7 +90,7 @@ fresh_leads label below room =
     let rising : names_rise attributes ≡ true = (attributes_are label.kind label.fields).rise in
     Leads-append (attribute_ops 0 attributes ++ text_ops 0 text) (creations 0 1 below) new_tree (alone_with attributes text) (shown_by label below)
     (Leads-append (attribute_ops 0 attributes) (text_ops 0 text) new_tree (alone_with attributes None) (alone_with attributes text)
-    (attributes_lead [] attributes rising) (text_leads attributes text))
+    (attributes_lead [] attributes (record { rise = rising; first = λ a more is. tt })) (text_leads attributes text))
     (created 0 1 (one_host 0 (root_with attributes text)) below (ready_alone attributes text (total below) room))
 
 shows_root : (label : Label) (below : Forest) → label.key ≡ 0 → label.kind ≡ Root → Shows (shown_by label below) (tree label below nil)

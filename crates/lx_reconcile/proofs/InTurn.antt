@@ -28,17 +28,13 @@ CanAllMove-push (x ∷ ms) m ks can more = (can.0, CanAllMove-push ms m (moved x
 
 pub standing-append : (ms ns : List Move) → standing (ms ++ ns) ≡ standing ms ++ standing ns
 standing-append [] ns = refl
-standing-append (Stay k ∷ ms) ns = ap (λ ks. k ∷ ks) (standing-append ms ns)
 standing-append (Leave k ∷ ms) ns = standing-append ms ns
-standing-append (Make k before ∷ ms) ns = ap (λ ks. k ∷ ks) (standing-append ms ns)
-standing-append (Place k before ∷ ms) ns = ap (λ ks. k ∷ ks) (standing-append ms ns)
+standing-append (m ∷ ms) ns = ap (λ ks. child_of m ∷ ks) (standing-append ms ns)
 
 pub leaving-append : (ms ns : List Move) → leaving (ms ++ ns) ≡ leaving ms ++ leaving ns
 leaving-append [] ns = refl
-leaving-append (Stay k ∷ ms) ns = leaving-append ms ns
 leaving-append (Leave k ∷ ms) ns = ap (λ ks. k ∷ ks) (leaving-append ms ns)
-leaving-append (Make k before ∷ ms) ns = leaving-append ms ns
-leaving-append (Place k before ∷ ms) ns = leaving-append ms ns
+leaving-append (_ ∷ ms) ns = leaving-append ms ns
 
 pub list_any-push : (p : Move → Bool) (ms : List Move) (m : Move) → list_any p (ms ++ m ∷ []) ≡ (list_any p ms || p m)
 list_any-push p [] m = grind arith
@@ -48,13 +44,10 @@ pub children-push : (ms : List Move) (m : Move) (q : ℕ) → is_among q (map ch
 children-push [] m q = grind arith
 children-push (x ∷ ms) m q = grind (arith, children-push ms m q)
 
--- a child that is there in the end was moved
-pub standing-children : (ms : List Move) (q : ℕ) → is_among q (standing ms) ≡ true → is_among q (map child_of ms) ≡ true
-standing-children [] q e = e
-standing-children (Stay k ∷ ms) q e = grind (arith, e, standing-children ms q)
-standing-children (Leave k ∷ ms) q e = grind (arith, e, standing-children ms q)
-standing-children (Make k before ∷ ms) q e = grind (arith, e, standing-children ms q)
-standing-children (Place k before ∷ ms) q e = grind (arith, e, standing-children ms q)
+pub children_among : (q : ℕ) (ms : List Move) → is_among q (map child_of ms) ≡ (is_among q (standing ms) || is_among q (leaving ms))
+children_among q [] = refl
+children_among q (Leave k ∷ ms) = grind (arith, children_among q ms)
+children_among q (_ ∷ ms) = grind (arith, children_among q ms)
 
 -- the child before which the next one comes is one of the children before, and none of the handled ones
 is_waiting-some : (old handled : List ℕ) (before : Option ℕ) →

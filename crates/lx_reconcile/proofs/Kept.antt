@@ -1,8 +1,8 @@
 -- Which nodes are kept from one tree to the next.
-use Rattle.std.proofs.Common.{◌≡◌, ◌∙◌, ◌<◌, ℕ, true, false, cond, List, [], ◌∷◌, ◌++◌, Option, None, Some, option_map, inl, inr, refl, sym, ap, subst, arith, eq-eqb, eqb-true, append-nil}
+use Rattle.std.proofs.Common.{◌≡◌, ◌∙◌, ◌<◌, ℕ, true, false, List, [], ◌∷◌, Option, None, Some, option_map, inl, inr, refl, sym, ap, subst, arith, eq-eqb, eqb-true, append-nil}
 use Rattle.std.proofs.lemmas.Option.{same_Some}
 use Rattle.std.proofs.lemmas.Bool.Decides.{eqb_tells}
-use Rattle.std.proofs.lemmas.Bool.{cases_lt, cases_eq}
+use Rattle.std.proofs.lemmas.Bool.{cases_eq}
 use Rattle.lx_trees.specs.Trees.{nil, tree}
 use Rattle.lx_trees.specs.Siblings.{is_among, is_named}
 use Rattle.lx_trees.specs.Spots.{Spot, spot_below, parent_at}
@@ -25,26 +25,21 @@ pub places_of-absent : (q : ℕ) (r : Option ℕ) (f : Forest) → count q f ≡
 places_of-absent q r nil e = refl
 places_of-absent q r (tree l b t) e = grind (arith, e, places_of-absent q (Some l.key) b, places_of-absent q r t)
 
-places_append : (xs : List (Option ℕ × Tag)) → xs ++ [] ≡ xs
-places_append xs = append-nil xs
-
 pub places_of-spot : (q : ℕ) (r : Option ℕ) (f : Forest) → count q f < 2 → places_of q r f ≡ places_at (spot_below key_of r f q)
 places_of-spot q r nil once = refl
 places_of-spot q r (tree l b t) once =
-    elim (eqb_tells l.key q) [
-      | inl own ↦
-          let none_b : count q b ≡ 0 = omega (arith, once, ap {B = ℕ} (λ x. cond x 1 0) own.0) in
-          let none_t : count q t ≡ 0 = omega (arith, once, ap {B = ℕ} (λ x. cond x 1 0) own.0) in
-          rw (own.0, places_of-absent q (Some l.key) b none_b, places_of-absent q r t none_t) refl
-      | inr other ↦ elim (cases_lt 0 (count q b)) [
-        | inl inside ↦
-            let none_t : count q t ≡ 0 = omega (arith, once, inside) in
-            rw (other.0, places_of-absent q r t none_t, places_of-spot q (Some l.key) b (omega (arith, once)), spot_below-absent key_of r t q none_t) (places_append _ ∙ ap places_at (sym (option_or-None (spot_below key_of (Some l.key) b q))))
-        | inr outside ↦
-            let none_b : count q b ≡ 0 = omega (arith, outside) in
-            rw (other.0, places_of-absent q (Some l.key) b none_b, places_of-spot q r t (omega (arith, once)), spot_below-absent key_of (Some l.key) b q none_b) refl
-      ]
-    ]
+    grind (
+      arith,
+      eqb_tells l.key q,
+      places_of-absent q (Some l.key) b,
+      places_of-absent q r t,
+      places_of-spot q (Some l.key) b,
+      places_of-spot q r t,
+      spot_below-absent key_of (Some l.key) b q,
+      spot_below-absent key_of r t q,
+      option_or-None (spot_below key_of (Some l.key) b q),
+      append-nil (places_of q (Some l.key) b),
+    )
 
 -- what one place of a key says
 pub record HasPlace (f : Forest) (q p : ℕ) (tag : Tag) : Type 0 where

@@ -1,18 +1,18 @@
 -- The marked children of a node, as they are found by their hosts.
-use Rattle.std.proofs.Common.{◌≡◌, ◌∙◌, ◌+◌, ◌<◌, ◌≤◌, ◌^◌, ◌||◌, ℕ, Bool, true, false, cond, nat_eq, List, [], ◌∷◌, ◌++◌, map, length, length-append, Option, None, Some, is_some, inl, inr, refl, sym, ap, arith, append-nil}
+use Rattle.std.proofs.Common.{◌≡◌, ◌∙◌, ◌+◌, ◌<◌, ◌≤◌, ◌^◌, ◌||◌, ℕ, true, false, cond, nat_eq, List, [], ◌∷◌, ◌++◌, map, length, length-append, Option, None, Some, is_some, inl, inr, refl, sym, ap, arith, append-nil, ◌&&◌}
 use Rattle.std.specs.Prelude.{filter}
 use Rattle.std.specs.HashMap.{HashMap}
 use Rattle.std.specs.Map.{keys_of}
 use Rattle.std.proofs.lemmas.Bool.Decides.{eqb_tells}
-use Rattle.std.proofs.lemmas.Bool.{cases_lt, cases_Bool}
+use Rattle.std.proofs.lemmas.Bool.{cases_lt, cases_Bool, and_parts}
 use Rattle.std.proofs.lemmas.Option.{same_Some}
 use Rattle.indexmap.specs.IndexMap.{get}
 use Rattle.lx_trees.specs.Trees.{Trees, nil, tree}
 use Rattle.lx_trees.specs.NamedTrees as named
-use Rattle.lx_trees.specs.Siblings.{is_among, is_named, NoRepeats, names_without}
+use Rattle.lx_trees.specs.Siblings.{is_among, is_named, NoRepeats}
 use Rattle.lx_trees.specs.Spots.{Spot, spot, children_at}
 use Rattle.lx_trees.proofs.NamedTrees as trees
-use Rattle.lx_trees.proofs.Siblings.{is_among-append, is_among-names_without}
+use Rattle.lx_trees.proofs.Siblings.{is_among-append}
 use Rattle.lx_marks.specs.Marks.{Marked, is_noted}
 use Rattle.lx_marks.proofs.Flags.{is_some-flag_in}
 use Rattle.lx_trees.specs.Lookups as rooted
@@ -34,9 +34,11 @@ use Rattle.lx_reconcile.specs.Making.{IsBetween}
 use Rattle.lx_reconcile.specs.Reconciled.{flat, host_in}
 use Rattle.lx_reconcile.specs.Windows.{marked_among}
 use Rattle.lx_reconcile.proofs.Families.{ids_of-flat, is_among-ids}
-use Rattle.lx_reconcile.proofs.HostOf.{host_of-one, host_of-none}
 use Rattle.lx_reconcile.proofs.Shown.{count-shown}
-use Rattle.lx_reconcile.proofs.StartEnd.{IsShownAt, is_shown_at, shown_at_id, only_host, count_one, child_stands}
+use Rattle.lx_reconcile.proofs.StartEnd.{IsShownAt, is_shown_at, shown_at_id, only_host, child_stands}
+use Rattle.lx_reconcile.proofs.Lists.{filter-among, once-filter}
+use Rattle.lx_reconcile.proofs.HostOf.{one_shows, none_shows}
+use Rattle.lx_reconcile.proofs.Reading.{weight, weight-some}
 
 -- ---- the table, one marked node after another
 
@@ -58,21 +60,19 @@ pub families_more : {S T : Type 0} (v : HostTree) (key above : ℕ) (keys : List
     → AreFamilies v (keys ++ key ∷ []) new
 families_more v key above keys old new is are each = record { each = at } where
   at : (host : ℕ) → get nat_eq new host ≡ family_of (shown_below v host (keys ++ key ∷ []))
-  at host = elim (eqb_tells above host) [
-    | inl own ↦
-        let named : is_named (Some above) host ≡ true = grind (arith, own, eqb_tells host above) in
-        each host
-        ∙ ap (λ b. cond b (Some (with_child key (get nat_eq old above))) (get nat_eq old host)) own.0
-        ∙ ap (λ f. Some (with_child key f)) (ap (get nat_eq old) own.1 ∙ are.each host)
-        ∙ sym (family-push key (shown_below v host keys))
-        ∙ sym (ap family_of (below-push v host key keys ∙ ap (λ b. shown_below v host keys ++ cond b (key ∷ []) []) (ap (λ o. is_named o host) is ∙ named)))
-    | inr other ↦
-        let unnamed : is_named (Some above) host ≡ false = grind (arith, other, eqb_tells host above) in
-        each host
-        ∙ ap (λ b. cond b (Some (with_child key (get nat_eq old above))) (get nat_eq old host)) other.0
-        ∙ are.each host
-        ∙ sym (ap family_of (below-push v host key keys ∙ ap (λ b. shown_below v host keys ++ cond b (key ∷ []) []) (ap (λ o. is_named o host) is ∙ unnamed) ∙ append-nil (shown_below v host keys)))
-  ]
+  at host =
+      grind (
+        arith,
+        is,
+        eqb_tells above host,
+        eqb_tells host above,
+        each host,
+        are.each above,
+        are.each host,
+        family-push key (shown_below v host keys),
+        below-push v host key keys,
+        append-nil (shown_below v host keys),
+      )
 
 below-short : (v : HostTree) (host : ℕ) (keys : List ℕ) → length (shown_below v host keys) ≤ length keys
 below-short v host [] = omega arith
@@ -90,68 +90,26 @@ families_small v keys made are small host x e =
 
 -- ---- lists
 
-filter-among : (p : ℕ → Bool) (xs : List ℕ) (q : ℕ) → is_among q (filter p xs) ≡ cond (is_among q xs) (p q) false
-filter-among p [] q = refl
-filter-among p (x ∷ xs) q = elim (eqb_tells x q) [
-  | inl own ↦ elim (cases_Bool (p x)) [
-    | inl e ↦ rw (e, own.0) (sym (sym (ap p own.1) ∙ e))
-    | inr e ↦ rw (e, own.0) (filter-among p xs q ∙ by_among (is_among q xs) (p q) (sym (ap p own.1) ∙ e))
-  ]
-  | inr other ↦ elim (cases_Bool (p x)) [
-    | inl e ↦ rw (e, other.0) (filter-among p xs q)
-    | inr e ↦ rw (e, other.0) (filter-among p xs q)
-  ]
-] where
-  by_among : (b c : Bool) → c ≡ false → cond b c false ≡ c
-  by_among true c e = refl
-  by_among false c e = sym e
-
-once-filter : (p : ℕ → Bool) (xs : List ℕ) → NoRepeats xs → NoRepeats (filter p xs)
-once-filter p [] once = tt
-once-filter p (x ∷ xs) once = elim (cases_Bool (p x)) [
-  | inl e ↦ rw e (filter-among p xs x ∙ ap (λ b. cond b (p x) false) once.0, once-filter p xs once.1)
-  | inr e ↦ rw e (once-filter p xs once.1)
-]
-
-shorter : (x : ℕ) (ys : List ℕ) → is_among x ys ≡ true → length (names_without x ys) + 1 ≤ length ys
-shorter x [] e = absurd (grind (arith, e))
-shorter x (y ∷ ys) e = elim (eqb_tells y x) [
-  | inl own ↦ rw own.0 (omega (arith, no_longer x ys))
-  | inr other ↦ rw other.0 (omega (arith, shorter x ys (grind (arith, e, other.0))))
-] where
-  no_longer : (x : ℕ) (ys : List ℕ) → length (names_without x ys) ≤ length ys
-  no_longer x [] = omega arith
-  no_longer x (y ∷ ys) = elim (eqb_tells y x) [
-    | inl own ↦ rw own.0 (omega (arith, no_longer x ys))
-    | inr other ↦ rw other.0 (omega (arith, no_longer x ys))
-  ]
+weight-one : (xs : List ℕ) → weight (λ k. 1) xs ≡ length xs
+weight-one [] = refl
+weight-one (x ∷ xs) = omega (arith, weight-one xs)
 
 -- what is once in one list, and all of it in another one, is no longer than that
 no_longer : (xs ys : List ℕ) → NoRepeats xs → ((q : ℕ) → is_among q xs ≡ true → is_among q ys ≡ true) → length xs ≤ length ys
-no_longer [] ys once there = omega arith
-no_longer (x ∷ xs) ys once there =
-    omega (
-      arith,
-      shorter x ys (there x (grind (arith, eqb_tells x x))),
-      no_longer xs (names_without x ys) once.1 (λ q e. grind (arith, e, once.0, there q, is_among-names_without x q ys, eqb_tells q x, eqb_tells x q)),
-    )
+no_longer xs ys once there = omega (arith, weight-some (λ k. 1) xs ys once (λ k e. inr (there k e)), weight-one xs, weight-one ys)
 
 -- ---- which keys are marked
 
 pub noted_among : (m : Marked) (q : ℕ) → is_among q (marked_keys m) ≡ is_noted m q
 noted_among m q = is_among-append q m.leaves (keys_of m.elements) ∙ ap (λ b. is_among q m.leaves || b) (sym (is_some-flag_in m.elements q))
 
-both_of : (s t : Bool) → cond s t false ≡ true → (s ≡ true) × (t ≡ true)
-both_of true t e = (refl, e)
-both_of false t e = absurd (cc)
-
 -- ---- hosts above and below
 
 some_counted : (n : ℕ) (f : Trees Host) → named.has id_of n f ≡ true → 0 < count n f
-some_counted n f e = elim (cases_lt 0 (count n f)) [ inl some ↦ some | inr none ↦ absurd (grind (arith, e, none)) ]
+some_counted n f e = grind (arith, e)
 
 none_counted : (n : ℕ) (f : Trees Host) → named.has id_of n f ≡ false → count n f ≡ 0
-none_counted n f e = elim (cases_lt 0 (count n f)) [ inl some ↦ absurd (grind (arith, e, some)) | inr none ↦ omega (arith, none) ]
+none_counted n f e = grind (arith, e)
 
 names-gathered : (f : Trees Host) (ks : List ℕ) → ((q : ℕ) → is_among q ks ≡ true → count q f ≡ 1) → ids_of (named.gathered id_of f ks) ≡ ks
 names-gathered f [] there = refl
@@ -199,7 +157,7 @@ module _ (old new : Forest) (mk : Marking) (v : HostTree) (b : IsBetween old new
   host_found : (c : ℕ) → forest.has c old ≡ true → host_of c (first_tree v.hosts) ≡ Some (host_in v c)
   host_found c there =
       ap (host_of c) b.whole
-      ∙ host_of-one c (host_in v c) v.hosts (count_one old v c b.view.before b.view.shows there) (only_host old v c b.view.before b.view.shows there)
+      ∙ one_shows c (host_in v c) v.hosts (only_host old v c b.view.before b.view.shows there)
 
   above_is : (c k : ℕ) → forest.has c old ≡ true → forest.has k old ≡ true → is_named (host_above v c) (host_in v k) ≡ is_among (host_in v c) (map (host_in v) (children_of old k))
   above_is c k there up =
@@ -231,7 +189,7 @@ module _ (old new : Forest) (mk : Marking) (v : HostTree) (b : IsBetween old new
         let there : forest.has c old ≡ true = grind (arith, some) in
         among_hosts c (children_of old k) there (λ q among. child_stands old k q b.view.before among) (sym (above_is c k there up) ∙ e)
     | inr none ↦
-        let out : host_of c (first_tree v.hosts) ≡ None = ap (host_of c) b.whole ∙ host_of-none c v.hosts (count-shown c v.hosts old b.view.shows ∙ omega (arith, none)) in
+        let out : host_of c (first_tree v.hosts) ≡ None = ap (host_of c) b.whole ∙ none_shows c v.hosts (count-shown c v.hosts old b.view.shows ∙ omega (arith, none)) in
         absurd (let no = ap (λ o. is_named (right_above v o) (host_in v k)) out in cc)
   ]
 
@@ -243,12 +201,12 @@ module _ (old new : Forest) (mk : Marking) (v : HostTree) (b : IsBetween old new
   module _ {S : Type 0} (m : Marked) (families : HashMap ℕ Family S) (are : AreFamilies v (marked_keys m) families) where
     among_below : (q k : ℕ) → forest.has k old ≡ true → is_among q (children_of old k) ≡ true → is_noted m q ≡ true → is_among q (shown_below v (host_in v k) (marked_keys m)) ≡ true
     among_below q k up among marked =
-        filter-among (λ key. is_named (host_above v key) (host_in v k)) (marked_keys m) q ∙ ap (λ b. cond b (is_named (host_above v q) (host_in v k)) false) (noted_among m q ∙ marked) ∙ above_child q k up among
+        filter-among (λ key. is_named (host_above v key) (host_in v k)) (marked_keys m) q ∙ ap (λ b. b && is_named (host_above v q) (host_in v k)) (noted_among m q ∙ marked) ∙ above_child q k up among
 
     fewer : (k : ℕ) → forest.has k old ≡ true → marked_among (is_noted m) (children_of old k) ≤ length (shown_below v (host_in v k) (marked_keys m))
     fewer k up =
         no_longer (filter (is_noted m) (children_of old k)) (shown_below v (host_in v k) (marked_keys m)) (once-filter (is_noted m) (children_of old k) (NoRepeats-children_of old k b.view.before))
-        (λ q e. let t = both_of (is_among q (children_of old k)) (is_noted m q) (sym (filter-among (is_noted m) (children_of old k) q) ∙ e) in among_below q k up t.0 t.1)
+        (λ q e. let t = and_parts (is_among q (children_of old k)) (is_noted m q) (sym (filter-among (is_noted m) (children_of old k) q) ∙ e) in among_below q k up t.0 t.1)
 
     -- what is known of it where there is one
     pub record IsFamily (k : ℕ) (x : Family) : Type 0 where
@@ -264,7 +222,7 @@ module _ (old new : Forest) (mk : Marking) (v : HostTree) (b : IsBetween old new
           let own : record { child = c; size = length ks + 1 } ≡ x = same_Some _ x (sym (ap family_of is) ∙ some) in
           let first : c ≡ x.child = ap (λ (f : Family). f.child) own in
           let among : is_among x.child (shown_below v (host_in v k) (marked_keys m)) ≡ true = ap (is_among x.child) is ∙ grind (arith, first, eqb_tells c x.child) in
-          let t = both_of (is_among x.child (marked_keys m)) (is_named (host_above v x.child) (host_in v k)) (sym (filter-among (λ key. is_named (host_above v key) (host_in v k)) (marked_keys m) x.child) ∙ among) in
+          let t = and_parts (is_among x.child (marked_keys m)) (is_named (host_above v x.child) (host_in v k)) (sym (filter-among (λ key. is_named (host_above v key) (host_in v k)) (marked_keys m) x.child) ∙ among) in
           record {
             child = child_above x.child k up t.1;
             marked = sym (noted_among m x.child) ∙ t.0;

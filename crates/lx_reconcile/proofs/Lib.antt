@@ -35,7 +35,6 @@ pub mod Staying
 pub mod Steps
 pub mod Texts
 pub mod Touched
-pub mod Turns
 pub mod UnkeptKeys
 pub mod UnkeptNodes
 pub mod Walked

@@ -1,15 +1,24 @@
 -- Laws of lists of names: what two lists have in common, and what each lacks.
-use Rattle.std.proofs.Common.{◌≡◌, sym, ap, ℕ, ◌+◌, true, false, cond, ◌&&◌, not, List, [], ◌∷◌, ◌++◌, length, Option, refl, arith, append-nil}
+use Rattle.std.proofs.Common.{◌≡◌, sym, ap, ℕ, ◌+◌, true, false, cond, ◌&&◌, not, List, [], ◌∷◌, ◌++◌, length, Option, refl, arith, append-nil, Bool, filter, Some, inl, inr, ◌∙◌}
 use Rattle.std.proofs.lemmas.Bool.Decides.{eqb_tells}
-use Rattle.lx_trees.specs.Siblings.{is_named, is_among, NoRepeats, first_of, names_without, names_with}
+use Rattle.lx_trees.specs.Siblings.{is_named, is_among, NoRepeats, first_of, names_without, names_with, last_of}
 use Rattle.lx_trees.proofs.Siblings.{is_among-append, is_among-names_with}
 use Rattle.lx_reconcile.specs.Walk.{common, missing}
+use Rattle.std.proofs.lemmas.Bool.{cases_Bool}
 
 -- ---- what is among them
 
+pub filter-among : (p : ℕ → Bool) (xs : List ℕ) (q : ℕ) → is_among q (filter p xs) ≡ (is_among q xs && p q)
+filter-among p [] q = refl
+filter-among p (x ∷ xs) q = grind (arith, filter-among p xs q, eqb_tells x q)
+
 pub is_among-missing : (xs ys : List ℕ) (q : ℕ) → is_among q (missing xs ys) ≡ (is_among q xs && not (is_among q ys))
-is_among-missing [] ys q = refl
-is_among-missing (x ∷ xs) ys q = grind (arith, is_among-missing xs ys q, eqb_tells x q)
+is_among-missing xs ys q = filter-among (λ k. not (is_among k ys)) xs q
+
+pub last_of-among : (xs : List ℕ) (l : ℕ) → last_of xs ≡ Some l → is_among l xs ≡ true
+last_of-among [] l e = absurd (grind (arith, e))
+last_of-among (x ∷ []) l e = grind (arith, e, eqb_tells x l)
+last_of-among (x ∷ y ∷ xs) l e = grind (arith, last_of-among (y ∷ xs) l e)
 
 -- ---- one more on the right
 
@@ -48,6 +57,13 @@ common-all [] ys known = refl
 common-all (x ∷ xs) ys known = grind (arith, known x, eqb_tells x x, common-all xs ys (λ q e. grind (arith, e, known q)))
 
 -- ---- no name twice
+
+pub once-filter : (p : ℕ → Bool) (xs : List ℕ) → NoRepeats xs → NoRepeats (filter p xs)
+once-filter p [] once = tt
+once-filter p (x ∷ xs) once = elim (cases_Bool (p x)) [
+  | inl e ↦ rw e (filter-among p xs x ∙ ap (λ b. b && p x) once.0, once-filter p xs once.1)
+  | inr e ↦ rw e (once-filter p xs once.1)
+]
 
 pub NoRepeats-right : (xs ys : List ℕ) → NoRepeats (xs ++ ys) → NoRepeats ys
 NoRepeats-right [] ys once = once

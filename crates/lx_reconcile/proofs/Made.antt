@@ -1,12 +1,12 @@
 -- What the operations for a node and its children come to, by what the code knows.
 use Rattle.std.specs.Result.{OnOk}
-use Rattle.std.proofs.Common.{Result, Ok, Err, ◌≡◌, ◌∙◌, ◌+◌, ◌*◌, ◌<◌, ◌≤◌, ◌⊎◌, ℕ, Bool, true, false, not, ◌&&◌, List, [], ◌∷◌, ◌++◌, length, Option, None, Some, option_map, inl, inr, refl, sym, ap, subst, arith, append_assoc, append-nil, take, drop, get_or}
+use Rattle.std.proofs.Common.{Result, Ok, Err, ◌≡◌, ◌∙◌, ◌+◌, ◌*◌, ◌<◌, ◌≤◌, ℕ, Bool, true, false, not, List, [], ◌∷◌, ◌++◌, length, Option, None, Some, option_map, refl, sym, ap, subst, arith, append_assoc, append-nil, take, drop, get_or}
 use Rattle.std.proofs.lemmas.Bool.Decides.{eqb_tells}
 use Rattle.std.proofs.lemmas.List.{take_more, drop_more, take-append-drop}
 use Rattle.std.proofs.lemmas.Option.{same_Some}
 use Rattle.std.proofs.lemmas.Result.{on_ok_weaker}
 use Rattle.lx_node.specs.Limits.{last_u32}
-use Rattle.lx_trees.specs.Trees.{Trees, nil, tree}
+use Rattle.lx_trees.specs.Trees.{nil}
 use Rattle.lx_trees.specs.NamedTrees.{total}
 use Rattle.lx_trees.specs.Siblings.{is_among}
 use Rattle.lx_trees.specs.Spots.{Spot}
@@ -44,44 +44,10 @@ use Rattle.lx_reconcile.proofs.Touched.{Due, children_touched, label_touched, cr
 use Rattle.lx_reconcile.proofs.Skipped.{skipped}
 use Rattle.lx_reconcile.proofs.StartEnd.{only_host, child_stands}
 use Rattle.lx_reconcile.proofs.Walked.{child_unkept, made_unkept, again_unkept, walk_room, walk_both, walk_stay, walk_leave, walk_place, walk_make, walk_again}
+use Rattle.std.proofs.lemmas.Bool.{and_parts, not-true}
+use Rattle.lx_reconcile.proofs.HostOf.{one_shows}
 
 -- ---- the host that shows a node
-
-append_none : (xs ys : List ℕ) → xs ++ ys ≡ [] → (xs ≡ []) × (ys ≡ [])
-append_none [] ys e = (refl, e)
-append_none (x ∷ xs) ys e = absurd (cc)
-
-append_one : (xs ys : List ℕ) (i : ℕ) → xs ++ ys ≡ i ∷ [] → ((xs ≡ i ∷ []) × (ys ≡ [])) ⊎ ((xs ≡ []) × (ys ≡ i ∷ []))
-append_one [] ys i e = inr (refl, e)
-append_one (x ∷ xs) ys i e =
-    let rest : xs ++ ys ≡ [] = cc in
-    let none = append_none xs ys rest in
-    let first : x ≡ i = cc in
-    inl (ap (λ y. y ∷ xs) first ∙ ap (λ l. i ∷ l) none.0, none.1)
-
-none_shows : (k : ℕ) (t : Trees Host) → hosts_of k t ≡ [] → hosts.host_of k t ≡ None
-none_shows k nil e = refl
-none_shows k (tree host below rest) e = elim (eqb_tells host.face.key k) [
-  | inl same ↦ absurd (let h = rw same.0 at e in cc)
-  | inr other ↦
-      let none = append_none (hosts_of k below) (hosts_of k rest) (rw other.0 at e) in
-      rw (other.0, none_shows k below none.0, none_shows k rest none.1) refl
-]
-
-one_shows : (k i : ℕ) (t : Trees Host) → hosts_of k t ≡ i ∷ [] → hosts.host_of k t ≡ Some i
-one_shows k i nil e = absurd (cc)
-one_shows k i (tree host below rest) e = elim (eqb_tells host.face.key k) [
-  | inl same ↦
-      let h : host.id ∷ (hosts_of k below ++ hosts_of k rest) ≡ i ∷ [] = rw same.0 at e in
-      let left : hosts_of k below ++ hosts_of k rest ≡ [] = cc in
-      let none = append_none (hosts_of k below) (hosts_of k rest) left in
-      let first : host.id ≡ i = cc in
-      rw (same.0, none_shows k below none.0, none_shows k rest none.1) (ap (λ x. Some x) first)
-  | inr other ↦ elim (append_one (hosts_of k below) (hosts_of k rest) i (rw other.0 at e)) [
-    | inl one ↦ rw (other.0, one_shows k i below one.0, none_shows k rest one.1) refl
-    | inr one ↦ rw (other.0, none_shows k below one.0, one_shows k i rest one.1) refl
-  ]
-]
 
 found_is : (k : ℕ) (v : HostTree) (o : Option ℕ) → o ≡ hosts.host_of k (first_tree v.hosts) → first_tree v.hosts ≡ v.hosts → hosts_of k v.hosts ≡ host_in v k ∷ [] → o ≡ Some (host_in v k)
 found_is k v o e whole shown = e ∙ ap (hosts.host_of k) whole ∙ one_shows k (host_in v k) v.hosts shown
@@ -130,26 +96,18 @@ module _ {f f_now : Forest} (e : f_now ≡ f) where
 
 -- ---- the next move
 
-both : (s t : Bool) → (s && t) ≡ true → (s ≡ true) × (t ≡ true)
-both true t e = (refl, e)
-both false t e = absurd (cc)
-
-not_both : (b : Bool) → not b ≡ true → b ≡ false
-not_both true e = absurd (cc)
-not_both false e = refl
-
 waiting_among : (olds handled : List ℕ) (before : Option ℕ) (b : ℕ) → is_waiting olds handled before ≡ true → before ≡ Some b → is_among b olds ≡ true
 waiting_among olds handled None b e is = absurd (cc)
 waiting_among olds handled (Some k) b e is =
     let same : k ≡ b = cc in
-    subst (λ q. is_among q olds ≡ true) same (both (is_among k olds) (not (is_among k handled)) e).0
+    subst (λ q. is_among q olds ≡ true) same (and_parts (is_among k olds) (not (is_among k handled)) e).0
 
 module _ {old new : Forest} {v : HostTree} where
   pub to_case : {k n : ℕ} {s t : Move} → s ≡ t → IsNext old new v k s n → IsNext old new v k t n
   to_case {k} {n} e x = subst (λ s. IsNext old new v k s n) e x
 
   stay_both : {k c n : ℕ} → IsNext old new v k (Stay c) n → (is_among c (children_of old k) ≡ true) × (is_among c (children_of new k) ≡ true)
-  stay_both {k} {c} {n} x = walk_both old new v k x.are.from x.are.ops x.are.a c x.more n x.are.walk
+  stay_both x = walk_both x.are.walk
 
   next_behind : {k n : ℕ} {s : Move} → IsNext old new v k s n → v.next ≤ n
   next_behind x = omega (arith, x.are.behind, x.are.walk.rises)
@@ -177,7 +135,7 @@ module _ {old new : Forest} {mk : Marking} {v : HostTree} where
     pushed = r.pushed;
     list = r.list;
     due = r.due;
-    leads = λ from ops a more w. walk_stay old new v k from ops a c more n r.pushed m h there w r.done;
+    leads = λ from ops a more w. walk_stay h there w r.done;
   }
 
 -- ---- a child that stays
@@ -196,7 +154,7 @@ module _ {old new : Forest} {mk : Marking} {v : HostTree} {k c n : ℕ} (b : IsB
   stay_shown = child_shown b k c (stay_both x).0
 
   pub stay_room : n + unkept old (Some c) (trees_of new (children_of new c)) ≤ last_u32
-  stay_room = omega (arith, x.are.room, walk_room old new v k x.are.from x.are.ops x.are.a c (Stay c) x.more n x.are.walk refl, child_unkept old new v k c b.view.after stay_after)
+  stay_room = omega (arith, x.are.room, walk_room c x.are.walk refl, child_unkept old new k c b.view.after stay_after)
 
   -- nothing is done for a child without a mark
   pub stay_skipped : (start : List Op) → mk.noted c ≡ false → MakesMoves old new mk v k (Stay c ∷ []) n start start n
@@ -241,8 +199,8 @@ module _ {old new : Forest} {mk : Marking} {v : HostTree} {k c n : ℕ} (b : IsB
           omega (
             arith,
             x.are.room,
-            walk_room old new v k x.are.from x.are.ops x.are.a c (Stay c) x.more n x.are.walk refl,
-            again_unkept old new v k c (label_from c was) (label_from c now) b.view.before b.view.after stay_after was_label now_label other,
+            walk_room c x.are.walk refl,
+            again_unkept old new k c b.view.before b.view.after stay_after was_label now_label other,
           )
 
       -- with another element it has another kind or other fields
@@ -270,7 +228,7 @@ module _ {old new : Forest} {mk : Marking} {v : HostTree} {k c n : ℕ} (b : IsB
                 (drop_due old new mk v c b stay_before again_touched, tt);
             leads = λ low ops a more w.
                 walk_to k low (ops ++ ((made ++ placing) ++ dropping)) a more (n + total (alone c new)) m (sym next)
-                (walk_again old new v k low ops a c more n (label_from c was) (label_from c now) b.view w was_label now_label other again_room);
+                (walk_again b.view w was_label now_label other again_room);
           }
 
       pub again_done : {A E : Type 0} (r : Result A E) {h i : ℕ} {new_now : Forest} (start end : List Op) (m : ℕ) → new_now ≡ new → h ≡ host_in v k → i ≡ host_in v c
@@ -342,7 +300,7 @@ module _ {old new : Forest} {mk : Marking} {v : HostTree} {k c n : ℕ} {s : Mov
     pushed = op.Drop (host_in v c) ∷ [];
     list = is ∙ ap (λ i. start ++ op.Drop i ∷ []) id;
     due = (child_drop_due old new mk v k c b leave_next.are.there leave_among leave_touched, tt);
-    leads = λ from ops a more w. walk_leave old new v k from ops a c more n b.view w;
+    leads = λ from ops a more w. walk_leave b.view w;
   })
 
 module _ {old new : Forest} {mk : Marking} {v : HostTree} {k c n : ℕ} {before : Option ℕ} {s : Move} (e : s ≡ Make c before) (b : IsBetween old new mk v) (y : IsNext old new v k s n) where
@@ -350,7 +308,7 @@ module _ {old new : Forest} {mk : Marking} {v : HostTree} {k c n : ℕ} {before 
   make_next = to_case e y
 
   make_other : is_among c (children_of old k) ≡ false
-  make_other = not_both (is_among c (children_of old k)) make_next.are.walk.to_come.suited.0
+  make_other = not-true (is_among c (children_of old k)) make_next.are.walk.to_come.suited.0
 
   pub make_there : has c new ≡ true
   make_there = after_there b k c (make_next.are.walk.to_come.stays c (grind (arith, eqb_tells c c)))
@@ -361,7 +319,7 @@ module _ {old new : Forest} {mk : Marking} {v : HostTree} {k c n : ℕ} {before 
   pub make_room : n + total (alone c new) ≤ last_u32
   make_room =
       let x = make_next in
-      omega (arith, x.are.room, walk_room old new v k x.are.from x.are.ops x.are.a c (Make c before) x.more n x.are.walk refl, made_unkept old new v k c b.view.before b.view.after make_there make_other)
+      omega (arith, x.are.room, walk_room c x.are.walk refl, made_unkept old new k c b.view.before b.view.after make_there make_other)
 
   makes_make : (h : ℕ) (place : Option ℕ) (start end : List Op) (m : ℕ) → h ≡ host_in v k → place ≡ option_map (host_in v) before → m ≡ n + total (alone c new) → end ≡ start ++ creation_of n (alone c new) ++ op.Place h n place ∷ []
       → MakesMoves old new mk v k (Make c before ∷ []) n start end m
@@ -373,7 +331,7 @@ module _ {old new : Forest} {mk : Marking} {v : HostTree} {k c n : ℕ} {before 
         pushed = made ++ placing;
         list = is ∙ ap (λ i. start ++ made ++ op.Place i n place ∷ []) id ∙ ap (λ o. start ++ made ++ op.Place (host_in v k) n o ∷ []) at ∙ append_assoc start made placing;
         due = each_append (Due old new mk v) made placing (creation_due old new mk v n c b make_there from) (new_due old new mk v (host_in v k) n (option_map (host_in v) before) b.view.numbered from, tt);
-        leads = λ low ops a more w. walk_to k low (ops ++ (made ++ placing)) a more (n + total (alone c new)) m (sym next) (walk_make old new v k low ops a c before more n b.view w make_room);
+        leads = λ low ops a more w. walk_to k low (ops ++ (made ++ placing)) a more (n + total (alone c new)) m (sym next) (walk_make b.view w make_room);
       }
 
   pub make_done : {A E : Type 0} (r : Result A E) {h : ℕ} {place : Option ℕ} (start end : List Op) (m : ℕ) → h ≡ host_in v k → place ≡ option_map (host_in v) before
@@ -412,7 +370,7 @@ module _ {old new : Forest} {mk : Marking} {v : HostTree} {k c n : ℕ} {before 
           from = x.are.from;
           ops = x.are.ops ++ op.Place (host_in v k) (host_in v c) (option_map (host_in v) before) ∷ [];
           a = x.are.a;
-          walk = walk_place old new v k x.are.from x.are.ops x.are.a c before x.more n b.view x.are.walk;
+          walk = walk_place b.view x.are.walk;
           behind = x.are.behind;
           room = x.are.room;
           there = x.are.there;
@@ -450,7 +408,7 @@ module _ {old new : Forest} {mk : Marking} {v : HostTree} {k c n : ℕ} {before 
         due = each_append (Due old new mk v) placing r.pushed (place_due old new mk v k c (host_in v k) (option_map (host_in v) before) b place_next.are.there place_among stays place_touched placed_order, tt) r.due;
         leads = λ from ops a more w.
             subst (λ l. IsInWalk old new v k from l a more m) (append_assoc ops placing r.pushed)
-            (r.leads from (ops ++ placing) a more (walk_place old new v k from ops a c before more n b.view w));
+            (r.leads from (ops ++ placing) a more (walk_place b.view w));
       }
 
   pub place_done : {A E : Type 0} (r : Result A E) {h i : ℕ} {place : Option ℕ} (start mid end : List Op) (m : ℕ) → h ≡ host_in v k → i ≡ host_in v c → place ≡ option_map (host_in v) before → mid ≡ start ++ op.Place h i place ∷ []

@@ -7,13 +7,10 @@ use Rattle.lx_node.specs.declared.node.Node.{Node}
 use Rattle.lx_forest.specs.Forest.{Label, Forest}
 use Rattle.lx_forest.specs.Lookups.{has, spot, children_of, children_below, siblings, next_of}
 use Rattle.lx_forest.specs.Records.{linked, record_at}
-use Rattle.lx_forest.proofs.Lookups.{has-child, NoRepeats-children_of}
+use Rattle.lx_forest.proofs.Lookups.{NoRepeats-children_of}
 use Rattle.lx_links.specs.Stands.{node_of, Sound}
 use Rattle.lx_links.proofs.Placed.{parent_of-child}
 use Rattle.lx_reconcile.proofs.Children.{child_left}
-
-pub child_there : (f : Forest) (key child : ℕ) → Sound f → is_among child (children_of f key) ≡ true → has child f ≡ true
-child_there f key child s among = has-child f child key (parent_of-child f child key s among)
 
 -- the siblings of a child are its parent's children
 pub siblings_of : (f : Forest) (key child : ℕ) → Sound f → is_among child (children_of f key) ≡ true → siblings f child ≡ children_of f key

@@ -1,14 +1,13 @@
 -- The children of a host, one move after another: what its operations lead to, and which children are after it.
-use Rattle.std.proofs.Common.{◌≡◌, ◌≢◌, ◌∙◌, ◌+◌, ◌<◌, ◌≤◌, ℕ, true, false, cond, List, [], ◌∷◌, ◌++◌, Option, None, Some, option_map, inl, inr, refl, sym, ap, subst, arith, ne_eqb, eq-eqb}
+use Rattle.std.proofs.Common.{◌≡◌, ◌≢◌, ◌∙◌, ◌+◌, ◌<◌, ◌≤◌, ℕ, true, false, List, [], ◌∷◌, ◌++◌, Option, None, Some, option_map, inl, inr, refl, sym, ap, subst, arith, ne_eqb}
 use Rattle.std.proofs.lemmas.Bool.Decides.{eqb_tells}
-use Rattle.std.proofs.lemmas.Bool.{cases_lt, cases_Bool}
+use Rattle.std.proofs.lemmas.Bool.{cases_lt}
 use Rattle.lx_node.specs.Limits.{last_u32}
 use Rattle.lx_trees.specs.Trees.{Trees, nil, tree}
 use Rattle.lx_trees.specs.NamedTrees.{total}
 use Rattle.lx_trees.specs.Siblings.{is_among, is_named, is_place, NoRepeats, names_without, names_with}
 use Rattle.lx_trees.proofs.NamedTrees as trees
 use Rattle.lx_trees.proofs.Siblings.{is_among-names_without, is_among-names_with}
-use Rattle.lx_trees.proofs.Spots.{is_among-names}
 use Rattle.lx_host.specs.declared.op.Op.{Op}
 use Rattle.lx_host.specs.declared.op.Op.TheVariants.{Place, Drop}
 use Rattle.lx_host.specs.Branches.{has_before}
@@ -20,7 +19,7 @@ use Rattle.lx_reconcile.specs.Created.{numbered, creation}
 use Rattle.lx_reconcile.specs.Reconciled.{replaced, LeadsAt, flat}
 use Rattle.lx_reconcile.proofs.Created.{count-numbered_before}
 use Rattle.lx_reconcile.proofs.Families.{with_entry, AreAt, StandsApart, stands_apart, other_id, count-at, count-flat, ids_of-flat, is_among-ids, alone-flat, without-flat, replaced-flat, inserted-flat, flat-agree, among_first, among_rest}
-use Rattle.lx_reconcile.proofs.Frames.{replaced-absent, at_then, at_numbered, at_leave, at_place, at_make, at_inner}
+use Rattle.lx_reconcile.proofs.Frames.{replaced-absent, at_then, at_numbered, at_leave, at_place, at_make, at_inner, some_among}
 
 -- ---- what is known of the ids where operations lead
 
@@ -35,10 +34,7 @@ at_kids h a kids n ops to m given =
 pub no_repeats : (ids : ℕ → ℕ) (family : ℕ → Trees Host) (cs : List ℕ) → AreAt ids family cs → ((q : ℕ) → count q (flat family cs) < 2) → NoRepeats cs
 no_repeats ids family [] at once = tt
 no_repeats ids family (k ∷ ks) at once = (
-  elim (cases_Bool (is_among k ks)) [
-    | inl again ↦ absurd (omega (arith, once (ids k), count-joined (ids k) (family k) (flat family ks), count-at (ids k) (family k) (at k (among_first k ks)), count-flat (ids k) k family ks again))
-    | inr once_only ↦ once_only
-  ],
+  grind (arith, once (ids k), count-joined (ids k) (family k) (flat family ks), count-at (ids k) (family k) (at k (among_first k ks)), count-flat (ids k) k family ks),
   no_repeats ids family ks (λ c e. at c (among_rest c k ks e)) (λ q. omega (arith, once q, count-joined q (family k) (flat family ks))),
 )
 
@@ -68,10 +64,8 @@ at_gone h a ids family cs n c id at here nonzero =
 named_id : (ids : ℕ → ℕ) (family : ℕ → Trees Host) (cs : List ℕ) (before : Option ℕ) → AreAt ids family cs → ((q : ℕ) → count q (flat family cs) < 2) → is_place before cs ≡ true
     → (d : ℕ) → is_among d cs ≡ true → is_named (option_map ids before) (ids d) ≡ is_named before d
 named_id ids family cs None at once place d there = refl
-named_id ids family cs (Some b) at once place d there = elim (eqb_tells d b) [
-  | inl same ↦ eq-eqb (ids d) (ids b) (ap ids same.1) ∙ sym same.0
-  | inr other ↦ ne_eqb (ids d) (ids b) (other_id ids family cs b d at (stands_apart ids family cs b at once place) there other.1) ∙ sym other.0
-]
+named_id ids family cs (Some b) at once place d there =
+    grind (arith, eqb_tells d b, eqb_tells (ids d) (ids b), other_id ids family cs b d at (stands_apart ids family cs b at once place) there)
 
 has_before_ids : (ids : ℕ → ℕ) (family : ℕ → Trees Host) (cs : List ℕ) (before : Option ℕ) → AreAt ids family cs → is_place before cs ≡ true → has_before (option_map ids before) (ids_of (flat family cs)) ≡ true
 has_before_ids ids family cs None at place = refl
@@ -89,7 +83,7 @@ at_new h a ids family cs n k before label below id at out place room =
     subst (λ kids. LeadsAt h (tree a (flat family cs) nil) n ops (tree a kids nil) m) (inserted-flat ids family cs before k new at out (named_id ids family cs before at once place))
     (at_make h a (flat family cs) n label below (option_map ids before) id room (has_before_ids ids family cs before at place)))
 
-without_key : (c d : ℕ) (cs : List ℕ) → is_among d (names_without c cs) ≡ true → (is_among d cs ≡ true) × (d ≢ c)
+pub without_key : (c d : ℕ) (cs : List ℕ) → is_among d (names_without c cs) ≡ true → (is_among d cs ≡ true) × (d ≢ c)
 without_key c d cs e = (grind (arith, e, is_among-names_without c d cs), λ same. grind (arith, e, is_among-names_without c d cs, eqb_tells d c, same))
 
 without_self : (c : ℕ) (cs : List ℕ) → is_among c (names_without c cs) ≡ false
@@ -126,27 +120,24 @@ at_moved h a ids family cs n c before id at here nonzero place other =
       | inr other ↦ rw other.0 refl
     ]
 
-first_stands : (t : Trees Host) (i : ℕ) → is_among i (ids_of t) ≡ true → 0 < count i t
-first_stands t i here = elim (cases_lt 0 (count i t)) [
-  | inl there ↦ there
-  | inr none ↦ absurd (let out = is_among-names id_of t i (omega (arith, none)) in cc)
-]
-
 -- what comes before a tree that then leaves is in its place
 without_inserted : (i : ℕ) (new t : Trees Host) → count i t < 2 → count i new ≡ 0 → is_among i (ids_of t) ≡ true → without i (inserted (Some i) new t) ≡ replaced i new t
 without_inserted i new nil once free here = absurd (cc)
-without_inserted i new (tree x b r) once free here = elim (eqb_tells x.id i) [
-  | inl same ↦
-      let none : count i r ≡ 0 = omega (arith, once, ap {B = ℕ} (λ z. cond z 1 0) same.0) in
-      rw same.0 (
-      without-joined i new (tree x b r)
-      ∙ rw (same.0, without-absent i new free, without-absent i r none, replaced-absent i new r none) refl)
-  | inr other ↦
-      let later : is_among i (ids_of r) ≡ true = rw other.0 at here in
-      let there : 0 < count i r = first_stands r i later in
-      let none : count i b ≡ 0 = omega (arith, once, there) in
-      rw (other.0, other.0, without-absent i b none, replaced-absent i new b none, without_inserted i new r (omega (arith, once)) free later) refl
-]
+without_inserted i new (tree x b r) once free here =
+    grind (
+      arith,
+      here,
+      once,
+      eqb_tells x.id i,
+      some_among i r,
+      without-joined i new (tree x b r),
+      without-absent i new free,
+      without-absent i b,
+      without-absent i r,
+      replaced-absent i new b,
+      replaced-absent i new r,
+      without_inserted i new r,
+    )
 
 among_inserted : (i : ℕ) (before : Option ℕ) (new t : Trees Host) → is_among i (ids_of t) ≡ true → is_among i (ids_of (inserted before new t)) ≡ true
 among_inserted i before new t here =
@@ -166,7 +157,7 @@ at_again h a ids family cs n c label below id at here nonzero room =
     let m = n + total (tree label below nil) in
     at_kids h a kids n (first ++ Drop (ids c) ∷ []) (tree a (flat (with_entry c new family) cs) nil) m (λ once free.
     let among = among_kids ids family cs c at here in
-    let old_id : ids c < n = old_is_below n (ids c) kids free (first_stands kids (ids c) among) in
+    let old_id : ids c < n = old_is_below n (ids c) kids free (some_among (ids c) kids among) in
     let none : count (ids c) new ≡ 0 = count-numbered_before (ids c) n (render (tree label below nil)) old_id in
     let put = inserted (Some (ids c)) new kids in
     let same : without (ids c) put ≡ flat (with_entry c new family) cs =

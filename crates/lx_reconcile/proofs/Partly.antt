@@ -43,8 +43,8 @@ module _ (old new : Forest) (mk : Marking) (v : HostTree) (b : IsBetween old new
 
   skip_one : (k c from : ℕ) (ops : List Op) (a : Host) (more : List Move) (n : ℕ) → mk.noted c ≡ false → IsInWalk old new v k from ops a (Stay c ∷ more) n → IsInWalk old new v k from ops a more n
   skip_one k c from ops a more n plain w =
-      let there = after_there b k c (walk_both old new v k from ops a c more n w).1 in
-      subst (λ l. IsInWalk old new v k from l a more n) (append-nil ops) (walk_stay old new v k from ops a c more n [] n b.view.after there w (done_plain old new mk v b c n there plain))
+      let there = after_there b k c (walk_both w).1 in
+      subst (λ l. IsInWalk old new v k from l a more n) (append-nil ops) (walk_stay b.view.after there w (done_plain old new mk v b c n there plain))
 
   skip_all : (k from : ℕ) (ops : List Op) (a : Host) (front : List ℕ) (more : List Move) (n : ℕ) → ArePlain mk.noted front → IsInWalk old new v k from ops a (map Stay front ++ more) n → IsInWalk old new v k from ops a more n
   skip_all k from ops a [] more n plain w = w

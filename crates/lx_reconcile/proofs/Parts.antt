@@ -13,7 +13,7 @@ use Rattle.lx_reconcile.specs.declared.moves.Move.{Move}
 use Rattle.lx_reconcile.specs.declared.moves.Move.TheVariants.{Stay, Leave, Make, Place}
 use Rattle.lx_reconcile.specs.Walk.{child_of, before_of, moved, can_move, suits_children, is_placing, all_moved, CanAllMove, standing, leaving, is_waiting, BeforeUnhandled, common, missing, IsWalk, toward, IsPart}
 use Rattle.lx_reconcile.proofs.Lists.{is_among-missing, common-append, missing-append, common-all, names_without-append, names_with-first, NoRepeats-right, apart}
-use Rattle.lx_reconcile.proofs.InTurn.{NoRepeats-moved, standing-append, leaving-append}
+use Rattle.lx_reconcile.proofs.InTurn.{NoRepeats-moved, standing-append, leaving-append, children_among}
 use Rattle.lx_reconcile.proofs.Staying as staying
 use Rattle.lx_reconcile.proofs.Staying.{all_staying}
 
@@ -122,50 +122,38 @@ all_toward (m ∷ ms) front ks back once far can =
 
 standing_toward : (end : Option ℕ) (ms : List Move) → standing (map (toward end) ms) ≡ standing ms
 standing_toward end [] = refl
-standing_toward end (Stay k ∷ ms) = ap (λ ks. k ∷ ks) (standing_toward end ms)
 standing_toward end (Leave k ∷ ms) = standing_toward end ms
 standing_toward end (Make k None ∷ ms) = ap (λ ks. k ∷ ks) (standing_toward end ms)
-standing_toward end (Make k (Some b) ∷ ms) = ap (λ ks. k ∷ ks) (standing_toward end ms)
 standing_toward end (Place k None ∷ ms) = ap (λ ks. k ∷ ks) (standing_toward end ms)
-standing_toward end (Place k (Some b) ∷ ms) = ap (λ ks. k ∷ ks) (standing_toward end ms)
+standing_toward end (m ∷ ms) = ap (λ ks. child_of m ∷ ks) (standing_toward end ms)
 
 leaving_toward : (end : Option ℕ) (ms : List Move) → leaving (map (toward end) ms) ≡ leaving ms
 leaving_toward end [] = refl
-leaving_toward end (Stay k ∷ ms) = leaving_toward end ms
 leaving_toward end (Leave k ∷ ms) = ap (λ ks. k ∷ ks) (leaving_toward end ms)
 leaving_toward end (Make k None ∷ ms) = leaving_toward end ms
-leaving_toward end (Make k (Some b) ∷ ms) = leaving_toward end ms
 leaving_toward end (Place k None ∷ ms) = leaving_toward end ms
-leaving_toward end (Place k (Some b) ∷ ms) = leaving_toward end ms
+leaving_toward end (_ ∷ ms) = leaving_toward end ms
 
 placing_toward : (end : Option ℕ) (ms : List Move) → list_any is_placing (map (toward end) ms) ≡ list_any is_placing ms
 placing_toward end [] = refl
-placing_toward end (Stay k ∷ ms) = placing_toward end ms
-placing_toward end (Leave k ∷ ms) = placing_toward end ms
 placing_toward end (Make k None ∷ ms) = placing_toward end ms
-placing_toward end (Make k (Some b) ∷ ms) = placing_toward end ms
 placing_toward end (Place k None ∷ ms) = refl
 placing_toward end (Place k (Some b) ∷ ms) = refl
+placing_toward end (_ ∷ ms) = placing_toward end ms
 
 child_toward : (end : Option ℕ) (m : Move) → child_of (toward end m) ≡ child_of m
-child_toward end (Stay k) = refl
-child_toward end (Leave k) = refl
 child_toward end (Make k None) = refl
-child_toward end (Make k (Some b)) = refl
 child_toward end (Place k None) = refl
-child_toward end (Place k (Some b)) = refl
+child_toward end _ = refl
 
 -- ---- what suits the children before, and comes before none that was handled
 
 -- where those between suit a move, so do all, unless it is of one of the front or the back
 suits_toward : (m : Move) (front old back : List ℕ) → is_among (child_of m) front ≡ false → is_among (child_of m) back ≡ false →
     suits_children old m ≡ true → suits_children (front ++ (old ++ back)) (toward (first_of back) m) ≡ true
-suits_toward (Stay k) front old back f b e = grind (arith, e, among_all front old back k)
-suits_toward (Leave k) front old back f b e = grind (arith, e, among_all front old back k)
 suits_toward (Make k None) front old back f b e = grind (arith, e, f, b, among_all front old back k)
-suits_toward (Make k (Some c)) front old back f b e = grind (arith, e, f, b, among_all front old back k)
 suits_toward (Place k None) front old back f b e = grind (arith, e, among_all front old back k)
-suits_toward (Place k (Some c)) front old back f b e = grind (arith, e, among_all front old back k)
+suits_toward m front old back f b e = grind (arith, e, f, b, among_all front old back (child_of m))
 
 all_suit : (ms : List Move) (front old back : List ℕ) → AreApart (map child_of ms) front back → AllByRecursion (λ m. suits_children old m ≡ true) ms →
     AllByRecursion (λ m. suits_children (front ++ (old ++ back)) m ≡ true) (map (toward (first_of back)) ms)
@@ -190,12 +178,11 @@ waiting_toward m front old back handled now once are far waits = by_move m waits
   end (b ∷ back) once far = grind (arith, eqb_tells b b, among_all front old (b ∷ back) b, is_among-append b old (b ∷ back), are b, far b, apart front (old ++ b ∷ back) b once)
 
   by_move : (m : Move) → is_waiting old handled (before_of m) ≡ true → is_waiting (front ++ (old ++ back)) now (before_of (toward (first_of back) m)) ≡ true
-  by_move (Stay k) e = refl
-  by_move (Leave k) e = refl
   by_move (Make k None) e = end back once far
   by_move (Make k (Some c)) e = named c e
   by_move (Place k None) e = end back once far
   by_move (Place k (Some c)) e = named c e
+  by_move _ e = refl
 
 unhandled_toward : (ms : List Move) (front old back handled now : List ℕ) → NoRepeats (front ++ (old ++ back)) → AreHandled now handled front →
     ((q : ℕ) → is_among q handled ≡ true → is_among q back ≡ false) → AreApart (map child_of ms) front back →
@@ -273,18 +260,10 @@ common-between front old back new once =
 
 -- ---- the whole walk
 
--- a child that is moved is there in the end or leaves
-child_known : (ms : List Move) (q : ℕ) → is_among q (map child_of ms) ≡ true → (is_among q (standing ms) || is_among q (leaving ms)) ≡ true
-child_known [] q e = absurd (grind (arith, e))
-child_known (Stay k ∷ ms) q e = grind (arith, e, child_known ms q)
-child_known (Leave k ∷ ms) q e = grind (arith, e, child_known ms q)
-child_known (Make k before ∷ ms) q e = grind (arith, e, child_known ms q)
-child_known (Place k before ∷ ms) q e = grind (arith, e, child_known ms q)
-
 children_apart : (front back old new : List ℕ) (ms : List Move) → NoRepeats (front ++ (old ++ back)) → NoRepeats (front ++ (new ++ back)) → IsWalk old new ms →
     AreApart (map child_of ms) front back
 children_apart front back old new ms once next_once w q e =
-    let known : (is_among q new || is_among q (missing old new)) ≡ true = grind (arith, child_known ms q e, ap (is_among q) w.stands, ap (is_among q) w.leaves) in
+    let known : (is_among q new || is_among q (missing old new)) ≡ true = grind (arith, sym (children_among q ms) ∙ e, ap (is_among q) w.stands, ap (is_among q) w.leaves) in
     elim (cases_Bool (is_among q new)) [
       | inl here ↦ between_apart front new back next_once q here
       | inr gone ↦ between_apart front old back once q (grind (arith, known, gone, is_among-missing old new q))

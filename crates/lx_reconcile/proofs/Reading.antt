@@ -32,13 +32,8 @@ weight-same w u (x ∷ xs) same = omega (arith, same x (grind (arith, eqb_tells 
 
 weight-without : (w : ℕ → ℕ) (x : ℕ) (ys : List ℕ) → is_among x ys ≡ true → w x + weight w (names_without x ys) ≤ weight w ys
 weight-without w x [] e = absurd (cc)
-weight-without w x (y ∷ ys) e = elim (eqb_tells y x) [
-  | inl same ↦ rw same.0 (elim (cases_Bool (is_among x ys)) [
-    | inl again ↦ omega (arith, ap w same.1, weight-without w x ys again)
-    | inr out ↦ omega (arith, ap w same.1, ap (weight w) (names_without-absent_list x ys out))
-  ])
-  | inr other ↦ rw other.0 (omega (arith, weight-without w x ys (grind (arith, e, other.0))))
-]
+weight-without w x (y ∷ ys) e =
+    grind (arith, e, eqb_tells y x, weight-without w x ys, names_without-absent_list x ys, cases_Bool (is_among x ys))
 
 -- over some of the names it is less
 pub weight-some : (w : ℕ → ℕ) (xs ys : List ℕ) → NoRepeats xs → ((k : ℕ) → is_among k xs ≡ true → (w k ≡ 0) ⊎ (is_among k ys ≡ true)) → weight w xs ≤ weight w ys
@@ -66,10 +61,7 @@ part_of : (f : Forest) (k : ℕ) → 0 < count k f → is_among k (named.preorde
 part_of f k some = is_among-preorder key_of k f ∙ grind (arith, some)
 
 among_part : (f : Forest) (k : ℕ) → is_among k (named.preorder key_of f) ≡ true → 0 < count k f
-among_part f k e = elim (cases_lt 0 (count k f)) [
-  | inl some ↦ some
-  | inr none ↦ absurd (let h : named.has key_of k f ≡ true = sym (is_among-preorder key_of k f) ∙ e in grind (arith, h, none))
-]
+among_part f k e = grind (arith, e, is_among-preorder key_of k f)
 
 children-absent : (q : ℕ) (f : Forest) → count q f ≡ 0 → named.children_of key_of q f ≡ []
 children-absent q nil e = refl
@@ -85,18 +77,13 @@ children-behind : (l : Label) (b t : Forest) (k : ℕ) → eqb l.key k ≡ false
 children-behind l b t k other out = grind (arith, other, children-absent k b out)
 
 other_key : (l : Label) (b t : Forest) (k : ℕ) → count k (tree l b t) < 2 → 0 < count k b + count k t → eqb l.key k ≡ false
-other_key l b t k once some = elim (eqb_tells l.key k) [
-  | inl same ↦ absurd (omega (arith, rw same.0 at once, some))
-  | inr other ↦ other.0
-]
+other_key l b t k once some = grind (arith, once, some, eqb_tells l.key k)
 
 part_once : (l : Label) (b t : Forest) (k : ℕ) → count k (tree l b t) < 2 → count k b + count k t < 2
 part_once l b t k once = omega (arith, once)
 
 own_out : (l : Label) (b t : Forest) → count l.key (tree l b t) < 2 → count l.key t ≡ 0
-own_out l b t once = omega (arith, rw (ap (λ x. x) (own l)) at once) where
-  own : (l : Label) → eqb l.key l.key ≡ true
-  own l = grind (arith, eqb_tells l.key l.key)
+own_out l b t once = grind (arith, once, eqb_tells l.key l.key)
 
 children_weight : (noted : ℕ → Bool) (f : Forest) → ((q : ℕ) → count q f < 2) → marked_children noted f ≡ weight (size_if noted (λ k. named.children_of key_of k f)) (named.preorder key_of f)
 children_weight noted nil once = refl

@@ -1,13 +1,12 @@
 -- A run of children that grows by one child at a time, until it holds all that carry a mark.
 use Rattle.std.proofs.Common.{◌≡◌, ◌∙◌, ◌+◌, ◌≤◌, ◌<◌, ◌||◌, ℕ, Bool, true, false, List, [], ◌∷◌, ◌++◌, length, length-append, Option, None, Some, is_some, refl, sym, ap, subst, arith, append_assoc, inl, inr}
 use Rattle.std.proofs.lemmas.Bool.Decides.{eqb_tells}
-use Rattle.std.proofs.lemmas.Bool.{cases_Bool}
 use Rattle.lx_trees.specs.Siblings.{is_among, NoRepeats, first_of, last_of, next_in, previous_in}
 use Rattle.lx_trees.proofs.Siblings.{is_among-append, first_of-among}
 use Rattle.lx_reconcile.specs.declared.windows.Window.{Window}
 use Rattle.lx_reconcile.specs.Windows.{IsWindow, marked_among, Takes, IsWindowOfMarks}
-use Rattle.lx_reconcile.proofs.Lists.{NoRepeats-right, apart}
-use Rattle.lx_reconcile.proofs.Shared.{next_in-behind, previous_from-first, last_of-among, last_is}
+use Rattle.lx_reconcile.proofs.Lists.{NoRepeats-right, apart, last_of-among}
+use Rattle.lx_reconcile.proofs.Shared.{next_in-behind, previous_from-first, last_is}
 
 -- ---- where a list ends and begins
 
@@ -64,10 +63,7 @@ taken_before noted children old new child marked once w here before keys behind 
     let list : children ≡ split.before ++ (child ∷ old.keys.items ++ w.back) =
     w.list ∙ ap (λ xs. xs ++ (old.keys.items ++ w.back)) split.list ∙ append_assoc split.before (child ∷ []) (old.keys.items ++ w.back) in
     let out : is_among child split.before ≡ false =
-    elim (cases_Bool (is_among child split.before)) [
-      | inl e ↦ absurd (let far = apart split.before (child ∷ old.keys.items ++ w.back) child (subst NoRepeats list once) e in grind (arith, far, eqb_tells child child))
-      | inr e ↦ e
-    ] in
+    grind (arith, apart split.before (child ∷ old.keys.items ++ w.back) child (subst NoRepeats list once), eqb_tells child child) in
     record {
       is = record {
         front = split.before;
@@ -88,16 +84,9 @@ taken_behind noted children old new child marked once w here before keys behind 
     let list : children ≡ w.front ++ (old.keys.items ++ child ∷ split.behind) = w.list ∙ ap (λ xs. w.front ++ (old.keys.items ++ xs)) split.list in
     let list_once : NoRepeats (w.front ++ (old.keys.items ++ child ∷ split.behind)) = subst NoRepeats list once in
     let keys_once : NoRepeats (old.keys.items ++ child ∷ split.behind) = NoRepeats-right w.front (old.keys.items ++ child ∷ split.behind) list_once in
-    let out_keys : is_among child old.keys.items ≡ false =
-    elim (cases_Bool (is_among child old.keys.items)) [
-      | inl e ↦ absurd (let far = apart old.keys.items (child ∷ split.behind) child keys_once e in grind (arith, far, eqb_tells child child))
-      | inr e ↦ e
-    ] in
+    let out_keys : is_among child old.keys.items ≡ false = grind (arith, apart old.keys.items (child ∷ split.behind) child keys_once, eqb_tells child child) in
     let out_front : is_among child w.front ≡ false =
-    elim (cases_Bool (is_among child w.front)) [
-      | inl e ↦ absurd (let far = apart w.front (old.keys.items ++ child ∷ split.behind) child list_once e in grind (arith, far, eqb_tells child child, is_among-append child old.keys.items (child ∷ split.behind)))
-      | inr e ↦ e
-    ] in
+    grind (arith, apart w.front (old.keys.items ++ child ∷ split.behind) child list_once, eqb_tells child child, is_among-append child old.keys.items (child ∷ split.behind)) in
     record {
       is = record {
         front = w.front;
@@ -143,12 +132,6 @@ window_of_one children w child among before keys behind =
       before = before ∙ ap (λ xs. previous_in xs child) at.list ∙ previous_from-first None at.front child at.back at.out;
       behind = behind ∙ ap (λ xs. next_in xs child) at.list ∙ next_in-behind child at.front (child ∷ at.back) at.out ∙ grind (arith, eqb_tells child child);
     }
-
--- ---- how long it is
-
-pub none_of : (xs : List ℕ) → length xs ≡ 0 → xs ≡ []
-none_of [] e = refl
-none_of (x ∷ xs) e = absurd (omega (arith, e))
 
 -- ---- when it holds all that carry a mark
 

@@ -6,7 +6,7 @@ use Rattle.lx_trees.specs.Siblings.{is_among, NoRepeats, first_of, last_from, la
 use Rattle.lx_trees.proofs.Siblings.{is_among-append, is_named_tells, is_none-previous_in}
 use Rattle.lx_trees.proofs.Positions.{from_name-first, from_name-step}
 use Rattle.lx_reconcile.specs.Windows.{up_to_end, between_names}
-use Rattle.lx_reconcile.proofs.Lists.{NoRepeats-right, apart}
+use Rattle.lx_reconcile.proofs.Lists.{NoRepeats-right, apart, last_of-among}
 
 -- ---- the front, and the back
 
@@ -61,11 +61,6 @@ split (Some k) (x ∷ xs) =
 pub next_in-behind : (k : ℕ) (front xs : List ℕ) → is_among k front ≡ false → next_in (front ++ xs) k ≡ next_in xs k
 next_in-behind k [] xs e = refl
 next_in-behind k (f ∷ front) xs e = grind (arith, e, next_in-behind k front xs)
-
-pub last_of-among : (xs : List ℕ) (l : ℕ) → last_of xs ≡ Some l → is_among l xs ≡ true
-last_of-among [] l e = absurd (grind (arith, e))
-last_of-among (x ∷ []) l e = grind (arith, e, eqb_tells x l)
-last_of-among (x ∷ y ∷ xs) l e = grind (arith, last_of-among (y ∷ xs) l e)
 
 pub last_is : (x : ℕ) (xs : List ℕ) → (l : ℕ) × (last_of (x ∷ xs) ≡ Some l)
 last_is x [] = (x, refl)

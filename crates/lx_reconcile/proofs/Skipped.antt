@@ -1,43 +1,23 @@
 -- What is below a node without a mark is the same in both trees.
-use Rattle.std.proofs.Common.{◌≡◌, ◌∙◌, ◌+◌, ◌<◌, ℕ, true, false, List, [], ◌∷◌, Option, None, Some, is_some, option_map, zero, suc, inl, inr, refl, sym, ap, arith, append-nil}
-use Rattle.std.proofs.lemmas.Bool.{cases_Bool}
+use Rattle.std.proofs.Common.{◌≡◌, ◌∙◌, ◌+◌, ◌<◌, ℕ, true, false, List, [], ◌∷◌, Some, option_map, zero, suc, refl, sym, ap, arith, append-nil}
+use Rattle.std.proofs.lemmas.Bool.{false_from_ne_true, true_from_ne_false, false≢true}
 use Rattle.std.proofs.lemmas.Bool.Decides.{eqb_tells}
 use Rattle.std.proofs.lemmas.Option.{same_Some}
 use Rattle.lx_trees.specs.Trees.{nil, tree, joined}
 use Rattle.lx_trees.specs.NamedTrees.{total}
 use Rattle.lx_trees.specs.Siblings.{is_among}
-use Rattle.lx_trees.specs.Spots.{Spot, children_at}
 use Rattle.lx_host.specs.Hosts.{HostTree}
 use Rattle.lx_host.specs.declared.op.Op.{Op}
 use Rattle.lx_forest.specs.Forest.{Label, Forest}
-use Rattle.lx_forest.specs.Lookups.{has, alone, spot, label_of, children_of, trees_of, IsForest}
-use Rattle.lx_forest.proofs.Edits.{key-spot, is_some-spot}
-use Rattle.lx_forest.proofs.Lookups.{alone-spot}
+use Rattle.lx_forest.specs.Lookups.{has, alone, children_of, trees_of}
 use Rattle.lx_forest.proofs.Walks.{total-alone-lt}
 use Rattle.lx_links.proofs.Placed.{parent_of-child}
 use Rattle.lx_forest.specs.Covered.{Marking, IsAlike}
 use Rattle.lx_reconcile.specs.Handled.{IsReconciled}
 use Rattle.lx_reconcile.specs.Making.{IsBetween, Reconciles}
 use Rattle.lx_reconcile.proofs.StartEnd.{child_stands}
-use Rattle.lx_reconcile.proofs.Turns.{reconciled_same}
-
--- a node that is there, by its label and its children
-record IsNode (f : Forest) (k : ℕ) : Type 0 where
-  pub label : Label
-  pub label_is : label_of f k ≡ Some label
-  pub key : label.key ≡ k
-  pub tree_is : alone k f ≡ tree label (trees_of f (children_of f k)) nil
-
-is_node : (f : Forest) (k : ℕ) → IsForest f → has k f ≡ true → IsNode f k
-is_node f k h there = from_spot (spot f k) refl where
-  from_spot : (o : Option (Spot Label)) → spot f k ≡ o → IsNode f k
-  from_spot None at = absurd (let e = is_some-spot f k in let g = ap is_some at in cc)
-  from_spot (Some x) at = record {
-    label = x.label;
-    label_is = ap (option_map (λ (s : Spot Label). s.label)) at;
-    key = key-spot f k x at;
-    tree_is = alone-spot f k x h at ∙ sym (ap (λ o. tree x.label (trees_of f (children_at o)) nil) at);
-  }
+use Rattle.lx_reconcile.proofs.Walked.{reconciled_same}
+use Rattle.lx_reconcile.proofs.Children.{stands_there}
 
 label_same : (x y : Label) → x.key ≡ y.key → x.kind ≡ y.kind → x.fields ≡ y.fields → x ≡ y
 label_same x y e f g = rw (e, f, g) refl
@@ -49,44 +29,36 @@ trees_same f g (k ∷ ks) same =
     ∙ ap (joined (alone k g)) (trees_same f g ks (λ c e. same c (grind (arith, e))))
 
 module _ (old new : Forest) (mk : Marking) (v : HostTree) (b : IsBetween old new mk v) where
-  untouched : (k : ℕ) → mk.noted k ≡ false → mk.touched k ≡ false
-  untouched k plain = elim (cases_Bool (mk.touched k)) [
-    | inl marked ↦ absurd (let e = b.covered.noted k marked in cc)
-    | inr e ↦ e
-  ]
+  pub untouched : (k : ℕ) → mk.noted k ≡ false → mk.touched k ≡ false
+  untouched k plain = false_from_ne_true (mk.touched k) (λ marked. false≢true (sym plain ∙ b.covered.noted k marked))
 
   was_there : (k : ℕ) → has k new ≡ true → mk.noted k ≡ false → has k old ≡ true
-  was_there k there plain = elim (cases_Bool (has k old)) [
-    | inl e ↦ e
-    | inr out ↦ absurd (let e = b.covered.made k out there in let f = untouched k plain in cc)
-  ]
+  was_there k there plain = true_from_ne_false (has k old) (λ out. false≢true (sym (untouched k plain) ∙ b.covered.made k out there))
 
   child_unmarked : (k c : ℕ) → mk.noted k ≡ false → is_among c (children_of new k) ≡ true → mk.noted c ≡ false
-  child_unmarked k c plain among = elim (cases_Bool (mk.noted c)) [
-    | inl marked ↦ absurd (let e = b.covered.above c k (parent_of-child new c k b.sound among) marked in cc)
-    | inr e ↦ e
-  ]
+  child_unmarked k c plain among =
+      false_from_ne_true (mk.noted c) (λ marked. false≢true (sym plain ∙ b.covered.above c k (parent_of-child new c k b.sound among) marked))
 
   same_below : (fuel k : ℕ) → total (alone k new) < fuel → has k new ≡ true → mk.noted k ≡ false → alone k new ≡ alone k old
   same_below zero k small there plain = absurd (omega (arith, small))
   same_below (suc fuel) k small there plain =
       let was = was_there k there plain in
       let alike : IsAlike old new k = b.covered.alike k was there (untouched k plain) in
-      let x = is_node old k b.view.before was in
-      let y = is_node new k b.view.after there in
+      let x = stands_there old k b.view.before was in
+      let y = stands_there new k b.view.after there in
       let kinds : Some y.label.kind ≡ Some x.label.kind = sym (ap (option_map (λ (l : Label). l.kind)) y.label_is) ∙ sym (b.covered.kinds k was there) ∙ ap (option_map (λ (l : Label). l.kind)) x.label_is in
       let fields : Some y.label.fields ≡ Some x.label.fields = sym (ap (option_map (λ (l : Label). l.fields)) y.label_is) ∙ sym alike.fields ∙ ap (option_map (λ (l : Label). l.fields)) x.label_is in
       let labels : y.label ≡ x.label = label_same y.label x.label (y.key ∙ sym x.key) (same_Some _ _ kinds) (same_Some _ _ fields) in
       let below : trees_of new (children_of new k) ≡ trees_of old (children_of new k) = trees_same new old (children_of new k)
       (λ c among. same_below fuel c (omega (arith, small, total-alone-lt new c k b.view.after (parent_of-child new c k b.sound among))) (child_stands new k c b.view.after among) (child_unmarked k c plain among)) in
       y.tree_is
-      ∙ ap (λ l. tree l (trees_of new (children_of new k)) nil) labels
-      ∙ ap (λ t. tree x.label t nil) (below ∙ ap (trees_of old) (sym alike.children))
+      ∙ ap (λ l. tree l y.below nil) labels
+      ∙ ap (λ t. tree x.label t nil) (y.below_is ∙ below ∙ ap (trees_of old) (sym alike.children) ∙ sym x.below_is)
       ∙ sym x.tree_is
 
   -- nothing is done there
   pub done_plain : (k n : ℕ) → has k new ≡ true → mk.noted k ≡ false → IsReconciled old new v k n [] n
-  done_plain k n there plain = reconciled_same old new v k n b.view.before b.view.shows b.view.numbered (was_there k there plain) (same_below (total (alone k new) + 1) k (omega arith) there plain)
+  done_plain k n there plain = reconciled_same b.view (was_there k there plain) (same_below (total (alone k new) + 1) k (omega arith) there plain)
 
   pub skipped : (k n : ℕ) (start : List Op) → has k new ≡ true → mk.noted k ≡ false → Reconciles old new mk v k n start start n
   skipped k n start there plain = record { pushed = []; list = sym (append-nil start); due = tt; done = done_plain k n there plain }

@@ -1,8 +1,8 @@
 -- How the children of a host are before the first move, and after the last.
-use Rattle.std.proofs.Common.{◌≡◌, ◌≢◌, ◌∙◌, ◌+◌, ◌<◌, ℕ, ◌&&◌, Bool, true, false, cond, eqb, ltb, List, [], ◌∷◌, ◌++◌, Option, None, Some, option_map, inl, inr, refl, sym, ap, subst, arith, eq-eqb, eqb-true, ltb-true, append-nil}
+use Rattle.std.proofs.Common.{◌≡◌, ◌≢◌, ◌∙◌, ◌+◌, ◌<◌, ℕ, Bool, true, false, cond, eqb, ltb, List, [], ◌∷◌, ◌++◌, Option, None, Some, option_map, inl, inr, refl, sym, ap, subst, arith, eq-eqb, eqb-true, ltb-true, append-nil}
 use Rattle.std.specs.List.{AllByRecursion}
 use Rattle.std.proofs.lemmas.Bool.Decides.{eqb_tells}
-use Rattle.std.proofs.lemmas.Bool.{cases_lt}
+use Rattle.std.proofs.lemmas.Bool.{cases_lt, and_parts}
 use Rattle.std.proofs.lemmas.Option.{same_Some}
 use Rattle.lx_trees.specs.Trees.{Trees, nil, tree, joined}
 use Rattle.lx_trees.specs.NamedTrees as named
@@ -96,13 +96,8 @@ shown_at_id old v k h shows n there =
     let s = is_shown_at old v k h shows n there in
     record { host = s.host; below = flat (λ c. alone (host_in v c) v.hosts) (children_of old k); is = s.is; id = s.id }
 
--- host 0 shows the root
-first_true : (s t : Bool) → (s && t) ≡ true → s ≡ true
-first_true true t e = refl
-first_true false t e = absurd (cc)
-
 rises_first : (x : ℕ) (xs : List ℕ) → rises (x ∷ xs) ≡ true → x ≡ 0
-rises_first x xs e = eqb-true x 0 (first_true (eqb x 0) (rises_from 0 xs) e)
+rises_first x xs e = eqb-true x 0 (and_parts (eqb x 0) (rises_from 0 xs) e).0
 
 root_key : (t : Trees Host) (f : Forest) (x : Host) (below : Trees Host) → IsForest f → shape_of t ≡ render f → IsRooted t → alone 0 t ≡ tree x below nil → x.face.key ≡ 0
 root_key nil f x below h shows rooted e = absurd rooted

@@ -10,7 +10,7 @@ use Rattle.lx_reconcile.specs.declared.moves.Move.TheVariants.{Stay, Leave, Make
 use Rattle.lx_reconcile.specs.Walk.{child_of, before_of, moved, can_move, suits_children, is_placing, all_moved, CanAllMove, standing, leaving, BeforeUnhandled, common, missing}
 use Rattle.lx_reconcile.specs.Underway.{IsWalking}
 use Rattle.lx_reconcile.proofs.Lists.{is_among-missing, missing-push, common-push_absent, names_without-append, common-append, missing-append, common-names_without, common-none, NoRepeats-right, apart, names_with-first}
-use Rattle.lx_reconcile.proofs.InTurn.{NoRepeats-moved, all_moved-push, CanAllMove-push, standing-append, leaving-append, list_any-push, children-push, standing-children, BeforeUnhandled-push}
+use Rattle.lx_reconcile.proofs.InTurn.{NoRepeats-moved, all_moved-push, CanAllMove-push, standing-append, leaving-append, list_any-push, children-push, BeforeUnhandled-push, children_among}
 
 -- ---- the first of a list
 
@@ -67,7 +67,7 @@ waiting-push {moves = moves} w m rest shrinks q e =
 pub back-undone : {olds news old new back done : List ℕ} {moves : List Move} → (w : IsWalking olds news old new back done moves) →
     (q : ℕ) → is_among q back ≡ true → is_among q done ≡ false
 back-undone {done = done} {moves = moves} w q e =
-    grind (arith, w.waiting q e, standing-children moves q, ap (is_among q) w.stands)
+    grind (arith, w.waiting q e, children_among q moves, ap (is_among q) w.stands)
 
 -- the next of those after isn't in place yet
 pub next-undone : (k : ℕ) (news done new : List ℕ) → NoRepeats news → news ≡ done ++ k ∷ new → is_among k done ≡ false

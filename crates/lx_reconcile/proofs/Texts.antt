@@ -1,5 +1,5 @@
 -- The nodes of a kind all have a text, or none of them has.
-use Rattle.std.proofs.Common.{◌≡◌, ◌&&◌, Bool, true, false, None, refl}
+use Rattle.std.proofs.Common.{◌≡◌, Bool, true, None, refl}
 use Rattle.lx_node.specs.declared.kind.Kind.{Kind}
 use Rattle.lx_node.specs.declared.kind.Kind.TheVariants.{Text, Tab}
 use Rattle.lx_node.specs.declared.fields.TextFields.{TextFields}
@@ -8,6 +8,7 @@ use Rattle.lx_node.specs.declared.fields.Fields.TheVariants as fields
 use Rattle.lx_node.specs.Kinds.{has_characters, is_possible}
 use Rattle.lx_node.specs.OfKind.{is_of_kind, fits_kind, is_element_of, is_text_of, are_text_fields, are_tab_fields, are_embed_fields, are_bare}
 use Rattle.lx_render.specs.Render.{text_of}
+use Rattle.std.proofs.lemmas.Bool.{and_parts}
 
 -- only what has characters has the fields of a text
 characters_of_text : (k : Kind) (t : TextFields) → fits_kind k (fields.Text t) ≡ true → has_characters k ≡ true
@@ -30,15 +31,11 @@ text_of_characters Text f own fit none = text_there are_text_fields f fit none
 text_of_characters Tab f own fit none = text_there are_tab_fields f fit none
 text_of_characters _ f own fit none = absurd (cc)
 
-second : (a b : Bool) → (a && b) ≡ true → b ≡ true
-second true b e = e
-second false b e = absurd (cc)
-
 -- where the fields of two nodes of a kind are of that kind, and the one has no text, the other has none
 pub none_of_kind : (k : Kind) (was now : Fields) → is_of_kind k was ≡ true → is_of_kind k now ≡ true → text_of now ≡ None → text_of was ≡ None
 unfolding is_of_kind
 none_of_kind k (fields.Element e) now fit other none = refl
 none_of_kind k (fields.Text t) now fit other none =
-    absurd (text_of_characters k now (characters_of_text k t (second (is_possible k) (fits_kind k (fields.Text t)) fit)) (second (is_possible k) (fits_kind k now) other) none)
+    absurd (text_of_characters k now (characters_of_text k t (and_parts (is_possible k) (fits_kind k (fields.Text t)) fit).1) (and_parts (is_possible k) (fits_kind k now) other).1 none)
 none_of_kind k (fields.Embed src) now fit other none = refl
 none_of_kind k fields.Bare now fit other none = refl

@@ -1,7 +1,7 @@
 -- What each operation owes, by the marks that cover two trees.
-use Rattle.std.proofs.Common.{◌≡◌, ◌∙◌, ◌+◌, ◌<◌, ◌≤◌, ◌⊎◌, ℕ, true, false, List, [], ◌∷◌, ◌++◌, length, length-append, Option, None, Some, option_map, inl, inr, refl, sym, ap, subst, arith}
+use Rattle.std.proofs.Common.{◌≡◌, ◌∙◌, ◌<◌, ◌≤◌, ℕ, true, false, List, [], ◌∷◌, ◌++◌, length, length-append, Option, None, Some, option_map, inl, inr, refl, sym, ap, subst, arith, cond, eqb}
 use Rattle.std.specs.List.{AllByRecursion}
-use Rattle.std.proofs.lemmas.Bool.{cases_Bool}
+use Rattle.std.proofs.lemmas.Bool.{cases_Bool, false_from_ne_true, true_from_ne_false}
 use Rattle.std.proofs.lemmas.Bool.Decides.{eqb_tells}
 use Rattle.std.proofs.lemmas.Option.{same_Some}
 use Rattle.lx_trees.specs.Trees.{Trees, nil, tree}
@@ -24,77 +24,39 @@ use Rattle.lx_reconcile.specs.Changing.{IsWriteAt, is_text, is_attr, is_break}
 use Rattle.lx_reconcile.specs.Making.{IsBetween}
 use Rattle.lx_reconcile.specs.Reconciled.{host_in}
 use Rattle.lx_reconcile.proofs.Created.{has_if, has_not}
-use Rattle.lx_reconcile.proofs.Children.{stands_there, last_among}
+use Rattle.lx_reconcile.proofs.Children.{stands_there}
 use Rattle.lx_reconcile.proofs.Due.{creation_each}
 use Rattle.lx_reconcile.proofs.Shown.{count-hosts_of, among_one}
 use Rattle.lx_reconcile.proofs.StartEnd.{only_host, child_stands}
+use Rattle.lx_reconcile.proofs.Lists.{last_of-among}
 
 -- ---- hosts and what they show
 
 hosts_apart : (i q : ℕ) (t : Trees Host) → count i t ≡ 0 → is_among i (hosts_of q t) ≡ false
-hosts_apart i q t none = elim (cases_Bool (is_among i (hosts_of q t))) [
-  | inl there ↦ absurd (omega (arith, none, count-hosts_of q i t there))
-  | inr out ↦ out
-]
-
--- where one of a node's hosts is
-among_tree : (i q : ℕ) (h : Host) (b r : Trees Host) → is_among i (hosts_of q (tree h b r)) ≡ true
-    → ((h.face.key ≡ q) × (h.id ≡ i)) ⊎ ((is_among i (hosts_of q b) ≡ true) ⊎ (is_among i (hosts_of q r) ≡ true))
-among_tree i q h b r e = elim (eqb_tells h.face.key q) [
-  | inl own ↦
-      let list : is_among i (h.id ∷ (hosts_of q b ++ hosts_of q r)) ≡ true = rw own.0 at e in
-      elim (eqb_tells h.id i) [
-        | inl same ↦ inl (own.1, same.1)
-        | inr other ↦
-            let rest : is_among i (hosts_of q b ++ hosts_of q r) ≡ true = rw other.0 at list in
-            inr (in_either rest)
-      ]
-  | inr other ↦
-      let rest : is_among i (hosts_of q b ++ hosts_of q r) ≡ true = rw other.0 at e in
-      inr (in_either rest)
-] where
-  in_either : is_among i (hosts_of q b ++ hosts_of q r) ≡ true → (is_among i (hosts_of q b) ≡ true) ⊎ (is_among i (hosts_of q r) ≡ true)
-  in_either rest = elim (cases_Bool (is_among i (hosts_of q b))) [
-    | inl there ↦ inl there
-    | inr out ↦ inr (grind (arith, rest, out, is_among-append i (hosts_of q b) (hosts_of q r)))
-  ]
-
-own_count : (i : ℕ) (h : Host) (b r : Trees Host) → h.id ≡ i → count i (tree h b r) ≡ 1 + count i b + count i r
-own_count i h b r e = grind (arith, e, eqb_tells h.id i)
-
-part_count : (i : ℕ) (h : Host) (b r : Trees Host) → count i b + count i r ≤ count i (tree h b r)
-part_count i h b r = omega arith
+hosts_apart i q t none = false_from_ne_true (is_among i (hosts_of q t)) (λ there. omega (arith, none, count-hosts_of q i t there))
 
 -- a host shows one node
 pub one_shown : (i q c : ℕ) (t : Trees Host) → count i t < 2 → is_among i (hosts_of q t) ≡ true → is_among i (hosts_of c t) ≡ true → q ≡ c
 one_shown i q c nil once e d = absurd (cc)
 one_shown i q c (tree h b r) once e d =
-    let all = part_count i h b r in
-    elim (among_tree i q h b r e) [
-      | inl own ↦ elim (among_tree i c h b r d) [
-        | inl same ↦ sym own.0 ∙ same.0
-        | inr rest ↦ elim rest [
-          | inl x ↦ absurd (omega (arith, once, own_count i h b r own.1, count-hosts_of c i b x))
-          | inr x ↦ absurd (omega (arith, once, own_count i h b r own.1, count-hosts_of c i r x))
-        ]
-      ]
-      | inr where_q ↦ elim (among_tree i c h b r d) [
-        | inl own ↦ elim where_q [
-          | inl x ↦ absurd (omega (arith, once, own_count i h b r own.1, count-hosts_of q i b x))
-          | inr x ↦ absurd (omega (arith, once, own_count i h b r own.1, count-hosts_of q i r x))
-        ]
-        | inr where_c ↦ elim where_q [
-          | inl x ↦ elim where_c [
-            | inl y ↦ one_shown i q c b (omega (arith, once, all)) x y
-            | inr y ↦ absurd (omega (arith, once, all, count-hosts_of q i b x, count-hosts_of c i r y))
-          ]
-          | inr x ↦ elim where_c [
-            | inl y ↦ absurd (omega (arith, once, all, count-hosts_of q i r x, count-hosts_of c i b y))
-            | inr y ↦ one_shown i q c r (omega (arith, once, all)) x y
-          ]
-        ]
-      ]
-    ]
+    let own = cond (eqb h.face.key q) (h.id ∷ []) [] in
+    let other = cond (eqb h.face.key c) (h.id ∷ []) [] in
+    grind (
+      arith,
+      eqb_tells h.face.key q,
+      eqb_tells h.face.key c,
+      eqb_tells h.id i,
+      is_among-append i (own ++ hosts_of q b) (hosts_of q r),
+      is_among-append i own (hosts_of q b),
+      is_among-append i (other ++ hosts_of c b) (hosts_of c r),
+      is_among-append i other (hosts_of c b),
+      count-hosts_of q i b,
+      count-hosts_of q i r,
+      count-hosts_of c i b,
+      count-hosts_of c i r,
+      one_shown i q c b,
+      one_shown i q c r,
+    )
 
 -- ---- lists
 
@@ -113,19 +75,13 @@ module _ (old new : Forest) (mk : Marking) (v : HostTree) where
   -- ---- what is marked
 
   pub children_touched : (k : ℕ) → AreCovered old new mk → has k old ≡ true → has k new ≡ true → (children_of old k ≡ children_of new k → ⊥) → mk.touched k ≡ true
-  children_touched k c was is other = elim (cases_Bool (mk.touched k)) [
-    | inl marked ↦ marked
-    | inr plain ↦ absurd (other (c.alike k was is plain).children)
-  ]
+  children_touched k c was is other = true_from_ne_false (mk.touched k) (λ plain. other (c.alike k was is plain).children)
 
   pub label_touched : (k : ℕ) (x y : Label) → AreCovered old new mk → has k old ≡ true → has k new ≡ true → label_of old k ≡ Some x → label_of new k ≡ Some y → (x.kind ≡ y.kind → x.fields ≡ y.fields → ⊥) → mk.touched k ≡ true
-  label_touched k x y c was is was_label is_label other = elim (cases_Bool (mk.touched k)) [
-    | inl marked ↦ marked
-    | inr plain ↦
+  label_touched k x y c was is was_label is_label other = true_from_ne_false (mk.touched k) (λ plain.
         let kinds : Some x.kind ≡ Some y.kind = sym (ap (option_map (λ (l : Label). l.kind)) was_label) ∙ c.kinds k was is ∙ ap (option_map (λ (l : Label). l.kind)) is_label in
         let fields : Some x.fields ≡ Some y.fields = sym (ap (option_map (λ (l : Label). l.fields)) was_label) ∙ (c.alike k was is plain).fields ∙ ap (option_map (λ (l : Label). l.fields)) is_label in
-        absurd (other (same_Some x.kind y.kind kinds) (same_Some x.fields y.fields fields))
-  ]
+        other (same_Some x.kind y.kind kinds) (same_Some x.fields y.fields fields))
 
   -- the last child of an untouched node has the same kind in both
   pub last_same : (k : ℕ) → AreCovered old new mk → Sound old → Sound new → IsBetween old new mk v → children_of old k ≡ children_of new k → kind_at old (last_child old k) ≡ kind_at new (last_child new k)
@@ -134,7 +90,7 @@ module _ (old new : Forest) (mk : Marking) (v : HostTree) where
     by_last None e d = ap (kind_at old) e ∙ sym (ap (kind_at new) (d ∙ e))
     by_last (Some q) e d =
         ap (kind_at old) e
-        ∙ c.kinds q (child_stands old k q b.view.before (last_among (children_of old k) q e)) (child_stands new k q b.view.after (last_among (children_of new k) q (d ∙ e)))
+        ∙ c.kinds q (child_stands old k q b.view.before (last_of-among (children_of old k) q e)) (child_stands new k q b.view.after (last_of-among (children_of new k) q (d ∙ e)))
         ∙ sym (ap (kind_at new) (d ∙ e))
 
   -- ---- operations about new hosts

@@ -59,18 +59,18 @@ own_absent false old l b q below none = grind (arith, none, is_among-preorder ke
 unkept_keys-absent : (old : Forest) (p : Option ℕ) (f : Forest) (q : ℕ) → count q f ≡ 0 → is_among q (unkept_keys old p f) ≡ false
 unkept_keys-absent old p nil q none = refl
 unkept_keys-absent old p (tree l b t) q none =
-    let stays = kept_here old p l in
-    let below = unkept_keys-absent old (Some l.key) b q (omega (arith, none)) in
-    is_among-append q (own_keys stays old l b) (unkept_keys old p t)
-    ∙ ap (λ c. c || is_among q (unkept_keys old p t)) (own_absent stays old l b q below (omega (arith, none)))
-    ∙ unkept_keys-absent old p t q (omega (arith, none))
+    grind (
+      arith,
+      none,
+      is_among-append q (own_keys (kept_here old p l) old l b) (unkept_keys old p t),
+      own_absent (kept_here old p l) old l b q,
+      unkept_keys-absent old (Some l.key) b q,
+      unkept_keys-absent old p t q,
+    )
 
 -- each of them is in the trees
 own_there : (stays : Bool) (old : Forest) (l : Label) (b : Forest) (q : ℕ) → is_among q (own_keys stays old l b) ≡ true → 0 < count q (tree l b nil)
-own_there stays old l b q e = elim (cases_lt 0 (count q (tree l b nil))) [
-  | inl there ↦ there
-  | inr out ↦ absurd (let none = own_absent stays old l b q (unkept_keys-absent old (Some l.key) b q (omega (arith, out))) (omega (arith, out)) in cc)
-]
+own_there stays old l b q e = grind (arith, e, own_absent stays old l b q, unkept_keys-absent old (Some l.key) b q)
 
 once_own : (stays : Bool) (l : Label) (b : Forest) (below : List ℕ) → IsDistinct key_of (tree l b nil) → NoRepeats below → NoRepeats (cond stays below (l.key ∷ preorder key_of b))
 once_own true l b below once e = e
@@ -266,10 +266,7 @@ told_tree old new l b g h whole key kind =
     let once : IsDistinct key_of (tree l b nil) = λ q. omega (arith, h.once q, counts q) in
     let at : StandBelow new (Some 0) b = subst (λ k. StandBelow new (Some k) b) key (stand_below new None l b nil once (λ q there. ap (places_of q None) whole)) in
     let tells = tell_kept old new h 0 b (λ q. omega (arith, once q)) at kept_root in
-    let inside : (q : ℕ) → is_among q keys ≡ true → 0 < count q b = λ q e. elim (cases_lt 0 (count q b)) [
-      | inl there ↦ there
-      | inr out ↦ absurd (let none = unkept_keys-absent old (Some 0) b q (omega (arith, out)) in cc)
-    ] in
+    let inside : (q : ℕ) → is_among q keys ≡ true → 0 < count q b = λ q e. grind (arith, e, unkept_keys-absent old (Some 0) b q) in
     let stays = root_here old l g key kind in
     let same : unkept old None new ≡ unkept old (Some 0) b =
     ap (unkept old None) whole ∙ ap (λ c. cond c (unkept old (Some l.key) b) (1 + total b) + 0) stays ∙ ap (λ k. unkept old (Some k) b + 0) key ∙ omega arith in (

@@ -1,7 +1,7 @@
 -- How many nodes aren't kept, and which children that are met aren't.
-use Rattle.std.proofs.Common.{◌≡◌, ◌∙◌, ◌+◌, ◌≤◌, ℕ, ◌&&◌, Bool, true, false, cond, filter, List, [], ◌∷◌, Option, None, Some, option_map, inl, inr, refl, sym, ap, arith}
+use Rattle.std.proofs.Common.{◌≡◌, ◌∙◌, ◌+◌, ◌≤◌, ℕ, ◌&&◌, Bool, true, false, cond, filter, List, [], ◌∷◌, Option, None, Some, option_map, refl, sym, ap, arith}
 use Rattle.std.specs.Bool.{Decides}
-use Rattle.std.proofs.lemmas.Bool.{cases_Bool}
+use Rattle.std.proofs.lemmas.Bool.{false_from_ne_true}
 use Rattle.std.proofs.lemmas.Bool.Decides.{eqb_tells, Decides-like}
 use Rattle.lx_node.specs.Same.{same_text}
 use Rattle.lx_node.proofs.Same.{same_text-Decides}
@@ -39,40 +39,12 @@ with_word word = filter (λ t. same_text (tag_word t) word) all_tags
 
 one_tag : (t : Tag) → with_word (tag_word t) ≡ t ∷ []
 unfolding same_text tag_word
-one_tag Div = refl
-one_tag P = refl
-one_tag H1 = refl
-one_tag H2 = refl
-one_tag H3 = refl
-one_tag H4 = refl
-one_tag H5 = refl
-one_tag H6 = refl
-one_tag Blockquote = refl
-one_tag Ul = refl
-one_tag Ol = refl
-one_tag Li = refl
-one_tag A = refl
-one_tag Table = refl
-one_tag Tr = refl
-one_tag Th = refl
-one_tag Td = refl
-one_tag Br = refl
-one_tag Hr = refl
 one_tag (Inline None Strong) = refl
-one_tag (Inline None Em) = refl
-one_tag (Inline None Span) = refl
-one_tag (Inline (Some Code) Strong) = refl
 one_tag (Inline (Some Code) Em) = refl
-one_tag (Inline (Some Code) Span) = refl
-one_tag (Inline (Some Mark) Strong) = refl
 one_tag (Inline (Some Mark) Em) = refl
-one_tag (Inline (Some Mark) Span) = refl
-one_tag (Inline (Some Sub) Strong) = refl
 one_tag (Inline (Some Sub) Em) = refl
-one_tag (Inline (Some Sub) Span) = refl
-one_tag (Inline (Some Sup) Strong) = refl
 one_tag (Inline (Some Sup) Em) = refl
-one_tag (Inline (Some Sup) Span) = refl
+one_tag _ = refl
 
 same_word : (a b : Tag) → tag_word a ≡ tag_word b → a ≡ b
 same_word a b e = let one = sym (one_tag a) ∙ ap with_word e ∙ one_tag b in cc
@@ -81,19 +53,12 @@ pub is_tag-Decides : (a b : Tag) → Decides (is_tag a b) (a ≡ b)
 is_tag-Decides a b = Decides-like _ (same_word a b) (ap tag_word) (same_text-Decides (tag_word a) (tag_word b))
 
 other_tag : (a b : Tag) → (a ≡ b → ⊥) → is_tag a b ≡ false
-other_tag a b other = elim (cases_Bool (is_tag a b)) [
-  | inl same ↦ absurd (other ((is_tag-Decides a b).0 same))
-  | inr differ ↦ differ
-]
+other_tag a b other = false_from_ne_true (is_tag a b) (λ same. other ((is_tag-Decides a b).0 same))
 
 pub same_parent : (o p : Option ℕ) → is_parent o p ≡ true → o ≡ p
 same_parent None None e = refl
-same_parent None (Some p) e = absurd (cc)
-same_parent (Some q) None e = absurd (cc)
-same_parent (Some q) (Some p) e = elim (eqb_tells q p) [
-  | inl same ↦ ap (λ x. Some x) same.1
-  | inr other ↦ absurd (let no = other.0 in cc)
-]
+same_parent (Some q) (Some p) e = grind (arith, e, eqb_tells q p)
+same_parent _ _ e = absurd (cc)
 
 -- ---- whether a child is kept, where its parent is
 

@@ -85,8 +85,8 @@ module _ (old new : Forest) (mk : Marking) (v : HostTree) (k n : ℕ) (was now :
   face_walk start end walk c =
       let s = is_shown_at old v k b.view.before b.view.shows b.view.numbered (there_read old k was before_read) in
       let same : s.host ≡ showing v k first_face = host_same s.host (host_in v k) first_face s.id (s.face (label_from k was) (trees_of old (children_of old k)) (tree_read old k was before_read)) in
-      let begun : IsInWalk old new v k n [] (showing v k first_face) moves n = subst (λ a. IsInWalk old new v k n [] a moves n) same (walk_start old new v k n moves b.view s walk) in
-      walk_face old new v k n [] (showing v k first_face) moves n c.pushed (showing v k mid_face) begun refl (λ kids. c.leads kids n)
+      let begun : IsInWalk old new v k n [] (showing v k first_face) moves n = subst (λ a. IsInWalk old new v k n [] a moves n) same (walk_start b.view s walk) in
+      walk_face c.pushed begun refl (λ kids. c.leads kids n)
 
   written : (h : ℕ) (start end : List Op) → h ≡ host_in v k → FaceChanges h was now start end → Changes (host_in v k) first_face mid_face start end
   written h start end id face = subst (λ i. Changes i first_face mid_face start end) id (face k (tag_of was.kind was.fields) (old_end old k was))
@@ -157,7 +157,7 @@ module _ (old new : Forest) (mk : Marking) (v : HostTree) (k n : ℕ) (was now :
       let ends : old_end old k was ≡ was_ended = ap (needs_break was.kind) (last_kind_read old k was b.was_sound before_read) ∙ sym was_end in
       let d : Changes (host_in v k) mid_face (with_ending ended mid_face) two end = subst (λ i. Changes i mid_face (with_ending ended mid_face) two end) id (ending mid_face ends) in
       let third : IsInWalk old new v k n ((c.pushed ++ made.pushed) ++ d.pushed) (showing v k (with_ending ended mid_face)) [] m =
-      walk_face old new v k n (c.pushed ++ made.pushed) (showing v k mid_face) [] m d.pushed (showing v k (with_ending ended mid_face)) second refl (λ kids. d.leads kids m) in
+      walk_face d.pushed second refl (λ kids. d.leads kids m) in
       record {
         pushed = (c.pushed ++ made.pushed) ++ d.pushed;
         list =
@@ -167,7 +167,7 @@ module _ (old new : Forest) (mk : Marking) (v : HostTree) (k n : ℕ) (was now :
         due = each_append (Due old new mk v) (c.pushed ++ made.pushed) d.pushed
             (each_append (Due old new mk v) c.pushed made.pushed (writes_due old new mk v k start one c.pushed b (there_read old k was before_read) c.list c.only (λ plain. untouched_face plain same_face)) made.due)
             (writes_due old new mk v k two end d.pushed b (there_read old k was before_read) d.list d.only (λ plain. same_end (untouched_end plain was_ended ended was_end end_is)));
-        done = walk_end old new v k n ((c.pushed ++ made.pushed) ++ d.pushed) (showing v k (with_ending ended mid_face)) m (label_from k now) b.view third (tree_read new k now after_read) (last_face ended tag end_is);
+        done = walk_end b.view third (tree_read new k now after_read) (last_face ended tag end_is);
       }
 
 pub node_shown : (old new : Forest) (mk : Marking) (v : HostTree) (k : ℕ) (was : Node) → IsBetween old new mk v → Some was ≡ option_map node_of (record_at old k) → hosts_of k v.hosts ≡ host_in v k ∷ []
@@ -219,8 +219,8 @@ root_unkept old f t =
 pub all_allowed : (old new : Forest) (mk : Marking) (v : HostTree) (start ops : List Op) (m : ℕ) → IsTree old → IsTree new → IsBetween old new mk v → start ≡ [] → Reconciles old new mk v 0 v.next start ops m → IsAllowed old new mk v ops
 all_allowed old new mk v start ops m was is b none r =
     let same : r.pushed ≡ ops = sym (r.list ∙ ap (λ l. l ++ r.pushed) none) in
-    let done = walk_whole old new v r.pushed m b.view mk.touched was.alone is.alone r.done r.due in
-    subst (IsAllowed old new mk v) same (record { hosts = done.hosts; next = m }, done.allowed)
+    let done = walk_whole b.view was.alone is.alone r.done r.due in
+    subst (IsAllowed old new mk v) same (record { hosts = done.0; next = m }, done.1)
 
 -- ---- by what the code knows
 

@@ -1,8 +1,8 @@
 -- Attributes written one after another, in byte order of their names, until they are those of another list.
-use Rattle.std.proofs.Common.{◌≡◌, ◌≢◌, ℕ, ◌+◌, ◌<◌, ◌≤◌, Bool, true, false, ◌&&◌, List, [], ◌∷◌, ◌++◌, length, map, take, drop, get_or, Option, None, Some, inl, inr, refl, sym, ap, ◌∙◌, subst, arith, append_assoc, append-nil, length-append, length-drop}
-use Rattle.std.proofs.lemmas.Bool.{cases_lt}
+use Rattle.std.proofs.Common.{◌≡◌, ◌≢◌, ℕ, ◌+◌, ◌<◌, ◌≤◌, true, List, [], ◌∷◌, ◌++◌, length, map, take, drop, get_or, Option, None, Some, refl, sym, ap, ◌∙◌, subst, arith, append_assoc, append-nil, length-append, length-drop}
+use Rattle.std.proofs.lemmas.Bool.{and_parts}
 use Rattle.std.proofs.lemmas.Cmp.{nat_list_cmp_total, on_total}
-use Rattle.std.proofs.lemmas.List.{take_more, drop_more, drop_all, take-append-drop}
+use Rattle.std.proofs.lemmas.List.{take_more, drop_more, drop_all}
 use Rattle.std.specs.Cmp.{IsTotalOrder}
 use Rattle.std.specs.declared.cmp.Ordering.{Ordering}
 use Rattle.std.specs.declared.cmp.Ordering.TheVariants.{Less, Equal, Greater}
@@ -23,10 +23,6 @@ only_equal Greater e = absurd (cc)
 
 same_name : (a : Name) → name_order a a ≡ Equal
 same_name a = only_equal (name_order a a) (order.antisymm a a)
-
-both : (s t : Bool) → (s && t) ≡ true → (s ≡ true) × (t ≡ true)
-both true t e = (refl, e)
-both false t e = absurd (cc)
 
 is_less : (o : Ordering) → is_lt o ≡ true → o ≡ Less
 is_less Less e = refl
@@ -57,7 +53,7 @@ before_more name [] a h e = (later a.0 name e, tt)
 before_more name (b ∷ rest) a h e = (h.0, before_more name rest a h.1 e)
 
 -- what is written of that name comes after them
-with_behind : (name : Name) (value : Option (List ℕ)) (done rest : Attributes) → AllBefore name done → with_attribute name value (done ++ rest) ≡ done ++ with_attribute name value rest
+pub with_behind : (name : Name) (value : Option (List ℕ)) (done rest : Attributes) → AllBefore name done → with_attribute name value (done ++ rest) ≡ done ++ with_attribute name value rest
 with_behind name value [] rest h = refl
 with_behind name value (a ∷ done) rest h = rw h.0 (ap (λ l. a ∷ l) (with_behind name value done rest h.1))
 
@@ -67,11 +63,11 @@ pub record IsBehind (done rest : Attributes) : Type 0 where
   pub first : (a : Name × List ℕ) (more : Attributes) → rest ≡ a ∷ more → AllBefore a.0 done
 
 rise_less : (a b : Name × List ℕ) (more : Attributes) → names_rise (a ∷ b ∷ more) ≡ true → name_order a.0 b.0 ≡ Less
-rise_less a b more e = is_less _ (both (is_lt (name_order a.0 b.0)) _ e).0
+rise_less a b more e = is_less _ (and_parts (is_lt (name_order a.0 b.0)) _ e).0
 
 rise_rest : (a : Name × List ℕ) (more : Attributes) → names_rise (a ∷ more) ≡ true → names_rise more ≡ true
 rise_rest a [] e = refl
-rise_rest a (b ∷ more) e = (both _ _ e).1
+rise_rest a (b ∷ more) e = (and_parts _ _ e).1
 
 first_is : (a b : Name × List ℕ) (xs ys : Attributes) → (a ∷ xs) ≡ (b ∷ ys) → a ≡ b
 first_is a b xs ys e = cc
@@ -84,7 +80,7 @@ behind_rest done a more h = record {
 }
 
 -- with the first one done
-behind_done : (done : Attributes) (a : Name × List ℕ) (more : Attributes) → IsBehind done (a ∷ more) → IsBehind (done ++ a ∷ []) more
+pub behind_done : (done : Attributes) (a : Name × List ℕ) (more : Attributes) → IsBehind done (a ∷ more) → IsBehind (done ++ a ∷ []) more
 behind_done done a more h = record {
   rise = rise_rest a more h.rise;
   first = λ b rest is. before_more b.0 done a ((behind_rest done a more h).first b rest is) (rise_less a b rest (subst (λ l. names_rise (a ∷ l) ≡ true) is h.rise));
@@ -217,58 +213,20 @@ pub record IsWritingAt (host : ℕ) (olds news : Attributes) (i j : ℕ) (start 
   pub old_within : i ≤ length olds
   pub new_within : j ≤ length news
 
-some_less : (xs ys : Attributes) → next_order xs ys ≡ Some Less → 0 < length xs
-some_less [] [] e = absurd (cc)
-some_less [] (b ∷ ys) e = absurd (cc)
-some_less (a ∷ xs) ys e = omega arith
-
-some_greater : (xs ys : Attributes) → next_order xs ys ≡ Some Greater → 0 < length ys
-some_greater [] [] e = absurd (cc)
-some_greater xs (b ∷ ys) e = omega arith
-some_greater (a ∷ xs) [] e = absurd (cc)
-
-some_equal : (xs ys : Attributes) → next_order xs ys ≡ Some Equal → (0 < length xs) × (0 < length ys)
-some_equal [] [] e = absurd (cc)
-some_equal [] (b ∷ ys) e = absurd (cc)
-some_equal (a ∷ xs) [] e = absurd (cc)
-some_equal (a ∷ xs) (b ∷ ys) e = (omega arith, omega arith)
-
-within_drop : (i : ℕ) (xs : Attributes) → 0 < length (drop i xs) → i < length xs
-within_drop i xs h = elim (cases_lt i (length xs)) [
-  | inl less ↦ less
-  | inr end ↦ absurd (omega (arith, h, ap length (drop_all i xs end)))
-]
-
 pub less_within : (i j : ℕ) (xs ys : Attributes) → next_order (drop i xs) (drop j ys) ≡ Some Less → i < length xs
-less_within i j xs ys e = within_drop i xs (some_less (drop i xs) (drop j ys) e)
+less_within i j xs ys e = grind (arith, e, length-drop i xs)
 
 pub greater_within : (i j : ℕ) (xs ys : Attributes) → next_order (drop i xs) (drop j ys) ≡ Some Greater → j < length ys
-greater_within i j xs ys e = within_drop j ys (some_greater (drop i xs) (drop j ys) e)
+greater_within i j xs ys e = grind (arith, e, length-drop j ys)
 
 pub equal_within : (i j : ℕ) (xs ys : Attributes) → next_order (drop i xs) (drop j ys) ≡ Some Equal → (i < length xs) × (j < length ys)
-equal_within i j xs ys e =
-    let both = some_equal (drop i xs) (drop j ys) e in
-    (within_drop i xs both.0, within_drop j ys both.1)
-
-left_less : (xs ys : Attributes) → 0 < length xs → ys ≡ [] → Some Less ≡ next_order xs ys
-left_less [] ys h e = absurd (omega (arith, h))
-left_less (a ∷ xs) ys h e = sym (rw e refl)
-
-left_greater : (xs ys : Attributes) → xs ≡ [] → 0 < length ys → Some Greater ≡ next_order xs ys
-left_greater xs [] e h = absurd (omega (arith, h))
-left_greater xs (b ∷ ys) e h = sym (rw e refl)
+equal_within i j xs ys e = (grind (arith, e, length-drop i xs), grind (arith, e, length-drop j ys))
 
 pub only_old : (i j : ℕ) (xs ys : Attributes) → i < length xs → length ys ≤ j → Some Less ≡ next_order (drop i xs) (drop j ys)
-only_old i j xs ys h e = left_less (drop i xs) (drop j ys) (omega (arith, length-drop i xs, h)) (drop_all j ys e)
+only_old i j xs ys h e = grind (arith, h, length-drop i xs, drop_all j ys e)
 
 pub only_new : (i j : ℕ) (xs ys : Attributes) → length xs ≤ i → j < length ys → Some Greater ≡ next_order (drop i xs) (drop j ys)
-only_new i j xs ys e h = left_greater (drop i xs) (drop j ys) (drop_all i xs e) (omega (arith, length-drop j ys, h))
-
-none_left : (xs ys : Attributes) → next_order xs ys ≡ None → (xs ≡ []) × (ys ≡ [])
-none_left [] [] e = (refl, refl)
-none_left [] (b ∷ ys) e = absurd (cc)
-none_left (a ∷ xs) [] e = absurd (cc)
-none_left (a ∷ xs) (b ∷ ys) e = absurd (cc)
+only_new i j xs ys e h = grind (arith, h, length-drop j ys, drop_all i xs e)
 
 -- what is at a place
 met : (xs : Attributes) (i : ℕ) (x : Name × List ℕ) → i < length xs → x ≡ get_or xs i x → drop i xs ≡ x ∷ drop (i + 1) xs
@@ -325,8 +283,3 @@ module _ (host : ℕ) (olds news : Attributes) (i j : ℕ) (start now more : Lis
   pub equal_at : (a b : Name × List ℕ) → i < length olds → j < length news → a ≡ get_or olds i a → b ≡ get_or news j b → a ≡ b → IsWritingAt host olds news (i + 1) (j + 1) start now
   equal_at a b within fits item other e =
       both_passed b fits other within now (is_equal host olds (take j news) (drop (i + 1) olds) (drop (j + 1) news) a b start now (both_at a b within fits item other) e)
-
-  pub ends_at : next_order (drop i olds) (drop j news) ≡ None → Writes host olds news start now
-  ends_at e =
-      let none = none_left (drop i olds) (drop j news) e in
-      subst (λ l. Writes host olds l start now) (ap (λ l. take j news ++ l) (none.0 ∙ sym none.1) ∙ take-append-drop j news) w.at.so_far

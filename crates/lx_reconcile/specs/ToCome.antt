@@ -3,13 +3,14 @@ use Rattle.std.specs.Prelude.{ℕ, ◌+◌, ◌≤◌, ◌≡◌, ◌||◌, true
 use Rattle.std.specs.List.{AllByRecursion, list_any}
 use Rattle.lx_trees.specs.Siblings.{is_among, NoRepeats}
 use Rattle.lx_host.specs.Branches.{IsRooted}
-use Rattle.lx_host.specs.Hosts.{Host, HostTree, IsNumbered}
+use Rattle.lx_trees.specs.Trees.{Trees, nil, tree}
+use Rattle.lx_host.specs.Hosts.{Host, HostTree, alone, IsNumbered}
 use Rattle.lx_host.specs.declared.op.Op.{Op}
 use Rattle.lx_forest.specs.Forest.{Forest}
 use Rattle.lx_forest.specs.Lookups.{children_of, trees_of, IsForest}
 use Rattle.lx_reconcile.specs.Allowed.{Shows, unkept}
 use Rattle.lx_reconcile.specs.declared.moves.Move.{Move}
-use Rattle.lx_reconcile.specs.Handled.{AreHandled}
+use Rattle.lx_reconcile.specs.Reconciled.{LeadsAt, flat, host_in, IsUnderWay}
 use Rattle.lx_reconcile.specs.Walk.{child_of, suits_children, is_placing, all_moved, standing, leaving, common, CanAllMove, BeforeUnhandled}
 
 -- A host tree shows the old one of two forests.
@@ -40,7 +41,12 @@ pub record AreToCome (olds news handled now : List ℕ) (moves : List Move) : Ty
 pub record IsInWalk (old new : Forest) (v : HostTree) (k n : ℕ) (ops : List Op) (host : Host) (moves : List Move) (m : ℕ) : Type 0 where
   pub handled : List ℕ
   pub now : List ℕ
-  pub state : AreHandled old new v k n ops host handled now m
+  -- the host is above the trees of the children now, of which some are handled
+  pub ids : ℕ → ℕ
+  pub family : ℕ → Trees Host
+  pub id : host.id ≡ host_in v k
+  pub leads : LeadsAt (host_in v k) (alone (host_in v k) v.hosts) n ops (tree host (flat family now) nil) m
+  pub under_way : IsUnderWay old new v handled now ids family
   pub to_come : AreToCome (children_of old k) (children_of new k) handled now moves
   pub rises : n ≤ m
   pub grows : m + unkept old (Some k) (trees_of new (standing moves)) ≤ n + unkept old (Some k) (trees_of new (children_of new k))

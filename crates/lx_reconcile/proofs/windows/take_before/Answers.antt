@@ -2,8 +2,8 @@ use Rattle.std.proofs.Common.{◌∙◌, ap, Some, refl}
 use Rattle.lx_forest.specs.Lookups.{children_of}
 use Rattle.lx_forest.proofs.Lookups.{NoRepeats-children_of}
 use Rattle.lx_reconcile.specs.Allowing.{marking}
-use Rattle.lx_reconcile.proofs.Children.{child_left}
-use Rattle.lx_reconcile.proofs.Neighbours.{child_there, is_beside}
+use Rattle.lx_reconcile.proofs.Children.{child_left, child_there}
+use Rattle.lx_reconcile.proofs.Neighbours.{is_beside}
 use Rattle.lx_reconcile.proofs.Runs.{before_among, taken_before}
 use Rattle.lx_reconcile.proofs.windows.take_before.Goals as goal
 

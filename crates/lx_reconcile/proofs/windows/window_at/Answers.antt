@@ -1,8 +1,9 @@
 use Rattle.std.proofs.Common.{◌∙◌, ◌++◌, ◌∷◌, [], ap, Some}
 use Rattle.lx_forest.specs.Lookups.{children_of}
-use Rattle.lx_reconcile.proofs.Neighbours.{child_there, is_beside}
+use Rattle.lx_reconcile.proofs.Neighbours.{is_beside}
 use Rattle.lx_reconcile.proofs.Runs.{window_of_one}
 use Rattle.lx_reconcile.proofs.windows.window_at.Goals as goal
+use Rattle.lx_reconcile.proofs.Children.{child_there}
 
 pub found-item-requires : goal.found-item-requires
 found-item-requires g c = record { there = child_there (g.L.Look.forest c.args.source.now) c.args.key c.args.child c.requires.sound c.requires.child }
