@@ -1,5 +1,5 @@
 -- Keys that are listed, and all that went with them.
-use Rattle.std.proofs.Common.{◌≡◌, ◌≢◌, ◌∙◌, ◌⊎◌, ℕ, ◌<◌, ◌+◌, zero, suc, Bool, true, false, eqb, List, [], ◌∷◌, ◌++◌, length, take, ◌-◌, Option, None, Some, refl, sym, ap, subst, inl, inr, arith}
+use Rattle.std.proofs.Common.{◌≡◌, ◌≢◌, ◌∙◌, ◌⊎◌, ℕ, ◌<◌, ◌+◌, zero, suc, Bool, true, false, eqb, List, [], ◌∷◌, ◌++◌, length, take, ◌-◌, None, Some, refl, sym, ap, inl, inr, arith}
 use Rattle.std.specs.Prelude.{if◌then◌else◌}
 use Rattle.std.specs.List.{ends_with}
 use Rattle.std.proofs.lemmas.Slice.Eq.{ends_is}
@@ -16,12 +16,11 @@ use Rattle.lx_forest.proofs.Edits.{has-root}
 use Rattle.lx_forest.proofs.Lookups.{has-parent_of, is_among-children_of}
 use Rattle.lx_forest.proofs.Tops.{is_within-child}
 use Rattle.lx_forest.proofs.Walks.{cases_option, ancestors-step}
-use Rattle.lx_forest.proofs.Within.{is_within-self, is_within-up, is_within-parent}
-use Rattle.lx_marks.specs.Marks.{Marked, flag_in, is_true_flag, is_touched, is_noted}
+use Rattle.lx_forest.proofs.Within.{is_within-self, is_within-up}
+use Rattle.lx_marks.specs.Marks.{Marked, is_touched, is_noted}
 use Rattle.lx_links.specs.Stands.{Sound}
 use Rattle.lx_links.proofs.Placed.{parent_of-child}
 use Rattle.lx_links.proofs.Up.{in_order_at}
-use Rattle.lx_compare.specs.Differing.{IsUnchanged}
 use Rattle.lx_compare.specs.Places.{IsAsBefore, IsOutside, AreKept, IsListed}
 
 -- ---- lists that grow

@@ -1,5 +1,5 @@
 -- At which keys two trees may differ: at these alone, or, where none are told, at any.
-use Rattle.std.specs.Prelude.{◌≡◌, ◌⊎◌, ℕ, true, false, Bool, if◌then◌else◌, List, Option, None, Some}
+use Rattle.std.specs.Prelude.{◌≡◌, ◌⊎◌, ℕ, true, false, List, Option, None, Some}
 use Rattle.lx_trees.specs.Siblings.{is_among}
 use Rattle.lx_forest.specs.Forest.{Forest}
 use Rattle.lx_forest.specs.Lookups.{has, is_within}

@@ -12,11 +12,13 @@ use lx_marks::Marks;
 use lx_node::{Key, NoMemory};
 use std::alloc::Global;
 use std::marker::Model;
+use std::mem::replace;
 
 /// With more keys than these it isn't told any more at which the trees may differ.
 const MOST_KEYS: usize = 4096;
 
 /// The keys at which two trees may differ, unless they may differ anywhere. A key may be there more than once.
+#[derive(Drop)]
 pub struct Places {
     keys: Vec<Key>,
     is_anywhere: bool,
@@ -54,6 +56,15 @@ impl Places {
         } else {
             Some(self.keys.as_slice())
         }
+    }
+
+    /// What was told so far. No keys are left then.
+    pub fn take(&mut self) -> Places
+        ensures taken { result ≡ self.old }
+        ensures left { self.new ≡ Some [] }
+    {
+        let fresh = Places::new(*self.keys.allocator());
+        replace(self, fresh)
     }
 
     /// Forgets all keys.

@@ -1,5 +1,4 @@
-use Rattle.std.proofs.Common.{◌≡◌, ◌∙◌, Some, sym, ap}
-use Rattle.std.specs.Prelude.{option_map}
+use Rattle.std.proofs.Common.{sym}
 use Rattle.lx_compare.proofs.Covering.{covered}
 use Rattle.lx_compare.proofs.Settled.{all_among}
 use Rattle.lx_compare.proofs.comparing.differences_at.Goals as goal

@@ -1,4 +1,4 @@
-use Rattle.std.proofs.Common.{◌≡◌, ◌∙◌, false, sym, ap, rules}
+use Rattle.std.proofs.Common.{◌≡◌, false, rules}
 use Rattle.lx_trees.specs.Siblings.{is_among}
 use Rattle.lx_compare.proofs.Listed.{ended_apart}
 use Rattle.lx_compare.proofs.places.Places.add.Goals as goal

@@ -1,4 +1,4 @@
-use Rattle.std.proofs.Common.{◌≡◌, ◌∙◌, sym, subst}
+use Rattle.std.proofs.Common.{subst}
 use Rattle.lx_compare.specs.Places.{IsOutside}
 use Rattle.lx_compare.proofs.Listed.{as_before, outside_told}
 use Rattle.lx_compare.proofs.places.Places.add_changes.Goals as goal
