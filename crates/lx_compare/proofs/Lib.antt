@@ -1,4 +1,5 @@
 mod Covering
+mod Listed
 mod Raised
 mod SameNode
 mod Settled

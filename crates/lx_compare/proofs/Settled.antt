@@ -1,7 +1,10 @@
 -- Two trees are compared key by key: what is settled so far, and what is in the end.
-use Rattle.std.proofs.Common.{◌≡◌, ◌≢◌, ◌∙◌, ◌<◌, ◌+◌, ℕ, true, false, nat_lt, [], ◌∷◌, Option, None, Some, refl, sym, ap, subst, inl, inr, arith}
+use Rattle.std.proofs.Common.{◌≡◌, ◌≢◌, ◌∙◌, ◌<◌, ◌+◌, ◌||◌, ◌⊎◌, ◌++◌, ℕ, Bool, true, false, nat_lt, List, [], ◌∷◌, Option, None, Some, refl, sym, ap, subst, inl, inr, arith}
 use Rattle.std.specs.Prelude.{is_some}
-use Rattle.std.proofs.lemmas.Bool.{cases_eq}
+use Rattle.std.proofs.lemmas.Bool.{cases_Bool, cases_eq}
+use Rattle.std.proofs.lemmas.Bool.Decides.{eqb_tells}
+use Rattle.lx_trees.specs.Siblings.{is_among}
+use Rattle.lx_trees.proofs.Siblings.{is_among-append}
 use Rattle.lx_trees.specs.Trees.{nil}
 use Rattle.lx_node.specs.declared.node.Node.{Node}
 use Rattle.lx_marks.specs.Marks.{Marked}
@@ -12,6 +15,7 @@ use Rattle.lx_forest.proofs.Records.{is_some-record_at}
 use Rattle.lx_store.specs.Differing.{AreSameTo}
 use Rattle.lx_links.specs.Stands.{node_at, node_of}
 use Rattle.lx_links.proofs.Seen.{seen, is_some-map}
+use Rattle.lx_compare.specs.Places.{IsAsBefore, IsOutside}
 use Rattle.lx_compare.specs.Marking.{AreFounded, Grows, IsTold, IsSettled}
 use Rattle.lx_compare.proofs.SameNode.{unchanged_by}
 
@@ -23,7 +27,7 @@ told_still old new m n q grows told = record {
   after = λ p up. grows p (told.after p up);
 }
 
-settled_still : (old new : Forest) (m n : Marked) (q : ℕ) → Grows m n → IsSettled old new m q → IsSettled old new n q
+pub settled_still : (old new : Forest) (m n : Marked) (q : ℕ) → Grows m n → IsSettled old new m q → IsSettled old new n q
 settled_still old new m n q grows (inl absent) = inl absent
 settled_still old new m n q grows (inr (inl same)) = inr (inl same)
 settled_still old new m n q grows (inr (inr told)) = inr (inr (told_still old new m n q grows told))
@@ -65,3 +69,35 @@ compared_all old new m from so_far same q = elim (nat_lt q from) as (λ b. nat_l
 -- a tree of the root has nodes
 pub living : (f : Forest) → roots f ≡ 0 ∷ [] → f ≢ nil
 living f alone none = let h : [] ≡ 0 ∷ [] = ap roots (sym none) ∙ alone in cc
+
+-- ---- at keys that are told
+
+-- one key more of those that are looked at is settled
+pub among_more : (old new : Forest) (m n : Marked) (keys front : List ℕ) (k : ℕ) → keys ≡ front ++ k ∷ [] → ((q : ℕ) → is_among q front ≡ true → IsSettled old new m q) → Grows m n → IsSettled old new n k
+    → (q : ℕ) → is_among q keys ≡ true → IsSettled old new n q
+among_more old new m n keys front k is so_far grows own q among =
+    elim (either_of (is_among q front) (is_among q (k ∷ [])) (sym (ap (is_among q) is ∙ is_among-append q front (k ∷ [])) ∙ among)) [
+      | inl before ↦ settled_still old new m n q grows (so_far q before)
+      | inr last ↦ elim (eqb_tells k q) [
+        | inl same ↦ subst (IsSettled old new n) same.1 own
+        | inr other ↦ absurd (grind (arith, last, other.0))
+      ]
+    ] where
+      either_of : (a b : Bool) → (a || b) ≡ true → (a ≡ true) ⊎ (b ≡ true)
+      either_of true b e = inl refl
+      either_of false b e = inr e
+
+-- each key is among the first, or among those since, or is as before
+pub all_among : (old new : Forest) (m n : Marked) (places since : Option (List ℕ)) (first later : List ℕ) → places ≡ Some first → since ≡ Some later
+    → ((q : ℕ) → IsOutside places q → IsOutside since q → IsAsBefore old new q)
+    → ((q : ℕ) → is_among q first ≡ true → IsSettled old new m q) → Grows m n → ((q : ℕ) → is_among q later ≡ true → IsSettled old new n q) → (q : ℕ) → IsSettled old new n q
+all_among old new m n places since first later is_first is_later told before grows after q = elim (cases_Bool (is_among q first)) [
+  | inl here ↦ settled_still old new m n q grows (before q here)
+  | inr apart ↦ elim (cases_Bool (is_among q later)) [
+    | inl here ↦ after q here
+    | inr out ↦ elim (told q (subst (λ o. IsOutside o q) (sym is_first) apart) (subst (λ o. IsOutside o q) (sym is_later) out)) [
+      | inl absent ↦ inl absent
+      | inr same ↦ inr (inl same)
+    ]
+  ]
+]

@@ -3,6 +3,8 @@
 
 mod comparing;
 mod marking;
+mod places;
 mod same;
 
-pub use comparing::differences;
+pub use comparing::{differences, differences_at};
+pub use places::Places;

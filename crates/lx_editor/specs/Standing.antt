@@ -10,6 +10,7 @@ use Rattle.lx_draft.specs.Working.{MayStart}
 use Rattle.lx_draft.specs.Freezing.{limits_fault, kept_selection}
 use Rattle.lx_draft.specs.Selecting.{selection_lost}
 use Rattle.lx_history.specs.History.{History}
+use Rattle.lx_history.specs.Told.{IsAway}
 use Rattle.lx_settle.specs.Joined.{IsJoined}
 use Rattle.lx_list.specs.Numbered.{IsNumbered}
 use Rattle.lx_editor.specs.declared.editor.Editor.TheInside.{Inside}
@@ -78,3 +79,9 @@ pub record IsValid (e : Editor) : Type 0 where
   pub some : e.last ≡ None → e.commits ≡ 0
   pub kept : IsKept e
   pub pending : IfSome e.pending (IsPending (started_of e))
+
+-- What holds of the fields of an editor: it is valid, and its tree differs from the history's current one only where the history
+-- says so.
+pub record IsWhole (a : Inside) : Type 0 where
+  pub valid : IsValid (editor_of a)
+  pub told : IsAway a.history.history.current a.history.strays a.state.links

@@ -36,17 +36,24 @@ pub(crate) struct Telling {
 }
 
 /// The marks that cover the trees before and after: these, where a document was loaded, and else those of what is frozen.
-fn marks_of(
-    alloc: Global,
-    frozen: &Frozen,
-    shown: Option<Box<Marks>>,
-) -> Result<Box<Marks>, NoMemory>
-    ensures { IfOk result (λ marks. marks.value ≡ covering frozen.now shown) }
+pub(crate) fn covering<'a>(frozen: &'a Frozen, shown: &'a Option<Box<Marks>>) -> &'a Marks
+    ensures { result.now ≡ covering frozen.now shown.now }
 {
     match shown {
-        Some(marks) => Ok(marks),
-        None => Ok(Box::new(alloc, frozen.marks.copy()?)?),
+        Some(marks) => marks.as_ref(),
+        None => &frozen.marks,
     }
+}
+
+/// A copy of them.
+fn copy_covering(
+    alloc: Global,
+    frozen: &Frozen,
+    shown: &Option<Box<Marks>>,
+) -> Result<Box<Marks>, NoMemory>
+    ensures { IfOk result (λ marks. marks.value ≡ covering frozen.now shown.now) }
+{
+    Ok(Box::new(alloc, covering(frozen, shown).copy()?)?)
 }
 
 impl Telling {
@@ -90,14 +97,14 @@ impl Telling {
         before: &State,
         batch: &Batch,
         frozen: &Frozen,
-        shown: Option<Box<Marks>>,
+        shown: &Option<Box<Marks>>,
     ) -> Result<(), NoMemory>
-        ensures { OnOk result (IsNoted self.old.asked batch.now.ops before.now (covering frozen.now shown) self.new.change) }
+        ensures { OnOk result (IsNoted self.old.asked batch.now.ops before.now (covering frozen.now shown.now) self.new.change) }
     {
         if !self.asked {
             return Ok(());
         }
-        let marks = marks_of(alloc, frozen, shown)?;
+        let marks = copy_covering(alloc, frozen, shown)?;
         self.note(alloc, before, batch, marks)
     }
 

@@ -1,5 +1,6 @@
 ghost use Rattle.lx_node.specs.Limits.{last_u32};
 
+use crate::change::covering;
 use crate::outcome::{Outcome, Verdict};
 use crate::pending::{Pending, forget};
 use crate::reconciling::follow;
@@ -10,6 +11,7 @@ use lx_clip::slice;
 use lx_draft::{Frozen, State};
 use lx_history::History;
 use lx_host::HostTree;
+use lx_marks::Marks;
 use lx_node::NoMemory;
 use lx_reconcile::Batch;
 use lx_rules::AnyRule;
@@ -73,11 +75,11 @@ impl Model for Editor {
 
     ghost coded = { Prim.hlevel (codes, trees_code, steps.the_row.coded) };
 
-    ghost use Rattle.lx_editor.specs.Standing.{editor_of, IsValid};
+    ghost use Rattle.lx_editor.specs.Standing.{editor_of, IsWhole};
 
     ghost view = { editor_of };
 
-    ghost invariant = { λ a. IsValid (editor_of a) };
+    ghost invariant = { IsWhole };
 }
 
 impl Editor {
@@ -89,7 +91,7 @@ impl Editor {
     ghost use Rattle.lx_editor.specs.Standing.{IsState};
     ghost use Rattle.lx_editor.specs.Gathering.{recording, with_nothing_pending};
     ghost use Rattle.lx_editor.specs.Updated.{IsUpdated, IsCommitted, left_of};
-    ghost use Rattle.lx_editor.specs.Judged.{MayCommit, MayConclude, IsConcluded};
+    ghost use Rattle.lx_editor.specs.Judged.{MayCommit, MayConclude, IsConcluded, IsCoveredBy, covering};
 
     /// A new editor: the root alone, nothing selected, no commit, no rule but the two that are built in, no listener,
     /// nothing recorded, and a view that shows it. Its replies to commits include the view, as HTML, where `tells_view`
@@ -191,10 +193,14 @@ impl Editor {
         ensures unchanged { OnErr result (self.new ≡ self.old) }
     {
         match verdict {
-            Verdict::Commit { frozen, batch, .. } => {
+            Verdict::Commit {
+                frozen,
+                batch,
+                shown,
+            } => {
                 let number = self.next_commit();
                 let ops = batch.copy_ops(alloc)?;
-                self.commit(alloc, frozen, batch, how)?;
+                self.commit(alloc, frozen, batch, shown, how)?;
                 Ok(Outcome::Committed { number, ops })
             }
             Verdict::Turned {
@@ -221,17 +227,20 @@ impl Editor {
         self.commits + 1
     }
 
-    /// Commits what is left, with operations for the view, and records it. All memory is taken first. Without memory the
-    /// editor is as it was.
+    /// Commits what is left, with operations for the view, and records it. The marks that cover the trees before and after are
+    /// those that are shown, where there are such, and else those of what is frozen. All memory is taken first. Without memory
+    /// the editor is as it was.
     pub(crate) fn commit(
         &mut self,
         alloc: Global,
         frozen: Box<Frozen>,
         batch: Batch,
+        shown: Option<Box<Marks>>,
         how: Recording,
     ) -> Result<(), NoMemory>
         requires room { self.old.commits < last_u32 }
         requires may { MayCommit self.old (left_of self.old.rules frozen.value) batch }
+        requires covered { IsCoveredBy self.old frozen.value.state.links (covering frozen.value shown) }
         ensures committed { OnOk result (IsCommitted self.old how (left_of self.old.rules frozen.value) (self.old.commits + 1) batch.ops self.new) }
         ensures commits { OnOk result (self.new.commits ≡ self.old.commits + 1) }
         ensures unchanged { OnErr result (self.new ≡ self.old) }
@@ -241,6 +250,9 @@ impl Editor {
         let entry = frozen.state.copy(alloc)?;
         self.history.prepare()?;
         follow(&mut self.view, ops)?;
+        let marks = covering(&frozen, &shown);
+        self.history
+            .stray(&self.state.links, &frozen.state.links, marks);
         self.history
             .note(&self.state, entry, &frozen.marks, how.tags, how.moment);
         self.state = frozen.state;

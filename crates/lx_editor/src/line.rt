@@ -203,8 +203,8 @@ impl Editor {
                 shown,
             } => {
                 let reply = self.tell(alloc, &frozen.state, &batch, handled)?;
-                told.note_frozen(alloc, &self.state, &batch, &frozen, shown)?;
-                self.commit(alloc, frozen, batch, how)?;
+                told.note_frozen(alloc, &self.state, &batch, &frozen, &shown)?;
+                self.commit(alloc, frozen, batch, shown, how)?;
                 Ok(reply)
             }
             Verdict::Turned {

@@ -8,7 +8,7 @@ use crate::outcome::{Outcome, Verdict};
 use crate::pending::forget;
 use crate::reconciling::{follow, reconcile};
 use crate::recording::Recording;
-use lx_compare::differences;
+use lx_compare::differences_at;
 use lx_draft::State;
 use lx_history::History;
 use lx_node::{Cause, Fault, NoMemory};
@@ -88,12 +88,13 @@ impl Editor {
     pub(crate) fn judge_turn(&self, alloc: Global, turn: Turn) -> Result<Verdict, NoMemory>
         ensures { IfOk result (IsTurnJudged turn self.now) }
     {
-        let Some(entry) = self.history.state_at(turn) else {
+        let Some(entry) = self.history.entry_at(turn) else {
             return Ok(Verdict::Idle);
         };
-        let state = boxed_copy(alloc, entry)?;
+        let state = boxed_copy(alloc, &entry.state)?;
         let links = &state.links;
-        let marks = differences(alloc, &self.state.links, links)?;
+        let strays = self.history.strays();
+        let marks = differences_at(alloc, &self.state.links, links, &entry.places, strays)?;
         match reconcile(alloc, &self.state.links, links, &marks, &self.view) {
             Ok(batch) => {
                 let marks = Box::new(alloc, marks)?;

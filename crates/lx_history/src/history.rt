@@ -1,10 +1,16 @@
-ghost use Rattle.std.specs.Prelude.{◌≡◌, ◌+◌, ◌<◌, ◌≤◌, Some, None, OnOk, IfOk, MatchBool, length};
+ghost use Rattle.std.specs.Prelude.{◌≡◌, ◌+◌, ◌<◌, ◌≤◌, [], ◌∷◌, Some, None, OnOk, IfOk, IfSome, IsTrue, MatchBool, length, option_map};
 ghost use Rattle.std.specs.Option.{option_copied};
-ghost use Rattle.std.specs.VecDeque.{deque_len, deque_capacity};
-ghost use Rattle.lx_history.specs.History.{with_entry};
+ghost use Rattle.lx_forest.specs.Lookups.{roots, IsForest};
+ghost use Rattle.lx_forest.specs.Covered.{AreCovered};
+ghost use Rattle.lx_marks.specs.Marks.{is_touched, is_noted};
+ghost use Rattle.lx_history.specs.Told.{IsAway};
 
+use crate::entry::{Entry, put_first};
 use crate::kinds::Change;
+use lx_compare::Places;
 use lx_draft::State;
+use lx_links::Links;
+use lx_marks::Marks;
 use lx_node::NoMemory;
 use lx_step::Turn;
 use std::alloc::Global;
@@ -17,10 +23,11 @@ use std::marker::Model;
 pub struct History {
     /// For how long after a commit typing goes on.
     pub(crate) delay: u64,
-    pub(crate) undo: VecDeque<State>,
-    pub(crate) redo: VecDeque<State>,
-    /// The state that becomes an entry next.
+    pub(crate) undo: VecDeque<Entry>,
+    pub(crate) redo: VecDeque<Entry>,
+    /// The state that becomes an entry next, and the places at which its tree may differ from the committed one.
     pub(crate) current: Option<State>,
+    pub(crate) strays: Places,
     /// What kind of typing the last commit was, and when it was.
     pub(crate) last: Change,
     pub(crate) moment: u64,
@@ -34,12 +41,14 @@ impl Drop for History {
             undo,
             redo,
             current,
+            strays,
             last: _,
             moment: _,
         } = self;
         drop(undo);
         drop(redo);
         drop(current);
+        drop(strays);
     }
 }
 
@@ -49,6 +58,7 @@ impl Model for History {
     ghost use Rattle.lx_history.specs.Kept.{Kept};
     ghost use Rattle.lx_history.specs.History.{IsHistory};
     ghost use Rattle.lx_history.specs.Inside.{history_in, kept_of};
+    ghost use Rattle.lx_history.specs.Told.{IsTold};
 
     ghost Value = { Kept };
 
@@ -56,21 +66,7 @@ impl Model for History {
 
     ghost view = { kept_of };
 
-    ghost invariant = { λ h. IsHistory (history_in h) };
-}
-
-/// Puts an entry in front of the others, if there is one. There is room for it.
-pub(crate) fn put_first(entries: &mut VecDeque<State>, entry: Option<State>)
-    requires { deque_len entries.old < deque_capacity entries.old }
-    ensures { entries.new.items ≡ with_entry entry entries.old.items }
-{
-    match entry {
-        Some(state) => match entries.push_front(state) {
-            Ok(()) => {}
-            Err(_) => {}
-        },
-        None => {}
-    }
+    ghost invariant = { λ h. IsHistory (history_in h) × IsTold h };
 }
 
 impl History {
@@ -87,6 +83,7 @@ impl History {
             undo: VecDeque::new(alloc),
             redo: VecDeque::new(alloc),
             current: None,
+            strays: Places::new(alloc),
             last: Change::Other,
             moment: 0,
         })
@@ -95,11 +92,34 @@ impl History {
     /// Makes room for one more entry on each list. Where there is no memory for it the history stays as it was.
     pub fn prepare(&mut self) -> Result<(), NoMemory>
         ensures same { self.new.history ≡ self.old.history }
+        ensures strays { self.new.strays ≡ self.old.strays }
         ensures prepared { OnOk result (IsPrepared self.new) }
     {
         self.undo.reserve(1)?;
         self.redo.reserve(1)?;
         Ok(())
+    }
+
+    /// Takes in that a commit leads from one tree to the other, which the marks cover: at these places, too, the committed
+    /// tree may differ from the current state's. It costs a look at what is marked and at what went with it, and can't fail.
+    pub fn stray(&mut self, before: &Links, after: &Links, marks: &Marks)
+        requires before { IsForest before.now }
+        requires after { IsForest after.now }
+        requires alone { roots before.now ≡ 0 ∷ [] }
+        requires covered { AreCovered before.now after.now (record { touched = is_touched marks.now; noted = is_noted marks.now }) }
+        ensures same { self.new.history ≡ self.old.history }
+        ensures prepared { IsPrepared self.old → IsPrepared self.new }
+        ensures old { IsAway self.old.history.current self.old.strays before.now → IsAway self.new.history.current self.new.strays before.now }
+        ensures new { IsAway self.old.history.current self.old.strays before.now → IsAway self.new.history.current self.new.strays after.now }
+    {
+        self.strays.add_changes(before, after, marks);
+    }
+
+    /// The places at which the committed tree may differ from the current state's.
+    pub fn strays(&self) -> &Places
+        ensures { result.now ≡ self.now.strays }
+    {
+        &self.strays
     }
 
     /// The state that becomes an entry next, where there is one.
@@ -113,14 +133,20 @@ impl History {
     pub fn undo_state(&self) -> Option<&State>
         ensures { option_copied result ≡ first self.now.history.undo }
     {
-        self.undo.front()
+        match self.undo.front() {
+            Some(entry) => Some(&entry.state),
+            None => None,
+        }
     }
 
     /// The state to which `redo` goes forth, where there is one.
     pub fn redo_state(&self) -> Option<&State>
         ensures { option_copied result ≡ first self.now.history.redo }
     {
-        self.redo.front()
+        match self.redo.front() {
+            Some(entry) => Some(&entry.state),
+            None => None,
+        }
     }
 
     /// The state to which `turn` goes, where there is one.
@@ -130,6 +156,17 @@ impl History {
         match turn {
             Turn::Undo => self.undo_state(),
             Turn::Redo => self.redo_state(),
+        }
+    }
+
+    /// The entry to which `turn` goes, where there is one: its state, and where that differs from the current one.
+    pub fn entry_at(&self, turn: Turn) -> Option<&Entry>
+        ensures state { option_map (λ entry. entry.now.state) result ≡ entry_of turn self.now.history }
+        ensures told { IfSome result (λ entry. IsAway self.now.history.current entry.now.places entry.now.state.links) }
+    {
+        match turn {
+            Turn::Undo => self.undo.front(),
+            Turn::Redo => self.redo.front(),
         }
     }
 
@@ -145,13 +182,16 @@ impl History {
     #[tactic(auto, unfolding(crate::specs::History::undone))]
     pub fn undo(&mut self, moment: u64) -> bool
         requires { IsPrepared self.old }
-        ensures { MatchBool result (undone moment self.old.history ≡ Some self.new.history) ((undone moment self.old.history ≡ None) × (self.new.history ≡ self.old.history)) }
+        ensures turned { MatchBool result (undone moment self.old.history ≡ Some self.new.history) ((undone moment self.old.history ≡ None) × (self.new.history ≡ self.old.history)) }
+        ensures strays { IsTrue result → self.new.strays ≡ Some [] }
     {
-        let Some(state) = self.undo.pop_front() else {
+        let Some(entry) = self.undo.pop_front() else {
             return false;
         };
-        put_first(&mut self.redo, self.current.take());
+        let Entry { state, places } = entry;
+        put_first(&mut self.redo, self.current.take(), places);
         self.current = Some(state);
+        self.strays.clear();
         self.last = Change::Other;
         self.moment = moment;
         true
@@ -161,13 +201,16 @@ impl History {
     #[tactic(auto, unfolding(crate::specs::History::redone))]
     pub fn redo(&mut self, moment: u64) -> bool
         requires { IsPrepared self.old }
-        ensures { MatchBool result (redone moment self.old.history ≡ Some self.new.history) ((redone moment self.old.history ≡ None) × (self.new.history ≡ self.old.history)) }
+        ensures turned { MatchBool result (redone moment self.old.history ≡ Some self.new.history) ((redone moment self.old.history ≡ None) × (self.new.history ≡ self.old.history)) }
+        ensures strays { IsTrue result → self.new.strays ≡ Some [] }
     {
-        let Some(state) = self.redo.pop_front() else {
+        let Some(entry) = self.redo.pop_front() else {
             return false;
         };
-        put_first(&mut self.undo, self.current.take());
+        let Entry { state, places } = entry;
+        put_first(&mut self.undo, self.current.take(), places);
         self.current = Some(state);
+        self.strays.clear();
         self.last = Change::Other;
         self.moment = moment;
         true
@@ -177,7 +220,8 @@ impl History {
     /// memory.
     pub fn turn(&mut self, turn: Turn, moment: u64) -> bool
         requires { IsPrepared self.old }
-        ensures { MatchBool result (turned turn moment self.old.history ≡ Some self.new.history) ((turned turn moment self.old.history ≡ None) × (self.new.history ≡ self.old.history)) }
+        ensures turned { MatchBool result (turned turn moment self.old.history ≡ Some self.new.history) ((turned turn moment self.old.history ≡ None) × (self.new.history ≡ self.old.history)) }
+        ensures strays { IsTrue result → self.new.strays ≡ Some [] }
     {
         match turn {
             Turn::Undo => self.undo(moment),
@@ -187,11 +231,13 @@ impl History {
 
     /// Forgets all entries and the current state. It takes no memory.
     pub fn clear(&mut self)
-        ensures { self.new.history ≡ cleared self.old.history }
+        ensures cleared { self.new.history ≡ cleared self.old.history }
+        ensures strays { self.new.strays ≡ Some [] }
     {
         self.undo.clear();
         self.redo.clear();
         self.current = None;
+        self.strays.clear();
         self.last = Change::Other;
     }
 }

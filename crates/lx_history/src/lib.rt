@@ -2,6 +2,7 @@
 #![tactic(auto)]
 
 mod change;
+mod entry;
 mod few;
 mod history;
 mod kinds;
@@ -9,6 +10,7 @@ mod laws;
 mod notes;
 mod texts;
 
+pub use entry::Entry;
 pub use history::History;
 pub use kinds::{Action, Change};
 pub use laws::histories_turn;

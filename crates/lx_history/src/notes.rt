@@ -3,11 +3,13 @@
 ghost use Rattle.std.specs.Prelude.{◌≡◌, ◌+◌, ◌&&◌, nat_lt, if◌then◌else◌};
 ghost use Rattle.lx_history.specs.Changes as changes;
 ghost use Rattle.lx_history.specs.Kept.{IsPrepared};
+ghost use Rattle.lx_history.specs.Told.{IsAway};
 ghost use Rattle.lx_history.specs.declared.kinds.Action.TheVariants.{Push, Merge, Discard};
 ghost use Rattle.lx_history.specs.History.{action_by, action_of, change_told, noted, recorded};
 
 use crate::change::{change_of, is_typing};
-use crate::history::{History, put_first};
+use crate::entry::{join_first, keep_newest, put_first};
+use crate::history::History;
 use crate::kinds::{Action, Change};
 use crate::texts::is_touched_alone;
 use lx_draft::State;
@@ -43,8 +45,10 @@ impl History {
     /// marked, and the tags what was asked for the commit. It takes no memory.
     #[tactic(auto, unfolding(crate::specs::History::noted, crate::specs::History::action_of))]
     pub fn note(&mut self, before: &State, after: State, marks: &Marks, tags: Tags, moment: u64)
-        requires { IsPrepared self.old }
-        ensures { self.new.history ≡ noted before.now after marks.now tags moment self.old.history }
+        requires prepared { IsPrepared self.old }
+        requires strays { IsAway self.old.history.current self.old.strays after.links }
+        ensures noted { self.new.history ≡ noted before.now after marks.now tags moment self.old.history }
+        ensures strays { IsAway self.new.history.current self.new.strays after.links }
     {
         let change = change_of(before, &after, marks);
         let action = self.action_by(before, &after, marks, tags, Typing { change, moment });
@@ -55,23 +59,40 @@ impl History {
 
     /// Makes the new state current, and the one that was current the newest entry. Of 501 the oldest goes.
     fn push(&mut self, after: State)
-        requires { IsPrepared self.old }
-        ensures { self.new.history ≡ recorded Push after self.old.history }
+        requires prepared { IsPrepared self.old }
+        requires strays { IsAway self.old.history.current self.old.strays after.links }
+        ensures recorded { self.new.history ≡ recorded Push after self.old.history }
+        ensures strays { IsAway self.new.history.current self.new.strays after.links }
     {
         self.redo.clear();
-        put_first(&mut self.undo, self.current.take());
-        self.undo.truncate(500);
+        let places = self.strays.take();
+        put_first(&mut self.undo, self.current.take(), places);
+        keep_newest(&mut self.undo);
+        self.current = Some(after);
+    }
+
+    /// Makes the new state current in place of the one that was. The entries on either side tell where it strayed.
+    fn merge(&mut self, after: State)
+        requires strays { IsAway self.old.history.current self.old.strays after.links }
+        ensures recorded { self.new.history ≡ recorded Merge after self.old.history }
+        ensures strays { IsAway self.new.history.current self.new.strays after.links }
+    {
+        join_first(&mut self.undo, &self.strays);
+        join_first(&mut self.redo, &self.strays);
+        self.strays.clear();
         self.current = Some(after);
     }
 
     /// Does what a commit of the new state does to the entries.
     fn record(&mut self, action: Action, after: State)
-        requires { IsPrepared self.old }
-        ensures { self.new.history ≡ recorded action after self.old.history }
+        requires prepared { IsPrepared self.old }
+        requires strays { IsAway self.old.history.current self.old.strays after.links }
+        ensures recorded { self.new.history ≡ recorded action after self.old.history }
+        ensures strays { IsAway self.new.history.current self.new.strays after.links }
     {
         match action {
             Action::Push => self.push(after),
-            Action::Merge => self.current = Some(after),
+            Action::Merge => self.merge(after),
             Action::Discard => {}
         }
     }

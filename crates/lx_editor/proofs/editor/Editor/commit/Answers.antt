@@ -39,7 +39,7 @@ invariant_of-self-2 c =
     let leads : Leads e.view ops view = subst (λ ops. Leads e.view ops view) c.in_ok-ops.ensures c.in_ok-follow.ensures.leads in
     let new : Editor = made e c.args.how left view history is ops may.allowed leads c.args.batch.reads in
     subst (λ (p : Option (Box Pending)). IsValid (record new { pending = unboxed p })) (sym c.forget.ensures)
-    (still_valid e c.args.how left view history is ops may.allowed leads c.args.batch.reads c.self.invariant may.stands.state may.grown)
+    (still_valid e c.args.how left view history is ops may.allowed leads c.args.batch.reads c.self.invariant.valid may.stands.state may.grown)
 
 pub returns-clause-committed : goal.returns-clause-committed
 returns-clause-committed c =

@@ -34,9 +34,9 @@ invariant_of-self-2 c =
     let may : MayTurn e c.args.turn c.into_inner-state.result batch = subst (λ (d : Editor). MayTurn d c.args.turn c.into_inner-state.result batch) (sym c.self.view_is) (still_may c.args.self.now c.args.turn c.args.state.value c.into_inner-state.result batch c.into_inner-state.ensures c.requires.may) in
     let leads : Leads e.view batch.ops view = subst (λ ops. Leads e.view ops view) c.in_ok-ops.ensures c.in_ok-follow.ensures.leads in
     let turns = has_turned c.turn-turned.result c.args.turn c.args.moment e.history c.prepare.new.self.history history c.into_inner-state.result may.next c.prepare.ensures.same c.turn-turned.ensures in
-    let new : Editor = made e c.args.turn c.args.moment c.into_inner-state.result batch may c.self.invariant view leads history turns in
+    let new : Editor = made e c.args.turn c.args.moment c.into_inner-state.result batch may c.self.invariant.valid view leads history turns in
     subst (λ (p : Option (Box Pending)). IsValid (record new { pending = unboxed p })) (sym c.forget.ensures)
-    (still_valid e c.args.turn c.args.moment c.into_inner-state.result batch may c.self.invariant view leads history turns)
+    (still_valid e c.args.turn c.args.moment c.into_inner-state.result batch may c.self.invariant.valid view leads history turns)
 
 pub returns-clause-turned : goal.returns-clause-turned
 returns-clause-turned c =
@@ -47,7 +47,7 @@ returns-clause-turned c =
     let may : MayTurn e c.args.turn c.into_inner-state.result batch = subst (λ (d : Editor). MayTurn d c.args.turn c.into_inner-state.result batch) (sym c.self.view_is) (still_may c.args.self.now c.args.turn c.args.state.value c.into_inner-state.result batch c.into_inner-state.ensures c.requires.may) in
     let leads : Leads e.view batch.ops view = subst (λ ops. Leads e.view ops view) c.in_ok-ops.ensures c.in_ok-follow.ensures.leads in
     let turns = has_turned c.turn-turned.result c.args.turn c.args.moment e.history c.prepare.new.self.history history c.into_inner-state.result may.next c.prepare.ensures.same c.turn-turned.ensures in
-    let new : Editor = made e c.args.turn c.args.moment c.into_inner-state.result batch may c.self.invariant view leads history turns in
-    let done = is_turned e c.args.turn c.args.moment c.into_inner-state.result batch may c.self.invariant view leads history turns in
+    let new : Editor = made e c.args.turn c.args.moment c.into_inner-state.result batch may c.self.invariant.valid view leads history turns in
+    let done = is_turned e c.args.turn c.args.moment c.into_inner-state.result batch may c.self.invariant.valid view leads history turns in
     let told = subst (λ (p : Option (Box Pending)). IsTurned c.args.turn c.args.moment e (e.commits + 1) batch.ops (record new { pending = unboxed p })) (sym c.forget.ensures) done in
     subst (λ (d : Editor). IsTurned c.args.turn c.args.moment d (d.commits + 1) batch.ops (record new { pending = unboxed c.forget.new.pending })) c.self.view_is told

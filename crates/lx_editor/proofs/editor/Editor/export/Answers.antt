@@ -13,4 +13,4 @@ pub returns-clause-back : goal.returns-clause-back
 returns-clause-back c =
     let e : Editor = editor_of c.self.inside in
     subst (λ (d : Editor). (next : ℕ) → 0 < next → next + total d.tree ≤ most_key + 1 → children_of d.tree 0 ≢ [] → IfOk c.export.result (λ document. ReadsBack (view document) next d.tree)) c.self.view_is
-    (λ next first room some. c.export.ensures.back next first room some (within_first e.tree e.next_key c.self.invariant.state.within))
+    (λ next first room some. c.export.ensures.back next first room some (within_first e.tree e.next_key c.self.invariant.valid.state.within))

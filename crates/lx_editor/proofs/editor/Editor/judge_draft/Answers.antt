@@ -13,13 +13,13 @@ use Rattle.lx_editor.proofs.editor.Editor.judge_draft.Goals as goal
 pub rest-requires : goal.rest-requires
 rest-requires c =
     let e : Editor = c.args.self.now in
-    let valid : IsValid e = subst IsValid c.self.view_is c.self.invariant in
+    let valid : IsValid e = subst IsValid c.self.view_is c.self.invariant.valid in
     record { may = fresh_rests (started_of e) c.args.draft (fresh_started e valid) c.requires.covered }
 
 pub weigh-requires : goal.weigh-requires
 weigh-requires c =
     let e : Editor = c.args.self.now in
-    let valid : IsValid e = subst IsValid c.self.view_is c.self.invariant in
+    let valid : IsValid e = subst IsValid c.self.view_is c.self.invariant.valid in
     let same : c.as_slice.result.now ≡ e.rules = c.as_slice.ensures.value ∙ ap (λ (d : Editor). d.rules) c.self.view_is in
     let stands = c.in-Ok.ensures.stands _ (fresh_started e valid) c.requires.covered in
     record {
@@ -32,7 +32,7 @@ pub returns-in-Ok : goal.returns-in-Ok
 returns-in-Ok c =
     let e : Editor = c.args.self.now in
     let same : c.as_slice.result.now ≡ e.rules = c.as_slice.ensures.value ∙ ap (λ (d : Editor). d.rules) c.self.view_is in
-    let valid : IsValid e = subst IsValid c.self.view_is c.self.invariant in
+    let valid : IsValid e = subst IsValid c.self.view_is c.self.invariant.valid in
     let leaves : LeavesAtRest c.args.draft (left_of e.rules c.in-Ok.frozen.value) = subst (λ (rules : List AnyRule). LeavesAtRest c.args.draft (left_of rules c.in-Ok.frozen.value)) same c.in-Ok.ensures.left in
     let settles : IsSettledOf c.args.draft (left_of e.rules c.in-Ok.frozen.value) =
     subst (λ (rules : List AnyRule). IsSettledOf c.args.draft (left_of rules c.in-Ok.frozen.value)) same (c.in-Ok.ensures.stands _ (fresh_started e valid) c.requires.covered).3

@@ -27,7 +27,7 @@ left c =
     load_left c.args.self.now d c.in-Ok.draft made ∙ ap (λ (rules : List AnyRule). rested_by rules c.in-Ok.draft) (sym (same c))
 
 pub import-requires-clause-first : goal.import-requires-clause-first
-import-requires-clause-first c = let state = c.self.invariant.state in first_key _ _ state.in_order state.start
+import-requires-clause-first c = let state = c.self.invariant.valid.state in first_key _ _ state.in_order state.start
 
 pub returns-in-Err-clause-judged : goal.returns-in-Err-clause-judged
 unfolding left_by_load
@@ -47,7 +47,7 @@ pub weigh_load-requires : goal.weigh_load-requires
 weigh_load-requires c =
     let now : Editor = c.args.self.now in
     let draft = c.in-Ok.draft in
-    let valid : IsValid now = subst IsValid c.self.view_is c.self.invariant in
+    let valid : IsValid now = subst IsValid c.self.view_is c.self.invariant.valid in
     let import : IsImported now.next_key draft = subst (λ (e : Editor). IsImported e.next_key draft) c.self.view_is c.in-Ok.ensures.made in
     let at = same (goal.at.weigh_load-requires c).After-as_slice in
     let stands = subst (λ (rules : List AnyRule). IsLeftOfImport draft (left_of rules c.in-Ok-rest.frozen.value)) at c.in-Ok-rest.ensures.imported now.next_key import in

@@ -17,8 +17,8 @@ next c =
     (ap (λ (s : State). s.links) c.deref.ensures ∙ c.in_ok-state.ensures.links) (ap (λ (s : State). s.selection) c.deref.ensures ∙ c.in_ok-state.ensures.selection)
 
 -- so it may be committed, and its nodes have the kinds of their keys
-kept : (c : After-deref) → IsEntry (editor_of c.self.inside).next_key c.deref.result.now × HasKinds c.self.invariant.kept.kinds c.deref.result.now.links
-kept c = entry_kept (editor_of c.self.inside) c.self.invariant c.args.turn c.deref.result.now (next c)
+kept : (c : After-deref) → IsEntry (editor_of c.self.inside).next_key c.deref.result.now × HasKinds c.self.invariant.valid.kept.kinds c.deref.result.now.links
+kept c = entry_kept (editor_of c.self.inside) c.self.invariant.valid c.args.turn c.deref.result.now (next c)
 
 pub differences-requires-clause-new_order : goal.differences-requires-clause-new_order
 differences-requires-clause-new_order c = (kept (goal.at.differences-requires-clause-new_order c).After-deref).0.in_order
@@ -37,13 +37,13 @@ reconcile-requires-clause-few c = (kept (goal.at.reconcile-requires-clause-few c
 
 pub reconcile-requires-clause-covered : goal.reconcile-requires-clause-covered
 reconcile-requires-clause-covered c =
-    let kinds = c.self.invariant.kept in
+    let kinds = c.self.invariant.valid.kept in
     c.in_ok-marks.ensures.covered (keeps_kinds kinds.kinds _ _ kinds.now (kept (goal.at.reconcile-requires-clause-covered c).After-deref).1)
 
 pub returns-in-Ok : goal.returns-in-Ok
 returns-in-Ok c =
     let at = (goal.at.returns-in-Ok c).After-deref in
-    let kinds = c.self.invariant.kept in
+    let kinds = c.self.invariant.valid.kept in
     let old = c.args.self.now in
     let turn = c.args.turn in
     let state = c.deref.result.now in
