@@ -1,13 +1,16 @@
 -- Undo and redo: operations for marks of what differs are operations for marks of every node of both trees.
-use Rattle.std.proofs.Common.{◌≡◌, ◌∙◌, ◌+◌, ◌≤◌, ◌&&◌, ℕ, Bool, true, false, cond, length, List, [], ◌∷◌, Option, None, Some, refl, sym, ap, subst, arith}
+use Rattle.std.proofs.Common.{◌≡◌, ◌∙◌, ◌+◌, ◌≤◌, ◌&&◌, ℕ, Bool, true, false, cond, length, List, [], ◌∷◌, Option, None, Some, refl, sym, ap, subst, inl, inr, arith}
 use Rattle.std.specs.List.{AllByRecursion}
-use Rattle.std.specs.Prelude.{MatchBool}
+use Rattle.std.specs.Prelude.{MatchBool, IsSomeAnd, IsTrue}
+use Rattle.std.proofs.lemmas.Bool.{cases_Bool}
 use Rattle.lx_trees.specs.Trees.{nil, tree}
 use Rattle.lx_node.specs.declared.kind.Kind.{Kind}
 use Rattle.lx_host.specs.declared.op.Op.{Op}
 use Rattle.lx_host.specs.Hosts.{HostTree, Leads}
 use Rattle.lx_marks.specs.Marks.{Marked, is_touched, is_noted}
 use Rattle.lx_compare.specs.Differing.{KeepsKinds, AreKnown}
+use Rattle.lx_compare.specs.Places.{IsAsBefore, IsOutside, DifferAt}
+use Rattle.lx_history.specs.Told.{IsAway}
 use Rattle.lx_step.specs.declared.built_in.Turn.{Turn}
 use Rattle.lx_step.specs.declared.built_in.Turn.TheVariants.{Undo, Redo}
 use Rattle.lx_forest.specs.Forest.{Forest}
@@ -76,7 +79,7 @@ current_in None = None
 current_in (Some h) = h.current
 
 -- the history comes to the entry that is next
-comes_to : (turn : Turn) (moment : ℕ) (h g : History) (state : State) → entry_of turn h ≡ Some state → turned turn moment h ≡ Some g → g.current ≡ Some state
+pub comes_to : (turn : Turn) (moment : ℕ) (h g : History) (state : State) → entry_of turn h ≡ Some state → turned turn moment h ≡ Some g → g.current ≡ Some state
 unfolding undone redone
 comes_to Undo moment h g state next turns = back h.undo next turns where
   back : (xs : List State) → first xs ≡ Some state → undone_to moment xs h ≡ Some g → g.current ≡ Some state
@@ -171,3 +174,38 @@ module _ (e : Editor) (turn : Turn) (moment : ℕ) (state : State) (batch : Told
     number = refl;
     made = refl;
   }
+
+-- ---- where trees may differ
+
+-- what is as before in two steps is so in both ways
+as_between : (mid old new : Forest) (q : ℕ) → IsAsBefore mid old q → IsAsBefore mid new q → IsAsBefore old new q
+as_between mid old new q (inl was) (inl is) = inl (was.1, is.1)
+as_between mid old new q (inl was) (inr is) = absurd (let clash : false ≡ true = sym was.0 ∙ is.was in cc)
+as_between mid old new q (inr was) (inl is) = absurd (let clash : true ≡ false = sym was.was ∙ is.0 in cc)
+as_between mid old new q (inr was) (inr is) = inr (record {
+  was = was.stays;
+  stays = is.stays;
+  fields = sym was.fields ∙ is.fields;
+  parent = sym was.parent ∙ is.parent;
+  previous = sym was.previous ∙ is.previous;
+  next = sym was.next ∙ is.next;
+})
+
+-- where the committed tree and an entry's differ from the current one only at these places, they differ from each other only there
+pub told_between : (current : Option State) (places since : Option (List ℕ)) (old new : Forest) → IsSomeAnd current (λ c. DifferAt places c.links new) → IsAway current since old
+    → (q : ℕ) → IsOutside places q → IsOutside since q → IsAsBefore old new q
+told_between None places since old new told away q first later = absurd told
+told_between (Some c) places since old new told away q first later = as_between c.links old new q (away q later) (told q first)
+
+as_itself : (f : Forest) (q : ℕ) → IsAsBefore f f q
+as_itself f q = elim (cases_Bool (has q f)) [
+  | inl there ↦ inr (record { was = there; stays = there; fields = refl; parent = refl; previous = refl; next = refl })
+  | inr out ↦ inl (out, out)
+]
+
+-- where the history has turned, the current state is what is committed
+pub turned_away : (b : Bool) (turn : Turn) (moment : ℕ) (h mid g : History) (state : State) (strays : Option (List ℕ)) → entry_of turn h ≡ Some state → mid ≡ h
+    → MatchBool b (turned turn moment mid ≡ Some g) ((turned turn moment mid ≡ None) × (g ≡ mid)) → (IsTrue b → strays ≡ Some []) → g.current ≡ Some state → IsAway g.current strays state.links
+turned_away true turn moment h mid g state strays next same did none is =
+    subst (λ o. IsAway o strays state.links) (sym is) (subst (λ p. DifferAt p state.links state.links) (sym (none tt)) (λ q out. as_itself state.links q))
+turned_away false turn moment h mid g state strays next same (none, still) told is = absurd (never_still turn moment h state next (subst (λ k. turned turn moment k ≡ None) same none))

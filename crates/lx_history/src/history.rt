@@ -1,8 +1,9 @@
-ghost use Rattle.std.specs.Prelude.{◌≡◌, ◌+◌, ◌<◌, ◌≤◌, [], ◌∷◌, Some, None, OnOk, IfOk, IfSome, IsTrue, MatchBool, length, option_map};
+ghost use Rattle.std.specs.Prelude.{◌≡◌, ◌+◌, ◌<◌, ◌≤◌, [], ◌∷◌, Some, None, OnOk, IfOk, IfSome, IsSomeAnd, IsTrue, MatchBool, length, option_map};
 ghost use Rattle.std.specs.Option.{option_copied};
 ghost use Rattle.lx_forest.specs.Lookups.{roots, IsForest};
 ghost use Rattle.lx_forest.specs.Covered.{AreCovered};
 ghost use Rattle.lx_marks.specs.Marks.{is_touched, is_noted};
+ghost use Rattle.lx_compare.specs.Places.{DifferAt};
 ghost use Rattle.lx_history.specs.Told.{IsAway};
 
 use crate::entry::{Entry, put_first};
@@ -162,7 +163,7 @@ impl History {
     /// The entry to which `turn` goes, where there is one: its state, and where that differs from the current one.
     pub fn entry_at(&self, turn: Turn) -> Option<&Entry>
         ensures state { option_map (λ entry. entry.now.state) result ≡ entry_of turn self.now.history }
-        ensures told { IfSome result (λ entry. IsAway self.now.history.current entry.now.places entry.now.state.links) }
+        ensures told { IfSome result (λ entry. IsSomeAnd self.now.history.current (λ c. DifferAt entry.now.places c.links entry.now.state.links)) }
     {
         match turn {
             Turn::Undo => self.undo.front(),

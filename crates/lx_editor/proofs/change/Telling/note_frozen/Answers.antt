@@ -7,7 +7,7 @@ use Rattle.lx_editor.proofs.change.Telling.note_frozen.Goals as goal
 
 pub returns-then-not-self : goal.returns-then-not-self
 returns-then-not-self c =
-    unasked c.args.self.now.asked c.args.batch.now.ops c.args.before.now (covering c.args.frozen.now c.args.shown) c.args.self.now.change c.if-not-self.true
+    unasked c.args.self.now.asked c.args.batch.now.ops c.args.before.now (covering c.args.frozen.now c.args.shown.now) c.args.self.now.change c.if-not-self.true
 
 pub returns : goal.returns
 returns c =

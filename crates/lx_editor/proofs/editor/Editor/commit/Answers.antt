@@ -1,8 +1,9 @@
-use Rattle.std.proofs.Common.{◌≡◌, ◌+◌, Option, sym, subst}
+use Rattle.std.proofs.Common.{◌≡◌, ◌∙◌, ◌+◌, Option, sym, subst}
 use Rattle.std.specs.Global.{Box}
 use Rattle.lx_host.specs.Hosts.{FitInTurn, Leads}
 use Rattle.lx_draft.specs.declared.state.Frozen.{Frozen}
 use Rattle.lx_reconcile.specs.Told.{Told}
+use Rattle.lx_history.specs.Told.{IsAway}
 use Rattle.lx_editor.specs.declared.pending.Pending.{Pending}
 use Rattle.lx_editor.specs.Editor.{Editor}
 use Rattle.lx_editor.specs.Gathering.{unboxed}
@@ -33,13 +34,17 @@ invariant_of-self-2 c =
     let ops = c.args.batch.ops in
     let history = c.note.new.self.history in
     let is : history ≡ recorded e c.args.how left =
-    recorded_same (state_with e.tree e.selection) (state_with left.tree left.selection) c.in_ok-entry.entry left.marks c.args.how e.history c.prepare.new.self.history history
-    c.in_ok-entry.ensures.links c.in_ok-entry.ensures.selection c.prepare.ensures.same c.note.ensures in
+    recorded_same (state_with e.tree e.selection) (state_with left.tree left.selection) c.in_ok-entry.entry left.marks c.args.how e.history c.stray.new.self.history history
+    c.in_ok-entry.ensures.links c.in_ok-entry.ensures.selection (c.stray.ensures.same ∙ c.prepare.ensures.same) c.note.ensures.noted in
     let may : MayCommit e left c.args.batch = subst (λ (d : Editor). MayCommit d (left_of d.rules c.into_inner-frozen.result) c.args.batch) (sym c.self.view_is) (still_may c.args.self.now c.args.frozen.value c.into_inner-frozen.result c.args.batch c.into_inner-frozen.ensures c.requires.may) in
     let leads : Leads e.view ops view = subst (λ ops. Leads e.view ops view) c.in_ok-ops.ensures c.in_ok-follow.ensures.leads in
     let new : Editor = made e c.args.how left view history is ops may.allowed leads c.args.batch.reads in
-    subst (λ (p : Option (Box Pending)). IsValid (record new { pending = unboxed p })) (sym c.forget.ensures)
-    (still_valid e c.args.how left view history is ops may.allowed leads c.args.batch.reads c.self.invariant.valid may.stands.state may.grown)
+    record {
+      valid =
+          subst (λ (p : Option (Box Pending)). IsValid (record new { pending = unboxed p })) (sym c.forget.ensures)
+          (still_valid e c.args.how left view history is ops may.allowed leads c.args.batch.reads c.self.invariant.valid may.stands.state may.grown);
+      told = subst (IsAway history.current c.note.new.self.strays) c.in_ok-entry.ensures.links c.note.ensures.strays;
+    }
 
 pub returns-clause-committed : goal.returns-clause-committed
 returns-clause-committed c =
@@ -50,8 +55,8 @@ returns-clause-committed c =
     let reads = c.args.batch.reads in
     let history = c.note.new.self.history in
     let is : history ≡ recorded e c.args.how left =
-    recorded_same (state_with e.tree e.selection) (state_with left.tree left.selection) c.in_ok-entry.entry left.marks c.args.how e.history c.prepare.new.self.history history
-    c.in_ok-entry.ensures.links c.in_ok-entry.ensures.selection c.prepare.ensures.same c.note.ensures in
+    recorded_same (state_with e.tree e.selection) (state_with left.tree left.selection) c.in_ok-entry.entry left.marks c.args.how e.history c.stray.new.self.history history
+    c.in_ok-entry.ensures.links c.in_ok-entry.ensures.selection (c.stray.ensures.same ∙ c.prepare.ensures.same) c.note.ensures.noted in
     let may : MayCommit e left c.args.batch = subst (λ (d : Editor). MayCommit d (left_of d.rules c.into_inner-frozen.result) c.args.batch) (sym c.self.view_is) (still_may c.args.self.now c.args.frozen.value c.into_inner-frozen.result c.args.batch c.into_inner-frozen.ensures c.requires.may) in
     let leads : Leads e.view ops view = subst (λ ops. Leads e.view ops view) c.in_ok-ops.ensures c.in_ok-follow.ensures.leads in
     let new : Editor = made e c.args.how left view history is ops may.allowed leads reads in
