@@ -11,6 +11,7 @@ use Rattle.lx_forest.specs.Forest.{Forest}
 use Rattle.lx_forest.specs.Lookups.{size_of}
 use Rattle.lx_draft.specs.Working.{Working}
 use Rattle.lx_draft.specs.Faults.{after}
+use Rattle.lx_edit.specs.Standing.{Gives}
 use Rattle.lx_blocks.specs.Blocks.{is_at, block_of}
 use Rattle.lx_blocks.specs.Ranges.{at_anchor_of, at_anchor}
 use Rattle.lx_caret.specs.Removing.{remove_text_step}
@@ -55,7 +56,7 @@ item_left w b k e is =
 
 -- so is what the command answers
 pub items_left : (w v : Working) (r : Result (Option ℕ) Fault)
-    → IfOk r (λ item. insert_paragraph_step w ≡ Ok (record { draft = v; item = item }))
+    → Gives (insert_paragraph_step w) (λ item. record { draft = v; item = item }) v r
     → IfOk r (λ item. IfSome item (λ k. is_at is_item v.forest k ≡ true))
 items_left w v (Ok None) e = tt
 items_left w v (Ok (Some k)) e = item_left w (record { draft = v; item = Some k }) k e refl

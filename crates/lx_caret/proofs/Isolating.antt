@@ -1,77 +1,29 @@
 -- Pieces brought into texts by themselves, one by one.
-use Rattle.std.proofs.Common.{◌≡◌, ◌∙◌, ℕ, ◌+◌, ◌<◌, ◌≤◌, suc, Bool, true, false, cond, ◌&&◌, List, [], ◌∷◌, ◌++◌, length, drop, Some, Result, Ok, Err, refl, sym, ap, arith, inl, inr, append_assoc, append-nil}
+use Rattle.std.proofs.Common.{◌≡◌, ◌∙◌, ℕ, ◌<◌, ◌≤◌, suc, Bool, true, false, cond, ◌&&◌, List, [], ◌∷◌, ◌++◌, length, Some, Result, Ok, Err, refl, sym, ap, arith, inl, inr, append_assoc}
 use Rattle.std.specs.Prelude.{filter, nat_lt, is_some, unwrap_or, ◌⊎◌}
 use Rattle.std.specs.List.{slice_get}
-use Rattle.std.proofs.lemmas.List.{drop_all}
 use Rattle.std.proofs.lemmas.Bool.{cases_lt}
 use Rattle.lx_node.specs.declared.cause.Cause.{Cause}
-use Rattle.lx_node.specs.declared.cause.Fault.{Fault}
-use Rattle.lx_node.specs.declared.cause.Fault.TheVariants as fault
 use Rattle.lx_forest.specs.Forest.{Forest}
 use Rattle.lx_draft.specs.Working.{Working}
-use Rattle.lx_draft.specs.Faults.{after, TellsStep}
+use Rattle.lx_draft.specs.Faults.{after}
 use Rattle.lx_edit.specs.Texts.{keys_from}
-use Rattle.lx_edit.proofs.Turns.{left_at}
 use Rattle.lx_blocks.specs.Ranges.{normal_at, characters_at}
 use Rattle.lx_caret.specs.declared.pieces.Piece.{Piece}
-use Rattle.lx_caret.specs.Formatting.{edges, isolate_step, isolated_key, Isolated, and_before, isolated}
+use Rattle.lx_caret.specs.Formatting.{edges, isolated_key, Isolated, and_before}
 
 -- the texts so far, before those of the pieces that are left
 abbrev pub and_ahead : List ℕ → Isolated → Result Isolated Cause
 and_ahead keys made = Ok (record { draft = made.draft; texts = keys ++ made.texts })
 
--- those of the pieces that are left come to what all come to, after those so far
-abbrev pub IsOnTheWay : List Piece → ℕ → Working → List ℕ → Result Isolated Cause → Type 0
-IsOnTheWay all i w keys whole = after (isolated (drop i all) w) (and_ahead keys) ≡ whole
+pub none_ahead : (r : Result Isolated Cause) → after r (and_ahead []) ≡ r
+none_ahead (Ok made) = refl
+none_ahead (Err cause) = refl
 
-pub way_begins : (all : List Piece) (w : Working) → IsOnTheWay all 0 w [] (isolated all w)
-way_begins all w = by_result (isolated all w) where
-  by_result : (r : Result Isolated Cause) → after r (and_ahead []) ≡ r
-  by_result (Ok made) = refl
-  by_result (Err cause) = refl
-
-one_more : (i : ℕ) → i + 1 ≡ suc i
-one_more i = omega arith
-
--- one more is by itself
-isolated_on : (p : Piece) (ps : List Piece) (w v : Working) → isolate_step p w ≡ Ok v → isolated (p ∷ ps) w ≡ after (isolated ps v) (and_before (isolated_key p w))
-unfolding isolated
-isolated_on p ps w v taken = ap (λ r. after r (λ v. after (isolated ps v) (and_before (isolated_key p w)))) taken
-
-joined_ahead : (keys more : List ℕ) (k : ℕ) (r : Result Isolated Cause) → more ≡ keys ++ k ∷ [] → after r (and_ahead more) ≡ after (after r (and_before k)) (and_ahead keys)
-joined_ahead keys more k (Ok made) is =
-    ap (λ (ts : List ℕ). let m : Isolated = record { draft = made.draft; texts = ts } in let r : Result Isolated Cause = Ok m in r) (ap (λ xs. xs ++ made.texts) is ∙ append_assoc keys (k ∷ []) made.texts)
-joined_ahead keys more k (Err cause) is = refl
-
-pub way_on : (all : List Piece) (i : ℕ) (p : Piece) (w v : Working) (keys more : List ℕ) (k : ℕ) (whole : Result Isolated Cause) → slice_get all i ≡ Some p → isolate_step p w ≡ Ok v
-    → k ≡ isolated_key p w → more ≡ keys ++ k ∷ [] → IsOnTheWay all i w keys whole → IsOnTheWay all (i + 1) v more whole
-way_on all i p w v keys more k whole at taken key is before =
-    ap (λ n. after (isolated (drop n all) v) (and_ahead more)) (one_more i)
-    ∙ joined_ahead keys more k (isolated (drop (suc i) all) v) is
-    ∙ ap (λ x. after (after (isolated (drop (suc i) all) v) (and_before x)) (and_ahead keys)) key
-    ∙ ap (λ r. after r (and_ahead keys)) (sym (isolated_on p (drop (suc i) all) w v taken))
-    ∙ ap (λ ps. after (isolated ps w) (and_ahead keys)) (sym (left_at all i p at))
-    ∙ before
-
--- one was refused, and so is all of it
-way_refused : (all : List Piece) (i : ℕ) (p : Piece) (w : Working) (keys : List ℕ) (cause : Cause) (whole : Result Isolated Cause) → slice_get all i ≡ Some p → isolate_step p w ≡ Err cause
-    → IsOnTheWay all i w keys whole → whole ≡ Err cause
-unfolding isolated
-way_refused all i p w keys cause whole at refused before =
-    sym before ∙ ap (λ ps. after (isolated ps w) (and_ahead keys)) (left_at all i p at)
-    ∙ ap (λ r. after (after r (λ v. after (isolated (drop (suc i) all) v) (and_before (isolated_key p w)))) (and_ahead keys)) refused
-
-pub way_told : (all : List Piece) (i : ℕ) (p : Piece) (w : Working) (keys : List ℕ) (e : Fault) (whole : Result Isolated Cause) → slice_get all i ≡ Some p → TellsStep e (isolate_step p w)
-    → IsOnTheWay all i w keys whole → TellsStep e whole
-way_told all i p w keys (fault.Cause cause) whole at told before = way_refused all i p w keys cause whole at told before
-way_told all i p w keys fault.Memory whole at told before = tt
-
--- none is left
-pub way_done : (all : List Piece) (i : ℕ) (w : Working) (keys : List ℕ) (whole : Result Isolated Cause) → length all ≤ i → IsOnTheWay all i w keys whole → whole ≡ Ok (record { draft = w; texts = keys })
-unfolding isolated
-way_done all i w keys whole past before =
-    sym before ∙ ap (λ ps. after (isolated ps w) (and_ahead keys)) (drop_all i all past)
-    ∙ ap (λ (ts : List ℕ). let m : Isolated = record { draft = w; texts = ts } in let r : Result Isolated Cause = Ok m in r) (append-nil keys)
+pub one_ahead : (r : Result Isolated Cause) (k : ℕ) (keys : List ℕ) → after (after r (and_before k)) (and_ahead keys) ≡ after r (and_ahead (keys ++ k ∷ []))
+one_ahead (Ok made) k keys =
+    ap (λ (ts : List ℕ). let m : Isolated = record { draft = made.draft; texts = ts } in let r : Result Isolated Cause = Ok m in r) (sym (append_assoc keys (k ∷ []) made.texts))
+one_ahead (Err cause) k keys = refl
 
 -- ---- the key of a piece
 

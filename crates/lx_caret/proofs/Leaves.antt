@@ -1,5 +1,5 @@
 -- Down last children from the root to a leaf.
-use Rattle.std.proofs.Common.{◌≡◌, ◌≢◌, ◌∙◌, ℕ, ◌+◌, ◌<◌, ◌^◌, true, false, List, [], ◌∷◌, ◌++◌, Option, None, Some, refl, sym, ap, arith, append-nil, inl, inr}
+use Rattle.std.proofs.Common.{◌≡◌, ◌≢◌, ◌∙◌, ℕ, ◌<◌, true, false, List, [], ◌∷◌, ◌++◌, Option, None, Some, refl, sym, ap, arith, append-nil, inl, inr}
 use Rattle.std.specs.Prelude.{is_some}
 use Rattle.lx_trees.specs.Trees.{nil}
 use Rattle.lx_trees.specs.NamedTrees as named
@@ -10,7 +10,7 @@ use Rattle.std.proofs.lemmas.Bool.{cases_Bool}
 use Rattle.std.proofs.lemmas.Bool.Decides.{eqb_tells}
 use Rattle.lx_trees.proofs.NamedTrees.{joined-nil, preorder-joined, is_among-preorder}
 use Rattle.lx_forest.specs.Forest.{Forest, Label}
-use Rattle.lx_forest.specs.Lookups.{key_of, has, alone, trees_of, spot, parent_of, children_of, last_child, is_attached, keys_within, from, IsForest}
+use Rattle.lx_forest.specs.Lookups.{key_of, has, alone, trees_of, spot, parent_of, children_of, last_child, is_attached, keys_within, IsForest}
 use Rattle.lx_forest.proofs.Edits.{key-spot, is_some-spot}
 use Rattle.lx_forest.proofs.Lookups.{alone-spot, has-child}
 use Rattle.lx_forest.proofs.Walks.{is_attached-up, total-alone-lt}

@@ -1,63 +1,24 @@
 -- Nodes that are parted on the way up to a block.
-use Rattle.std.proofs.Common.{◌≡◌, ◌∙◌, ◌+◌, ◌≤◌, ℕ, zero, suc, Bool, true, List, [], ◌∷◌, length, drop, Option, None, Some, Result, Ok, Err, refl, sym, ap, subst, arith}
-use Rattle.std.specs.List.{slice_get}
+use Rattle.std.proofs.Common.{◌≡◌, ◌∙◌, ℕ, Bool, true, List, [], ◌∷◌, drop, Option, None, Some, Result, Ok, Err, refl, ap, subst}
 use Rattle.lx_node.specs.Kinds.{is_text_block}
 use Rattle.lx_node.specs.declared.kind.Kind.{Kind}
 use Rattle.lx_node.specs.declared.cause.Cause.{Cause}
-use Rattle.lx_node.specs.declared.cause.Fault.{Fault}
-use Rattle.lx_node.specs.declared.cause.Fault.TheVariants as fault
 use Rattle.lx_node.specs.declared.cause.Point.{Point}
 use Rattle.lx_forest.specs.Forest.{Forest, Label}
 use Rattle.lx_forest.specs.Lookups.{label_of, kind_of, children_of, index_of}
 use Rattle.lx_draft.specs.Working.{Working}
-use Rattle.lx_draft.specs.Faults.{after, TellsStep}
+use Rattle.lx_draft.specs.Faults.{after}
 use Rattle.lx_draft.specs.Beside.{put_behind_step}
 use Rattle.lx_draft.specs.Covering.{IsReady, AreCovered, KindsStay}
 use Rattle.lx_edit.specs.Edits.{moved_to_end}
 use Rattle.lx_edit.specs.Texts.{split_step}
 use Rattle.lx_edit.specs.InTurn.{in_turn}
-use Rattle.lx_edit.proofs.Turns.{left_at}
 use Rattle.lx_edit.proofs.Paths.{IsPath, Leads, self, then, ok, if_, every, put_behind_path, moved_to_end_path, split_path}
 use Rattle.lx_edit.proofs.Covered.{covered_path}
 use Rattle.lx_blocks.specs.Blocks.{is_at, passes}
 use Rattle.lx_caret.specs.Adding.{is_inside}
 use Rattle.lx_blocks.specs.Making.{new_like}
 use Rattle.lx_caret.specs.Paragraphs.{place_of, cut_open, parted_at, link_parted, Parted, parted_up}
-
--- ---- seen from a place in the list
-
-one_more : (i : ℕ) → i + 1 ≡ suc i
-one_more i = omega arith
-
--- a node was parted: it goes on above it
-pub parts_on : (all : List ℕ) (i k place above : ℕ) (w v : Working) → slice_get all i ≡ Some k → link_parted k place w ≡ Ok v → above ≡ place_of (index_of v.forest k) place
-    → parted_up (drop (i + 1) all) above v ≡ parted_up (drop i all) place w
-unfolding parted_up
-parts_on all i k place above w v at parted is =
-    ap (λ n. parted_up (drop n all) above v) (one_more i) ∙ ap (λ n. parted_up (drop (suc i) all) n v) is
-    ∙ sym (ap (λ rest. parted_up rest place w) (left_at all i k at)
-    ∙ ap (λ r. after r (λ u. parted_up (drop (suc i) all) (place_of (index_of u.forest k) place) u)) parted)
-
--- it was refused
-pub parts_refused : (all : List ℕ) (i k place : ℕ) (w : Working) (cause : Cause) → slice_get all i ≡ Some k → link_parted k place w ≡ Err cause → parted_up (drop i all) place w ≡ Err cause
-unfolding parted_up
-parts_refused all i k place w cause at refused =
-    ap (λ rest. parted_up rest place w) (left_at all i k at)
-    ∙ ap (λ r. after r (λ u. parted_up (drop (suc i) all) (place_of (index_of u.forest k) place) u)) refused
-
--- ... and so is all of it
-pub parts_told : (all : List ℕ) (i k place : ℕ) (w : Working) (fault : Fault) (whole : Result Parted Cause) → slice_get all i ≡ Some k → parted_up (drop i all) place w ≡ whole
-    → TellsStep fault (link_parted k place w) → TellsStep fault whole
-parts_told all i k place w (fault.Cause cause) whole at same told = sym same ∙ parts_refused all i k place w cause at told
-parts_told all i k place w fault.Memory whole at same told = tt
-
--- none is left
-pub parts_done : (all : List ℕ) (i place : ℕ) (w : Working) → length all ≤ i → parted_up (drop i all) place w ≡ Ok (record { draft = w; index = place })
-unfolding parted_up
-parts_done [] zero place w h = refl
-parts_done [] (suc i) place w h = refl
-parts_done (x ∷ xs) zero place w h = absurd (omega (arith, h))
-parts_done (x ∷ xs) (suc i) place w h = parts_done xs i place w (omega (arith, h))
 
 -- ---- what holds of each step
 

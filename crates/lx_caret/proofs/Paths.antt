@@ -1,5 +1,5 @@
 -- What holds of each step of a draft, and of one after another, holds of adding a node at a point. It may put any key.
-use Rattle.std.proofs.Common.{◌≡◌, ℕ, ◌&&◌, ◌==◌, is_some, [], ◌∷◌, Result}
+use Rattle.std.proofs.Common.{ℕ, ◌&&◌, ◌==◌, is_some, [], ◌∷◌, Result}
 use Rattle.lx_node.specs.declared.kind.Kind.{Kind}
 use Rattle.lx_node.specs.declared.fields.Fields.{Fields}
 use Rattle.lx_node.specs.declared.cause.Cause.{Cause}

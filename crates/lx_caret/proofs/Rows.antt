@@ -5,7 +5,6 @@ use Rattle.lx_trees.specs.Trees.{nil, tree}
 use Rattle.lx_node.specs.Plain.{plain_element, element_with, text_with}
 use Rattle.lx_node.specs.declared.cause.Cause.{Cause}
 use Rattle.lx_node.specs.declared.cause.Cause.TheVariants.{WrongKind}
-use Rattle.lx_node.specs.declared.cause.SelectionKind.TheVariants as kinds
 use Rattle.lx_node.specs.declared.kind.Kind.{Kind}
 use Rattle.lx_node.specs.declared.kind.Kind.TheVariants.{Root, Heading, Quote, List as ListKind, Item, Link, Text, Tab, Break}
 use Rattle.lx_node.specs.declared.kind.ListType.TheVariants.{Check}

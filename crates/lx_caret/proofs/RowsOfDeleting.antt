@@ -3,7 +3,6 @@ use Rattle.std.specs.Prelude.{ℕ, codes, true, false, [], ◌∷◌, None, Ok}
 use Rattle.std.proofs.Common.{◌≡◌, refl}
 use Rattle.lx_trees.specs.Trees.{nil}
 use Rattle.lx_node.specs.Plain.{element_with, text_with}
-use Rattle.lx_node.specs.declared.cause.SelectionKind.TheVariants as kinds
 use Rattle.lx_node.specs.declared.kind.Kind.TheVariants.{List as ListKind, Item, Table, Row, Cell, Text, Break, Rule}
 use Rattle.lx_node.specs.declared.kind.ListType.TheVariants.{Bullet}
 use Rattle.lx_node.specs.declared.fields.Fields.TheVariants as fields

@@ -1,10 +1,9 @@
 //! Adding a node at a point.
 
-ghost use Rattle.std.specs.Prelude.{◌≡◌, ◌≢◌, ◌+◌, Ok, OnOk, IfOk, IfErr};
+ghost use Rattle.std.specs.Prelude.{◌≡◌, ◌≢◌, ◌+◌, IfOk};
 ghost use Rattle.lx_node.specs.OfKind.{IsOfKind};
 ghost use Rattle.lx_node.specs.declared.kind.Kind.TheVariants.{Root};
-ghost use Rattle.lx_draft.specs.Faults.{TellsStep};
-ghost use Rattle.lx_edit.specs.Standing.{StillStands};
+ghost use Rattle.lx_edit.specs.Standing.{Does};
 ghost use Rattle.lx_caret.specs.Adding as adding;
 ghost use Rattle.lx_caret.specs.Adding.{add_step};
 
@@ -52,9 +51,7 @@ pub(crate) fn is_inside(draft: &Draft, point: &Point) -> bool
 
 /// Splits a normal text that holds the point strictly inside. A text that isn't normal is never cut.
 pub fn open(alloc: Global, draft: &mut Draft, point: &Point) -> Result<(), Fault>
-    ensures ok { OnOk result (adding.opened point.now draft.old ≡ Ok draft.new) }
-    ensures err { IfErr result (λ e. TellsStep e (adding.opened point.now draft.old)) }
-    ensures standing { IfErr result (λ e. StillStands e draft.new) }
+    ensures { Does (adding.opened point.now draft.old) draft.new result }
 {
     if is_inside(draft, point) && is_normal_at(draft, point.key) {
         split_text(alloc, draft, point.key, &[point.offset])?;
@@ -64,9 +61,7 @@ pub fn open(alloc: Global, draft: &mut Draft, point: &Point) -> Result<(), Fault
 
 /// Puts a node at a point: before a text at offset 0, else after it; in an element at the offset.
 pub fn put_by(draft: &mut Draft, key: Key, point: &Point) -> Result<(), Fault>
-    ensures ok { OnOk result (adding.put_by key point.now point.now.kind draft.old ≡ Ok draft.new) }
-    ensures err { IfErr result (λ e. TellsStep e (adding.put_by key point.now point.now.kind draft.old)) }
-    ensures standing { IfErr result (λ e. StillStands e draft.new) }
+    ensures { Does (adding.put_by key point.now point.now.kind draft.old) draft.new result }
 {
     match point.kind {
         PointKind::Text => {
@@ -93,10 +88,8 @@ pub(crate) fn add(
 ) -> Result<Key, Fault>
     requires other { kind ≢ Root }
     requires of_kind { IsOfKind kind fields }
-    ensures ok { OnOk result (add_step point.now kind fields draft.old ≡ Ok draft.new) }
+    ensures does { Does (add_step point.now kind fields draft.old) draft.new result }
     ensures key { IfOk result (λ key. key + 1 ≡ draft.new.next_key) }
-    ensures err { IfErr result (λ e. TellsStep e (add_step point.now kind fields draft.old)) }
-    ensures standing { IfErr result (λ e. StillStands e draft.new) }
 {
     let fault = no_room(kind, kind_around(draft.links(), point));
     admitted(draft, fault)?;

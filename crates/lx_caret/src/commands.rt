@@ -2,10 +2,9 @@
 //! the root or a node below it, at a place of its text or between its children. That is claimed of a draft whose texts are short
 //! (`TextsAreShort`), as an update of a committed state begins with them.
 
-ghost use Rattle.std.specs.Prelude.{◌≡◌, true, Ok, OnOk, IfOk, IfErr, IfSome, chars};
+ghost use Rattle.std.specs.Prelude.{◌≡◌, true, OnOk, IfOk, IfSome, chars};
 ghost use Rattle.lx_node.specs.Kinds.{is_item};
-ghost use Rattle.lx_draft.specs.Faults.{TellsStep};
-ghost use Rattle.lx_edit.specs.Standing.{StillStands};
+ghost use Rattle.lx_edit.specs.Standing.{Does, Gives};
 ghost use Rattle.lx_blocks.specs.Blocks.{is_at};
 ghost use Rattle.lx_caret.specs.Deleting.{delete_character_step, delete_word_step};
 ghost use Rattle.lx_caret.specs.Formatting.{format_text_step};
@@ -35,10 +34,8 @@ use std::alloc::Global;
 /// It is refused as `remove_text` is; with `WrongKind` and the kind of what may not hold a text; and with `StepLimit` and
 /// `TooLarge` as the edits of a draft are.
 pub fn insert_text(alloc: Global, draft: &mut Draft, text: &str) -> Result<(), Fault>
-    ensures ok { OnOk result (insert_text_step (chars text.now) draft.old ≡ Ok draft.new) }
+    ensures does { Does (insert_text_step (chars text.now) draft.old) draft.new result }
     ensures lying { OnOk result (TextsAreShort draft.old → IsLying draft.new) }
-    ensures err { IfErr result (λ e. TellsStep e (insert_text_step (chars text.now) draft.old)) }
-    ensures standing { IfErr result (λ e. StillStands e draft.new) }
 {
     ready(draft)?;
     put_text(alloc, draft, text)
@@ -55,10 +52,8 @@ pub fn insert_text(alloc: Global, draft: &mut Draft, text: &str) -> Result<(), F
 /// It is refused with `NoSelection`, and what the selection is, where that isn't a range whose points lie in the root's tree
 /// and in one table cell or in none; and with `StepLimit` as the edits of a draft are. `Memory` says that none was left.
 pub fn remove_text(alloc: Global, draft: &mut Draft) -> Result<(), Fault>
-    ensures ok { OnOk result (remove_text_step draft.old ≡ Ok draft.new) }
+    ensures does { Does (remove_text_step draft.old) draft.new result }
     ensures lying { OnOk result (TextsAreShort draft.old → IsLying draft.new) }
-    ensures err { IfErr result (λ e. TellsStep e (remove_text_step draft.old)) }
-    ensures standing { IfErr result (λ e. StillStands e draft.new) }
 {
     ready(draft)?;
     remove_selected(alloc, draft)
@@ -88,11 +83,9 @@ pub fn remove_text(alloc: Global, draft: &mut Draft) -> Result<(), Fault>
 /// counts were taken, and with `TooLarge` where the new nodes would bring what was written above 16,777,216 scalar values.
 /// A draft on which it was refused is only fit to be dropped.
 pub fn insert_paragraph(alloc: Global, draft: &mut Draft) -> Result<Option<Key>, Fault>
-    ensures ok { IfOk result (λ item. insert_paragraph_step draft.old ≡ Ok (record { draft = draft.new; item = item })) }
+    ensures gives { Gives (insert_paragraph_step draft.old) (λ item. record { draft = draft.new; item = item }) draft.new result }
     ensures item { IfOk result (λ item. IfSome item (λ key. is_at is_item draft.new.forest key ≡ true)) }
     ensures lying { OnOk result (TextsAreShort draft.old → IsLying draft.new) }
-    ensures err { IfErr result (λ e. TellsStep e (insert_paragraph_step draft.old)) }
-    ensures standing { IfErr result (λ e. StillStands e draft.new) }
 {
     ready(draft)?;
     break_block(alloc, draft)
@@ -105,10 +98,8 @@ pub fn insert_paragraph(alloc: Global, draft: &mut Draft) -> Result<Option<Key>,
 /// It is refused as `remove_text` is; with `WrongKind` and the kind of what may not hold a line break; and with `StepLimit` and
 /// `TooLarge` as the edits of a draft are.
 pub fn insert_line_break(alloc: Global, draft: &mut Draft) -> Result<(), Fault>
-    ensures ok { OnOk result (insert_line_break_step draft.old ≡ Ok draft.new) }
+    ensures does { Does (insert_line_break_step draft.old) draft.new result }
     ensures lying { OnOk result (TextsAreShort draft.old → IsLying draft.new) }
-    ensures err { IfErr result (λ e. TellsStep e (insert_line_break_step draft.old)) }
-    ensures standing { IfErr result (λ e. StillStands e draft.new) }
 {
     ready(draft)?;
     put_line_break(alloc, draft)
@@ -120,10 +111,8 @@ pub fn insert_line_break(alloc: Global, draft: &mut Draft) -> Result<(), Fault>
 /// It is refused as `remove_text` is; with `WrongKind` and the kind of what may not hold a tab; and with `StepLimit` and
 /// `TooLarge` as the edits of a draft are.
 pub fn insert_tab(alloc: Global, draft: &mut Draft) -> Result<(), Fault>
-    ensures ok { OnOk result (insert_tab_step draft.old ≡ Ok draft.new) }
+    ensures does { Does (insert_tab_step draft.old) draft.new result }
     ensures lying { OnOk result (TextsAreShort draft.old → IsLying draft.new) }
-    ensures err { IfErr result (λ e. TellsStep e (insert_tab_step draft.old)) }
-    ensures standing { IfErr result (λ e. StillStands e draft.new) }
 {
     ready(draft)?;
     put_tab(alloc, draft)
@@ -149,10 +138,8 @@ pub fn insert_tab(alloc: Global, draft: &mut Draft) -> Result<(), Fault>
 /// `Memory` says that none was left. A draft on which it was refused is only fit to be dropped.
 #[tactic(auto, unfolding(crate::specs::Deleting::delete_character_step))]
 pub fn delete_character(alloc: Global, draft: &mut Draft, back: bool) -> Result<(), Fault>
-    ensures ok { OnOk result (delete_character_step back draft.old ≡ Ok draft.new) }
+    ensures does { Does (delete_character_step back draft.old) draft.new result }
     ensures lying { OnOk result (TextsAreShort draft.old → IsLying draft.new) }
-    ensures err { IfErr result (λ e. TellsStep e (delete_character_step back draft.old)) }
-    ensures standing { IfErr result (λ e. StillStands e draft.new) }
 {
     ready(draft)?;
     delete(alloc, draft, Stretch::Cluster, back)
@@ -164,10 +151,8 @@ pub fn delete_character(alloc: Global, draft: &mut Draft, back: bool) -> Result<
 /// same causes.
 #[tactic(auto, unfolding(crate::specs::Deleting::delete_word_step))]
 pub fn delete_word(alloc: Global, draft: &mut Draft, back: bool) -> Result<(), Fault>
-    ensures ok { OnOk result (delete_word_step back draft.old ≡ Ok draft.new) }
+    ensures does { Does (delete_word_step back draft.old) draft.new result }
     ensures lying { OnOk result (TextsAreShort draft.old → IsLying draft.new) }
-    ensures err { IfErr result (λ e. TellsStep e (delete_word_step back draft.old)) }
-    ensures standing { IfErr result (λ e. StillStands e draft.new) }
 {
     ready(draft)?;
     delete(alloc, draft, Stretch::Word, back)
@@ -187,10 +172,8 @@ pub fn delete_word(alloc: Global, draft: &mut Draft, back: bool) -> Result<(), F
 /// where one lies in another cell than the other; and as the edits are of which it is made, where 100,000 counts were
 /// taken, and where what was written would come above 16,777,216 scalar values.
 pub fn format_text(alloc: Global, draft: &mut Draft, bit: u16) -> Result<(), Fault>
-    ensures ok { OnOk result (format_text_step bit draft.old ≡ Ok draft.new) }
+    ensures does { Does (format_text_step bit draft.old) draft.new result }
     ensures lying { OnOk result (TextsAreShort draft.old → IsLying draft.new) }
-    ensures err { IfErr result (λ e. TellsStep e (format_text_step bit draft.old)) }
-    ensures standing { IfErr result (λ e. StillStands e draft.new) }
 {
     ready(draft)?;
     format_selected(alloc, draft, bit)
@@ -201,10 +184,8 @@ pub fn format_text(alloc: Global, draft: &mut Draft, bit: u16) -> Result<(), Fau
 /// without children has both at 0, and a leaf of another kind before and after it in its parent. Offsets of texts are
 /// those of `lx_text`, in UTF-16 code units. It is refused as `Draft::select` is.
 pub fn select_all(draft: &mut Draft) -> Result<(), Fault>
-    ensures ok { OnOk result (select_all_step draft.old ≡ Ok draft.new) }
+    ensures does { Does (select_all_step draft.old) draft.new result }
     ensures lying { OnOk result (TextsAreShort draft.old → IsLying draft.new) }
-    ensures err { IfErr result (λ e. TellsStep e (select_all_step draft.old)) }
-    ensures standing { IfErr result (λ e. StillStands e draft.new) }
 {
     ready(draft)?;
     select_content(draft)

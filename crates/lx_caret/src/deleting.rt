@@ -1,14 +1,13 @@
 //! Deleting a character or a word.
 
-ghost use Rattle.std.specs.Prelude.{◌≡◌, ◌≤◌, ◌&&◌, not, true, false, if◌then◌else◌, [], Ok, Some, option_map, OnOk, IfErr, IfSome, chars};
+ghost use Rattle.std.specs.Prelude.{◌≡◌, ◌≤◌, ◌&&◌, not, true, false, if◌then◌else◌, [], Some, option_map, IfSome, chars};
 ghost use Rattle.lx_trees.specs.Siblings.{is_named};
 ghost use Rattle.lx_text.specs.Texts.{is_offset};
 ghost use Rattle.lx_draft.specs.Selecting.{text_of};
 ghost use Rattle.lx_forest.specs.Lookups as lookups;
 ghost use Rattle.lx_links.specs.Stands.{Sound};
-ghost use Rattle.lx_draft.specs.Faults.{TellsStep};
 ghost use Rattle.lx_draft.specs.Steps.{splice_step};
-ghost use Rattle.lx_edit.specs.Standing.{StillStands};
+ghost use Rattle.lx_edit.specs.Standing.{Does};
 ghost use Rattle.lx_blocks.specs.Blocks as blocks;
 ghost use Rattle.lx_blocks.specs.Ranges as ranges;
 ghost use Rattle.lx_blocks.specs.Walks as walks;
@@ -45,9 +44,7 @@ pub(crate) fn delete(
     stretch: Stretch,
     back: bool,
 ) -> Result<(), Fault>
-    ensures ok { OnOk result (deleting.delete_step back (reach_of stretch back) draft.old ≡ Ok draft.new) }
-    ensures err { IfErr result (λ e. TellsStep e (deleting.delete_step back (reach_of stretch back) draft.old)) }
-    ensures standing { IfErr result (λ e. StillStands e draft.new) }
+    ensures { Does (deleting.delete_step back (reach_of stretch back) draft.old) draft.new result }
 {
     let range = range_of(draft)?;
     if is_collapsed(&range) {
@@ -66,9 +63,7 @@ fn delete_at(
     point: &Point,
 ) -> Result<(), Fault>
     requires { ranges.lies draft.old.forest point.now ≡ true }
-    ensures ok { OnOk result (deleting.deleted_in back (reach_of stretch back) point.now (blocks.block_of draft.old.forest point.now.key) draft.old ≡ Ok draft.new) }
-    ensures err { IfErr result (λ e. TellsStep e (deleting.deleted_in back (reach_of stretch back) point.now (blocks.block_of draft.old.forest point.now.key) draft.old)) }
-    ensures standing { IfErr result (λ e. StillStands e draft.new) }
+    ensures { Does (deleting.deleted_in back (reach_of stretch back) point.now (blocks.block_of draft.old.forest point.now.key) draft.old) draft.new result }
 {
     match block(draft.links(), point.key) {
         Some(block) => delete_in(alloc, draft, stretch, back, point, block),
@@ -87,9 +82,7 @@ fn delete_in(
 ) -> Result<(), Fault>
     requires lies { ranges.lies draft.old.forest point.now ≡ true }
     requires block { lookups.is_attached draft.old.forest block ≡ true }
-    ensures ok { OnOk result (deleting.deleted_in back (reach_of stretch back) point.now (Some block) draft.old ≡ Ok draft.new) }
-    ensures err { IfErr result (λ e. TellsStep e (deleting.deleted_in back (reach_of stretch back) point.now (Some block) draft.old)) }
-    ensures standing { IfErr result (λ e. StillStands e draft.new) }
+    ensures { Does (deleting.deleted_in back (reach_of stretch back) point.now (Some block) draft.old) draft.new result }
 {
     if has_more(draft, back, point) {
         erase(draft, stretch, back, point.key, point.offset)
@@ -109,9 +102,7 @@ fn delete_beyond(
 ) -> Result<(), Fault>
     requires point { lookups.is_attached draft.old.forest point.now.key ≡ true }
     requires block { lookups.is_attached draft.old.forest block ≡ true }
-    ensures ok { OnOk result (deleting.leaf_or_line back (reach_of stretch back) block (deleting.leaf_beside back draft.old.forest block point.now) draft.old ≡ Ok draft.new) }
-    ensures err { IfErr result (λ e. TellsStep e (deleting.leaf_or_line back (reach_of stretch back) block (deleting.leaf_beside back draft.old.forest block point.now) draft.old)) }
-    ensures standing { IfErr result (λ e. StillStands e draft.new) }
+    ensures { Does (deleting.leaf_or_line back (reach_of stretch back) block (deleting.leaf_beside back draft.old.forest block point.now) draft.old) draft.new result }
 {
     match leaf_beside(draft.links(), back, block, point) {
         Some(leaf) => erase_leaf(draft, stretch, back, leaf),
@@ -173,9 +164,7 @@ fn end_in(draft: &Draft, stretch: Stretch, back: bool, key: Key, at: u32) -> Opt
 /// Cuts what the stretch goes over out of a normal text; another text goes whole.
 fn erase(draft: &mut Draft, stretch: Stretch, back: bool, key: Key, at: u32) -> Result<(), Fault>
     requires { is_offset at (text_of (lookups.fields_of draft.old.forest key)) ≡ true }
-    ensures ok { OnOk result (deleting.erase_step back (reach_of stretch back) key at draft.old ≡ Ok draft.new) }
-    ensures err { IfErr result (λ e. TellsStep e (deleting.erase_step back (reach_of stretch back) key at draft.old)) }
-    ensures standing { IfErr result (λ e. StillStands e draft.new) }
+    ensures { Does (deleting.erase_step back (reach_of stretch back) key at draft.old) draft.new result }
 {
     let end = end_in(draft, stretch, back, key, at);
     erase_to(draft, back, key, at, end)
@@ -183,9 +172,7 @@ fn erase(draft: &mut Draft, stretch: Stretch, back: bool, key: Key, at: u32) -> 
 
 /// Cuts a text up to an end, or removes it where there is none.
 fn erase_to(draft: &mut Draft, back: bool, key: Key, at: u32, end: Option<u32>) -> Result<(), Fault>
-    ensures ok { OnOk result (erased_to back key at end draft.old ≡ Ok draft.new) }
-    ensures err { IfErr result (λ e. TellsStep e (erased_to back key at end draft.old)) }
-    ensures standing { IfErr result (λ e. StillStands e draft.new) }
+    ensures { Does (erased_to back key at end draft.old) draft.new result }
 {
     match end {
         Some(end) => cut(draft, back, key, at, end),
@@ -196,9 +183,7 @@ fn erase_to(draft: &mut Draft, back: bool, key: Key, at: u32, end: Option<u32>) 
 /// Cuts out what is between two offsets of a text, of which the second is the one before where `back` is set.
 #[tactic(auto, using(lx_edit::proofs::Tails::no_characters))]
 fn cut(draft: &mut Draft, back: bool, key: Key, at: u32, end: u32) -> Result<(), Fault>
-    ensures ok { OnOk result ((if back then splice_step key end at [] draft.old else splice_step key at end [] draft.old) ≡ Ok draft.new) }
-    ensures err { IfErr result (λ e. TellsStep e (if back then splice_step key end at [] draft.old else splice_step key at end [] draft.old)) }
-    ensures standing { IfErr result (λ e. StillStands e draft.new) }
+    ensures { Does (if back then splice_step key end at [] draft.old else splice_step key at end [] draft.old) draft.new result }
 {
     if back {
         draft.splice(key, end, at, "")
@@ -210,9 +195,7 @@ fn cut(draft: &mut Draft, back: bool, key: Key, at: u32, end: u32) -> Result<(),
 /// Deletes in a leaf from the side of the caret. A leaf without characters is removed.
 #[tactic(auto, unfolding(crate::specs::Deleting::leaf_step))]
 fn erase_leaf(draft: &mut Draft, stretch: Stretch, back: bool, key: Key) -> Result<(), Fault>
-    ensures ok { OnOk result (deleting.leaf_step back (reach_of stretch back) key draft.old ≡ Ok draft.new) }
-    ensures err { IfErr result (λ e. TellsStep e (deleting.leaf_step back (reach_of stretch back) key draft.old)) }
-    ensures standing { IfErr result (λ e. StillStands e draft.new) }
+    ensures { Does (deleting.leaf_step back (reach_of stretch back) key draft.old) draft.new result }
 {
     let length = draft.text_length(key);
     if length == 0 {

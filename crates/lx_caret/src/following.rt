@@ -1,6 +1,6 @@
 //! The block that comes after one that is cut.
 
-ghost use Rattle.std.specs.Prelude.{◌≡◌, ◌≢◌, true, if◌then◌else◌, OnOk, IfOk, IfErr};
+ghost use Rattle.std.specs.Prelude.{◌≡◌, ◌≢◌, true, if◌then◌else◌, IfOk};
 ghost use Rattle.std.specs.List.{list_all};
 ghost use Rattle.lx_node.specs.Kinds as kinds;
 ghost use Rattle.lx_node.specs.OfKind.{IsOfKind};
@@ -8,9 +8,8 @@ ghost use Rattle.lx_node.specs.declared.kind.Kind.TheVariants.{Root, Paragraph, 
 ghost use Rattle.lx_node.specs.declared.fields.Extra.TheVariants as extra;
 ghost use Rattle.lx_forest.specs.Lookups as lookups;
 ghost use Rattle.lx_draft.specs.Working.{Working};
-ghost use Rattle.lx_draft.specs.Faults.{TellsStep};
 ghost use Rattle.lx_draft.specs.Steps.{new_step};
-ghost use Rattle.lx_edit.specs.Standing.{StillStands};
+ghost use Rattle.lx_edit.specs.Standing.{Does};
 ghost use Rattle.lx_blocks.specs.Blocks as blocks;
 ghost use Rattle.lx_caret.specs.Paragraphs as paragraphs;
 
@@ -28,10 +27,8 @@ pub(crate) fn make_next(
     moved: &[Key],
 ) -> Result<Key, Fault>
     requires { blocks.is_at kinds.is_text_block draft.old.forest block ≡ true }
-    ensures ok { OnOk result (paragraphs.new_next draft.old.forest (lookups.label_of draft.old.forest block) moved.now draft.old ≡ Ok draft.new) }
+    ensures does { Does (paragraphs.new_next draft.old.forest (lookups.label_of draft.old.forest block) moved.now draft.old) draft.new result }
     ensures key { IfOk result (λ key. key ≡ draft.old.next_key) }
-    ensures err { IfErr result (λ e. TellsStep e (paragraphs.new_next draft.old.forest (lookups.label_of draft.old.forest block) moved.now draft.old)) }
-    ensures standing { IfErr result (λ e. StillStands e draft.new) }
 {
     let (kind, fields) = next_of(alloc, draft.links(), block, moved)?;
     draft.new_node(kind, fields)

@@ -1,10 +1,9 @@
 //! Formatting the covered texts of a range.
 
-ghost use Rattle.std.specs.Prelude.{◌≡◌, ◌<◌, ℕ, slice_get, Some, Ok, OnOk, IfOk, IfErr};
+ghost use Rattle.std.specs.Prelude.{◌≡◌, ◌<◌, ℕ, slice_get, Some, IfOk};
 ghost use Rattle.lx_node.specs.declared.fields.Fields.TheVariants as fields;
-ghost use Rattle.lx_draft.specs.Faults.{TellsStep};
 ghost use Rattle.lx_edit.specs.InTurn.{in_turn};
-ghost use Rattle.lx_edit.specs.Standing.{StillStands};
+ghost use Rattle.lx_edit.specs.Standing.{Does};
 ghost use Rattle.lx_blocks.specs.Ranges as ranges;
 ghost use Rattle.lx_caret.specs.declared.pieces.Piece.{Piece};
 ghost use Rattle.lx_caret.specs.Formatting as formatting;
@@ -81,9 +80,7 @@ fn with_format(alloc: Global, text: &TextFields, format: u16) -> Result<Fields, 
 /// Sets the bit in the format of a text or tab, or clears it.
 #[tactic(auto, unfolding(crate::specs::Formatting::switch_step))]
 fn switch(alloc: Global, draft: &mut Draft, key: Key, on: bool, bit: u16) -> Result<(), Fault>
-    ensures ok { OnOk result (formatting.switch_step on bit key draft.old ≡ Ok draft.new) }
-    ensures err { IfErr result (λ e. TellsStep e (formatting.switch_step on bit key draft.old)) }
-    ensures standing { IfErr result (λ e. StillStands e draft.new) }
+    ensures { Does (formatting.switch_step on bit key draft.old) draft.new result }
 {
     let fields = match draft.links().node(key) {
         Some(node) => match &node.fields {
@@ -96,7 +93,7 @@ fn switch(alloc: Global, draft: &mut Draft, key: Key, on: bool, bit: u16) -> Res
 }
 
 /// Sets the bit in the format of each text and tab, or clears it in each.
-#[tactic(auto, using(lx_edit::proofs::Turns::turns_done))]
+#[tactic(auto, unfolding(lx_edit::specs::InTurn::in_turn))]
 fn switch_each(
     alloc: Global,
     draft: &mut Draft,
@@ -104,15 +101,10 @@ fn switch_each(
     on: bool,
     bit: u16,
 ) -> Result<(), Fault>
-    ensures ok { OnOk result (in_turn (formatting.switch_step on bit) keys.now draft.old ≡ Ok draft.new) }
-    ensures err { IfErr result (λ e. TellsStep e (in_turn (formatting.switch_step on bit) keys.now draft.old)) }
-    ensures standing { IfErr result (λ e. StillStands e draft.new) }
+    ensures { Does (in_turn (formatting.switch_step on bit) keys.now draft.old) draft.new result }
 {
     for key in keys {
-        match switch(alloc, draft, *key, on, bit) {
-            Ok(()) => {}
-            Err(fault) => return Err(fault),
-        }
+        switch(alloc, draft, *key, on, bit)?;
     }
     Ok(())
 }
@@ -120,9 +112,7 @@ fn switch_each(
 /// Clears the bit in all where the first has it, and sets it in all where that hasn't. The selection takes the
 /// first one's format.
 fn switch_all(alloc: Global, draft: &mut Draft, bit: u16, keys: &[Key]) -> Result<(), Fault>
-    ensures ok { OnOk result (formatting.switched_all bit keys.now draft.old ≡ Ok draft.new) }
-    ensures err { IfErr result (λ e. TellsStep e (formatting.switched_all bit keys.now draft.old)) }
-    ensures standing { IfErr result (λ e. StillStands e draft.new) }
+    ensures { Does (formatting.switched_all bit keys.now draft.old) draft.new result }
 {
     let Some(first) = keys.first() else {
         return Ok(());
@@ -145,9 +135,7 @@ fn format_pieces(
     format: u16,
 ) -> Result<(), Fault>
     requires { (i : ℕ) (p : Piece) → slice_get pieces.now i ≡ Some p → 0 < p.from → (i ≡ 0) × (p.from < ranges.characters_at draft.old.forest p.key) }
-    ensures ok { OnOk result (formatting.formatted bit pieces.now format draft.old ≡ Ok draft.new) }
-    ensures err { IfErr result (λ e. TellsStep e (formatting.formatted bit pieces.now format draft.old)) }
-    ensures standing { IfErr result (λ e. StillStands e draft.new) }
+    ensures { Does (formatting.formatted bit pieces.now format draft.old) draft.new result }
 {
     if pieces.is_empty() {
         draft.put_format(switched(!has_bit(bit, format), bit, format));
@@ -160,9 +148,7 @@ fn format_pieces(
 /// Switches a format bit in what is selected.
 #[tactic(auto, unfolding(crate::specs::Formatting::format_text_step), using(crate::proofs::Covering::start_attached, crate::proofs::Covering::end_attached))]
 pub(crate) fn format_selected(alloc: Global, draft: &mut Draft, bit: u16) -> Result<(), Fault>
-    ensures ok { OnOk result (format_text_step bit draft.old ≡ Ok draft.new) }
-    ensures err { IfErr result (λ e. TellsStep e (format_text_step bit draft.old)) }
-    ensures standing { IfErr result (λ e. StillStands e draft.new) }
+    ensures { Does (format_text_step bit draft.old) draft.new result }
 {
     let range = range_of(draft)?;
     let (start, end) = in_order(draft.links(), &range);

@@ -5,7 +5,7 @@ ghost use Rattle.lx_node.specs.declared.cause.Cause.{Cause as CauseOf};
 ghost use Rattle.lx_node.specs.declared.cause.Point.{Point as PointIn};
 ghost use Rattle.lx_draft.specs.Working.{Working};
 ghost use Rattle.lx_draft.specs.Faults.{TellsStep};
-ghost use Rattle.lx_edit.specs.Standing.{StillStands};
+ghost use Rattle.lx_edit.specs.Standing.{Does, StillStands};
 ghost use Rattle.lx_edit.specs.Texts as texts;
 ghost use Rattle.lx_blocks.specs.Ranges as ranges;
 ghost use Rattle.lx_caret.specs.Inserting as inserting;
@@ -76,9 +76,7 @@ fn typed_fields(alloc: Global, text: &str, format: u16, style: Txt) -> Result<Fi
 /// Types into the text of the point itself.
 #[tactic(auto, unfolding(crate::specs::Inserting::typed_into, lx_select::specs::Rules::offset_sum))]
 fn type_into(draft: &mut Draft, text: &str, point: &Point) -> Result<(), Fault>
-    ensures ok { OnOk result (inserting.typed_into (chars text.now) point.now draft.old ≡ Ok draft.new) }
-    ensures err { IfErr result (λ e. TellsStep e (inserting.typed_into (chars text.now) point.now draft.old)) }
-    ensures standing { IfErr result (λ e. StillStands e draft.new) }
+    ensures { Does (inserting.typed_into (chars text.now) point.now draft.old) draft.new result }
 {
     draft.splice(point.key, point.offset, point.offset, text)?;
     let end = point.offset.saturating_add(lx_text::length(text));
@@ -95,9 +93,7 @@ fn type_new(
     point: &Point,
     format: u16,
 ) -> Result<(), Fault>
-    ensures ok { OnOk result (inserting.typed_new (chars text.now) format point.now draft.old ≡ Ok draft.new) }
-    ensures err { IfErr result (λ e. TellsStep e (inserting.typed_new (chars text.now) format point.now draft.old)) }
-    ensures standing { IfErr result (λ e. StillStands e draft.new) }
+    ensures { Does (inserting.typed_new (chars text.now) format point.now draft.old) draft.new result }
 {
     let style = style_at(alloc, draft, point.key)?;
     let fields = typed_fields(alloc, text, format, style)?;
@@ -115,9 +111,7 @@ fn type_at(
     point: &Point,
     format: u16,
 ) -> Result<(), Fault>
-    ensures ok { OnOk result (inserting.typed (chars text.now) point.now format draft.old ≡ Ok draft.new) }
-    ensures err { IfErr result (λ e. TellsStep e (inserting.typed (chars text.now) point.now format draft.old)) }
-    ensures standing { IfErr result (λ e. StillStands e draft.new) }
+    ensures { Does (inserting.typed (chars text.now) point.now format draft.old) draft.new result }
 {
     if is_of_format(draft, point.key, format) {
         type_into(draft, text, point)
@@ -135,9 +129,7 @@ fn has_no_text(text: &str) -> bool
 /// The text in the place of what is selected.
 #[tactic(auto, unfolding(crate::specs::Inserting::insert_text_step))]
 pub(crate) fn put_text(alloc: Global, draft: &mut Draft, text: &str) -> Result<(), Fault>
-    ensures ok { OnOk result (insert_text_step (chars text.now) draft.old ≡ Ok draft.new) }
-    ensures err { IfErr result (λ e. TellsStep e (insert_text_step (chars text.now) draft.old)) }
-    ensures standing { IfErr result (λ e. StillStands e draft.new) }
+    ensures { Does (insert_text_step (chars text.now) draft.old) draft.new result }
 {
     remove_selected(alloc, draft)?;
     if has_no_text(text) {
@@ -173,9 +165,7 @@ fn break_at(alloc: Global, draft: &mut Draft, point: &Point) -> Result<(), Fault
 /// A line break in the place of what is selected.
 #[tactic(auto, unfolding(crate::specs::Inserting::insert_line_break_step))]
 pub(crate) fn put_line_break(alloc: Global, draft: &mut Draft) -> Result<(), Fault>
-    ensures ok { OnOk result (insert_line_break_step draft.old ≡ Ok draft.new) }
-    ensures err { IfErr result (λ e. TellsStep e (insert_line_break_step draft.old)) }
-    ensures standing { IfErr result (λ e. StillStands e draft.new) }
+    ensures { Does (insert_line_break_step draft.old) draft.new result }
 {
     remove_selected(alloc, draft)?;
     let range = anchored(draft)?;
@@ -199,9 +189,7 @@ fn tab_fields(alloc: Global, format: u16) -> Result<Fields, NoMemory>
 /// Puts a tab at a point, and the caret after its character.
 #[tactic(auto, unfolding(crate::specs::Inserting::tabbed), using(crate::proofs::Made::tab_suits, crate::proofs::Made::newest_is))]
 fn tab_at(alloc: Global, draft: &mut Draft, point: &Point, format: u16) -> Result<(), Fault>
-    ensures ok { OnOk result (inserting.tabbed point.now format draft.old ≡ Ok draft.new) }
-    ensures err { IfErr result (λ e. TellsStep e (inserting.tabbed point.now format draft.old)) }
-    ensures standing { IfErr result (λ e. StillStands e draft.new) }
+    ensures { Does (inserting.tabbed point.now format draft.old) draft.new result }
 {
     let fields = tab_fields(alloc, format)?;
     let key = add(alloc, draft, point, Kind::Tab, fields)?;
@@ -212,9 +200,7 @@ fn tab_at(alloc: Global, draft: &mut Draft, point: &Point, format: u16) -> Resul
 /// A tab in the place of what is selected.
 #[tactic(auto, unfolding(crate::specs::Inserting::insert_tab_step))]
 pub(crate) fn put_tab(alloc: Global, draft: &mut Draft) -> Result<(), Fault>
-    ensures ok { OnOk result (insert_tab_step draft.old ≡ Ok draft.new) }
-    ensures err { IfErr result (λ e. TellsStep e (insert_tab_step draft.old)) }
-    ensures standing { IfErr result (λ e. StillStands e draft.new) }
+    ensures { Does (insert_tab_step draft.old) draft.new result }
 {
     remove_selected(alloc, draft)?;
     let range = anchored(draft)?;

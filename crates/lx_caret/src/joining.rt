@@ -1,11 +1,11 @@
 //! Joining a block with the line before or after it.
 
-ghost use Rattle.std.specs.Prelude.{◌≡◌, ◌+◌, ◌<◌, ◌≤◌, ◌^◌, ◌==◌, ◌&&◌, not, if◌then◌else◌, true, length, Ok, OnOk, IfErr, IfSome};
+ghost use Rattle.std.specs.Prelude.{◌≡◌, ◌+◌, ◌<◌, ◌≤◌, ◌^◌, ◌==◌, ◌&&◌, not, if◌then◌else◌, true, length, IfSome};
 ghost use Rattle.lx_node.specs.Kinds as kinds;
 ghost use Rattle.lx_forest.specs.Lookups as lookups;
-ghost use Rattle.lx_draft.specs.Faults.{TellsStep, after};
+ghost use Rattle.lx_draft.specs.Faults.{after};
 ghost use Rattle.lx_draft.specs.Steps.{take_step, put_step};
-ghost use Rattle.lx_edit.specs.Standing.{StillStands};
+ghost use Rattle.lx_edit.specs.Standing.{Does};
 ghost use Rattle.lx_blocks.specs.Blocks as blocks;
 ghost use Rattle.lx_blocks.specs.Walks.{left_from, IsAt};
 ghost use Rattle.lx_caret.specs.Deleting as deleting;
@@ -25,9 +25,7 @@ use std::alloc::Global;
 #[tactic(auto, unfolding(crate::specs::Deleting::join_step))]
 pub(crate) fn join(alloc: Global, draft: &mut Draft, back: bool, block: Key) -> Result<(), Fault>
     requires { lookups.is_attached draft.old.forest block ≡ true }
-    ensures ok { OnOk result (deleting.join_step back block draft.old ≡ Ok draft.new) }
-    ensures err { IfErr result (λ e. TellsStep e (deleting.join_step back block draft.old)) }
-    ensures standing { IfErr result (λ e. StillStands e draft.new) }
+    ensures { Does (deleting.join_step back block draft.old) draft.new result }
 {
     if back {
         join_back(alloc, draft, block)
@@ -40,9 +38,7 @@ pub(crate) fn join(alloc: Global, draft: &mut Draft, back: bool, block: Key) -> 
 #[tactic(auto, unfolding(crate::specs::Deleting::join_back_step))]
 fn join_back(alloc: Global, draft: &mut Draft, block: Key) -> Result<(), Fault>
     requires { lookups.is_attached draft.old.forest block ≡ true }
-    ensures ok { OnOk result (deleting.join_back_step block draft.old ≡ Ok draft.new) }
-    ensures err { IfErr result (λ e. TellsStep e (deleting.join_back_step block draft.old)) }
-    ensures standing { IfErr result (λ e. StillStands e draft.new) }
+    ensures { Does (deleting.join_back_step block draft.old) draft.new result }
 {
     match stop_before(draft.links(), block) {
         Some(found) => join_with(alloc, draft, found, block),
@@ -52,9 +48,7 @@ fn join_back(alloc: Global, draft: &mut Draft, block: Key) -> Result<(), Fault>
 
 /// Joins the block to the line that was found, or removes the rule.
 fn join_with(alloc: Global, draft: &mut Draft, found: Key, block: Key) -> Result<(), Fault>
-    ensures ok { OnOk result (deleting.joined_with (lookups.kind_of draft.old.forest found) found block draft.old ≡ Ok draft.new) }
-    ensures err { IfErr result (λ e. TellsStep e (deleting.joined_with (lookups.kind_of draft.old.forest found) found block draft.old)) }
-    ensures standing { IfErr result (λ e. StillStands e draft.new) }
+    ensures { Does (deleting.joined_with (lookups.kind_of draft.old.forest found) found block draft.old) draft.new result }
 {
     match draft.links().kind(found) {
         Some(Kind::Table) => Ok(()),
@@ -66,9 +60,7 @@ fn join_with(alloc: Global, draft: &mut Draft, found: Key, block: Key) -> Result
 /// Joins the line after a block back, or removes the rule after it.
 fn join_on(alloc: Global, draft: &mut Draft, block: Key) -> Result<(), Fault>
     requires { lookups.is_attached draft.old.forest block ≡ true }
-    ensures ok { OnOk result (deleting.on_to (deleting.stop_behind draft.old.forest block) draft.old ≡ Ok draft.new) }
-    ensures err { IfErr result (λ e. TellsStep e (deleting.on_to (deleting.stop_behind draft.old.forest block) draft.old)) }
-    ensures standing { IfErr result (λ e. StillStands e draft.new) }
+    ensures { Does (deleting.on_to (deleting.stop_behind draft.old.forest block) draft.old) draft.new result }
 {
     match stop_behind(draft.links(), block) {
         Some(next) => meet(alloc, draft, next),
@@ -79,9 +71,7 @@ fn join_on(alloc: Global, draft: &mut Draft, block: Key) -> Result<(), Fault>
 /// Joins the next line back, or removes the next rule.
 fn meet(alloc: Global, draft: &mut Draft, next: Key) -> Result<(), Fault>
     requires { lookups.is_attached draft.old.forest next ≡ true }
-    ensures ok { OnOk result (deleting.met (lookups.kind_of draft.old.forest next) next draft.old ≡ Ok draft.new) }
-    ensures err { IfErr result (λ e. TellsStep e (deleting.met (lookups.kind_of draft.old.forest next) next draft.old)) }
-    ensures standing { IfErr result (λ e. StillStands e draft.new) }
+    ensures { Does (deleting.met (lookups.kind_of draft.old.forest next) next draft.old) draft.new result }
 {
     match draft.links().kind(next) {
         Some(Kind::Table) => Ok(()),
@@ -180,9 +170,7 @@ fn inline_place(links: &Links, line: Key, block: Key) -> u32
 /// Moves the block's leading inline children, and the points on it, after the line's inline children before it.
 #[tactic(auto, unfolding(crate::specs::Deleting::line_joined))]
 fn join_line(alloc: Global, draft: &mut Draft, line: Key, block: Key) -> Result<(), Fault>
-    ensures ok { OnOk result (deleting.line_joined line block draft.old ≡ Ok draft.new) }
-    ensures err { IfErr result (λ e. TellsStep e (deleting.line_joined line block draft.old)) }
-    ensures standing { IfErr result (λ e. StillStands e draft.new) }
+    ensures { Does (deleting.line_joined line block draft.old) draft.new result }
 {
     let index = inline_place(draft.links(), line, block);
     let keys = leading(alloc, draft.links(), block)?;
@@ -195,18 +183,14 @@ fn join_line(alloc: Global, draft: &mut Draft, line: Key, block: Key) -> Result<
 }
 
 /// Moves nodes, in order, into an element from an index on.
+#[tactic(auto, unfolding(crate::specs::Deleting::moved_in))]
 fn move_in(draft: &mut Draft, to: Key, index: u32, keys: &[Key]) -> Result<(), Fault>
     requires { index + length keys.now < 2 ^ 32 }
-    ensures ok { OnOk result (deleting.moved_in to index keys.now draft.old ≡ Ok draft.new) }
-    ensures err { IfErr result (λ e. TellsStep e (deleting.moved_in to index keys.now draft.old)) }
-    ensures standing { IfErr result (λ e. StillStands e draft.new) }
+    ensures { Does (deleting.moved_in to index keys.now draft.old) draft.new result }
 {
     let mut at = index;
     for key in keys {
-        match move_to(draft, to, at, *key) {
-            Ok(()) => {}
-            Err(fault) => return Err(fault),
-        }
+        move_to(draft, to, at, *key)?;
         at += 1;
     }
     Ok(())
@@ -214,9 +198,7 @@ fn move_in(draft: &mut Draft, to: Key, index: u32, keys: &[Key]) -> Result<(), F
 
 /// Moves a node to an index of an element.
 fn move_to(draft: &mut Draft, to: Key, index: u32, key: Key) -> Result<(), Fault>
-    ensures ok { OnOk result (after (take_step key draft.old) (put_step key to index) ≡ Ok draft.new) }
-    ensures err { IfErr result (λ e. TellsStep e (after (take_step key draft.old) (put_step key to index))) }
-    ensures standing { IfErr result (λ e. StillStands e draft.new) }
+    ensures { Does (after (take_step key draft.old) (put_step key to index)) draft.new result }
 {
     draft.take(key)?;
     draft.put(key, to, index)

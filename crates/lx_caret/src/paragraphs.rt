@@ -1,9 +1,8 @@
 //! A paragraph inserted at the caret: a block cut in two.
 
-ghost use Rattle.std.specs.Prelude.{◌≡◌, true, Ok, OnOk, IfOk, IfErr};
+ghost use Rattle.std.specs.Prelude.{◌≡◌, true};
 ghost use Rattle.lx_node.specs.Kinds as kinds;
-ghost use Rattle.lx_draft.specs.Faults.{TellsStep};
-ghost use Rattle.lx_edit.specs.Standing.{StillStands};
+ghost use Rattle.lx_edit.specs.Standing.{Does, Gives};
 ghost use Rattle.lx_blocks.specs.Blocks as blocks;
 ghost use Rattle.lx_blocks.specs.Ranges as ranges;
 ghost use Rattle.lx_caret.specs.Paragraphs as paragraphs;
@@ -24,9 +23,7 @@ use std::alloc::Global;
 /// Removes what is selected, and cuts the block at the caret in two.
 #[tactic(auto, unfolding(crate::specs::Paragraphs::insert_paragraph_step))]
 pub(crate) fn break_block(alloc: Global, draft: &mut Draft) -> Result<Option<Key>, Fault>
-    ensures ok { IfOk result (λ item. insert_paragraph_step draft.old ≡ Ok (record { draft = draft.new; item = item })) }
-    ensures err { IfErr result (λ e. TellsStep e (insert_paragraph_step draft.old)) }
-    ensures standing { IfErr result (λ e. StillStands e draft.new) }
+    ensures { Gives (insert_paragraph_step draft.old) (λ item. record { draft = draft.new; item = item }) draft.new result }
 {
     remove_selected(alloc, draft)?;
     let item = empty_item(draft);
@@ -59,9 +56,7 @@ fn empty_item(draft: &Draft) -> Option<Key>
 
 /// Goes by the caret, where a range is selected.
 fn break_at_caret(alloc: Global, draft: &mut Draft, item: &Option<Key>) -> Result<(), Fault>
-    ensures ok { OnOk result (ranges.at_anchor (λ p format. paragraphs.paragraph_at item.now (blocks.block_of draft.old.forest p.key) p) draft.old ≡ Ok draft.new) }
-    ensures err { IfErr result (λ e. TellsStep e (ranges.at_anchor (λ p format. paragraphs.paragraph_at item.now (blocks.block_of draft.old.forest p.key) p) draft.old)) }
-    ensures standing { IfErr result (λ e. StillStands e draft.new) }
+    ensures { Does (ranges.at_anchor (λ p format. paragraphs.paragraph_at item.now (blocks.block_of draft.old.forest p.key) p) draft.old) draft.new result }
 {
     admitted(draft, None)?;
     match shown_range(draft.selection()) {
@@ -78,9 +73,7 @@ fn break_at(
     item: &Option<Key>,
     point: &Point,
 ) -> Result<(), Fault>
-    ensures ok { OnOk result (paragraphs.paragraph_at item.now (blocks.block_of draft.old.forest point.now.key) point.now draft.old ≡ Ok draft.new) }
-    ensures err { IfErr result (λ e. TellsStep e (paragraphs.paragraph_at item.now (blocks.block_of draft.old.forest point.now.key) point.now draft.old)) }
-    ensures standing { IfErr result (λ e. StillStands e draft.new) }
+    ensures { Does (paragraphs.paragraph_at item.now (blocks.block_of draft.old.forest point.now.key) point.now draft.old) draft.new result }
 {
     if item.is_some() {
         return Ok(());
@@ -94,9 +87,7 @@ fn break_at(
 /// Adds an empty paragraph at a point, with the caret in it.
 #[tactic(auto, unfolding(crate::specs::Paragraphs::paragraph_added), using(crate::proofs::Nexts::paragraph_suits, crate::proofs::Nexts::newest_is))]
 fn add_paragraph(alloc: Global, draft: &mut Draft, point: &Point) -> Result<(), Fault>
-    ensures ok { OnOk result (paragraphs.paragraph_added point.now draft.old ≡ Ok draft.new) }
-    ensures err { IfErr result (λ e. TellsStep e (paragraphs.paragraph_added point.now draft.old)) }
-    ensures standing { IfErr result (λ e. StillStands e draft.new) }
+    ensures { Does (paragraphs.paragraph_added point.now draft.old) draft.new result }
 {
     let fields = Fields::plain_element(alloc);
     let key = add(alloc, draft, point, Kind::Paragraph, fields)?;
@@ -108,9 +99,7 @@ fn add_paragraph(alloc: Global, draft: &mut Draft, point: &Point) -> Result<(), 
 #[tactic(auto, unfolding(crate::specs::Paragraphs::block_cut))]
 fn cut_block(alloc: Global, draft: &mut Draft, block: Key, point: &Point) -> Result<(), Fault>
     requires { blocks.is_at kinds.is_text_block draft.old.forest block ≡ true }
-    ensures ok { OnOk result (paragraphs.block_cut block point.now draft.old ≡ Ok draft.new) }
-    ensures err { IfErr result (λ e. TellsStep e (paragraphs.block_cut block point.now draft.old)) }
-    ensures standing { IfErr result (λ e. StillStands e draft.new) }
+    ensures { Does (paragraphs.block_cut block point.now draft.old) draft.new result }
 {
     ready(draft)?;
     cut_text(alloc, draft, point)?;
@@ -121,9 +110,7 @@ fn cut_block(alloc: Global, draft: &mut Draft, block: Key, point: &Point) -> Res
 
 /// Splits a text that holds a point strictly inside.
 pub fn cut_text(alloc: Global, draft: &mut Draft, point: &Point) -> Result<(), Fault>
-    ensures ok { OnOk result (paragraphs.cut_open point.now draft.old ≡ Ok draft.new) }
-    ensures err { IfErr result (λ e. TellsStep e (paragraphs.cut_open point.now draft.old)) }
-    ensures standing { IfErr result (λ e. StillStands e draft.new) }
+    ensures { Does (paragraphs.cut_open point.now draft.old) draft.new result }
 {
     if is_inside(draft, point) {
         split_text(alloc, draft, point.key, &[point.offset])?;
@@ -135,9 +122,7 @@ pub fn cut_text(alloc: Global, draft: &mut Draft, point: &Point) -> Result<(), F
 #[tactic(auto, unfolding(crate::specs::Paragraphs::moved_on))]
 fn move_on(alloc: Global, draft: &mut Draft, block: Key, moved: &[Key]) -> Result<(), Fault>
     requires { blocks.is_at kinds.is_text_block draft.old.forest block ≡ true }
-    ensures ok { OnOk result (paragraphs.moved_on block moved.now draft.old ≡ Ok draft.new) }
-    ensures err { IfErr result (λ e. TellsStep e (paragraphs.moved_on block moved.now draft.old)) }
-    ensures standing { IfErr result (λ e. StillStands e draft.new) }
+    ensures { Does (paragraphs.moved_on block moved.now draft.old) draft.new result }
 {
     let next = make_next(alloc, draft, block, moved)?;
     draft.put_behind(next, block)?;

@@ -1,10 +1,9 @@
 //! Links that are split with the block around them: each that has children on both sides of the caret.
 
-ghost use Rattle.std.specs.Prelude.{◌≡◌, ◌&&◌, ◌∷◌, true, nat_lt, Some, OnOk, IfOk, IfErr};
+ghost use Rattle.std.specs.Prelude.{◌≡◌, ◌&&◌, ◌∷◌, true, nat_lt, Some, IfOk};
 ghost use Rattle.lx_node.specs.Kinds as kinds;
 ghost use Rattle.lx_forest.specs.Lookups as lookups;
-ghost use Rattle.lx_draft.specs.Faults.{TellsStep};
-ghost use Rattle.lx_edit.specs.Standing.{StillStands};
+ghost use Rattle.lx_edit.specs.Standing.{Does, Gives};
 ghost use Rattle.lx_blocks.specs.Blocks as blocks;
 ghost use Rattle.lx_blocks.specs.Places.{until};
 ghost use Rattle.lx_caret.specs.Paragraphs as paragraphs;
@@ -80,9 +79,7 @@ fn has_both_sides(links: &Links, key: Key, index: u32) -> bool
 #[tactic(auto, unfolding(crate::specs::Paragraphs::parted_at))]
 fn part_at(alloc: Global, draft: &mut Draft, key: Key, index: u32) -> Result<(), Fault>
     requires { blocks.is_at kinds.is_link draft.old.forest key ≡ true }
-    ensures ok { OnOk result (paragraphs.parted_at key index draft.old ≡ Ok draft.new) }
-    ensures err { IfErr result (λ e. TellsStep e (paragraphs.parted_at key index draft.old)) }
-    ensures standing { IfErr result (λ e. StillStands e draft.new) }
+    ensures { Does (paragraphs.parted_at key index draft.old) draft.new result }
 {
     let moved = children_from(alloc, draft.links(), key, index)?;
     let new = make_like(alloc, draft, key)?;
@@ -93,9 +90,7 @@ fn part_at(alloc: Global, draft: &mut Draft, key: Key, index: u32) -> Result<(),
 /// Parts a link that has children on both sides of a place. Any other node stays whole.
 #[tactic(auto, unfolding(crate::specs::Paragraphs::link_parted))]
 fn part_link(alloc: Global, draft: &mut Draft, key: Key, index: u32) -> Result<(), Fault>
-    ensures ok { OnOk result (paragraphs.link_parted key index draft.old ≡ Ok draft.new) }
-    ensures err { IfErr result (λ e. TellsStep e (paragraphs.link_parted key index draft.old)) }
-    ensures standing { IfErr result (λ e. StillStands e draft.new) }
+    ensures { Does (paragraphs.link_parted key index draft.old) draft.new result }
 {
     if is_link_at(draft.links(), key) && has_both_sides(draft.links(), key, index) {
         part_at(alloc, draft, key, index)
@@ -106,37 +101,28 @@ fn part_link(alloc: Global, draft: &mut Draft, key: Key, index: u32) -> Result<(
 
 /// Parts a node at a place among its children, and answers that place among its parent's: after what stayed.
 fn part(alloc: Global, draft: &mut Draft, key: Key, index: u32) -> Result<u32, Fault>
-    ensures ok { OnOk result (paragraphs.link_parted key index draft.old ≡ Ok draft.new) }
+    ensures does { Does (paragraphs.link_parted key index draft.old) draft.new result }
     ensures place { IfOk result (λ place. place ≡ paragraphs.place_of (lookups.index_of draft.new.forest key) index) }
-    ensures err { IfErr result (λ e. TellsStep e (paragraphs.link_parted key index draft.old)) }
-    ensures standing { IfErr result (λ e. StillStands e draft.new) }
 {
     part_link(alloc, draft, key, index)?;
     Ok(place_above(draft.links(), key, index))
 }
 
 /// Parts nodes at a place, the innermost first, and answers how many children of what is above them come before it.
-#[tactic(auto, using(crate::proofs::Parted::parts_done))]
+#[tactic(auto, unfolding(crate::specs::Paragraphs::parted_up))]
 fn part_each(alloc: Global, draft: &mut Draft, keys: &[Key], index: u32) -> Result<u32, Fault>
-    ensures ok { IfOk result (λ place. paragraphs.parted_up keys.now index draft.old ≡ Ok (record { draft = draft.new; index = place })) }
-    ensures err { IfErr result (λ e. TellsStep e (paragraphs.parted_up keys.now index draft.old)) }
-    ensures standing { IfErr result (λ e. StillStands e draft.new) }
+    ensures { Gives (paragraphs.parted_up keys.now index draft.old) (λ place. record { draft = draft.new; index = place }) draft.new result }
 {
     let mut place = index;
     for key in keys {
-        match part(alloc, draft, *key, place) {
-            Ok(above) => place = above,
-            Err(fault) => return Err(fault),
-        }
+        place = part(alloc, draft, *key, place)?;
     }
     Ok(place)
 }
 
 /// Parts what holds a point, up to the block, and answers how many of the block's children come before it.
 pub fn part_up(alloc: Global, draft: &mut Draft, block: Key, point: &Point) -> Result<u32, Fault>
-    ensures ok { IfOk result (λ place. paragraphs.parted_up (paragraphs.holders_in draft.old.forest block point.now) (paragraphs.before_point draft.old.forest point.now point.now.kind) draft.old ≡ Ok (record { draft = draft.new; index = place })) }
-    ensures err { IfErr result (λ e. TellsStep e (paragraphs.parted_up (paragraphs.holders_in draft.old.forest block point.now) (paragraphs.before_point draft.old.forest point.now point.now.kind) draft.old)) }
-    ensures standing { IfErr result (λ e. StillStands e draft.new) }
+    ensures { Gives (paragraphs.parted_up (paragraphs.holders_in draft.old.forest block point.now) (paragraphs.before_point draft.old.forest point.now point.now.kind) draft.old) (λ place. record { draft = draft.new; index = place }) draft.new result }
 {
     let keys = holders(alloc, draft.links(), block, point)?;
     let before = before_point(draft.links(), point);

@@ -1,10 +1,9 @@
 //! The covered parts of texts and tabs, and what is covered of each by itself.
 
-ghost use Rattle.std.specs.Prelude.{◌≡◌, ◌<◌, ◌++◌, ◌∷◌, [], ◌&&◌, ℕ, true, nat_lt, if◌then◌else◌, length, slice_get, unwrap_or, map, filter, Some, Ok, OnOk, IfOk, IfErr};
+ghost use Rattle.std.specs.Prelude.{◌≡◌, ◌<◌, ◌++◌, ◌∷◌, [], ◌&&◌, ℕ, true, nat_lt, if◌then◌else◌, length, slice_get, unwrap_or, map, filter, Some, OnOk, IfOk};
 ghost use Rattle.lx_node.specs.Kinds.{has_characters};
 ghost use Rattle.lx_forest.specs.Lookups as lookups;
-ghost use Rattle.lx_draft.specs.Faults.{TellsStep};
-ghost use Rattle.lx_edit.specs.Standing.{StillStands};
+ghost use Rattle.lx_edit.specs.Standing.{Does, Gives};
 ghost use Rattle.lx_edit.specs.Texts.{split_step, keys_from};
 ghost use Rattle.lx_blocks.specs.Blocks as blocks;
 ghost use Rattle.lx_blocks.specs.Ranges as ranges;
@@ -143,10 +142,8 @@ fn is_inner(offset: u32, length: u32) -> bool
 
 /// Splits a text where the piece begins and ends inside it.
 fn split_off(alloc: Global, draft: &mut Draft, piece: &Piece) -> Result<Vec<Key>, Fault>
-    ensures ok { OnOk result (split_step piece.now.key (formatting.edges draft.old.forest piece.now) draft.old ≡ Ok draft.new) }
+    ensures does { Does (split_step piece.now.key (formatting.edges draft.old.forest piece.now) draft.old) draft.new result }
     ensures keys { IfOk result (λ keys. keys.items ≡ keys_from draft.old.next_key (length (formatting.edges draft.old.forest piece.now))) }
-    ensures err { IfErr result (λ e. TellsStep e (split_step piece.now.key (formatting.edges draft.old.forest piece.now) draft.old)) }
-    ensures standing { IfErr result (λ e. StillStands e draft.new) }
 {
     let length = draft.text_length(piece.key);
     let begins = is_inner(piece.from, length);
@@ -181,10 +178,8 @@ fn covered_key(piece: &Piece, new: &[Key]) -> Key
 #[tactic(auto, unfolding(crate::specs::Formatting::isolate_step), using(crate::proofs::Isolating::key_is))]
 fn isolate(alloc: Global, draft: &mut Draft, piece: &Piece) -> Result<Key, Fault>
     requires { 0 < piece.now.from → piece.now.from < ranges.characters_at draft.old.forest piece.now.key }
-    ensures ok { OnOk result (formatting.isolate_step piece.now draft.old ≡ Ok draft.new) }
+    ensures does { Does (formatting.isolate_step piece.now draft.old) draft.new result }
     ensures key { IfOk result (λ key. key ≡ formatting.isolated_key piece.now draft.old) }
-    ensures err { IfErr result (λ e. TellsStep e (formatting.isolate_step piece.now draft.old)) }
-    ensures standing { IfErr result (λ e. StillStands e draft.new) }
 {
     if !is_normal_at(draft, piece.key) {
         return Ok(piece.key);
@@ -202,23 +197,19 @@ fn keep_key(keys: &mut Vec<Key>, key: Key) -> Result<(), NoMemory>
 
 /// Brings each piece into a text by itself, and answers the keys of these texts. Only the first piece may begin
 /// after the start of its text.
-#[tactic(auto, using(crate::proofs::Isolating::way_begins))]
+#[tactic(auto, unfolding(crate::specs::Formatting::isolated), using(crate::proofs::Isolating::one_ahead, crate::proofs::Isolating::none_ahead))]
 pub(crate) fn isolate_each(
     alloc: Global,
     draft: &mut Draft,
     pieces: &[Piece],
 ) -> Result<Vec<Key>, Fault>
     requires { (i : ℕ) (p : Piece) → slice_get pieces.now i ≡ Some p → 0 < p.from → (i ≡ 0) × (p.from < ranges.characters_at draft.old.forest p.key) }
-    ensures ok { IfOk result (λ keys. formatting.isolated pieces.now draft.old ≡ Ok (record { draft = draft.new; texts = keys.items })) }
-    ensures err { IfErr result (λ e. TellsStep e (formatting.isolated pieces.now draft.old)) }
-    ensures standing { IfErr result (λ e. StillStands e draft.new) }
+    ensures { Gives (formatting.isolated pieces.now draft.old) (λ keys. record { draft = draft.new; texts = keys.items }) draft.new result }
 {
     let mut keys = Vec::new(alloc);
     for piece in pieces {
-        match isolate(alloc, draft, piece) {
-            Ok(key) => keep_key(&mut keys, key)?,
-            Err(fault) => return Err(fault),
-        }
+        let key = isolate(alloc, draft, piece)?;
+        keep_key(&mut keys, key)?;
     }
     Ok(keys)
 }

@@ -1,10 +1,9 @@
 //! Removing the text of a range.
 
-ghost use Rattle.std.specs.Prelude.{◌≡◌, true, Ok, OnOk, IfErr};
+ghost use Rattle.std.specs.Prelude.{◌≡◌, true};
 ghost use Rattle.lx_forest.specs.Lookups.{is_attached};
-ghost use Rattle.lx_draft.specs.Faults.{TellsStep};
 ghost use Rattle.lx_edit.specs.InTurn.{in_turn};
-ghost use Rattle.lx_edit.specs.Standing.{StillStands};
+ghost use Rattle.lx_edit.specs.Standing.{Does};
 ghost use Rattle.lx_caret.specs.Removing as removing;
 ghost use Rattle.lx_caret.specs.Removing.{remove_text_step};
 
@@ -20,9 +19,7 @@ use std::alloc::Global;
 /// Cuts a piece out of a normal text. Another text, and a tab, goes whole. Nothing is to be cut between equal offsets.
 #[tactic(auto, unfolding(crate::specs::Removing::cut_step), using(lx_edit::proofs::Tails::no_characters))]
 fn cut(draft: &mut Draft, key: Key, from: u32, to: u32) -> Result<(), Fault>
-    ensures ok { OnOk result (removing.cut_step key from to draft.old ≡ Ok draft.new) }
-    ensures err { IfErr result (λ e. TellsStep e (removing.cut_step key from to draft.old)) }
-    ensures standing { IfErr result (λ e. StillStands e draft.new) }
+    ensures { Does (removing.cut_step key from to draft.old) draft.new result }
 {
     if from == to {
         Ok(())
@@ -46,9 +43,7 @@ pub(crate) fn start_part(draft: &Draft, start: &Point, end: &Point) -> u32
 
 /// Cuts the part of a range in the text of its start.
 fn cut_start(draft: &mut Draft, start: &Point, end: &Point) -> Result<(), Fault>
-    ensures ok { OnOk result (removing.start_cut start.now end.now start.now.kind draft.old ≡ Ok draft.new) }
-    ensures err { IfErr result (λ e. TellsStep e (removing.start_cut start.now end.now start.now.kind draft.old)) }
-    ensures standing { IfErr result (λ e. StillStands e draft.new) }
+    ensures { Does (removing.start_cut start.now end.now start.now.kind draft.old) draft.new result }
 {
     match start.kind {
         PointKind::Text => {
@@ -61,9 +56,7 @@ fn cut_start(draft: &mut Draft, start: &Point, end: &Point) -> Result<(), Fault>
 
 /// Cuts the part of a range in the text of its end, if it is another one.
 fn cut_end(draft: &mut Draft, start: &Point, end: &Point) -> Result<(), Fault>
-    ensures ok { OnOk result (removing.end_cut start.now end.now end.now.kind draft.old ≡ Ok draft.new) }
-    ensures err { IfErr result (λ e. TellsStep e (removing.end_cut start.now end.now end.now.kind draft.old)) }
-    ensures standing { IfErr result (λ e. StillStands e draft.new) }
+    ensures { Does (removing.end_cut start.now end.now end.now.kind draft.old) draft.new result }
 {
     match end.kind {
         PointKind::Text => {
@@ -80,9 +73,7 @@ fn cut_end(draft: &mut Draft, start: &Point, end: &Point) -> Result<(), Fault>
 /// Removes a node if it still has a parent: it may have gone with one that was removed before.
 #[tactic(auto, unfolding(crate::specs::Removing::removed_below))]
 fn remove_below(draft: &mut Draft, key: Key) -> Result<(), Fault>
-    ensures ok { OnOk result (removing.removed_below key draft.old ≡ Ok draft.new) }
-    ensures err { IfErr result (λ e. TellsStep e (removing.removed_below key draft.old)) }
-    ensures standing { IfErr result (λ e. StillStands e draft.new) }
+    ensures { Does (removing.removed_below key draft.old) draft.new result }
 {
     if draft.links().parent(key).is_some() {
         remove(draft, key)
@@ -94,9 +85,7 @@ fn remove_below(draft: &mut Draft, key: Key) -> Result<(), Fault>
 /// Removes a node if it is empty.
 #[tactic(auto, unfolding(crate::specs::Removing::removed_empty))]
 pub fn remove_empty(draft: &mut Draft, key: Key) -> Result<(), Fault>
-    ensures ok { OnOk result (removing.removed_empty key draft.old ≡ Ok draft.new) }
-    ensures err { IfErr result (λ e. TellsStep e (removing.removed_empty key draft.old)) }
-    ensures standing { IfErr result (λ e. StillStands e draft.new) }
+    ensures { Does (removing.removed_empty key draft.old) draft.new result }
 {
     if draft.links().size(key) == 0 {
         remove(draft, key)
@@ -106,17 +95,12 @@ pub fn remove_empty(draft: &mut Draft, key: Key) -> Result<(), Fault>
 }
 
 /// Removes nodes, in order, as far as they still have parents.
-#[tactic(auto, using(lx_edit::proofs::Turns::turns_done))]
+#[tactic(auto, unfolding(lx_edit::specs::InTurn::in_turn))]
 fn remove_each(draft: &mut Draft, keys: &[Key]) -> Result<(), Fault>
-    ensures ok { OnOk result (in_turn removing.removed_below keys.now draft.old ≡ Ok draft.new) }
-    ensures err { IfErr result (λ e. TellsStep e (in_turn removing.removed_below keys.now draft.old)) }
-    ensures standing { IfErr result (λ e. StillStands e draft.new) }
+    ensures { Does (in_turn removing.removed_below keys.now draft.old) draft.new result }
 {
     for key in keys {
-        match remove_below(draft, *key) {
-            Ok(()) => {}
-            Err(fault) => return Err(fault),
-        }
+        remove_below(draft, *key)?;
     }
     Ok(())
 }
@@ -137,9 +121,7 @@ fn merge(
     first: Option<Key>,
     second: Option<Key>,
 ) -> Result<(), Fault>
-    ensures ok { OnOk result (removing.merge_step first second draft.old ≡ Ok draft.new) }
-    ensures err { IfErr result (λ e. TellsStep e (removing.merge_step first second draft.old)) }
-    ensures standing { IfErr result (λ e. StillStands e draft.new) }
+    ensures { Does (removing.merge_step first second draft.old) draft.new result }
 {
     match (first, second) {
         (Some(first), Some(second)) => merge_blocks(alloc, draft, first, second),
@@ -150,9 +132,7 @@ fn merge(
 /// Moves the inline children with which the second block begins to the end of the first, and removes the second if it is
 /// empty then.
 fn merge_blocks(alloc: Global, draft: &mut Draft, first: Key, second: Key) -> Result<(), Fault>
-    ensures ok { OnOk result (removing.merge_blocks first second draft.old ≡ Ok draft.new) }
-    ensures err { IfErr result (λ e. TellsStep e (removing.merge_blocks first second draft.old)) }
-    ensures standing { IfErr result (λ e. StillStands e draft.new) }
+    ensures { Does (removing.merge_blocks first second draft.old) draft.new result }
 {
     if are_apart(draft.links(), first, second) {
         let keys = leading(alloc, draft.links(), second)?;
@@ -168,9 +148,7 @@ fn merge_blocks(alloc: Global, draft: &mut Draft, first: Key, second: Key) -> Re
 fn remove_between(alloc: Global, draft: &mut Draft, start: &Point, end: &Point) -> Result<(), Fault>
     requires start { is_attached draft.old.forest start.now.key ≡ true }
     requires end { is_attached draft.old.forest end.now.key ≡ true }
-    ensures ok { OnOk result (removing.remove_between start.now end.now draft.old ≡ Ok draft.new) }
-    ensures err { IfErr result (λ e. TellsStep e (removing.remove_between start.now end.now draft.old)) }
-    ensures standing { IfErr result (λ e. StillStands e draft.new) }
+    ensures { Does (removing.remove_between start.now end.now draft.old) draft.new result }
 {
     let keys = outermost(alloc, draft.links(), start, end)?;
     let first = block(draft.links(), start.key);
@@ -186,9 +164,7 @@ fn remove_between(alloc: Global, draft: &mut Draft, start: &Point, end: &Point) 
 pub(crate) fn remove_in(alloc: Global, draft: &mut Draft, range: &Ranged) -> Result<(), Fault>
     requires anchor { is_attached draft.old.forest range.now.anchor.key ≡ true }
     requires focus { is_attached draft.old.forest range.now.focus.key ≡ true }
-    ensures ok { OnOk result (removing.removed_in range.now draft.old ≡ Ok draft.new) }
-    ensures err { IfErr result (λ e. TellsStep e (removing.removed_in range.now draft.old)) }
-    ensures standing { IfErr result (λ e. StillStands e draft.new) }
+    ensures { Does (removing.removed_in range.now draft.old) draft.new result }
 {
     if is_collapsed(range) {
         return Ok(());
@@ -200,9 +176,7 @@ pub(crate) fn remove_in(alloc: Global, draft: &mut Draft, range: &Ranged) -> Res
 /// Removes what lies between the two points of the selection.
 #[tactic(auto, unfolding(crate::specs::Removing::remove_text_step))]
 pub(crate) fn remove_selected(alloc: Global, draft: &mut Draft) -> Result<(), Fault>
-    ensures ok { OnOk result (remove_text_step draft.old ≡ Ok draft.new) }
-    ensures err { IfErr result (λ e. TellsStep e (remove_text_step draft.old)) }
-    ensures standing { IfErr result (λ e. StillStands e draft.new) }
+    ensures { Does (remove_text_step draft.old) draft.new result }
 {
     let range = range_of(draft)?;
     remove_in(alloc, draft, &range)

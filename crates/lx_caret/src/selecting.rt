@@ -1,10 +1,9 @@
 //! The whole content selected.
 
-ghost use Rattle.std.specs.Prelude.{◌≡◌, ◌≢◌, Some, Ok, OnOk, IfErr};
+ghost use Rattle.std.specs.Prelude.{◌≡◌, ◌≢◌, Some};
 ghost use Rattle.lx_trees.specs.Trees.{nil};
 ghost use Rattle.lx_forest.specs.Lookups as lookups;
-ghost use Rattle.lx_draft.specs.Faults.{TellsStep};
-ghost use Rattle.lx_edit.specs.Standing.{StillStands};
+ghost use Rattle.lx_edit.specs.Standing.{Does};
 ghost use Rattle.lx_caret.specs.SelectAll as selecting;
 ghost use Rattle.lx_caret.specs.SelectAll.{select_all_step};
 
@@ -55,9 +54,7 @@ fn end_at(draft: &Draft, key: Key) -> Point
 /// Selects the whole content.
 #[tactic(auto, unfolding(crate::specs::SelectAll::select_all_step))]
 pub(crate) fn select_content(draft: &mut Draft) -> Result<(), Fault>
-    ensures ok { OnOk result (select_all_step draft.old ≡ Ok draft.new) }
-    ensures err { IfErr result (λ e. TellsStep e (select_all_step draft.old)) }
-    ensures standing { IfErr result (λ e. StillStands e draft.new) }
+    ensures { Does (select_all_step draft.old) draft.new result }
 {
     admitted(draft, None)?;
     let anchor = start_within(draft, Key::root());

@@ -36,10 +36,7 @@ fn cut_at(alloc: Global, draft: &mut Draft, key: Key, offsets: &[u32]) -> Result
     let mut piece = key;
     let mut start = 0;
     for offset in offsets {
-        match cut_in_two(alloc, draft, piece, offset.saturating_sub(start)) {
-            Ok(new) => piece = new,
-            Err(fault) => return Err(fault),
-        }
+        piece = cut_in_two(alloc, draft, piece, offset.saturating_sub(start))?;
         start = *offset;
         keep_key(&mut keys, piece)?;
     }

@@ -1,10 +1,10 @@
 use Rattle.lx_caret.specs.Deleting.{delete_character_step}
-use Rattle.lx_caret.proofs.Lying.{still_lies}
+use Rattle.lx_caret.proofs.Lying.{does_lie}
 use Rattle.lx_caret.proofs.Deletes.{lies-delete_character}
 use Rattle.lx_caret.proofs.commands.delete_character.Goals as goal
 
 pub returns-clause-lying : goal.returns-clause-lying
 unfolding delete_character_step
 returns-clause-lying c =
-    still_lies c.delete.result
-    (λ e short. lies-delete_character c.args.back c.args.draft.now c.delete.new.draft c.in_ok-ready.ensures.ready c.ready.ensures.held short e) c.delete.ensures.ok
+    does_lie _ _ c.delete.result
+    (λ e short. lies-delete_character c.args.back c.args.draft.now c.delete.new.draft c.in_ok-ready.ensures.ready c.ready.ensures.held short e) c.delete.ensures

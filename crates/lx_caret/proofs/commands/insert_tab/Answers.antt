@@ -1,8 +1,8 @@
-use Rattle.lx_caret.proofs.Lying.{still_lies}
+use Rattle.lx_caret.proofs.Lying.{does_lie}
 use Rattle.lx_caret.proofs.Adds.{lies-insert_tab}
 use Rattle.lx_caret.proofs.commands.insert_tab.Goals as goal
 
 pub returns-clause-lying : goal.returns-clause-lying
 returns-clause-lying c =
-    still_lies c.put_tab.result
-    (λ e short. lies-insert_tab c.args.draft.now c.put_tab.new.draft c.in_ok-ready.ensures.ready c.ready.ensures.held short e) c.put_tab.ensures.ok
+    does_lie _ _ c.put_tab.result
+    (λ e short. lies-insert_tab c.args.draft.now c.put_tab.new.draft c.in_ok-ready.ensures.ready c.ready.ensures.held short e) c.put_tab.ensures

@@ -1,8 +1,8 @@
-use Rattle.lx_caret.proofs.Lying.{still_lies}
+use Rattle.lx_caret.proofs.Lying.{does_lie}
 use Rattle.lx_caret.proofs.Cleared.{lies-remove_text}
 use Rattle.lx_caret.proofs.commands.remove_text.Goals as goal
 
 pub returns-clause-lying : goal.returns-clause-lying
 returns-clause-lying c =
-    still_lies c.remove_selected.result
-    (λ e short. lies-remove_text c.args.draft.now c.remove_selected.new.draft c.in_ok-ready.ensures.ready c.ready.ensures.held short e) c.remove_selected.ensures.ok
+    does_lie _ _ c.remove_selected.result
+    (λ e short. lies-remove_text c.args.draft.now c.remove_selected.new.draft c.in_ok-ready.ensures.ready c.ready.ensures.held short e) c.remove_selected.ensures

@@ -13,4 +13,4 @@ format_pieces-requires c i p here behind =
     c.deref.ensures.value ∙ c.in_ok-pieces.ensures
     ∙ ap (λ x. pieces c.args.draft.now.forest x c.in_order-start.result.1) start
     ∙ ap (λ x. pieces c.args.draft.now.forest (start_of c.args.draft.now.forest c.in_ok-range.range) x) end in
-    edged c.args.draft.now c.in_ok-range.range c.in_ok-range.ensures.ok i p (sym (ap (λ ps. slice_get ps i) are) ∙ here) behind
+    edged c.args.draft.now c.in_ok-range.range c.in_ok-range.ensures.gives i p (sym (ap (λ ps. slice_get ps i) are) ∙ here) behind
