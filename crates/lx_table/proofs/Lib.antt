@@ -1,3 +1,4 @@
+pub mod Alike
 pub mod Apart
 pub mod Counting
 pub mod Covered
@@ -9,8 +10,10 @@ pub mod Heights
 pub mod Indices
 pub mod Kept
 pub mod Near
+pub mod Own
 pub mod Paths
 pub mod Room
+pub mod Spanned
 pub mod Standing
 pub mod Suits
 pub mod Without

@@ -1,6 +1,6 @@
 -- Where the cells of a table are. A spot is a cell with its row and its column, and the numbers of rows and columns that it
 -- covers from there; commands know a table by its spots.
-use Rattle.std.specs.Prelude.{ℕ, ◌+◌, ◌≤◌, ◌==◌, ◌&&◌, Bool, true, false, nat_lt, nat_le, max, List, [], ◌∷◌, find, Option}
+use Rattle.std.specs.Prelude.{ℕ, ◌+◌, ◌-◌, ◌≤◌, ◌==◌, ◌&&◌, Bool, true, false, nat_lt, nat_le, max, List, [], ◌∷◌, find, Option}
 use Rattle.std.specs.List.{list_any}
 use Rattle.lx_table.specs.declared.spots.Spot.{Spot}
 
@@ -40,6 +40,11 @@ spot_at spots row column = find (covers row column) spots
 abbrev pub end_column : List Spot → ℕ
 end_column [] = 0
 end_column (s ∷ spots) = max (s.column + s.width) (end_column spots)
+
+-- where a new row or column comes before a cell or after it, and which one of the cell is beside it then
+abbrev pub beside : Bool → ℕ → ℕ → ℕ × ℕ
+beside false first end = (first, first)
+beside true first end = (end, end - 1)
 
 -- a spot, if it is to be kept
 abbrev pub kept_if : Bool → Spot → List Spot

@@ -237,24 +237,17 @@ fn remove_row(draft: &mut Draft, row: Option<Key>) -> Result<(), Fault>
 
 /// Takes a row out, whose other cells stay: those that come from above or go on below lose it.
 #[tactic(auto, unfolding(crate::specs::Shrinking::row_taken))]
-fn take_row(
-    alloc: Global,
-    draft: &mut Draft,
-    table: Key,
-    spots: &[Spot],
-    row: u32,
-    column: u32,
-) -> Result<(), Fault>
-    requires small { All IsSmall spots.now }
-    requires within { row + 1 < 2 ^ 32 }
-    ensures { Does (spec.row_taken table spots.now row column draft.old) draft.new result }
+fn take_row(alloc: Global, draft: &mut Draft, place: &Place) -> Result<(), Fault>
+    requires { places.IsSmallPlace place.now }
+    ensures { Does (spec.row_taken place.now.table place.now.spots.items place.now.spot.row place.now.spot.column draft.old) draft.new result }
 {
-    let above = crossing(alloc, spots, row)?;
+    let row = place.spot.row;
+    let above = crossing(alloc, &place.spots, row)?;
     lower_each(alloc, draft, &above)?;
-    let next = draft.links().child_at(table, row + 1);
-    move_all_down(alloc, draft, spots, row, next)?;
-    set_caret_without_row(alloc, draft, table, row, column)?;
-    let key = draft.links().child_at(table, row);
+    let next = draft.links().child_at(place.table, row + 1);
+    move_all_down(alloc, draft, &place.spots, row, next)?;
+    set_caret_without_row(alloc, draft, place.table, row, place.spot.column)?;
+    let key = draft.links().child_at(place.table, row);
     remove_row(draft, key)
 }
 
@@ -263,24 +256,21 @@ fn delete_row_of(alloc: Global, draft: &mut Draft, place: &Place) -> Result<(), 
     requires small { places.IsSmallPlace place.now }
     ensures { Does (spec.row_deleted (places.place_seen place.now) draft.old) draft.new result }
 {
-    let spot = &place.spot;
-    if are_in_row_alone(&place.spots, spot.row) {
+    if are_in_row_alone(&place.spots, place.spot.row) {
         replace_table(alloc, draft, place.table)
     } else {
-        take_row(
-            alloc,
-            draft,
-            place.table,
-            &place.spots,
-            spot.row,
-            spot.column,
-        )
+        take_row(alloc, draft, place)
     }
 }
 
-/// Deletes the row of the caret's cell.
+/// Deletes the first row of the caret's cell. A cell that comes from above loses the row. One that goes on below loses it too,
+/// and goes into the next row, before the first own cell there of a greater column. The caret goes to the cell that covers the
+/// place of the caret's cell then, in the last row where none has that index, and else into the first cell. Where each cell of
+/// the table is in this row alone, a new paragraph replaces the table, with the caret in it.
+///
+/// It is refused for the same causes as `insert_row` but `BadPlace`.
 #[tactic(auto, unfolding(crate::specs::Shrinking::delete_row_step))]
-pub(crate) fn delete_row_at(alloc: Global, draft: &mut Draft) -> Result<(), Fault>
+pub fn delete_row(alloc: Global, draft: &mut Draft) -> Result<(), Fault>
     ensures { Does (spec.delete_row_step draft.old) draft.new result }
 {
     let place = place_of(alloc, draft)?;

@@ -181,9 +181,19 @@ fn no_place(links: &Links, focus: Key) -> Option<Cause>
     Some(Cause::WrongKind(links.kind(focus)?))
 }
 
-/// Inserts a table after the node of the focus, or the nearest above it, that is in the root or in a cell.
+/// Inserts a table of so many rows and columns. It comes after the node of the focus or the nearest above that, whichever
+/// is in the root or in a cell. Each of its cells has an empty paragraph. With headers, the cells of the first row have
+/// headers of rows, and those of the first column headers of columns. The caret goes to the start of the first cell.
+///
+/// It is refused
+/// * with `NoSelection` and what the selection is, where that is no range and no cells;
+/// * so too where a point or a key of it doesn't lie in the root's tree, and where one point lies in another cell than the
+///   other;
+/// * with `WrongKind` and the kind of the focus's node, where nothing that holds the focus is in the root or in a cell;
+/// * as the edits are of which it is made, where 100,000 counts were taken, and where what was written would come above
+///   16,777,216 scalar values.
 #[tactic(auto, unfolding(crate::specs::Making::insert_table_step))]
-pub(crate) fn insert_table_at(
+pub fn insert_table(
     alloc: Global,
     draft: &mut Draft,
     rows: u16,

@@ -6,12 +6,14 @@
 //! * `insert_table` goes by the focus of a range, or of cells that are selected.
 //! * `insert_row`, `insert_column`, `delete_row`, `delete_column` and `unmerge` go by the cell of that focus.
 //! * `merge_cells` goes by the cells that are selected.
+//!
+//! Each but `grid` and `insert_table` first gives each cell of the table the rows that it covers, by one set for each cell in
+//! preorder, also where that changes nothing.
 #![tactic(auto)]
 
 mod caret;
 mod cells;
 mod columns;
-mod commands;
 mod deleting;
 mod filling;
 mod grids;
@@ -27,10 +29,14 @@ mod spans;
 mod spots;
 mod unmerging;
 
-pub use commands::{
-    delete_column, delete_row, insert_column, insert_row, insert_table, merge_cells, unmerge,
-};
+pub use columns::insert_column;
+pub use deleting::delete_row;
 pub use filling::grid;
 pub use grids::Grid;
+pub use inserting::insert_table;
 pub use laws::{grids_are_told, heights_keep_grids, tables_are_covered};
+pub use merging::merge_cells;
+pub use narrowing::delete_column;
+pub use rows::insert_row;
 pub use spots::Spot;
+pub use unmerging::unmerge;

@@ -138,21 +138,15 @@ fn remove_each(draft: &mut Draft, cells: &[Key]) -> Result<(), Fault>
 
 /// Takes a column out: its cells lose it, and those that are in no other are removed.
 #[tactic(auto, unfolding(crate::specs::Shrinking::column_taken))]
-fn take_column(
-    alloc: Global,
-    draft: &mut Draft,
-    table: Key,
-    spots: &[Spot],
-    row: u32,
-    column: u32,
-) -> Result<(), Fault>
-    ensures { Does (spec.column_taken table spots.now row column draft.old) draft.new result }
+fn take_column(alloc: Global, draft: &mut Draft, place: &Place) -> Result<(), Fault>
+    ensures { Does (spec.column_taken place.now.table place.now.spots.items place.now.spot.row place.now.spot.column draft.old) draft.new result }
 {
-    let wide = wide_at(alloc, spots, column)?;
+    let spot = &place.spot;
+    let wide = wide_at(alloc, &place.spots, spot.column)?;
     narrow_each(alloc, draft, &wide)?;
-    let gone = narrow_cells(alloc, spots, column)?;
-    let left = spots_without(alloc, draft.links(), &gone, table)?;
-    set_caret_beside(draft, &left, row, column)?;
+    let gone = narrow_cells(alloc, &place.spots, spot.column)?;
+    let left = spots_without(alloc, draft.links(), &gone, place.table)?;
+    set_caret_beside(draft, &left, spot.row, spot.column)?;
     remove_each(draft, &gone)
 }
 
@@ -161,24 +155,20 @@ fn delete_column_of(alloc: Global, draft: &mut Draft, place: &Place) -> Result<(
     requires small { places.IsSmallPlace place.now }
     ensures { Does (spec.column_deleted (places.place_seen place.now) draft.old) draft.new result }
 {
-    let spot = &place.spot;
     if end_column(&place.spots) == 1 {
         replace_table(alloc, draft, place.table)
     } else {
-        take_column(
-            alloc,
-            draft,
-            place.table,
-            &place.spots,
-            spot.row,
-            spot.column,
-        )
+        take_column(alloc, draft, place)
     }
 }
 
-/// Deletes the column of the caret's cell.
+/// Deletes the first column of the caret's cell. A cell that is in other columns too loses it, and the others there are
+/// removed. The caret goes to the cell that covers the place of the caret's cell then. Without one it goes to the cell in front of
+/// that place, and else into the first cell. Where the table has one column, a new paragraph replaces it, with the caret in it.
+///
+/// It is refused for the same causes as `insert_row` but `BadPlace`.
 #[tactic(auto, unfolding(crate::specs::Shrinking::delete_column_step))]
-pub(crate) fn delete_column_at(alloc: Global, draft: &mut Draft) -> Result<(), Fault>
+pub fn delete_column(alloc: Global, draft: &mut Draft) -> Result<(), Fault>
     ensures { Does (spec.delete_column_step draft.old) draft.new result }
 {
     let place = place_of(alloc, draft)?;

@@ -16,10 +16,10 @@ use Rattle.lx_table.specs.Spots.{is_among_from}
 use Rattle.lx_table.specs.Spans.{rows_in, columns_in, read_by, row_span, column_span}
 use Rattle.lx_table.specs.Grid.{spots_of}
 use Rattle.lx_table.specs.Growing.{crosses_row, crossing}
-use Rattle.lx_table_laws.proofs.Alike.{IsAlike}
+use Rattle.lx_table.proofs.Alike.{IsAlike}
 use Rattle.lx_table_laws.proofs.Opened.{IsOpened}
-use Rattle.lx_table_laws.proofs.Own.{IsOwn, spots_own, spot_in_row, row_of_spot, above_is, same_row_own, same_height_own, height_at, height_found, among_passing, cells_in, among_spots}
-use Rattle.lx_table_laws.proofs.Spanned.{tell_spans, has_spans, IsSpanned}
+use Rattle.lx_table.proofs.Own.{IsOwn, spots_own, spot_in_row, row_of_spot, above_is, same_row_own, same_height_own, height_at, height_found, among_passing, cells_in, among_spots}
+use Rattle.lx_table.proofs.Spanned.{tell_spans, has_spans, IsSpanned}
 
 -- ---- rows after an inserted one have the next index
 

@@ -37,11 +37,11 @@ use Rattle.lx_table.specs.Shrinking.{first_spot, is_in_row_alone, goes_below, lo
 use Rattle.lx_table_laws.specs.Laws.{new_row}
 use Rattle.lx_table.proofs.Kept.{found_has}
 use Rattle.lx_table_laws.proofs.Paths.{span_path, heights_path}
-use Rattle.lx_table_laws.proofs.Alike.{same_grid}
-use Rattle.lx_table_laws.proofs.Own.{IsOwn, spots_own, spot_in_row, row_of_spot, above_is, height_at, height_found, all_by, cells_in}
-use Rattle.lx_table_laws.proofs.Spanned.{IsSpanned, IsDue, spots_spanned}
+use Rattle.lx_table.proofs.Alike.{same_grid}
+use Rattle.lx_table.proofs.Own.{IsOwn, spots_own, spot_in_row, row_of_spot, above_is, height_at, height_found, all_by, cells_in}
+use Rattle.lx_table.proofs.Spanned.{IsSpanned, IsDue, spots_spanned}
 use Rattle.lx_table_laws.proofs.Opened.{child_below, parent_below, row_opened}
-use Rattle.lx_table_laws.proofs.Heights.{heights_spanned}
+use Rattle.lx_table.proofs.Heights.{heights_spanned}
 use Rattle.lx_table_laws.proofs.Again.{IsShifted, HasRow, IsShrunk, was_there, alike_again, new_row_at}
 
 -- ---- the caret's cell

@@ -29,7 +29,7 @@ use Rattle.lx_table.specs.Spans.{rows_in, read_by, row_span, column_header}
 use Rattle.lx_table.specs.Reading.{header_at}
 use Rattle.lx_table.specs.Making.{cell_fields, cell_made}
 use Rattle.lx_table.specs.Growing.{column_filled}
-use Rattle.lx_table_laws.proofs.Own.{above_is}
+use Rattle.lx_table.proofs.Own.{above_is}
 
 -- ---- keys that were given are below the next
 

@@ -20,7 +20,7 @@ use Rattle.lx_edit.proofs.Climbed.{answered, first_part}
 use Rattle.lx_edit.proofs.Paths.{allowed}
 use Rattle.lx_table.specs.declared.spots.Spot.{Spot}
 use Rattle.lx_table.specs.Spans.{rows_in, columns_in, read_by, row_span, column_span, over_span, spans_in, with_spans, spans_written, span_step}
-use Rattle.lx_table_laws.proofs.Own.{cells_in}
+use Rattle.lx_table.proofs.Own.{cells_in}
 
 -- ---- fields
 
