@@ -22,8 +22,7 @@ use Rattle.lx_forest.specs.Lookups.{key_of, spot, kind_of, holds, IsForest, IsHe
 use Rattle.lx_forest.proofs.Edits.{key-spot}
 use Rattle.lx_fields.specs.Documents.{document_fields}
 use Rattle.lx_fields.specs.Exporting.{node_data}
-use Rattle.lx_fields.specs.Types.{kind_of_type, kind_told, or_kept, told_by}
-use Rattle.lx_fields.specs.Values.{named as word_named}
+use Rattle.lx_fields.specs.Types.{kind_of_type, kind_told}
 use Rattle.lx_fields.specs.Words.{levels, list_types}
 use Rattle.lx_json.specs.Reading.{Piece, and_then, typed, typed_by, placed_kind, kind_by, are_bad, fields_told, fields_or_bad, first_bad, piece_of, with_tree, with_rest, told_under, child_place, tree_of, trees_of}
 use Rattle.lx_json.specs.Exporting.{trees_data}

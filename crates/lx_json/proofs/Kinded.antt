@@ -1,14 +1,13 @@
 -- What a node's type says of its kind.
-use Rattle.std.proofs.Common.{◌≡◌, ◌≢◌, ◌∙◌, ℕ, Bool, true, false, ◌&&◌, is_some, codes, List, [], ◌∷◌, if◌then◌else◌, Option, None, Some, option_map, option_and_then, Result, Ok, Err, refl, ap, sym, IsUtf8, Ordering}
-use Rattle.serde_json.specs.Data.{Data, null, boolean, number, string, array, object}
+use Rattle.std.proofs.Common.{◌≡◌, ◌≢◌, ◌∙◌, ℕ, Bool, true, false, is_some, codes, List, [], ◌∷◌, if◌then◌else◌, Option, None, Some, Result, Ok, Err, refl, ap, sym, IsUtf8, Ordering}
+use Rattle.serde_json.specs.Data.{Data, null, string}
 use Rattle.serde_json.specs.Find.{get, as_null, as_str}
 use Rattle.lx_node.specs.Kinds.{is_possible, may_hold, is_block, is_inline, is_item, is_row, is_cell, is_link, is_paragraph, is_heading, is_list}
 use Rattle.lx_node.specs.declared.kind.Kind.{Kind}
-use Rattle.lx_node.specs.declared.kind.Kind.TheVariants.{Root, Paragraph, Heading, Quote, List as ListKind, Item, Link, Table, Row, Cell, Text, Tab, Break, Rule, Embed}
+use Rattle.lx_node.specs.declared.kind.Kind.TheVariants.{Root, Heading, List as ListKind}
 use Rattle.lx_node.specs.declared.cause.Cause.{Cause}
-use Rattle.lx_fields.specs.Types.{kind_of_type, or_kept, told_by, kind_told}
-use Rattle.lx_fields.specs.Values.{word_in, named}
-use Rattle.lx_fields.specs.Words.{kind_in, made_kinds, levels, list_types}
+use Rattle.lx_fields.specs.Types.{kind_of_type, kind_told}
+use Rattle.lx_fields.specs.Words.{made_kinds, levels, list_types}
 use Rattle.lx_fields.proofs.Sound.{all_rows, rows_tested, kind_tested, told_by_holds}
 use Rattle.lx_json.specs.Pieces.{is_root, IsToldKind}
 use Rattle.std.specs.Str.{chars}
@@ -25,10 +24,7 @@ use Rattle.lx_json.proofs.Ordered.{same_order}
 pub typed_unlike : (o : Option Data) (d : Data) → o ≡ Some d → is_some (as_null d) ≡ false → as_str d ≡ None → typed_by o ≡ unlike
 typed_unlike o null e is none = absurd (cc)
 typed_unlike o (string s) e is none = absurd (cc)
-typed_unlike o (boolean b) e is none = ap typed_by e
-typed_unlike o (number n) e is none = ap typed_by e
-typed_unlike o (array ds) e is none = ap typed_by e
-typed_unlike o (object ms) e is none = ap typed_by e
+typed_unlike o _ e is none = ap typed_by e
 
 pub kind_unlike : (above : Option Kind) (d : Data) → kind_by above unlike d ≡ Err (BadState [])
 kind_unlike None d = refl
