@@ -169,7 +169,8 @@ rows_given n range = record { same = rw range refl }
 
 -- ---- what texts, tabs and embeds include
 
-pub detail_given : {text style : List ℕ} {format old : ℕ} {m : Mode} (n : ℕ) → IsTrue (leb n 3) → Gives kind.Text name.Detail (Some (natural n)) (told text format old m style) (told text format n m style)
+pub detail_given : {text style : List ℕ} {format old : ℕ} {m : Mode} (n : ℕ) → IsTrue (leb n 3)
+    → Gives kind.Text name.Detail (Some (natural n)) (told text format old m style) (told text format n m style)
 unfolding is_text given_by with_given settable has with_member text_with_member
 detail_given n range = record { same = rw (up_to n 3 range) refl }
 
@@ -178,7 +179,8 @@ pub format_given : {kind : Kind} {text style : List ℕ} {old detail : ℕ} {m :
 unfolding given_by with_given settable has with_member text_with_member
 format_given n characters range = record { same = rw (short n range, characters) refl }
 
-pub mode_given : {text style : List ℕ} {format detail : ℕ} {old : Mode} (m : Mode) → Gives kind.Text name.Mode (Some (string (mode_word m))) (told text format detail old style) (told text format detail m style)
+pub mode_given : {text style : List ℕ} {format detail : ℕ} {old : Mode} (m : Mode)
+    → Gives kind.Text name.Mode (Some (string (mode_word m))) (told text format detail old style) (told text format detail m style)
 unfolding same_mode is_text given_by with_given settable has with_member text_with_member
 mode_given mode.Normal = record { same = refl }
 mode_given _ = record { same = refl }
@@ -188,7 +190,8 @@ pub style_given : {kind : Kind} {text old : List ℕ} {format detail : ℕ} {m :
 unfolding given_by with_given settable has with_member text_with_member
 style_given style characters scalar = record { same = rw (scalar, characters) refl }
 
-pub text_given : {old style : List ℕ} {format detail : ℕ} {m : Mode} (text : List ℕ) → IsText text → Gives kind.Text name.Text (Some (text_data text)) (told old format detail m style) (told text format detail m style)
+pub text_given : {old style : List ℕ} {format detail : ℕ} {m : Mode} (text : List ℕ) → IsText text
+    → Gives kind.Text name.Text (Some (text_data text)) (told old format detail m style) (told text format detail m style)
 unfolding is_text given_by with_given settable has with_member text_with_member
 text_given text scalar = record { same = rw scalar refl }
 

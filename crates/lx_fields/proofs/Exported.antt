@@ -26,7 +26,8 @@ use Rattle.lx_fields.proofs.Written.{found, found-onto, found-both, is_whole, ar
 -- ---- what a node includes
 
 -- what a member of a node is
-pub told_of : (name : List ℕ) (kind : Kind) (f : Fields) (below : Items) → get name (node_data kind f below) ≡ found name (node_members kind f below) (found name (kind_members kind) (found name (field_members kind f) None))
+pub told_of : (name : List ℕ) (kind : Kind) (f : Fields) (below : Items)
+    → get name (node_data kind f below) ≡ found name (node_members kind f below) (found name (kind_members kind) (found name (field_members kind f) None))
 unfolding node_data
 told_of name kind f below =
     found-onto name no_members (field_members kind f ++ kind_members kind ++ node_members kind f below)
@@ -86,7 +87,8 @@ pub kind-back : (kind : Kind) (f : Fields) (below : Items) → IsOfKind kind f �
 unfolding kind_told type_name is_of_kind is_possible
 kind-back (kind.Heading level) f below of =
     ap (λ tag. Some (told_by (λ level. kind.Heading level) (kind.Heading 1) levels tag)) (told_of (codes "tag") (kind.Heading level) f below)
-    ∙ ap (λ o. Some (or_kept (kind.Heading 1) (option_map (λ level. kind.Heading level) o))) (level_read level (first_true (leb 1 level && leb level 6) (fits_kind (kind.Heading level) f) of))
+    ∙ ap (λ o. Some (or_kept (kind.Heading 1) (option_map (λ level. kind.Heading level) o)))
+    (level_read level (first_true (leb 1 level && leb level 6) (fits_kind (kind.Heading level) f) of))
 kind-back (kind.List type) f below of =
     ap (λ word. Some (told_by (λ type. kind.List type) (kind.List list_type.Bullet) list_types word)) (told_of (codes "listType") (kind.List type) f below)
     ∙ ap (λ o. Some (or_kept (kind.List list_type.Bullet) (option_map (λ type. kind.List type) o))) (list_type_read type)

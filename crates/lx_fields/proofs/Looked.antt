@@ -15,7 +15,8 @@ use Rattle.serde_json.specs.Find.{get, get_member, as_array}
 
 -- ---- depths
 
-depth_by : (o : Ordering) (k : List ℕ) (d e : Data) (ms : Members) → (get_member k ms ≡ Some e → depth e ≤ members_depth ms) → match_ordering o (get_member k ms) (Some d) (get_member k ms) ≡ Some e
+depth_by : (o : Ordering) (k : List ℕ) (d e : Data) (ms : Members) → (get_member k ms ≡ Some e → depth e ≤ members_depth ms)
+    → match_ordering o (get_member k ms) (Some d) (get_member k ms) ≡ Some e
     → depth e ≤ max (depth d) (members_depth ms)
 depth_by Less k d e ms deeper is = omega (arith, deeper is)
 depth_by Equal k d e ms deeper is = let same : d ≡ e = cc in omega (arith, ap depth same)
@@ -67,6 +68,9 @@ module _ {A : Type 0} (k : List ℕ) (f : Option Data → A) where
   looked_by Greater d ms rest same false e = same
 
   -- what stops at the first member of a name looks that member up
-  pub looked_up : (walk : Members → A) → walk no_members ≡ f None → ((name : List ℕ) (d : Data) (ms : Members) → walk (member name d ms) ≡ (if bytes_eq k name then f (Some d) else walk ms)) → (ms : Members) → walk ms ≡ f (get_member k ms)
+  pub looked_up : (walk : Members → A) → walk no_members ≡ f None
+      → ((name : List ℕ) (d : Data) (ms : Members) → walk (member name d ms) ≡ (if bytes_eq k name then f (Some d) else walk ms)) → (ms : Members)
+      → walk ms ≡ f (get_member k ms)
   looked_up walk none step no_members = none
-  looked_up walk none step (member name d ms) = step name d ms ∙ looked_by (slice_cmp nat_cmp k name) d ms (walk ms) (looked_up walk none step ms) (bytes_eq k name) (is_eq-slice_cmp k name)
+  looked_up walk none step (member name d ms) =
+      step name d ms ∙ looked_by (slice_cmp nat_cmp k name) d ms (walk ms) (looked_up walk none step ms) (bytes_eq k name) (is_eq-slice_cmp k name)

@@ -30,7 +30,9 @@ only_member-member rows (f ∷ []) e one first =
     subst P same refl
 only_member-member rows (f ∷ g ∷ es) e one first = absurd (omega arith)
 
-pub only_member-one : {A : Type 0} (rows : List (List ℕ × A)) (d : Data) (es : List Entry) (e : Entry) (text : List ℕ) (word : Option A) → Some (members_view es) ≡ as_object d → length es ≡ 1 → slice_get es 0 ≡ Some e
+pub only_member-one : {A : Type 0} (rows : List (List ℕ × A)) (d : Data) (es : List Entry) (e : Entry) (text : List ℕ) (word : Option A)
+    → Some (members_view es) ≡ as_object d → length es ≡ 1 → slice_get es 0 ≡ Some e
     → word ≡ word_in rows text → text ≡ string_bytes e.0 → option_map (λ word. (word, view e.1)) word ≡ only_member rows d
-only_member-one rows (object ms) es e text word is one first found named = let same : members_view es ≡ ms = cc in rw (← same, found, named) (only_member-member rows es e one first)
+only_member-one rows (object ms) es e text word is one first found named =
+    let same : members_view es ≡ ms = cc in rw (← same, found, named) (only_member-member rows es e one first)
 only_member-one rows _ es e text word is one first found named = absurd (cc)

@@ -70,7 +70,8 @@ pub rows_tested : {A : Type 0} (test : A → Bool) (rows : List (List ℕ × A))
 rows_tested test [] all = tt
 rows_tested test (row ∷ rows) all = (left (test row.1) _ all, rows_tested test rows (right (test row.1) _ all))
 
-first_holds : {A : Type 0} (P : A → Type 0) (test : Bool) (first : A) (rest : Option A) → P first → ((a : A) → rest ≡ Some a → P a) → (a : A) → (if test then Some first else rest) ≡ Some a → P a
+first_holds : {A : Type 0} (P : A → Type 0) (test : Bool) (first : A) (rest : Option A) → P first → ((a : A) → rest ≡ Some a → P a) → (a : A)
+    → (if test then Some first else rest) ≡ Some a → P a
 first_holds P true first rest here later a is = let same : first ≡ a = cc in subst P same here
 first_holds P false first rest here later a is = later a is
 
@@ -83,17 +84,21 @@ pub named_holds : {A : Type 0} (P : A → Type 0) (rows : List (List ℕ × A)) 
 named_holds P rows each d a is = chained P (word_in rows) (as_str d) (λ text at. word_holds P rows each text) a is
 
 -- what a test of each of these kinds says of that of a type
-pub kind_tested : (test : Kind → Bool) (kinds : List Kind) → IsTrue (list_all test kinds) → (text : List ℕ) (of : Kind) → kind_in kinds text ≡ Some of → IsTrue (test of)
+pub kind_tested : (test : Kind → Bool) (kinds : List Kind) → IsTrue (list_all test kinds) → (text : List ℕ) (of : Kind) → kind_in kinds text ≡ Some of
+    → IsTrue (test of)
 kind_tested test [] all text of is = absurd (cc)
 kind_tested test (first ∷ kinds) all text of is =
-    first_holds (λ of. IsTrue (test of)) (bytes_eq (type_name first) text) first (kind_in kinds text) (left (test first) _ all) (kind_tested test kinds (right (test first) _ all) text) of is
+    first_holds (λ of. IsTrue (test of)) (bytes_eq (type_name first) text) first (kind_in kinds text) (left (test first) _ all)
+    (kind_tested test kinds (right (test first) _ all) text) of is
 
-kept_holds : {A : Type 0} (P : Kind → Type 0) (make : A → Kind) (kind : Kind) (o : Option A) → ((a : A) → o ≡ Some a → P (make a)) → P kind → P (or_kept kind (option_map make o))
+kept_holds : {A : Type 0} (P : Kind → Type 0) (make : A → Kind) (kind : Kind) (o : Option A) → ((a : A) → o ≡ Some a → P (make a)) → P kind
+    → P (or_kept kind (option_map make o))
 kept_holds P make kind None told was = was
 kept_holds P make kind (Some a) told was = told a refl
 
 -- what holds of a kind, and of each that a table has in its place, holds of the one that a member tells
-pub told_by_holds : {A : Type 0} (P : Kind → Type 0) (make : A → Kind) (kind : Kind) (rows : List (List ℕ × A)) (o : Option Data) → EachRow (λ a. P (make a)) rows → P kind → P (told_by make kind rows o)
+pub told_by_holds : {A : Type 0} (P : Kind → Type 0) (make : A → Kind) (kind : Kind) (rows : List (List ℕ × A)) (o : Option Data)
+    → EachRow (λ a. P (make a)) rows → P kind → P (told_by make kind rows o)
 told_by_holds P make kind rows None each was = was
 told_by_holds P make kind rows (Some d) each was = kept_holds P make kind (named rows d) (named_holds (λ a. P (make a)) rows each d) was
 
@@ -185,7 +190,8 @@ after : (kind : Kind) (text : List ℕ) (go_on : Fields → Result Fields (List 
 after kind text go_on new keeps None of is = absurd (cc)
 after kind text go_on new keeps (Some mid) of is = keeps mid is (of mid refl)
 
-pub fields_keep : (kind : Kind) (rows : List (List ℕ × Name)) (find : List ℕ → Option Data) (old new : Fields) → fields_with kind rows find old ≡ Ok new → IsOfKind kind old → IsOfKind kind new
+pub fields_keep : (kind : Kind) (rows : List (List ℕ × Name)) (find : List ℕ → Option Data) (old new : Fields) → fields_with kind rows find old ≡ Ok new
+    → IsOfKind kind old → IsOfKind kind new
 fields_keep kind [] find old new is of = let same : old ≡ new = cc in subst (IsOfKind kind) same of
 fields_keep kind (row ∷ rows) find old new is of =
     let go_on = fields_with kind rows find in

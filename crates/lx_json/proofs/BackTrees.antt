@@ -53,7 +53,8 @@ may_hold-told parent (Heading level) d =
     told_by_holds P (λ level. Heading level) (Heading level) levels (get (codes "tag") d) (all_rows (λ to. P (Heading to)) (heading_held parent level) levels) refl
 may_hold-told parent (ListKind type) d =
     let P : Kind → Type 0 = λ kind. may_hold parent kind ≡ may_hold parent (ListKind type) in
-    told_by_holds P (λ type. ListKind type) (ListKind type) list_types (get (codes "listType") d) (all_rows (λ to. P (ListKind to)) (list_held parent type) list_types) refl
+    told_by_holds P (λ type. ListKind type) (ListKind type) list_types (get (codes "listType") d)
+    (all_rows (λ to. P (ListKind to)) (list_held parent type) list_types) refl
 may_hold-told parent _ d = refl
 
 placed : (parent kind : Kind) (o : Option Kind) (text : List ℕ) (d : Data) → option_map (λ base. kind_told base d) o ≡ Some kind → may_hold parent kind ≡ true → placed_kind (Some parent) o text d ≡ Ok kind

@@ -62,17 +62,21 @@ type_possible text kind is = kind_tested is_possible (Root ∷ made_kinds) refl 
 kind_told-possible : (kind : Kind) (d : Data) → is_possible kind ≡ true → is_possible (kind_told kind d) ≡ true
 unfolding kind_told is_possible
 kind_told-possible (Heading level) d was =
-    told_by_holds (λ kind. is_possible kind ≡ true) (λ level. Heading level) (Heading level) levels (get (codes "tag") d) (rows_tested (λ level. is_possible (Heading level)) levels refl) was
+    told_by_holds (λ kind. is_possible kind ≡ true) (λ level. Heading level) (Heading level) levels (get (codes "tag") d)
+    (rows_tested (λ level. is_possible (Heading level)) levels refl) was
 kind_told-possible (ListKind type) d was =
-    told_by_holds (λ kind. is_possible kind ≡ true) (λ type. ListKind type) (ListKind type) list_types (get (codes "listType") d) (rows_tested (λ type. is_possible (ListKind type)) list_types refl) was
+    told_by_holds (λ kind. is_possible kind ≡ true) (λ type. ListKind type) (ListKind type) list_types (get (codes "listType") d)
+    (rows_tested (λ type. is_possible (ListKind type)) list_types refl) was
 kind_told-possible _ d was = was
 
 kind_told-below : (kind : Kind) (d : Data) → is_root kind ≡ false → is_root (kind_told kind d) ≡ false
 unfolding kind_told
 kind_told-below (Heading level) d was =
-    told_by_holds (λ kind. is_root kind ≡ false) (λ level. Heading level) (Heading level) levels (get (codes "tag") d) (all_rows (λ level. is_root (Heading level) ≡ false) (λ level. refl) levels) was
+    told_by_holds (λ kind. is_root kind ≡ false) (λ level. Heading level) (Heading level) levels (get (codes "tag") d)
+    (all_rows (λ level. is_root (Heading level) ≡ false) (λ level. refl) levels) was
 kind_told-below (ListKind type) d was =
-    told_by_holds (λ kind. is_root kind ≡ false) (λ type. ListKind type) (ListKind type) list_types (get (codes "listType") d) (all_rows (λ type. is_root (ListKind type) ≡ false) (λ type. refl) list_types) was
+    told_by_holds (λ kind. is_root kind ≡ false) (λ type. ListKind type) (ListKind type) list_types (get (codes "listType") d)
+    (all_rows (λ type. is_root (ListKind type) ≡ false) (λ type. refl) list_types) was
 kind_told-below _ d was = was
 
 holds_no_root : (parent : Kind) → may_hold parent Root ≡ false

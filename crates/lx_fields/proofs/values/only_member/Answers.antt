@@ -12,10 +12,12 @@ pub returns-in-Some : goal.returns-in-Some
 returns-in-Some g c =
     let entries = c.in_ok-members.members.now.entries in
     let len : c.len-is_only.result ≡ length entries = c.len-is_only.ensures.len in
-    only_member-one _ _ entries (c.in_ok-name.name.now, c.in_ok-name.member.now) _ _ c.in_ok-members.ensures (omega arith) c.in_ok-name.ensures.first c.in-Some.ensures c.as_str.ensures.value
+    only_member-one _ _ entries (c.in_ok-name.name.now, c.in_ok-name.member.now) _ _ c.in_ok-members.ensures
+    (omega arith) c.in_ok-name.ensures.first c.in-Some.ensures c.as_str.ensures.value
 
 pub returns-in-None : goal.returns-in-None
 returns-in-None g c =
     let entries = c.in_ok-members.members.now.entries in
     let len : c.len-is_only.result ≡ length entries = c.len-is_only.ensures.len in
-    only_member-one _ _ entries (c.in_ok-name.name.now, c.in_ok-name.member.now) _ _ c.in_ok-members.ensures (omega arith) c.in_ok-name.ensures.first c.in-None.ensures c.as_str.ensures.value
+    only_member-one _ _ entries (c.in_ok-name.name.now, c.in_ok-name.member.now) _ _ c.in_ok-members.ensures
+    (omega arith) c.in_ok-name.ensures.first c.in-None.ensures c.as_str.ensures.value
