@@ -1,7 +1,6 @@
 -- Reading what is written for a node, member by member.
-use Rattle.std.proofs.Common.{◌≡◌, refl, sym, ap, ℕ, zero, suc, List, [], ◌∷◌, Bool, true, false, ◌==◌, ◌&&◌, leb, IsTrue, Option, None, Some, option_map, arith, le-leb, eqb-true}
+use Rattle.std.proofs.Common.{◌≡◌, refl, sym, ap, ℕ, List, [], ◌∷◌, Bool, true, false, ◌==◌, ◌&&◌, leb, IsTrue, Option, None, Some, option_map, arith, le-leb, eqb-true}
 use Rattle.std.specs.Option.{option_or}
-use Rattle.std.proofs.lemmas.Bool.{leb-true}
 use Rattle.serde_json.specs.Data.{Data, boolean, string}
 use Rattle.lx_node.specs.Kinds.{is_element, is_list, is_item, is_link, is_cell, is_text, has_characters, is_embed}
 use Rattle.lx_node.specs.OfKind.{is_span}
@@ -9,7 +8,6 @@ use Rattle.lx_node.specs.Same.{same_mode, same_align}
 use Rattle.lx_node.specs.declared.kind.Kind.{Kind}
 use Rattle.lx_node.specs.declared.kind.Kind.TheVariants as kind
 use Rattle.lx_node.specs.declared.kind.ListType.{ListType}
-use Rattle.lx_node.specs.declared.kind.ListType.TheVariants as list_type
 use Rattle.lx_node.specs.declared.fields.Mode.{Mode}
 use Rattle.lx_node.specs.declared.fields.Mode.TheVariants as mode
 use Rattle.lx_node.specs.declared.fields.Direction.{Direction}
@@ -28,7 +26,8 @@ use Rattle.lx_fields.specs.Exporting.{kept, is_empty, direction_data, align_word
 use Rattle.lx_fields.specs.Members.{settable}
 use Rattle.lx_fields.specs.Parts.{natural, text_data, or_null}
 use Rattle.lx_fields.specs.Storable.{IsText, IsTextIfAny, IsShort}
-use Rattle.lx_fields.proofs.Written.{both_true, second_true}
+use Rattle.lx_fields.proofs.Exported.{level_read, list_type_read}
+use Rattle.lx_fields.proofs.Written.{both_true}
 
 -- a member of the kind, where this is found of it, makes the one fields the other
 pub record Gives (kind : Kind) (known : Name) (o : Option Data) (old new : Fields) : Type 0 where
@@ -63,12 +62,7 @@ pub align_given : {kind : Kind} {d : Direction} {old : Align} {i t : ℕ} {s : L
     → Gives kind name.Format (Some (string (align_word a))) (made d old i t s x) (made d a i t s x)
 unfolding same_align given_by with_given settable has with_member element_with_member
 align_given align.Unset element = record { same = rw element refl }
-align_given align.Left element = record { same = rw element refl }
-align_given align.Center element = record { same = rw element refl }
-align_given align.Right element = record { same = rw element refl }
-align_given align.Justify element = record { same = rw element refl }
-align_given align.Start element = record { same = rw element refl }
-align_given align.End element = record { same = rw element refl }
+align_given _ element = record { same = rw element refl }
 
 pub indent_given : {kind : Kind} {d : Direction} {a : Align} {old t : ℕ} {s : List ℕ} {x : Extra} (i : ℕ) → is_element kind ≡ true → IsShort i
     → Gives kind name.Indent (Some (natural i)) (made d a old t s x) (made d a i t s x)
@@ -103,22 +97,11 @@ text_style_given {d = d} {a = a} {i = i} {t = t} {x = x} s element scalar =
 
 pub tag_given : {old : Fields} (level : ℕ) → IsTrue (leb 1 level && leb level 6) → Gives (kind.Heading level) name.Tag (Some (string (level_word level))) old old
 unfolding given_by with_given
-tag_given zero is = absurd (cc)
-tag_given (suc zero) is = record { same = refl }
-tag_given (suc (suc zero)) is = record { same = refl }
-tag_given (suc (suc (suc zero))) is = record { same = refl }
-tag_given (suc (suc (suc (suc zero)))) is = record { same = refl }
-tag_given (suc (suc (suc (suc (suc zero))))) is = record { same = refl }
-tag_given (suc (suc (suc (suc (suc (suc zero)))))) is = record { same = refl }
-tag_given (suc (suc (suc (suc (suc (suc (suc level))))))) is =
-    let n : ℕ = suc (suc (suc (suc (suc (suc (suc level)))))) in
-    absurd (omega (arith, leb-true n 6 (second_true (leb 1 n) (leb n 6) is)))
+tag_given {old = old} level is = record { same = ap (option_map (λ level. old)) (level_read level is) }
 
 pub list_type_given : {old : Fields} (type : ListType) → Gives (kind.List type) name.ListType (Some (string (list_word type))) old old
 unfolding given_by with_given
-list_type_given list_type.Bullet = record { same = refl }
-list_type_given list_type.Number = record { same = refl }
-list_type_given list_type.Check = record { same = refl }
+list_type_given {old = old} type = record { same = ap (option_map (λ type. old)) (list_type_read type) }
 
 pub start_given : {type : ListType} {d : Direction} {a : Align} {i t : ℕ} {s : List ℕ} {old : ℕ} (n : ℕ) → IsTrue (leb n 1000000)
     → Gives (kind.List type) name.Start (Some (natural n)) (made d a i t s (extra.List old)) (made d a i t s (extra.List n))
@@ -186,7 +169,8 @@ rows_given n range = record { same = rw range refl }
 
 -- ---- what texts, tabs and embeds include
 
-pub detail_given : {text style : List ℕ} {format old : ℕ} {m : Mode} (n : ℕ) → IsTrue (leb n 3) → Gives kind.Text name.Detail (Some (natural n)) (told text format old m style) (told text format n m style)
+pub detail_given : {text style : List ℕ} {format old : ℕ} {m : Mode} (n : ℕ) → IsTrue (leb n 3)
+    → Gives kind.Text name.Detail (Some (natural n)) (told text format old m style) (told text format n m style)
 unfolding is_text given_by with_given settable has with_member text_with_member
 detail_given n range = record { same = rw (up_to n 3 range) refl }
 
@@ -195,18 +179,19 @@ pub format_given : {kind : Kind} {text style : List ℕ} {old detail : ℕ} {m :
 unfolding given_by with_given settable has with_member text_with_member
 format_given n characters range = record { same = rw (short n range, characters) refl }
 
-pub mode_given : {text style : List ℕ} {format detail : ℕ} {old : Mode} (m : Mode) → Gives kind.Text name.Mode (Some (string (mode_word m))) (told text format detail old style) (told text format detail m style)
+pub mode_given : {text style : List ℕ} {format detail : ℕ} {old : Mode} (m : Mode)
+    → Gives kind.Text name.Mode (Some (string (mode_word m))) (told text format detail old style) (told text format detail m style)
 unfolding same_mode is_text given_by with_given settable has with_member text_with_member
 mode_given mode.Normal = record { same = refl }
-mode_given mode.Token = record { same = refl }
-mode_given mode.Segmented = record { same = refl }
+mode_given _ = record { same = refl }
 
 pub style_given : {kind : Kind} {text old : List ℕ} {format detail : ℕ} {m : Mode} (style : List ℕ) → has_characters kind ≡ true → IsText style
     → Gives kind name.Style (Some (text_data style)) (told text format detail m old) (told text format detail m style)
 unfolding given_by with_given settable has with_member text_with_member
 style_given style characters scalar = record { same = rw (scalar, characters) refl }
 
-pub text_given : {old style : List ℕ} {format detail : ℕ} {m : Mode} (text : List ℕ) → IsText text → Gives kind.Text name.Text (Some (text_data text)) (told old format detail m style) (told text format detail m style)
+pub text_given : {old style : List ℕ} {format detail : ℕ} {m : Mode} (text : List ℕ) → IsText text
+    → Gives kind.Text name.Text (Some (text_data text)) (told old format detail m style) (told text format detail m style)
 unfolding is_text given_by with_given settable has with_member text_with_member
 text_given text scalar = record { same = rw scalar refl }
 

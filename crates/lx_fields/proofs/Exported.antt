@@ -18,14 +18,16 @@ use Rattle.lx_node.specs.declared.fields.Fields.{Fields}
 use Rattle.lx_node.specs.declared.fields.Fields.TheVariants as fields
 use Rattle.lx_fields.specs.Exporting.{node_data, field_members, kind_members, node_members, extra_members, kept, is_empty, direction_data, level_word, list_word}
 use Rattle.lx_fields.specs.Parts.{natural, text_data, or_null}
-use Rattle.lx_fields.specs.Types.{kind_of_type, kind_told, told_by}
+use Rattle.lx_fields.specs.Types.{kind_of_type, kind_told, or_kept, told_by}
+use Rattle.lx_fields.specs.Values.{named}
 use Rattle.lx_fields.specs.Words.{levels, list_types}
 use Rattle.lx_fields.proofs.Written.{found, found-onto, found-both, is_whole, are_whole, are_whole-both, members_have_float-onto, has_float-or_null, first_true, second_true}
 
 -- ---- what a node includes
 
 -- what a member of a node is
-pub told_of : (name : List ℕ) (kind : Kind) (f : Fields) (below : Items) → get name (node_data kind f below) ≡ found name (node_members kind f below) (found name (kind_members kind) (found name (field_members kind f) None))
+pub told_of : (name : List ℕ) (kind : Kind) (f : Fields) (below : Items)
+    → get name (node_data kind f below) ≡ found name (node_members kind f below) (found name (kind_members kind) (found name (field_members kind f) None))
 unfolding node_data
 told_of name kind f below =
     found-onto name no_members (field_members kind f ++ kind_members kind ++ node_members kind f below)
@@ -54,9 +56,7 @@ by_kind _ f element fits = fits
 children_by : (kind : Kind) (f : Fields) (below : Items) → IsTrue (is_element_of kind f) → get (codes "children") (node_data kind f below) ≡ Some (array below)
 unfolding is_element_of
 children_by kind (fields.Element e) below of = told_of (codes "children") kind (fields.Element e) below
-children_by kind (fields.Text t) below of = absurd (cc)
-children_by kind (fields.Embed source) below of = absurd (cc)
-children_by kind fields.Bare below of = absurd (cc)
+children_by kind _ below of = absurd (cc)
 
 -- an element includes its children
 pub children-there : (kind : Kind) (f : Fields) (below : Items) → is_element kind ≡ true → IsOfKind kind f → get (codes "children") (node_data kind f below) ≡ Some (array below)
@@ -65,32 +65,33 @@ children-there kind f below element of = children_by kind f below (by_kind kind 
 
 -- ---- the kind
 
-level_told : (level : ℕ) → IsTrue (leb 1 level && leb level 6) → told_by (λ level. kind.Heading level) (kind.Heading 1) levels (Some (string (level_word level))) ≡ kind.Heading level
-level_told zero is = absurd (cc)
-level_told (suc zero) is = refl
-level_told (suc (suc zero)) is = refl
-level_told (suc (suc (suc zero))) is = refl
-level_told (suc (suc (suc (suc zero)))) is = refl
-level_told (suc (suc (suc (suc (suc zero))))) is = refl
-level_told (suc (suc (suc (suc (suc (suc zero)))))) is = refl
-level_told (suc (suc (suc (suc (suc (suc (suc level))))))) is =
+-- a level's word, and a list type's, is read as the same
+pub level_read : (level : ℕ) → IsTrue (leb 1 level && leb level 6) → named levels (string (level_word level)) ≡ Some level
+level_read zero is = absurd (cc)
+level_read (suc zero) is = refl
+level_read (suc (suc zero)) is = refl
+level_read (suc (suc (suc zero))) is = refl
+level_read (suc (suc (suc (suc zero)))) is = refl
+level_read (suc (suc (suc (suc (suc zero))))) is = refl
+level_read (suc (suc (suc (suc (suc (suc zero)))))) is = refl
+level_read (suc (suc (suc (suc (suc (suc (suc level))))))) is =
     let n : ℕ = suc (suc (suc (suc (suc (suc (suc level)))))) in
     absurd (omega (arith, leb-true n 6 (second_true (leb 1 n) (leb n 6) is)))
 
-list_told : (type : ListType) → told_by (λ type. kind.List type) (kind.List list_type.Bullet) list_types (Some (string (list_word type))) ≡ kind.List type
-list_told list_type.Bullet = refl
-list_told list_type.Number = refl
-list_told list_type.Check = refl
+pub list_type_read : (type : ListType) → named list_types (string (list_word type)) ≡ Some type
+list_type_read list_type.Bullet = refl
+list_type_read _ = refl
 
 -- a node says its kind
 pub kind-back : (kind : Kind) (f : Fields) (below : Items) → IsOfKind kind f → option_map (λ base. kind_told base (node_data kind f below)) (kind_of_type (type_name kind)) ≡ Some kind
 unfolding kind_told type_name is_of_kind is_possible
 kind-back (kind.Heading level) f below of =
     ap (λ tag. Some (told_by (λ level. kind.Heading level) (kind.Heading 1) levels tag)) (told_of (codes "tag") (kind.Heading level) f below)
-    ∙ ap (λ k. Some k) (level_told level (first_true (leb 1 level && leb level 6) (fits_kind (kind.Heading level) f) of))
+    ∙ ap (λ o. Some (or_kept (kind.Heading 1) (option_map (λ level. kind.Heading level) o)))
+    (level_read level (first_true (leb 1 level && leb level 6) (fits_kind (kind.Heading level) f) of))
 kind-back (kind.List type) f below of =
     ap (λ word. Some (told_by (λ type. kind.List type) (kind.List list_type.Bullet) list_types word)) (told_of (codes "listType") (kind.List type) f below)
-    ∙ ap (λ k. Some k) (list_told type)
+    ∙ ap (λ o. Some (or_kept (kind.List list_type.Bullet) (option_map (λ type. kind.List type) o))) (list_type_read type)
 kind-back _ f below of = refl
 
 -- ---- floats
@@ -116,15 +117,12 @@ whole-extra (extra.Cell header row_span col_span background) = rw (has_float-any
 
 whole-direction : (d : Direction) → has_float (direction_data d) ≡ false
 whole-direction direction.Unset = refl
-whole-direction direction.Ltr = refl
-whole-direction direction.Rtl = refl
+whole-direction _ = refl
 
 whole-fields : (kind : Kind) (f : Fields) → are_whole (field_members kind f) ≡ true
 whole-fields kind (fields.Element e) =
     rw (whole-direction e.direction, whole-kept kind (e.text_format == 0) (natural e.text_format) refl, whole-kept kind (is_empty e.text_style) (text_data e.text_style) refl) (whole-extra e.extra)
-whole-fields kind (fields.Text t) = refl
-whole-fields kind (fields.Embed source) = refl
-whole-fields kind fields.Bare = refl
+whole-fields kind _ = refl
 
 whole-kind : (kind : Kind) → are_whole (kind_members kind) ≡ true
 whole-kind (kind.Heading level) = refl

@@ -79,7 +79,8 @@ never is = absurd (cc)
 
 -- ---- elements
 
-element_back : (kind : Kind) (e : ElementFields) (x : Extra) (below : Items) → IsTrue (is_possible kind) → is_element kind ≡ true → IsTrue (is_extra_of kind x) → IsElementStorable (record e { extra = x })
+element_back : (kind : Kind) (e : ElementFields) (x : Extra) (below : Items) → IsTrue (is_possible kind) → is_element kind ≡ true
+    → IsTrue (is_extra_of kind x) → IsElementStorable (record e { extra = x })
     → ReadsBack kind (fields.Element (record e { extra = x })) below
 unfolding takes is_element is_text is_heading is_list is_item is_link is_cell is_embed has_characters default_fields default_extra is_possible is_extra_of is_plain is_list_extra is_item_extra is_link_extra is_cell_extra
 element_back kind.Text e x below possible element of stored = never element
@@ -97,13 +98,16 @@ element_back kind.Item e (extra.Item value checked) below possible element of st
     checked_given checked ▸ direction_given e.direction refl ▸ align_given e.format refl ▸ indent_given e.indent refl stored.indent
     ▸ text_format_given e.text_format refl stored.text_format ▸ text_style_given e.text_style refl stored.text_style ▸ value_given value of ▸ end
 element_back kind.Link e (extra.Link rel target title url) below possible element of stored =
-    direction_given e.direction refl ▸ align_given e.format refl ▸ indent_given e.indent refl stored.indent ▸ rel_given rel stored.extra.of_rel ▸ target_given target stored.extra.of_target
+    direction_given e.direction refl ▸ align_given e.format refl ▸ indent_given e.indent refl stored.indent ▸ rel_given rel stored.extra.of_rel
+    ▸ target_given target stored.extra.of_target
     ▸ text_format_given e.text_format refl stored.text_format ▸ text_style_given e.text_style refl stored.text_style
     ▸ title_given title stored.extra.of_title ▸ url_given url stored.extra.of_url ▸ end
 element_back kind.Cell e (extra.Cell header rows columns background) below possible element of stored =
     let spans = second_true (leb header 3) (is_span rows && is_span columns) of in
-    background_given background stored.extra ▸ columns_given columns (second_true (is_span rows) (is_span columns) spans) ▸ direction_given e.direction refl ▸ align_given e.format refl
-    ▸ header_given header (first_true (leb header 3) (is_span rows && is_span columns) of) ▸ indent_given e.indent refl stored.indent ▸ rows_given rows (first_true (is_span rows) (is_span columns) spans)
+    background_given background stored.extra ▸ columns_given columns (second_true (is_span rows) (is_span columns) spans) ▸ direction_given e.direction refl
+    ▸ align_given e.format refl
+    ▸ header_given header (first_true (leb header 3) (is_span rows && is_span columns) of) ▸ indent_given e.indent refl stored.indent
+    ▸ rows_given rows (first_true (is_span rows) (is_span columns) spans)
     ▸ text_format_given e.text_format refl stored.text_format ▸ text_style_given e.text_style refl stored.text_style ▸ end
 element_back (kind.List type) e x below possible element of stored = absurd (cc)
 element_back kind.Item e x below possible element of stored = absurd (cc)
@@ -119,9 +123,11 @@ element_back _ e x below possible element of stored = absurd (cc)
 text_back : (t : TextFields) (below : Items) → IsTrue (leb t.detail 3) → IsTextStorable t → ReadsBack kind.Text (fields.Text t) below
 unfolding takes is_element is_text is_heading is_list is_item is_link is_cell is_embed has_characters default_fields
 text_back t below range stored =
-    detail_given t.detail range ▸ format_given t.format refl stored.format ▸ mode_given t.mode ▸ style_given t.style refl stored.style ▸ text_given t.text stored.text ▸ end
+    detail_given t.detail range ▸ format_given t.format refl stored.format ▸ mode_given t.mode ▸ style_given t.style refl stored.style
+    ▸ text_given t.text stored.text ▸ end
 
-tab_reads : (t : TextFields) (below : Items) → IsTextStorable t → Reads kind.Tab (named_in kind.Tab (fields.Text t) below) (taken kind.Tab names) (default_fields kind.Tab) (told (9 ∷ []) t.format 2 mode.Normal t.style)
+tab_reads : (t : TextFields) (below : Items) → IsTextStorable t
+    → Reads kind.Tab (named_in kind.Tab (fields.Text t) below) (taken kind.Tab names) (default_fields kind.Tab) (told (9 ∷ []) t.format 2 mode.Normal t.style)
 unfolding takes is_element is_text is_heading is_list is_item is_link is_cell is_embed has_characters default_fields
 tab_reads t below stored = format_given t.format refl stored.format ▸ style_given t.style refl stored.style ▸ end
 
@@ -134,7 +140,8 @@ tab_told (c ∷ d ∷ text) format detail m style of_text of_detail of_mode = ab
 tab_told (c ∷ []) format detail mode.Token style of_text of_detail of_mode = absurd (cc)
 tab_told (c ∷ []) format detail mode.Segmented style of_text of_detail of_mode = absurd (cc)
 tab_told (c ∷ []) format detail mode.Normal style of_text of_detail of_mode =
-    ap (λ c. told (c ∷ []) format 2 mode.Normal style) (sym (eqb-true c 9 of_text)) ∙ ap (λ n. told (c ∷ []) format n mode.Normal style) (sym (eqb-true detail 2 of_detail))
+    ap (λ c. told (c ∷ []) format 2 mode.Normal style) (sym (eqb-true c 9 of_text))
+    ∙ ap (λ n. told (c ∷ []) format n mode.Normal style) (sym (eqb-true detail 2 of_detail))
 
 tab_back : (t : TextFields) (below : Items) → IsTrue (are_tab_fields t) → IsTextStorable t → ReadsBack kind.Tab (fields.Text t) below
 unfolding are_tab_fields

@@ -5,7 +5,7 @@ use Rattle.std.specs.Option.{option_or}
 use Rattle.std.specs.Str.{bytes_eq}
 use Rattle.std.proofs.lemmas.Option.{cond_some}
 use Rattle.serde_json.specs.Data.{Data}
-use Rattle.serde_json.specs.Find.{get, as_bool, as_null, as_str}
+use Rattle.serde_json.specs.Find.{get, as_null, as_str}
 use Rattle.lx_node.specs.declared.kind.Kind.{Kind}
 use Rattle.lx_node.specs.declared.kind.Kind.TheVariants as kind
 use Rattle.lx_node.specs.declared.fields.Extra.{Extra}
@@ -21,10 +21,10 @@ use Rattle.lx_step.proofs.Kept.{keeps_kind_with}
 use Rattle.lx_fields.specs.declared.words.Name.{Name}
 use Rattle.lx_fields.specs.declared.words.Name.TheVariants as name
 use Rattle.lx_fields.specs.Documents.{default_extra, default_fields, extra_with_value, item_with_value, with_given, takes, given_by, or_bad, fields_with, document_fields}
-use Rattle.lx_fields.specs.Members.{direction_of, settable}
+use Rattle.lx_fields.specs.Members.{settable}
 use Rattle.lx_fields.specs.Types.{or_kept, told_by}
-use Rattle.lx_fields.specs.Values.{word_in, named, string_of, whole_of, number_within, or_null_of}
-use Rattle.lx_fields.specs.Words.{kind_in, names, levels, list_types, aligns, modes}
+use Rattle.lx_fields.specs.Values.{word_in, named, whole_of, number_within}
+use Rattle.lx_fields.specs.Words.{kind_in, names, levels, list_types, aligns}
 
 -- ---- what holds of all that an option can be
 
@@ -70,7 +70,8 @@ pub rows_tested : {A : Type 0} (test : A → Bool) (rows : List (List ℕ × A))
 rows_tested test [] all = tt
 rows_tested test (row ∷ rows) all = (left (test row.1) _ all, rows_tested test rows (right (test row.1) _ all))
 
-first_holds : {A : Type 0} (P : A → Type 0) (test : Bool) (first : A) (rest : Option A) → P first → ((a : A) → rest ≡ Some a → P a) → (a : A) → (if test then Some first else rest) ≡ Some a → P a
+first_holds : {A : Type 0} (P : A → Type 0) (test : Bool) (first : A) (rest : Option A) → P first → ((a : A) → rest ≡ Some a → P a) → (a : A)
+    → (if test then Some first else rest) ≡ Some a → P a
 first_holds P true first rest here later a is = let same : first ≡ a = cc in subst P same here
 first_holds P false first rest here later a is = later a is
 
@@ -83,17 +84,21 @@ pub named_holds : {A : Type 0} (P : A → Type 0) (rows : List (List ℕ × A)) 
 named_holds P rows each d a is = chained P (word_in rows) (as_str d) (λ text at. word_holds P rows each text) a is
 
 -- what a test of each of these kinds says of that of a type
-pub kind_tested : (test : Kind → Bool) (kinds : List Kind) → IsTrue (list_all test kinds) → (text : List ℕ) (of : Kind) → kind_in kinds text ≡ Some of → IsTrue (test of)
+pub kind_tested : (test : Kind → Bool) (kinds : List Kind) → IsTrue (list_all test kinds) → (text : List ℕ) (of : Kind) → kind_in kinds text ≡ Some of
+    → IsTrue (test of)
 kind_tested test [] all text of is = absurd (cc)
 kind_tested test (first ∷ kinds) all text of is =
-    first_holds (λ of. IsTrue (test of)) (bytes_eq (type_name first) text) first (kind_in kinds text) (left (test first) _ all) (kind_tested test kinds (right (test first) _ all) text) of is
+    first_holds (λ of. IsTrue (test of)) (bytes_eq (type_name first) text) first (kind_in kinds text) (left (test first) _ all)
+    (kind_tested test kinds (right (test first) _ all) text) of is
 
-kept_holds : {A : Type 0} (P : Kind → Type 0) (make : A → Kind) (kind : Kind) (o : Option A) → ((a : A) → o ≡ Some a → P (make a)) → P kind → P (or_kept kind (option_map make o))
+kept_holds : {A : Type 0} (P : Kind → Type 0) (make : A → Kind) (kind : Kind) (o : Option A) → ((a : A) → o ≡ Some a → P (make a)) → P kind
+    → P (or_kept kind (option_map make o))
 kept_holds P make kind None told was = was
 kept_holds P make kind (Some a) told was = told a refl
 
 -- what holds of a kind, and of each that a table has in its place, holds of the one that a member tells
-pub told_by_holds : {A : Type 0} (P : Kind → Type 0) (make : A → Kind) (kind : Kind) (rows : List (List ℕ × A)) (o : Option Data) → EachRow (λ a. P (make a)) rows → P kind → P (told_by make kind rows o)
+pub told_by_holds : {A : Type 0} (P : Kind → Type 0) (make : A → Kind) (kind : Kind) (rows : List (List ℕ × A)) (o : Option Data)
+    → EachRow (λ a. P (make a)) rows → P kind → P (told_by make kind rows o)
 told_by_holds P make kind rows None each was = was
 told_by_holds P make kind rows (Some d) each was = kept_holds P make kind (named rows d) (named_holds (λ a. P (make a)) rows each d) was
 
@@ -120,31 +125,18 @@ any f holds o m is = mapped IsInRange f o (λ a at. holds a) m is
 
 pub settable-ranged : (known : Name) (d : Data) (m : Member) → settable known d ≡ Some m → IsInRange m
 unfolding settable is_in_range is_span
-settable-ranged name.Direction d m is = any (λ direction. set.Direction direction) (λ direction. refl) (direction_of d) m is
 settable-ranged name.Format d m is =
     either IsInRange (option_map (λ align. set.Align align) (named aligns d)) (option_map (λ format. set.Format format) (number_within 0 65535 d))
     (any (λ align. set.Align align) (λ align. refl) (named aligns d)) (any (λ format. set.Format format) (λ format. refl) (number_within 0 65535 d)) m is
-settable-ranged name.Indent d m is = any (λ indent. set.Indent indent) (λ indent. refl) (number_within 0 65535 d) m is
-settable-ranged name.TextFormat d m is = any (λ format. set.TextFormat format) (λ format. refl) (number_within 0 65535 d) m is
-settable-ranged name.TextStyle d m is = any (λ style. set.TextStyle style) (λ style. refl) (string_of d) m is
 settable-ranged name.Tag d m is = absurd (cc)
 settable-ranged name.ListType d m is = absurd (cc)
 settable-ranged name.Start d m is = mapped IsInRange (λ start. set.Start start) (number_within 0 1000000 d) (λ n at. up_to 1000000 d n at) m is
-settable-ranged name.Checked d m is = any (λ checked. set.Checked checked) (λ checked. refl) (or_null_of as_bool d) m is
 settable-ranged name.Value d m is = absurd (cc)
-settable-ranged name.Rel d m is = any (λ rel. set.Rel rel) (λ rel. refl) (or_null_of string_of d) m is
-settable-ranged name.Target d m is = any (λ target. set.Target target) (λ target. refl) (or_null_of string_of d) m is
-settable-ranged name.Title d m is = any (λ title. set.Title title) (λ title. refl) (or_null_of string_of d) m is
-settable-ranged name.Url d m is = any (λ url. set.Url url) (λ url. refl) (string_of d) m is
 settable-ranged name.HeaderState d m is = mapped IsInRange (λ header. set.HeaderState header) (number_within 0 3 d) (λ n at. up_to 3 d n at) m is
 settable-ranged name.ColSpan d m is = mapped IsInRange (λ span. set.ColSpan span) (number_within 1 1000 d) (λ n at. within 1 1000 (whole_of d) n at) m is
 settable-ranged name.RowSpan d m is = mapped IsInRange (λ span. set.RowSpan span) (number_within 1 1000 d) (λ n at. within 1 1000 (whole_of d) n at) m is
-settable-ranged name.Background d m is = any (λ background. set.Background background) (λ background. refl) (or_null_of string_of d) m is
-settable-ranged name.Text d m is = any (λ text. set.Text text) (λ text. refl) (string_of d) m is
-settable-ranged name.Style d m is = any (λ style. set.Style style) (λ style. refl) (string_of d) m is
 settable-ranged name.Detail d m is = mapped IsInRange (λ detail. set.Detail detail) (number_within 0 3 d) (λ n at. up_to 3 d n at) m is
-settable-ranged name.Mode d m is = any (λ mode. set.Mode mode) (λ mode. refl) (named modes d) m is
-settable-ranged name.Src d m is = any (λ source. set.Src source) (λ source. refl) (string_of d) m is
+settable-ranged _ d m is = any _ (λ _. refl) _ m is
 
 -- ---- fields that an object gives
 
@@ -159,10 +151,7 @@ extra_keeps : (kind : Kind) (value : ℕ) (old : Extra) → IsTrue (leb value 12
 unfolding is_extra_of is_plain is_list_extra is_item_extra is_link_extra is_cell_extra
 extra_keeps kind.Item value (extra.Item old checked) ranged of = ranged
 extra_keeps _ value (extra.Item old checked) ranged of = absurd (cc)
-extra_keeps kind value extra.Plain ranged of = of
-extra_keeps kind value (extra.List start) ranged of = of
-extra_keeps kind value (extra.Link rel target title url) ranged of = of
-extra_keeps kind value (extra.Cell header row_span col_span background) ranged of = of
+extra_keeps kind value _ ranged of = of
 
 fitting : (kind : Kind) (value : ℕ) (old : Fields) → IsTrue (leb value 1200000) → IsTrue (fits_kind kind old) → IsTrue (fits_kind kind (item_with_value value old))
 unfolding fits_kind is_element_of is_text_of are_embed_fields are_bare item_with_value
@@ -172,9 +161,7 @@ fitting kind.Break value (fields.Element old) ranged of = absurd (cc)
 fitting kind.Rule value (fields.Element old) ranged of = absurd (cc)
 fitting kind.Embed value (fields.Element old) ranged of = absurd (cc)
 fitting kind value (fields.Element old) ranged of = extra_keeps kind value old.extra ranged of
-fitting kind value (fields.Text old) ranged of = of
-fitting kind value (fields.Embed old) ranged of = of
-fitting kind value fields.Bare ranged of = of
+fitting kind value _ ranged of = of
 
 value_keeps : (kind : Kind) (value : ℕ) (old : Fields) → IsTrue (leb value 1200000) → IsOfKind kind old → IsOfKind kind (item_with_value value old)
 unfolding is_of_kind
@@ -203,7 +190,8 @@ after : (kind : Kind) (text : List ℕ) (go_on : Fields → Result Fields (List 
 after kind text go_on new keeps None of is = absurd (cc)
 after kind text go_on new keeps (Some mid) of is = keeps mid is (of mid refl)
 
-pub fields_keep : (kind : Kind) (rows : List (List ℕ × Name)) (find : List ℕ → Option Data) (old new : Fields) → fields_with kind rows find old ≡ Ok new → IsOfKind kind old → IsOfKind kind new
+pub fields_keep : (kind : Kind) (rows : List (List ℕ × Name)) (find : List ℕ → Option Data) (old new : Fields) → fields_with kind rows find old ≡ Ok new
+    → IsOfKind kind old → IsOfKind kind new
 fields_keep kind [] find old new is of = let same : old ≡ new = cc in subst (IsOfKind kind) same of
 fields_keep kind (row ∷ rows) find old new is of =
     let go_on = fields_with kind rows find in

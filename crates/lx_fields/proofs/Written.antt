@@ -47,7 +47,8 @@ as_before : (test : Bool) (before : Option Data) → before ≡ (if test then be
 as_before true before = refl
 as_before false before = refl
 
-found-put : (name other : List ℕ) (o : Option Data) (of : Members) → get_member name (put_any other o of) ≡ (if bytes_eq name other then option_or o (get_member name of) else get_member name of)
+found-put : (name other : List ℕ) (o : Option Data) (of : Members)
+    → get_member name (put_any other o of) ≡ (if bytes_eq name other then option_or o (get_member name of) else get_member name of)
 found-put name other None of = as_before (bytes_eq name other) (get_member name of)
 found-put name other (Some d) of =
     elim (bytes_eq name other) as (λ test. Decides test (name ≡ other) → get_member name (put other d of) ≡ (if test then Some d else get_member name of)) [
@@ -98,7 +99,8 @@ are_whole (m ∷ ms) = is_whole m.1 && are_whole ms
 pub are_whole-both : (xs ys : Written) → are_whole xs ≡ true → are_whole ys ≡ true → are_whole (xs ++ ys) ≡ true
 are_whole-both [] ys of_xs of_ys = of_ys
 are_whole-both (x ∷ xs) ys of_xs of_ys =
-    both_true (is_whole x.1) (are_whole (xs ++ ys)) (first_true (is_whole x.1) (are_whole xs) of_xs) (are_whole-both xs ys (second_true (is_whole x.1) (are_whole xs) of_xs) of_ys)
+    both_true (is_whole x.1) (are_whole (xs ++ ys)) (first_true (is_whole x.1) (are_whole xs) of_xs)
+    (are_whole-both xs ys (second_true (is_whole x.1) (are_whole xs) of_xs) of_ys)
 
 not_true : (b : Bool) → not b ≡ true → b ≡ false
 not_true true is = absurd (cc)
@@ -111,4 +113,5 @@ whole-put name (Some d) of none is = members_have_float-put name d of (not_true 
 pub members_have_float-onto : (of : Members) (ms : Written) → members_have_float of ≡ false → are_whole ms ≡ true → members_have_float (written_onto of ms) ≡ false
 members_have_float-onto of [] none is = none
 members_have_float-onto of (m ∷ ms) none is =
-    members_have_float-onto (put_any m.0 m.1 of) ms (whole-put m.0 m.1 of none (first_true (is_whole m.1) (are_whole ms) is)) (second_true (is_whole m.1) (are_whole ms) is)
+    members_have_float-onto (put_any m.0 m.1 of) ms (whole-put m.0 m.1 of none (first_true (is_whole m.1) (are_whole ms) is))
+    (second_true (is_whole m.1) (are_whole ms) is)

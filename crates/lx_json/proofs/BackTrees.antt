@@ -22,8 +22,7 @@ use Rattle.lx_forest.specs.Lookups.{key_of, spot, kind_of, holds, IsForest, IsHe
 use Rattle.lx_forest.proofs.Edits.{key-spot}
 use Rattle.lx_fields.specs.Documents.{document_fields}
 use Rattle.lx_fields.specs.Exporting.{node_data}
-use Rattle.lx_fields.specs.Types.{kind_of_type, kind_told, or_kept, told_by}
-use Rattle.lx_fields.specs.Values.{named as word_named}
+use Rattle.lx_fields.specs.Types.{kind_of_type, kind_told}
 use Rattle.lx_fields.specs.Words.{levels, list_types}
 use Rattle.lx_json.specs.Reading.{Piece, and_then, typed, typed_by, placed_kind, kind_by, are_bad, fields_told, fields_or_bad, first_bad, piece_of, with_tree, with_rest, told_under, child_place, tree_of, trees_of}
 use Rattle.lx_json.specs.Exporting.{trees_data}
@@ -54,7 +53,8 @@ may_hold-told parent (Heading level) d =
     told_by_holds P (λ level. Heading level) (Heading level) levels (get (codes "tag") d) (all_rows (λ to. P (Heading to)) (heading_held parent level) levels) refl
 may_hold-told parent (ListKind type) d =
     let P : Kind → Type 0 = λ kind. may_hold parent kind ≡ may_hold parent (ListKind type) in
-    told_by_holds P (λ type. ListKind type) (ListKind type) list_types (get (codes "listType") d) (all_rows (λ to. P (ListKind to)) (list_held parent type) list_types) refl
+    told_by_holds P (λ type. ListKind type) (ListKind type) list_types (get (codes "listType") d)
+    (all_rows (λ to. P (ListKind to)) (list_held parent type) list_types) refl
 may_hold-told parent _ d = refl
 
 placed : (parent kind : Kind) (o : Option Kind) (text : List ℕ) (d : Data) → option_map (λ base. kind_told base d) o ≡ Some kind → may_hold parent kind ≡ true → placed_kind (Some parent) o text d ≡ Ok kind

@@ -1,14 +1,13 @@
 -- What a node's type says of its kind.
-use Rattle.std.proofs.Common.{◌≡◌, ◌≢◌, ◌∙◌, ℕ, Bool, true, false, ◌&&◌, is_some, codes, List, [], ◌∷◌, if◌then◌else◌, Option, None, Some, option_map, option_and_then, Result, Ok, Err, refl, ap, sym, IsUtf8, Ordering}
-use Rattle.serde_json.specs.Data.{Data, null, boolean, number, string, array, object}
+use Rattle.std.proofs.Common.{◌≡◌, ◌≢◌, ◌∙◌, ℕ, Bool, true, false, is_some, codes, List, [], ◌∷◌, if◌then◌else◌, Option, None, Some, Result, Ok, Err, refl, ap, sym, IsUtf8, Ordering}
+use Rattle.serde_json.specs.Data.{Data, null, string}
 use Rattle.serde_json.specs.Find.{get, as_null, as_str}
 use Rattle.lx_node.specs.Kinds.{is_possible, may_hold, is_block, is_inline, is_item, is_row, is_cell, is_link, is_paragraph, is_heading, is_list}
 use Rattle.lx_node.specs.declared.kind.Kind.{Kind}
-use Rattle.lx_node.specs.declared.kind.Kind.TheVariants.{Root, Paragraph, Heading, Quote, List as ListKind, Item, Link, Table, Row, Cell, Text, Tab, Break, Rule, Embed}
+use Rattle.lx_node.specs.declared.kind.Kind.TheVariants.{Root, Heading, List as ListKind}
 use Rattle.lx_node.specs.declared.cause.Cause.{Cause}
-use Rattle.lx_fields.specs.Types.{kind_of_type, or_kept, told_by, kind_told}
-use Rattle.lx_fields.specs.Values.{word_in, named}
-use Rattle.lx_fields.specs.Words.{kind_in, made_kinds, levels, list_types}
+use Rattle.lx_fields.specs.Types.{kind_of_type, kind_told}
+use Rattle.lx_fields.specs.Words.{made_kinds, levels, list_types}
 use Rattle.lx_fields.proofs.Sound.{all_rows, rows_tested, kind_tested, told_by_holds}
 use Rattle.lx_json.specs.Pieces.{is_root, IsToldKind}
 use Rattle.std.specs.Str.{chars}
@@ -25,10 +24,7 @@ use Rattle.lx_json.proofs.Ordered.{same_order}
 pub typed_unlike : (o : Option Data) (d : Data) → o ≡ Some d → is_some (as_null d) ≡ false → as_str d ≡ None → typed_by o ≡ unlike
 typed_unlike o null e is none = absurd (cc)
 typed_unlike o (string s) e is none = absurd (cc)
-typed_unlike o (boolean b) e is none = ap typed_by e
-typed_unlike o (number n) e is none = ap typed_by e
-typed_unlike o (array ds) e is none = ap typed_by e
-typed_unlike o (object ms) e is none = ap typed_by e
+typed_unlike o _ e is none = ap typed_by e
 
 pub kind_unlike : (above : Option Kind) (d : Data) → kind_by above unlike d ≡ Err (BadState [])
 kind_unlike None d = refl
@@ -66,17 +62,21 @@ type_possible text kind is = kind_tested is_possible (Root ∷ made_kinds) refl 
 kind_told-possible : (kind : Kind) (d : Data) → is_possible kind ≡ true → is_possible (kind_told kind d) ≡ true
 unfolding kind_told is_possible
 kind_told-possible (Heading level) d was =
-    told_by_holds (λ kind. is_possible kind ≡ true) (λ level. Heading level) (Heading level) levels (get (codes "tag") d) (rows_tested (λ level. is_possible (Heading level)) levels refl) was
+    told_by_holds (λ kind. is_possible kind ≡ true) (λ level. Heading level) (Heading level) levels (get (codes "tag") d)
+    (rows_tested (λ level. is_possible (Heading level)) levels refl) was
 kind_told-possible (ListKind type) d was =
-    told_by_holds (λ kind. is_possible kind ≡ true) (λ type. ListKind type) (ListKind type) list_types (get (codes "listType") d) (rows_tested (λ type. is_possible (ListKind type)) list_types refl) was
+    told_by_holds (λ kind. is_possible kind ≡ true) (λ type. ListKind type) (ListKind type) list_types (get (codes "listType") d)
+    (rows_tested (λ type. is_possible (ListKind type)) list_types refl) was
 kind_told-possible _ d was = was
 
 kind_told-below : (kind : Kind) (d : Data) → is_root kind ≡ false → is_root (kind_told kind d) ≡ false
 unfolding kind_told
 kind_told-below (Heading level) d was =
-    told_by_holds (λ kind. is_root kind ≡ false) (λ level. Heading level) (Heading level) levels (get (codes "tag") d) (all_rows (λ level. is_root (Heading level) ≡ false) (λ level. refl) levels) was
+    told_by_holds (λ kind. is_root kind ≡ false) (λ level. Heading level) (Heading level) levels (get (codes "tag") d)
+    (all_rows (λ level. is_root (Heading level) ≡ false) (λ level. refl) levels) was
 kind_told-below (ListKind type) d was =
-    told_by_holds (λ kind. is_root kind ≡ false) (λ type. ListKind type) (ListKind type) list_types (get (codes "listType") d) (all_rows (λ type. is_root (ListKind type) ≡ false) (λ type. refl) list_types) was
+    told_by_holds (λ kind. is_root kind ≡ false) (λ type. ListKind type) (ListKind type) list_types (get (codes "listType") d)
+    (all_rows (λ type. is_root (ListKind type) ≡ false) (λ type. refl) list_types) was
 kind_told-below _ d was = was
 
 holds_no_root : (parent : Kind) → may_hold parent Root ≡ false

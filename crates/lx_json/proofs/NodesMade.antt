@@ -61,11 +61,7 @@ unfolding node_made piece_of children_given
 node_made-node (object ms) above parent w =
     agreed (piece_of (Some above) (object ms)) _ _
     (λ piece. after_agreed (node_new piece parent w) _ _ (λ v. either_agreed (is_element piece.kind) _ _ v (children_made-get ms piece.kind w.next_key v)))
-node_made-node null above parent w = refl
-node_made-node (boolean b) above parent w = refl
-node_made-node (number n) above parent w = refl
-node_made-node (string s) above parent w = refl
-node_made-node (array ds) above parent w = refl
+node_made-node _ above parent w = refl
 
 listed-array : (o : Option Data) (ds : Items) (kind : Kind) (parent : ℕ) (w : Working) → option_and_then as_array o ≡ Some ds → given_in o kind parent w ≡ items_made ds 0 kind parent w
 unfolding list_made

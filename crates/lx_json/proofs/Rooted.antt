@@ -1,7 +1,7 @@
 -- The root's tree: the root first, and then what is below it.
 use Rattle.std.proofs.Common.{◌≡◌, ◌≢◌, ◌∙◌, ◌+◌, ◌<◌, ℕ, true, false, is_some, codes, List, [], None, Result, Ok, Err, refl, ap, sym, subst, arith}
 use Rattle.std.proofs.lemmas.Bool.Decides.{eqb_tells}
-use Rattle.serde_json.specs.Data.{Data, null, boolean, number, string, array, object}
+use Rattle.serde_json.specs.Data.{Data, object}
 use Rattle.serde_json.specs.Find.{get, as_object}
 use Rattle.lx_trees.specs.Trees.{Trees, nil, tree}
 use Rattle.lx_trees.specs.NamedTrees.{total}
@@ -99,20 +99,12 @@ below_refused d fields e told refused =
 pub document_of-object : (d : Data) → is_some (as_object d) ≡ true → document_of d ≡ root_in (get (codes "root") d)
 unfolding document_of
 document_of-object (object ms) is = refl
-document_of-object null is = absurd (grind (arith, is))
-document_of-object (boolean b) is = absurd (grind (arith, is))
-document_of-object (number n) is = absurd (grind (arith, is))
-document_of-object (string s) is = absurd (grind (arith, is))
-document_of-object (array ds) is = absurd (grind (arith, is))
+document_of-object _ is = absurd (grind (arith, is))
 
 pub document_of-other : (d : Data) → is_some (as_object d) ≡ false → document_of d ≡ Err (BadState [])
 unfolding document_of
 document_of-other (object ms) is = absurd (grind (arith, is))
-document_of-other null is = refl
-document_of-other (boolean b) is = refl
-document_of-other (number n) is = refl
-document_of-other (string s) is = refl
-document_of-other (array ds) is = refl
+document_of-other _ is = refl
 
 pub rooted_up : (place : List ℕ) (next : ℕ) (r : Result (Trees Piece) Cause) (h : Growth) → rooted_by next r ≡ Ok h → rooted_by next (told_under place r) ≡ Ok h
 unfolding rooted_by

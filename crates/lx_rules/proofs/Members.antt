@@ -1,7 +1,6 @@
 -- Members that are written one after another: what each place keeps.
 use Rattle.std.proofs.Common.{◌≡◌, ◌∙◌, ℕ, Bool, true, false, ◌||◌, not, List, [], ◌∷◌, length, refl, sym, ap, cond, ◌⊎◌, inl, inr}
 use Rattle.std.specs.List.{list_any}
-use Rattle.std.proofs.lemmas.Bool.Decides.{Decides-eqb}
 use Rattle.std.proofs.lemmas.List.{nil_from_length}
 use Rattle.lx_node.specs.declared.fields.Extra.{Extra}
 use Rattle.lx_node.specs.declared.fields.Extra.TheVariants as extra
@@ -14,7 +13,7 @@ use Rattle.lx_node.proofs.Same.{same_fields-Decides}
 use Rattle.lx_step.specs.declared.member.Member.{Member}
 use Rattle.lx_step.specs.declared.member.Member.TheVariants.{Other}
 use Rattle.lx_step.specs.Patches.{with_extra, element_with_member, text_with_member, with_source, with_member, with_members}
-use Rattle.lx_rules.specs.Places.{place_of, rewrites}
+use Rattle.lx_rules.specs.Places.{rewrites}
 
 -- ---- of two members, one place keeps the later one, and two places keep both
 
@@ -25,7 +24,7 @@ abbrev with_its : ElementFields → Extra → ElementFields
 with_its old x = record old { extra = x }
 
 meet_in_element : (a b : Member) (old : ElementFields) (x : Extra) → Meet element_with_member a b (with_its old x)
-unfolding place_of element_with_member with_extra
+unfolding rewrites element_with_member with_extra
 meet_in_element (Other n) b old x =
     elim b as (λ c. Meet element_with_member (Other n) c (with_its old x)) [
       | Other m ↦ elim x as (λ y. Meet element_with_member (Other n) (Other m) (with_its old y)) [ extra.Plain ↦ refl | _ ↦ refl ]
@@ -38,12 +37,12 @@ meet_in_element a b old x =
     ]
 
 meet_in_text : (a b : Member) (old : TextFields) → Meet text_with_member a b old
-unfolding place_of text_with_member
+unfolding rewrites text_with_member
 meet_in_text (Other n) b old = elim b as (λ c. Meet text_with_member (Other n) c old) [ Other m ↦ refl | _ ↦ refl ]
 meet_in_text a b old = elim b as (λ c. Meet text_with_member a c old) [ Other m ↦ refl | _ ↦ refl ]
 
 meet_in_source : (a b : Member) (old : List ℕ) → Meet with_source a b old
-unfolding place_of with_source
+unfolding rewrites with_source
 meet_in_source (Other n) b old = elim b as (λ c. Meet with_source (Other n) c old) [ Other m ↦ refl | _ ↦ refl ]
 meet_in_source a b old = elim b as (λ c. Meet with_source a c old) [ Other m ↦ refl | _ ↦ refl ]
 
@@ -61,6 +60,11 @@ meet a b (fields.Element old) = ap (λ x. fields.Element x) (meet_in_element a b
 meet a b (fields.Text old) = ap (λ x. fields.Text x) (meet_in_text a b old) ∙ under (λ x. fields.Text x) (rewrites a b) _ _
 meet a b (fields.Embed old) = ap (λ x. fields.Embed x) (meet_in_source a b old) ∙ under (λ x. fields.Embed x) (rewrites a b) _ _
 meet a b fields.Bare = bare (rewrites a b)
+
+rewrites-itself : (m : Member) → rewrites m m ≡ true
+unfolding rewrites
+rewrites-itself (Other n) = refl
+rewrites-itself _ = refl
 
 -- ---- a member before others
 
@@ -80,7 +84,7 @@ changed : (m : Member) (ms : List Member) (f : Fields) → list_any (rewrites m)
 changed m ms f e same =
     let last : with_member m (with_members ms f) ≡ f = sym (passed m ms f ∙ ap (λ t. cond t (with_members ms f) (with_member m (with_members ms f))) e) ∙ same in
     let twice : with_member m (with_member m (with_members ms f)) ≡ with_member m (with_members ms f) =
-    meet m m (with_members ms f) ∙ ap (λ t. cond t (with_member m (with_members ms f)) (with_member m (with_member m (with_members ms f)))) ((Decides-eqb (place_of m) (place_of m)).1 refl) in
+    meet m m (with_members ms f) ∙ ap (λ t. cond t (with_member m (with_members ms f)) (with_member m (with_member m (with_members ms f)))) (rewrites-itself m) in
     ap (with_member m) (sym last) ∙ twice ∙ last
 
 -- ---- what is left of the members, from a place on

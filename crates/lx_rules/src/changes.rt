@@ -7,34 +7,35 @@ ghost use Rattle.lx_rules.specs.Places as places;
 use lx_node::{ElementFields, Extra, Fields, TextFields, Txt};
 use lx_step::Member;
 
-/// The place that a member is written into, and no other is.
-#[tactic(auto, unfolding(crate::specs::Places::place_of))]
-fn place_of(member: &Member) -> u8
-    ensures { result ≡ places.place_of member.now }
+/// Whether another member is written into the place of one.
+#[tactic(auto, unfolding(crate::specs::Places::rewrites))]
+fn rewrites(member: &Member, other: &Member) -> bool
+    ensures { result ≡ places.rewrites member.now other.now }
 {
-    match member {
-        Member::Direction(_) => 0,
-        Member::Align(_) => 1,
-        Member::Indent(_) => 2,
-        Member::TextFormat(_) => 3,
-        Member::TextStyle(_) => 4,
-        Member::Start(_) => 5,
-        Member::Checked(_) => 6,
-        Member::Rel(_) => 7,
-        Member::Target(_) => 8,
-        Member::Title(_) => 9,
-        Member::Url(_) => 10,
-        Member::HeaderState(_) => 11,
-        Member::ColSpan(_) => 12,
-        Member::RowSpan(_) => 13,
-        Member::Background(_) => 14,
-        Member::Text(_) => 15,
-        Member::Format(_) => 16,
-        Member::Style(_) => 17,
-        Member::Detail(_) => 18,
-        Member::Mode(_) => 19,
-        Member::Src(_) => 20,
-        Member::Other(_) => 21,
+    match (member, other) {
+        (Member::Direction(_), Member::Direction(_))
+        | (Member::Align(_), Member::Align(_))
+        | (Member::Indent(_), Member::Indent(_))
+        | (Member::TextFormat(_), Member::TextFormat(_))
+        | (Member::TextStyle(_), Member::TextStyle(_))
+        | (Member::Start(_), Member::Start(_))
+        | (Member::Checked(_), Member::Checked(_))
+        | (Member::Rel(_), Member::Rel(_))
+        | (Member::Target(_), Member::Target(_))
+        | (Member::Title(_), Member::Title(_))
+        | (Member::Url(_), Member::Url(_))
+        | (Member::HeaderState(_), Member::HeaderState(_))
+        | (Member::ColSpan(_), Member::ColSpan(_))
+        | (Member::RowSpan(_), Member::RowSpan(_))
+        | (Member::Background(_), Member::Background(_))
+        | (Member::Text(_), Member::Text(_))
+        | (Member::Format(_), Member::Format(_))
+        | (Member::Style(_), Member::Style(_))
+        | (Member::Detail(_), Member::Detail(_))
+        | (Member::Mode(_), Member::Mode(_))
+        | (Member::Src(_), Member::Src(_))
+        | (Member::Other(_), Member::Other(_)) => true,
+        _ => false,
     }
 }
 
@@ -42,8 +43,7 @@ fn place_of(member: &Member) -> u8
 fn is_rewritten(member: &Member, later: &[Member]) -> bool
     ensures { result ≡ list_any (places.rewrites member.now) later.now }
 {
-    let place = place_of(member);
-    later.iter().any(|other| place == place_of(other))
+    later.iter().any(|other| rewrites(member, other))
 }
 
 /// Whether both texts are absent, or both are there and equal.

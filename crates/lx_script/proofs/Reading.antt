@@ -1,7 +1,7 @@
 -- From what a value says of itself to what the grammar asks of it.
 use Rattle.std.proofs.Common.{◌≡◌, refl, subst, codes, ℕ, List, [], ◌∷◌, length, Bool, true, false, Some, ◌==◌, Result, Ok, Err}
 use Rattle.serde_json.proofs.Views.{items_len-items_view}
-use Rattle.serde_json.specs.Data.{Data, null, boolean, number, string, array, object}
+use Rattle.serde_json.specs.Data.{Data, array}
 use Rattle.serde_json.specs.Find.{get, as_array, as_bool}
 use Rattle.serde_json.specs.View.{items_view}
 use Rattle.serde_json.specs.declared.value.Value.{Value}
@@ -25,11 +25,7 @@ use Rattle.lx_fields.proofs.Sound.{mapped, either, chained, tested, named_holds}
 
 pub has_three-array : (d : Data) (vs : List Value) → Some (items_view vs) ≡ as_array d → has_three d ≡ (length vs == 3)
 has_three-array (array ds) vs is = let same : items_view vs ≡ ds = cc in rw (← same, items_len-items_view vs) refl
-has_three-array null vs is = absurd (cc)
-has_three-array (boolean b) vs is = absurd (cc)
-has_three-array (number n) vs is = absurd (cc)
-has_three-array (string s) vs is = absurd (cc)
-has_three-array (object ms) vs is = absurd (cc)
+has_three-array _ vs is = absurd (cc)
 
 -- ---- what a value asks for
 

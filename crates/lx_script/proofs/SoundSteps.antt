@@ -5,12 +5,12 @@ use Rattle.std.specs.Result.{result_ok}
 use Rattle.std.specs.Str.{bytes_eq}
 use Rattle.std.proofs.lemmas.Bool.{leb-true}
 use Rattle.std.proofs.lemmas.List.Elements.{All-nil, All-cons}
-use Rattle.serde_json.specs.Data.{Data, null, boolean, number, string, array, object, Items, no_items, item, Members, no_members, member}
+use Rattle.serde_json.specs.Data.{Data, array, object, Items, no_items, item, Members, no_members, member}
 use Rattle.serde_json.specs.Find.{as_bool, as_null, as_object, as_str, get}
 use Rattle.lx_node.specs.declared.kind.Kind.{Kind}
 use Rattle.lx_node.specs.declared.kind.Kind.TheVariants as kind
 use Rattle.lx_node.specs.declared.fields.Fields.{Fields}
-use Rattle.lx_node.specs.Kinds.{is_possible, type_name}
+use Rattle.lx_node.specs.Kinds.{is_possible}
 use Rattle.lx_node.specs.OfKind.{IsOfKind}
 use Rattle.lx_step.specs.declared.line.Form.{Form}
 use Rattle.lx_step.specs.declared.line.Form.TheVariants.{Flush, Dispatch, Rule, Listener as Listens, Show}
@@ -224,11 +224,7 @@ mutual
   step_of_sound inside (object ms) s is =
       chained IsSound (λ word. step_for inside word (object ms) (queued_in inside ms)) (first_member verbs (object ms))
       (λ word at s made. step_for_sound inside word (object ms) (queued_in inside ms) s (queued_in_sound inside ms) made) s is
-  step_of_sound inside null s is = absurd (cc)
-  step_of_sound inside (boolean b) s is = absurd (cc)
-  step_of_sound inside (number n) s is = absurd (cc)
-  step_of_sound inside (string text) s is = absurd (cc)
-  step_of_sound inside (array ds) s is = absurd (cc)
+  step_of_sound inside _ s is = absurd (cc)
 
   queued_in_sound : (inside : Bool) (ms : Members) (made : Script) → queued_in inside ms ≡ Some made → IsSoundScript made
   queued_in_sound inside no_members made is = absurd (cc)
@@ -236,11 +232,7 @@ mutual
 
   script_in_sound : (inside : Bool) (d : Data) (made : Script) → script_in inside d ≡ Some made → IsSoundScript made
   script_in_sound inside (array ds) made is = script_from_sound inside ds made is
-  script_in_sound inside null made is = absurd (cc)
-  script_in_sound inside (boolean b) made is = absurd (cc)
-  script_in_sound inside (number n) made is = absurd (cc)
-  script_in_sound inside (string text) made is = absurd (cc)
-  script_in_sound inside (object ms) made is = absurd (cc)
+  script_in_sound inside _ made is = absurd (cc)
 
   script_from_sound : (inside : Bool) (ds : Items) (made : Script) → script_from inside ds ≡ Some made → IsSoundScript made
   script_from_sound inside no_items made is = let same : nil ≡ made = cc in subst IsSoundScript same tt

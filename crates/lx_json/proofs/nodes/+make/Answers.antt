@@ -1,7 +1,7 @@
 use Rattle.std.proofs.Common.{◌≡◌, ◌∙◌, ℕ, ap, sym, arith, codes, Some, option_and_then}
 use Rattle.serde_json.specs.Find.{get, as_array}
 use Rattle.serde_json.specs.View.{view, items_view}
-use Rattle.lx_json.proofs.Looked.{depth-listed, depth-item, item_at}
+use Rattle.lx_fields.proofs.Looked.{depth-listed, depth-item, item_at}
 use Rattle.lx_json.proofs.NodesMade.{given-list, given-none, given-leaf, node_done, node_untold, node_refused, below_refused, made_on, made_told, made_done}
 use Rattle.lx_json.proofs.Told.{tells_same}
 use Rattle.lx_json.proofs.nodes.+make.Goals as goal
@@ -47,7 +47,7 @@ make_node-returns-in-Err-make_children-clause-err t c =
 -- ---- items
 
 pub make_each-make_node-requires : goal.make_each-make_node-requires
-make_each-make_node-requires t c = omega (arith, depth-item c.args.items.now _ _ (item_at c.args.items.now c.loop-index.index _ c.loop-index-test.true c.index-items-index.is))
+make_each-make_node-requires t c = omega (arith, depth-item c.args.items.now c.loop-index.index _ c.loop-index-test.true c.index-items-index.is)
 
 pub make_each-returns-in-Err-clause-err : goal.make_each-returns-in-Err-clause-err
 make_each-returns-in-Err-clause-err t c =

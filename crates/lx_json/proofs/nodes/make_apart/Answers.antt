@@ -1,5 +1,5 @@
 use Rattle.std.proofs.Common.{rules}
-use Rattle.lx_json.proofs.Looked.{item_at}
+use Rattle.lx_fields.proofs.Looked.{item_at}
 use Rattle.lx_json.proofs.NodesMade.{apart_begins, apart_on, apart_told, apart_done}
 use Rattle.lx_json.proofs.nodes.make_apart.Goals as goal
 

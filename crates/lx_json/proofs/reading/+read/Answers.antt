@@ -3,7 +3,8 @@ use Rattle.serde_json.specs.Find.{get, as_array}
 use Rattle.serde_json.specs.View.{view, items_view}
 use Rattle.lx_json.specs.Reading.{and_then, trees_of}
 use Rattle.lx_json.specs.Growing.{grown_by, children_told}
-use Rattle.lx_json.proofs.Looked.{depth-listed, depth-item, item_at, with_children, tree_of-node, children_told-list, children_told-none, children_told-leaf, none_left}
+use Rattle.lx_fields.proofs.Looked.{depth-listed, depth-item, item_at}
+use Rattle.lx_json.proofs.Looked.{with_children, tree_of-node, children_told-list, children_told-none, children_told-leaf, none_left}
 use Rattle.lx_json.proofs.Grown.{key_below, grown_by-none, node_grown, read_on, tells_all}
 use Rattle.lx_json.proofs.Told.{tells_same, tells_on}
 use Rattle.lx_json.proofs.reading.+read.Goals as goal
@@ -55,7 +56,7 @@ read_node-returns-in-Err-clause-err t c = tells_same c.in-Err.fault _ _ (tree_of
 -- ---- nodes one after another
 
 pub read_nodes-read_node-requires : goal.read_nodes-read_node-requires
-read_nodes-read_node-requires t c = (omega (arith, depth-item c.args.items.now _ _ (item_at c.args.items.now c.loop-index.index _ c.loop-index-test.true c.index-items-index.is)), (c.loop-index.invariant.growing, c.loop-index.invariant.below))
+read_nodes-read_node-requires t c = (omega (arith, depth-item c.args.items.now c.loop-index.index _ c.loop-index-test.true c.index-items-index.is), (c.loop-index.invariant.growing, c.loop-index.invariant.below))
 
 pub read_nodes-returns-in-Err-clause-err : goal.read_nodes-returns-in-Err-clause-err
 read_nodes-returns-in-Err-clause-err t c =

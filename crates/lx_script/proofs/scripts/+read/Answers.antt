@@ -4,7 +4,8 @@ use Rattle.serde_json.specs.View.{view, items_view}
 use Rattle.lx_step.specs.Spelled.{script_of}
 use Rattle.lx_script.specs.Steps.{script_from, script_in, step_for, step_of}
 use Rattle.lx_fields.specs.Values.{all_of, required}
-use Rattle.lx_script.proofs.Listed.{depth-listed, depth-item, step_of-found, member-listed, script_from-all}
+use Rattle.lx_fields.proofs.Looked.{depth-listed, depth-item}
+use Rattle.lx_script.proofs.Listed.{step_of-found, member-listed, script_from-all}
 use Rattle.lx_script.proofs.scripts.+read.Goals as goal
 
 pub member_script-script_of-requires : goal.member_script-script_of-requires
