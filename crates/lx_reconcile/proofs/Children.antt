@@ -68,6 +68,9 @@ is_read f key n s e = from_spot (spot f key) refl e where
 pub there_read : (f : Forest) (k : ℕ) (n : Node) → IsRead f k n → has k f ≡ true
 there_read f k n r = sym (is_some-spot f k) ∙ ap is_some r.at_is
 
+pub label_read : (f : Forest) (k : ℕ) (n : Node) → IsRead f k n → label_of f k ≡ Some (label_from k n)
+label_read f k n r = ap (option_map (λ (s : Spot Label). s.label)) r.at_is ∙ ap (λ l. Some l) r.label
+
 -- its tree
 pub tree_read : (f : Forest) (key : ℕ) (n : Node) → IsRead f key n → alone key f ≡ tree (label_from key n) (trees_of f (children_of f key)) nil
 tree_read f key n r =

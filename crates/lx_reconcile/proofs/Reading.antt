@@ -182,8 +182,8 @@ reads_append old new noted p [] ys = omega arith
 reads_append old new noted p (x ∷ xs) ys =
     omega (arith, reads-joined old noted p (alone x new) (trees_of new (xs ++ ys)), reads-joined old noted p (alone x new) (trees_of new xs), reads_append old new noted p xs ys)
 
-pub reads_one : (old new : Forest) (noted : ℕ → Bool) (p : Option ℕ) (c : ℕ) → reads_in old noted p (trees_of new (c ∷ [])) ≡ reads_in old noted p (alone c new)
-reads_one old new noted p c = omega (arith, reads-joined old noted p (alone c new) nil)
+pub reads-alone : (old new : Forest) (noted : ℕ → Bool) (p : Option ℕ) (c : ℕ) → reads_in old noted p (trees_of new (c ∷ [])) ≡ reads_in old noted p (alone c new)
+reads-alone old new noted p c = omega (arith, reads-joined old noted p (alone c new) nil)
 
 pub roots_of : (f : Forest) (ks : List ℕ) → IsForest f → ((c : ℕ) → is_among c ks ≡ true → has c f ≡ true) → roots (trees_of f ks) ≡ ks
 roots_of f [] h there = refl

@@ -30,7 +30,7 @@ use Rattle.lx_reconcile.specs.Making.{IsBetween, Reconciles, MakesMoves, AreNext
 use Rattle.lx_reconcile.specs.Reconciled.{host_in}
 use Rattle.lx_reconcile.specs.ToCome.{IsInWalk}
 use Rattle.lx_reconcile.specs.Walk.{IsWalk}
-use Rattle.lx_reconcile.proofs.Children.{stands_there, label_from, IsRead, is_read, there_read, tree_read, last_kind_read}
+use Rattle.lx_reconcile.proofs.Children.{stands_there, label_from, IsRead, is_read, there_read, tree_read, last_kind_read, label_read}
 use Rattle.lx_reconcile.proofs.Due.{each_append}
 use Rattle.lx_reconcile.proofs.Touched.{Due, last_same, writes_due}
 use Rattle.std.proofs.Common.{cond, length}
@@ -44,7 +44,7 @@ use Rattle.lx_reconcile.proofs.Reading.{marked_children-total, weight, size_if, 
 use Rattle.lx_reconcile.proofs.Skipped.{skipped}
 use Rattle.lx_reconcile.proofs.Texts.{none_of_kind}
 use Rattle.lx_reconcile.proofs.UnkeptNodes.{unkept-below, unkept-total}
-use Rattle.lx_reconcile.proofs.Made.{reconciles_still, reads_still}
+use Rattle.lx_reconcile.proofs.Made.{reads_still}
 use Rattle.lx_reconcile.proofs.StartEnd.{only_host, is_shown_at, root_at, one_tree}
 use Rattle.lx_reconcile.proofs.Walked.{walk_start, walk_face, walk_end, walk_whole}
 
@@ -113,10 +113,10 @@ module _ (old new : Forest) (mk : Marking) (v : HostTree) (k n : ℕ) (was now :
 
   -- a node that isn't touched has the same kind and fields, and the same ending
   label_was : label_of old k ≡ Some (label_from k was)
-  label_was = ap (option_map (λ (s : Spot Label). s.label)) before_read.at_is ∙ ap (λ l. Some l) before_read.label
+  label_was = label_read old k was before_read
 
   label_now : label_of new k ≡ Some (label_from k now)
-  label_now = ap (option_map (λ (s : Spot Label). s.label)) after_read.at_is ∙ ap (λ l. Some l) after_read.label
+  label_now = label_read new k now after_read
 
   kind_same : was.kind ≡ now.kind
   kind_same =
@@ -284,6 +284,6 @@ root_room v old old_now f f_now k n e is c d t room =
 pub root_allowed : (old old_now new new_now : Forest) (mk : Marking) (v : HostTree) (k n : ℕ) (start ops : List Op) (m : ℕ) → k ≡ 0 → n ≡ v.next → start ≡ [] → old_now ≡ old → new_now ≡ new → IsTree old → IsTree new → IsBetween old new mk v
     → Reconciles old_now new_now mk v k n start ops m → IsAllowed old new mk v ops
 root_allowed old old_now new new_now mk v k n start ops m e is none a b s t w r =
-    let there = reconciles_still a b r in
+    let there = subst (λ t. t) (λ i. Reconciles (a i) (b i) mk v k n start ops m) r in
     all_allowed old new mk v start ops m s t w none
     (subst (λ k. Reconciles old new mk v k v.next start ops m) e (subst (λ n. Reconciles old new mk v k n start ops m) is there))
