@@ -1,7 +1,6 @@
 -- Which nodes are found kept, and how many aren't.
 use Rattle.std.proofs.Common.{◌≡◌, ◌∙◌, ◌+◌, ◌<◌, ◌≤◌, ℕ, ◌&&◌, ◌^◌, Bool, true, false, cond, ◌∷◌, Option, None, Some, option_map, is_some, inl, inr, refl, sym, ap, arith}
 use Rattle.std.proofs.lemmas.Bool.{cases_Bool, false_from_ne_true, true_from_ne_false, false≢true}
-use Rattle.std.proofs.lemmas.Option.{same_Some}
 use Rattle.lx_trees.specs.Trees.{nil, tree, joined}
 use Rattle.lx_trees.specs.NamedTrees.{total}
 use Rattle.lx_trees.specs.Siblings.{is_place, next_in, from_name}
@@ -27,21 +26,6 @@ use Rattle.lx_reconcile.proofs.Kept.{places_at, places_of-spot}
 use Rattle.lx_reconcile.proofs.UnkeptNodes.{same_parent, unkept-joined, unkept-total}
 
 -- ---- a node as it was
-
--- what a read says of the place of a node
-record IsSeen (f : Forest) (key : ℕ) (n : Node) : Type 0 where
-  at : Spot Label
-  at_is : spot f key ≡ Some at
-  tag : tag_of n.kind n.fields ≡ tag_of at.label.kind at.label.fields
-  parent : n.parent ≡ at.parent
-
-is_seen : (f : Forest) (key : ℕ) (n : Node) → Some n ≡ option_map node_of (record_at f key) → IsSeen f key n
-is_seen f key n e = from_spot (spot f key) refl e where
-  from_spot : (o : Option (Spot Label)) → spot f key ≡ o → Some n ≡ option_map node_of (option_map (linked (siblings f key) key) o) → IsSeen f key n
-  from_spot None at e = absurd (cc)
-  from_spot (Some x) at e =
-      let same : n ≡ node_of (linked (siblings f key) key x) = same_Some n (node_of (linked (siblings f key) key x)) e in
-      record { at = x; at_is = at; tag = ap (λ (n : Node). tag_of n.kind n.fields) same; parent = ap (λ (n : Node). n.parent) same }
 
 unseen : (f : Forest) (key : ℕ) → None ≡ option_map node_of (record_at f key) → spot f key ≡ None
 unseen f key e = from_spot (spot f key) e where
@@ -81,10 +65,10 @@ module _ (f : Forest) (parent : Option ℕ) (q : ℕ) (s : Sound f) (above : IsI
   pub kept_some : (tag : Tag) (n : Node) → Some n ≡ option_map node_of (record_at f q)
       → (is_parent n.parent parent && is_tag (tag_of n.kind n.fields) tag) ≡ is_only parent tag (places_of q None (alone 0 f))
   kept_some tag n e =
-      let x = is_seen f q n e in
+      let x = is_read f q n s e in
       let same = λ (t : Tag). is_tag t tag in
       ap (λ p. is_parent p parent && same (tag_of n.kind n.fields)) x.parent
-      ∙ ap (λ t. is_parent x.at.parent parent && same t) x.tag
+      ∙ sym (ap (λ (l : Label). is_parent x.at.parent parent && same (tag_of l.kind l.fields)) x.label)
       ∙ elim (cases_Bool (is_attached f q)) [
         | inl inside ↦ sym (ap (is_only parent tag) (places ∙ ap places_at (ap (λ b. cond b (spot f q) None) inside ∙ x.at_is)))
         | inr out ↦

@@ -9,7 +9,7 @@ use Rattle.lx_trees.proofs.NamedTrees as trees
 use Rattle.lx_node.specs.declared.kind.Kind.{Kind}
 use Rattle.lx_host.specs.declared.op.Op.{Op}
 use Rattle.lx_host.specs.declared.op.Op.TheVariants.{Place}
-use Rattle.lx_host.specs.Hosts.{Face, Host, HostTree, id_of, one_host, shape_of, count, has, without, alone, put_below, children_of, fits_before, fits, effect, Leads, FitInTurn, IsNumbered}
+use Rattle.lx_host.specs.Hosts.{Face, Host, HostTree, id_of, one_host, shape_of, count, has, without, alone, put_below, children_of, fits_before, fits, effect, Leads, FitInTurn}
 use Rattle.lx_host.proofs.Laws.{joined-nil, joined-assoc, inserted-None, count-joined, without-joined, alone-joined, put_below-joined, children_of-joined, children_of-absent, without-absent, alone-absent, put_below-absent}
 use Rattle.lx_forest.specs.Forest.{Label, Forest}
 use Rattle.lx_render.specs.Render.{render, face_of, last_kind}
@@ -244,10 +244,3 @@ count-numbered q id (tree face below rest) =
       count-numbered_before q (id + 1 + total below) rest,
       count-numbered_behind q (id + 1) below,
     )
-
--- ---- by what is known of a host tree
-
--- At the end of a host's children. A host tree that is numbered stays so.
-module _ (w : HostTree) (w_is : IsNumbered w) (parent : ℕ) (there : 0 < count parent w.hosts) (f : Forest) where
-  once : count parent w.hosts ≡ 1
-  once = omega (arith, w_is.once parent, there)

@@ -79,9 +79,6 @@ children-behind l b t k other out = grind (arith, other, children-absent k b out
 other_key : (l : Label) (b t : Forest) (k : ℕ) → count k (tree l b t) < 2 → 0 < count k b + count k t → eqb l.key k ≡ false
 other_key l b t k once some = grind (arith, once, some, eqb_tells l.key k)
 
-part_once : (l : Label) (b t : Forest) (k : ℕ) → count k (tree l b t) < 2 → count k b + count k t < 2
-part_once l b t k once = omega (arith, once)
-
 own_out : (l : Label) (b t : Forest) → count l.key (tree l b t) < 2 → count l.key t ≡ 0
 own_out l b t once = grind (arith, once, eqb_tells l.key l.key)
 
@@ -92,12 +89,12 @@ children_weight noted (tree l b t) once =
     let w = size_if noted (λ k. named.children_of key_of k f) in
     let below : weight w (named.preorder key_of b) ≡ marked_children noted b =
     weight-same w (size_if noted (λ k. named.children_of key_of k b)) (named.preorder key_of b)
-    (λ k e. ap (λ xs. cond (noted k) (length xs) 0) (children-below l b t k (other_key l b t k (once k) (omega (arith, among_part b k e))) (omega (arith, part_once l b t k (once k), among_part b k e))))
-    ∙ sym (children_weight noted b (λ q. omega (arith, part_once l b t q (once q)))) in
+    (λ k e. ap (λ xs. cond (noted k) (length xs) 0) (children-below l b t k (other_key l b t k (once k) (omega (arith, among_part b k e))) (omega (arith, once k, among_part b k e))))
+    ∙ sym (children_weight noted b (λ q. omega (arith, once q))) in
     let behind : weight w (named.preorder key_of t) ≡ marked_children noted t =
     weight-same w (size_if noted (λ k. named.children_of key_of k t)) (named.preorder key_of t)
-    (λ k e. ap (λ xs. cond (noted k) (length xs) 0) (children-behind l b t k (other_key l b t k (once k) (omega (arith, among_part t k e))) (omega (arith, part_once l b t k (once k), among_part t k e))))
-    ∙ sym (children_weight noted t (λ q. omega (arith, part_once l b t q (once q)))) in
+    (λ k e. ap (λ xs. cond (noted k) (length xs) 0) (children-behind l b t k (other_key l b t k (once k) (omega (arith, among_part t k e))) (omega (arith, once k, among_part t k e))))
+    ∙ sym (children_weight noted t (λ q. omega (arith, once q))) in
     let own : w l.key ≡ cond (noted l.key) (length (roots b)) 0 = ap (λ xs. cond (noted l.key) (length xs) 0) (children-first l b t (own_out l b t (once l.key))) in
     omega (arith, own, below, behind, weight-append w (named.preorder key_of b) (named.preorder key_of t))
 

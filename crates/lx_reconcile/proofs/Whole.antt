@@ -4,7 +4,6 @@ use Rattle.std.proofs.lemmas.Option.{same_Some}
 use Rattle.lx_node.specs.Limits.{last_u32, last_u64}
 use Rattle.lx_trees.specs.Trees.{nil, tree}
 use Rattle.lx_trees.specs.NamedTrees.{total}
-use Rattle.lx_trees.specs.Spots.{Spot}
 use Rattle.lx_node.specs.declared.kind.Kind.TheVariants.{Root}
 use Rattle.lx_node.specs.declared.node.Node.{Node}
 use Rattle.lx_node.specs.OfKind.{is_of_kind}
@@ -14,7 +13,7 @@ use Rattle.lx_host.specs.Branches.{IsRooted}
 use Rattle.lx_host.specs.Hosts.{Face, Host, HostTree, IsNumbered, with_ending}
 use Rattle.lx_host.specs.Html.{first_tree}
 use Rattle.lx_forest.specs.Forest.{Label, Forest}
-use Rattle.lx_forest.specs.Lookups.{alone, has, label_of, children_of, trees_of, IsForest}
+use Rattle.lx_forest.specs.Lookups.{alone, has, label_of, children_of, trees_of, IsForest, kind_of}
 use Rattle.lx_forest.specs.Records.{record_at}
 use Rattle.lx_forest.specs.Views.{kind_at}
 use Rattle.lx_forest.specs.Suited.{is_suited}
@@ -199,15 +198,11 @@ are_between old new mk v covered was is shows numbered rooted =
 pub root_there : (f : Forest) → IsTree f → has 0 f ≡ true
 root_there f t = has-root f (tree_ordered f t)
 
-root_kind : (f : Forest) (n : Node) → IsTree f → Some n ≡ option_map node_of (record_at f 0) → n.kind ≡ Root
-root_kind f n t e =
-    let r = is_read f 0 n t.sound e in
-    let own : Some n.kind ≡ Some Root = sym (ap (λ (l : Label). Some l.kind) r.label) ∙ sym (ap (λ o. option_map (λ (l : Label). l.kind) (option_map (λ (s : Spot Label). s.label) o)) r.at_is) ∙ (tree_ordered f t).root in
-    same_Some n.kind Root own
-
-pub root_tag : (old new : Forest) (was now : Node) → IsTree old → IsTree new → Some was ≡ option_map node_of (record_at old 0) → Some now ≡ option_map node_of (record_at new 0) → tag_of was.kind was.fields ≡ tag_of now.kind now.fields
-root_tag old new was now s t e g =
-    ap (λ k. tag_of k was.fields) (root_kind old was s e) ∙ sym (ap (λ k. tag_of k now.fields) (root_kind new now t g))
+root_kind : (f : Forest) (k : ℕ) (n : Node) → k ≡ 0 → IsTree f → Some n ≡ option_map node_of (record_at f k) → n.kind ≡ Root
+root_kind f k n e t read =
+    let kinds : Some n.kind ≡ Some Root =
+    sym (ap (option_map (λ (l : Label). l.kind)) (label_read f k n (is_read f k n t.sound read))) ∙ ap (kind_of f) e ∙ (tree_ordered f t).root in
+    same_Some n.kind Root kinds
 
 -- below the root no more than in all
 pub root_unkept : (old f : Forest) → IsTree f → unkept old (Some 0) (trees_of f (children_of f 0)) ≤ unkept old None f
@@ -224,11 +219,9 @@ all_allowed old new mk v start ops m was is b none r =
 
 -- ---- by what the code knows
 
-root_read : (f : Forest) (k : ℕ) (n : Node) → k ≡ 0 → Some n ≡ option_map node_of (record_at f k) → Some n ≡ option_map node_of (record_at f 0)
-root_read f k n e h = subst (λ k. Some n ≡ option_map node_of (record_at f k)) e h
-
 pub root_same_tag : (old new : Forest) (k : ℕ) (was now : Node) → k ≡ 0 → IsTree old → IsTree new → Some was ≡ option_map node_of (record_at old k) → Some now ≡ option_map node_of (record_at new k) → tag_of was.kind was.fields ≡ tag_of now.kind now.fields
-root_same_tag old new k was now e s t f g = root_tag old new was now s t (root_read old k was e f) (root_read new k now e g)
+root_same_tag old new k was now e s t f g =
+    ap (λ k. tag_of k was.fields) (root_kind old k was e s f) ∙ sym (ap (λ k. tag_of k now.fields) (root_kind new k now e t g))
 
 -- the most reads that there are for all that may be done
 abbrev pub most_reads : Forest → Forest → (ℕ → Bool) → ℕ
