@@ -14,6 +14,7 @@ use Rattle.lx_host.proofs.Laws.{joined-nil, joined-assoc, inserted-None, count-j
 use Rattle.lx_forest.specs.Forest.{Label, Forest}
 use Rattle.lx_render.specs.Render.{render, face_of, last_kind}
 use Rattle.lx_reconcile.specs.Created.{numbered, create_op, creations, creation}
+use Rattle.lx_reconcile.specs.Changing.{IsWriteAt, is_text, is_attr, is_break}
 
 abbrev pub host_tree : Trees Host → ℕ → HostTree
 host_tree hosts next = record { hosts = hosts; next = next }
@@ -81,6 +82,13 @@ pub record IsReadyFor (parent more : ℕ) (hosts : Trees Host) (next : ℕ) : Ty
 pub parent_before : (parent more : ℕ) (hosts : Trees Host) (next : ℕ) → IsReadyFor parent more hosts next → parent < next
 parent_before parent more hosts next ready =
     elim (cases_lt parent next) [ inl before ↦ before | inr behind ↦ absurd (omega (arith, ready.once, ready.free parent (omega (arith, behind)))) ]
+
+-- what is written at a host that is there fits
+pub fits_write : {h : ℕ} {op : Op} → IsWriteAt h op → (w : HostTree) → has h w.hosts ≡ fits op w
+unfolding fits
+fits_write (is_text text) w = refl
+fits_write (is_attr name value) w = refl
+fits_write (is_break ending) w = refl
 
 -- ---- one host
 

@@ -1,6 +1,6 @@
 -- What operations make of one host with what is below it, whatever is around it.
-use Rattle.std.proofs.Common.{◌≡◌, ◌≢◌, ◌∙◌, ◌+◌, ◌<◌, ◌≤◌, ℕ, Bool, true, false, refl, sym, ap, subst, arith, inl, inr, eqb, IsTrue, List, [], ◌∷◌, ◌++◌, append-nil, Option, None, Some}
-use Rattle.std.proofs.lemmas.Bool.{cases_lt, ne_eqb, eq-eqb, ltb-true}
+use Rattle.std.proofs.Common.{◌≡◌, ◌≢◌, ◌∙◌, ◌+◌, ◌<◌, ◌≤◌, ℕ, Bool, true, false, refl, sym, ap, subst, arith, eqb, IsTrue, List, [], ◌∷◌, ◌++◌, append-nil, Option, None, Some}
+use Rattle.std.proofs.lemmas.Bool.{ne_eqb, eq-eqb, ltb-true}
 use Rattle.std.proofs.lemmas.Bool.Decides.{eqb_tells}
 use Rattle.lx_node.specs.Limits.{last_u32}
 use Rattle.lx_trees.specs.Trees.{Trees, nil, tree, joined}
@@ -23,7 +23,8 @@ use Rattle.lx_reconcile.specs.Created.{numbered, creation}
 use Rattle.lx_reconcile.specs.Reconciled.{replaced, LeadsAt, IsAt}
 use Rattle.lx_reconcile.specs.Allowed.{AllWriteAnew, WritesAnew}
 use Rattle.lx_reconcile.proofs.Due.{writes_append, creation_writes}
-use Rattle.lx_reconcile.proofs.Created.{host_tree, Leads-append, has_if, has_not, host_over, count-numbered_before, count-numbered_behind, count-numbered, created_alone, total-render}
+use Rattle.lx_reconcile.proofs.Created.{host_tree, Leads-append, has_if, has_not, host_over, count-numbered_before, count-numbered_behind, count-numbered, created_alone, total-render, fits_write}
+use Rattle.lx_reconcile.specs.Changing.{is_text, is_attr, is_break}
 
 -- ---- other trees in place of the one at a host
 
@@ -40,10 +41,14 @@ replaced-absent h new (tree x below rest) e = grind (arith, replaced-absent h ne
 pub replaced-twice : (h : ℕ) (new newer t : Trees Host) → replaced h newer new ≡ newer → replaced h newer (replaced h new t) ≡ replaced h newer t
 replaced-twice h new newer nil e = refl
 replaced-twice h new newer (tree x below rest) e =
-    elim (eqb_tells x.id h) [
-      | inl same ↦ rw same.0 (replaced-joined h newer new (replaced h new rest) ∙ rw (e, replaced-twice h new newer rest e) refl)
-      | inr other ↦ rw other.0 (rw (other.0, replaced-twice h new newer below e, replaced-twice h new newer rest e) refl)
-    ]
+    grind (
+      arith,
+      e,
+      eqb_tells x.id h,
+      replaced-joined h newer new (replaced h new rest),
+      replaced-twice h new newer below e,
+      replaced-twice h new newer rest e,
+    )
 
 -- the same tree there
 pub replaced-same : (h : ℕ) (t : Trees Host) → count h t ≡ 1 → replaced h (alone h t) t ≡ t
@@ -60,27 +65,24 @@ replaced-same h (tree x below rest) once =
       joined-nil (alone h below),
     )
 
--- ---- what is outside the tree at a host
-
--- another host that is there nowhere else is found in the new trees
-pub alone-replaced : (q h : ℕ) (new t : Trees Host) → count h t ≡ 1 → count q (without h t) ≡ 0 → alone q (replaced h new t) ≡ alone q new
-alone-replaced q h new nil once e = absurd (omega arith)
-alone-replaced q h new (tree x below rest) once e =
+-- they are found there
+alone_at : (h : ℕ) (b t : Trees Host) → IsAt h b → count h t ≡ 1 → alone h (replaced h b t) ≡ b
+alone_at h b nil at once = absurd (omega arith)
+alone_at h b (tree x below rest) at once =
+    let own : alone h b ≡ b = ap (alone h) at.is ∙ rw (eq-eqb at.host.id h at.id) refl ∙ sym at.is in
     grind (
       arith,
+      own,
       eqb_tells x.id h,
-      eqb_tells x.id q,
-      alone-replaced q h new below,
-      alone-replaced q h new rest,
-      without-absent h below,
-      without-absent h rest,
-      replaced-absent h new below,
-      replaced-absent h new rest,
-      alone-absent q below,
-      alone-absent q rest,
-      alone-joined q new rest,
-      joined-nil (alone q new),
-      joined-nil (alone q (replaced h new below)),
+      alone_at h b below at,
+      alone_at h b rest at,
+      replaced-absent h b below,
+      replaced-absent h b rest,
+      alone-absent h below,
+      alone-absent h rest,
+      alone-joined h b rest,
+      joined-nil b,
+      joined-nil (alone h (replaced h b below)),
     )
 
 -- ---- what is done at one host is done inside a tree that holds it
@@ -200,11 +202,6 @@ at_same h from n at w w_is next there is =
     ap (host_tree (replaced h from w.hosts)) (sym next) ∙ ap (λ t. host_tree t w.next) (ap (λ b. replaced h b w.hosts) (sym is) ∙ replaced-same h w.hosts once) in
     (same, subst IsNumbered (sym same) w_is, tt)
 
-alone_at : (h : ℕ) (b t : Trees Host) → IsAt h b → count h t ≡ 1 → alone h (replaced h b t) ≡ b
-alone_at h b t at once =
-    alone-replaced h h b t once (trees.count-without id_of h t)
-    ∙ ap (alone h) at.is ∙ rw (eq-eqb at.host.id h at.id) refl ∙ sym at.is
-
 has_at : (h : ℕ) (b t : Trees Host) → IsAt h b → count h t ≡ 1 → has h (replaced h b t) ≡ true
 has_at h b t at once =
     let all : count h (replaced h b t) ≡ count h (tree at.host at.below nil) =
@@ -255,18 +252,6 @@ at_op h n op to w next d =
 
 -- ---- what a host shows, changed
 
-fits_text : (h : ℕ) (text : List ℕ) (w : HostTree) → has h w.hosts ≡ fits (Text h text) w
-unfolding fits
-fits_text h text w = refl
-
-fits_attr : (h : ℕ) (name : Name) (value : Option (List ℕ)) (w : HostTree) → has h w.hosts ≡ fits (Attr h name value) w
-unfolding fits
-fits_attr h name value w = refl
-
-fits_break : (h : ℕ) (ending : Bool) (w : HostTree) → has h w.hosts ≡ fits (Break h ending) w
-unfolding fits
-fits_break h ending w = refl
-
 -- the host, showing this
 abbrev pub showing : Face → Host → Host
 showing face a = record { id = a.id; face = face }
@@ -301,17 +286,17 @@ does_change op h change a kids w p fit is other anew =
 pub at_text : (h : ℕ) (a : Host) (kids : Trees Host) (n : ℕ) (text : List ℕ) → a.id ≡ h → with_text text a.face ≢ a.face
     → LeadsAt h (tree a kids nil) n (Text h text ∷ []) (tree (record { id = a.id; face = with_text text a.face }) kids nil) n
 at_text h a kids n text id other w w_is next there is =
-    at_op h n (Text h text) _ w next (does_change (Text h text) h (with_text text) a kids w (is_here h a kids w id w_is there is) (sym (fits_text h text w) ∙ there) (effect_text h text w) other (λ x. x))
+    at_op h n (Text h text) _ w next (does_change (Text h text) h (with_text text) a kids w (is_here h a kids w id w_is there is) (sym (fits_write (is_text text) w) ∙ there) (effect_text h text w) other (λ x. x))
 
 pub at_attr : (h : ℕ) (a : Host) (kids : Trees Host) (n : ℕ) (name : Name) (value : Option (List ℕ)) → a.id ≡ h → with_value name value a.face ≢ a.face
     → LeadsAt h (tree a kids nil) n (Attr h name value ∷ []) (tree (record { id = a.id; face = with_value name value a.face }) kids nil) n
 at_attr h a kids n name value id other w w_is next there is =
-    at_op h n (Attr h name value) _ w next (does_change (Attr h name value) h (with_value name value) a kids w (is_here h a kids w id w_is there is) (sym (fits_attr h name value w) ∙ there) (effect_attr h name value w) other (λ x. x))
+    at_op h n (Attr h name value) _ w next (does_change (Attr h name value) h (with_value name value) a kids w (is_here h a kids w id w_is there is) (sym (fits_write (is_attr name value) w) ∙ there) (effect_attr h name value w) other (λ x. x))
 
 pub at_break : (h : ℕ) (a : Host) (kids : Trees Host) (n : ℕ) (ending : Bool) → a.id ≡ h → with_ending ending a.face ≢ a.face
     → LeadsAt h (tree a kids nil) n (Break h ending ∷ []) (tree (record { id = a.id; face = with_ending ending a.face }) kids nil) n
 at_break h a kids n ending id other w w_is next there is =
-    at_op h n (Break h ending) _ w next (does_change (Break h ending) h (with_ending ending) a kids w (is_here h a kids w id w_is there is) (sym (fits_break h ending w) ∙ there) (effect_break h ending w) other (λ x. x))
+    at_op h n (Break h ending) _ w next (does_change (Break h ending) h (with_ending ending) a kids w (is_here h a kids w id w_is there is) (sym (fits_write (is_break ending) w) ∙ there) (effect_break h ending w) other (λ x. x))
 
 -- ---- one of the host's children, taken out or placed anew
 
@@ -322,11 +307,7 @@ pub record IsChild (h c : ℕ) (kids : Trees Host) (w : HostTree) : Type 0 where
   pub outside : count c (without h w.hosts) ≡ 0
 
 pub some_among : (c : ℕ) (kids : Trees Host) → is_among c (ids_of kids) ≡ true → 0 < count c kids
-some_among c kids among =
-    elim (cases_lt 0 (count c kids)) [
-      | inl some ↦ some
-      | inr none ↦ absurd (grind (arith, none, among, spots.is_among-names id_of kids c))
-    ]
+some_among c kids among = grind (arith, among, spots.is_among-names id_of kids c)
 
 is_child : (h c : ℕ) (a : Host) (kids : Trees Host) (w : HostTree) → IsHere h a kids w → is_among c (ids_of kids) ≡ true → IsChild h c kids w
 is_child h c a kids w p among =
@@ -417,11 +398,7 @@ at_place h a kids n c before id nonzero among place w w_is next there is =
 -- ---- a new tree, put among the children
 
 host_before : (h : ℕ) (a : Host) (kids : Trees Host) (w : HostTree) → IsHere h a kids w → h < w.next
-host_before h a kids w p =
-    elim (cases_lt h w.next) [
-      | inl before ↦ before
-      | inr behind ↦ absurd (omega (arith, p.once, p.numbered.below h (omega (arith, behind))))
-    ]
+host_before h a kids w p = grind (arith, p.once, p.numbered.below h)
 
 free_below : (h : ℕ) (a : Host) (kids : Trees Host) (w : HostTree) → IsHere h a kids w → count w.next kids ≡ 0
 free_below h a kids w p =
@@ -453,10 +430,7 @@ numbered_made h a kids w f before p =
     let same = put_here h a kids before new w.hosts p.id p.once p.is in
     let counted = λ (q : ℕ). sym (ap (count q) same) ∙ trees.count-put_below id_of q h before new w.hosts p.once in
     record {
-      once = λ q. elim (cases_lt q w.next) [
-        | inl less ↦ omega (arith, counted q, p.numbered.once q, count-numbered_before q w.next (render f) less)
-        | inr behind ↦ omega (arith, counted q, p.numbered.below q (omega (arith, behind)), count-numbered q w.next (render f))
-      ];
+      once = λ q. grind (arith, counted q, p.numbered.once q, p.numbered.below q, count-numbered_before q w.next (render f), count-numbered q w.next (render f));
       below = λ q h. omega (arith, counted q, p.numbered.below q (omega (arith, h)), count-numbered_behind q w.next (render f) (omega (arith, h, total-render f)));
     }
 

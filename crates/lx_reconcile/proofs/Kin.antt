@@ -177,10 +177,15 @@ module _ (old new : Forest) (mk : Marking) (v : HostTree) (b : IsBetween old new
 
   among_hosts : (c : ℕ) (ks : List ℕ) → forest.has c old ≡ true → ((q : ℕ) → is_among q ks ≡ true → forest.has q old ≡ true) → is_among (host_in v c) (map (host_in v) ks) ≡ true → is_among c ks ≡ true
   among_hosts c [] there all e = absurd (cc)
-  among_hosts c (k ∷ ks) there all e = elim (eqb_tells (host_in v k) (host_in v c)) [
-    | inl own ↦ grind (arith, one_host k c (all k (grind (arith, eqb_tells k k))) there own.1, eqb_tells k c)
-    | inr other ↦ grind (arith, among_hosts c ks there (λ q e. all q (grind (arith, e))) (rw other.0 at e))
-  ]
+  among_hosts c (k ∷ ks) there all e =
+      grind (
+        arith,
+        e,
+        eqb_tells (host_in v k) (host_in v c),
+        eqb_tells k c,
+        one_host k c (all k (grind (arith, eqb_tells k k))) there,
+        among_hosts c ks there (λ q e. all q (grind (arith, e))),
+      )
 
   -- whose hosts are right below a node's are its children
   pub child_above : (c k : ℕ) → forest.has k old ≡ true → is_named (host_above v c) (host_in v k) ≡ true → is_among c (children_of old k) ≡ true

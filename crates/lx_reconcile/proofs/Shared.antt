@@ -105,10 +105,7 @@ pub record IsShared (front old back news : List ℕ) : Type 0 where
 -- a name with none before it in the first list, which begins with it, begins the second too
 pub first_shared : (f : ℕ) (front rest news : List ℕ) → NoRepeats news → is_among f news ≡ true → previous_in news f ≡ previous_in (f ∷ front ++ rest) f → first_of news ≡ Some f
 first_shared f front rest news once there same =
-    elim (is_named_tells (first_of news) f) [
-      | inl own ↦ own.1
-      | inr other ↦ absurd (grind (arith, other.0, same, eqb_tells f f, is_none-previous_in news f once there))
-    ]
+    grind (arith, same, eqb_tells f f, is_named_tells (first_of news) f, is_none-previous_in news f once there)
 
 -- it goes on after this front
 record GoesBehind (front news : List ℕ) : Type 0 where

@@ -91,10 +91,7 @@ NoRepeats-unkept_keys old p (tree l b t) once =
 
 -- the first of trees has the key, or is none of those that have it
 is_own : (k q : ℕ) → (k ≡ q) ⊎ (cond {A = ℕ} (eqb k q) 1 0 ≡ 0)
-is_own k q = elim (eqb_tells k q) [
-  | inl own ↦ inl own.1
-  | inr other ↦ inr (ap {B = ℕ} (λ c. cond c 1 0) other.0)
-]
+is_own k q = grind (arith, eqb_tells k q)
 
 -- ---- where nodes are
 

@@ -263,14 +263,11 @@ module _ {old new : Forest} {v : HostTree} where
       walked_on w (op.Drop (host_in v c) ∷ []) a (c ∷ w.handled) (names_without c w.now) w.ids w.family ms m refl
       (subst (λ i. LeadsAt (host_in v k) (tree a (flat w.family w.now) nil) m (op.Drop i ∷ []) then m) own.0 (at_gone (host_in v k) a w.ids w.family w.now m c w.id u.at here own.1))
       (record {
-        at = λ d among. u.at d (rest_of d among).0;
-        done = λ d among done. u.done d (rest_of d among).0 (among_handled d c w.handled (rest_of d among).1 done);
-        waiting = λ d among waits. u.waiting d (rest_of d among).0 (not_handled d c w.handled waits).1;
+        at = λ d among. u.at d (without_key c d w.now among).0;
+        done = λ d among done. u.done d (without_key c d w.now among).0 (among_handled d c w.handled (without_key c d w.now among).1 done);
+        waiting = λ d among waits. u.waiting d (without_key c d w.now among).0 (not_handled d c w.handled waits).1;
       })
       (one_came (children_of old k) (children_of new k) w.handled w.now (Leave c) ms w.to_come) (omega arith) (omega arith)
-    where
-      rest_of : (d : ℕ) → is_among d (names_without c w.now) ≡ true → (is_among d w.now ≡ true) × (d ≢ c)
-      rest_of d e = without_key c d w.now e
 
   -- a child is placed, and stays then
   pub walk_place : {k n : ℕ} {ops : List Op} {a : Host} {c : ℕ} {before : Option ℕ} {ms : List Move} {m : ℕ} → IsView old new v → IsInWalk old new v k n ops a (Place c before ∷ ms) m

@@ -110,16 +110,9 @@ module _ (old new : Forest) (mk : Marking) (v : HostTree) (k n : ℕ) (was now :
       let face : Tag → Bool → Face = λ t e. record { key = k; tag = t; attrs = attributes_of now.kind now.fields; text = text_of now.fields; ending = e } in
       ap (λ t. face t ended) tag ∙ ap (λ e. face (tag_of now.kind now.fields) e) (is ∙ sym (ap (needs_break now.kind) (last_kind_read new k now b.sound after_read)))
 
-  -- a node that isn't touched has the same kind and fields, and the same ending
-  label_was : label_of old k ≡ Some (label_from k was)
-  label_was = label_read old k was before_read
-
-  label_now : label_of new k ≡ Some (label_from k now)
-  label_now = label_read new k now after_read
-
   kind_same : was.kind ≡ now.kind
   kind_same =
-      let kinds : Some was.kind ≡ Some now.kind = sym (ap (option_map (λ (l : Label). l.kind)) label_was) ∙ b.covered.kinds k (there_read old k was before_read) (there_read new k now after_read) ∙ ap (option_map (λ (l : Label). l.kind)) label_now in
+      let kinds : Some was.kind ≡ Some now.kind = sym (ap (option_map (λ (l : Label). l.kind)) (label_read old k was before_read)) ∙ b.covered.kinds k (there_read old k was before_read) (there_read new k now after_read) ∙ ap (option_map (λ (l : Label). l.kind)) (label_read new k now after_read) in
       same_Some was.kind now.kind kinds
 
   -- a text stays one
@@ -128,13 +121,13 @@ module _ (old new : Forest) (mk : Marking) (v : HostTree) (k n : ℕ) (was now :
 
   pub text_stays : text_of now.fields ≡ None → text_of was.fields ≡ None
   text_stays none =
-      none_of_kind was.kind was.fields now.fields (own_fields old was b.was_sound label_was)
-      (ap (λ kind. is_of_kind kind now.fields) kind_same ∙ own_fields new now b.sound label_now) none
+      none_of_kind was.kind was.fields now.fields (own_fields old was b.was_sound (label_read old k was before_read))
+      (ap (λ kind. is_of_kind kind now.fields) kind_same ∙ own_fields new now b.sound (label_read new k now after_read)) none
 
   untouched_face : {one start : List Op} → mk.touched k ≡ false → (was.kind ≡ now.kind → was.fields ≡ now.fields → one ≡ start) → one ≡ start
   untouched_face plain same =
       let fields : Some was.fields ≡ Some now.fields =
-      sym (ap (option_map (λ (l : Label). l.fields)) label_was) ∙ (b.covered.alike k (there_read old k was before_read) (there_read new k now after_read) plain).fields ∙ ap (option_map (λ (l : Label). l.fields)) label_now in
+      sym (ap (option_map (λ (l : Label). l.fields)) (label_read old k was before_read)) ∙ (b.covered.alike k (there_read old k was before_read) (there_read new k now after_read) plain).fields ∙ ap (option_map (λ (l : Label). l.fields)) (label_read new k now after_read) in
       same kind_same (same_Some was.fields now.fields fields)
 
   untouched_end : mk.touched k ≡ false → (was_ended ended : Bool) → was_ended ≡ needs_break was.kind (kind_at old was.last) → ended ≡ needs_break now.kind (kind_at new now.last) → was_ended ≡ ended
