@@ -203,10 +203,7 @@ first_place [] = refl
 first_place (x ∷ xs) = grind (arith, eqb_tells x x)
 
 pub next_place : (xs : List ℕ) (k : ℕ) → is_place (next_in xs k) xs ≡ true
-next_place xs k = by_next (next_in xs k) refl where
-  by_next : (o : Option ℕ) → next_in xs k ≡ o → is_place o xs ≡ true
-  by_next None e = refl
-  by_next (Some n) e = next_in-among xs k n e
+next_place xs k = grind (arith, next_in-among xs k)
 
 pub record IsChildLeft (f : Forest) (key child : ℕ) : Type 0 where
   pub ordered : IsForest f

@@ -32,7 +32,7 @@ use Rattle.lx_reconcile.specs.Created.{creation_of}
 use Rattle.lx_reconcile.specs.Making.{IsBetween, Reconciles, MakesMoves, AreComing, IsNext, standing_total}
 use Rattle.lx_reconcile.specs.Reconciled.{host_in}
 use Rattle.lx_reconcile.specs.ToCome.{IsInWalk}
-use Rattle.lx_reconcile.specs.Walk.{is_waiting, standing}
+use Rattle.lx_reconcile.specs.Walk.{is_waiting, standing, child_of}
 use Rattle.lx_reconcile.proofs.Children.{label_from, is_read, label_read, StandsThere, stands_there}
 use Rattle.lx_reconcile.specs.Reading.{reads_in, reads_below}
 use Rattle.lx_reconcile.proofs.InTurn.{standing-append}
@@ -198,9 +198,7 @@ module _ {old new : Forest} {mk : Marking} {v : HostTree} (b : IsBetween old new
 
   move_less : {k : ℕ} (s : Move) {n : ℕ} → IsNext old new v k s n → 4 * standing_total new (s ∷ []) + 3 < 4 * total (alone k new)
   move_less {k} (Leave c) x = omega (arith, ap total (stands_there new k b.view.after x.are.there).tree_is)
-  move_less {k} (Stay c) x = standing_less k c (x.are.walk.to_come.stays c (grind (arith, eqb_tells c c)))
-  move_less {k} (Make c before) x = standing_less k c (x.are.walk.to_come.stays c (grind (arith, eqb_tells c c)))
-  move_less {k} (Place c before) x = standing_less k c (x.are.walk.to_come.stays c (grind (arith, eqb_tells c c)))
+  move_less {k} s x = standing_less k (child_of s) (x.are.walk.to_come.stays (child_of s) (grind (arith, eqb_tells (child_of s) (child_of s))))
 
   pub move_less_still : {k : ℕ} {s : Move} {n : ℕ} {new_now : Forest} → new_now ≡ new → IsNext old new v k s n → 4 * standing_total new_now (s ∷ []) + 3 < 4 * total (alone k new)
   move_less_still {k} {s} d x = subst (λ y. 4 * standing_total y (s ∷ []) + 3 < 4 * total (alone k new)) (sym d) (move_less s x)

@@ -132,34 +132,16 @@ old_sizes_less old new noted g h =
 
 -- ---- the sum
 
-one_node : (kept marked : Bool) (olds kids inner size unkept_inner sizes marks : ℕ)
-    → inner ≤ 4 * kids + 2 * unkept_inner + sizes + 5 * marks
-    → cond kept (cond marked (4 + olds + kids + inner) 0) (2 + 2 * (1 + size)) ≤ 4 + 2 * cond kept unkept_inner (1 + size) + (cond marked olds 0 + sizes) + 5 * (cond marked kids 0 + marks)
-one_node true true olds kids inner size unkept_inner sizes marks less = omega (arith, less)
-one_node true false olds kids inner size unkept_inner sizes marks less = omega arith
-one_node false marked olds kids inner size unkept_inner sizes marks less = omega arith
-
 pub reads_less : (old : Forest) (noted : ℕ → Bool) (parent : Option ℕ) (f : Forest)
     → reads_in old noted parent f ≤ 4 * length (roots f) + 2 * unkept old parent f + weight (size_if noted (children_of old)) (named.preorder key_of f) + 5 * marked_children noted f
 reads_less old noted parent nil = omega arith
 reads_less old noted parent (tree l b t) =
     let w = size_if noted (children_of old) in
-    omega (
-      arith,
-      reads_less old noted parent t,
-      weight-append w (named.preorder key_of b) (named.preorder key_of t),
-      one_node (kept_here old parent l) (noted l.key) (length (children_of old l.key)) (length (roots b)) (reads_in old noted (Some l.key) b) (total b) (unkept old (Some l.key) b) (weight w (named.preorder key_of b)) (marked_children noted b)
-          (reads_less old noted (Some l.key) b),
-    )
-
--- no tree has more children than nodes
-marked_cond : (b : Bool) (n : ℕ) → cond b n 0 ≤ n
-marked_cond true n = omega arith
-marked_cond false n = omega arith
+    grind (arith, reads_less old noted parent t, reads_less old noted (Some l.key) b, weight-append w (named.preorder key_of b) (named.preorder key_of t))
 
 pub marked_children-total : (noted : ℕ → Bool) (f : Forest) → marked_children noted f + length (roots f) ≤ total f
 marked_children-total noted nil = omega arith
-marked_children-total noted (tree l b t) = omega (arith, marked_cond (noted l.key) (length (roots b)), marked_children-total noted b, marked_children-total noted t)
+marked_children-total noted (tree l b t) = grind (arith, marked_children-total noted b, marked_children-total noted t)
 
 -- ---- of one child
 

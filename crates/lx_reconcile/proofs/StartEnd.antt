@@ -60,10 +60,7 @@ some_children xs None e = absurd (cc)
 some_children xs (Some s) e = same_Some xs s.children e
 
 pub child_stands : (f : Forest) (k c : ℕ) → IsForest f → is_among c (children_of f k) ≡ true → forest.has c f ≡ true
-child_stands f k c h among = by_parent (parent_of f c) refl (sym (is_among-children_of f c k h) ∙ among) where
-  by_parent : (o : Option ℕ) → parent_of f c ≡ o → is_named o k ≡ true → forest.has c f ≡ true
-  by_parent None up e = absurd (cc)
-  by_parent (Some p) up e = has-child f c p up
+child_stands f k c h among = grind (arith, among, is_among-children_of f c k h, has-child f c)
 
 pub is_shown_at : (old : Forest) (v : HostTree) (k : ℕ) → IsForest old → Shows v old → IsNumbered v → forest.has k old ≡ true → IsShownAt old v k
 is_shown_at old v k h shows n there = from_spot (spot_below key_in None v.hosts k) refl (children-shown k None None v.hosts old shows) where

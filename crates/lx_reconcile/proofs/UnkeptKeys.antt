@@ -111,10 +111,7 @@ stand_first new p l b t once at =
     )
 
 stand_below : (new : Forest) (p : Option ℕ) (l : Label) (b t : Forest) → IsDistinct key_of (tree l b t) → StandBelow new p (tree l b t) → StandBelow new (Some l.key) b
-stand_below new p l b t once at q inside =
-    let other : eqb l.key q ≡ false = grind (arith, inside, once q) in
-    at q (omega (arith, inside))
-    ∙ rw (other, places_of-absent q p t (omega (arith, once q, inside))) (append-nil (places_of q (Some l.key) b))
+stand_below new p l b t once at q inside = grind (arith, inside, once q, at q, places_of-absent q p t, append-nil (places_of q (Some l.key) b))
 
 stand_alone : (new : Forest) (p : Option ℕ) (l : Label) (b t : Forest) → IsDistinct key_of (tree l b t) → StandBelow new p (tree l b t) → StandBelow new p (tree l b nil)
 stand_alone new p l b t once at q own =
@@ -122,10 +119,7 @@ stand_alone new p l b t once at q own =
     ∙ ap (λ xs. cond (eqb l.key q) ((p, tag_of l.kind l.fields) ∷ []) [] ++ places_of q (Some l.key) b ++ xs) (places_of-absent q p t (omega (arith, once q, own)))
 
 stand_behind : (new : Forest) (p : Option ℕ) (l : Label) (b t : Forest) → IsDistinct key_of (tree l b t) → StandBelow new p (tree l b t) → StandBelow new p t
-stand_behind new p l b t once at q behind =
-    let other : eqb l.key q ≡ false = grind (arith, behind, once q) in
-    at q (omega (arith, behind))
-    ∙ rw (other, places_of-absent q (Some l.key) b (omega (arith, once q, behind))) refl
+stand_behind new p l b t once at q behind = grind (arith, behind, once q, at q, places_of-absent q (Some l.key) b)
 
 -- ---- which of them are kept
 
