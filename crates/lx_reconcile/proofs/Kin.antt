@@ -16,7 +16,7 @@ use Rattle.lx_trees.proofs.Siblings.{is_among-append}
 use Rattle.lx_marks.specs.Marks.{Marked, is_noted}
 use Rattle.lx_marks.proofs.Flags.{is_some-flag_in}
 use Rattle.lx_trees.specs.Lookups as rooted
-use Rattle.lx_trees.specs.Lookups.{IsOrdered, parent_of}
+use Rattle.lx_trees.specs.Lookups.{IsOrdered}
 use Rattle.lx_trees.proofs.Lookups as lookups
 use Rattle.lx_trees.proofs.Edits.{is_some-spot}
 use Rattle.lx_host.specs.Branches.{IsRooted}
@@ -148,10 +148,8 @@ module _ (old new : Forest) (mk : Marking) (v : HostTree) (b : IsBetween old new
         ∙ ids_of-flat (host_in v) (λ c. alone (host_in v c) v.hosts) (children_of old k) (λ c e. shown_at_id old v c b.view.before b.view.shows b.view.numbered (child_stands old k c b.view.before e))
       where
         child_counted : (q : ℕ) → is_among q (rooted.children_of id_of v.hosts (host_in v k)) ≡ true → count q v.hosts ≡ 1
-        child_counted q e = by_parent (parent_of id_of v.hosts q) refl (sym (lookups.is_among-children_of id_of v.hosts q (host_in v k) ordered) ∙ e) where
-          by_parent : (o : Option ℕ) → parent_of id_of v.hosts q ≡ o → is_named o (host_in v k) ≡ true → count q v.hosts ≡ 1
-          by_parent None up named = absurd (cc)
-          by_parent (Some p) up named = omega (arith, b.view.numbered.once q, some_counted q v.hosts (lookups.has-child id_of v.hosts q p up))
+        child_counted q e =
+            grind (arith, e, lookups.is_among-children_of id_of v.hosts q (host_in v k) ordered, b.view.numbered.once q, some_counted q v.hosts, lookups.has-child id_of v.hosts q)
 
   -- the host of a node that is there
   host_found : (c : ℕ) → forest.has c old ≡ true → host_of c (first_tree v.hosts) ≡ Some (host_in v c)

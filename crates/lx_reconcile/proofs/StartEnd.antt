@@ -1,5 +1,5 @@
 -- How the children of a host are before the first move, and after the last.
-use Rattle.std.proofs.Common.{◌≡◌, ◌≢◌, ◌∙◌, ◌+◌, ◌<◌, ℕ, Bool, true, false, cond, eqb, ltb, List, [], ◌∷◌, ◌++◌, Option, None, Some, option_map, inl, inr, refl, sym, ap, subst, arith, eq-eqb, eqb-true, ltb-true, append-nil}
+use Rattle.std.proofs.Common.{◌≡◌, ◌≢◌, ◌∙◌, ◌+◌, ◌<◌, ℕ, Bool, true, false, cond, eqb, ltb, List, [], ◌∷◌, ◌++◌, Option, None, Some, option_map, refl, sym, ap, subst, arith, eq-eqb, eqb-true, ltb-true, append-nil}
 use Rattle.std.specs.List.{AllByRecursion}
 use Rattle.std.proofs.lemmas.Bool.Decides.{eqb_tells}
 use Rattle.std.proofs.lemmas.Bool.{and_parts}
@@ -201,16 +201,19 @@ are_reconciled old new v k a l family g h shows is face id done =
           let counted : cond (eqb a.face.key q) 1 0 + forest.count q kids ≡ forest.count q (forest.alone k new) =
           ap {B = ℕ} (λ x. cond (eqb x q) 1 0 + forest.count q kids) key ∙ omega (arith, ap (forest.count q) is) in
           let one : cond (eqb a.face.key q) 1 0 + forest.count q kids ≡ 1 = counted ∙ has_tells (forest.count q (forest.alone k new)) (omega (arith, h.once q, count-alone-le key_of q k new)) inside in
-          elim (eqb_tells a.face.key q) [
-            | inl same ↦
-                let none : forest.count q kids ≡ 0 = omega (arith, one, ap {B = ℕ} (λ x. cond x 1 0) same.0) in
-                let is_q : k ≡ q = sym own_key ∙ sym key ∙ same.1 in
-                rw (same.0, hosts_of-none q (flat family cs) (count-shown q (flat family cs) kids shape ∙ none))
-                (ap (λ i. i ∷ []) (id ∙ ap (host_in v) is_q) ∙ sym (only_host old v q g shows (kept_there old new q g h kept).0))
-            | inr other ↦
-                let below : forest.count q kids ≡ 1 = omega (arith, one, ap {B = ℕ} (λ x. cond x 1 0) other.0) in
-                rw other.0 (append-nil (hosts_of q (flat family cs)) ∙ hosts_of-flat old new v family cs q done kept below)
-          ];
+          grind (
+            arith,
+            one,
+            id,
+            key,
+            own_key,
+            eqb_tells a.face.key q,
+            hosts_of-none q (flat family cs),
+            count-shown q (flat family cs) kids shape,
+            only_host old v q g shows (kept_there old new q g h kept).0,
+            append-nil (hosts_of q (flat family cs)),
+            hosts_of-flat old new v family cs q done kept,
+          );
     }
 
 -- ---- the whole

@@ -137,12 +137,10 @@ kept_at : (old new : Forest) (q k : ℕ) (tag : Tag) → IsForest new → places
 kept_at old new _ k tag h at kept_root =
     absurd (let up = (has_place new 0 k tag h at).parent in let none = parent_of-root new h in cc)
 kept_at old new _ k tag h at (kept_below q p other kept was is) =
-    let place : (Some p, other) ≡ (Some k, tag) = same_first (sym is ∙ at) in
+    let list : (Some p, other) ∷ [] ≡ (Some k, tag) ∷ [] = sym is ∙ at in
+    let place : (Some p, other) ≡ (Some k, tag) = cc in
     let same : p ≡ k = same_Some p k (ap (λ (x : Option ℕ × Tag). x.0) place) in
     record { parent = subst (IsKept old new) same kept; was = was ∙ ap (λ x. x ∷ []) place }
-  where
-    same_first : {x y : Option ℕ × Tag} → x ∷ [] ≡ y ∷ [] → x ≡ y
-    same_first e = cc
 
 -- what the test of places says
 only_one : (p : Option ℕ) (tag : Tag) (places : List (Option ℕ × Tag)) → is_only p tag places ≡ true → places ≡ (p, tag) ∷ []

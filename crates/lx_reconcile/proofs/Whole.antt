@@ -25,10 +25,10 @@ use Rattle.lx_render.specs.Render.{tag_of, attributes_of, text_of, face_of, last
 use Rattle.lx_reconcile.specs.declared.moves.Move.{Move}
 use Rattle.lx_reconcile.specs.Allowing.{IsTree, IsAllowed}
 use Rattle.lx_reconcile.specs.Changing.{Changes, shown_face}
-use Rattle.lx_reconcile.specs.Making.{IsBetween, Reconciles, MakesMoves, AreNext}
+use Rattle.lx_reconcile.specs.Making.{IsBetween, Reconciles, MakesMoves, AreComing}
 use Rattle.lx_reconcile.specs.Reconciled.{host_in}
 use Rattle.lx_reconcile.specs.ToCome.{IsInWalk}
-use Rattle.lx_reconcile.specs.Walk.{IsWalk}
+use Rattle.lx_reconcile.specs.Walk.{IsPart}
 use Rattle.lx_reconcile.proofs.Children.{stands_there, label_from, IsRead, is_read, there_read, tree_read, last_kind_read, label_read}
 use Rattle.lx_reconcile.proofs.Due.{each_append}
 use Rattle.lx_reconcile.proofs.Touched.{Due, last_same, writes_due}
@@ -46,6 +46,7 @@ use Rattle.lx_reconcile.proofs.UnkeptNodes.{unkept-below, unkept-total}
 use Rattle.lx_reconcile.proofs.Made.{reads_still}
 use Rattle.lx_reconcile.proofs.StartEnd.{only_host, is_shown_at, root_at, one_tree}
 use Rattle.lx_reconcile.proofs.Walked.{walk_start, walk_face, walk_end, walk_whole}
+use Rattle.lx_reconcile.proofs.Partly.{all_of, part_coming, part_makes}
 
 -- ---- one node
 
@@ -64,7 +65,7 @@ abbrev pub FaceChanges : ℕ → Node → Node → List Op → List Op → Type 
 FaceChanges h was now start end =
     (key : ℕ) (tag : Tag) (ending : Bool) → Changes h (shown_face key tag was.kind was.fields ending) (shown_face key tag now.kind now.fields ending) start end
 
-module _ (old new : Forest) (mk : Marking) (v : HostTree) (k n : ℕ) (was now : Node) (moves : List Move) (b : IsBetween old new mk v)
+module _ (old new : Forest) (mk : Marking) (v : HostTree) (k n : ℕ) (was now : Node) (b : IsBetween old new mk v)
     (was_is : Some was ≡ option_map node_of (record_at old k)) (now_is : Some now ≡ option_map node_of (record_at new k)) where
   before_read : IsRead old k was
   before_read = is_read old k was b.was_sound was_is
@@ -79,30 +80,24 @@ module _ (old new : Forest) (mk : Marking) (v : HostTree) (k n : ℕ) (was now :
   mid_face = shown_face k (tag_of was.kind was.fields) now.kind now.fields (old_end old k was)
 
   -- its face is written, and its children are to come
-  face_walk : (start end : List Op) → IsWalk (children_of old k) (children_of new k) moves → (c : Changes (host_in v k) first_face mid_face start end)
-      → IsInWalk old new v k n c.pushed (showing v k mid_face) moves n
-  face_walk start end walk c =
+  face_walk : {moves : List Move} (start end : List Op) → (p : IsPart mk.noted (children_of old k) (children_of new k) moves) → (c : Changes (host_in v k) first_face mid_face start end)
+      → IsInWalk old new v k n c.pushed (showing v k mid_face) (all_of p) n
+  face_walk start end p c =
       let s = is_shown_at old v k b.view.before b.view.shows b.view.numbered (there_read old k was before_read) in
       let same : s.host ≡ showing v k first_face = host_same s.host (host_in v k) first_face s.id (s.face (label_from k was) (trees_of old (children_of old k)) (tree_read old k was before_read)) in
-      let begun : IsInWalk old new v k n [] (showing v k first_face) moves n = subst (λ a. IsInWalk old new v k n [] a moves n) same (walk_start b.view s walk) in
+      let begun : IsInWalk old new v k n [] (showing v k first_face) (all_of p) n = subst (λ a. IsInWalk old new v k n [] a (all_of p) n) same (walk_start b.view s p.walk) in
       walk_face c.pushed begun refl (λ kids. c.leads kids n)
 
   written : (h : ℕ) (start end : List Op) → h ≡ host_in v k → FaceChanges h was now start end → Changes (host_in v k) first_face mid_face start end
   written h start end id face = subst (λ i. Changes i first_face mid_face start end) id (face k (tag_of was.kind was.fields) (old_end old k was))
 
-  pub children_next : (h : ℕ) (start end : List Op) → h ≡ host_in v k → v.next ≤ n → n + unkept old (Some k) (trees_of new (children_of new k)) ≤ last_u32 → IsWalk (children_of old k) (children_of new k) moves → FaceChanges h was now start end
-      → AreNext old new v k moves n
-  children_next h start end id behind room walk face =
+  -- then a part of its children is to come
+  pub children_coming : {moves : List Move} (h : ℕ) (start end : List Op) → h ≡ host_in v k → v.next ≤ n → n + unkept old (Some k) (trees_of new (children_of new k)) ≤ last_u32
+      → IsPart mk.noted (children_of old k) (children_of new k) moves → FaceChanges h was now start end → AreComing old new v k moves n
+  children_coming {moves} h start end id behind room p face =
       let c = written h start end id face in
-      record {
-        from = n;
-        ops = c.pushed;
-        a = showing v k mid_face;
-        walk = face_walk start end walk c;
-        behind = behind;
-        room = room;
-        there = there_read new k now after_read;
-      }
+      part_coming old new mk v b k (children_of old k) (children_of new k) moves n p
+      (record { from = n; ops = c.pushed; a = showing v k mid_face; walk = face_walk start end p c; behind = behind; room = room; there = there_read new k now after_read })
 
   last_face : (ended : Bool) → tag_of was.kind was.fields ≡ tag_of now.kind now.fields → ended ≡ needs_break now.kind (kind_at new now.last)
       → with_ending ended mid_face ≡ face_of (label_from k now) (last_kind (trees_of new (children_of new k)))
@@ -136,16 +131,18 @@ module _ (old new : Forest) (mk : Marking) (v : HostTree) (k n : ℕ) (was now :
       let last : kind_at old was.last ≡ kind_at new now.last = ap (kind_at old) before_read.last ∙ last_same old new mk v k b.covered b.was_sound b.sound b children ∙ sym (ap (kind_at new) after_read.last) in
       was_is ∙ ap (λ x. needs_break x (kind_at old was.last)) kind_same ∙ ap (needs_break now.kind) last ∙ sym is
 
-  pub node_done : (h : ℕ) (start one two end : List Op) (m : ℕ) (was_ended ended : Bool) → h ≡ host_in v k → tag_of was.kind was.fields ≡ tag_of now.kind now.fields → IsWalk (children_of old k) (children_of new k) moves
+  pub node_done : {moves : List Move} (h : ℕ) (start one two end : List Op) (m : ℕ) (was_ended ended : Bool) → h ≡ host_in v k → tag_of was.kind was.fields ≡ tag_of now.kind now.fields
+      → IsPart mk.noted (children_of old k) (children_of new k) moves
       → (was.kind ≡ now.kind → was.fields ≡ now.fields → one ≡ start) → FaceChanges h was now start one → MakesMoves old new mk v k moves n one two m
       → was_ended ≡ needs_break was.kind (kind_at old was.last) → ended ≡ needs_break now.kind (kind_at new now.last)
       → (was_ended ≡ ended → end ≡ two) → ((face : Face) → face.ending ≡ was_ended → Changes h face (with_ending ended face) two end)
       → Reconciles old new mk v k n start end m
-  node_done h start one two end m was_ended ended id tag walk same_face face made was_end end_is same_end ending =
+  node_done {moves} h start one two end m was_ended ended id tag p same_face face part was_end end_is same_end ending =
       let c = written h start one id face in
-      let first = face_walk start one walk c in
+      let first = face_walk start one p c in
+      let made : MakesMoves old new mk v k (all_of p) n one two m = part_makes old new mk v b k (children_of old k) (children_of new k) moves n m one two p part in
       let second : IsInWalk old new v k n (c.pushed ++ made.pushed) (showing v k mid_face) [] m =
-      made.leads n c.pushed (showing v k mid_face) [] (subst (λ ms. IsInWalk old new v k n c.pushed (showing v k mid_face) ms n) (sym (append-nil moves)) first) in
+      made.leads n c.pushed (showing v k mid_face) [] (subst (λ ms. IsInWalk old new v k n c.pushed (showing v k mid_face) ms n) (sym (append-nil (all_of p))) first) in
       let ends : old_end old k was ≡ was_ended = ap (needs_break was.kind) (last_kind_read old k was b.was_sound before_read) ∙ sym was_end in
       let d : Changes (host_in v k) mid_face (with_ending ended mid_face) two end = subst (λ i. Changes i mid_face (with_ending ended mid_face) two end) id (ending mid_face ends) in
       let third : IsInWalk old new v k n ((c.pushed ++ made.pushed) ++ d.pushed) (showing v k (with_ending ended mid_face)) [] m =

@@ -208,7 +208,7 @@ pub reconcile_node-host_of-host-requires-clause-shown : goal.reconcile_node-host
 reconcile_node-host_of-host-requires-clause-shown g t c = Whole.node_shown _ _ _ _ c.args.key c.args.both.was.now c.requires.between c.requires.was
 
 pub reconcile_node-push_face-requires : goal.reconcile_node-push_face-requires
-reconcile_node-push_face-requires g t c = record { stays = Whole.text_stays _ _ _ _ c.args.key 0 _ _ [] c.requires.between c.requires.was c.requires.now }
+reconcile_node-push_face-requires g t c = record { stays = Whole.text_stays _ _ _ _ c.args.key 0 _ _ c.requires.between c.requires.was c.requires.now }
 
 pub reconcile_node-moves_of-requires-clause-there_before : goal.reconcile_node-moves_of-requires-clause-there_before
 reconcile_node-moves_of-requires-clause-there_before g t c = Children.there_read _ c.args.key _ (Children.is_read _ c.args.key _ c.requires.between.was_sound c.requires.was)
@@ -221,7 +221,7 @@ reconcile_node-make_moves-requires g t c =
     let before = c.moves_of.ensures.before in
     let after = c.moves_of.ensures.after in
     let moves = part g t (goal.at.reconcile_node-make_moves-requires g t c).After-as_slice in
-    let next = Partly.children_coming _ _ _ _ _ _ _ _ _ c.requires.between c.requires.was c.requires.now c.host_of-host.result _ _ c.host_of-host.ensures c.requires.behind c.requires.room moves c.in_ok-push_face.ensures.face in
+    let next = Whole.children_coming _ _ _ _ _ _ _ _ c.requires.between c.requires.was c.requires.now c.host_of-host.result _ _ c.host_of-host.ensures c.requires.behind c.requires.room moves c.in_ok-push_face.ensures.face in
     let coming = rw (← before, ← after) at next in
     let between = rw (← before, ← after) at c.requires.between in
     let less = Whole.node_less _ _ c.args.key after in
@@ -239,7 +239,7 @@ pub reconcile_node-returns-clause-done : goal.reconcile_node-returns-clause-done
 reconcile_node-returns-clause-done g t c =
     let moves = part g t (goal.at.reconcile_node-returns-clause-done g t c).After-as_slice in
     let made = rw (c.moves_of.ensures.before, c.moves_of.ensures.after) at c.in_ok-make_moves.ensures.done in
-    Partly.part_done _ _ _ _ _ _ _ _ _ c.requires.between c.requires.was c.requires.now
+    Whole.node_done _ _ _ _ _ _ _ _ c.requires.between c.requires.was c.requires.now
     c.host_of-host.result _ _ _ _ _ c.is_ended-old.result c.is_ended-new.result c.host_of-host.ensures c.requires.tag moves c.in_ok-push_face.ensures.none c.in_ok-push_face.ensures.face made
     (c.is_ended-old.ensures.ended ∙ ap (λ f. needs_break c.args.both.was.now.kind (kind_at f c.args.both.was.now.last)) (c.make_moves.ensures.before ∙ c.moves_of.ensures.before))
     (c.is_ended-new.ensures.ended ∙ ap (λ f. needs_break c.args.both.now.now.kind (kind_at f c.args.both.now.now.last)) (c.make_moves.ensures.after ∙ c.moves_of.ensures.after))
