@@ -61,7 +61,7 @@ up_to-short (Some l) [] = omega arith
 up_to-short (Some l) (x ∷ xs) = grind (arith, eqb_tells x l, up_to-short (Some l) xs)
 
 from-short : (first : Option ℕ) (xs : List ℕ) → length (from_name first xs) ≤ length xs
-from-short first xs = omega (arith, ap length (split first xs).list, length-append (split first xs).before (from_name first xs))
+from-short first xs = omega (arith, ap length (split first xs).1, length-append (split first xs).0 (from_name first xs))
 
 between-short : (first last : Option ℕ) (kids : List ℕ) → length (between_names first last kids) ≤ length kids
 between-short first last kids = omega (arith, up_to-short last (from_name first kids), from-short first kids)
@@ -88,7 +88,7 @@ up_to-once (Some l) (x ∷ xs) once = elim (eqb_tells x l) [
 
 pub between-once : (first last : Option ℕ) (kids : List ℕ) → NoRepeats kids → NoRepeats (between_names first last kids)
 between-once first last kids once =
-    up_to-once last (from_name first kids) (NoRepeats-right (split first kids).before (from_name first kids) (subst NoRepeats (split first kids).list once))
+    up_to-once last (from_name first kids) (NoRepeats-right (split first kids).0 (from_name first kids) (subst NoRepeats (split first kids).1 once))
 
 -- ---- the last of a queue
 

@@ -1,5 +1,5 @@
 -- What the operations that make the hosts of trees lead to.
-use Rattle.std.proofs.Common.{◌≡◌, ◌≢◌, ◌∙◌, ◌+◌, ◌<◌, ◌≤◌, ℕ, Bool, true, false, cond, eqb, ltb, List, [], ◌∷◌, ◌++◌, Option, None, inl, inr, refl, sym, ap, subst, arith, ne_eqb, eq-eqb, append-nil}
+use Rattle.std.proofs.Common.{◌≡◌, ◌≢◌, ◌∙◌, ◌+◌, ◌<◌, ◌≤◌, ℕ, true, false, eqb, ltb, List, [], ◌∷◌, ◌++◌, Option, None, inl, inr, refl, sym, ap, subst, arith, ne_eqb, eq-eqb, append-nil}
 use Rattle.std.proofs.lemmas.Bool.{cases_lt}
 use Rattle.std.proofs.lemmas.Bool.Decides.{eqb_tells}
 use Rattle.lx_node.specs.Limits.{last_u32}
@@ -62,10 +62,7 @@ count-numbered_behind q id (tree face below rest) h =
 pub put_below-nil : (p : ℕ) (t : Trees Host) → put_below p None nil t ≡ t
 put_below-nil p nil = refl
 put_below-nil p (tree h below rest) =
-    rw (inserted-None nil below, joined-nil below, put_below-nil p below, put_below-nil p rest) (ap (λ b. tree h b rest) (same (eqb h.id p) below)) where
-      same : (b : Bool) (t : Trees Host) → cond b t t ≡ t
-      same true t = refl
-      same false t = refl
+    grind (arith, eqb_tells h.id p, inserted-None nil below, joined-nil below, put_below-nil p below, put_below-nil p rest)
 
 -- what is put after a host's children, and more after that
 pub put_below-twice : (p : ℕ) (new more t : Trees Host) → put_below p None more (put_below p None new t) ≡ put_below p None (joined new more) t

@@ -1,5 +1,5 @@
 -- What operations make of one host with what is below it, whatever is around it.
-use Rattle.std.proofs.Common.{◌≡◌, ◌≢◌, ◌∙◌, ◌+◌, ◌<◌, ◌≤◌, ℕ, Bool, true, false, refl, sym, ap, subst, arith, eqb, IsTrue, List, [], ◌∷◌, ◌++◌, append-nil, Option, None, Some}
+use Rattle.std.proofs.Common.{◌≡◌, ◌≢◌, ◌∙◌, ◌+◌, ◌<◌, ◌≤◌, ℕ, Bool, true, false, refl, sym, ap, subst, arith, eqb, List, [], ◌∷◌, ◌++◌, append-nil, Option, None, Some}
 use Rattle.std.proofs.lemmas.Bool.{ne_eqb, eq-eqb, ltb-true}
 use Rattle.std.proofs.lemmas.Bool.Decides.{eqb_tells}
 use Rattle.lx_node.specs.Limits.{last_u32}
@@ -119,34 +119,6 @@ pub inside : (q h : ℕ) (change : Trees Host → Trees Host) (t : Trees Host) �
 inside q h change nil d once e = absurd (omega arith)
 inside q h change (tree x below rest) d once e = inside_first q h change x below rest d once e (inside q h change below d) (inside q h change rest d)
 
-pub changed_done : (h : ℕ) (change : Face → Face) → IsDoneAt h (changed h change)
-changed_done h change = record {
-  through = changed-joined h change;
-  absent = changed-absent h change;
-  other = λ x below rest e. rw e refl;
-}
-
-pub without_done : (q : ℕ) → IsDoneAt q (without q)
-without_done q = record {
-  through = without-joined q;
-  absent = without-absent q;
-  other = λ x below rest e. rw e refl;
-}
-
-pub put_below_done : (h : ℕ) (before : Option ℕ) (new : Trees Host) → IsDoneAt h (put_below h before new)
-put_below_done h before new = record {
-  through = put_below-joined h before new;
-  absent = put_below-absent h before new;
-  other = λ x below rest e. rw e refl;
-}
-
-pub replaced_done : (q : ℕ) (new : Trees Host) → IsDoneAt q (replaced q new)
-replaced_done q new = record {
-  through = replaced-joined q new;
-  absent = replaced-absent q new;
-  other = λ x below rest e. rw e refl;
-}
-
 -- ---- a host tree where a host is with this below it
 
 children_of-alone : (h : ℕ) (t : Trees Host) → count h t ≡ 1 → children_of h t ≡ children_of h (alone h t)
@@ -232,9 +204,6 @@ at_numbered h from n ops to m leads w w_is next there is =
 
 -- ---- one operation
 
-one_op : (op : Op) (w : HostTree) (hosts : Trees Host) → IsTrue (fits op w) → host_tree hosts w.next ≡ effect op w → Leads w (op ∷ []) (host_tree hosts w.next)
-one_op op w hosts fit is = (host_tree hosts w.next, fit, is, refl)
-
 -- An operation fits, and puts this in place of the tree at a host.
 pub record Does (op : Op) (h : ℕ) (to : Trees Host) (w : HostTree) : Type 0 where
   pub fit : fits op w ≡ true
@@ -245,7 +214,7 @@ pub record Does (op : Op) (h : ℕ) (to : Trees Host) (w : HostTree) : Type 0 wh
 at_op : (h n : ℕ) (op : Op) (to : Trees Host) (w : HostTree) → w.next ≡ n → Does op h to w → Leads w (op ∷ []) (host_tree (replaced h to w.hosts) n) × IsNumbered (host_tree (replaced h to w.hosts) n) × AllWriteAnew w (op ∷ [])
 at_op h n op to w next d =
     let hosts = replaced h to w.hosts in (
-      subst (λ m. Leads w (op ∷ []) (host_tree hosts m)) next (one_op op w hosts d.fit d.is),
+      subst (λ m. Leads w (op ∷ []) (host_tree hosts m)) next (host_tree hosts w.next, d.fit, d.is, refl),
       subst (λ m. IsNumbered (host_tree hosts m)) next d.numbered,
       (d.anew, tt),
     )
@@ -259,7 +228,8 @@ showing face a = record { id = a.id; face = face }
 changed_here : (h : ℕ) (change : Face → Face) (a : Host) (kids : Trees Host) (w : HostTree) → IsHere h a kids w → changed h change w.hosts ≡ replaced h (tree (showing (change a.face) a) kids nil) w.hosts
 changed_here h change a kids w p =
     let is : changed h change (tree a kids nil) ≡ tree (showing (change a.face) a) kids nil = rw (eq-eqb a.id h p.id, changed-absent h change kids p.apart) refl in
-    done_here h h (changed h change) a kids _ w p (changed_done h change) (trees.count-without id_of h w.hosts) is
+    done_here h h (changed h change) a kids _ w p (record { through = changed-joined h change; absent = changed-absent h change; other = λ x below rest e. rw e refl })
+    (trees.count-without id_of h w.hosts) is
 
 -- what shows another face isn't the same
 changes_anew : (op : Op) (h : ℕ) (change : Face → Face) (a : Host) (kids : Trees Host) (w : HostTree) → IsHere h a kids w → host_tree (changed h change w.hosts) w.next ≡ effect op w → change a.face ≢ a.face → effect op w ≢ w
@@ -333,7 +303,7 @@ alone_child h c a kids w p k =
 without_child : (h c : ℕ) (a : Host) (kids : Trees Host) (w : HostTree) → IsHere h a kids w → IsChild h c kids w → without c w.hosts ≡ replaced h (tree a (without c kids) nil) w.hosts
 without_child h c a kids w p k =
     let is : without c (tree a kids nil) ≡ tree a (without c kids) nil = rw (child_differs h c a kids w p k) refl in
-    done_here c h (without c) a kids _ w p (without_done c) k.outside is
+    done_here c h (without c) a kids _ w p (record { through = without-joined c; absent = without-absent c; other = λ x below rest e. rw e refl }) k.outside is
 
 fits_drop : (c : ℕ) (w : HostTree) → c ≢ 0 → has c w.hosts ≡ true → fits (Drop c) w ≡ true
 unfolding fits
@@ -357,7 +327,8 @@ put_here : (h : ℕ) (a : Host) (kids : Trees Host) (before : Option ℕ) (new t
     → put_below h before new t ≡ replaced h (tree a (inserted before new kids) nil) t
 put_here h a kids before new t id once is =
     let own : put_below h before new (tree a kids nil) ≡ tree a (inserted before new kids) nil = rw (eq-eqb a.id h id) refl in
-    inside h h (put_below h before new) t (put_below_done h before new) once (trees.count-without id_of h t)
+    inside h h (put_below h before new) t (record { through = put_below-joined h before new; absent = put_below-absent h before new; other = λ x below rest e. rw e refl }) once
+    (trees.count-without id_of h t)
     ∙ ap (λ b. replaced h b t) (ap (put_below h before new) is ∙ own)
 
 -- the child taken out, and put back among those that are left
@@ -473,7 +444,7 @@ at_inner h a kids n c from ops to m id among inner_is inner w w_is next there is
     let p = is_here h a kids w id w_is there is in
     let k = is_child h c a kids w p among in
     let own : replaced c to (tree a kids nil) ≡ tree a (replaced c to kids) nil = rw (child_differs h c a kids w p k) refl in
-    let same = done_here c h (replaced c to) a kids _ w p (replaced_done c to) k.outside own in
+    let same = done_here c h (replaced c to) a kids _ w p (record { through = replaced-joined c to; absent = replaced-absent c to; other = λ x below rest e. rw e refl }) k.outside own in
     let then = inner w w_is next (has_if c w.hosts (omega (arith, k.once))) (alone_child h c a kids w p k ∙ inner_is) in
     (subst (λ t. Leads w ops (host_tree t m)) same then.0, subst (λ t. IsNumbered (host_tree t m)) same then.1, then.2)
 

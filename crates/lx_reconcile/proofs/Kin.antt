@@ -105,12 +105,6 @@ noted_among m q = is_among-append q m.leaves (keys_of m.elements) ∙ ap (λ b. 
 
 -- ---- hosts above and below
 
-some_counted : (n : ℕ) (f : Trees Host) → named.has id_of n f ≡ true → 0 < count n f
-some_counted n f e = grind (arith, e)
-
-none_counted : (n : ℕ) (f : Trees Host) → named.has id_of n f ≡ false → count n f ≡ 0
-none_counted n f e = grind (arith, e)
-
 names-gathered : (f : Trees Host) (ks : List ℕ) → ((q : ℕ) → is_among q ks ≡ true → count q f ≡ 1) → ids_of (named.gathered id_of f ks) ≡ ks
 names-gathered f [] there = refl
 names-gathered f (k ∷ ks) there =
@@ -137,7 +131,7 @@ module _ (old new : Forest) (mk : Marking) (v : HostTree) (b : IsBetween old new
 
     from_spot : (o : Option (Spot Host)) → spot id_of v.hosts (host_in v k) ≡ o → rooted.children_of id_of v.hosts (host_in v k) ≡ map (host_in v) (children_of old k)
     from_spot None at =
-        absurd (let none : alone (host_in v k) v.hosts ≡ nil = trees.alone-absent id_of (host_in v k) v.hosts (none_counted (host_in v k) v.hosts (sym (is_some-spot id_of v.hosts (host_in v k)) ∙ ap is_some at)) in let some = s.is in cc)
+        absurd (let none : alone (host_in v k) v.hosts ≡ nil = trees.alone-absent id_of (host_in v k) v.hosts (let out = sym (is_some-spot id_of v.hosts (host_in v k)) ∙ ap is_some at in grind (arith, out)) in let some = s.is in cc)
     from_spot (Some x) at =
         let same : tree x.label (named.gathered id_of v.hosts x.children) nil ≡ tree s.host kids nil = sym (lookups.alone-spot id_of v.hosts (host_in v k) x ordered at) ∙ s.is in
         let below : named.gathered id_of v.hosts x.children ≡ kids = cc in
@@ -149,7 +143,7 @@ module _ (old new : Forest) (mk : Marking) (v : HostTree) (b : IsBetween old new
       where
         child_counted : (q : ℕ) → is_among q (rooted.children_of id_of v.hosts (host_in v k)) ≡ true → count q v.hosts ≡ 1
         child_counted q e =
-            grind (arith, e, lookups.is_among-children_of id_of v.hosts q (host_in v k) ordered, b.view.numbered.once q, some_counted q v.hosts, lookups.has-child id_of v.hosts q)
+            grind (arith, e, lookups.is_among-children_of id_of v.hosts q (host_in v k) ordered, b.view.numbered.once q, lookups.has-child id_of v.hosts q)
 
   -- the host of a node that is there
   host_found : (c : ℕ) → forest.has c old ≡ true → host_of c (first_tree v.hosts) ≡ Some (host_in v c)

@@ -41,34 +41,26 @@ in_order-behind k front passed done e none far =
 
 -- ---- what any step keeps
 
-now-push : {olds news old new back done : List ℕ} {moves : List Move} → IsWalking olds news old new back done moves →
-    (front : List ℕ) (m : Move) (children : List ℕ) → all_moved moves olds ≡ front ++ back → moved m (front ++ back) ≡ children → all_moved (moves ++ m ∷ []) olds ≡ children
-now-push {olds = olds} {moves = moves} w front m children now to = all_moved-append moves (m ∷ []) olds ∙ ap (moved m) now ∙ to
+module _ {olds news old new back done : List ℕ} {moves : List Move} (w : IsWalking olds news old new back done moves) where
+  now-push : (front : List ℕ) (m : Move) (children : List ℕ) → all_moved moves olds ≡ front ++ back → moved m (front ++ back) ≡ children → all_moved (moves ++ m ∷ []) olds ≡ children
+  now-push front m children now to = all_moved-append moves (m ∷ []) olds ∙ ap (moved m) now ∙ to
 
-can-push : {olds news old new back done : List ℕ} {moves : List Move} → (w : IsWalking olds news old new back done moves) →
-    (m : Move) → can_move m (w.front ++ back) ≡ true → CanAllMove (moves ++ m ∷ []) olds
-can-push {olds = olds} {moves = moves} w m can = CanAllMove-append moves (m ∷ []) olds w.can (ap (can_move m) w.now ∙ can, tt)
+  can-push : (m : Move) → can_move m (w.front ++ back) ≡ true → CanAllMove (moves ++ m ∷ []) olds
+  can-push m can = CanAllMove-append moves (m ∷ []) olds w.can (ap (can_move m) w.now ∙ can, tt)
 
-once-push : {olds news old new back done : List ℕ} {moves : List Move} → (w : IsWalking olds news old new back done moves) →
-    (m : Move) (children : List ℕ) → can_move m (w.front ++ back) ≡ true → moved m (w.front ++ back) ≡ children → NoRepeats children
-once-push {back = back} w m children can to = subst NoRepeats to (NoRepeats-moved m (w.front ++ back) can w.once)
+  once-push : (m : Move) (children : List ℕ) → can_move m (w.front ++ back) ≡ true → moved m (w.front ++ back) ≡ children → NoRepeats children
+  once-push m children can to = subst NoRepeats to (NoRepeats-moved m (w.front ++ back) can w.once)
 
-unhandled-push : {olds news old new back done : List ℕ} {moves : List Move} → (w : IsWalking olds news old new back done moves) →
-    (m : Move) → ((k : ℕ) → before_of m ≡ Some k → is_among k back ≡ true) → BeforeUnhandled olds [] (moves ++ m ∷ [])
-unhandled-push {olds = olds} {moves = moves} w m before =
-    BeforeUnhandled-push moves m olds [] w.unhandled (λ k e. grind (arith, w.waiting k (before k e)))
+  unhandled-push : (m : Move) → ((k : ℕ) → before_of m ≡ Some k → is_among k back ≡ true) → BeforeUnhandled olds [] (moves ++ m ∷ [])
+  unhandled-push m before = BeforeUnhandled-push moves m olds [] w.unhandled (λ k e. grind (arith, w.waiting k (before k e)))
 
-waiting-push : {olds news old new back done : List ℕ} {moves : List Move} → (w : IsWalking olds news old new back done moves) →
-    (m : Move) (rest : List ℕ) → ((q : ℕ) → is_among q rest ≡ true → (is_among q back && not (eqb (child_of m) q)) ≡ true) →
-    (q : ℕ) → is_among q rest ≡ true → (is_among q olds && not (is_among q (map child_of (moves ++ m ∷ [])))) ≡ true
-waiting-push {moves = moves} w m rest shrinks q e =
-    grind (arith, shrinks q e, w.waiting q, children-push moves m q)
+  waiting-push : (m : Move) (rest : List ℕ) → ((q : ℕ) → is_among q rest ≡ true → (is_among q back && not (eqb (child_of m) q)) ≡ true)
+      → (q : ℕ) → is_among q rest ≡ true → (is_among q olds && not (is_among q (map child_of (moves ++ m ∷ [])))) ≡ true
+  waiting-push m rest shrinks q e = grind (arith, shrinks q e, w.waiting q, children-push moves m q)
 
--- none of those after the cursor is handled
-pub back-undone : {olds news old new back done : List ℕ} {moves : List Move} → (w : IsWalking olds news old new back done moves) →
-    (q : ℕ) → is_among q back ≡ true → is_among q done ≡ false
-back-undone {done = done} {moves = moves} w q e =
-    grind (arith, w.waiting q e, children_among q moves, ap (is_among q) w.stands)
+  -- none of those after the cursor is handled
+  pub back-undone : (q : ℕ) → is_among q back ≡ true → is_among q done ≡ false
+  back-undone q e = grind (arith, w.waiting q e, children_among q moves, ap (is_among q) w.stands)
 
 -- the next of those after isn't in place yet
 pub next-undone : (k : ℕ) (news done new : List ℕ) → NoRepeats news → news ≡ done ++ k ∷ new → is_among k done ≡ false
