@@ -106,8 +106,7 @@ text_written host key tag attrs old new text ending start end other e is =
 -- neither the kind nor the fields differ
 pub same_face : (host key : ℕ) (tag : Tag) (k l : Kind) (f g : Fields) (ending : Bool) (start : List Op) → (k ≡ l) × (f ≡ g) → Changes host (shown_face key tag k f ending) (shown_face key tag l g ending) start start
 same_face host key tag k l f g ending start e =
-    subst (λ l. Changes host (shown_face key tag k f ending) (shown_face key tag l g ending) start start) e.0
-    (subst (λ g. Changes host (shown_face key tag k f ending) (shown_face key tag k g ending) start start) e.1 (changes_none host (shown_face key tag k f ending) start))
+    subst (λ t. t) (λ i. Changes host (shown_face key tag k f ending) (shown_face key tag (e.0 i) (e.1 i) ending) start start) (changes_none host (shown_face key tag k f ending) start)
 
 -- the attributes are written, and then the text
 pub face_written : (host : ℕ) (k l : Kind) (f g : Fields) (attrs news : List (Name × List ℕ)) (old new : Option (List ℕ)) (start mid end : List Op) → attrs ≡ attributes_of k f → news ≡ attributes_of l g → old ≡ text_of f → new ≡ text_of g
@@ -115,19 +114,15 @@ pub face_written : (host : ℕ) (k l : Kind) (f g : Fields) (attrs news : List (
     → ((key : ℕ) (tag : Tag) (attrs : List (Name × List ℕ)) (ending : Bool) → Changes host (record { key = key; tag = tag; attrs = attrs; text = old; ending = ending }) (record { key = key; tag = tag; attrs = attrs; text = new; ending = ending }) mid end)
     → (key : ℕ) (tag : Tag) (ending : Bool) → Changes host (shown_face key tag k f ending) (shown_face key tag l g ending) start end
 face_written host k l f g attrs news old new start mid end a b c d writes text key tag ending =
-    subst (λ x. Changes host (dressed key tag (text_of f) ending x) (shown_face key tag l g ending) start end) a
-    (subst (λ y. Changes host (dressed key tag (text_of f) ending attrs) (dressed key tag (text_of g) ending y) start end) b
-    (subst (λ x. Changes host (dressed key tag x ending attrs) (dressed key tag (text_of g) ending news) start end) c
-    (subst (λ y. Changes host (dressed key tag old ending attrs) (dressed key tag y ending news) start end) d
+    subst (λ t. t) (λ i. Changes host (dressed key tag (c i) ending (a i)) (dressed key tag (d i) ending (b i)) start end)
     (changes_then host (dressed key tag old ending attrs) (dressed key tag old ending news) (dressed key tag new ending news) start mid end
-    (changes_attributes host key tag old ending attrs news start mid writes) (text key tag news ending)))))
+    (changes_attributes host key tag old ending attrs news start mid writes) (text key tag news ending))
 
 -- of two texts that show the same attributes, only the text is written
 pub face_alike : (host : ℕ) (k l : Kind) (f g : Fields) (t u : TextFields) (start end : List Op) → f ≡ fields.Text t → g ≡ fields.Text u → text_attributes t ≡ text_attributes u
     → ((key : ℕ) (tag : Tag) (attrs : List (Name × List ℕ)) (ending : Bool) → Changes host (record { key = key; tag = tag; attrs = attrs; text = Some t.text; ending = ending }) (record { key = key; tag = tag; attrs = attrs; text = Some u.text; ending = ending }) start end)
     → (key : ℕ) (tag : Tag) (ending : Bool) → Changes host (shown_face key tag k f ending) (shown_face key tag l g ending) start end
 face_alike host k l f g t u start end a b same text key tag ending =
-    subst (λ x. Changes host (shown_face key tag k x ending) (shown_face key tag l g ending) start end) (sym a)
-    (subst (λ y. Changes host (shown_face key tag k (fields.Text t) ending) (shown_face key tag l y ending) start end) (sym b)
+    subst (λ t. t) (λ i. Changes host (shown_face key tag k (sym a i) ending) (shown_face key tag l (sym b i) ending) start end)
     (subst (λ xs. Changes host (dressed key tag (Some t.text) ending (text_attributes t)) (dressed key tag (Some u.text) ending xs) start end) same
-    (text key tag (text_attributes t) ending)))
+    (text key tag (text_attributes t) ending))

@@ -1,5 +1,5 @@
 -- How many reads are needed, against the marked children and the nodes that aren't kept.
-use Rattle.std.proofs.Common.{◌≡◌, ◌∙◌, ◌+◌, ◌*◌, ◌<◌, ◌≤◌, ◌⊎◌, ℕ, Bool, true, false, cond, eqb, ◌&&◌, List, [], ◌∷◌, ◌++◌, length, Option, None, Some, inl, inr, refl, sym, ap, arith, append-nil}
+use Rattle.std.proofs.Common.{◌≡◌, ◌∙◌, ◌+◌, ◌*◌, ◌<◌, ◌≤◌, ◌⊎◌, ℕ, Bool, true, false, cond, eqb, List, [], ◌∷◌, ◌++◌, length, Option, None, Some, inl, inr, refl, sym, ap, arith, append-nil}
 use Rattle.std.proofs.lemmas.Bool.{cases_Bool, cases_lt}
 use Rattle.std.proofs.lemmas.Bool.Decides.{eqb_tells}
 use Rattle.lx_trees.specs.Trees.{nil, tree, joined}
@@ -110,7 +110,7 @@ old_sizes_less old new noted g h =
     let all : marked_children here old ≡ weight w (named.preorder key_of old) =
     children_weight here old g.once ∙ weight-same (size_if here (λ k. named.children_of key_of k old)) w (named.preorder key_of old) (λ k e. ap (λ xs. cond (here k) (length xs) 0) (sym (children_are old k g))) in
     let same : weight (size_if noted (children_of old)) (named.preorder key_of new) ≡ weight w (named.preorder key_of new) =
-    weight-same (size_if noted (children_of old)) w (named.preorder key_of new) (λ k e. stays (noted k) (has k new) (length (children_of old k)) (sym (is_among-preorder key_of k new) ∙ e)) in
+    weight-same (size_if noted (children_of old)) w (named.preorder key_of new) (λ k e. grind (arith, e, is_among-preorder key_of k new)) in
     omega (
       arith,
       all,
@@ -118,17 +118,9 @@ old_sizes_less old new noted g h =
       weight-some w (named.preorder key_of new) (named.preorder key_of old) (NoRepeats-preorder key_of new h.once)
           (λ k e. elim (cases_lt 0 (count k old)) [
             | inl there ↦ inr (part_of old k there)
-            | inr out ↦ inl (nothing (here k) (children_of old k) (children_are old k g ∙ children-absent k old (omega (arith, out))))
+            | inr out ↦ inl (let none = children_are old k g ∙ children-absent k old (omega (arith, out)) in grind (arith, none))
           ]),
     )
-  where
-    stays : (marked there : Bool) (n : ℕ) → there ≡ true → cond marked n 0 ≡ cond (marked && there) n 0
-    stays true there n e = sym (ap (λ b. cond b n 0) e)
-    stays false there n e = refl
-
-    nothing : (b : Bool) (xs : List ℕ) → xs ≡ [] → cond b (length xs) 0 ≡ 0
-    nothing true xs e = ap length e
-    nothing false xs e = refl
 
 -- ---- the sum
 

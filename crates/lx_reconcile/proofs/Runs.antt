@@ -139,11 +139,15 @@ all_in noted children w is all some =
       none = λ e. absurd (omega (arith, ap length e, some));
     }
 
+pub no_children : (children : List ℕ) (first : Option ℕ) → first ≡ first_of children → is_some first ≡ false → children ≡ []
+no_children [] first is none = refl
+no_children (x ∷ children) first is none = absurd (let e = ap is_some is in cc)
+
 -- or nothing is beside it
 pub all_of : (noted : ℕ → Bool) (children : List ℕ) (w : Window) → IsWindow children w → (is_some w.before || is_some w.behind) ≡ false → 0 < length w.keys.items → IsWindowOfMarks noted children w
 all_of noted children w is closed some =
     let front : is.front ≡ [] = no_last is.front (grind (arith, closed, ap is_some is.before)) in
-    let back : is.back ≡ [] = no_first is.back (grind (arith, closed, ap is_some is.behind)) in
+    let back : is.back ≡ [] = no_children is.back (first_of is.back) refl (grind (arith, closed, ap is_some is.behind)) in
     record {
       is = is;
       front_plain = λ k e. absurd (grind (arith, e, ap (is_among k) front));
@@ -155,10 +159,6 @@ all_of noted children w is closed some =
     no_last [] e = refl
     no_last (x ∷ xs) e = absurd (let l = last_is x xs in let there = ap is_some l.1 in cc)
 
-    no_first : (xs : List ℕ) → is_some (first_of xs) ≡ false → xs ≡ []
-    no_first [] e = refl
-    no_first (x ∷ xs) e = absurd (cc)
-
 pub none_window : (noted : ℕ → Bool) (children : List ℕ) (w : Window) → children ≡ [] → w.before ≡ None → w.keys.items ≡ [] → w.behind ≡ None → IsWindowOfMarks noted children w
 none_window noted children w none before keys behind = record {
   is = record { front = []; back = []; list = none ∙ sym (ap (λ ks. ks ++ []) keys); before = before; behind = behind };
@@ -168,10 +168,6 @@ none_window noted children w none before keys behind = record {
 }
 
 -- ---- the first child
-
-pub no_children : (children : List ℕ) (first : Option ℕ) → first ≡ first_of children → is_some first ≡ false → children ≡ []
-no_children [] first is none = refl
-no_children (x ∷ children) first is none = absurd (let e = ap is_some is in cc)
 
 pub some_child : (children : List ℕ) (first : Option ℕ) → first ≡ first_of children → is_some first ≡ true → (f : ℕ) × (first_of children ≡ Some f)
 some_child [] first is some = absurd (let e = ap is_some is in cc)

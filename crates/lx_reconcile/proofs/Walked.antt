@@ -238,8 +238,7 @@ module _ {old new : Forest} {v : HostTree} where
       let u = w.under_way in
       let here = w.to_come.can.0 in
       let was = u.waiting c here (own_fresh (children_of old k) (children_of new k) w.handled w.now (Stay c) ms w.to_come) in
-      let inner : LeadsAt (w.ids c) (w.family c) m more r.to l =
-      subst (λ i. LeadsAt i (w.family c) m more r.to l) (sym was.0) (subst (λ t. LeadsAt (host_in v c) t m more r.to l) (sym was.1) r.leads) in
+      let inner : LeadsAt (w.ids c) (w.family c) m more r.to l = subst (λ t. t) (λ i. LeadsAt (sym was.0 i) (sym was.1 i) m more r.to l) r.leads in
       walked_on w more a (c ∷ w.handled) w.now (with_entry c (host_in v c) w.ids) (with_entry c r.to w.family) ms l refl
       (at_stay (host_in v k) a w.ids w.family w.now m c more r.to l w.id u.at here inner)
       (under_way_entry w.now c (host_in v c) r.to u (λ d among other. among) r.at r.shown)
@@ -279,11 +278,10 @@ module _ {old new : Forest} {v : HostTree} where
       let place = and_parts (is_place before w.now) (not (is_named before c)) can.1 in
       let own = own_id (Place c before) view w can.0 t.suited.0 in
       let after = names_with before (c ∷ []) (names_without c w.now) in
-      let step : LeadsAt (host_in v k) (tree a (flat w.family w.now) nil) m (op.Place (host_in v k) (host_in v c) (option_map (host_in v) before) ∷ []) (tree a (flat w.family after) nil) m =
-      subst (λ o. LeadsAt (host_in v k) (tree a (flat w.family w.now) nil) m (op.Place (host_in v k) (host_in v c) o ∷ []) (tree a (flat w.family after) nil) m) (before_id (children_of old k) before u place.0 t.unhandled.0)
-      (subst (λ i. LeadsAt (host_in v k) (tree a (flat w.family w.now) nil) m (op.Place (host_in v k) i (option_map w.ids before) ∷ []) (tree a (flat w.family after) nil) m) own.0
-      (at_moved (host_in v k) a w.ids w.family w.now m c before w.id u.at can.0 own.1 place.0 (not-true (is_named before c) place.1))) in
-      walked_on w _ a w.handled after w.ids w.family (Stay c ∷ ms) m refl step
+      let named = before_id (children_of old k) before u place.0 t.unhandled.0 in
+      walked_on w (op.Place (host_in v k) (host_in v c) (option_map (host_in v) before) ∷ []) a w.handled after w.ids w.family (Stay c ∷ ms) m refl
+      (subst (λ t. t) (λ i. LeadsAt (host_in v k) (tree a (flat w.family w.now) nil) m (op.Place (host_in v k) (own.0 i) (named i) ∷ []) (tree a (flat w.family after) nil) m)
+      (at_moved (host_in v k) a w.ids w.family w.now m c before w.id u.at can.0 own.1 place.0 (not-true (is_named before c) place.1)))
       (record {
         at = λ d among. u.at d (was_among d among);
         done = λ d among. u.done d (was_among d among);
@@ -393,7 +391,6 @@ module _ {old new : Forest} {v : HostTree} where
       let at = root_at v.hosts old view.before (one_tree old view.before was) view.shows view.rooted in
       let zero = root_id old v view.before view.shows view.rooted at in
       let from : alone (host_in v 0) v.hosts ≡ v.hosts = ap (λ i. alone i v.hosts) zero ∙ alone-at 0 v.hosts at in
-      let leads : LeadsAt 0 v.hosts v.next ops r.to m =
-      subst (λ i. LeadsAt i v.hosts v.next ops r.to m) zero (subst (λ t. LeadsAt (host_in v 0) t v.next ops r.to m) from r.leads) in
+      let leads : LeadsAt 0 v.hosts v.next ops r.to m = subst (λ t. t) (λ i. LeadsAt (zero i) (from i) v.next ops r.to m) r.leads in
       let there = at_whole v ops r.to m at view.numbered leads in
       (r.to, is_allowed old new touched v ops r.to m view.before view.after (one_tree new view.after is) r.shown there.0 due there.2)
