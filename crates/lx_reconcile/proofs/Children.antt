@@ -1,6 +1,5 @@
 -- A node as a reader sees it, and the operations for its children, one after another.
-use Rattle.std.specs.Result.{IfOk}
-use Rattle.std.proofs.Common.{Result, Ok, Err, ◌≡◌, ◌∙◌, ◌+◌, ◌<◌, ◌≤◌, ℕ, true, false, List, [], ◌∷◌, ◌++◌, length, Option, None, Some, option_map, is_some, refl, sym, ap, subst, arith, append_assoc}
+use Rattle.std.proofs.Common.{◌≡◌, ◌∙◌, ◌+◌, ◌<◌, ◌≤◌, ℕ, true, false, List, [], ◌∷◌, ◌++◌, length, Option, None, Some, option_map, is_some, refl, sym, ap, subst, arith, append_assoc}
 use Rattle.std.proofs.lemmas.Bool.Decides.{eqb_tells}
 use Rattle.std.proofs.lemmas.Option.{same_Some}
 use Rattle.lx_node.specs.Limits.{last_u32}
@@ -35,7 +34,7 @@ use Rattle.lx_reconcile.proofs.Lists.{last_of-among}
 abbrev pub label_from : ℕ → Node → Label
 label_from key n = record { key = key; kind = n.kind; fields = n.fields }
 
-label_same : (l : Label) (key : ℕ) (kind : Kind) (fields : Fields) → l.key ≡ key → kind ≡ l.kind → fields ≡ l.fields → l ≡ record { key = key; kind = kind; fields = fields }
+pub label_same : (l : Label) (key : ℕ) (kind : Kind) (fields : Fields) → l.key ≡ key → kind ≡ l.kind → fields ≡ l.fields → l ≡ record { key = key; kind = kind; fields = fields }
 label_same l key kind fields e f g = rw (← e, f, g) refl
 
 -- what a read says of a node
@@ -184,10 +183,6 @@ children_fit f g key id n same s read room =
       all = omega (arith, all, below);
       still = ap (λ f. total (alone key f)) same;
     }
-
-pub next_same : {E : Type 0} (r : Result ℕ E) (a b : ℕ) → a ≡ b → IfOk r (λ next. next ≡ a) → IfOk r (λ next. next ≡ b)
-next_same (Ok next) a b e h = h ∙ e
-next_same (Err x) a b e h = tt
 
 -- ---- the children one after another
 

@@ -83,9 +83,7 @@ unkept_in-total false old p f = omega arith
 -- of one tree: those below it, and itself unless it is kept
 kept_tree : (kept only : Bool) (old : Forest) (p : Option ℕ) (l : Label) (b : Forest) → only ≡ is_only p (tag_of l.kind l.fields) (places_of l.key None old)
     → unkept_in kept old p (tree l b nil) ≡ cond (kept && only) 0 1 + unkept_in (kept && only) old (Some l.key) b
-kept_tree true true old p l b is = rw (← is) (omega arith)
-kept_tree true false old p l b is = rw (← is) (omega arith)
-kept_tree false only old p l b is = omega arith
+kept_tree kept only old p l b is = grind (arith, is)
 
 pub counted_tree : (kept stays : Bool) (old f : Forest) (p : Option ℕ) (q : ℕ) (n : Node) → Sound f → Some n ≡ option_map node_of (record_at f q)
     → stays ≡ (kept && is_only p (tag_of n.kind n.fields) (places_of q None old))

@@ -52,12 +52,12 @@ shape_of-numbered id (tree face below rest) = rw (shape_of-numbered (id + 1) bel
 pub count-numbered_before : (q id : ℕ) (t : Trees Face) → q < id → count q (numbered id t) ≡ 0
 count-numbered_before q id nil h = refl
 count-numbered_before q id (tree face below rest) h =
-    rw (ne_eqb id q (omega (arith, h))) (omega (arith, count-numbered_before q (id + 1) below (omega (arith, h)), count-numbered_before q (id + 1 + total below) rest (omega (arith, h))))
+    grind (arith, h, eqb_tells id q, count-numbered_before q (id + 1) below, count-numbered_before q (id + 1 + total below) rest)
 
 pub count-numbered_behind : (q id : ℕ) (t : Trees Face) → id + total t ≤ q → count q (numbered id t) ≡ 0
 count-numbered_behind q id nil h = refl
 count-numbered_behind q id (tree face below rest) h =
-    rw (ne_eqb id q (omega (arith, h))) (omega (arith, count-numbered_behind q (id + 1) below (omega (arith, h)), count-numbered_behind q (id + 1 + total below) rest (omega (arith, h))))
+    grind (arith, h, eqb_tells id q, count-numbered_behind q (id + 1) below, count-numbered_behind q (id + 1 + total below) rest)
 
 pub put_below-nil : (p : ℕ) (t : Trees Host) → put_below p None nil t ≡ t
 put_below-nil p nil = refl

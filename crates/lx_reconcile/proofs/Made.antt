@@ -136,7 +136,7 @@ module _ {old new : Forest} {mk : Marking} {v : HostTree} {k c n : ℕ} (b : IsB
     node_reads same marked =
         let t = stands_there new c b.view.after stay_after in
         let kept = same_kept old k (label_from c was) t.label b.view.before (ap (λ q. is_among q (children_of old k)) t.key ∙ (walk_both x.are.walk).0)
-            (ap (label_of old) t.key ∙ was_label) (same ∙ sym (ap (λ (l : Label). tag_of l.kind l.fields) (own_label t))) in
+        (ap (label_of old) t.key ∙ was_label) (same ∙ sym (ap (λ (l : Label). tag_of l.kind l.fields) (own_label t))) in
         ap (reads_in old mk.noted (Some k)) t.tree_is
         ∙ omega (
           arith,

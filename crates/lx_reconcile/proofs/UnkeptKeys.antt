@@ -34,20 +34,14 @@ unkept_keys old parent (tree l below rest) =
 abbrev own_keys : Bool → Forest → Label → Forest → List ℕ
 own_keys stays old l below = cond stays (unkept_keys old (Some l.key) below) (l.key ∷ preorder key_of below)
 
-length_own : (stays : Bool) (key m n : ℕ) (below all : List ℕ) → length below ≡ m → length all ≡ n → length (cond stays below (key ∷ all)) ≡ cond stays m (1 + n)
-length_own true key m n below all e f = e
-length_own false key m n below all e f = omega (arith, f)
-
 length-unkept_keys : (old : Forest) (p : Option ℕ) (f : Forest) → length (unkept_keys old p f) ≡ unkept old p f
 length-unkept_keys old p nil = refl
 length-unkept_keys old p (tree l b t) =
-    let stays = kept_here old p l in
-    let below = unkept_keys old (Some l.key) b in
-    let all = preorder key_of b in
-    omega (
+    grind (
       arith,
-      length-append (own_keys stays old l b) (unkept_keys old p t),
-      length_own stays l.key (unkept old (Some l.key) b) (total b) below all (length-unkept_keys old (Some l.key) b) (length-preorder key_of b),
+      length-append (own_keys (kept_here old p l) old l b) (unkept_keys old p t),
+      length-unkept_keys old (Some l.key) b,
+      length-preorder key_of b,
       length-unkept_keys old p t,
     )
 

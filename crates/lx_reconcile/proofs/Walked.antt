@@ -308,7 +308,7 @@ module _ {old new : Forest} {v : HostTree} where
       let after = names_with before (c ∷ []) w.now in
       let to : Forest → Trees Host = λ f. numbered m (render f) in
       let Makes : Forest → Option ℕ → Type 0 = λ f o.
-          LeadsAt (host_in v k) (tree a (flat w.family w.now) nil) m (creation_of m f ++ op.Place (host_in v k) m o ∷ []) (tree a (flat (with_entry c (to f) w.family) after) nil) (m + total f) in
+      LeadsAt (host_in v k) (tree a (flat w.family w.now) nil) m (creation_of m f ++ op.Place (host_in v k) m o ∷ []) (tree a (flat (with_entry c (to f) w.family) after) nil) (m + total f) in
       let step : Makes (forest.alone c new) (option_map (host_in v) before) =
       subst (Makes (forest.alone c new)) (before_id (children_of old k) before u can.1 t.unhandled.0)
       (subst (λ f. m + total f ≤ last_u32 → Makes f (option_map w.ids before)) (sym s.tree_is)
@@ -336,8 +336,8 @@ module _ {old new : Forest} {v : HostTree} where
       let own = own_id (Stay c) view w t.can.0 t.suited.0 in
       let to : Forest → Trees Host = λ f. numbered m (render f) in
       let Makes : Forest → ℕ → Type 0 = λ f i.
-          LeadsAt (host_in v k) (tree a (flat w.family w.now) nil) m ((creation_of m f ++ op.Place (host_in v k) m (Some i) ∷ []) ++ op.Drop i ∷ [])
-          (tree a (flat (with_entry c (to f) w.family) w.now) nil) (m + total f) in
+      LeadsAt (host_in v k) (tree a (flat w.family w.now) nil) m ((creation_of m f ++ op.Place (host_in v k) m (Some i) ∷ []) ++ op.Drop i ∷ [])
+      (tree a (flat (with_entry c (to f) w.family) w.now) nil) (m + total f) in
       let step : Makes (forest.alone c new) (host_in v c) =
       subst (Makes (forest.alone c new)) own.0
       (subst (λ f. m + total f ≤ last_u32 → Makes f (w.ids c)) (sym s.tree_is) (at_again (host_in v k) a w.ids w.family w.now m c s.label s.below w.id u.at t.can.0 own.1) room) in
