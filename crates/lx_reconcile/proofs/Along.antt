@@ -70,15 +70,15 @@ gone-known olds news back done p o w (inl e) =
 gone-known olds news back done p o w (inr e) = e
 
 pub along-gone : (olds news : List ℕ) (p q : Progress) (o : ℕ) → IsAlong olds news p → case_of olds news (slice_get olds p.passed) (slice_get news p.reached) ≡ case.Gone o →
-    GoesOn p q (Leave o) p.handled.keys (p.passed + 1) p.reached (p.passed + 1) → IsAlong olds news q
+    GoesOn p q (Leave o) p.handled.keys (p.passed + 1) p.reached (p.passed + 1) → IsAlong olds news q × (left_of olds news q < left_of olds news p)
 along-gone olds news p q o a met on =
     let says : Says olds news (slice_get olds p.passed) (slice_get news p.reached) (case.Gone o) = said olds news _ _ _ met in
     let w : IsWalking olds news (o ∷ drop (p.passed + 1) olds) (drop p.reached news) (missing (drop p.at olds) p.handled.keys) p.handled.keys p.moves.items =
     alike a.walking (drop_from olds p.passed o says.0) refl refl refl refl in
     let v = step-gone o olds news (drop (p.passed + 1) olds) (drop p.reached news) _ p.handled.keys p.moves.items
     (gone-known olds news _ p.handled.keys p o w says.1) w in
-    goes-on olds news _ p.handled.keys p q (Leave o) (p.passed + 1) p.reached (p.passed + 1) a on v refl
-    (get_within olds p.passed o says.0) a.reached_within (get_within olds p.passed o says.0)
+    let within = get_within olds p.passed o says.0 in
+    (goes-on olds news _ p.handled.keys p q (Leave o) (p.passed + 1) p.reached (p.passed + 1) a on v refl within a.reached_within within, omega (arith, within, on.passed_is, on.reached_is))
 
 -- the next child after is new, also where none before is left
 new-known : (olds news back done : List ℕ) (p : Progress) (n : ℕ) → IsWalking olds news (drop p.passed olds) (n ∷ drop (p.reached + 1) news) back done p.moves.items →
@@ -89,7 +89,7 @@ new-known olds news back done p n w (inr e) = e
 
 pub along-new : (olds news : List ℕ) (p q : Progress) (n : ℕ) (before : Option ℕ) → IsAlong olds news p →
     case_of olds news (slice_get olds p.passed) (slice_get news p.reached) ≡ case.New n → before ≡ first_of (missing (drop p.at olds) p.handled.keys) →
-    GoesOn p q (Make n before) (with_handled n p.handled.keys) p.passed (p.reached + 1) p.at → IsAlong olds news q
+    GoesOn p q (Make n before) (with_handled n p.handled.keys) p.passed (p.reached + 1) p.at → IsAlong olds news q × (left_of olds news q < left_of olds news p)
 along-new olds news p q n before a met at on =
     let says : Says olds news (slice_get olds p.passed) (slice_get news p.reached) (case.New n) = said olds news _ _ _ met in
     let back : List ℕ = missing (drop p.at olds) p.handled.keys in
@@ -99,10 +99,13 @@ along-new olds news p q n before a met at on =
     with_handled-new n p.handled.keys (next-undone n news p.handled.keys (drop (p.reached + 1) news) a.new_once w.news_are) in
     let v = step-made n olds news (drop p.passed olds) (drop (p.reached + 1) news) back p.handled.keys p.moves.items a.new_once
     (new-known olds news back p.handled.keys p n w says.1) w in
-    goes-on olds news _ (with_handled n p.handled.keys) p q (Make n before) p.passed (p.reached + 1) p.at a on
-    (alike v refl refl refl (sym grown) (ap (λ b. p.moves.items ++ Make n b ∷ []) (sym at)))
-    (sym (missing-push n (drop p.at olds) p.handled.keys) ∙ ap (missing (drop p.at olds)) (sym grown))
-    a.passed_within (get_within news p.reached n says.0) a.at_within
+    let within = get_within news p.reached n says.0 in (
+      goes-on olds news _ (with_handled n p.handled.keys) p q (Make n before) p.passed (p.reached + 1) p.at a on
+          (alike v refl refl refl (sym grown) (ap (λ b. p.moves.items ++ Make n b ∷ []) (sym at)))
+          (sym (missing-push n (drop p.at olds) p.handled.keys) ∙ ap (missing (drop p.at olds)) (sym grown))
+          a.passed_within within a.at_within,
+      omega (arith, within, on.passed_is, on.reached_is),
+    )
 
 -- the child at the cursor stays, and any other is placed there
 step-settled : (o n : ℕ) (olds news old new back done : List ℕ) (moves : List Move) → NoRepeats news →
@@ -155,18 +158,6 @@ along-ended olds news p a over =
     (alike a.walking (drop_all p.passed olds old_over) (drop_all p.reached news new_over) refl refl refl)
 
 -- ---- how many children are left
-
-pub fewer-gone : (olds news : List ℕ) (p q : Progress) (o : ℕ) → IsAlong olds news p → case_of olds news (slice_get olds p.passed) (slice_get news p.reached) ≡ case.Gone o →
-    GoesOn p q (Leave o) p.handled.keys (p.passed + 1) p.reached (p.passed + 1) → left_of olds news q < left_of olds news p
-fewer-gone olds news p q o a met on =
-    let says : Says olds news (slice_get olds p.passed) (slice_get news p.reached) (case.Gone o) = said olds news _ _ _ met in
-    omega (arith, get_within olds p.passed o says.0, on.passed_is, on.reached_is)
-
-pub fewer-new : (olds news : List ℕ) (p q : Progress) (n : ℕ) (before : Option ℕ) → IsAlong olds news p → case_of olds news (slice_get olds p.passed) (slice_get news p.reached) ≡ case.New n →
-    GoesOn p q (Make n before) (with_handled n p.handled.keys) p.passed (p.reached + 1) p.at → left_of olds news q < left_of olds news p
-fewer-new olds news p q n before a met on =
-    let says : Says olds news (slice_get olds p.passed) (slice_get news p.reached) (case.New n) = said olds news _ _ _ met in
-    omega (arith, get_within news p.reached n says.0, on.passed_is, on.reached_is)
 
 pub none-left : (olds news : List ℕ) (p : Progress) → case_of olds news (slice_get olds p.passed) (slice_get news p.reached) ≡ case.Neither → left_of olds news p ≡ 0
 none-left olds news p met =

@@ -116,9 +116,8 @@ module _ (old new : Forest) (mk : Marking) (v : HostTree) (b : IsBetween old new
     window_part first moves is x =
         let walk : IsWalk w.keys.items run.new x.walk = subst (λ ks. IsWalk w.keys.items ks x.walk) (sym (run_is first is)) x.is in
         let part = part_of_window mk.noted m.is.front w.keys.items m.is.back run.new x.walk list_once (subst NoRepeats run.list news_once) walk m.front_plain m.back_plain in
-        subst (λ ms. IsPart mk.noted olds news ms) (sym (x.moves_are ∙ ap (λ o. map (toward o) x.walk) m.is.behind))
-        (subst (λ ks. IsPart mk.noted olds ks (map (toward (first_of m.is.back)) x.walk)) (sym run.list)
-        (subst (λ ks. IsPart mk.noted ks (m.is.front ++ (run.new ++ m.is.back)) (map (toward (first_of m.is.back)) x.walk)) (sym m.is.list) part))
+        let named = x.moves_are ∙ ap (λ o. map (toward o) x.walk) m.is.behind in
+        subst (λ t. t) (λ i. IsPart mk.noted (sym m.is.list i) (sym run.list i) (sym named i)) part
 
     -- it begins with one of the children after
     pub start_place : (first : Option ℕ) → first ≡ first_child new k → is_place (start_of w first) news ≡ true

@@ -1,5 +1,5 @@
 -- The keys of a run of a node's children, as they are read one after another.
-use Rattle.std.proofs.Common.{◌≡◌, ◌∙◌, ◌+◌, ◌-◌, ◌<◌, ◌≤◌, Bor, get_or, ℕ, Bool, true, false, cond, List, [], ◌∷◌, ◌++◌, length, length-append, Option, None, Some, refl, sym, ap, subst, arith, append_assoc, inl, inr}
+use Rattle.std.proofs.Common.{◌≡◌, ◌∙◌, ◌-◌, ◌<◌, ◌≤◌, Bor, get_or, ℕ, Bool, true, false, cond, List, [], ◌∷◌, ◌++◌, length, length-append, Option, None, Some, refl, sym, ap, subst, arith, append_assoc, inl, inr}
 use Rattle.std.specs.Option.{option_copied}
 use Rattle.std.specs.Slice.{IsGetResult}
 use Rattle.std.proofs.lemmas.Bool.Decides.{eqb_tells}
@@ -50,11 +50,8 @@ pub found_fewer : (kids : List ℕ) (last at next : Option ℕ) (child : ℕ) �
     → length (from_name next kids) < length (from_name at kids)
 found_fewer kids last at next child once here place is =
     let among : is_among child kids ≡ true = sym (ap (λ o. is_place o kids) here) ∙ place in
-    by_last (is_named last child) (omega (arith, ap length (ap (λ o. from_name o kids) here ∙ from_name-step kids child once among))) is
-  where
-    by_last : (b : Bool) → length (from_name at kids) ≡ length (from_name (next_in kids child) kids) + 1 → next ≡ cond b None (next_in kids child) → length (from_name next kids) < length (from_name at kids)
-    by_last true size is = omega (arith, size, ap length (ap (λ o. from_name o kids) is))
-    by_last false size is = omega (arith, size, ap length (ap (λ o. from_name o kids) is))
+    let size = ap length (ap (λ o. from_name o kids) here ∙ from_name-step kids child once among) in
+    grind (arith, is, size)
 
 -- ---- a run of names is no longer than all of them, and has none twice
 
@@ -64,7 +61,7 @@ up_to-short (Some l) [] = omega arith
 up_to-short (Some l) (x ∷ xs) = grind (arith, eqb_tells x l, up_to-short (Some l) xs)
 
 from-short : (first : Option ℕ) (xs : List ℕ) → length (from_name first xs) ≤ length xs
-from-short first xs = omega (arith, ap length (split first xs).list, length-append (split first xs).before (from_name first xs))
+from-short first xs = omega (arith, ap length (split first xs).1, length-append (split first xs).0 (from_name first xs))
 
 between-short : (first last : Option ℕ) (kids : List ℕ) → length (between_names first last kids) ≤ length kids
 between-short first last kids = omega (arith, up_to-short last (from_name first kids), from-short first kids)
@@ -91,7 +88,7 @@ up_to-once (Some l) (x ∷ xs) once = elim (eqb_tells x l) [
 
 pub between-once : (first last : Option ℕ) (kids : List ℕ) → NoRepeats kids → NoRepeats (between_names first last kids)
 between-once first last kids once =
-    up_to-once last (from_name first kids) (NoRepeats-right (split first kids).before (from_name first kids) (subst NoRepeats (split first kids).list once))
+    up_to-once last (from_name first kids) (NoRepeats-right (split first kids).0 (from_name first kids) (subst NoRepeats (split first kids).1 once))
 
 -- ---- the last of a queue
 

@@ -41,18 +41,9 @@ changes_then host a b c start mid end first then = record {
   leads = λ kids n. at_then host (one host a kids) n first.pushed (one host b kids) n then.pushed (one host c kids) n (first.leads kids n) (then.leads kids n) (at_one host b kids);
 }
 
-pub changes_text : (host key : ℕ) (tag : Tag) (attrs : List (Name × List ℕ)) (old : Option (List ℕ)) (text : List ℕ) (ending : Bool) (start end : List Op) → old ≢ Some text → end ≡ start ++ Text host text ∷ []
-    → Changes host (record { key = key; tag = tag; attrs = attrs; text = old; ending = ending }) (record { key = key; tag = tag; attrs = attrs; text = Some text; ending = ending }) start end
-changes_text host key tag attrs old text ending start end other is =
-    let face : Face = record { key = key; tag = tag; attrs = attrs; text = old; ending = ending } in
-    record { pushed = Text host text ∷ []; list = is; only = (is_text text, tt); leads = λ kids n. at_text host (record { id = host; face = face }) kids n text refl (λ e. other (sym (ap (λ (f : Face). f.text) e))) }
-
 pub changes_ending : (host : ℕ) (face : Face) (ending : Bool) (start end : List Op) → face.ending ≢ ending → end ≡ start ++ Break host ending ∷ [] → Changes host face (with_ending ending face) start end
 changes_ending host face ending start end other is =
     record { pushed = Break host ending ∷ []; list = is; only = (is_break ending, tt); leads = λ kids n. at_break host (record { id = host; face = face }) kids n ending refl (λ e. other (sym (ap (λ (f : Face). f.ending) e))) }
-
-pub same_ending : (host : ℕ) (face : Face) (ending : Bool) (start : List Op) → face.ending ≡ ending → Changes host face (with_ending ending face) start start
-same_ending host face ending start e = subst (λ b. Changes host face (with_ending b face) start start) e (changes_none host face start)
 
 pub unequal_ending : (face : Face) (old new : Bool) → face.ending ≡ old → beq old new ≡ false → face.ending ≢ new
 unequal_ending face old new is differ e = grind (arith, is, differ, e)
@@ -61,7 +52,7 @@ both_same : (a b : Bool) → beq a b ≡ true → a ≡ b
 both_same a b e = grind (arith, e)
 
 pub equal_ending : (host : ℕ) (face : Face) (old new : Bool) (start : List Op) → face.ending ≡ old → beq old new ≡ true → Changes host face (with_ending new face) start start
-equal_ending host face old new start e same = same_ending host face new start (e ∙ both_same old new same)
+equal_ending host face old new start e same = subst (λ b. Changes host face (with_ending b face) start start) (e ∙ both_same old new same) (changes_none host face start)
 
 -- with these attributes
 abbrev dressed : ℕ → Tag → Option (List ℕ) → Bool → List (Name × List ℕ) → Face
@@ -104,14 +95,18 @@ same_text host key tag attrs old new ending start e =
 pub text_written : (host key : ℕ) (tag : Tag) (attrs : List (Name × List ℕ)) (old new : Option (List ℕ)) (text : List ℕ) (ending : Bool) (start end : List Op) → old ≢ new → new ≡ Some text → end ≡ start ++ Text host text ∷ []
     → Changes host (record { key = key; tag = tag; attrs = attrs; text = old; ending = ending }) (record { key = key; tag = tag; attrs = attrs; text = new; ending = ending }) start end
 text_written host key tag attrs old new text ending start end other e is =
-    let face : Face = record { key = key; tag = tag; attrs = attrs; text = old; ending = ending } in
-    subst (λ o. Changes host face (record { key = key; tag = tag; attrs = attrs; text = o; ending = ending }) start end) (sym e) (changes_text host key tag attrs old text ending start end (λ x. other (x ∙ sym e)) is)
+    let face : Option (List ℕ) → Face = λ o. record { key = key; tag = tag; attrs = attrs; text = o; ending = ending } in
+    subst (λ o. Changes host (face old) (face o) start end) (sym e) (record {
+      pushed = Text host text ∷ [];
+      list = is;
+      only = (is_text text, tt);
+      leads = λ kids n. at_text host (record { id = host; face = face old }) kids n text refl (λ x. other (sym (ap (λ (f : Face). f.text) x) ∙ sym e));
+    })
 
 -- neither the kind nor the fields differ
 pub same_face : (host key : ℕ) (tag : Tag) (k l : Kind) (f g : Fields) (ending : Bool) (start : List Op) → (k ≡ l) × (f ≡ g) → Changes host (shown_face key tag k f ending) (shown_face key tag l g ending) start start
 same_face host key tag k l f g ending start e =
-    subst (λ l. Changes host (shown_face key tag k f ending) (shown_face key tag l g ending) start start) e.0
-    (subst (λ g. Changes host (shown_face key tag k f ending) (shown_face key tag k g ending) start start) e.1 (changes_none host (shown_face key tag k f ending) start))
+    subst (λ t. t) (λ i. Changes host (shown_face key tag k f ending) (shown_face key tag (e.0 i) (e.1 i) ending) start start) (changes_none host (shown_face key tag k f ending) start)
 
 -- the attributes are written, and then the text
 pub face_written : (host : ℕ) (k l : Kind) (f g : Fields) (attrs news : List (Name × List ℕ)) (old new : Option (List ℕ)) (start mid end : List Op) → attrs ≡ attributes_of k f → news ≡ attributes_of l g → old ≡ text_of f → new ≡ text_of g
@@ -119,19 +114,15 @@ pub face_written : (host : ℕ) (k l : Kind) (f g : Fields) (attrs news : List (
     → ((key : ℕ) (tag : Tag) (attrs : List (Name × List ℕ)) (ending : Bool) → Changes host (record { key = key; tag = tag; attrs = attrs; text = old; ending = ending }) (record { key = key; tag = tag; attrs = attrs; text = new; ending = ending }) mid end)
     → (key : ℕ) (tag : Tag) (ending : Bool) → Changes host (shown_face key tag k f ending) (shown_face key tag l g ending) start end
 face_written host k l f g attrs news old new start mid end a b c d writes text key tag ending =
-    subst (λ x. Changes host (dressed key tag (text_of f) ending x) (shown_face key tag l g ending) start end) a
-    (subst (λ y. Changes host (dressed key tag (text_of f) ending attrs) (dressed key tag (text_of g) ending y) start end) b
-    (subst (λ x. Changes host (dressed key tag x ending attrs) (dressed key tag (text_of g) ending news) start end) c
-    (subst (λ y. Changes host (dressed key tag old ending attrs) (dressed key tag y ending news) start end) d
+    subst (λ t. t) (λ i. Changes host (dressed key tag (c i) ending (a i)) (dressed key tag (d i) ending (b i)) start end)
     (changes_then host (dressed key tag old ending attrs) (dressed key tag old ending news) (dressed key tag new ending news) start mid end
-    (changes_attributes host key tag old ending attrs news start mid writes) (text key tag news ending)))))
+    (changes_attributes host key tag old ending attrs news start mid writes) (text key tag news ending))
 
 -- of two texts that show the same attributes, only the text is written
 pub face_alike : (host : ℕ) (k l : Kind) (f g : Fields) (t u : TextFields) (start end : List Op) → f ≡ fields.Text t → g ≡ fields.Text u → text_attributes t ≡ text_attributes u
     → ((key : ℕ) (tag : Tag) (attrs : List (Name × List ℕ)) (ending : Bool) → Changes host (record { key = key; tag = tag; attrs = attrs; text = Some t.text; ending = ending }) (record { key = key; tag = tag; attrs = attrs; text = Some u.text; ending = ending }) start end)
     → (key : ℕ) (tag : Tag) (ending : Bool) → Changes host (shown_face key tag k f ending) (shown_face key tag l g ending) start end
 face_alike host k l f g t u start end a b same text key tag ending =
-    subst (λ x. Changes host (shown_face key tag k x ending) (shown_face key tag l g ending) start end) (sym a)
-    (subst (λ y. Changes host (shown_face key tag k (fields.Text t) ending) (shown_face key tag l y ending) start end) (sym b)
+    subst (λ t. t) (λ i. Changes host (shown_face key tag k (sym a i) ending) (shown_face key tag l (sym b i) ending) start end)
     (subst (λ xs. Changes host (dressed key tag (Some t.text) ending (text_attributes t)) (dressed key tag (Some u.text) ending xs) start end) same
-    (text key tag (text_attributes t) ending)))
+    (text key tag (text_attributes t) ending))

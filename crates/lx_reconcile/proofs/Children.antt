@@ -1,6 +1,5 @@
 -- A node as a reader sees it, and the operations for its children, one after another.
-use Rattle.std.specs.Result.{IfOk}
-use Rattle.std.proofs.Common.{Result, Ok, Err, ◌≡◌, ◌∙◌, ◌+◌, ◌<◌, ◌≤◌, ℕ, true, false, List, [], ◌∷◌, ◌++◌, length, Option, None, Some, option_map, is_some, refl, sym, ap, subst, arith, append_assoc}
+use Rattle.std.proofs.Common.{◌≡◌, ◌∙◌, ◌+◌, ◌<◌, ◌≤◌, ℕ, true, false, List, [], ◌∷◌, ◌++◌, length, Option, None, Some, option_map, is_some, refl, sym, ap, subst, arith, append_assoc}
 use Rattle.std.proofs.lemmas.Bool.Decides.{eqb_tells}
 use Rattle.std.proofs.lemmas.Option.{same_Some}
 use Rattle.lx_node.specs.Limits.{last_u32}
@@ -17,7 +16,7 @@ use Rattle.lx_trees.proofs.Siblings.{next_in-among}
 use Rattle.lx_host.specs.declared.op.Op.{Op}
 use Rattle.lx_host.specs.declared.op.Op.TheVariants.{Place}
 use Rattle.lx_forest.specs.Forest.{Label, Forest}
-use Rattle.lx_forest.specs.Lookups.{spot, has, alone, trees_of, label_of, kind_of, parent_of, children_of, children_below, first_child, last_child, siblings, next_of, IsForest}
+use Rattle.lx_forest.specs.Lookups.{spot, has, alone, trees_of, label_of, kind_of, parent_of, children_of, children_below, first_child, last_child, siblings, next_of, IsForest, previous_of}
 use Rattle.lx_forest.specs.Records.{linked, record_at}
 use Rattle.lx_forest.specs.Views.{kind_at}
 use Rattle.lx_forest.proofs.Edits.{is_some-spot, key-spot}
@@ -35,7 +34,7 @@ use Rattle.lx_reconcile.proofs.Lists.{last_of-among}
 abbrev pub label_from : ℕ → Node → Label
 label_from key n = record { key = key; kind = n.kind; fields = n.fields }
 
-label_same : (l : Label) (key : ℕ) (kind : Kind) (fields : Fields) → l.key ≡ key → kind ≡ l.kind → fields ≡ l.fields → l ≡ record { key = key; kind = kind; fields = fields }
+pub label_same : (l : Label) (key : ℕ) (kind : Kind) (fields : Fields) → l.key ≡ key → kind ≡ l.kind → fields ≡ l.fields → l ≡ record { key = key; kind = kind; fields = fields }
 label_same l key kind fields e f g = rw (← e, f, g) refl
 
 -- what a read says of a node
@@ -46,6 +45,8 @@ pub record IsRead (f : Forest) (key : ℕ) (n : Node) : Type 0 where
   pub label : at.label ≡ label_from key n
   pub first : n.first ≡ first_child f key
   pub last : n.last ≡ last_child f key
+  pub parent : n.parent ≡ at.parent
+  pub prev : n.prev ≡ previous_of f key
   pub next : n.next ≡ next_of f key
 
 pub is_read : (f : Forest) (key : ℕ) (n : Node) → Sound f → Some n ≡ option_map node_of (record_at f key) → IsRead f key n
@@ -62,11 +63,16 @@ is_read f key n s e = from_spot (spot f key) refl e where
         label = label_same x.label key n.kind n.fields (key-spot f key x at) (ap (λ (n : Node). n.kind) same) (ap (λ (n : Node). n.fields) same);
         first = ap (λ (n : Node). n.first) same ∙ sym (ap (λ o. first_of (children_at o)) at);
         last = ap (λ (n : Node). n.last) same ∙ sym (ap (λ o. last_of (children_at o)) at);
+        parent = ap (λ (n : Node). n.parent) same;
+        prev = ap (λ (n : Node). n.prev) same;
         next = ap (λ (n : Node). n.next) same;
       }
 
 pub there_read : (f : Forest) (k : ℕ) (n : Node) → IsRead f k n → has k f ≡ true
 there_read f k n r = sym (is_some-spot f k) ∙ ap is_some r.at_is
+
+pub label_read : (f : Forest) (k : ℕ) (n : Node) → IsRead f k n → label_of f k ≡ Some (label_from k n)
+label_read f k n r = ap (option_map (λ (s : Spot Label). s.label)) r.at_is ∙ ap (λ l. Some l) r.label
 
 -- its tree
 pub tree_read : (f : Forest) (key : ℕ) (n : Node) → IsRead f key n → alone key f ≡ tree (label_from key n) (trees_of f (children_of f key)) nil
@@ -100,22 +106,16 @@ stands_there f key h there = from_spot (spot f key) refl where
     below_is = sym (ap (λ o. trees_of f (children_at o)) at);
   }
 
--- the kind of the last of the trees of these keys
-last_kind_one : (f : Forest) (k : ℕ) (label : Label) (below : Forest) → alone k f ≡ tree label below nil → last_kind (trees_of f (k ∷ [])) ≡ Some label.kind
-last_kind_one f k label below e = rw e refl
-
-last_kind_more : (f : Forest) (k j : ℕ) (ks : List ℕ) (label other : Label) (below under : Forest) → alone k f ≡ tree label below nil → alone j f ≡ tree other under nil → last_kind (trees_of f (k ∷ j ∷ ks)) ≡ last_kind (trees_of f (j ∷ ks))
-last_kind_more f k j ks label other below under e g = rw (e, g) refl
-
 last_kind-trees_of : (f : Forest) (ks : List ℕ) → IsForest f → ((q : ℕ) → is_among q ks ≡ true → has q f ≡ true) → last_kind (trees_of f ks) ≡ kind_at f (last_of ks)
 last_kind-trees_of f [] h there = refl
 last_kind-trees_of f (k ∷ []) h there =
     let s = stands_there f k h (there k (grind (arith, eqb_tells k k))) in
-    last_kind_one f k s.label s.below s.tree_is ∙ sym s.kind
+    ap (λ t. last_kind (joined t nil)) s.tree_is ∙ sym s.kind
 last_kind-trees_of f (k ∷ j ∷ ks) h there =
     let s = stands_there f k h (there k (grind (arith, eqb_tells k k))) in
     let r = stands_there f j h (there j (grind (arith, eqb_tells j j))) in
-    last_kind_more f k j ks s.label r.label s.below r.below s.tree_is r.tree_is
+    (λ i. last_kind (joined (s.tree_is i) (joined (r.tree_is i) (trees_of f ks))))
+    ∙ sym (ap (λ t. last_kind (joined t (trees_of f ks))) r.tree_is)
     ∙ last_kind-trees_of f (j ∷ ks) h (λ q e. there q (grind (arith, e)))
 
 pub child_there : (f : Forest) (p q : ℕ) → Sound f → is_among q (children_of f p) ≡ true → has q f ≡ true
@@ -184,10 +184,6 @@ children_fit f g key id n same s read room =
       still = ap (λ f. total (alone key f)) same;
     }
 
-pub next_same : {E : Type 0} (r : Result ℕ E) (a b : ℕ) → a ≡ b → IfOk r (λ next. next ≡ a) → IfOk r (λ next. next ≡ b)
-next_same (Ok next) a b e h = h ∙ e
-next_same (Err x) a b e h = tt
-
 -- ---- the children one after another
 
 -- The operations for some of the children are made, and `at` is the first of those that are left: with the operations for
@@ -202,10 +198,7 @@ first_place [] = refl
 first_place (x ∷ xs) = grind (arith, eqb_tells x x)
 
 pub next_place : (xs : List ℕ) (k : ℕ) → is_place (next_in xs k) xs ≡ true
-next_place xs k = by_next (next_in xs k) refl where
-  by_next : (o : Option ℕ) → next_in xs k ≡ o → is_place o xs ≡ true
-  by_next None e = refl
-  by_next (Some n) e = next_in-among xs k n e
+next_place xs k = grind (arith, next_in-among xs k)
 
 pub record IsChildLeft (f : Forest) (key child : ℕ) : Type 0 where
   pub ordered : IsForest f
@@ -309,5 +302,3 @@ left_with f g key child at next same s here place next_is =
     let left : from_name at kids ≡ child ∷ rest = ap (λ o. from_name o kids) here ∙ c.left in
     let then : from_name next kids ≡ rest = ap (λ o. from_name o kids) (next_is ∙ ap (λ f. next_of f child) same ∙ c.next) in
     omega (arith, ap (λ f. total (alone child f)) same, ap (λ ks. total (trees_of f ks)) left, ap (λ ks. total (trees_of f ks)) then, total-joined (alone child f) (trees_of f rest))
-
--- ---- where the operations for a key's tree lead

@@ -1,7 +1,5 @@
 -- Which nodes are found kept, and how many aren't.
-use Rattle.std.proofs.Common.{◌≡◌, ◌∙◌, ◌+◌, ◌<◌, ◌≤◌, ℕ, ◌&&◌, ◌^◌, Bool, true, false, cond, ◌∷◌, Option, None, Some, option_map, is_some, inl, inr, refl, sym, ap, arith}
-use Rattle.std.proofs.lemmas.Bool.{cases_Bool, false_from_ne_true, true_from_ne_false, false≢true}
-use Rattle.std.proofs.lemmas.Option.{same_Some}
+use Rattle.std.proofs.Common.{◌≡◌, ◌∙◌, ◌+◌, ◌<◌, ◌≤◌, ℕ, ◌&&◌, ◌^◌, Bool, true, false, cond, ◌∷◌, Option, None, Some, option_map, is_some, refl, sym, ap, arith}
 use Rattle.lx_trees.specs.Trees.{nil, tree, joined}
 use Rattle.lx_trees.specs.NamedTrees.{total}
 use Rattle.lx_trees.specs.Siblings.{is_place, next_in, from_name}
@@ -11,8 +9,8 @@ use Rattle.lx_trees.proofs.NamedTrees.{total-joined, total-without-alone}
 use Rattle.lx_trees.proofs.Subtrees.{count-alone-le}
 use Rattle.lx_host.specs.declared.tag.Tag.{Tag}
 use Rattle.lx_forest.specs.Forest.{Label, Forest}
-use Rattle.lx_forest.specs.Lookups.{key_of, has, alone, spot, siblings, children_of, trees_of, next_of, is_attached, IsForest}
-use Rattle.lx_forest.specs.Records.{linked, record_at}
+use Rattle.lx_forest.specs.Lookups.{key_of, has, alone, spot, children_of, trees_of, next_of, is_attached, IsForest}
+use Rattle.lx_forest.specs.Records.{record_at}
 use Rattle.lx_forest.proofs.Edits.{is_some-spot}
 use Rattle.lx_forest.proofs.Lookups.{alone-spot}
 use Rattle.lx_forest.proofs.Walks.{spot_in_tree, is_attached-up, total-alone-lt}
@@ -28,26 +26,8 @@ use Rattle.lx_reconcile.proofs.UnkeptNodes.{same_parent, unkept-joined, unkept-t
 
 -- ---- a node as it was
 
--- what a read says of the place of a node
-record IsSeen (f : Forest) (key : ℕ) (n : Node) : Type 0 where
-  at : Spot Label
-  at_is : spot f key ≡ Some at
-  tag : tag_of n.kind n.fields ≡ tag_of at.label.kind at.label.fields
-  parent : n.parent ≡ at.parent
-
-is_seen : (f : Forest) (key : ℕ) (n : Node) → Some n ≡ option_map node_of (record_at f key) → IsSeen f key n
-is_seen f key n e = from_spot (spot f key) refl e where
-  from_spot : (o : Option (Spot Label)) → spot f key ≡ o → Some n ≡ option_map node_of (option_map (linked (siblings f key) key) o) → IsSeen f key n
-  from_spot None at e = absurd (cc)
-  from_spot (Some x) at e =
-      let same : n ≡ node_of (linked (siblings f key) key x) = same_Some n (node_of (linked (siblings f key) key x)) e in
-      record { at = x; at_is = at; tag = ap (λ (n : Node). tag_of n.kind n.fields) same; parent = ap (λ (n : Node). n.parent) same }
-
 unseen : (f : Forest) (key : ℕ) → None ≡ option_map node_of (record_at f key) → spot f key ≡ None
-unseen f key e = from_spot (spot f key) e where
-  from_spot : (o : Option (Spot Label)) → None ≡ option_map node_of (option_map (linked (siblings f key) key) o) → o ≡ None
-  from_spot None e = refl
-  from_spot (Some x) e = absurd (cc)
+unseen f key e = grind (arith, e)
 
 -- where a node is in the root's tree
 module _ (f : Forest) (parent : Option ℕ) (q : ℕ) (s : Sound f) (above : IsInTree f parent q) where
@@ -70,36 +50,19 @@ module _ (f : Forest) (parent : Option ℕ) (q : ℕ) (s : Sound f) (above : IsI
     by_parent (Some p) there up = is_attached-up f q p order (ap parent_at at ∙ up) ∙ there
 
   pub kept_none : (tag : Tag) → None ≡ option_map node_of (record_at f q) → false ≡ is_only parent tag (places_of q None (alone 0 f))
-  kept_none tag e = sym (ap (is_only parent tag) (places ∙ ap places_at (ap (λ o. cond (is_attached f q) o None) (unseen f q e) ∙ either (is_attached f q)))) where
-    no_spot : Option (Spot Label)
-    no_spot = None
-
-    either : (b : Bool) → cond b no_spot no_spot ≡ no_spot
-    either true = refl
-    either false = refl
+  kept_none tag e =
+      let none = unseen f q e in
+      grind (arith, none, places)
 
   pub kept_some : (tag : Tag) (n : Node) → Some n ≡ option_map node_of (record_at f q)
       → (is_parent n.parent parent && is_tag (tag_of n.kind n.fields) tag) ≡ is_only parent tag (places_of q None (alone 0 f))
   kept_some tag n e =
-      let x = is_seen f q n e in
-      let same = λ (t : Tag). is_tag t tag in
-      ap (λ p. is_parent p parent && same (tag_of n.kind n.fields)) x.parent
-      ∙ ap (λ t. is_parent x.at.parent parent && same t) x.tag
-      ∙ elim (cases_Bool (is_attached f q)) [
-        | inl inside ↦ sym (ap (is_only parent tag) (places ∙ ap places_at (ap (λ b. cond b (spot f q) None) inside ∙ x.at_is)))
-        | inr out ↦
-            not_here x.at (same (tag_of x.at.label.kind x.at.label.fields)) x.at_is out
-            ∙ sym (ap (is_only parent tag) (places ∙ ap places_at (ap (λ b. cond b (spot f q) None) out)))
-      ]
-    where
-      not_here : (x : Spot Label) (b : Bool) → spot f q ≡ Some x → is_attached f q ≡ false → (is_parent x.parent parent && b) ≡ false
-      not_here x b at out = ap (λ c. c && b) (false_from_ne_true (is_parent x.parent parent) (λ up. false≢true (sym out ∙ attached x at up)))
+      let x = is_read f q n s e in
+      grind (arith, places, x.at_is, x.parent, x.label, attached x.at x.at_is)
 
   -- a kept node is in the tree
   pub kept_inside : (tag : Tag) → is_only parent tag (places_of q None (alone 0 f)) ≡ true → is_attached f q ≡ true
-  kept_inside tag e =
-      true_from_ne_false (is_attached f q)
-      (λ out. false≢true (sym (ap (is_only parent tag) (places ∙ ap places_at (ap (λ b. cond b (spot f q) None) out))) ∙ e))
+  kept_inside tag e = grind (arith, e, places)
 
 -- ---- by what the code knows
 
@@ -120,9 +83,7 @@ unkept_in-total false old p f = omega arith
 -- of one tree: those below it, and itself unless it is kept
 kept_tree : (kept only : Bool) (old : Forest) (p : Option ℕ) (l : Label) (b : Forest) → only ≡ is_only p (tag_of l.kind l.fields) (places_of l.key None old)
     → unkept_in kept old p (tree l b nil) ≡ cond (kept && only) 0 1 + unkept_in (kept && only) old (Some l.key) b
-kept_tree true true old p l b is = rw (← is) (omega arith)
-kept_tree true false old p l b is = rw (← is) (omega arith)
-kept_tree false only old p l b is = omega arith
+kept_tree kept only old p l b is = grind (arith, is)
 
 pub counted_tree : (kept stays : Bool) (old f : Forest) (p : Option ℕ) (q : ℕ) (n : Node) → Sound f → Some n ≡ option_map node_of (record_at f q)
     → stays ≡ (kept && is_only p (tag_of n.kind n.fields) (places_of q None old))

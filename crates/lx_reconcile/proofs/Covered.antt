@@ -1,9 +1,9 @@
 -- The marks of a draft cover the tree that it began with and the one that it leaves.
-use Rattle.std.proofs.Common.{◌≡◌, ◌∙◌, ℕ, Bool, true, false, cond, ◌||◌, Option, None, Some, is_some, option_map, inl, inr, refl, sym, ap}
+use Rattle.std.proofs.Common.{◌≡◌, ◌∙◌, ℕ, true, false, cond, Option, None, Some, is_some, option_map, inl, inr, refl, sym, ap, arith}
 use Rattle.std.proofs.lemmas.Bool.{cases_Bool, true_from_ne_false, false≢true}
-use Rattle.lx_trees.specs.Siblings.{is_among, next_in, previous_in}
+use Rattle.lx_trees.specs.Siblings.{next_in, previous_in}
 use Rattle.lx_trees.specs.Spots.{Spot, parent_at, children_at}
-use Rattle.lx_marks.specs.Marks.{Marked, unmarked, flag_in, is_touched, is_noted, is_true_flag}
+use Rattle.lx_marks.specs.Marks.{Marked, unmarked, is_touched, is_noted}
 use Rattle.lx_forest.specs.Forest.{Label, Forest}
 use Rattle.lx_forest.specs.Lookups.{has, alone, spot, kind_of, parent_of, previous_of, next_of, children_below, IsForest}
 use Rattle.lx_forest.specs.Records.{Record, linked, record_at}
@@ -16,11 +16,7 @@ use Rattle.lx_forest.specs.Covered.{AreCovered}
 use Rattle.lx_reconcile.specs.Allowing.{marking}
 
 touched_noted : (m : Marked) (q : ℕ) → is_touched m q ≡ true → is_noted m q ≡ true
-touched_noted m q e = by_flag (is_among q m.leaves) (flag_in m.elements q) e where
-  by_flag : (b : Bool) (o : Option Bool) → (b || is_true_flag o) ≡ true → (b || is_some o) ≡ true
-  by_flag true o e = refl
-  by_flag false None e = absurd (cc)
-  by_flag false (Some flag) e = refl
+touched_noted m q e = grind (arith, e)
 
 -- the neighbours that a record gives
 previous_told : Option Record → Option ℕ

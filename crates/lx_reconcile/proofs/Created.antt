@@ -1,5 +1,5 @@
 -- What the operations that make the hosts of trees lead to.
-use Rattle.std.proofs.Common.{◌≡◌, ◌≢◌, ◌∙◌, ◌+◌, ◌<◌, ◌≤◌, ℕ, Bool, true, false, cond, eqb, ltb, List, [], ◌∷◌, ◌++◌, Option, None, inl, inr, refl, sym, ap, subst, arith, ne_eqb, eq-eqb, append-nil}
+use Rattle.std.proofs.Common.{◌≡◌, ◌≢◌, ◌∙◌, ◌+◌, ◌<◌, ◌≤◌, ℕ, true, false, eqb, ltb, List, [], ◌∷◌, ◌++◌, Option, None, inl, inr, refl, sym, ap, subst, arith, ne_eqb, eq-eqb, append-nil}
 use Rattle.std.proofs.lemmas.Bool.{cases_lt}
 use Rattle.std.proofs.lemmas.Bool.Decides.{eqb_tells}
 use Rattle.lx_node.specs.Limits.{last_u32}
@@ -9,11 +9,12 @@ use Rattle.lx_trees.proofs.NamedTrees as trees
 use Rattle.lx_node.specs.declared.kind.Kind.{Kind}
 use Rattle.lx_host.specs.declared.op.Op.{Op}
 use Rattle.lx_host.specs.declared.op.Op.TheVariants.{Place}
-use Rattle.lx_host.specs.Hosts.{Face, Host, HostTree, id_of, one_host, shape_of, count, has, without, alone, put_below, children_of, fits_before, fits, effect, Leads, FitInTurn, IsNumbered}
+use Rattle.lx_host.specs.Hosts.{Face, Host, HostTree, id_of, one_host, shape_of, count, has, without, alone, put_below, children_of, fits_before, fits, effect, Leads, FitInTurn}
 use Rattle.lx_host.proofs.Laws.{joined-nil, joined-assoc, inserted-None, count-joined, without-joined, alone-joined, put_below-joined, children_of-joined, children_of-absent, without-absent, alone-absent, put_below-absent}
 use Rattle.lx_forest.specs.Forest.{Label, Forest}
 use Rattle.lx_render.specs.Render.{render, face_of, last_kind}
 use Rattle.lx_reconcile.specs.Created.{numbered, create_op, creations, creation}
+use Rattle.lx_reconcile.specs.Changing.{IsWriteAt, is_text, is_attr, is_break}
 
 abbrev pub host_tree : Trees Host → ℕ → HostTree
 host_tree hosts next = record { hosts = hosts; next = next }
@@ -51,20 +52,17 @@ shape_of-numbered id (tree face below rest) = rw (shape_of-numbered (id + 1) bel
 pub count-numbered_before : (q id : ℕ) (t : Trees Face) → q < id → count q (numbered id t) ≡ 0
 count-numbered_before q id nil h = refl
 count-numbered_before q id (tree face below rest) h =
-    rw (ne_eqb id q (omega (arith, h))) (omega (arith, count-numbered_before q (id + 1) below (omega (arith, h)), count-numbered_before q (id + 1 + total below) rest (omega (arith, h))))
+    grind (arith, h, eqb_tells id q, count-numbered_before q (id + 1) below, count-numbered_before q (id + 1 + total below) rest)
 
 pub count-numbered_behind : (q id : ℕ) (t : Trees Face) → id + total t ≤ q → count q (numbered id t) ≡ 0
 count-numbered_behind q id nil h = refl
 count-numbered_behind q id (tree face below rest) h =
-    rw (ne_eqb id q (omega (arith, h))) (omega (arith, count-numbered_behind q (id + 1) below (omega (arith, h)), count-numbered_behind q (id + 1 + total below) rest (omega (arith, h))))
+    grind (arith, h, eqb_tells id q, count-numbered_behind q (id + 1) below, count-numbered_behind q (id + 1 + total below) rest)
 
 pub put_below-nil : (p : ℕ) (t : Trees Host) → put_below p None nil t ≡ t
 put_below-nil p nil = refl
 put_below-nil p (tree h below rest) =
-    rw (inserted-None nil below, joined-nil below, put_below-nil p below, put_below-nil p rest) (ap (λ b. tree h b rest) (same (eqb h.id p) below)) where
-      same : (b : Bool) (t : Trees Host) → cond b t t ≡ t
-      same true t = refl
-      same false t = refl
+    grind (arith, eqb_tells h.id p, inserted-None nil below, joined-nil below, put_below-nil p below, put_below-nil p rest)
 
 -- what is put after a host's children, and more after that
 pub put_below-twice : (p : ℕ) (new more t : Trees Host) → put_below p None more (put_below p None new t) ≡ put_below p None (joined new more) t
@@ -81,6 +79,13 @@ pub record IsReadyFor (parent more : ℕ) (hosts : Trees Host) (next : ℕ) : Ty
 pub parent_before : (parent more : ℕ) (hosts : Trees Host) (next : ℕ) → IsReadyFor parent more hosts next → parent < next
 parent_before parent more hosts next ready =
     elim (cases_lt parent next) [ inl before ↦ before | inr behind ↦ absurd (omega (arith, ready.once, ready.free parent (omega (arith, behind)))) ]
+
+-- what is written at a host that is there fits
+pub fits_write : {h : ℕ} {op : Op} → IsWriteAt h op → (w : HostTree) → has h w.hosts ≡ fits op w
+unfolding fits
+fits_write (is_text text) w = refl
+fits_write (is_attr name value) w = refl
+fits_write (is_break ending) w = refl
 
 -- ---- one host
 
@@ -244,10 +249,3 @@ count-numbered q id (tree face below rest) =
       count-numbered_before q (id + 1 + total below) rest,
       count-numbered_behind q (id + 1) below,
     )
-
--- ---- by what is known of a host tree
-
--- At the end of a host's children. A host tree that is numbered stays so.
-module _ (w : HostTree) (w_is : IsNumbered w) (parent : ℕ) (there : 0 < count parent w.hosts) (f : Forest) where
-  once : count parent w.hosts ≡ 1
-  once = omega (arith, w_is.once parent, there)

@@ -1,6 +1,6 @@
 -- What operations make of one host with what is below it, whatever is around it.
-use Rattle.std.proofs.Common.{◌≡◌, ◌≢◌, ◌∙◌, ◌+◌, ◌<◌, ◌≤◌, ℕ, Bool, true, false, refl, sym, ap, subst, arith, inl, inr, eqb, IsTrue, List, [], ◌∷◌, ◌++◌, append-nil, Option, None, Some}
-use Rattle.std.proofs.lemmas.Bool.{cases_lt, ne_eqb, eq-eqb, ltb-true}
+use Rattle.std.proofs.Common.{◌≡◌, ◌≢◌, ◌∙◌, ◌+◌, ◌<◌, ◌≤◌, ℕ, Bool, true, false, refl, sym, ap, subst, arith, eqb, List, [], ◌∷◌, ◌++◌, append-nil, Option, None, Some}
+use Rattle.std.proofs.lemmas.Bool.{ne_eqb, eq-eqb, ltb-true}
 use Rattle.std.proofs.lemmas.Bool.Decides.{eqb_tells}
 use Rattle.lx_node.specs.Limits.{last_u32}
 use Rattle.lx_trees.specs.Trees.{Trees, nil, tree, joined}
@@ -23,7 +23,8 @@ use Rattle.lx_reconcile.specs.Created.{numbered, creation}
 use Rattle.lx_reconcile.specs.Reconciled.{replaced, LeadsAt, IsAt}
 use Rattle.lx_reconcile.specs.Allowed.{AllWriteAnew, WritesAnew}
 use Rattle.lx_reconcile.proofs.Due.{writes_append, creation_writes}
-use Rattle.lx_reconcile.proofs.Created.{host_tree, Leads-append, has_if, has_not, host_over, count-numbered_before, count-numbered_behind, count-numbered, created_alone, total-render}
+use Rattle.lx_reconcile.proofs.Created.{host_tree, Leads-append, has_if, has_not, host_over, count-numbered_before, count-numbered_behind, count-numbered, created_alone, total-render, fits_write}
+use Rattle.lx_reconcile.specs.Changing.{is_text, is_attr, is_break}
 
 -- ---- other trees in place of the one at a host
 
@@ -40,10 +41,14 @@ replaced-absent h new (tree x below rest) e = grind (arith, replaced-absent h ne
 pub replaced-twice : (h : ℕ) (new newer t : Trees Host) → replaced h newer new ≡ newer → replaced h newer (replaced h new t) ≡ replaced h newer t
 replaced-twice h new newer nil e = refl
 replaced-twice h new newer (tree x below rest) e =
-    elim (eqb_tells x.id h) [
-      | inl same ↦ rw same.0 (replaced-joined h newer new (replaced h new rest) ∙ rw (e, replaced-twice h new newer rest e) refl)
-      | inr other ↦ rw other.0 (rw (other.0, replaced-twice h new newer below e, replaced-twice h new newer rest e) refl)
-    ]
+    grind (
+      arith,
+      e,
+      eqb_tells x.id h,
+      replaced-joined h newer new (replaced h new rest),
+      replaced-twice h new newer below e,
+      replaced-twice h new newer rest e,
+    )
 
 -- the same tree there
 pub replaced-same : (h : ℕ) (t : Trees Host) → count h t ≡ 1 → replaced h (alone h t) t ≡ t
@@ -60,27 +65,24 @@ replaced-same h (tree x below rest) once =
       joined-nil (alone h below),
     )
 
--- ---- what is outside the tree at a host
-
--- another host that is there nowhere else is found in the new trees
-pub alone-replaced : (q h : ℕ) (new t : Trees Host) → count h t ≡ 1 → count q (without h t) ≡ 0 → alone q (replaced h new t) ≡ alone q new
-alone-replaced q h new nil once e = absurd (omega arith)
-alone-replaced q h new (tree x below rest) once e =
+-- they are found there
+alone_at : (h : ℕ) (b t : Trees Host) → IsAt h b → count h t ≡ 1 → alone h (replaced h b t) ≡ b
+alone_at h b nil at once = absurd (omega arith)
+alone_at h b (tree x below rest) at once =
+    let own : alone h b ≡ b = ap (alone h) at.is ∙ rw (eq-eqb at.host.id h at.id) refl ∙ sym at.is in
     grind (
       arith,
+      own,
       eqb_tells x.id h,
-      eqb_tells x.id q,
-      alone-replaced q h new below,
-      alone-replaced q h new rest,
-      without-absent h below,
-      without-absent h rest,
-      replaced-absent h new below,
-      replaced-absent h new rest,
-      alone-absent q below,
-      alone-absent q rest,
-      alone-joined q new rest,
-      joined-nil (alone q new),
-      joined-nil (alone q (replaced h new below)),
+      alone_at h b below at,
+      alone_at h b rest at,
+      replaced-absent h b below,
+      replaced-absent h b rest,
+      alone-absent h below,
+      alone-absent h rest,
+      alone-joined h b rest,
+      joined-nil b,
+      joined-nil (alone h (replaced h b below)),
     )
 
 -- ---- what is done at one host is done inside a tree that holds it
@@ -116,34 +118,6 @@ inside_first q h change x below rest d once e in_below in_rest =
 pub inside : (q h : ℕ) (change : Trees Host → Trees Host) (t : Trees Host) → IsDoneAt q change → count h t ≡ 1 → count q (without h t) ≡ 0 → change t ≡ replaced h (change (alone h t)) t
 inside q h change nil d once e = absurd (omega arith)
 inside q h change (tree x below rest) d once e = inside_first q h change x below rest d once e (inside q h change below d) (inside q h change rest d)
-
-pub changed_done : (h : ℕ) (change : Face → Face) → IsDoneAt h (changed h change)
-changed_done h change = record {
-  through = changed-joined h change;
-  absent = changed-absent h change;
-  other = λ x below rest e. rw e refl;
-}
-
-pub without_done : (q : ℕ) → IsDoneAt q (without q)
-without_done q = record {
-  through = without-joined q;
-  absent = without-absent q;
-  other = λ x below rest e. rw e refl;
-}
-
-pub put_below_done : (h : ℕ) (before : Option ℕ) (new : Trees Host) → IsDoneAt h (put_below h before new)
-put_below_done h before new = record {
-  through = put_below-joined h before new;
-  absent = put_below-absent h before new;
-  other = λ x below rest e. rw e refl;
-}
-
-pub replaced_done : (q : ℕ) (new : Trees Host) → IsDoneAt q (replaced q new)
-replaced_done q new = record {
-  through = replaced-joined q new;
-  absent = replaced-absent q new;
-  other = λ x below rest e. rw e refl;
-}
 
 -- ---- a host tree where a host is with this below it
 
@@ -200,11 +174,6 @@ at_same h from n at w w_is next there is =
     ap (host_tree (replaced h from w.hosts)) (sym next) ∙ ap (λ t. host_tree t w.next) (ap (λ b. replaced h b w.hosts) (sym is) ∙ replaced-same h w.hosts once) in
     (same, subst IsNumbered (sym same) w_is, tt)
 
-alone_at : (h : ℕ) (b t : Trees Host) → IsAt h b → count h t ≡ 1 → alone h (replaced h b t) ≡ b
-alone_at h b t at once =
-    alone-replaced h h b t once (trees.count-without id_of h t)
-    ∙ ap (alone h) at.is ∙ rw (eq-eqb at.host.id h at.id) refl ∙ sym at.is
-
 has_at : (h : ℕ) (b t : Trees Host) → IsAt h b → count h t ≡ 1 → has h (replaced h b t) ≡ true
 has_at h b t at once =
     let all : count h (replaced h b t) ≡ count h (tree at.host at.below nil) =
@@ -235,9 +204,6 @@ at_numbered h from n ops to m leads w w_is next there is =
 
 -- ---- one operation
 
-one_op : (op : Op) (w : HostTree) (hosts : Trees Host) → IsTrue (fits op w) → host_tree hosts w.next ≡ effect op w → Leads w (op ∷ []) (host_tree hosts w.next)
-one_op op w hosts fit is = (host_tree hosts w.next, fit, is, refl)
-
 -- An operation fits, and puts this in place of the tree at a host.
 pub record Does (op : Op) (h : ℕ) (to : Trees Host) (w : HostTree) : Type 0 where
   pub fit : fits op w ≡ true
@@ -248,24 +214,12 @@ pub record Does (op : Op) (h : ℕ) (to : Trees Host) (w : HostTree) : Type 0 wh
 at_op : (h n : ℕ) (op : Op) (to : Trees Host) (w : HostTree) → w.next ≡ n → Does op h to w → Leads w (op ∷ []) (host_tree (replaced h to w.hosts) n) × IsNumbered (host_tree (replaced h to w.hosts) n) × AllWriteAnew w (op ∷ [])
 at_op h n op to w next d =
     let hosts = replaced h to w.hosts in (
-      subst (λ m. Leads w (op ∷ []) (host_tree hosts m)) next (one_op op w hosts d.fit d.is),
+      subst (λ m. Leads w (op ∷ []) (host_tree hosts m)) next (host_tree hosts w.next, d.fit, d.is, refl),
       subst (λ m. IsNumbered (host_tree hosts m)) next d.numbered,
       (d.anew, tt),
     )
 
 -- ---- what a host shows, changed
-
-fits_text : (h : ℕ) (text : List ℕ) (w : HostTree) → has h w.hosts ≡ fits (Text h text) w
-unfolding fits
-fits_text h text w = refl
-
-fits_attr : (h : ℕ) (name : Name) (value : Option (List ℕ)) (w : HostTree) → has h w.hosts ≡ fits (Attr h name value) w
-unfolding fits
-fits_attr h name value w = refl
-
-fits_break : (h : ℕ) (ending : Bool) (w : HostTree) → has h w.hosts ≡ fits (Break h ending) w
-unfolding fits
-fits_break h ending w = refl
 
 -- the host, showing this
 abbrev pub showing : Face → Host → Host
@@ -274,7 +228,8 @@ showing face a = record { id = a.id; face = face }
 changed_here : (h : ℕ) (change : Face → Face) (a : Host) (kids : Trees Host) (w : HostTree) → IsHere h a kids w → changed h change w.hosts ≡ replaced h (tree (showing (change a.face) a) kids nil) w.hosts
 changed_here h change a kids w p =
     let is : changed h change (tree a kids nil) ≡ tree (showing (change a.face) a) kids nil = rw (eq-eqb a.id h p.id, changed-absent h change kids p.apart) refl in
-    done_here h h (changed h change) a kids _ w p (changed_done h change) (trees.count-without id_of h w.hosts) is
+    done_here h h (changed h change) a kids _ w p (record { through = changed-joined h change; absent = changed-absent h change; other = λ x below rest e. rw e refl })
+    (trees.count-without id_of h w.hosts) is
 
 -- what shows another face isn't the same
 changes_anew : (op : Op) (h : ℕ) (change : Face → Face) (a : Host) (kids : Trees Host) (w : HostTree) → IsHere h a kids w → host_tree (changed h change w.hosts) w.next ≡ effect op w → change a.face ≢ a.face → effect op w ≢ w
@@ -301,17 +256,17 @@ does_change op h change a kids w p fit is other anew =
 pub at_text : (h : ℕ) (a : Host) (kids : Trees Host) (n : ℕ) (text : List ℕ) → a.id ≡ h → with_text text a.face ≢ a.face
     → LeadsAt h (tree a kids nil) n (Text h text ∷ []) (tree (record { id = a.id; face = with_text text a.face }) kids nil) n
 at_text h a kids n text id other w w_is next there is =
-    at_op h n (Text h text) _ w next (does_change (Text h text) h (with_text text) a kids w (is_here h a kids w id w_is there is) (sym (fits_text h text w) ∙ there) (effect_text h text w) other (λ x. x))
+    at_op h n (Text h text) _ w next (does_change (Text h text) h (with_text text) a kids w (is_here h a kids w id w_is there is) (sym (fits_write (is_text text) w) ∙ there) (effect_text h text w) other (λ x. x))
 
 pub at_attr : (h : ℕ) (a : Host) (kids : Trees Host) (n : ℕ) (name : Name) (value : Option (List ℕ)) → a.id ≡ h → with_value name value a.face ≢ a.face
     → LeadsAt h (tree a kids nil) n (Attr h name value ∷ []) (tree (record { id = a.id; face = with_value name value a.face }) kids nil) n
 at_attr h a kids n name value id other w w_is next there is =
-    at_op h n (Attr h name value) _ w next (does_change (Attr h name value) h (with_value name value) a kids w (is_here h a kids w id w_is there is) (sym (fits_attr h name value w) ∙ there) (effect_attr h name value w) other (λ x. x))
+    at_op h n (Attr h name value) _ w next (does_change (Attr h name value) h (with_value name value) a kids w (is_here h a kids w id w_is there is) (sym (fits_write (is_attr name value) w) ∙ there) (effect_attr h name value w) other (λ x. x))
 
 pub at_break : (h : ℕ) (a : Host) (kids : Trees Host) (n : ℕ) (ending : Bool) → a.id ≡ h → with_ending ending a.face ≢ a.face
     → LeadsAt h (tree a kids nil) n (Break h ending ∷ []) (tree (record { id = a.id; face = with_ending ending a.face }) kids nil) n
 at_break h a kids n ending id other w w_is next there is =
-    at_op h n (Break h ending) _ w next (does_change (Break h ending) h (with_ending ending) a kids w (is_here h a kids w id w_is there is) (sym (fits_break h ending w) ∙ there) (effect_break h ending w) other (λ x. x))
+    at_op h n (Break h ending) _ w next (does_change (Break h ending) h (with_ending ending) a kids w (is_here h a kids w id w_is there is) (sym (fits_write (is_break ending) w) ∙ there) (effect_break h ending w) other (λ x. x))
 
 -- ---- one of the host's children, taken out or placed anew
 
@@ -322,11 +277,7 @@ pub record IsChild (h c : ℕ) (kids : Trees Host) (w : HostTree) : Type 0 where
   pub outside : count c (without h w.hosts) ≡ 0
 
 pub some_among : (c : ℕ) (kids : Trees Host) → is_among c (ids_of kids) ≡ true → 0 < count c kids
-some_among c kids among =
-    elim (cases_lt 0 (count c kids)) [
-      | inl some ↦ some
-      | inr none ↦ absurd (grind (arith, none, among, spots.is_among-names id_of kids c))
-    ]
+some_among c kids among = grind (arith, among, spots.is_among-names id_of kids c)
 
 is_child : (h c : ℕ) (a : Host) (kids : Trees Host) (w : HostTree) → IsHere h a kids w → is_among c (ids_of kids) ≡ true → IsChild h c kids w
 is_child h c a kids w p among =
@@ -352,7 +303,7 @@ alone_child h c a kids w p k =
 without_child : (h c : ℕ) (a : Host) (kids : Trees Host) (w : HostTree) → IsHere h a kids w → IsChild h c kids w → without c w.hosts ≡ replaced h (tree a (without c kids) nil) w.hosts
 without_child h c a kids w p k =
     let is : without c (tree a kids nil) ≡ tree a (without c kids) nil = rw (child_differs h c a kids w p k) refl in
-    done_here c h (without c) a kids _ w p (without_done c) k.outside is
+    done_here c h (without c) a kids _ w p (record { through = without-joined c; absent = without-absent c; other = λ x below rest e. rw e refl }) k.outside is
 
 fits_drop : (c : ℕ) (w : HostTree) → c ≢ 0 → has c w.hosts ≡ true → fits (Drop c) w ≡ true
 unfolding fits
@@ -376,7 +327,8 @@ put_here : (h : ℕ) (a : Host) (kids : Trees Host) (before : Option ℕ) (new t
     → put_below h before new t ≡ replaced h (tree a (inserted before new kids) nil) t
 put_here h a kids before new t id once is =
     let own : put_below h before new (tree a kids nil) ≡ tree a (inserted before new kids) nil = rw (eq-eqb a.id h id) refl in
-    inside h h (put_below h before new) t (put_below_done h before new) once (trees.count-without id_of h t)
+    inside h h (put_below h before new) t (record { through = put_below-joined h before new; absent = put_below-absent h before new; other = λ x below rest e. rw e refl }) once
+    (trees.count-without id_of h t)
     ∙ ap (λ b. replaced h b t) (ap (put_below h before new) is ∙ own)
 
 -- the child taken out, and put back among those that are left
@@ -417,11 +369,7 @@ at_place h a kids n c before id nonzero among place w w_is next there is =
 -- ---- a new tree, put among the children
 
 host_before : (h : ℕ) (a : Host) (kids : Trees Host) (w : HostTree) → IsHere h a kids w → h < w.next
-host_before h a kids w p =
-    elim (cases_lt h w.next) [
-      | inl before ↦ before
-      | inr behind ↦ absurd (omega (arith, p.once, p.numbered.below h (omega (arith, behind))))
-    ]
+host_before h a kids w p = grind (arith, p.once, p.numbered.below h)
 
 free_below : (h : ℕ) (a : Host) (kids : Trees Host) (w : HostTree) → IsHere h a kids w → count w.next kids ≡ 0
 free_below h a kids w p =
@@ -453,10 +401,7 @@ numbered_made h a kids w f before p =
     let same = put_here h a kids before new w.hosts p.id p.once p.is in
     let counted = λ (q : ℕ). sym (ap (count q) same) ∙ trees.count-put_below id_of q h before new w.hosts p.once in
     record {
-      once = λ q. elim (cases_lt q w.next) [
-        | inl less ↦ omega (arith, counted q, p.numbered.once q, count-numbered_before q w.next (render f) less)
-        | inr behind ↦ omega (arith, counted q, p.numbered.below q (omega (arith, behind)), count-numbered q w.next (render f))
-      ];
+      once = λ q. grind (arith, counted q, p.numbered.once q, p.numbered.below q, count-numbered_before q w.next (render f), count-numbered q w.next (render f));
       below = λ q h. omega (arith, counted q, p.numbered.below q (omega (arith, h)), count-numbered_behind q w.next (render f) (omega (arith, h, total-render f)));
     }
 
@@ -499,7 +444,7 @@ at_inner h a kids n c from ops to m id among inner_is inner w w_is next there is
     let p = is_here h a kids w id w_is there is in
     let k = is_child h c a kids w p among in
     let own : replaced c to (tree a kids nil) ≡ tree a (replaced c to kids) nil = rw (child_differs h c a kids w p k) refl in
-    let same = done_here c h (replaced c to) a kids _ w p (replaced_done c to) k.outside own in
+    let same = done_here c h (replaced c to) a kids _ w p (record { through = replaced-joined c to; absent = replaced-absent c to; other = λ x below rest e. rw e refl }) k.outside own in
     let then = inner w w_is next (has_if c w.hosts (omega (arith, k.once))) (alone_child h c a kids w p k ∙ inner_is) in
     (subst (λ t. Leads w ops (host_tree t m)) same then.0, subst (λ t. IsNumbered (host_tree t m)) same then.1, then.2)
 

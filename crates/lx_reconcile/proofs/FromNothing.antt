@@ -11,9 +11,8 @@ use Rattle.lx_node.specs.declared.node.Node.{Node}
 use Rattle.lx_host.specs.declared.tag.Name.{Name}
 use Rattle.lx_host.specs.declared.tag.Tag.TheVariants.{Div}
 use Rattle.lx_host.specs.declared.op.Op.{Op}
-use Rattle.lx_host.specs.declared.op.Op.TheVariants.{Attr, Text}
 use Rattle.lx_host.specs.Branches as hosts
-use Rattle.lx_host.specs.Hosts.{Face, HostTree, one_host, shape_of, fits, effect, Leads, FitInTurn, new_tree}
+use Rattle.lx_host.specs.Hosts.{Face, HostTree, one_host, shape_of, Leads, FitInTurn, new_tree}
 use Rattle.lx_host.specs.Words.{names_rise, with_attribute}
 use Rattle.lx_forest.specs.Forest.{Label, Forest}
 use Rattle.lx_forest.specs.Lookups.{key_of, alone, trees_of, children_of}
@@ -25,8 +24,10 @@ use Rattle.lx_render.specs.Render.{render, face_of, last_kind, attributes_of, te
 use Rattle.lx_reconcile.specs.Created.{numbered, creations, attribute_ops, text_ops, fresh_ops}
 use Rattle.lx_render.proofs.Rising.{attributes_are}
 use Rattle.lx_reconcile.proofs.Children.{stands_there, is_read, tree_read, total_read}
-use Rattle.lx_reconcile.proofs.Created.{host_tree, Leads-append, Leads-fits, Leads-same, IsReadyFor, created, shape_of-numbered}
+use Rattle.lx_reconcile.proofs.Created.{host_tree, Leads-append, Leads-fits, Leads-same, IsReadyFor, created, shape_of-numbered, fits_write}
 use Rattle.lx_reconcile.proofs.Written.{IsBehind, with_behind, behind_done}
+use Rattle.lx_host.proofs.Standing.{effect_attr, effect_text}
+use Rattle.lx_reconcile.specs.Changing.{is_attr, is_text}
 
 -- ---- host 0 alone
 
@@ -37,37 +38,21 @@ root_with attributes text = record { key = 0; tag = Div; attrs = attributes; tex
 abbrev alone_with : List (Name × List ℕ) → Option (List ℕ) → HostTree
 alone_with attributes text = host_tree (one_host 0 (root_with attributes text)) 1
 
-fits_attribute : (name : Name) (value : List ℕ) (attributes : List (Name × List ℕ)) (text : Option (List ℕ)) → fits (Attr 0 name (Some value)) (alone_with attributes text) ≡ true
-unfolding fits
-fits_attribute name value attributes text = refl
-
-effect_attribute : (name : Name) (value : List ℕ) (attributes : List (Name × List ℕ)) (text : Option (List ℕ)) → alone_with (with_attribute name (Some value) attributes) text ≡ effect (Attr 0 name (Some value)) (alone_with attributes text)
-unfolding effect
-effect_attribute name value attributes text = refl
-
-fits_text : (new : List ℕ) (attributes : List (Name × List ℕ)) (text : Option (List ℕ)) → fits (Text 0 new) (alone_with attributes text) ≡ true
-unfolding fits
-fits_text new attributes text = refl
-
-effect_text : (new : List ℕ) (attributes : List (Name × List ℕ)) (text : Option (List ℕ)) → alone_with attributes (Some new) ≡ effect (Text 0 new) (alone_with attributes text)
-unfolding effect
-effect_text new attributes text = refl
-
 attributes_lead : (xs ys : List (Name × List ℕ)) → IsBehind xs ys → Leads (alone_with xs None) (attribute_ops 0 ys) (alone_with (xs ++ ys) None)
 attributes_lead xs [] b = ap (λ l. alone_with l None) (append-nil xs)
 attributes_lead xs (y ∷ ys) b =
     let last : with_attribute y.0 (Some y.1) xs ≡ xs ++ y ∷ [] =
     ap (with_attribute y.0 (Some y.1)) (sym (append-nil xs)) ∙ with_behind y.0 (Some y.1) xs [] (b.first y ys refl) in (
       alone_with (xs ++ y ∷ []) None,
-      fits_attribute y.0 y.1 xs None,
-      sym (ap (λ l. alone_with l None) last) ∙ effect_attribute y.0 y.1 xs None,
+      sym (fits_write (is_attr y.0 (Some y.1)) (alone_with xs None)),
+      sym (ap (λ l. alone_with l None) last) ∙ effect_attr 0 y.0 (Some y.1) (alone_with xs None),
       subst (λ l. Leads (alone_with (xs ++ y ∷ []) None) (attribute_ops 0 ys) (alone_with l None)) (append_assoc xs (y ∷ []) ys)
           (attributes_lead (xs ++ y ∷ []) ys (behind_done xs y ys b)),
     )
 
 text_leads : (attributes : List (Name × List ℕ)) (text : Option (List ℕ)) → Leads (alone_with attributes None) (text_ops 0 text) (alone_with attributes text)
 text_leads attributes None = refl
-text_leads attributes (Some text) = (alone_with attributes (Some text), fits_text text attributes None, effect_text text attributes None, refl)
+text_leads attributes (Some text) = (alone_with attributes (Some text), sym (fits_write (is_text text) (alone_with attributes None)), effect_text 0 text (alone_with attributes None), refl)
 
 -- ---- the whole
 

@@ -1,6 +1,5 @@
 -- Laws of moves one after another: what one more does.
-use Rattle.std.proofs.Common.{◌≡◌, ap, ℕ, Bool, true, eqb, ◌||◌, ◌&&◌, not, List, [], ◌∷◌, ◌++◌, map, Option, None, Some, refl, arith}
-use Rattle.std.specs.List.{list_any}
+use Rattle.std.proofs.Common.{◌≡◌, ap, ℕ, true, eqb, ◌||◌, ◌&&◌, not, List, [], ◌∷◌, ◌++◌, map, Option, None, Some, refl, arith}
 use Rattle.std.proofs.lemmas.Bool.Decides.{eqb_tells}
 use Rattle.lx_trees.specs.Siblings.{is_among, NoRepeats, names_without}
 use Rattle.lx_trees.proofs.Siblings.{is_among-names_without}
@@ -18,13 +17,13 @@ NoRepeats-moved (Make k before) ks can once = NoRepeats-names_with before k ks (
 NoRepeats-moved (Place k before) ks can once =
     NoRepeats-names_with before k (names_without k ks) (grind (arith, is_among-names_without k k ks, eqb_tells k k)) (NoRepeats-names_without k ks once)
 
-pub all_moved-push : (ms : List Move) (m : Move) (ks : List ℕ) → all_moved (ms ++ m ∷ []) ks ≡ moved m (all_moved ms ks)
-all_moved-push [] m ks = refl
-all_moved-push (x ∷ ms) m ks = all_moved-push ms m (moved x ks)
+pub all_moved-append : (ms ns : List Move) (ks : List ℕ) → all_moved (ms ++ ns) ks ≡ all_moved ns (all_moved ms ks)
+all_moved-append [] ns ks = refl
+all_moved-append (m ∷ ms) ns ks = all_moved-append ms ns (moved m ks)
 
-pub CanAllMove-push : (ms : List Move) (m : Move) (ks : List ℕ) → CanAllMove ms ks → can_move m (all_moved ms ks) ≡ true → CanAllMove (ms ++ m ∷ []) ks
-CanAllMove-push [] m ks can more = (more, tt)
-CanAllMove-push (x ∷ ms) m ks can more = (can.0, CanAllMove-push ms m (moved x ks) can.1 more)
+pub CanAllMove-append : (ms ns : List Move) (ks : List ℕ) → CanAllMove ms ks → CanAllMove ns (all_moved ms ks) → CanAllMove (ms ++ ns) ks
+CanAllMove-append [] ns ks can then = then
+CanAllMove-append (m ∷ ms) ns ks can then = (can.0, CanAllMove-append ms ns (moved m ks) can.1 then)
 
 pub standing-append : (ms ns : List Move) → standing (ms ++ ns) ≡ standing ms ++ standing ns
 standing-append [] ns = refl
@@ -35,10 +34,6 @@ pub leaving-append : (ms ns : List Move) → leaving (ms ++ ns) ≡ leaving ms +
 leaving-append [] ns = refl
 leaving-append (Leave k ∷ ms) ns = ap (λ ks. k ∷ ks) (leaving-append ms ns)
 leaving-append (_ ∷ ms) ns = leaving-append ms ns
-
-pub list_any-push : (p : Move → Bool) (ms : List Move) (m : Move) → list_any p (ms ++ m ∷ []) ≡ (list_any p ms || p m)
-list_any-push p [] m = grind arith
-list_any-push p (x ∷ ms) m = grind (arith, list_any-push p ms m)
 
 pub children-push : (ms : List Move) (m : Move) (q : ℕ) → is_among q (map child_of (ms ++ m ∷ [])) ≡ (is_among q (map child_of ms) || eqb (child_of m) q)
 children-push [] m q = grind arith

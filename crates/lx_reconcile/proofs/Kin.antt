@@ -16,7 +16,7 @@ use Rattle.lx_trees.proofs.Siblings.{is_among-append}
 use Rattle.lx_marks.specs.Marks.{Marked, is_noted}
 use Rattle.lx_marks.proofs.Flags.{is_some-flag_in}
 use Rattle.lx_trees.specs.Lookups as rooted
-use Rattle.lx_trees.specs.Lookups.{IsOrdered, parent_of}
+use Rattle.lx_trees.specs.Lookups.{IsOrdered}
 use Rattle.lx_trees.proofs.Lookups as lookups
 use Rattle.lx_trees.proofs.Edits.{is_some-spot}
 use Rattle.lx_host.specs.Branches.{IsRooted}
@@ -105,12 +105,6 @@ noted_among m q = is_among-append q m.leaves (keys_of m.elements) ∙ ap (λ b. 
 
 -- ---- hosts above and below
 
-some_counted : (n : ℕ) (f : Trees Host) → named.has id_of n f ≡ true → 0 < count n f
-some_counted n f e = grind (arith, e)
-
-none_counted : (n : ℕ) (f : Trees Host) → named.has id_of n f ≡ false → count n f ≡ 0
-none_counted n f e = grind (arith, e)
-
 names-gathered : (f : Trees Host) (ks : List ℕ) → ((q : ℕ) → is_among q ks ≡ true → count q f ≡ 1) → ids_of (named.gathered id_of f ks) ≡ ks
 names-gathered f [] there = refl
 names-gathered f (k ∷ ks) there =
@@ -137,7 +131,7 @@ module _ (old new : Forest) (mk : Marking) (v : HostTree) (b : IsBetween old new
 
     from_spot : (o : Option (Spot Host)) → spot id_of v.hosts (host_in v k) ≡ o → rooted.children_of id_of v.hosts (host_in v k) ≡ map (host_in v) (children_of old k)
     from_spot None at =
-        absurd (let none : alone (host_in v k) v.hosts ≡ nil = trees.alone-absent id_of (host_in v k) v.hosts (none_counted (host_in v k) v.hosts (sym (is_some-spot id_of v.hosts (host_in v k)) ∙ ap is_some at)) in let some = s.is in cc)
+        absurd (let none : alone (host_in v k) v.hosts ≡ nil = trees.alone-absent id_of (host_in v k) v.hosts (let out = sym (is_some-spot id_of v.hosts (host_in v k)) ∙ ap is_some at in grind (arith, out)) in let some = s.is in cc)
     from_spot (Some x) at =
         let same : tree x.label (named.gathered id_of v.hosts x.children) nil ≡ tree s.host kids nil = sym (lookups.alone-spot id_of v.hosts (host_in v k) x ordered at) ∙ s.is in
         let below : named.gathered id_of v.hosts x.children ≡ kids = cc in
@@ -148,10 +142,8 @@ module _ (old new : Forest) (mk : Marking) (v : HostTree) (b : IsBetween old new
         ∙ ids_of-flat (host_in v) (λ c. alone (host_in v c) v.hosts) (children_of old k) (λ c e. shown_at_id old v c b.view.before b.view.shows b.view.numbered (child_stands old k c b.view.before e))
       where
         child_counted : (q : ℕ) → is_among q (rooted.children_of id_of v.hosts (host_in v k)) ≡ true → count q v.hosts ≡ 1
-        child_counted q e = by_parent (parent_of id_of v.hosts q) refl (sym (lookups.is_among-children_of id_of v.hosts q (host_in v k) ordered) ∙ e) where
-          by_parent : (o : Option ℕ) → parent_of id_of v.hosts q ≡ o → is_named o (host_in v k) ≡ true → count q v.hosts ≡ 1
-          by_parent None up named = absurd (cc)
-          by_parent (Some p) up named = omega (arith, b.view.numbered.once q, some_counted q v.hosts (lookups.has-child id_of v.hosts q p up))
+        child_counted q e =
+            grind (arith, e, lookups.is_among-children_of id_of v.hosts q (host_in v k) ordered, b.view.numbered.once q, lookups.has-child id_of v.hosts q)
 
   -- the host of a node that is there
   host_found : (c : ℕ) → forest.has c old ≡ true → host_of c (first_tree v.hosts) ≡ Some (host_in v c)
@@ -177,10 +169,15 @@ module _ (old new : Forest) (mk : Marking) (v : HostTree) (b : IsBetween old new
 
   among_hosts : (c : ℕ) (ks : List ℕ) → forest.has c old ≡ true → ((q : ℕ) → is_among q ks ≡ true → forest.has q old ≡ true) → is_among (host_in v c) (map (host_in v) ks) ≡ true → is_among c ks ≡ true
   among_hosts c [] there all e = absurd (cc)
-  among_hosts c (k ∷ ks) there all e = elim (eqb_tells (host_in v k) (host_in v c)) [
-    | inl own ↦ grind (arith, one_host k c (all k (grind (arith, eqb_tells k k))) there own.1, eqb_tells k c)
-    | inr other ↦ grind (arith, among_hosts c ks there (λ q e. all q (grind (arith, e))) (rw other.0 at e))
-  ]
+  among_hosts c (k ∷ ks) there all e =
+      grind (
+        arith,
+        e,
+        eqb_tells (host_in v k) (host_in v c),
+        eqb_tells k c,
+        one_host k c (all k (grind (arith, eqb_tells k k))) there,
+        among_hosts c ks there (λ q e. all q (grind (arith, e))),
+      )
 
   -- whose hosts are right below a node's are its children
   pub child_above : (c k : ℕ) → forest.has k old ≡ true → is_named (host_above v c) (host_in v k) ≡ true → is_among c (children_of old k) ≡ true

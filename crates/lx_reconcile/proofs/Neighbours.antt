@@ -1,16 +1,14 @@
 -- A child of a node as a reader sees it, among its siblings.
-use Rattle.std.proofs.Common.{◌≡◌, ◌∙◌, ℕ, true, Option, None, Some, option_map, sym, ap}
-use Rattle.std.proofs.lemmas.Option.{same_Some}
+use Rattle.std.proofs.Common.{◌≡◌, ◌∙◌, ℕ, true, Option, Some, option_map, sym, ap}
 use Rattle.lx_trees.specs.Siblings.{is_among, is_place, NoRepeats, next_in, previous_in}
-use Rattle.lx_trees.specs.Spots.{Spot}
 use Rattle.lx_node.specs.declared.node.Node.{Node}
-use Rattle.lx_forest.specs.Forest.{Label, Forest}
-use Rattle.lx_forest.specs.Lookups.{has, spot, children_of, children_below, siblings, next_of}
-use Rattle.lx_forest.specs.Records.{linked, record_at}
+use Rattle.lx_forest.specs.Forest.{Forest}
+use Rattle.lx_forest.specs.Lookups.{has, children_of, children_below, siblings, next_of}
+use Rattle.lx_forest.specs.Records.{record_at}
 use Rattle.lx_forest.proofs.Lookups.{NoRepeats-children_of}
 use Rattle.lx_links.specs.Stands.{node_of, Sound}
 use Rattle.lx_links.proofs.Placed.{parent_of-child}
-use Rattle.lx_reconcile.proofs.Children.{child_left}
+use Rattle.lx_reconcile.proofs.Children.{child_left, is_read}
 
 -- the siblings of a child are its parent's children
 pub siblings_of : (f : Forest) (key child : ℕ) → Sound f → is_among child (children_of f key) ≡ true → siblings f child ≡ children_of f key
@@ -22,15 +20,12 @@ pub record IsBeside (f : Forest) (key child : ℕ) (n : Node) : Type 0 where
   pub next : n.next ≡ next_in (children_of f key) child
 
 pub is_beside : (f : Forest) (key child : ℕ) (n : Node) → Sound f → is_among child (children_of f key) ≡ true → Some n ≡ option_map node_of (record_at f child) → IsBeside f key child n
-is_beside f key child n s among e = from_spot (spot f child) e where
-  from_spot : (o : Option (Spot Label)) → Some n ≡ option_map node_of (option_map (linked (siblings f child) child) o) → IsBeside f key child n
-  from_spot None e = absurd (cc)
-  from_spot (Some x) e =
-      let same : n ≡ node_of (linked (siblings f child) child x) = same_Some n (node_of (linked (siblings f child) child x)) e in
-      record {
-        prev = ap (λ (n : Node). n.prev) same ∙ ap (λ xs. previous_in xs child) (siblings_of f key child s among);
-        next = ap (λ (n : Node). n.next) same ∙ ap (λ xs. next_in xs child) (siblings_of f key child s among);
-      }
+is_beside f key child n s among e =
+    let r = is_read f child n s e in
+    record {
+      prev = r.prev ∙ ap (λ xs. previous_in xs child) (siblings_of f key child s among);
+      next = r.next ∙ ap (λ xs. next_in xs child) (siblings_of f key child s among);
+    }
 
 -- the next child that is read, where the forest has stayed
 pub record IsNextIn (f g : Forest) (key child : ℕ) : Type 0 where

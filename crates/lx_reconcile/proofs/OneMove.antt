@@ -1,5 +1,5 @@
 -- The children of a host, one move after another: what its operations lead to, and which children are after it.
-use Rattle.std.proofs.Common.{◌≡◌, ◌≢◌, ◌∙◌, ◌+◌, ◌<◌, ◌≤◌, ℕ, true, false, List, [], ◌∷◌, ◌++◌, Option, None, Some, option_map, inl, inr, refl, sym, ap, subst, arith, ne_eqb}
+use Rattle.std.proofs.Common.{◌≡◌, ◌≢◌, ◌∙◌, ◌+◌, ◌<◌, ◌≤◌, ℕ, true, false, List, [], ◌∷◌, ◌++◌, Option, None, Some, option_map, inl, inr, refl, ap, subst, arith, ne_eqb}
 use Rattle.std.proofs.lemmas.Bool.Decides.{eqb_tells}
 use Rattle.std.proofs.lemmas.Bool.{cases_lt}
 use Rattle.lx_node.specs.Limits.{last_u32}
@@ -115,10 +115,7 @@ at_moved h a ids family cs n c before id at here nonzero place other =
     (at_place h a kids n (ids c) (option_map ids before) id nonzero (among_kids ids family cs c at here) (fits_id ids family cs c before at apart place other)))
   where
     entry_own : (c : ℕ) (family : ℕ → Trees Host) (d : ℕ) → with_entry c (family c) family d ≡ family d
-    entry_own c family d = elim (eqb_tells d c) [
-      | inl same ↦ rw same.0 (ap family (sym same.1))
-      | inr other ↦ rw other.0 refl
-    ]
+    entry_own c family d = grind (arith, eqb_tells d c)
 
 -- what comes before a tree that then leaves is in its place
 without_inserted : (i : ℕ) (new t : Trees Host) → count i t < 2 → count i new ≡ 0 → is_among i (ids_of t) ≡ true → without i (inserted (Some i) new t) ≡ replaced i new t

@@ -1,26 +1,17 @@
 -- Children without a mark that stay in front of some moves and after them: nothing is done for them, so these moves do
 -- what all do.
-use Rattle.std.proofs.Common.{◌≡◌, ◌∙◌, ◌+◌, ◌≤◌, ℕ, Bool, true, false, List, [], ◌∷◌, ◌++◌, map, Some, option_map, sym, ap, subst, arith, append-nil}
+use Rattle.std.proofs.Common.{◌≡◌, ◌∙◌, ◌≤◌, ℕ, Bool, true, false, List, [], ◌∷◌, ◌++◌, map, Some, sym, ap, subst, arith, append-nil}
 use Rattle.std.proofs.lemmas.Bool.Decides.{eqb_tells}
-use Rattle.lx_node.specs.Limits.{last_u32}
 use Rattle.lx_trees.specs.Siblings.{is_among}
-use Rattle.lx_node.specs.declared.node.Node.{Node}
 use Rattle.lx_host.specs.declared.op.Op.{Op}
-use Rattle.lx_host.specs.Hosts.{Face, Host, HostTree, with_ending}
+use Rattle.lx_host.specs.Hosts.{Host, HostTree}
 use Rattle.lx_forest.specs.Forest.{Forest}
 use Rattle.lx_forest.specs.Lookups.{children_of, trees_of}
-use Rattle.lx_forest.specs.Records.{record_at}
-use Rattle.lx_forest.specs.Views.{kind_at}
-use Rattle.lx_links.specs.Stands.{node_of}
 use Rattle.lx_forest.specs.Covered.{Marking}
-use Rattle.lx_reconcile.specs.Allowed.{unkept}
-use Rattle.lx_render.specs.Render.{tag_of, needs_break}
 use Rattle.lx_reconcile.specs.declared.moves.Move.{Move}
 use Rattle.lx_reconcile.specs.declared.moves.Move.TheVariants.{Stay}
-use Rattle.lx_reconcile.specs.Changing.{Changes}
-use Rattle.lx_reconcile.specs.Making.{IsBetween, Reconciles, MakesMoves, AreNext, AreComing}
+use Rattle.lx_reconcile.specs.Making.{IsBetween, MakesMoves, AreNext, AreComing}
 use Rattle.lx_reconcile.specs.Reading.{reads_in}
-use Rattle.lx_reconcile.specs.Reconciled.{host_in}
 use Rattle.lx_reconcile.specs.ToCome.{IsInWalk}
 use Rattle.lx_reconcile.specs.Walk.{standing, IsPart}
 use Rattle.lx_reconcile.proofs.InTurn.{standing-append}
@@ -28,7 +19,6 @@ use Rattle.lx_reconcile.proofs.Made.{after_there, makes_both}
 use Rattle.lx_reconcile.proofs.Reading.{reads_append}
 use Rattle.lx_reconcile.proofs.Skipped.{done_plain}
 use Rattle.lx_reconcile.proofs.Walked.{walk_both, walk_stay}
-use Rattle.lx_reconcile.proofs.Whole.{FaceChanges, children_next, node_done}
 
 -- none of these carries a mark
 abbrev pub ArePlain : (ℕ → Bool) → List ℕ → Type 0
@@ -87,22 +77,3 @@ part_reads old new noted k olds moves p =
       reads_append old new noted (Some k) (standing (map Stay p.front)) (standing moves ++ standing (map Stay p.back)),
       reads_append old new noted (Some k) (standing moves) (standing (map Stay p.back)),
     )
-
--- ---- a node
-
-module _ (old new : Forest) (mk : Marking) (v : HostTree) (k n : ℕ) (was now : Node) (moves : List Move) (b : IsBetween old new mk v)
-    (was_is : Some was ≡ option_map node_of (record_at old k)) (now_is : Some now ≡ option_map node_of (record_at new k)) where
-  -- its face is written, and a part of its children is to come
-  pub children_coming : (h : ℕ) (start end : List Op) → h ≡ host_in v k → v.next ≤ n → n + unkept old (Some k) (trees_of new (children_of new k)) ≤ last_u32 → IsPart mk.noted (children_of old k) (children_of new k) moves → FaceChanges h was now start end
-      → AreComing old new v k moves n
-  children_coming h start end id behind room part face =
-      part_coming old new mk v b k (children_of old k) (children_of new k) moves n part (children_next old new mk v k n was now (all_of part) b was_is now_is h start end id behind room part.walk face)
-
-  pub part_done : (h : ℕ) (start one two end : List Op) (m : ℕ) (was_ended ended : Bool) → h ≡ host_in v k → tag_of was.kind was.fields ≡ tag_of now.kind now.fields → IsPart mk.noted (children_of old k) (children_of new k) moves
-      → (was.kind ≡ now.kind → was.fields ≡ now.fields → one ≡ start) → FaceChanges h was now start one → MakesMoves old new mk v k moves n one two m
-      → was_ended ≡ needs_break was.kind (kind_at old was.last) → ended ≡ needs_break now.kind (kind_at new now.last)
-      → (was_ended ≡ ended → end ≡ two) → ((face : Face) → face.ending ≡ was_ended → Changes h face (with_ending ended face) two end)
-      → Reconciles old new mk v k n start end m
-  part_done h start one two end m was_ended ended id tag part same_face face made was_end end_is same_end ending =
-      node_done old new mk v k n was now (all_of part) b was_is now_is h start one two end m was_ended ended id tag part.walk same_face face
-      (part_makes old new mk v b k (children_of old k) (children_of new k) moves n m one two part made) was_end end_is same_end ending

@@ -13,7 +13,7 @@ use Rattle.lx_reconcile.specs.declared.moves.Move.{Move}
 use Rattle.lx_reconcile.specs.declared.moves.Move.TheVariants.{Stay, Leave, Make, Place}
 use Rattle.lx_reconcile.specs.Walk.{child_of, before_of, moved, can_move, suits_children, is_placing, all_moved, CanAllMove, standing, leaving, is_waiting, BeforeUnhandled, common, missing, IsWalk, toward, IsPart}
 use Rattle.lx_reconcile.proofs.Lists.{is_among-missing, common-append, missing-append, common-all, names_without-append, names_with-first, NoRepeats-right, apart}
-use Rattle.lx_reconcile.proofs.InTurn.{NoRepeats-moved, standing-append, leaving-append, children_among}
+use Rattle.lx_reconcile.proofs.InTurn.{NoRepeats-moved, standing-append, leaving-append, children_among, all_moved-append, CanAllMove-append}
 use Rattle.lx_reconcile.proofs.Staying as staying
 use Rattle.lx_reconcile.proofs.Staying.{all_staying}
 
@@ -197,14 +197,6 @@ unhandled_toward (m ∷ ms) front old back handled now once are behind far waits
     )
 
 -- ---- moves after others
-
-all_moved-append : (ms ns : List Move) (ks : List ℕ) → all_moved (ms ++ ns) ks ≡ all_moved ns (all_moved ms ks)
-all_moved-append [] ns ks = refl
-all_moved-append (m ∷ ms) ns ks = all_moved-append ms ns (moved m ks)
-
-CanAllMove-append : (ms ns : List Move) (ks : List ℕ) → CanAllMove ms ks → CanAllMove ns (all_moved ms ks) → CanAllMove (ms ++ ns) ks
-CanAllMove-append [] ns ks can then = then
-CanAllMove-append (m ∷ ms) ns ks can then = (can.0, CanAllMove-append ms ns (moved m ks) can.1 then)
 
 BeforeUnhandled-append : (ms ns : List Move) (old handled : List ℕ) → BeforeUnhandled old handled ms → ((now : List ℕ) → BeforeUnhandled old now ns) → BeforeUnhandled old handled (ms ++ ns)
 BeforeUnhandled-append [] ns old handled waits then = then handled

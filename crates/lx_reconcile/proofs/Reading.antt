@@ -1,5 +1,5 @@
 -- How many reads are needed, against the marked children and the nodes that aren't kept.
-use Rattle.std.proofs.Common.{◌≡◌, ◌∙◌, ◌+◌, ◌*◌, ◌<◌, ◌≤◌, ◌⊎◌, ℕ, Bool, true, false, cond, eqb, ◌&&◌, List, [], ◌∷◌, ◌++◌, length, Option, None, Some, inl, inr, refl, sym, ap, arith, append-nil}
+use Rattle.std.proofs.Common.{◌≡◌, ◌∙◌, ◌+◌, ◌*◌, ◌<◌, ◌≤◌, ◌⊎◌, ℕ, Bool, true, false, cond, eqb, List, [], ◌∷◌, ◌++◌, length, Option, None, Some, inl, inr, refl, sym, ap, arith, append-nil}
 use Rattle.std.proofs.lemmas.Bool.{cases_Bool, cases_lt}
 use Rattle.std.proofs.lemmas.Bool.Decides.{eqb_tells}
 use Rattle.lx_trees.specs.Trees.{nil, tree, joined}
@@ -79,9 +79,6 @@ children-behind l b t k other out = grind (arith, other, children-absent k b out
 other_key : (l : Label) (b t : Forest) (k : ℕ) → count k (tree l b t) < 2 → 0 < count k b + count k t → eqb l.key k ≡ false
 other_key l b t k once some = grind (arith, once, some, eqb_tells l.key k)
 
-part_once : (l : Label) (b t : Forest) (k : ℕ) → count k (tree l b t) < 2 → count k b + count k t < 2
-part_once l b t k once = omega (arith, once)
-
 own_out : (l : Label) (b t : Forest) → count l.key (tree l b t) < 2 → count l.key t ≡ 0
 own_out l b t once = grind (arith, once, eqb_tells l.key l.key)
 
@@ -92,12 +89,12 @@ children_weight noted (tree l b t) once =
     let w = size_if noted (λ k. named.children_of key_of k f) in
     let below : weight w (named.preorder key_of b) ≡ marked_children noted b =
     weight-same w (size_if noted (λ k. named.children_of key_of k b)) (named.preorder key_of b)
-    (λ k e. ap (λ xs. cond (noted k) (length xs) 0) (children-below l b t k (other_key l b t k (once k) (omega (arith, among_part b k e))) (omega (arith, part_once l b t k (once k), among_part b k e))))
-    ∙ sym (children_weight noted b (λ q. omega (arith, part_once l b t q (once q)))) in
+    (λ k e. ap (λ xs. cond (noted k) (length xs) 0) (children-below l b t k (other_key l b t k (once k) (omega (arith, among_part b k e))) (omega (arith, once k, among_part b k e))))
+    ∙ sym (children_weight noted b (λ q. omega (arith, once q))) in
     let behind : weight w (named.preorder key_of t) ≡ marked_children noted t =
     weight-same w (size_if noted (λ k. named.children_of key_of k t)) (named.preorder key_of t)
-    (λ k e. ap (λ xs. cond (noted k) (length xs) 0) (children-behind l b t k (other_key l b t k (once k) (omega (arith, among_part t k e))) (omega (arith, part_once l b t k (once k), among_part t k e))))
-    ∙ sym (children_weight noted t (λ q. omega (arith, part_once l b t q (once q)))) in
+    (λ k e. ap (λ xs. cond (noted k) (length xs) 0) (children-behind l b t k (other_key l b t k (once k) (omega (arith, among_part t k e))) (omega (arith, once k, among_part t k e))))
+    ∙ sym (children_weight noted t (λ q. omega (arith, once q))) in
     let own : w l.key ≡ cond (noted l.key) (length (roots b)) 0 = ap (λ xs. cond (noted l.key) (length xs) 0) (children-first l b t (own_out l b t (once l.key))) in
     omega (arith, own, below, behind, weight-append w (named.preorder key_of b) (named.preorder key_of t))
 
@@ -113,7 +110,7 @@ old_sizes_less old new noted g h =
     let all : marked_children here old ≡ weight w (named.preorder key_of old) =
     children_weight here old g.once ∙ weight-same (size_if here (λ k. named.children_of key_of k old)) w (named.preorder key_of old) (λ k e. ap (λ xs. cond (here k) (length xs) 0) (sym (children_are old k g))) in
     let same : weight (size_if noted (children_of old)) (named.preorder key_of new) ≡ weight w (named.preorder key_of new) =
-    weight-same (size_if noted (children_of old)) w (named.preorder key_of new) (λ k e. stays (noted k) (has k new) (length (children_of old k)) (sym (is_among-preorder key_of k new) ∙ e)) in
+    weight-same (size_if noted (children_of old)) w (named.preorder key_of new) (λ k e. grind (arith, e, is_among-preorder key_of k new)) in
     omega (
       arith,
       all,
@@ -121,48 +118,22 @@ old_sizes_less old new noted g h =
       weight-some w (named.preorder key_of new) (named.preorder key_of old) (NoRepeats-preorder key_of new h.once)
           (λ k e. elim (cases_lt 0 (count k old)) [
             | inl there ↦ inr (part_of old k there)
-            | inr out ↦ inl (nothing (here k) (children_of old k) (children_are old k g ∙ children-absent k old (omega (arith, out))))
+            | inr out ↦ inl (let none = children_are old k g ∙ children-absent k old (omega (arith, out)) in grind (arith, none))
           ]),
     )
-  where
-    stays : (marked there : Bool) (n : ℕ) → there ≡ true → cond marked n 0 ≡ cond (marked && there) n 0
-    stays true there n e = sym (ap (λ b. cond b n 0) e)
-    stays false there n e = refl
-
-    nothing : (b : Bool) (xs : List ℕ) → xs ≡ [] → cond b (length xs) 0 ≡ 0
-    nothing true xs e = ap length e
-    nothing false xs e = refl
 
 -- ---- the sum
-
-one_node : (kept marked : Bool) (olds kids inner size unkept_inner sizes marks : ℕ)
-    → inner ≤ 4 * kids + 2 * unkept_inner + sizes + 5 * marks
-    → cond kept (cond marked (4 + olds + kids + inner) 0) (2 + 2 * (1 + size)) ≤ 4 + 2 * cond kept unkept_inner (1 + size) + (cond marked olds 0 + sizes) + 5 * (cond marked kids 0 + marks)
-one_node true true olds kids inner size unkept_inner sizes marks less = omega (arith, less)
-one_node true false olds kids inner size unkept_inner sizes marks less = omega arith
-one_node false marked olds kids inner size unkept_inner sizes marks less = omega arith
 
 pub reads_less : (old : Forest) (noted : ℕ → Bool) (parent : Option ℕ) (f : Forest)
     → reads_in old noted parent f ≤ 4 * length (roots f) + 2 * unkept old parent f + weight (size_if noted (children_of old)) (named.preorder key_of f) + 5 * marked_children noted f
 reads_less old noted parent nil = omega arith
 reads_less old noted parent (tree l b t) =
     let w = size_if noted (children_of old) in
-    omega (
-      arith,
-      reads_less old noted parent t,
-      weight-append w (named.preorder key_of b) (named.preorder key_of t),
-      one_node (kept_here old parent l) (noted l.key) (length (children_of old l.key)) (length (roots b)) (reads_in old noted (Some l.key) b) (total b) (unkept old (Some l.key) b) (weight w (named.preorder key_of b)) (marked_children noted b)
-          (reads_less old noted (Some l.key) b),
-    )
-
--- no tree has more children than nodes
-marked_cond : (b : Bool) (n : ℕ) → cond b n 0 ≤ n
-marked_cond true n = omega arith
-marked_cond false n = omega arith
+    grind (arith, reads_less old noted parent t, reads_less old noted (Some l.key) b, weight-append w (named.preorder key_of b) (named.preorder key_of t))
 
 pub marked_children-total : (noted : ℕ → Bool) (f : Forest) → marked_children noted f + length (roots f) ≤ total f
 marked_children-total noted nil = omega arith
-marked_children-total noted (tree l b t) = omega (arith, marked_cond (noted l.key) (length (roots b)), marked_children-total noted b, marked_children-total noted t)
+marked_children-total noted (tree l b t) = grind (arith, marked_children-total noted b, marked_children-total noted t)
 
 -- ---- of one child
 
@@ -182,8 +153,8 @@ reads_append old new noted p [] ys = omega arith
 reads_append old new noted p (x ∷ xs) ys =
     omega (arith, reads-joined old noted p (alone x new) (trees_of new (xs ++ ys)), reads-joined old noted p (alone x new) (trees_of new xs), reads_append old new noted p xs ys)
 
-pub reads_one : (old new : Forest) (noted : ℕ → Bool) (p : Option ℕ) (c : ℕ) → reads_in old noted p (trees_of new (c ∷ [])) ≡ reads_in old noted p (alone c new)
-reads_one old new noted p c = omega (arith, reads-joined old noted p (alone c new) nil)
+pub reads-alone : (old new : Forest) (noted : ℕ → Bool) (p : Option ℕ) (c : ℕ) → reads_in old noted p (trees_of new (c ∷ [])) ≡ reads_in old noted p (alone c new)
+reads-alone old new noted p c = omega (arith, reads-joined old noted p (alone c new) nil)
 
 pub roots_of : (f : Forest) (ks : List ℕ) → IsForest f → ((c : ℕ) → is_among c ks ≡ true → has c f ≡ true) → roots (trees_of f ks) ≡ ks
 roots_of f [] h there = refl

@@ -11,25 +11,17 @@ use Rattle.lx_reconcile.proofs.Shared.{next_in-behind, previous_from-first, last
 -- ---- where a list ends and begins
 
 -- a list with this name at its end
-record EndsWith (xs : List ℕ) (x : ℕ) : Type 0 where
-  before : List ℕ
-  list : xs ≡ before ++ x ∷ []
-
-ends_with : (xs : List ℕ) (x : ℕ) → last_of xs ≡ Some x → EndsWith xs x
+ends_with : (xs : List ℕ) (x : ℕ) → last_of xs ≡ Some x → (before : List ℕ) × (xs ≡ before ++ x ∷ [])
 ends_with [] x e = absurd (cc)
-ends_with (y ∷ []) x e = record { before = []; list = cc }
+ends_with (y ∷ []) x e = ([], cc)
 ends_with (y ∷ z ∷ xs) x e =
     let rest = ends_with (z ∷ xs) x e in
-    record { before = y ∷ rest.before; list = ap (λ ys. y ∷ ys) rest.list }
+    (y ∷ rest.0, ap (λ ys. y ∷ ys) rest.1)
 
 -- and with this one at its start
-record StartsWith (xs : List ℕ) (x : ℕ) : Type 0 where
-  behind : List ℕ
-  list : xs ≡ x ∷ behind
-
-starts_with : (xs : List ℕ) (x : ℕ) → first_of xs ≡ Some x → StartsWith xs x
+starts_with : (xs : List ℕ) (x : ℕ) → first_of xs ≡ Some x → (behind : List ℕ) × (xs ≡ x ∷ behind)
 starts_with [] x e = absurd (cc)
-starts_with (y ∷ xs) x e = record { behind = xs; list = cc }
+starts_with (y ∷ xs) x e = (xs, cc)
 
 -- ---- marks
 
@@ -60,16 +52,16 @@ pub taken_before : (noted : ℕ → Bool) (children : List ℕ) (old new : Windo
     → Takes noted children old new marked
 taken_before noted children old new child marked once w here before keys behind told =
     let split = ends_with w.front child (sym w.before ∙ here) in
-    let list : children ≡ split.before ++ (child ∷ old.keys.items ++ w.back) =
-    w.list ∙ ap (λ xs. xs ++ (old.keys.items ++ w.back)) split.list ∙ append_assoc split.before (child ∷ []) (old.keys.items ++ w.back) in
-    let out : is_among child split.before ≡ false =
-    grind (arith, apart split.before (child ∷ old.keys.items ++ w.back) child (subst NoRepeats list once), eqb_tells child child) in
+    let list : children ≡ split.0 ++ (child ∷ old.keys.items ++ w.back) =
+    w.list ∙ ap (λ xs. xs ++ (old.keys.items ++ w.back)) split.1 ∙ append_assoc split.0 (child ∷ []) (old.keys.items ++ w.back) in
+    let out : is_among child split.0 ≡ false =
+    grind (arith, apart split.0 (child ∷ old.keys.items ++ w.back) child (subst NoRepeats list once), eqb_tells child child) in
     record {
       is = record {
-        front = split.before;
+        front = split.0;
         back = w.back;
-        list = list ∙ sym (ap (λ ks. split.before ++ (ks ++ w.back)) keys);
-        before = before ∙ ap (λ xs. previous_in xs child) list ∙ previous_from-first None split.before child (old.keys.items ++ w.back) out;
+        list = list ∙ sym (ap (λ ks. split.0 ++ (ks ++ w.back)) keys);
+        before = before ∙ ap (λ xs. previous_in xs child) list ∙ previous_from-first None split.0 child (old.keys.items ++ w.back) out;
         behind = behind ∙ w.behind;
       };
       marks = ap (marked_among noted) keys ∙ grind (arith, told);
@@ -81,23 +73,23 @@ pub taken_behind : (noted : ℕ → Bool) (children : List ℕ) (old new : Windo
     → Takes noted children old new marked
 taken_behind noted children old new child marked once w here before keys behind told =
     let split = starts_with w.back child (sym w.behind ∙ here) in
-    let list : children ≡ w.front ++ (old.keys.items ++ child ∷ split.behind) = w.list ∙ ap (λ xs. w.front ++ (old.keys.items ++ xs)) split.list in
-    let list_once : NoRepeats (w.front ++ (old.keys.items ++ child ∷ split.behind)) = subst NoRepeats list once in
-    let keys_once : NoRepeats (old.keys.items ++ child ∷ split.behind) = NoRepeats-right w.front (old.keys.items ++ child ∷ split.behind) list_once in
-    let out_keys : is_among child old.keys.items ≡ false = grind (arith, apart old.keys.items (child ∷ split.behind) child keys_once, eqb_tells child child) in
+    let list : children ≡ w.front ++ (old.keys.items ++ child ∷ split.0) = w.list ∙ ap (λ xs. w.front ++ (old.keys.items ++ xs)) split.1 in
+    let list_once : NoRepeats (w.front ++ (old.keys.items ++ child ∷ split.0)) = subst NoRepeats list once in
+    let keys_once : NoRepeats (old.keys.items ++ child ∷ split.0) = NoRepeats-right w.front (old.keys.items ++ child ∷ split.0) list_once in
+    let out_keys : is_among child old.keys.items ≡ false = grind (arith, apart old.keys.items (child ∷ split.0) child keys_once, eqb_tells child child) in
     let out_front : is_among child w.front ≡ false =
-    grind (arith, apart w.front (old.keys.items ++ child ∷ split.behind) child list_once, eqb_tells child child, is_among-append child old.keys.items (child ∷ split.behind)) in
+    grind (arith, apart w.front (old.keys.items ++ child ∷ split.0) child list_once, eqb_tells child child, is_among-append child old.keys.items (child ∷ split.0)) in
     record {
       is = record {
         front = w.front;
-        back = split.behind;
-        list = list ∙ sym (ap (λ ks. w.front ++ ks) (append_assoc old.keys.items (child ∷ []) split.behind)) ∙ sym (ap (λ ks. w.front ++ (ks ++ split.behind)) keys);
+        back = split.0;
+        list = list ∙ sym (ap (λ ks. w.front ++ ks) (append_assoc old.keys.items (child ∷ []) split.0)) ∙ sym (ap (λ ks. w.front ++ (ks ++ split.0)) keys);
         before = before ∙ w.before;
         behind =
             behind
             ∙ ap (λ xs. next_in xs child) list
-            ∙ next_in-behind child w.front (old.keys.items ++ child ∷ split.behind) out_front
-            ∙ next_in-behind child old.keys.items (child ∷ split.behind) out_keys
+            ∙ next_in-behind child w.front (old.keys.items ++ child ∷ split.0) out_front
+            ∙ next_in-behind child old.keys.items (child ∷ split.0) out_keys
             ∙ grind (arith, eqb_tells child child);
       };
       marks = ap (marked_among noted) keys ∙ marked-append noted old.keys.items (child ∷ []) ∙ grind (arith, told);
@@ -147,11 +139,15 @@ all_in noted children w is all some =
       none = λ e. absurd (omega (arith, ap length e, some));
     }
 
+pub no_children : (children : List ℕ) (first : Option ℕ) → first ≡ first_of children → is_some first ≡ false → children ≡ []
+no_children [] first is none = refl
+no_children (x ∷ children) first is none = absurd (let e = ap is_some is in cc)
+
 -- or nothing is beside it
 pub all_of : (noted : ℕ → Bool) (children : List ℕ) (w : Window) → IsWindow children w → (is_some w.before || is_some w.behind) ≡ false → 0 < length w.keys.items → IsWindowOfMarks noted children w
 all_of noted children w is closed some =
     let front : is.front ≡ [] = no_last is.front (grind (arith, closed, ap is_some is.before)) in
-    let back : is.back ≡ [] = no_first is.back (grind (arith, closed, ap is_some is.behind)) in
+    let back : is.back ≡ [] = no_children is.back (first_of is.back) refl (grind (arith, closed, ap is_some is.behind)) in
     record {
       is = is;
       front_plain = λ k e. absurd (grind (arith, e, ap (is_among k) front));
@@ -163,10 +159,6 @@ all_of noted children w is closed some =
     no_last [] e = refl
     no_last (x ∷ xs) e = absurd (let l = last_is x xs in let there = ap is_some l.1 in cc)
 
-    no_first : (xs : List ℕ) → is_some (first_of xs) ≡ false → xs ≡ []
-    no_first [] e = refl
-    no_first (x ∷ xs) e = absurd (cc)
-
 pub none_window : (noted : ℕ → Bool) (children : List ℕ) (w : Window) → children ≡ [] → w.before ≡ None → w.keys.items ≡ [] → w.behind ≡ None → IsWindowOfMarks noted children w
 none_window noted children w none before keys behind = record {
   is = record { front = []; back = []; list = none ∙ sym (ap (λ ks. ks ++ []) keys); before = before; behind = behind };
@@ -176,10 +168,6 @@ none_window noted children w none before keys behind = record {
 }
 
 -- ---- the first child
-
-pub no_children : (children : List ℕ) (first : Option ℕ) → first ≡ first_of children → is_some first ≡ false → children ≡ []
-no_children [] first is none = refl
-no_children (x ∷ children) first is none = absurd (let e = ap is_some is in cc)
 
 pub some_child : (children : List ℕ) (first : Option ℕ) → first ≡ first_of children → is_some first ≡ true → (f : ℕ) × (first_of children ≡ Some f)
 some_child [] first is some = absurd (let e = ap is_some is in cc)

@@ -43,17 +43,13 @@ from_name-behind k [] xs e = refl
 from_name-behind k (f ∷ front) xs e = grind (arith, e, from_name-behind k front xs)
 
 -- what is before a name
-pub record StandsBefore (o : Option ℕ) (xs : List ℕ) : Type 0 where
-  pub before : List ℕ
-  pub list : xs ≡ before ++ from_name o xs
-
-pub split : (o : Option ℕ) (xs : List ℕ) → StandsBefore o xs
-split None xs = record { before = xs; list = sym (append-nil xs) }
-split (Some k) [] = record { before = []; list = refl }
+pub split : (o : Option ℕ) (xs : List ℕ) → (before : List ℕ) × (xs ≡ before ++ from_name o xs)
+split None xs = (xs, sym (append-nil xs))
+split (Some k) [] = ([], refl)
 split (Some k) (x ∷ xs) =
     elim (eqb_tells x k) [
-      | inl own ↦ record { before = []; list = grind (arith, own) }
-      | inr other ↦ record { before = x ∷ (split (Some k) xs).before; list = grind (arith, other, (split (Some k) xs).list) }
+      | inl own ↦ ([], grind (arith, own))
+      | inr other ↦ (x ∷ (split (Some k) xs).0, grind (arith, other, (split (Some k) xs).1))
     ]
 
 -- ---- neighbours in a list with a front
@@ -105,23 +101,16 @@ pub record IsShared (front old back news : List ℕ) : Type 0 where
 -- a name with none before it in the first list, which begins with it, begins the second too
 pub first_shared : (f : ℕ) (front rest news : List ℕ) → NoRepeats news → is_among f news ≡ true → previous_in news f ≡ previous_in (f ∷ front ++ rest) f → first_of news ≡ Some f
 first_shared f front rest news once there same =
-    elim (is_named_tells (first_of news) f) [
-      | inl own ↦ own.1
-      | inr other ↦ absurd (grind (arith, other.0, same, eqb_tells f f, is_none-previous_in news f once there))
-    ]
+    grind (arith, same, eqb_tells f f, is_named_tells (first_of news) f, is_none-previous_in news f once there)
 
 -- it goes on after this front
-record GoesBehind (front news : List ℕ) : Type 0 where
-  behind : List ℕ
-  list : news ≡ front ++ behind
-
-front_shared : (front old back news : List ℕ) → NoRepeats (front ++ (old ++ back)) → NoRepeats news → AgreeAround front old back news → GoesBehind front news
-front_shared [] old back news once news_once agree = record { behind = news; list = refl }
+front_shared : (front old back news : List ℕ) → NoRepeats (front ++ (old ++ back)) → NoRepeats news → AgreeAround front old back news → (behind : List ℕ) × (news ≡ front ++ behind)
+front_shared [] old back news once news_once agree = (news, refl)
 front_shared (f ∷ front) old back news once news_once agree =
     let own = agree f (grind (arith, eqb_tells f f)) in
     let b : BeginsWith (f ∷ front) (old ++ back) news =
     begins (f ∷ front) (old ++ back) news news_once once (first_shared f front (old ++ back) news news_once own.0 own.1) (λ k e. (agree k (grind (arith, e))).2) in
-    record { behind = b.behind; list = b.list }
+    (b.behind, b.list)
 
 back_shared : (front old back news : List ℕ) → NoRepeats (front ++ (old ++ back)) → NoRepeats news → AgreeAround front old back news → from_name (first_of back) news ≡ back
 back_shared front old back news once news_once agree =
@@ -140,11 +129,11 @@ back_behind front old (b ∷ back) xs once =
 pub shared : (front old back news : List ℕ) → NoRepeats (front ++ (old ++ back)) → NoRepeats news → AgreeAround front old back news → (old ≡ [] → (front ≡ []) × (back ≡ [])) →
     IsShared front old back news
 shared front old back news once news_once agree full =
-    let begun : GoesBehind front news = front_shared front old back news once news_once agree in
-    let left : StandsBefore (first_of back) begun.behind = split (first_of back) begun.behind in
-    let back_is : from_name (first_of back) begun.behind ≡ back =
-    sym (back_behind front old back begun.behind once) ∙ ap (from_name (first_of back)) (sym begun.list) ∙ back_shared front old back news once news_once agree in
-    record { new = left.before; list = begun.list ∙ ap (λ ks. front ++ ks) (left.list ∙ ap (λ ks. left.before ++ ks) back_is) }
+    let begun = front_shared front old back news once news_once agree in
+    let left = split (first_of back) begun.0 in
+    let back_is : from_name (first_of back) begun.0 ≡ back =
+    sym (back_behind front old back begun.0 once) ∙ ap (from_name (first_of back)) (sym begun.1) ∙ back_shared front old back news once news_once agree in
+    record { new = left.0; list = begun.1 ∙ ap (λ ks. front ++ ks) (left.1 ∙ ap (λ ks. left.0 ++ ks) back_is) }
 
 -- ---- the run of the second list
 

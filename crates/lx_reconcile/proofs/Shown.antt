@@ -1,5 +1,5 @@
 -- Host trees that show a forest: where each node's host is, and what it shows.
-use Rattle.std.proofs.Common.{◌≡◌, ◌∙◌, ◌+◌, ◌<◌, ℕ, Bool, true, false, cond, eqb, List, [], ◌∷◌, ◌++◌, length, length-append, Option, Some, option_map, refl, sym, ap, arith, eq-eqb, append_assoc, append-nil}
+use Rattle.std.proofs.Common.{◌≡◌, ◌∙◌, ◌<◌, ℕ, true, cond, eqb, List, [], ◌∷◌, ◌++◌, length, length-append, Option, Some, option_map, refl, sym, ap, arith, eq-eqb, append_assoc, append-nil}
 use Rattle.std.specs.Prelude.{unwrap_or}
 use Rattle.std.proofs.lemmas.Bool.Decides.{eqb_tells}
 use Rattle.lx_trees.specs.Trees.{Trees, nil, tree, joined}
@@ -142,10 +142,6 @@ count-hosts_of k i (tree h b r) e =
 
 pub among_one : (i : ℕ) (xs : List ℕ) → xs ≡ i ∷ [] → is_among i xs ≡ true
 among_one i xs e = rw (e, eq-eqb i i refl) refl
-
-not_first : (x : Bool) (m n : ℕ) → cond x 1 0 + m + n < 2 → 0 < m + n → x ≡ false
-not_first true m n e more = absurd (omega (arith, e, more))
-not_first false m n e more = refl
 
 -- the tree of a node is the one at its host
 pub alone-host : (k i : ℕ) (t : Trees Host) → ((q : ℕ) → count q t < 2) → named.count key_in k t ≡ 1 → hosts_of k t ≡ i ∷ [] → named.alone key_in k t ≡ alone i t

@@ -17,10 +17,7 @@ use Rattle.lx_reconcile.specs.Handled.{IsReconciled}
 use Rattle.lx_reconcile.specs.Making.{IsBetween, Reconciles}
 use Rattle.lx_reconcile.proofs.StartEnd.{child_stands}
 use Rattle.lx_reconcile.proofs.Walked.{reconciled_same}
-use Rattle.lx_reconcile.proofs.Children.{stands_there}
-
-label_same : (x y : Label) → x.key ≡ y.key → x.kind ≡ y.kind → x.fields ≡ y.fields → x ≡ y
-label_same x y e f g = rw (e, f, g) refl
+use Rattle.lx_reconcile.proofs.Children.{stands_there, label_same}
 
 trees_same : (f g : Forest) (ks : List ℕ) → ((c : ℕ) → is_among c ks ≡ true → alone c f ≡ alone c g) → trees_of f ks ≡ trees_of g ks
 trees_same f g [] same = refl
@@ -48,7 +45,7 @@ module _ (old new : Forest) (mk : Marking) (v : HostTree) (b : IsBetween old new
       let y = stands_there new k b.view.after there in
       let kinds : Some y.label.kind ≡ Some x.label.kind = sym (ap (option_map (λ (l : Label). l.kind)) y.label_is) ∙ sym (b.covered.kinds k was there) ∙ ap (option_map (λ (l : Label). l.kind)) x.label_is in
       let fields : Some y.label.fields ≡ Some x.label.fields = sym (ap (option_map (λ (l : Label). l.fields)) y.label_is) ∙ sym alike.fields ∙ ap (option_map (λ (l : Label). l.fields)) x.label_is in
-      let labels : y.label ≡ x.label = label_same y.label x.label (y.key ∙ sym x.key) (same_Some _ _ kinds) (same_Some _ _ fields) in
+      let labels : y.label ≡ x.label = label_same y.label x.label.key x.label.kind x.label.fields (y.key ∙ sym x.key) (sym (same_Some _ _ kinds)) (sym (same_Some _ _ fields)) in
       let below : trees_of new (children_of new k) ≡ trees_of old (children_of new k) = trees_same new old (children_of new k)
       (λ c among. same_below fuel c (omega (arith, small, total-alone-lt new c k b.view.after (parent_of-child new c k b.sound among))) (child_stands new k c b.view.after among) (child_unmarked k c plain among)) in
       y.tree_is

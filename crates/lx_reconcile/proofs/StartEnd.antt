@@ -1,8 +1,8 @@
 -- How the children of a host are before the first move, and after the last.
-use Rattle.std.proofs.Common.{◌≡◌, ◌≢◌, ◌∙◌, ◌+◌, ◌<◌, ℕ, Bool, true, false, cond, eqb, ltb, List, [], ◌∷◌, ◌++◌, Option, None, Some, option_map, inl, inr, refl, sym, ap, subst, arith, eq-eqb, eqb-true, ltb-true, append-nil}
+use Rattle.std.proofs.Common.{◌≡◌, ◌≢◌, ◌∙◌, ◌+◌, ◌<◌, ℕ, Bool, true, false, cond, eqb, ltb, List, [], ◌∷◌, ◌++◌, Option, None, Some, option_map, refl, sym, ap, subst, arith, eq-eqb, eqb-true, ltb-true, append-nil}
 use Rattle.std.specs.List.{AllByRecursion}
 use Rattle.std.proofs.lemmas.Bool.Decides.{eqb_tells}
-use Rattle.std.proofs.lemmas.Bool.{cases_lt, and_parts}
+use Rattle.std.proofs.lemmas.Bool.{and_parts}
 use Rattle.std.proofs.lemmas.Option.{same_Some}
 use Rattle.lx_trees.specs.Trees.{Trees, nil, tree, joined}
 use Rattle.lx_trees.specs.NamedTrees as named
@@ -60,10 +60,7 @@ some_children xs None e = absurd (cc)
 some_children xs (Some s) e = same_Some xs s.children e
 
 pub child_stands : (f : Forest) (k c : ℕ) → IsForest f → is_among c (children_of f k) ≡ true → forest.has c f ≡ true
-child_stands f k c h among = by_parent (parent_of f c) refl (sym (is_among-children_of f c k h) ∙ among) where
-  by_parent : (o : Option ℕ) → parent_of f c ≡ o → is_named o k ≡ true → forest.has c f ≡ true
-  by_parent None up e = absurd (cc)
-  by_parent (Some p) up e = has-child f c p up
+child_stands f k c h among = grind (arith, among, is_among-children_of f c k h, has-child f c)
 
 pub is_shown_at : (old : Forest) (v : HostTree) (k : ℕ) → IsForest old → Shows v old → IsNumbered v → forest.has k old ≡ true → IsShownAt old v k
 is_shown_at old v k h shows n there = from_spot (spot_below key_in None v.hosts k) refl (children-shown k None None v.hosts old shows) where
@@ -141,28 +138,24 @@ shape_of-flat old new v family (c ∷ cs) done =
 shown_none : (q k : ℕ) (new : Forest) (t : Trees Host) → shape_of t ≡ render (forest.alone k new) → forest.count q (forest.alone k new) ≡ 0 → hosts_of q t ≡ []
 shown_none q k new t shape none = hosts_of-none q t (count-shown q t (forest.alone k new) shape ∙ none)
 
-has_if : (n : ℕ) → 0 < n → ltb 0 n ≡ true
-has_if n e = grind (arith, e)
-
 pub hosts_of-flat : (old new : Forest) (v : HostTree) (family : ℕ → Trees Host) (cs : List ℕ) (q : ℕ) → ((c : ℕ) → is_among c cs ≡ true → AreReconciled old new v c (family c))
     → IsKept old new q → forest.count q (trees_of new cs) ≡ 1 → hosts_of q (flat family cs) ≡ hosts_of q v.hosts
 hosts_of-flat old new v family [] q done kept one = absurd (omega (arith, one))
 hosts_of-flat old new v family (c ∷ cs) q done kept one =
     let here = done c (grind (arith, eqb_tells c c)) in
     let later = λ (d : ℕ) (e : is_among d cs ≡ true). done d (grind (arith, e)) in
-    let sum : forest.count q (forest.alone c new) + forest.count q (trees_of new cs) ≡ 1 = sym (trees.count-joined key_of q (forest.alone c new) (trees_of new cs)) ∙ one in
-    hosts_of-joined q (family c) (flat family cs)
-    ∙ elim (cases_lt 0 (forest.count q (forest.alone c new))) [
-      | inl inside ↦
-          let none : forest.count q (trees_of new cs) ≡ 0 = omega (arith, sum, inside) in
-          ap (λ xs. xs ++ hosts_of q (flat family cs)) (here.keeps q kept (has_if _ inside))
-          ∙ ap (λ xs. hosts_of q v.hosts ++ xs) (hosts_of-none q (flat family cs) (count-shown q (flat family cs) (trees_of new cs) (shape_of-flat old new v family cs later) ∙ none))
-          ∙ append-nil (hosts_of q v.hosts)
-      | inr outside ↦
-          let none : forest.count q (forest.alone c new) ≡ 0 = omega (arith, outside) in
-          ap (λ xs. xs ++ hosts_of q (flat family cs)) (shown_none q c new (family c) here.shape none)
-          ∙ hosts_of-flat old new v family cs q later kept (omega (arith, sum, none))
-    ]
+    grind (
+      arith,
+      one,
+      trees.count-joined key_of q (forest.alone c new) (trees_of new cs),
+      hosts_of-joined q (family c) (flat family cs),
+      here.keeps q kept,
+      hosts_of-none q (flat family cs),
+      count-shown q (flat family cs) (trees_of new cs) (shape_of-flat old new v family cs later),
+      shown_none q c new (family c) here.shape,
+      append-nil (hosts_of q v.hosts),
+      hosts_of-flat old new v family cs q later kept,
+    )
 
 -- ---- a tree that is the same in both
 
@@ -184,12 +177,8 @@ shown_same old new v k h shows n there same =
 
 -- the label of a key's tree has that key
 label_key : (f : Forest) (k : ℕ) (l : Label) (below : Forest) → IsForest f → forest.alone k f ≡ tree l below nil → l.key ≡ k
-label_key f k l below h is = elim (cases_lt 0 (forest.count k f)) [
-  | inl there ↦
-      let keys : l.key ∷ [] ≡ k ∷ [] = sym (ap (named.names key_of) is) ∙ trees.names-alone key_of k f (omega (arith, h.once k, there)) in
-      cc
-  | inr absent ↦ absurd (let none : forest.alone k f ≡ nil = trees.alone-absent key_of k f (omega (arith, absent)) in cc)
-]
+label_key f k l below h is =
+    grind (arith, ap (named.names key_of) is, h.once k, trees.names-alone key_of k f, trees.alone-absent key_of k f)
 
 -- what a node's host shows, and all below it
 pub are_reconciled : (old new : Forest) (v : HostTree) (k : ℕ) (a : Host) (l : Label) (family : ℕ → Trees Host) → IsForest old → IsForest new → Shows v old
@@ -212,16 +201,19 @@ are_reconciled old new v k a l family g h shows is face id done =
           let counted : cond (eqb a.face.key q) 1 0 + forest.count q kids ≡ forest.count q (forest.alone k new) =
           ap {B = ℕ} (λ x. cond (eqb x q) 1 0 + forest.count q kids) key ∙ omega (arith, ap (forest.count q) is) in
           let one : cond (eqb a.face.key q) 1 0 + forest.count q kids ≡ 1 = counted ∙ has_tells (forest.count q (forest.alone k new)) (omega (arith, h.once q, count-alone-le key_of q k new)) inside in
-          elim (eqb_tells a.face.key q) [
-            | inl same ↦
-                let none : forest.count q kids ≡ 0 = omega (arith, one, ap {B = ℕ} (λ x. cond x 1 0) same.0) in
-                let is_q : k ≡ q = sym own_key ∙ sym key ∙ same.1 in
-                rw (same.0, hosts_of-none q (flat family cs) (count-shown q (flat family cs) kids shape ∙ none))
-                (ap (λ i. i ∷ []) (id ∙ ap (host_in v) is_q) ∙ sym (only_host old v q g shows (kept_there old new q g h kept).0))
-            | inr other ↦
-                let below : forest.count q kids ≡ 1 = omega (arith, one, ap {B = ℕ} (λ x. cond x 1 0) other.0) in
-                rw other.0 (append-nil (hosts_of q (flat family cs)) ∙ hosts_of-flat old new v family cs q done kept below)
-          ];
+          grind (
+            arith,
+            one,
+            id,
+            key,
+            own_key,
+            eqb_tells a.face.key q,
+            hosts_of-none q (flat family cs),
+            count-shown q (flat family cs) kids shape,
+            only_host old v q g shows (kept_there old new q g h kept).0,
+            append-nil (hosts_of q (flat family cs)),
+            hosts_of-flat old new v family cs q done kept,
+          );
     }
 
 -- ---- the whole

@@ -10,7 +10,8 @@ use Rattle.lx_reconcile.specs.declared.moves.Move.TheVariants.{Stay, Leave, Make
 use Rattle.lx_reconcile.specs.Walk.{child_of, before_of, moved, can_move, suits_children, is_placing, all_moved, CanAllMove, standing, leaving, BeforeUnhandled, common, missing}
 use Rattle.lx_reconcile.specs.Underway.{IsWalking}
 use Rattle.lx_reconcile.proofs.Lists.{is_among-missing, missing-push, common-push_absent, names_without-append, common-append, missing-append, common-names_without, common-none, NoRepeats-right, apart, names_with-first}
-use Rattle.lx_reconcile.proofs.InTurn.{NoRepeats-moved, all_moved-push, CanAllMove-push, standing-append, leaving-append, list_any-push, children-push, BeforeUnhandled-push, children_among}
+use Rattle.lx_reconcile.proofs.InTurn.{NoRepeats-moved, standing-append, leaving-append, children-push, BeforeUnhandled-push, children_among, all_moved-append, CanAllMove-append}
+use Rattle.std.proofs.lemmas.List.Folds.{list_any-append}
 
 -- ---- the first of a list
 
@@ -40,34 +41,26 @@ in_order-behind k front passed done e none far =
 
 -- ---- what any step keeps
 
-now-push : {olds news old new back done : List ℕ} {moves : List Move} → IsWalking olds news old new back done moves →
-    (front : List ℕ) (m : Move) (children : List ℕ) → all_moved moves olds ≡ front ++ back → moved m (front ++ back) ≡ children → all_moved (moves ++ m ∷ []) olds ≡ children
-now-push {olds = olds} {moves = moves} w front m children now to = all_moved-push moves m olds ∙ ap (moved m) now ∙ to
+module _ {olds news old new back done : List ℕ} {moves : List Move} (w : IsWalking olds news old new back done moves) where
+  now-push : (front : List ℕ) (m : Move) (children : List ℕ) → all_moved moves olds ≡ front ++ back → moved m (front ++ back) ≡ children → all_moved (moves ++ m ∷ []) olds ≡ children
+  now-push front m children now to = all_moved-append moves (m ∷ []) olds ∙ ap (moved m) now ∙ to
 
-can-push : {olds news old new back done : List ℕ} {moves : List Move} → (w : IsWalking olds news old new back done moves) →
-    (m : Move) → can_move m (w.front ++ back) ≡ true → CanAllMove (moves ++ m ∷ []) olds
-can-push {olds = olds} {moves = moves} w m can = CanAllMove-push moves m olds w.can (ap (can_move m) w.now ∙ can)
+  can-push : (m : Move) → can_move m (w.front ++ back) ≡ true → CanAllMove (moves ++ m ∷ []) olds
+  can-push m can = CanAllMove-append moves (m ∷ []) olds w.can (ap (can_move m) w.now ∙ can, tt)
 
-once-push : {olds news old new back done : List ℕ} {moves : List Move} → (w : IsWalking olds news old new back done moves) →
-    (m : Move) (children : List ℕ) → can_move m (w.front ++ back) ≡ true → moved m (w.front ++ back) ≡ children → NoRepeats children
-once-push {back = back} w m children can to = subst NoRepeats to (NoRepeats-moved m (w.front ++ back) can w.once)
+  once-push : (m : Move) (children : List ℕ) → can_move m (w.front ++ back) ≡ true → moved m (w.front ++ back) ≡ children → NoRepeats children
+  once-push m children can to = subst NoRepeats to (NoRepeats-moved m (w.front ++ back) can w.once)
 
-unhandled-push : {olds news old new back done : List ℕ} {moves : List Move} → (w : IsWalking olds news old new back done moves) →
-    (m : Move) → ((k : ℕ) → before_of m ≡ Some k → is_among k back ≡ true) → BeforeUnhandled olds [] (moves ++ m ∷ [])
-unhandled-push {olds = olds} {moves = moves} w m before =
-    BeforeUnhandled-push moves m olds [] w.unhandled (λ k e. grind (arith, w.waiting k (before k e)))
+  unhandled-push : (m : Move) → ((k : ℕ) → before_of m ≡ Some k → is_among k back ≡ true) → BeforeUnhandled olds [] (moves ++ m ∷ [])
+  unhandled-push m before = BeforeUnhandled-push moves m olds [] w.unhandled (λ k e. grind (arith, w.waiting k (before k e)))
 
-waiting-push : {olds news old new back done : List ℕ} {moves : List Move} → (w : IsWalking olds news old new back done moves) →
-    (m : Move) (rest : List ℕ) → ((q : ℕ) → is_among q rest ≡ true → (is_among q back && not (eqb (child_of m) q)) ≡ true) →
-    (q : ℕ) → is_among q rest ≡ true → (is_among q olds && not (is_among q (map child_of (moves ++ m ∷ [])))) ≡ true
-waiting-push {moves = moves} w m rest shrinks q e =
-    grind (arith, shrinks q e, w.waiting q, children-push moves m q)
+  waiting-push : (m : Move) (rest : List ℕ) → ((q : ℕ) → is_among q rest ≡ true → (is_among q back && not (eqb (child_of m) q)) ≡ true)
+      → (q : ℕ) → is_among q rest ≡ true → (is_among q olds && not (is_among q (map child_of (moves ++ m ∷ [])))) ≡ true
+  waiting-push m rest shrinks q e = grind (arith, shrinks q e, w.waiting q, children-push moves m q)
 
--- none of those after the cursor is handled
-pub back-undone : {olds news old new back done : List ℕ} {moves : List Move} → (w : IsWalking olds news old new back done moves) →
-    (q : ℕ) → is_among q back ≡ true → is_among q done ≡ false
-back-undone {done = done} {moves = moves} w q e =
-    grind (arith, w.waiting q e, children_among q moves, ap (is_among q) w.stands)
+  -- none of those after the cursor is handled
+  pub back-undone : (q : ℕ) → is_among q back ≡ true → is_among q done ≡ false
+  back-undone q e = grind (arith, w.waiting q e, children_among q moves, ap (is_among q) w.stands)
 
 -- the next of those after isn't in place yet
 pub next-undone : (k : ℕ) (news done new : List ℕ) → NoRepeats news → news ≡ done ++ k ∷ new → is_among k done ≡ false
@@ -129,7 +122,7 @@ step-same k olds news old new back done moves news_once w =
           ∙ ap (λ xs. leaving moves ++ xs) (sym (missing-in k old news in_news)) ∙ w.leaves;
       suited = All-push (λ m. suits_children olds m ≡ true) moves (Stay k) w.suited in_olds;
       unhandled = unhandled-push w (Stay k) (λ b e. absurd (cc));
-      kept_order = λ same. (kept_order-same k old new news olds in_news in_olds (w.kept_order same).0, list_any-push is_placing moves (Stay k) ∙ ap (λ b. b || false) (w.kept_order same).1);
+      kept_order = λ same. (kept_order-same k old new news olds in_news in_olds (w.kept_order same).0, list_any-append is_placing moves (Stay k ∷ []) ∙ ap (λ b. b || false) (w.kept_order same).1);
     }
 
 -- ---- the next child before is none of those after: it leaves, and the cursor goes to where it was
@@ -185,7 +178,7 @@ step-gone o olds news old new back done moves gone w =
           ∙ ap (λ xs. leaving moves ++ xs) (sym (missing-out o old news gone)) ∙ w.leaves;
       suited = All-push (λ m. suits_children olds m ≡ true) moves (Leave o) w.suited in_olds;
       unhandled = unhandled-push w (Leave o) (λ b e. absurd (cc));
-      kept_order = λ same. (sym (common-out o old news gone) ∙ (w.kept_order same).0, list_any-push is_placing moves (Leave o) ∙ ap (λ b. b || false) (w.kept_order same).1);
+      kept_order = λ same. (sym (common-out o old news gone) ∙ (w.kept_order same).0, list_any-append is_placing moves (Leave o ∷ []) ∙ ap (λ b. b || false) (w.kept_order same).1);
     }
 
 -- ---- the next child after is none of those before: it is made at the cursor
@@ -229,7 +222,7 @@ step-made n olds news old new back done moves news_once none w =
       leaves = ap (λ xs. xs ++ missing old news) (leaving-append moves (Make n (first_of back) ∷ []) ∙ append-nil (leaving moves)) ∙ w.leaves;
       suited = All-push (λ m. suits_children olds m ≡ true) moves (Make n (first_of back)) w.suited (ap not none);
       unhandled = unhandled-push w (Make n (first_of back)) (first_of-among back);
-      kept_order = λ same. ((w.kept_order same).0 ∙ common-out n new olds none, list_any-push is_placing moves (Make n (first_of back)) ∙ ap (λ b. b || false) (w.kept_order same).1);
+      kept_order = λ same. ((w.kept_order same).0 ∙ common-out n new olds none, list_any-append is_placing moves (Make n (first_of back) ∷ []) ∙ ap (λ b. b || false) (w.kept_order same).1);
     } in
     subst (λ xs. IsWalking olds news old new xs (done ++ n ∷ []) (moves ++ Make n (first_of back) ∷ [])) (sym (names_without-absent_list n back n_back)) walked
 

@@ -79,9 +79,9 @@ module _ (old new : Forest) (mk : Marking) (v : HostTree) where
 
   pub label_touched : (k : ℕ) (x y : Label) → AreCovered old new mk → has k old ≡ true → has k new ≡ true → label_of old k ≡ Some x → label_of new k ≡ Some y → (x.kind ≡ y.kind → x.fields ≡ y.fields → ⊥) → mk.touched k ≡ true
   label_touched k x y c was is was_label is_label other = true_from_ne_false (mk.touched k) (λ plain.
-        let kinds : Some x.kind ≡ Some y.kind = sym (ap (option_map (λ (l : Label). l.kind)) was_label) ∙ c.kinds k was is ∙ ap (option_map (λ (l : Label). l.kind)) is_label in
-        let fields : Some x.fields ≡ Some y.fields = sym (ap (option_map (λ (l : Label). l.fields)) was_label) ∙ (c.alike k was is plain).fields ∙ ap (option_map (λ (l : Label). l.fields)) is_label in
-        other (same_Some x.kind y.kind kinds) (same_Some x.fields y.fields fields))
+      let kinds : Some x.kind ≡ Some y.kind = sym (ap (option_map (λ (l : Label). l.kind)) was_label) ∙ c.kinds k was is ∙ ap (option_map (λ (l : Label). l.kind)) is_label in
+      let fields : Some x.fields ≡ Some y.fields = sym (ap (option_map (λ (l : Label). l.fields)) was_label) ∙ (c.alike k was is plain).fields ∙ ap (option_map (λ (l : Label). l.fields)) is_label in
+      other (same_Some x.kind y.kind kinds) (same_Some x.fields y.fields fields))
 
   -- the last child of an untouched node has the same kind in both
   pub last_same : (k : ℕ) → AreCovered old new mk → Sound old → Sound new → IsBetween old new mk v → children_of old k ≡ children_of new k → kind_at old (last_child old k) ≡ kind_at new (last_child new k)

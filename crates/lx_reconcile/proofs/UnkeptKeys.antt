@@ -34,20 +34,14 @@ unkept_keys old parent (tree l below rest) =
 abbrev own_keys : Bool → Forest → Label → Forest → List ℕ
 own_keys stays old l below = cond stays (unkept_keys old (Some l.key) below) (l.key ∷ preorder key_of below)
 
-length_own : (stays : Bool) (key m n : ℕ) (below all : List ℕ) → length below ≡ m → length all ≡ n → length (cond stays below (key ∷ all)) ≡ cond stays m (1 + n)
-length_own true key m n below all e f = e
-length_own false key m n below all e f = omega (arith, f)
-
 length-unkept_keys : (old : Forest) (p : Option ℕ) (f : Forest) → length (unkept_keys old p f) ≡ unkept old p f
 length-unkept_keys old p nil = refl
 length-unkept_keys old p (tree l b t) =
-    let stays = kept_here old p l in
-    let below = unkept_keys old (Some l.key) b in
-    let all = preorder key_of b in
-    omega (
+    grind (
       arith,
-      length-append (own_keys stays old l b) (unkept_keys old p t),
-      length_own stays l.key (unkept old (Some l.key) b) (total b) below all (length-unkept_keys old (Some l.key) b) (length-preorder key_of b),
+      length-append (own_keys (kept_here old p l) old l b) (unkept_keys old p t),
+      length-unkept_keys old (Some l.key) b,
+      length-preorder key_of b,
       length-unkept_keys old p t,
     )
 
@@ -91,10 +85,7 @@ NoRepeats-unkept_keys old p (tree l b t) once =
 
 -- the first of trees has the key, or is none of those that have it
 is_own : (k q : ℕ) → (k ≡ q) ⊎ (cond {A = ℕ} (eqb k q) 1 0 ≡ 0)
-is_own k q = elim (eqb_tells k q) [
-  | inl own ↦ inl own.1
-  | inr other ↦ inr (ap {B = ℕ} (λ c. cond c 1 0) other.0)
-]
+is_own k q = grind (arith, eqb_tells k q)
 
 -- ---- where nodes are
 
@@ -114,10 +105,7 @@ stand_first new p l b t once at =
     )
 
 stand_below : (new : Forest) (p : Option ℕ) (l : Label) (b t : Forest) → IsDistinct key_of (tree l b t) → StandBelow new p (tree l b t) → StandBelow new (Some l.key) b
-stand_below new p l b t once at q inside =
-    let other : eqb l.key q ≡ false = grind (arith, inside, once q) in
-    at q (omega (arith, inside))
-    ∙ rw (other, places_of-absent q p t (omega (arith, once q, inside))) (append-nil (places_of q (Some l.key) b))
+stand_below new p l b t once at q inside = grind (arith, inside, once q, at q, places_of-absent q p t, append-nil (places_of q (Some l.key) b))
 
 stand_alone : (new : Forest) (p : Option ℕ) (l : Label) (b t : Forest) → IsDistinct key_of (tree l b t) → StandBelow new p (tree l b t) → StandBelow new p (tree l b nil)
 stand_alone new p l b t once at q own =
@@ -125,10 +113,7 @@ stand_alone new p l b t once at q own =
     ∙ ap (λ xs. cond (eqb l.key q) ((p, tag_of l.kind l.fields) ∷ []) [] ++ places_of q (Some l.key) b ++ xs) (places_of-absent q p t (omega (arith, once q, own)))
 
 stand_behind : (new : Forest) (p : Option ℕ) (l : Label) (b t : Forest) → IsDistinct key_of (tree l b t) → StandBelow new p (tree l b t) → StandBelow new p t
-stand_behind new p l b t once at q behind =
-    let other : eqb l.key q ≡ false = grind (arith, behind, once q) in
-    at q (omega (arith, behind))
-    ∙ rw (other, places_of-absent q (Some l.key) b (omega (arith, once q, behind))) refl
+stand_behind new p l b t once at q behind = grind (arith, behind, once q, at q, places_of-absent q (Some l.key) b)
 
 -- ---- which of them are kept
 
@@ -146,12 +131,10 @@ kept_at : (old new : Forest) (q k : ℕ) (tag : Tag) → IsForest new → places
 kept_at old new _ k tag h at kept_root =
     absurd (let up = (has_place new 0 k tag h at).parent in let none = parent_of-root new h in cc)
 kept_at old new _ k tag h at (kept_below q p other kept was is) =
-    let place : (Some p, other) ≡ (Some k, tag) = same_first (sym is ∙ at) in
+    let list : (Some p, other) ∷ [] ≡ (Some k, tag) ∷ [] = sym is ∙ at in
+    let place : (Some p, other) ≡ (Some k, tag) = cc in
     let same : p ≡ k = same_Some p k (ap (λ (x : Option ℕ × Tag). x.0) place) in
     record { parent = subst (IsKept old new) same kept; was = was ∙ ap (λ x. x ∷ []) place }
-  where
-    same_first : {x y : Option ℕ × Tag} → x ∷ [] ≡ y ∷ [] → x ≡ y
-    same_first e = cc
 
 -- what the test of places says
 only_one : (p : Option ℕ) (tag : Tag) (places : List (Option ℕ × Tag)) → is_only p tag places ≡ true → places ≡ (p, tag) ∷ []

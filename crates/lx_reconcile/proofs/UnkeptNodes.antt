@@ -1,5 +1,5 @@
 -- How many nodes aren't kept, and which children that are met aren't.
-use Rattle.std.proofs.Common.{◌≡◌, ◌∙◌, ◌+◌, ◌≤◌, ℕ, ◌&&◌, Bool, true, false, cond, filter, List, [], ◌∷◌, Option, None, Some, option_map, refl, sym, ap, arith}
+use Rattle.std.proofs.Common.{◌≡◌, ◌∙◌, ◌+◌, ◌≤◌, ℕ, ◌&&◌, Bool, true, false, filter, List, [], ◌∷◌, Option, None, Some, option_map, refl, sym, ap, arith}
 use Rattle.std.specs.Bool.{Decides}
 use Rattle.std.proofs.lemmas.Bool.{false_from_ne_true}
 use Rattle.std.proofs.lemmas.Bool.Decides.{eqb_tells, Decides-like}
@@ -117,18 +117,13 @@ pub unkept-joined : (old : Forest) (p : Option ℕ) (f g : Forest) → unkept ol
 unkept-joined old p nil g = omega arith
 unkept-joined old p (tree l b t) g = omega (arith, unkept-joined old p t g)
 
-unkept_cond : (c : Bool) (a b : ℕ) → a ≤ b → (cond c a (1 + b) ≤ 1 + b) × (a ≤ cond c a (1 + b))
-unkept_cond true a b less = (omega (arith, less), omega arith)
-unkept_cond false a b less = (omega arith, omega (arith, less))
-
 pub unkept-total : (old : Forest) (p : Option ℕ) (f : Forest) → unkept old p f ≤ total f
 unkept-total old p nil = omega arith
-unkept-total old p (tree l b t) =
-    omega (arith, unkept-total old p t, (unkept_cond (kept_here old p l) (unkept old (Some l.key) b) (total b) (unkept-total old (Some l.key) b)).0)
+unkept-total old p (tree l b t) = grind (arith, unkept-total old p t, unkept-total old (Some l.key) b)
 
 -- below a node no more than in its whole tree
 pub unkept-below : (old : Forest) (p : Option ℕ) (l : Label) (b : Forest) → unkept old (Some l.key) b ≤ unkept old p (tree l b nil)
-unkept-below old p l b = omega (arith, (unkept_cond (kept_here old p l) (unkept old (Some l.key) b) (total b) (unkept-total old (Some l.key) b)).1)
+unkept-below old p l b = grind (arith, unkept-total old (Some l.key) b)
 
 -- in the tree of one that isn't kept all aren't
 pub unkept-all : (old : Forest) (p : Option ℕ) (l : Label) (b : Forest) → kept_here old p l ≡ false → unkept old p (tree l b nil) ≡ total (tree l b nil)

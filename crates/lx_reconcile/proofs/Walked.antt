@@ -238,8 +238,7 @@ module _ {old new : Forest} {v : HostTree} where
       let u = w.under_way in
       let here = w.to_come.can.0 in
       let was = u.waiting c here (own_fresh (children_of old k) (children_of new k) w.handled w.now (Stay c) ms w.to_come) in
-      let inner : LeadsAt (w.ids c) (w.family c) m more r.to l =
-      subst (λ i. LeadsAt i (w.family c) m more r.to l) (sym was.0) (subst (λ t. LeadsAt (host_in v c) t m more r.to l) (sym was.1) r.leads) in
+      let inner : LeadsAt (w.ids c) (w.family c) m more r.to l = subst (λ t. t) (λ i. LeadsAt (sym was.0 i) (sym was.1 i) m more r.to l) r.leads in
       walked_on w more a (c ∷ w.handled) w.now (with_entry c (host_in v c) w.ids) (with_entry c r.to w.family) ms l refl
       (at_stay (host_in v k) a w.ids w.family w.now m c more r.to l w.id u.at here inner)
       (under_way_entry w.now c (host_in v c) r.to u (λ d among other. among) r.at r.shown)
@@ -263,14 +262,11 @@ module _ {old new : Forest} {v : HostTree} where
       walked_on w (op.Drop (host_in v c) ∷ []) a (c ∷ w.handled) (names_without c w.now) w.ids w.family ms m refl
       (subst (λ i. LeadsAt (host_in v k) (tree a (flat w.family w.now) nil) m (op.Drop i ∷ []) then m) own.0 (at_gone (host_in v k) a w.ids w.family w.now m c w.id u.at here own.1))
       (record {
-        at = λ d among. u.at d (rest_of d among).0;
-        done = λ d among done. u.done d (rest_of d among).0 (among_handled d c w.handled (rest_of d among).1 done);
-        waiting = λ d among waits. u.waiting d (rest_of d among).0 (not_handled d c w.handled waits).1;
+        at = λ d among. u.at d (without_key c d w.now among).0;
+        done = λ d among done. u.done d (without_key c d w.now among).0 (among_handled d c w.handled (without_key c d w.now among).1 done);
+        waiting = λ d among waits. u.waiting d (without_key c d w.now among).0 (not_handled d c w.handled waits).1;
       })
       (one_came (children_of old k) (children_of new k) w.handled w.now (Leave c) ms w.to_come) (omega arith) (omega arith)
-    where
-      rest_of : (d : ℕ) → is_among d (names_without c w.now) ≡ true → (is_among d w.now ≡ true) × (d ≢ c)
-      rest_of d e = without_key c d w.now e
 
   -- a child is placed, and stays then
   pub walk_place : {k n : ℕ} {ops : List Op} {a : Host} {c : ℕ} {before : Option ℕ} {ms : List Move} {m : ℕ} → IsView old new v → IsInWalk old new v k n ops a (Place c before ∷ ms) m
@@ -282,11 +278,10 @@ module _ {old new : Forest} {v : HostTree} where
       let place = and_parts (is_place before w.now) (not (is_named before c)) can.1 in
       let own = own_id (Place c before) view w can.0 t.suited.0 in
       let after = names_with before (c ∷ []) (names_without c w.now) in
-      let step : LeadsAt (host_in v k) (tree a (flat w.family w.now) nil) m (op.Place (host_in v k) (host_in v c) (option_map (host_in v) before) ∷ []) (tree a (flat w.family after) nil) m =
-      subst (λ o. LeadsAt (host_in v k) (tree a (flat w.family w.now) nil) m (op.Place (host_in v k) (host_in v c) o ∷ []) (tree a (flat w.family after) nil) m) (before_id (children_of old k) before u place.0 t.unhandled.0)
-      (subst (λ i. LeadsAt (host_in v k) (tree a (flat w.family w.now) nil) m (op.Place (host_in v k) i (option_map w.ids before) ∷ []) (tree a (flat w.family after) nil) m) own.0
-      (at_moved (host_in v k) a w.ids w.family w.now m c before w.id u.at can.0 own.1 place.0 (not-true (is_named before c) place.1))) in
-      walked_on w _ a w.handled after w.ids w.family (Stay c ∷ ms) m refl step
+      let named = before_id (children_of old k) before u place.0 t.unhandled.0 in
+      walked_on w (op.Place (host_in v k) (host_in v c) (option_map (host_in v) before) ∷ []) a w.handled after w.ids w.family (Stay c ∷ ms) m refl
+      (subst (λ t. t) (λ i. LeadsAt (host_in v k) (tree a (flat w.family w.now) nil) m (op.Place (host_in v k) (own.0 i) (named i) ∷ []) (tree a (flat w.family after) nil) m)
+      (at_moved (host_in v k) a w.ids w.family w.now m c before w.id u.at can.0 own.1 place.0 (not-true (is_named before c) place.1)))
       (record {
         at = λ d among. u.at d (was_among d among);
         done = λ d among. u.done d (was_among d among);
@@ -313,7 +308,7 @@ module _ {old new : Forest} {v : HostTree} where
       let after = names_with before (c ∷ []) w.now in
       let to : Forest → Trees Host = λ f. numbered m (render f) in
       let Makes : Forest → Option ℕ → Type 0 = λ f o.
-          LeadsAt (host_in v k) (tree a (flat w.family w.now) nil) m (creation_of m f ++ op.Place (host_in v k) m o ∷ []) (tree a (flat (with_entry c (to f) w.family) after) nil) (m + total f) in
+      LeadsAt (host_in v k) (tree a (flat w.family w.now) nil) m (creation_of m f ++ op.Place (host_in v k) m o ∷ []) (tree a (flat (with_entry c (to f) w.family) after) nil) (m + total f) in
       let step : Makes (forest.alone c new) (option_map (host_in v) before) =
       subst (Makes (forest.alone c new)) (before_id (children_of old k) before u can.1 t.unhandled.0)
       (subst (λ f. m + total f ≤ last_u32 → Makes f (option_map w.ids before)) (sym s.tree_is)
@@ -341,8 +336,8 @@ module _ {old new : Forest} {v : HostTree} where
       let own = own_id (Stay c) view w t.can.0 t.suited.0 in
       let to : Forest → Trees Host = λ f. numbered m (render f) in
       let Makes : Forest → ℕ → Type 0 = λ f i.
-          LeadsAt (host_in v k) (tree a (flat w.family w.now) nil) m ((creation_of m f ++ op.Place (host_in v k) m (Some i) ∷ []) ++ op.Drop i ∷ [])
-          (tree a (flat (with_entry c (to f) w.family) w.now) nil) (m + total f) in
+      LeadsAt (host_in v k) (tree a (flat w.family w.now) nil) m ((creation_of m f ++ op.Place (host_in v k) m (Some i) ∷ []) ++ op.Drop i ∷ [])
+      (tree a (flat (with_entry c (to f) w.family) w.now) nil) (m + total f) in
       let step : Makes (forest.alone c new) (host_in v c) =
       subst (Makes (forest.alone c new)) own.0
       (subst (λ f. m + total f ≤ last_u32 → Makes f (w.ids c)) (sym s.tree_is) (at_again (host_in v k) a w.ids w.family w.now m c s.label s.below w.id u.at t.can.0 own.1) room) in
@@ -396,7 +391,6 @@ module _ {old new : Forest} {v : HostTree} where
       let at = root_at v.hosts old view.before (one_tree old view.before was) view.shows view.rooted in
       let zero = root_id old v view.before view.shows view.rooted at in
       let from : alone (host_in v 0) v.hosts ≡ v.hosts = ap (λ i. alone i v.hosts) zero ∙ alone-at 0 v.hosts at in
-      let leads : LeadsAt 0 v.hosts v.next ops r.to m =
-      subst (λ i. LeadsAt i v.hosts v.next ops r.to m) zero (subst (λ t. LeadsAt (host_in v 0) t v.next ops r.to m) from r.leads) in
+      let leads : LeadsAt 0 v.hosts v.next ops r.to m = subst (λ t. t) (λ i. LeadsAt (zero i) (from i) v.next ops r.to m) r.leads in
       let there = at_whole v ops r.to m at view.numbered leads in
       (r.to, is_allowed old new touched v ops r.to m view.before view.after (one_tree new view.after is) r.shown there.0 due there.2)

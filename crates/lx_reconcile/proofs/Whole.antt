@@ -4,7 +4,6 @@ use Rattle.std.proofs.lemmas.Option.{same_Some}
 use Rattle.lx_node.specs.Limits.{last_u32, last_u64}
 use Rattle.lx_trees.specs.Trees.{nil, tree}
 use Rattle.lx_trees.specs.NamedTrees.{total}
-use Rattle.lx_trees.specs.Spots.{Spot}
 use Rattle.lx_node.specs.declared.kind.Kind.TheVariants.{Root}
 use Rattle.lx_node.specs.declared.node.Node.{Node}
 use Rattle.lx_node.specs.OfKind.{is_of_kind}
@@ -14,7 +13,7 @@ use Rattle.lx_host.specs.Branches.{IsRooted}
 use Rattle.lx_host.specs.Hosts.{Face, Host, HostTree, IsNumbered, with_ending}
 use Rattle.lx_host.specs.Html.{first_tree}
 use Rattle.lx_forest.specs.Forest.{Label, Forest}
-use Rattle.lx_forest.specs.Lookups.{alone, has, label_of, children_of, trees_of, IsForest}
+use Rattle.lx_forest.specs.Lookups.{alone, has, label_of, children_of, trees_of, IsForest, kind_of}
 use Rattle.lx_forest.specs.Records.{record_at}
 use Rattle.lx_forest.specs.Views.{kind_at}
 use Rattle.lx_forest.specs.Suited.{is_suited}
@@ -26,11 +25,11 @@ use Rattle.lx_render.specs.Render.{tag_of, attributes_of, text_of, face_of, last
 use Rattle.lx_reconcile.specs.declared.moves.Move.{Move}
 use Rattle.lx_reconcile.specs.Allowing.{IsTree, IsAllowed}
 use Rattle.lx_reconcile.specs.Changing.{Changes, shown_face}
-use Rattle.lx_reconcile.specs.Making.{IsBetween, Reconciles, MakesMoves, AreNext}
+use Rattle.lx_reconcile.specs.Making.{IsBetween, Reconciles, MakesMoves, AreComing}
 use Rattle.lx_reconcile.specs.Reconciled.{host_in}
 use Rattle.lx_reconcile.specs.ToCome.{IsInWalk}
-use Rattle.lx_reconcile.specs.Walk.{IsWalk}
-use Rattle.lx_reconcile.proofs.Children.{stands_there, label_from, IsRead, is_read, there_read, tree_read, last_kind_read}
+use Rattle.lx_reconcile.specs.Walk.{IsPart}
+use Rattle.lx_reconcile.proofs.Children.{stands_there, label_from, IsRead, is_read, there_read, tree_read, last_kind_read, label_read}
 use Rattle.lx_reconcile.proofs.Due.{each_append}
 use Rattle.lx_reconcile.proofs.Touched.{Due, last_same, writes_due}
 use Rattle.std.proofs.Common.{cond, length}
@@ -44,9 +43,10 @@ use Rattle.lx_reconcile.proofs.Reading.{marked_children-total, weight, size_if, 
 use Rattle.lx_reconcile.proofs.Skipped.{skipped}
 use Rattle.lx_reconcile.proofs.Texts.{none_of_kind}
 use Rattle.lx_reconcile.proofs.UnkeptNodes.{unkept-below, unkept-total}
-use Rattle.lx_reconcile.proofs.Made.{reconciles_still, reads_still}
+use Rattle.lx_reconcile.proofs.Made.{reads_still}
 use Rattle.lx_reconcile.proofs.StartEnd.{only_host, is_shown_at, root_at, one_tree}
 use Rattle.lx_reconcile.proofs.Walked.{walk_start, walk_face, walk_end, walk_whole}
+use Rattle.lx_reconcile.proofs.Partly.{all_of, part_coming, part_makes}
 
 -- ---- one node
 
@@ -65,7 +65,7 @@ abbrev pub FaceChanges : ℕ → Node → Node → List Op → List Op → Type 
 FaceChanges h was now start end =
     (key : ℕ) (tag : Tag) (ending : Bool) → Changes h (shown_face key tag was.kind was.fields ending) (shown_face key tag now.kind now.fields ending) start end
 
-module _ (old new : Forest) (mk : Marking) (v : HostTree) (k n : ℕ) (was now : Node) (moves : List Move) (b : IsBetween old new mk v)
+module _ (old new : Forest) (mk : Marking) (v : HostTree) (k n : ℕ) (was now : Node) (b : IsBetween old new mk v)
     (was_is : Some was ≡ option_map node_of (record_at old k)) (now_is : Some now ≡ option_map node_of (record_at new k)) where
   before_read : IsRead old k was
   before_read = is_read old k was b.was_sound was_is
@@ -80,30 +80,24 @@ module _ (old new : Forest) (mk : Marking) (v : HostTree) (k n : ℕ) (was now :
   mid_face = shown_face k (tag_of was.kind was.fields) now.kind now.fields (old_end old k was)
 
   -- its face is written, and its children are to come
-  face_walk : (start end : List Op) → IsWalk (children_of old k) (children_of new k) moves → (c : Changes (host_in v k) first_face mid_face start end)
-      → IsInWalk old new v k n c.pushed (showing v k mid_face) moves n
-  face_walk start end walk c =
+  face_walk : {moves : List Move} (start end : List Op) → (p : IsPart mk.noted (children_of old k) (children_of new k) moves) → (c : Changes (host_in v k) first_face mid_face start end)
+      → IsInWalk old new v k n c.pushed (showing v k mid_face) (all_of p) n
+  face_walk start end p c =
       let s = is_shown_at old v k b.view.before b.view.shows b.view.numbered (there_read old k was before_read) in
       let same : s.host ≡ showing v k first_face = host_same s.host (host_in v k) first_face s.id (s.face (label_from k was) (trees_of old (children_of old k)) (tree_read old k was before_read)) in
-      let begun : IsInWalk old new v k n [] (showing v k first_face) moves n = subst (λ a. IsInWalk old new v k n [] a moves n) same (walk_start b.view s walk) in
+      let begun : IsInWalk old new v k n [] (showing v k first_face) (all_of p) n = subst (λ a. IsInWalk old new v k n [] a (all_of p) n) same (walk_start b.view s p.walk) in
       walk_face c.pushed begun refl (λ kids. c.leads kids n)
 
   written : (h : ℕ) (start end : List Op) → h ≡ host_in v k → FaceChanges h was now start end → Changes (host_in v k) first_face mid_face start end
   written h start end id face = subst (λ i. Changes i first_face mid_face start end) id (face k (tag_of was.kind was.fields) (old_end old k was))
 
-  pub children_next : (h : ℕ) (start end : List Op) → h ≡ host_in v k → v.next ≤ n → n + unkept old (Some k) (trees_of new (children_of new k)) ≤ last_u32 → IsWalk (children_of old k) (children_of new k) moves → FaceChanges h was now start end
-      → AreNext old new v k moves n
-  children_next h start end id behind room walk face =
+  -- then a part of its children is to come
+  pub children_coming : {moves : List Move} (h : ℕ) (start end : List Op) → h ≡ host_in v k → v.next ≤ n → n + unkept old (Some k) (trees_of new (children_of new k)) ≤ last_u32
+      → IsPart mk.noted (children_of old k) (children_of new k) moves → FaceChanges h was now start end → AreComing old new v k moves n
+  children_coming {moves} h start end id behind room p face =
       let c = written h start end id face in
-      record {
-        from = n;
-        ops = c.pushed;
-        a = showing v k mid_face;
-        walk = face_walk start end walk c;
-        behind = behind;
-        room = room;
-        there = there_read new k now after_read;
-      }
+      part_coming old new mk v b k (children_of old k) (children_of new k) moves n p
+      (record { from = n; ops = c.pushed; a = showing v k mid_face; walk = face_walk start end p c; behind = behind; room = room; there = there_read new k now after_read })
 
   last_face : (ended : Bool) → tag_of was.kind was.fields ≡ tag_of now.kind now.fields → ended ≡ needs_break now.kind (kind_at new now.last)
       → with_ending ended mid_face ≡ face_of (label_from k now) (last_kind (trees_of new (children_of new k)))
@@ -111,16 +105,9 @@ module _ (old new : Forest) (mk : Marking) (v : HostTree) (k n : ℕ) (was now :
       let face : Tag → Bool → Face = λ t e. record { key = k; tag = t; attrs = attributes_of now.kind now.fields; text = text_of now.fields; ending = e } in
       ap (λ t. face t ended) tag ∙ ap (λ e. face (tag_of now.kind now.fields) e) (is ∙ sym (ap (needs_break now.kind) (last_kind_read new k now b.sound after_read)))
 
-  -- a node that isn't touched has the same kind and fields, and the same ending
-  label_was : label_of old k ≡ Some (label_from k was)
-  label_was = ap (option_map (λ (s : Spot Label). s.label)) before_read.at_is ∙ ap (λ l. Some l) before_read.label
-
-  label_now : label_of new k ≡ Some (label_from k now)
-  label_now = ap (option_map (λ (s : Spot Label). s.label)) after_read.at_is ∙ ap (λ l. Some l) after_read.label
-
   kind_same : was.kind ≡ now.kind
   kind_same =
-      let kinds : Some was.kind ≡ Some now.kind = sym (ap (option_map (λ (l : Label). l.kind)) label_was) ∙ b.covered.kinds k (there_read old k was before_read) (there_read new k now after_read) ∙ ap (option_map (λ (l : Label). l.kind)) label_now in
+      let kinds : Some was.kind ≡ Some now.kind = sym (ap (option_map (λ (l : Label). l.kind)) (label_read old k was before_read)) ∙ b.covered.kinds k (there_read old k was before_read) (there_read new k now after_read) ∙ ap (option_map (λ (l : Label). l.kind)) (label_read new k now after_read) in
       same_Some was.kind now.kind kinds
 
   -- a text stays one
@@ -129,13 +116,13 @@ module _ (old new : Forest) (mk : Marking) (v : HostTree) (k n : ℕ) (was now :
 
   pub text_stays : text_of now.fields ≡ None → text_of was.fields ≡ None
   text_stays none =
-      none_of_kind was.kind was.fields now.fields (own_fields old was b.was_sound label_was)
-      (ap (λ kind. is_of_kind kind now.fields) kind_same ∙ own_fields new now b.sound label_now) none
+      none_of_kind was.kind was.fields now.fields (own_fields old was b.was_sound (label_read old k was before_read))
+      (ap (λ kind. is_of_kind kind now.fields) kind_same ∙ own_fields new now b.sound (label_read new k now after_read)) none
 
   untouched_face : {one start : List Op} → mk.touched k ≡ false → (was.kind ≡ now.kind → was.fields ≡ now.fields → one ≡ start) → one ≡ start
   untouched_face plain same =
       let fields : Some was.fields ≡ Some now.fields =
-      sym (ap (option_map (λ (l : Label). l.fields)) label_was) ∙ (b.covered.alike k (there_read old k was before_read) (there_read new k now after_read) plain).fields ∙ ap (option_map (λ (l : Label). l.fields)) label_now in
+      sym (ap (option_map (λ (l : Label). l.fields)) (label_read old k was before_read)) ∙ (b.covered.alike k (there_read old k was before_read) (there_read new k now after_read) plain).fields ∙ ap (option_map (λ (l : Label). l.fields)) (label_read new k now after_read) in
       same kind_same (same_Some was.fields now.fields fields)
 
   untouched_end : mk.touched k ≡ false → (was_ended ended : Bool) → was_ended ≡ needs_break was.kind (kind_at old was.last) → ended ≡ needs_break now.kind (kind_at new now.last) → was_ended ≡ ended
@@ -144,16 +131,18 @@ module _ (old new : Forest) (mk : Marking) (v : HostTree) (k n : ℕ) (was now :
       let last : kind_at old was.last ≡ kind_at new now.last = ap (kind_at old) before_read.last ∙ last_same old new mk v k b.covered b.was_sound b.sound b children ∙ sym (ap (kind_at new) after_read.last) in
       was_is ∙ ap (λ x. needs_break x (kind_at old was.last)) kind_same ∙ ap (needs_break now.kind) last ∙ sym is
 
-  pub node_done : (h : ℕ) (start one two end : List Op) (m : ℕ) (was_ended ended : Bool) → h ≡ host_in v k → tag_of was.kind was.fields ≡ tag_of now.kind now.fields → IsWalk (children_of old k) (children_of new k) moves
+  pub node_done : {moves : List Move} (h : ℕ) (start one two end : List Op) (m : ℕ) (was_ended ended : Bool) → h ≡ host_in v k → tag_of was.kind was.fields ≡ tag_of now.kind now.fields
+      → IsPart mk.noted (children_of old k) (children_of new k) moves
       → (was.kind ≡ now.kind → was.fields ≡ now.fields → one ≡ start) → FaceChanges h was now start one → MakesMoves old new mk v k moves n one two m
       → was_ended ≡ needs_break was.kind (kind_at old was.last) → ended ≡ needs_break now.kind (kind_at new now.last)
       → (was_ended ≡ ended → end ≡ two) → ((face : Face) → face.ending ≡ was_ended → Changes h face (with_ending ended face) two end)
       → Reconciles old new mk v k n start end m
-  node_done h start one two end m was_ended ended id tag walk same_face face made was_end end_is same_end ending =
+  node_done {moves} h start one two end m was_ended ended id tag p same_face face part was_end end_is same_end ending =
       let c = written h start one id face in
-      let first = face_walk start one walk c in
+      let first = face_walk start one p c in
+      let made : MakesMoves old new mk v k (all_of p) n one two m = part_makes old new mk v b k (children_of old k) (children_of new k) moves n m one two p part in
       let second : IsInWalk old new v k n (c.pushed ++ made.pushed) (showing v k mid_face) [] m =
-      made.leads n c.pushed (showing v k mid_face) [] (subst (λ ms. IsInWalk old new v k n c.pushed (showing v k mid_face) ms n) (sym (append-nil moves)) first) in
+      made.leads n c.pushed (showing v k mid_face) [] (subst (λ ms. IsInWalk old new v k n c.pushed (showing v k mid_face) ms n) (sym (append-nil (all_of p))) first) in
       let ends : old_end old k was ≡ was_ended = ap (needs_break was.kind) (last_kind_read old k was b.was_sound before_read) ∙ sym was_end in
       let d : Changes (host_in v k) mid_face (with_ending ended mid_face) two end = subst (λ i. Changes i mid_face (with_ending ended mid_face) two end) id (ending mid_face ends) in
       let third : IsInWalk old new v k n ((c.pushed ++ made.pushed) ++ d.pushed) (showing v k (with_ending ended mid_face)) [] m =
@@ -199,15 +188,11 @@ are_between old new mk v covered was is shows numbered rooted =
 pub root_there : (f : Forest) → IsTree f → has 0 f ≡ true
 root_there f t = has-root f (tree_ordered f t)
 
-root_kind : (f : Forest) (n : Node) → IsTree f → Some n ≡ option_map node_of (record_at f 0) → n.kind ≡ Root
-root_kind f n t e =
-    let r = is_read f 0 n t.sound e in
-    let own : Some n.kind ≡ Some Root = sym (ap (λ (l : Label). Some l.kind) r.label) ∙ sym (ap (λ o. option_map (λ (l : Label). l.kind) (option_map (λ (s : Spot Label). s.label) o)) r.at_is) ∙ (tree_ordered f t).root in
-    same_Some n.kind Root own
-
-pub root_tag : (old new : Forest) (was now : Node) → IsTree old → IsTree new → Some was ≡ option_map node_of (record_at old 0) → Some now ≡ option_map node_of (record_at new 0) → tag_of was.kind was.fields ≡ tag_of now.kind now.fields
-root_tag old new was now s t e g =
-    ap (λ k. tag_of k was.fields) (root_kind old was s e) ∙ sym (ap (λ k. tag_of k now.fields) (root_kind new now t g))
+root_kind : (f : Forest) (k : ℕ) (n : Node) → k ≡ 0 → IsTree f → Some n ≡ option_map node_of (record_at f k) → n.kind ≡ Root
+root_kind f k n e t read =
+    let kinds : Some n.kind ≡ Some Root =
+    sym (ap (option_map (λ (l : Label). l.kind)) (label_read f k n (is_read f k n t.sound read))) ∙ ap (kind_of f) e ∙ (tree_ordered f t).root in
+    same_Some n.kind Root kinds
 
 -- below the root no more than in all
 pub root_unkept : (old f : Forest) → IsTree f → unkept old (Some 0) (trees_of f (children_of f 0)) ≤ unkept old None f
@@ -224,11 +209,9 @@ all_allowed old new mk v start ops m was is b none r =
 
 -- ---- by what the code knows
 
-root_read : (f : Forest) (k : ℕ) (n : Node) → k ≡ 0 → Some n ≡ option_map node_of (record_at f k) → Some n ≡ option_map node_of (record_at f 0)
-root_read f k n e h = subst (λ k. Some n ≡ option_map node_of (record_at f k)) e h
-
 pub root_same_tag : (old new : Forest) (k : ℕ) (was now : Node) → k ≡ 0 → IsTree old → IsTree new → Some was ≡ option_map node_of (record_at old k) → Some now ≡ option_map node_of (record_at new k) → tag_of was.kind was.fields ≡ tag_of now.kind now.fields
-root_same_tag old new k was now e s t f g = root_tag old new was now s t (root_read old k was e f) (root_read new k now e g)
+root_same_tag old new k was now e s t f g =
+    ap (λ k. tag_of k was.fields) (root_kind old k was e s f) ∙ sym (ap (λ k. tag_of k now.fields) (root_kind new k now e t g))
 
 -- the most reads that there are for all that may be done
 abbrev pub most_reads : Forest → Forest → (ℕ → Bool) → ℕ
@@ -284,6 +267,6 @@ root_room v old old_now f f_now k n e is c d t room =
 pub root_allowed : (old old_now new new_now : Forest) (mk : Marking) (v : HostTree) (k n : ℕ) (start ops : List Op) (m : ℕ) → k ≡ 0 → n ≡ v.next → start ≡ [] → old_now ≡ old → new_now ≡ new → IsTree old → IsTree new → IsBetween old new mk v
     → Reconciles old_now new_now mk v k n start ops m → IsAllowed old new mk v ops
 root_allowed old old_now new new_now mk v k n start ops m e is none a b s t w r =
-    let there = reconciles_still a b r in
+    let there = subst (λ t. t) (λ i. Reconciles (a i) (b i) mk v k n start ops m) r in
     all_allowed old new mk v start ops m s t w none
     (subst (λ k. Reconciles old new mk v k v.next start ops m) e (subst (λ n. Reconciles old new mk v k n start ops m) is there))

@@ -1,8 +1,8 @@
 -- Attributes written one after another, in byte order of their names, until they are those of another list.
-use Rattle.std.proofs.Common.{◌≡◌, ◌≢◌, ℕ, ◌+◌, ◌<◌, ◌≤◌, true, List, [], ◌∷◌, ◌++◌, length, map, take, drop, get_or, Option, None, Some, refl, sym, ap, ◌∙◌, subst, arith, append_assoc, append-nil, length-append, length-drop}
+use Rattle.std.proofs.Common.{◌≡◌, ◌≢◌, ℕ, ◌+◌, ◌<◌, ◌≤◌, true, List, [], ◌∷◌, ◌++◌, length, map, take, drop, get_or, Option, None, Some, refl, sym, ap, ◌∙◌, subst, arith, append_assoc, length-append, length-drop}
 use Rattle.std.proofs.lemmas.Bool.{and_parts}
 use Rattle.std.proofs.lemmas.Cmp.{nat_list_cmp_total, on_total}
-use Rattle.std.proofs.lemmas.List.{take_more, drop_more, drop_all}
+use Rattle.std.proofs.lemmas.List.{take_more, drop_more, drop_all, map-append, append_cancel_left}
 use Rattle.std.specs.Cmp.{IsTotalOrder}
 use Rattle.std.specs.declared.cmp.Ordering.{Ordering}
 use Rattle.std.specs.declared.cmp.Ordering.TheVariants.{Less, Equal, Greater}
@@ -108,21 +108,10 @@ less_one done old a e = absurd (omega (arith, ap length e, length-append done ol
 more_one : (done old : Attributes) (b : Name × List ℕ) → (done ++ b ∷ []) ++ old ≢ done ++ old
 more_one done old b e = less_one done old b (sym e ∙ append_assoc done (b ∷ []) old)
 
-same_behind : (done xs ys : Attributes) → done ++ xs ≡ done ++ ys → xs ≡ ys
-same_behind [] xs ys e = e
-same_behind (a ∷ done) xs ys e = same_behind done xs ys (cc)
-
 other_one : (done old : Attributes) (a b : Name × List ℕ) → a ≢ b → (done ++ b ∷ []) ++ old ≢ done ++ a ∷ old
 other_one done old a b other e =
-    let rest : b ∷ old ≡ a ∷ old = same_behind done (b ∷ old) (a ∷ old) (sym (append_assoc done (b ∷ []) old) ∙ e) in
+    let rest : b ∷ old ≡ a ∷ old = append_cancel_left done (b ∷ old) (a ∷ old) (sym (append_assoc done (b ∷ []) old) ∙ e) in
     other (sym (first_is b a old old rest))
-
-map_more : (host : ℕ) (writes : List (Name × Option (List ℕ))) (write : Name × Option (List ℕ)) (start : List Op) → start ++ map (write_op host) (writes ++ write ∷ []) ≡ (start ++ map (write_op host) writes) ++ write_op host write ∷ []
-map_more host [] write start = sym (ap (λ l. l ++ write_op host write ∷ []) (append-nil start))
-map_more host (first ∷ writes) write start =
-    sym (append_assoc start (write_op host first ∷ []) (map (write_op host) (writes ++ write ∷ [])))
-    ∙ map_more host writes write (start ++ write_op host first ∷ [])
-    ∙ ap (λ l. l ++ write_op host write ∷ []) (append_assoc start (write_op host first ∷ []) (map (write_op host) writes))
 
 -- ---- how far the writing has come
 
@@ -137,7 +126,11 @@ pub record IsWriting (host : ℕ) (olds done old new : Attributes) (start now : 
 write_more : (host : ℕ) (olds now to : Attributes) (start ops more : List Op) (name : Name) (value : Option (List ℕ)) → Writes host olds now start ops → with_attribute name value now ≡ to → to ≢ now → more ≡ ops ++ Attr host name value ∷ [] → Writes host olds to start more
 write_more host olds now to start ops more name value w e other is = record {
   writes = w.writes ++ (name, value) ∷ [];
-  list = is ∙ ap (λ l. l ++ Attr host name value ∷ []) w.list ∙ sym (map_more host w.writes (name, value) start);
+  list =
+      is
+      ∙ ap (λ l. l ++ Attr host name value ∷ []) w.list
+      ∙ append_assoc start (map (write_op host) w.writes) (Attr host name value ∷ [])
+      ∙ sym (ap (λ l. start ++ l) (map-append (write_op host) w.writes ((name, value) ∷ [])));
   written = all_written-append w.writes ((name, value) ∷ []) olds ∙ ap (with_attribute name value) w.written ∙ e;
   anew = anew-append w.writes ((name, value) ∷ []) olds w.anew (subst (λ l. with_attribute name value l ≢ l) (sym w.written) (λ x. other (sym e ∙ x)), tt);
 }
@@ -166,11 +159,10 @@ goes_away host olds done old new a start now more h is = record {
 }
 
 less_first : (b : Name × List ℕ) (old new : Attributes) → next_order old (b ∷ new) ≡ Some Greater → (a : Name × List ℕ) (more : Attributes) → old ≡ a ∷ more → name_order b.0 a.0 ≡ Less
-less_first b [] new e a more is = absurd (cc)
-less_first b (c ∷ old) new e a more is =
-    earlier a.0 b.0 (ap (λ (x : Name × List ℕ). name_order x.0 b.0) (sym (first_is c a old more is)) ∙ some_is (name_order c.0 b.0) Greater e) where
-      some_is : (x y : Ordering) → Some x ≡ Some y → x ≡ y
-      some_is x y e = cc
+less_first b old new e a more is =
+    let own : next_order (a ∷ more) (b ∷ new) ≡ Some Greater = sym (ap (λ l. next_order l (b ∷ new)) is) ∙ e in
+    let behind : name_order a.0 b.0 ≡ Greater = cc in
+    earlier a.0 b.0 behind
 
 -- the first of the new ones comes before the old ones
 pub comes_before : (host : ℕ) (olds done old new : Attributes) (b : Name × List ℕ) (start now more : List Op) → IsWriting host olds done old (b ∷ new) start now → next_order old (b ∷ new) ≡ Some Greater → more ≡ now ++ Attr host b.0 (Some b.1) ∷ [] → IsWriting host olds (done ++ b ∷ []) old new start more
@@ -186,17 +178,10 @@ pub is_written : (host : ℕ) (olds done old new : Attributes) (a b : Name × Li
 is_written host olds done old new a b start now more h e other is = record {
   so_far = write_more host olds (done ++ a ∷ old) ((done ++ b ∷ []) ++ old) start now more b.0 (Some b.1) h.so_far
       (with_behind b.0 (Some b.1) done (a ∷ old) (h.new_behind.first b new refl) ∙ ap (λ l. done ++ l) (with_same a b old e) ∙ done_one b done old) (other_one done old a b other) is;
-  old_behind = behind_met done a b old h.old_behind (h.new_behind.first b new refl) e;
+  old_behind = behind_given done b old (behind_rest done a old h.old_behind)
+      (λ c rest same. sym (order.congr a.0 b.0 c.0 e) ∙ rise_less a c rest (subst (λ l. names_rise (a ∷ l) ≡ true) same h.old_behind.rise));
   new_behind = behind_done done b new h.new_behind;
-} where
-  behind_met : (done : Attributes) (a b : Name × List ℕ) (old : Attributes) → IsBehind done (a ∷ old) → AllBefore b.0 done → name_order a.0 b.0 ≡ Equal → IsBehind (done ++ b ∷ []) old
-  behind_met done a b old h g e = record {
-    rise = rise_rest a old h.rise;
-    first = λ c rest is.
-        let less = rise_less a c rest (subst (λ l. names_rise (a ∷ l) ≡ true) is h.rise) in
-        let after : name_order b.0 c.0 ≡ Less = sym (order.congr a.0 b.0 c.0 e) ∙ less in
-        before_more c.0 done b (before_later b.0 c.0 done after g) after;
-  }
+}
 
 pub is_equal : (host : ℕ) (olds done old new : Attributes) (a b : Name × List ℕ) (start now : List Op) → IsWriting host olds done (a ∷ old) (b ∷ new) start now → a ≡ b → IsWriting host olds (done ++ b ∷ []) old new start now
 is_equal host olds done old new a b start now h e = record {

@@ -1,7 +1,7 @@
 use Rattle.std.proofs.Common.{sym, ap, ◌∙◌, rules, arith}
 use Rattle.std.specs.Prelude.{option_map}
-use Rattle.std.proofs.lemmas.Result.{on_ok_weaker}
-use Rattle.lx_reconcile.proofs.Children.{last_there, is_found, made_tree, children_fit, next_same, child_fits, made_child, fewer_left, left_with}
+use Rattle.std.proofs.lemmas.Result.{on_ok_weaker, IfOk-weaker}
+use Rattle.lx_reconcile.proofs.Children.{last_there, is_found, made_tree, children_fit, child_fits, made_child, fewer_left, left_with}
 use Rattle.lx_reconcile.proofs.creation.+creation.Goals as goal
 
 pub create_child-unreachable-requires : goal.create_child-unreachable-requires
@@ -41,7 +41,7 @@ create_tree-returns-clause-ops g t c =
 
 pub create_tree-returns-clause-next : goal.create_tree-returns-clause-next
 create_tree-returns-clause-next g t c =
-    next_same c.create_children.result _ _ (children_fit _ _ _ c.args.id _ c.create_host.ensures.same c.requires.sound c.requires.read c.requires.room).all c.create_children.ensures.next
+    IfOk-weaker c.create_children.result _ _ (λ next is. is ∙ (children_fit _ _ _ c.args.id _ c.create_host.ensures.same c.requires.sound c.requires.read c.requires.room).all) c.create_children.ensures.next
 
 pub create_tree-returns-in_err-create_host-clause-reads : goal.create_tree-returns-in_err-create_host-clause-reads
 create_tree-returns-in_err-create_host-clause-reads g t c =

@@ -20,54 +20,56 @@ use Rattle.lx_reconcile.proofs.reconciling.+reconciling.Goals.{make_moves-After-
 
 pub make_move-reconcile_child-requires : goal.make_move-reconcile_child-requires
 make_move-reconcile_child-requires g t c =
-    let less = Made.stay_less c.in-Stay.is c.requires.between c.requires.coming in
-    let coming = Made.to_case c.in-Stay.is c.requires.coming in
+    let less = Made.one_less (g.N.Look.forest c.args.after.now) c.args.step (ap (λ s. standing (s ∷ [])) c.in-Stay.is) in
+    let coming = rw c.in-Stay.is at c.requires.coming in
     search rules
 
 pub make_move-host_of-requires-clause-shown : goal.make_move-host_of-requires-clause-shown
-make_move-host_of-requires-clause-shown g t c = Made.leave_shown c.in-Leave.is c.requires.between c.requires.coming
+make_move-host_of-requires-clause-shown g t c = Made.leave_shown c.requires.between (rw c.in-Leave.is at c.requires.coming)
 
 pub make_move-host_before-behind-requires-clause-shown : goal.make_move-host_before-behind-requires-clause-shown
-make_move-host_before-behind-requires-clause-shown g t c = Made.make_before c.in-Make.is c.requires.between c.requires.coming
+make_move-host_before-behind-requires-clause-shown g t c = Made.make_before c.requires.between (rw c.in-Make.is at c.requires.coming)
 
 pub make_move-make_child-requires-clause-there : goal.make_move-make_child-requires-clause-there
-make_move-make_child-requires-clause-there g t c = Made.make_there c.in-Make.is c.requires.between c.requires.coming
+make_move-make_child-requires-clause-there g t c = Made.make_there c.requires.between (rw c.in-Make.is at c.requires.coming)
 
 pub make_move-make_child-requires-clause-room : goal.make_move-make_child-requires-clause-room
-make_move-make_child-requires-clause-room g t c = Made.make_room c.in-Make.is c.requires.between c.requires.coming
+make_move-make_child-requires-clause-room g t c = Made.make_room c.requires.between (rw c.in-Make.is at c.requires.coming)
 
 pub make_move-host_of-requires-in-Place-clause-shown : goal.make_move-host_of-requires-in-Place-clause-shown
-make_move-host_of-requires-in-Place-clause-shown g t c = Made.place_shown c.in-Place.is c.requires.between c.requires.coming
+make_move-host_of-requires-in-Place-clause-shown g t c = Made.place_shown c.requires.between (rw c.in-Place.is at c.requires.coming)
 
 pub make_move-host_before-requires-clause-shown : goal.make_move-host_before-requires-clause-shown
-make_move-host_before-requires-clause-shown g t c = Made.place_before c.in-Place.is c.requires.between c.requires.coming
+make_move-host_before-requires-clause-shown g t c = Made.place_before c.requires.between (rw c.in-Place.is at c.requires.coming)
 
 pub make_move-reconcile_child-requires-in-Place : goal.make_move-reconcile_child-requires-in-Place
 make_move-reconcile_child-requires-in-Place g t c =
-    let less = Made.place_less c.in-Place.is c.requires.between c.requires.coming in
-    let coming = Made.placed_next c.in-Place.is c.requires.between c.requires.coming in
+    let less = Made.one_less (g.N.Look.forest c.args.after.now) c.args.step (ap (λ s. standing (s ∷ [])) c.in-Place.is) in
+    let coming = Made.placed_next c.requires.between (rw c.in-Place.is at c.requires.coming) in
     search rules
 
 pub make_move-returns-in_ok-push-in-Leave-clause-done : goal.make_move-returns-in_ok-push-in-Leave-clause-done
-make_move-returns-in_ok-push-in-Leave-clause-done g t c = Made.leave_done c.in-Leave.is c.requires.between c.requires.coming c.host_of.ensures c.in_ok-push-in-Leave.ensures.items
+make_move-returns-in_ok-push-in-Leave-clause-done g t c = rw c.in-Leave.is (Made.leave_done c.requires.between (rw c.in-Leave.is at c.requires.coming) c.host_of.ensures c.in_ok-push-in-Leave.ensures.items)
 
 pub make_move-returns-in-Make-clause-done : goal.make_move-returns-in-Make-clause-done
 make_move-returns-in-Make-clause-done g t c =
-    Made.make_done c.in-Make.is c.requires.between c.requires.coming c.make_child.result _ _ _ c.requires.host c.host_before-behind.ensures c.make_child.ensures.ops c.make_child.ensures.end
+    rw c.in-Make.is (
+    Made.make_done c.requires.between (rw c.in-Make.is at c.requires.coming) c.make_child.result _ _ _ c.requires.host c.host_before-behind.ensures c.make_child.ensures.ops c.make_child.ensures.end)
 
 pub make_move-returns-in_ok-push-in-Place-clause-done : goal.make_move-returns-in_ok-push-in-Place-clause-done
 make_move-returns-in_ok-push-in-Place-clause-done g t c =
-    Made.place_done c.in-Place.is c.requires.between c.requires.coming c.reconcile_child-in-Place.result _ _ _ _ c.requires.host c.host_of-in-Place.ensures c.host_before.ensures c.in_ok-push-in-Place.ensures.items
-    c.reconcile_child-in-Place.ensures.done
+    rw c.in-Place.is (
+    Made.place_done c.requires.between (rw c.in-Place.is at c.requires.coming) c.reconcile_child-in-Place.result _ _ _ _ c.requires.host c.host_of-in-Place.ensures c.host_before.ensures c.in_ok-push-in-Place.ensures.items
+    c.reconcile_child-in-Place.ensures.done)
 
 pub make_move-returns-in-Stay-clause-reads : goal.make_move-returns-in-Stay-clause-reads
-make_move-returns-in-Stay-clause-reads g t c = omega (arith, c.reconcile_child.ensures.reads, Made.stay_reads c.in-Stay.is c.requires.between c.requires.coming)
+make_move-returns-in-Stay-clause-reads g t c = omega (arith, c.reconcile_child.ensures.reads, Made.one_reads (g.N.Look.forest c.args.after.now) c.args.step (ap (λ s. standing (s ∷ [])) c.in-Stay.is) (g.O.Look.forest c.args.before.now) (marking c.args.given.now.marks.now).noted c.args.parent.now.key)
 
 pub make_move-returns-in-Make-clause-reads : goal.make_move-returns-in-Make-clause-reads
-make_move-returns-in-Make-clause-reads g t c = omega (arith, c.make_child.ensures.reads, Made.make_reads c.in-Make.is c.requires.between c.requires.coming)
+make_move-returns-in-Make-clause-reads g t c = rw c.in-Make.is (omega (arith, c.make_child.ensures.reads, Made.make_reads c.requires.between (rw c.in-Make.is at c.requires.coming)))
 
 pub make_move-returns-in_ok-push-in-Place-clause-reads : goal.make_move-returns-in_ok-push-in-Place-clause-reads
-make_move-returns-in_ok-push-in-Place-clause-reads g t c = omega (arith, c.reconcile_child-in-Place.ensures.reads, Made.place_reads c.in-Place.is c.requires.between c.requires.coming)
+make_move-returns-in_ok-push-in-Place-clause-reads g t c = omega (arith, c.reconcile_child-in-Place.ensures.reads, Made.one_reads (g.N.Look.forest c.args.after.now) c.args.step (ap (λ s. standing (s ∷ [])) c.in-Place.is) (g.O.Look.forest c.args.before.now) (marking c.args.given.now.marks.now).noted c.args.parent.now.key)
 
 -- ---- the moves
 
@@ -98,8 +100,8 @@ make_moves-make_move-requires g t c =
     let after = c.loop-step.invariant.after in
     let coming = Made.is_next c.loop-step.step-index c.loop-step-test.true c.step-item.is c.requires.coming c.loop-step.invariant.made in
     let less = Made.move_less_still c.requires.between after coming in
-    let still = Made.coming_still before after coming in
-    let between = Made.between_still before after c.requires.between in
+    let still = rw (← before, ← after) at coming in
+    let between = rw (← before, ← after) at c.requires.between in
     search rules
 
 pub make_moves-loop-step-preserved : goal.make_moves-loop-step-preserved
@@ -109,7 +111,7 @@ make_moves-loop-step-preserved g t c =
     record {
       before = told.before ∙ had.before;
       after = told.after ∙ had.after;
-      made = Made.makes_next c.args.moves.now c.loop-step.step-index c.loop-step-test.true c.step-item.is had.made (Made.moves_still had.before had.after told.done);
+      made = Made.makes_next c.args.moves.now c.loop-step.step-index c.loop-step-test.true c.step-item.is had.made (rw (had.before, had.after) at told.done);
       backing_before = search rules;
       backing_after = search rules;
       reads = reads_up_to g t (goal.at.make_moves-loop-step-preserved g t c).After-make_move;
@@ -144,8 +146,8 @@ reconcile_child-found-now-requires g t c = record { there = Made.stay_after c.re
 
 pub reconcile_child-reconcile_node-requires : goal.reconcile_child-reconcile_node-requires
 reconcile_child-reconcile_node-requires g t c =
-    let room = Made.unkept_still c.found-was.ensures.same c.found-now.ensures.same c.args.key c.args.written.now.next (Made.stay_room c.requires.between c.requires.coming) in
-    let between = Made.between_still c.found-was.ensures.same c.found-now.ensures.same c.requires.between in
+    let room = rw (← c.found-was.ensures.same, ← c.found-now.ensures.same) at (Made.stay_room c.requires.between c.requires.coming) in
+    let between = rw (← c.found-was.ensures.same, ← c.found-now.ensures.same) at c.requires.between in
     let less = Made.child_node_less c.found-now.ensures.same c.args.key in
     let behind = Made.stay_behind c.requires.between c.requires.coming in
     search rules
@@ -164,7 +166,7 @@ pub reconcile_child-replace_child-requires-clause-room : goal.reconcile_child-re
 reconcile_child-replace_child-requires-clause-room g t c =
     let at = goal.at.reconcile_child-replace_child-requires-clause-room g t c in
     let room = Made.again_room c.requires.between c.requires.coming (was_child g t at.After-node-2) (now_child g t at.After-node-2) (other_tag g t at.Else-has_same_tag) in
-    Made.room_still c.found-now.ensures.same c.args.key c.args.written.now.next room
+    rw (← c.found-now.ensures.same) at room
 
 pub reconcile_child-returns-clause-done : goal.reconcile_child-returns-clause-done
 reconcile_child-returns-clause-done g t c =
@@ -206,7 +208,7 @@ pub reconcile_node-host_of-host-requires-clause-shown : goal.reconcile_node-host
 reconcile_node-host_of-host-requires-clause-shown g t c = Whole.node_shown _ _ _ _ c.args.key c.args.both.was.now c.requires.between c.requires.was
 
 pub reconcile_node-push_face-requires : goal.reconcile_node-push_face-requires
-reconcile_node-push_face-requires g t c = record { stays = Whole.text_stays _ _ _ _ c.args.key 0 _ _ [] c.requires.between c.requires.was c.requires.now }
+reconcile_node-push_face-requires g t c = record { stays = Whole.text_stays _ _ _ _ c.args.key 0 _ _ c.requires.between c.requires.was c.requires.now }
 
 pub reconcile_node-moves_of-requires-clause-there_before : goal.reconcile_node-moves_of-requires-clause-there_before
 reconcile_node-moves_of-requires-clause-there_before g t c = Children.there_read _ c.args.key _ (Children.is_read _ c.args.key _ c.requires.between.was_sound c.requires.was)
@@ -219,9 +221,9 @@ reconcile_node-make_moves-requires g t c =
     let before = c.moves_of.ensures.before in
     let after = c.moves_of.ensures.after in
     let moves = part g t (goal.at.reconcile_node-make_moves-requires g t c).After-as_slice in
-    let next = Partly.children_coming _ _ _ _ _ _ _ _ _ c.requires.between c.requires.was c.requires.now c.host_of-host.result _ _ c.host_of-host.ensures c.requires.behind c.requires.room moves c.in_ok-push_face.ensures.face in
-    let coming = Made.coming_still before after next in
-    let between = Made.between_still before after c.requires.between in
+    let next = Whole.children_coming _ _ _ _ _ _ _ _ c.requires.between c.requires.was c.requires.now c.host_of-host.result _ _ c.host_of-host.ensures c.requires.behind c.requires.room moves c.in_ok-push_face.ensures.face in
+    let coming = rw (← before, ← after) at next in
+    let between = rw (← before, ← after) at c.requires.between in
     let less = Whole.node_less _ _ c.args.key after in
     search rules
 
@@ -236,8 +238,8 @@ reconcile_node-is_ended-new-requires g t c =
 pub reconcile_node-returns-clause-done : goal.reconcile_node-returns-clause-done
 reconcile_node-returns-clause-done g t c =
     let moves = part g t (goal.at.reconcile_node-returns-clause-done g t c).After-as_slice in
-    let made = Made.moves_still c.moves_of.ensures.before c.moves_of.ensures.after c.in_ok-make_moves.ensures.done in
-    Partly.part_done _ _ _ _ _ _ _ _ _ c.requires.between c.requires.was c.requires.now
+    let made = rw (c.moves_of.ensures.before, c.moves_of.ensures.after) at c.in_ok-make_moves.ensures.done in
+    Whole.node_done _ _ _ _ _ _ _ _ c.requires.between c.requires.was c.requires.now
     c.host_of-host.result _ _ _ _ _ c.is_ended-old.result c.is_ended-new.result c.host_of-host.ensures c.requires.tag moves c.in_ok-push_face.ensures.none c.in_ok-push_face.ensures.face made
     (c.is_ended-old.ensures.ended ∙ ap (λ f. needs_break c.args.both.was.now.kind (kind_at f c.args.both.was.now.last)) (c.make_moves.ensures.before ∙ c.moves_of.ensures.before))
     (c.is_ended-new.ensures.ended ∙ ap (λ f. needs_break c.args.both.now.now.kind (kind_at f c.args.both.now.now.last)) (c.make_moves.ensures.after ∙ c.moves_of.ensures.after))

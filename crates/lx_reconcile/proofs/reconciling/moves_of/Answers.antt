@@ -1,5 +1,4 @@
-use Rattle.std.proofs.Common.{◌∙◌, nat_eq, not, Result, Ok, Err, ap, sym, subst}
-use Rattle.std.specs.Result.{IfOk}
+use Rattle.std.proofs.Common.{◌∙◌, nat_eq, not, ap, sym, subst}
 use Rattle.indexmap.specs.IndexMap.{get}
 use Rattle.lx_forest.specs.Lookups.{children_of}
 use Rattle.lx_reconcile.specs.Allowing.{marking}
@@ -11,6 +10,7 @@ use Rattle.lx_reconcile.proofs.Runs.{no_children, some_child, none_window}
 use Rattle.lx_reconcile.proofs.reconciling.moves_of.Given.{Over}
 use Rattle.lx_reconcile.proofs.reconciling.moves_of.Goals as goal
 use Rattle.lx_reconcile.proofs.reconciling.moves_of.Goals.{In-Some, After-window-2-1, in-Some+in_ok-window-in-Some, in-None}
+use Rattle.std.proofs.lemmas.Result.{IfOk-weaker}
 
 -- the family that was found is that of the node
 family : (g : Over) (c : In-Some g) → IsFamily _ _ _ _ c.requires.between _ _ c.requires.families c.args.parent.now.key c.in-Some.family.now
@@ -65,8 +65,4 @@ moves_in-requires-clause-first g c =
 pub returns-clause-part : goal.returns-clause-part
 returns-clause-part g c =
     let run = marks g (goal.at.returns-clause-part g c).After-window-2-1 in
-    if_ok_then c.moves_in.result _ _ c.moves_in.ensures.walk (λ moves walk. window_part _ _ _ _ c.requires.between _ c.requires.there_after _ run _ moves.items c.requires.now walk)
-  where
-    if_ok_then : {X E : Type 0} (r : Result X E) (P Q : X → Type 0) → IfOk r P → ((x : X) → P x → Q x) → IfOk r Q
-    if_ok_then (Ok x) P Q p then = then x p
-    if_ok_then (Err e) P Q p then = tt
+    IfOk-weaker c.moves_in.result _ _ (λ moves walk. window_part _ _ _ _ c.requires.between _ c.requires.there_after _ run _ moves.items c.requires.now walk) c.moves_in.ensures.walk

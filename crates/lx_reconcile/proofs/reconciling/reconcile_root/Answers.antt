@@ -38,13 +38,13 @@ pub found-now-requires : goal.found-now-requires
 found-now-requires g c = record { there = ap (λ k. has k (g.N.Look.forest c.args.after.now)) c.root-key.ensures ∙ c.requires.rooted_after }
 
 pub reconcile_node-requires-clause-between : goal.reconcile_node-requires-clause-between
-reconcile_node-requires-clause-between g c = Made.between_still c.found-was.ensures.same c.found-now.ensures.same (between g (goal.at.reconcile_node-requires-clause-between g c).After-found-now)
+reconcile_node-requires-clause-between g c = rw (← c.found-was.ensures.same, ← c.found-now.ensures.same) at (between g (goal.at.reconcile_node-requires-clause-between g c).After-found-now)
 
 pub reconcile_node-requires-clause-was : goal.reconcile_node-requires-clause-was
-reconcile_node-requires-clause-was g c = Made.read_still c.found-was.ensures.same c.root-key.result (ap (λ n. Some n) c.node.ensures ∙ c.found-was.ensures.found)
+reconcile_node-requires-clause-was g c = rw c.found-was.ensures.same (ap (λ n. Some n) c.node.ensures ∙ c.found-was.ensures.found)
 
 pub reconcile_node-requires-clause-now : goal.reconcile_node-requires-clause-now
-reconcile_node-requires-clause-now g c = Made.read_still c.found-now.ensures.same c.root-key.result (ap (λ n. Some n) c.node-2.ensures ∙ c.found-now.ensures.found)
+reconcile_node-requires-clause-now g c = rw c.found-now.ensures.same (ap (λ n. Some n) c.node-2.ensures ∙ c.found-now.ensures.found)
 
 pub reconcile_node-requires-clause-tag : goal.reconcile_node-requires-clause-tag
 reconcile_node-requires-clause-tag g c =

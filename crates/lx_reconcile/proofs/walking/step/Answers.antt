@@ -1,7 +1,7 @@
 use Rattle.std.proofs.Common.{◌∙◌, sym, arith}
 use Rattle.std.proofs.lemmas.Result.{on_ok_weaker}
 use Rattle.lx_reconcile.specs.Underway.{case_of}
-use Rattle.lx_reconcile.proofs.Along.{along-at, along-same, along-gone, along-new, along-settled, fewer-gone, fewer-new, none-left}
+use Rattle.lx_reconcile.proofs.Along.{along-at, along-same, along-gone, along-new, along-settled, none-left}
 use Rattle.lx_reconcile.proofs.walking.step.Goals as goal
 
 pub returns-in-Same-clause-along : goal.returns-in-Same-clause-along
@@ -13,27 +13,28 @@ returns-in-Same-clause-along c =
 pub returns-in-Gone-clause-along : goal.returns-in-Gone-clause-along
 returns-in-Gone-clause-along c =
     let at = along-at c.args.old.now c.args.new.now c.args.walk.now c.unhandled_from-walk.result c.requires.along c.unhandled_from-walk.ensures.same c.unhandled_from-walk.ensures.within in
-    on_ok_weaker c.leave.result (along-gone c.args.old.now c.args.new.now _ c.leave.new.self c.in-Gone.key at
-    (sym (c.in-Gone.ensures ∙ (λ i. case_of (c.requires.olds i) (c.requires.news i) (c.key_at.ensures i) (c.key_at-2.ensures i))))) c.leave.ensures
+    on_ok_weaker c.leave.result (λ on. (along-gone c.args.old.now c.args.new.now _ c.leave.new.self c.in-Gone.key at
+    (sym (c.in-Gone.ensures ∙ (λ i. case_of (c.requires.olds i) (c.requires.news i) (c.key_at.ensures i) (c.key_at-2.ensures i)))) on).0) c.leave.ensures
 
 pub returns-in-Gone-clause-fewer : goal.returns-in-Gone-clause-fewer
 returns-in-Gone-clause-fewer c =
     let at = along-at c.args.old.now c.args.new.now c.args.walk.now c.unhandled_from-walk.result c.requires.along c.unhandled_from-walk.ensures.same c.unhandled_from-walk.ensures.within in
-    on_ok_weaker c.leave.result (fewer-gone c.args.old.now c.args.new.now _ c.leave.new.self c.in-Gone.key at
-    (sym (c.in-Gone.ensures ∙ (λ i. case_of (c.requires.olds i) (c.requires.news i) (c.key_at.ensures i) (c.key_at-2.ensures i))))) c.leave.ensures
+    on_ok_weaker c.leave.result (λ on. (along-gone c.args.old.now c.args.new.now _ c.leave.new.self c.in-Gone.key at
+    (sym (c.in-Gone.ensures ∙ (λ i. case_of (c.requires.olds i) (c.requires.news i) (c.key_at.ensures i) (c.key_at-2.ensures i)))) on).1) c.leave.ensures
 
 pub returns-in-New-clause-along : goal.returns-in-New-clause-along
 returns-in-New-clause-along c =
     let at = along-at c.args.old.now c.args.new.now c.args.walk.now c.unhandled_from-walk.result c.requires.along c.unhandled_from-walk.ensures.same c.unhandled_from-walk.ensures.within in
-    on_ok_weaker c.make.result (along-new c.args.old.now c.args.new.now _ c.make.new.self c.in-New.key c.key_at-cursor.result at
+    on_ok_weaker c.make.result (λ on. (along-new c.args.old.now c.args.new.now _ c.make.new.self c.in-New.key c.key_at-cursor.result at
     (sym (c.in-New.ensures ∙ (λ i. case_of (c.requires.olds i) (c.requires.news i) (c.key_at.ensures i) (c.key_at-2.ensures i))))
-    (c.key_at-cursor.ensures ∙ sym c.unhandled_from-walk.ensures.first)) c.make.ensures
+    (c.key_at-cursor.ensures ∙ sym c.unhandled_from-walk.ensures.first) on).0) c.make.ensures
 
 pub returns-in-New-clause-fewer : goal.returns-in-New-clause-fewer
 returns-in-New-clause-fewer c =
     let at = along-at c.args.old.now c.args.new.now c.args.walk.now c.unhandled_from-walk.result c.requires.along c.unhandled_from-walk.ensures.same c.unhandled_from-walk.ensures.within in
-    on_ok_weaker c.make.result (fewer-new c.args.old.now c.args.new.now _ c.make.new.self c.in-New.key c.key_at-cursor.result at
-    (sym (c.in-New.ensures ∙ (λ i. case_of (c.requires.olds i) (c.requires.news i) (c.key_at.ensures i) (c.key_at-2.ensures i))))) c.make.ensures
+    on_ok_weaker c.make.result (λ on. (along-new c.args.old.now c.args.new.now _ c.make.new.self c.in-New.key c.key_at-cursor.result at
+    (sym (c.in-New.ensures ∙ (λ i. case_of (c.requires.olds i) (c.requires.news i) (c.key_at.ensures i) (c.key_at-2.ensures i))))
+    (c.key_at-cursor.ensures ∙ sym c.unhandled_from-walk.ensures.first) on).1) c.make.ensures
 
 pub returns-in-Settled-clause-along : goal.returns-in-Settled-clause-along
 returns-in-Settled-clause-along c =
