@@ -1,5 +1,4 @@
 pub mod Alike
-pub mod Behind
 pub mod BlockKinds
 pub mod Covered
 pub mod Cut

@@ -1,9 +1,9 @@
 //! Blocks that go where a point is.
 
-ghost use Rattle.std.specs.Prelude.{◌≡◌, true, Ok, OnOk, IfOk, IfErr};
+ghost use Rattle.std.specs.Prelude.{◌≡◌, true};
 ghost use Rattle.lx_node.specs.Kinds as kinds;
 ghost use Rattle.lx_trees.specs.Siblings.{last_of};
-ghost use Rattle.lx_draft.specs.Faults.{TellsStep};
+ghost use Rattle.lx_edit.specs.Standing.{Does, Gives};
 ghost use Rattle.lx_blocks.specs.Blocks as blocks;
 ghost use Rattle.lx_clip.specs.Pasting as pasting;
 
@@ -27,8 +27,7 @@ fn make_tail(
     moved: &[Key],
 ) -> Result<Option<Key>, Fault>
     requires { blocks.is_at kinds.is_text_block draft.old.forest block ≡ true }
-    ensures ok { IfOk result (λ tail. pasting.tail_made block moved.now draft.old ≡ Ok (record { draft = draft.new; key = tail })) }
-    ensures err { IfErr result (λ e. TellsStep e (pasting.tail_made block moved.now draft.old)) }
+    ensures { Gives (pasting.tail_made block moved.now draft.old) (λ tail. record { draft = draft.new; key = tail }) draft.new result }
 {
     if moved.is_empty() {
         return Ok(None);
@@ -40,8 +39,7 @@ fn make_tail(
 
 /// Puts the new block after the last of the nodes.
 fn put_tail(draft: &mut Draft, tail: Option<Key>, keys: &[Key]) -> Result<(), Fault>
-    ensures ok { OnOk result (pasting.tail_put tail (last_of keys.now) draft.old ≡ Ok draft.new) }
-    ensures err { IfErr result (λ e. TellsStep e (pasting.tail_put tail (last_of keys.now) draft.old)) }
+    ensures { Does (pasting.tail_put tail (last_of keys.now) draft.old) draft.new result }
 {
     let Some(new) = tail else {
         return Ok(());
@@ -63,8 +61,7 @@ fn put_around(
     moved: &[Key],
 ) -> Result<(), Fault>
     requires { blocks.is_at kinds.is_text_block draft.old.forest block ≡ true }
-    ensures ok { OnOk result (pasting.put_around block keys.now moved.now draft.old ≡ Ok draft.new) }
-    ensures err { IfErr result (λ e. TellsStep e (pasting.put_around block keys.now moved.now draft.old)) }
+    ensures { Does (pasting.put_around block keys.now moved.now draft.old) draft.new result }
 {
     let tail = make_tail(alloc, draft, block, moved)?;
     put_behind_each(draft, block, keys)?;
@@ -83,8 +80,7 @@ fn open_block(
     point: &Point,
 ) -> Result<(), Fault>
     requires { blocks.is_at kinds.is_text_block draft.old.forest block ≡ true }
-    ensures ok { OnOk result (pasting.block_opened block point.now keys.now draft.old ≡ Ok draft.new) }
-    ensures err { IfErr result (λ e. TellsStep e (pasting.block_opened block point.now keys.now draft.old)) }
+    ensures { Does (pasting.block_opened block point.now keys.now draft.old) draft.new result }
 {
     ready(draft)?;
     cut_text(alloc, draft, point)?;
@@ -130,8 +126,7 @@ fn outer_block(links: &Links, key: Key) -> Key
 /// Puts nodes after a node, which isn't parted.
 #[tactic(auto, unfolding(crate::specs::Pasting::put_beyond))]
 fn put_beyond(draft: &mut Draft, outer: Key, keys: &[Key]) -> Result<(), Fault>
-    ensures ok { OnOk result (pasting.put_beyond outer keys.now draft.old ≡ Ok draft.new) }
-    ensures err { IfErr result (λ e. TellsStep e (pasting.put_beyond outer keys.now draft.old)) }
+    ensures { Does (pasting.put_beyond outer keys.now draft.old) draft.new result }
 {
     put_behind_each(draft, outer, keys)?;
     caret_after(draft, keys);
@@ -147,8 +142,7 @@ fn put_at_block(
     point: &Point,
 ) -> Result<(), Fault>
     requires { blocks.is_at kinds.is_text_block draft.old.forest block ≡ true }
-    ensures ok { OnOk result (pasting.blocks_put (pasting.outer_block draft.old.forest block) block point.now keys.now draft.old ≡ Ok draft.new) }
-    ensures err { IfErr result (λ e. TellsStep e (pasting.blocks_put (pasting.outer_block draft.old.forest block) block point.now keys.now draft.old)) }
+    ensures { Does (pasting.blocks_put (pasting.outer_block draft.old.forest block) block point.now keys.now draft.old) draft.new result }
 {
     let outer = outer_block(draft.links(), block);
     if outer == block {
@@ -168,8 +162,7 @@ pub(crate) fn add_blocks(
     keys: &[Key],
     point: &Point,
 ) -> Result<(), Fault>
-    ensures ok { OnOk result (pasting.blocks_added (blocks.block_of draft.old.forest point.now.key) point.now keys.now draft.old ≡ Ok draft.new) }
-    ensures err { IfErr result (λ e. TellsStep e (pasting.blocks_added (blocks.block_of draft.old.forest point.now.key) point.now keys.now draft.old)) }
+    ensures { Does (pasting.blocks_added (blocks.block_of draft.old.forest point.now.key) point.now keys.now draft.old) draft.new result }
 {
     match block(draft.links(), point.key) {
         Some(block) => put_at_block(alloc, draft, block, keys, point),

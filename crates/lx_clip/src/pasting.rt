@@ -5,6 +5,7 @@ ghost use Rattle.serde_json.specs.View.{view, items_view};
 ghost use Rattle.lx_node.specs.declared.cause.Cause.TheVariants.{BadCommand};
 ghost use Rattle.lx_node.specs.declared.cause.Fault.TheVariants as fault;
 ghost use Rattle.lx_draft.specs.Faults.{TellsStep};
+ghost use Rattle.lx_edit.specs.Standing.{Does};
 ghost use Rattle.lx_caret.specs.Lying.{IsLying, TextsAreShort};
 ghost use Rattle.lx_clip.specs.Pasting as pasting;
 ghost use Rattle.lx_clip.specs.Pasting.{insert_step, paste_step};
@@ -70,8 +71,7 @@ fn place_at(
     keys: &[Key],
     point: &Point,
 ) -> Result<(), Fault>
-    ensures ok { OnOk result ((format : ℕ) → pasting.placed_at inline keys.now point.now format draft.old ≡ Ok draft.new) }
-    ensures err { IfErr result (λ e. (format : ℕ) → TellsStep e (pasting.placed_at inline keys.now point.now format draft.old)) }
+    ensures { (format : ℕ) → Does (pasting.placed_at inline keys.now point.now format draft.old) draft.new result }
 {
     if inline {
         add_nodes(alloc, draft, keys, point)
@@ -82,8 +82,7 @@ fn place_at(
 
 /// Puts inlines or blocks at the caret.
 fn place(alloc: Global, draft: &mut Draft, inline: bool, keys: &[Key]) -> Result<(), Fault>
-    ensures ok { OnOk result (pasting.placed inline keys.now draft.old ≡ Ok draft.new) }
-    ensures err { IfErr result (λ e. TellsStep e (pasting.placed inline keys.now draft.old)) }
+    ensures { Does (pasting.placed inline keys.now draft.old) draft.new result }
 {
     if keys.is_empty() {
         return Ok(());

@@ -4,12 +4,7 @@ use Rattle.lx_trees.specs.Siblings.{last_of}
 use Rattle.lx_clip.proofs.Lasts.{last_got}
 use Rattle.lx_clip.proofs.blocks.put_tail.Goals as goal
 
-pub returns-in-Some-last-clause-ok : goal.returns-in-Some-last-clause-ok
-returns-in-Some-last-clause-ok c =
+pub returns-in-Some-last : goal.returns-in-Some-last
+returns-in-Some-last c =
     let last : last_of c.args.keys.now ≡ Some c.in-Some-last.last.now = last_got c.args.keys.now c.in-Some-last.last.now (sym c.last.ensures.value ∙ ap option_copied c.in-Some-last.is) in
-    search rules
-
-pub returns-in-Some-last-clause-err : goal.returns-in-Some-last-clause-err
-returns-in-Some-last-clause-err c =
-    let last : last_of c.args.keys.now ≡ Some c.in-Some-last.last.now = last_got c.args.keys.now c.in-Some-last.last.now (sym c.last.ensures.value ∙ ap option_copied c.in-Some-last.is) in
-    search rules
+    rw last (search rules)
