@@ -26,16 +26,13 @@ pub(crate) fn mark_type(alloc: Global, draft: &mut Draft, on: TypeRow) -> Result
 }
 
 /// Marks nodes in turn, and takes no count.
-#[tactic(auto, using(lx_edit::proofs::Turns::turns_done))]
+#[tactic(auto, unfolding(lx_edit::specs::InTurn::in_turn))]
 fn mark_all(draft: &mut Draft, keys: &[Key]) -> Result<(), Fault>
     ensures ok { OnOk result (in_turn mark_uncounted_step keys.now draft.old ≡ Ok draft.new) }
     ensures err { IfErr result (λ e. TellsStep e (in_turn mark_uncounted_step keys.now draft.old)) }
 {
     for key in keys {
-        match draft.mark_uncounted(*key) {
-            Ok(()) => {}
-            Err(fault) => return Err(fault),
-        }
+        draft.mark_uncounted(*key)?;
     }
     Ok(())
 }
