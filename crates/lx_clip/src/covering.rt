@@ -47,6 +47,7 @@ fn add_key(keys: &mut IndexSet<Key>, key: Key) -> Result<(), NoMemory>
 }
 
 /// The set of these keys.
+#[tactic(auto, using(crate::proofs::Sets::among_with, crate::proofs::Sets::or_assoc))]
 fn set_of(alloc: Global, keys: &[Key]) -> Result<IndexSet<Key>, NoMemory>
     ensures { IfOk result (λ made. (k : ℕ) → is_among k made.keys ≡ is_among k keys.now) }
 {

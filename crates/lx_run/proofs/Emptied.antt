@@ -11,30 +11,25 @@ use Rattle.lx_run.proofs.Stays.{Makes, makes_then, steps_keep, dispatched_keeps}
 
 -- ---- turns that are left, after those that were taken
 
-emptied-suc : (more : ℕ) (ls : List Listener) (m n : Running) (steps : List Step) (sent : Payload) → m ≡ queued_first steps sent n
-    → emptied (suc more) ls m ≡ after (steps_in (dispatched most_nested ls) sent steps n) (emptied more ls)
-unfolding emptied
-emptied-suc more ls m n steps sent is = ap (λ x. in_turn (steps_in (dispatched most_nested ls)) (emptied more ls) x.queue x) is
-
 turn_left : (turn most : ℕ) → turn < most → most - turn ≡ suc (most - (turn + 1))
 turn_left turn most within = omega (arith, within)
 
-pub emptied-step : (most turn : ℕ) (ls : List Listener) (m n : Running) (steps : List Step) (sent : Payload) → turn < most → m ≡ queued_first steps sent n
-    → emptied (most - turn) ls m ≡ after (steps_in (dispatched most_nested ls) sent steps n) (emptied (most - (turn + 1)) ls)
-emptied-step most turn ls m n steps sent within is =
-    ap (λ k. emptied k ls m) (turn_left turn most within) ∙ emptied-suc (most - (turn + 1)) ls m n steps sent is
-
-pub emptied-done : (more : ℕ) (ls : List Listener) (m : Running) → m.queue ≡ [] → emptied more ls m ≡ Ok m
+pub emptied_step : (most turn : ℕ) (ls : List Listener) (n : Running) (steps : List Step) (sent : Payload) → turn < most
+    → emptied (most - turn) ls (queued_first steps sent n) ≡ after (steps_in (dispatched most_nested ls) sent steps n) (emptied (most - (turn + 1)) ls)
 unfolding emptied
-emptied-done zero ls m is = refl
-emptied-done (suc more) ls m is = ap (λ queue. in_turn (steps_in (dispatched most_nested ls)) (emptied more ls) queue m) is
+emptied_step most turn ls n steps sent within = ap (λ k. emptied k ls (queued_first steps sent n)) (turn_left turn most within)
+
+pub emptied_done : (more : ℕ) (ls : List Listener) (m : Running) → m.queue ≡ [] → emptied more ls m ≡ Ok m
+unfolding emptied
+emptied_done zero ls m is = refl
+emptied_done (suc more) ls m is = ap (λ queue. in_turn (steps_in (dispatched most_nested ls)) (emptied more ls) queue m) is
 
 no_turn : (turn most : ℕ) → most ≤ turn → most - turn ≡ 0
 no_turn turn most h = omega (arith, h)
 
-pub emptied-none : (most turn : ℕ) (ls : List Listener) (m : Running) → most ≤ turn → emptied (most - turn) ls m ≡ Ok m
+pub emptied_none : (most turn : ℕ) (ls : List Listener) (m : Running) → most ≤ turn → emptied (most - turn) ls m ≡ Ok m
 unfolding emptied
-emptied-none most turn ls m h = ap (λ n. emptied n ls m) (no_turn turn most h)
+emptied_none most turn ls m h = ap (λ n. emptied n ls m) (no_turn turn most h)
 
 -- ---- nothing is left in the queue
 

@@ -1,53 +1,22 @@
--- A line's own steps that are left, and what holds of all that they make.
-use Rattle.std.proofs.Common.{◌≡◌, ◌∙◌, ◌+◌, ◌≤◌, ℕ, List, [], ◌∷◌, None, Some, Result, Ok, Err, refl, ap, sym, subst, arith}
+-- What holds of all that a line's own steps make.
+use Rattle.std.proofs.Common.{◌≡◌, ◌∙◌, ◌+◌, ◌≤◌, ℕ, List, [], ◌∷◌, None, Result, Ok, Err, refl, ap, sym, subst, arith}
 use Rattle.lx_node.specs.Limits.{most_counts}
 use Rattle.lx_node.specs.declared.cause.Cause.{Cause}
-use Rattle.lx_node.specs.declared.cause.Fault.{Fault}
-use Rattle.lx_node.specs.declared.cause.Fault.TheVariants as fault
-use Rattle.lx_step.specs.declared.command.Payload.{Payload}
 use Rattle.lx_step.specs.declared.command.Payload.TheVariants.{Nothing}
 use Rattle.lx_step.specs.declared.listener.Listener.{Listener}
 use Rattle.lx_step.specs.declared.step.Step.{Step}
 use Rattle.lx_draft.specs.Covering.{IsReady, AreCovered}
 use Rattle.lx_draft.specs.Working.{Working}
-use Rattle.lx_draft.specs.Faults.{TellsStep}
 use Rattle.lx_draft.specs.Steps.{count_step}
 use Rattle.lx_run.specs.declared.refusal.Refusal.{Refusal}
 use Rattle.lx_run.specs.declared.refusal.Refusal.TheVariants as refusal
 use Rattle.lx_run.specs.Lines.{at_first, script_from, queue_run, steps_run, deferred_run, drafted, IsEmptied}
-use Rattle.lx_run.specs.Refusals.{Refused, at_step, at_none, and_then, IsRefusal, TellsRefusal}
+use Rattle.lx_run.specs.Refusals.{Refused, at_step, at_none, and_then, TellsRefusal}
 use Rattle.lx_run.specs.Running.{Running, step_in, dispatched, most_nested, emptied}
 use Rattle.lx_run.proofs.Covered.{IsReadyRunning, AreCoveredRunning, covered, covered_queue}
 use Rattle.lx_run.proofs.Emptied.{IsEnough, is_emptied}
 use Rattle.lx_run.proofs.Paced.{AnyRunning, IsPaced, paced, CountsOn, counts_on, counts_on_queue}
 use Rattle.lx_run.proofs.Stays.{Makes, makes_on, IsKept, IsOfScripts, step_keeps, dispatched_keeps, emptied_keeps}
-
--- ---- steps that are left
-
-pub script_goes_on : (at : ℕ) (ls : List Listener) (left rest : List Step) (step : Step) (m n : Running) → left ≡ step ∷ rest → step_in (dispatched most_nested ls) Nothing step m ≡ Ok n
-    → script_from (at + 1) ls rest n ≡ script_from at ls left m
-unfolding script_from
-script_goes_on at ls left rest step m n is ran =
-    sym (ap (λ steps. script_from at ls steps m) is ∙ ap (λ r. and_then (at_step at r) (script_from (at + 1) ls rest)) ran)
-
-pub script_refused : (at : ℕ) (ls : List Listener) (left rest : List Step) (step : Step) (m : Running) (cause : Cause) → left ≡ step ∷ rest → step_in (dispatched most_nested ls) Nothing step m ≡ Err cause
-    → script_from at ls left m ≡ Err (cause, Some at)
-unfolding script_from
-script_refused at ls left rest step m cause is refused =
-    ap (λ steps. script_from at ls steps m) is ∙ ap (λ r. and_then (at_step at r) (script_from (at + 1) ls rest)) refused
-
--- what a step says of an error, all say, with the step's index
-pub script_told : (at : ℕ) (ls : List Listener) (sent : Payload) (left rest : List Step) (step : Step) (m : Running) (fault : Fault) (r : Refusal) (whole : Result Running Refused) → sent ≡ Nothing → left ≡ step ∷ rest
-    → script_from at ls left m ≡ whole → TellsStep fault (step_in (dispatched most_nested ls) sent step m) → IsRefusal fault (Some at) r → TellsRefusal r whole
-script_told at ls sent left rest step m (fault.Cause cause) r whole nothing is same told refused =
-    let refusal : script_from at ls left m ≡ Err (cause, Some at) =
-    script_refused at ls left rest step m cause is (ap (λ x. step_in (dispatched most_nested ls) x step m) (sym nothing) ∙ told) in
-    subst (λ x. TellsRefusal x whole) (sym refused) (sym same ∙ refusal)
-script_told at ls sent left rest step m fault.Memory r whole nothing is same told refused = subst (λ x. TellsRefusal x whole) (sym refused) tt
-
-pub script_done : (at : ℕ) (ls : List Listener) (left : List Step) (m : Running) → left ≡ [] → script_from at ls left m ≡ Ok m
-unfolding script_from
-script_done at ls left m is = ap (λ steps. script_from at ls steps m) is
 
 -- ---- what stays
 

@@ -1,6 +1,5 @@
--- Steps and offers that are left, after those that were made.
-use Rattle.std.proofs.Common.{◌≡◌, ◌∙◌, ◌+◌, ◌-◌, ◌≤◌, ◌<◌, ℕ, zero, suc, Bool, true, false, List, [], ◌∷◌, length, drop, Option, None, Some, Result, Ok, Err, refl, ap, sym, arith}
-use Rattle.std.specs.List.{slice_index_or}
+-- What a dispatch comes to, from what its parts answer.
+use Rattle.std.proofs.Common.{◌≡◌, ◌∙◌, ◌-◌, ℕ, zero, suc, Bool, true, List, Option, None, Some, Result, Ok, Err, refl, ap, sym, arith}
 use Rattle.lx_node.specs.declared.cause.Cause.{Cause}
 use Rattle.lx_node.specs.declared.cause.Cause.TheVariants.{DispatchDepth}
 use Rattle.lx_node.specs.declared.cause.Fault.{Fault}
@@ -9,26 +8,9 @@ use Rattle.lx_step.specs.BuiltIns.{built_in}
 use Rattle.lx_step.specs.declared.built_in.BuiltIn.{BuiltIn}
 use Rattle.lx_step.specs.declared.command.Payload.{Payload}
 use Rattle.lx_step.specs.declared.listener.Listener.{Listener}
-use Rattle.lx_step.specs.declared.step.Step.{Step}
 use Rattle.lx_bus.specs.Offers.{above, behind}
 use Rattle.lx_draft.specs.Faults.{after, TellsStep}
-use Rattle.lx_edit.proofs.Turns.{left_at, item_at}
-use Rattle.lx_run.specs.Running.{Running, Dispatching, take_count, done_by, unless_handled, built_in_or, step_in, steps_in, offer, offered, dispatched}
-
--- ---- a list from a place in it
-
-next_place : (i : ℕ) → suc i ≡ i + 1
-next_place i = omega arith
-
--- what is left from an item on is the item and what is after it
-pub left_from : {A : Type 0} (all : List A) (i : ℕ) (a : A) → i < length all → a ≡ slice_index_or all i a → drop i all ≡ a ∷ drop (i + 1) all
-left_from all i a within is = left_at all i a (item_at all i a within is) ∙ ap (λ n. a ∷ drop n all) (next_place i)
-
-pub none_left : {A : Type 0} (all : List A) (i : ℕ) → length all ≤ i → drop i all ≡ []
-none_left [] zero h = refl
-none_left [] (suc i) h = refl
-none_left (x ∷ xs) zero h = absurd (omega (arith, h))
-none_left (x ∷ xs) (suc i) h = none_left xs i (omega (arith, h))
+use Rattle.lx_run.specs.Running.{Running, take_count, done_by, unless_handled, built_in_or, offered, dispatched}
 
 -- what a part says of an error, the whole says, where it is refused for each cause for which the part is
 pub told_of : {A B : Type 0} (fault : Fault) (part : Result A Cause) (whole : Result B Cause) → ((cause : Cause) → part ≡ Err cause → whole ≡ Err cause) → TellsStep fault part → TellsStep fault whole
@@ -38,32 +20,6 @@ told_of fault.Memory part whole goes told = tt
 -- an answer whose flag is known
 pub flagged : {r : Result (Running × Bool) Cause} {n : Running} {b known : Bool} → r ≡ Ok (n, b) → b ≡ known → r ≡ Ok (n, known)
 flagged {n = n} answers is = answers ∙ ap (λ b. Ok (n, b)) is
-
--- ---- steps
-
--- the rest go on from what the first comes to
-pub steps_first : {left rest : List Step} {step : Step} {r : Result Running Cause} (d : Dispatching) (sent : Payload) (m : Running) → left ≡ step ∷ rest → step_in d sent step m ≡ r
-    → steps_in d sent left m ≡ after r (steps_in d sent rest)
-unfolding steps_in
-steps_first {rest = rest} d sent m is comes =
-    ap (λ steps. steps_in d sent steps m) is ∙ ap (λ r. after r (steps_in d sent rest)) comes
-
-pub steps_done : (d : Dispatching) (sent : Payload) (left : List Step) (m : Running) → left ≡ [] → steps_in d sent left m ≡ Ok m
-unfolding steps_in
-steps_done d sent left m is = ap (λ steps. steps_in d sent steps m) is
-
--- ---- offers
-
--- the rest go on from what the first answers
-pub offers_first : {left rest : List Listener} {l : Listener} {r : Result (Running × Bool) Cause} (d : Dispatching) (sent : Payload) (m : Running) → left ≡ l ∷ rest → offer d sent l m ≡ r
-    → offered d sent left m ≡ after r (unless_handled (offered d sent rest))
-unfolding offered
-offers_first {rest = rest} d sent m is answers =
-    ap (λ ls. offered d sent ls m) is ∙ ap (λ r. after r (unless_handled (offered d sent rest))) answers
-
-pub none_offered : (d : Dispatching) (sent : Payload) (left : List Listener) (m : Running) → left ≡ [] → offered d sent left m ≡ Ok (m, false)
-unfolding offered
-none_offered d sent left m is = ap (λ ls. offered d sent ls m) is
 
 -- ---- dispatches
 

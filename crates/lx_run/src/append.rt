@@ -1,5 +1,5 @@
-ghost use Rattle.std.specs.Prelude.{◌≡◌, Ok, chars, OnOk, IfErr};
-ghost use Rattle.lx_draft.specs.Faults.{TellsStep};
+ghost use Rattle.std.specs.Prelude.{chars};
+ghost use Rattle.lx_edit.specs.Standing.{Does};
 ghost use Rattle.lx_run.specs.Appending.{appended, filled, text_step};
 
 use lx_draft::Draft;
@@ -9,8 +9,7 @@ use std::alloc::Global;
 /// A new paragraph at the root's end, with a new text in it unless the text is empty.
 #[tactic(auto, unfolding(crate::specs::Appending::appended))]
 pub(crate) fn append_paragraph(alloc: Global, draft: &mut Draft, text: &str) -> Result<(), Fault>
-    ensures ok { OnOk result (appended (chars text.now) draft.old ≡ Ok draft.new) }
-    ensures err { IfErr result (λ e. TellsStep e (appended (chars text.now) draft.old)) }
+    ensures { Does (appended (chars text.now) draft.old) draft.new result }
 {
     let paragraph = draft.new_node(Kind::Paragraph, Fields::plain_element(alloc))?;
     fill(alloc, draft, paragraph, text)?;
@@ -20,8 +19,7 @@ pub(crate) fn append_paragraph(alloc: Global, draft: &mut Draft, text: &str) -> 
 
 /// A new text in a node without children, unless it is empty.
 fn fill(alloc: Global, draft: &mut Draft, parent: Key, text: &str) -> Result<(), Fault>
-    ensures ok { OnOk result (filled parent (chars text.now) draft.old ≡ Ok draft.new) }
-    ensures err { IfErr result (λ e. TellsStep e (filled parent (chars text.now) draft.old)) }
+    ensures { Does (filled parent (chars text.now) draft.old) draft.new result }
 {
     if text.is_empty() {
         Ok(())
@@ -32,8 +30,7 @@ fn fill(alloc: Global, draft: &mut Draft, parent: Key, text: &str) -> Result<(),
 
 /// A new text in a node without children.
 fn append_text(alloc: Global, draft: &mut Draft, parent: Key, text: &str) -> Result<(), Fault>
-    ensures ok { OnOk result (text_step parent (chars text.now) draft.old ≡ Ok draft.new) }
-    ensures err { IfErr result (λ e. TellsStep e (text_step parent (chars text.now) draft.old)) }
+    ensures { Does (text_step parent (chars text.now) draft.old) draft.new result }
 {
     let key = draft.new_node(Kind::Text, Fields::plain_text(alloc, text)?)?;
     draft.put(key, parent, 0)

@@ -47,6 +47,7 @@ fn do_built_in(running: &mut Running<'_>, command: BuiltIn, sent: &Payload) -> R
 
 /// Runs steps one after another. Dispatches in them may nest `left` deep.
 #[cycle(dispatch)]
+#[tactic(auto, unfolding(crate::specs::Running::steps_in))]
 pub(crate) fn run_all<'a>(
     bus: &'a Bus,
     running: &mut Running<'a>,
@@ -59,10 +60,7 @@ pub(crate) fn run_all<'a>(
     ensures err { IfErr result (λ e. TellsStep e (steps_in (dispatched left bus.now) sent.now steps.now running.old)) }
 {
     for step in steps {
-        match run_step(bus, running, step, sent, left) {
-            Ok(()) => {}
-            Err(fault) => return Err(fault),
-        }
+        run_step(bus, running, step, sent, left)?;
     }
     Ok(())
 }
@@ -146,6 +144,7 @@ pub(crate) fn dispatch<'a>(
 
 /// Offers a command to listeners one after another, until one has handled it, and answers whether one has.
 #[cycle(dispatch)]
+#[tactic(auto, unfolding(crate::specs::Running::offered))]
 pub(crate) fn offer_all<'a>(
     bus: &'a Bus,
     running: &mut Running<'a>,
@@ -158,10 +157,8 @@ pub(crate) fn offer_all<'a>(
     ensures err { IfErr result (λ e. TellsStep e (offered (dispatched left bus.now) payload.now offers.entry running.old)) }
 {
     for listener in offers {
-        match offer(bus, running, listener, payload, left) {
-            Ok(true) => return Ok(true),
-            Ok(false) => {}
-            Err(fault) => return Err(fault),
+        if offer(bus, running, listener, payload, left)? {
+            return Ok(true);
         }
     }
     Ok(false)

@@ -76,6 +76,7 @@ pub fn run_deferred(
 }
 
 /// Runs the steps of a line's own script.
+#[tactic(auto, unfolding(crate::specs::Lines::script_from))]
 fn run_script<'a>(
     bus: &'a Bus,
     running: &mut Running<'a>,

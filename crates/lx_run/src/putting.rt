@@ -4,6 +4,7 @@ ghost use Rattle.std.specs.Prelude.{◌≡◌, Ok, Some, None, OnOk, IfOk, IfErr
 ghost use Rattle.lx_trees.specs.Siblings.{names_without};
 ghost use Rattle.lx_forest.specs.Lookups as lookups;
 ghost use Rattle.lx_draft.specs.Faults.{TellsStep};
+ghost use Rattle.lx_edit.specs.Standing.{Does};
 ghost use Rattle.lx_run.specs.Scripts as scripts;
 ghost use Rattle.lx_run.specs.Scripts.{script_put_step};
 
@@ -29,18 +30,14 @@ pub(crate) fn put_node(
         Ok(index) => index,
         Err(cause) => return Err(Fault::Cause(cause)),
     };
-    match loosen(draft, key) {
-        Ok(()) => {}
-        Err(fault) => return Err(fault),
-    }
+    loosen(draft, key)?;
     let size = draft.links().size(parent);
     draft.put(key, parent, index.unwrap_or(size))
 }
 
 /// Takes a node out, where it is below something.
 fn loosen(draft: &mut Draft, key: Key) -> Result<(), Fault>
-    ensures ok { OnOk result (scripts.loosened (lookups.parent_of draft.old.forest key) key draft.old ≡ Ok draft.new) }
-    ensures err { IfErr result (λ e. TellsStep e (scripts.loosened (lookups.parent_of draft.old.forest key) key draft.old)) }
+    ensures { Does (scripts.loosened (lookups.parent_of draft.old.forest key) key draft.old) draft.new result }
 {
     match draft.links().parent(key) {
         Some(_) => draft.take(key),

@@ -13,6 +13,7 @@ use lx_node::limits::MOST_COUNTS;
 
 /// Runs all that is queued, first in, first out, also what is queued meanwhile: at most 100,000 lists of steps, since
 /// each of them came with a count.
+#[tactic(auto, using(crate::proofs::Emptied::emptied_step, crate::proofs::Emptied::emptied_done, crate::proofs::Emptied::emptied_none))]
 pub(crate) fn run_queue<'a>(bus: &'a Bus, running: &mut Running<'a>) -> Result<(), Fault>
     ensures ok { OnOk result (emptied most_counts bus.now running.old ≡ Ok running.new) }
     ensures err { IfErr result (λ e. TellsStep e (emptied most_counts bus.now running.old)) }
@@ -21,10 +22,7 @@ pub(crate) fn run_queue<'a>(bus: &'a Bus, running: &mut Running<'a>) -> Result<(
         let Some(first) = running.next() else {
             return Ok(());
         };
-        match run_all(bus, running, first.steps, first.sent, MOST_NESTED) {
-            Ok(()) => {}
-            Err(fault) => return Err(fault),
-        }
+        run_all(bus, running, first.steps, first.sent, MOST_NESTED)?;
     }
     Ok(())
 }

@@ -89,6 +89,7 @@ fn cells_for(
 }
 
 /// The nodes of references, as far as all of them mean one.
+#[tactic(auto, using(crate::proofs::Gathered::none_gathered, crate::proofs::Gathered::one_gathered))]
 fn all_resolved(
     alloc: Global,
     draft: &Draft,
@@ -100,10 +101,8 @@ fn all_resolved(
 {
     let mut keys = Vec::new(alloc);
     for node in nodes {
-        match resolve(alloc, draft, names, node) {
-            Ok(key) => keep_key(&mut keys, key)?,
-            Err(fault) => return Err(fault),
-        }
+        let key = resolve(alloc, draft, names, node)?;
+        keep_key(&mut keys, key)?;
     }
     Ok(keys)
 }

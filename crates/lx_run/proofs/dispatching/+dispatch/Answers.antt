@@ -1,51 +1,27 @@
-use Rattle.std.proofs.Common.{◌≡◌, ◌∙◌, ◌-◌, ℕ, Bool, All, Result, sym, ap, subst}
+use Rattle.std.proofs.Common.{◌≡◌, ◌∙◌, ◌-◌, ℕ, Bool, All, Result, ap, subst, rules}
 use Rattle.std.proofs.lemmas.List.Elements.{All-tail}
 use Rattle.lx_node.specs.declared.cause.Cause.{Cause}
 use Rattle.lx_step.specs.Sound.{IsSoundListener}
 use Rattle.lx_bus.specs.Offers.{above}
 use Rattle.lx_draft.specs.Faults.{after}
 use Rattle.lx_run.specs.Running.{Running, unless_handled, offered, dispatched}
-use Rattle.lx_run.proofs.Runs.{left_from, none_left, told_of, flagged, steps_first, steps_done, offers_first, none_offered, done_else, IsPassed, passed_to, dispatched_first, dispatched_behind, dispatched_counted, dispatched_done, dispatched_deepest}
+use Rattle.lx_run.proofs.Runs.{told_of, flagged, done_else, IsPassed, passed_to, dispatched_first, dispatched_behind, dispatched_counted, dispatched_done, dispatched_deepest}
 use Rattle.lx_run.proofs.dispatching.+dispatch.Goals as goal
 use Rattle.lx_run.proofs.dispatching.+dispatch.Goals.{dispatch-After-offer_all, dispatch-After-named, dispatch-After-offer_all-in-None}
 
 pub dispatch-returns-then-left-eq0-clause-err : goal.dispatch-returns-then-left-eq0-clause-err
 dispatch-returns-then-left-eq0-clause-err t c = dispatched_deepest _ _ _ _ _ c.if-left-eq0.true
 
--- ---- steps
-
-pub run_all-returns-in-Err-clause-err : goal.run_all-returns-in-Err-clause-err
-run_all-returns-in-Err-clause-err t c =
-    told_of c.in-Err.fault _ _ (λ cause e. sym c.loop-step.invariant.same ∙ steps_first _ _ _ (left_from _ _ _ c.loop-step-test.true c.step-item.is) e) c.in-Err.ensures.err
-
-pub run_all-loop-step-preserved : goal.run_all-loop-step-preserved
-run_all-loop-step-preserved t c = record {
-  same = sym (steps_first _ _ _ (left_from _ _ _ c.loop-step-test.true c.step-item.is) c.in-Ok.ensures.ok) ∙ c.loop-step.invariant.same;
-}
-
-pub run_all-returns-clause-ok : goal.run_all-returns-clause-ok
-run_all-returns-clause-ok t c = sym c.loop-step.invariant.same ∙ steps_done _ _ _ _ (none_left _ _ c.loop-step-test.false)
-
 -- ---- offers
 
-pub offer_all-returns-in-Ok-true-clause-ok : goal.offer_all-returns-in-Ok-true-clause-ok
-offer_all-returns-in-Ok-true-clause-ok t c =
-    sym c.loop-listener.invariant.same ∙ offers_first _ _ _ c.in-Some.ensures.steps (flagged c.in-Ok-true.ensures.ok c.in-Ok-true.field-0-test)
-
 pub offer_all-loop-listener-preserved : goal.offer_all-loop-listener-preserved
+unfolding offered
 offer_all-loop-listener-preserved t c = record {
   can_next = tt;
   is_finite = tt;
   sound = All-tail IsSoundListener _ _ (subst (λ ls. All IsSoundListener ls) c.in-Some.ensures.steps c.loop-listener.invariant.sound);
-  same = sym (offers_first _ _ _ c.in-Some.ensures.steps (flagged c.in-Ok-false.ensures.ok c.in-Ok-false.field-0-test)) ∙ c.loop-listener.invariant.same;
+  same = search rules;
 }
-
-pub offer_all-returns-in-Err-clause-err : goal.offer_all-returns-in-Err-clause-err
-offer_all-returns-in-Err-clause-err t c =
-    told_of c.in-Err.fault _ _ (λ cause e. sym c.loop-listener.invariant.same ∙ offers_first _ _ _ c.in-Some.ensures.steps e) c.in-Err.ensures.err
-
-pub offer_all-returns-clause-ok : goal.offer_all-returns-clause-ok
-offer_all-returns-clause-ok t c = sym c.loop-listener.invariant.same ∙ none_offered _ _ _ _ c.in-None.ensures.steps.0
 
 -- ---- dispatches
 
