@@ -143,13 +143,10 @@ module _ (old new : Forest) (mk : Marking) (v : HostTree) where
       let shown = shows_it c b there in
       record {
         subject = of_child (host_in v c) c k shown (parent_of-child old c k b.was_sound among) stays marked;
-        place = λ key up kept is order. elim (cases_Bool (is_among (host_in v c) (hosts_of key v.hosts))) [
-          | inl too ↦
-              let same : key ≡ c = one_shown (host_in v c) key c v.hosts (b.view.numbered.once (host_in v c)) too shown in
-              let parents : Some up ≡ Some k = sym is ∙ ap (parent_of new) same ∙ parent_of-child new c k b.sound among_new in
-              absurd (other (subst (KeepsOrder old new) (same_Some up k parents) order))
-          | inr out ↦ out
-        ];
+        place = λ key up kept is order. false_from_ne_true (is_among (host_in v c) (hosts_of key v.hosts)) (λ too.
+            let same : key ≡ c = one_shown (host_in v c) key c v.hosts (b.view.numbered.once (host_in v c)) too shown in
+            let parents : Some up ≡ Some k = sym is ∙ ap (parent_of new) same ∙ parent_of-child new c k b.sound among_new in
+            other (subst (KeepsOrder old new) (same_Some up k parents) order));
         drop = tt;
       }
 

@@ -3,7 +3,6 @@ use Rattle.lx_node.specs.Limits.{last_u64}
 use Rattle.lx_forest.specs.Lookups.{has}
 use Rattle.lx_reconcile.specs.Allowing.{marking, IsTree}
 use Rattle.lx_reconcile.specs.Making.{IsBetween}
-use Rattle.lx_reconcile.proofs.Made
 use Rattle.lx_reconcile.proofs.Whole
 use Rattle.lx_reconcile.proofs.reconciling.reconcile_root.Given.{Over}
 use Rattle.lx_reconcile.proofs.reconciling.reconcile_root.Goals as goal
