@@ -207,5 +207,5 @@ as_itself f q = elim (cases_Bool (has q f)) [
 pub turned_away : (b : Bool) (turn : Turn) (moment : ℕ) (h mid g : History) (state : State) (strays : Option (List ℕ)) → entry_of turn h ≡ Some state → mid ≡ h
     → MatchBool b (turned turn moment mid ≡ Some g) ((turned turn moment mid ≡ None) × (g ≡ mid)) → (IsTrue b → strays ≡ Some []) → g.current ≡ Some state → IsAway g.current strays state.links
 turned_away true turn moment h mid g state strays next same did none is =
-    subst (λ o. IsAway o strays state.links) (sym is) (subst (λ p. DifferAt p state.links state.links) (sym (none tt)) (λ q out. as_itself state.links q))
+    subst (λ o. IsAway o strays state.links) (sym is) (subst (λ p. DifferAt p state.links state.links) (sym (none refl)) (λ q out. as_itself state.links q))
 turned_away false turn moment h mid g state strays next same (none, still) told is = absurd (never_still turn moment h state next (subst (λ k. turned turn moment k ≡ None) same none))
