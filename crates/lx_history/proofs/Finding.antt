@@ -1,5 +1,5 @@
 -- Few keys of a list, and going through it key by key.
-use Rattle.std.proofs.Common.{◌≡◌, ◌∙◌, ◌+◌, ℕ, zero, suc, Bool, true, false, not, is_some, ◌&&◌, cond, filter, List, [], ◌∷◌, ◌++◌, refl, sym, ap, drop, slice_get, Some, arith}
+use Rattle.std.proofs.Common.{◌≡◌, ◌∙◌, ◌+◌, ℕ, zero, suc, Bool, true, false, is_some, ◌&&◌, cond, filter, List, [], ◌∷◌, ◌++◌, refl, sym, ap, drop, slice_get, Some, arith}
 use Rattle.lx_node.specs.declared.cause.Point.{Point}
 use Rattle.lx_forest.specs.Forest.{Forest}
 use Rattle.lx_forest.specs.Lookups.{has}

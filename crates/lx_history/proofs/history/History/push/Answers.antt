@@ -1,5 +1,4 @@
-use Rattle.std.proofs.Common.{◌≡◌, ◌∙◌, ◌≤◌, ◌+◌, [], length, ap, sym, subst, arith}
-use Rattle.lx_forest.specs.Forest.{Forest}
+use Rattle.std.proofs.Common.{◌∙◌, ◌≤◌, ◌+◌, length, ap, sym, subst, arith}
 use Rattle.lx_history.specs.Told.{states, AreTold, IsAway, with_told}
 use Rattle.lx_history.proofs.Told.{told_pushed}
 use Rattle.lx_history.proofs.history.History.push.Goals as goal
