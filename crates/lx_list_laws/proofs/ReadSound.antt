@@ -87,19 +87,11 @@ sound_take k w v s e =
     by_covered w v (covered-take k w v s.ready e) (subst (IsHeld may_hold) (sym (taken-forest k w v e)) (IsHeld-take_out may_hold w.forest s.ready.in_order s.held k))
 
 misfit_holds : (outer inner : Option Kind) → misfit outer inner ≡ None → holds may_hold outer inner ≡ true
-misfit_holds (Some a) (Some b) e = by_test (may_hold a b) e where
-  by_test : (t : Bool) → cond t None (Some (WrongKind b)) ≡ None → t ≡ true
-  by_test true e = refl
-  by_test false e = absurd (cc)
-misfit_holds None inner e = refl
-misfit_holds (Some a) None e = refl
+misfit_holds (Some a) (Some b) e = grind (arith, e)
+misfit_holds outer inner e = refl
 
 put_fits : (f : Forest) (k p index : ℕ) → put_fault k p index f ≡ None → holds may_hold (kind_of f p) (kind_of f k) ≡ true
-put_fits f k p index e =
-    let a = both_none (unknown f k) (option_or (unknown f p) (option_or (bound_to f p k) (option_or (misfit (kind_of f p) (kind_of f k)) (beyond f p index)))) e in
-    let b = both_none (unknown f p) (option_or (bound_to f p k) (option_or (misfit (kind_of f p) (kind_of f k)) (beyond f p index))) a.1 in
-    let c = both_none (bound_to f p k) (option_or (misfit (kind_of f p) (kind_of f k)) (beyond f p index)) b.1 in
-    misfit_holds (kind_of f p) (kind_of f k) (both_none (misfit (kind_of f p) (kind_of f k)) (beyond f p index) c.1).0
+put_fits f k p index e = misfit_holds (kind_of f p) (kind_of f k) (grind (arith, e))
 
 sound_put : (k p index : ℕ) (w v : Working) → IsSound w → put_step k p index w ≡ Ok v → StaysSound w v
 unfolding put_step
