@@ -22,7 +22,7 @@ use Rattle.lx_edit.specs.Edits.{remove_step}
 use Rattle.lx_edit.specs.Texts.{text_or_none}
 use Rattle.lx_blocks.specs.Blocks.{passes, is_at}
 use Rattle.lx_edit_laws.specs.Reading.{text_at, read_below}
-use Rattle.lx_edit_laws.proofs.Reading.{absent, read_without}
+use Rattle.lx_edit_laws.proofs.Reading.{absent, read_without, kind_known}
 use Rattle.lx_edit_laws.proofs.WrapTurns.{WentOver, was_removed as removal}
 use Rattle.lx_edit_laws.proofs.WrapTold.{WentAll}
 use Rattle.lx_edit_laws.proofs.WrapSteps.{was_put, was_put_before, before_below, silent}
@@ -37,7 +37,6 @@ use Rattle.lx_list_laws.proofs.ReadSound.{new_forest, is_free, sound_new}
 pub record IsBorn (w v : Working) (kind : Kind) (p : ℕ) (before : Option ℕ) : Type 0 where
   pub came : CameNew w.forest v.forest w.next_key p before
   pub kinds : (q : ℕ) → kind_of v.forest q ≡ cond (eqb q w.next_key) (Some kind) (kind_of w.forest q)
-
 
 text_new : (f : Forest) (l : Label) (q : ℕ) → IsForest f → has l.key f ≡ false → is_text l.kind ≡ false → text_at (with_new l f) q ≡ text_at f q
 text_new f l q h free mute = elim (eqb_tells q l.key) [
@@ -106,6 +105,10 @@ born_before kind fields w u v other s mute e put =
     let below = before_below w.next_key other u v put in
     let up : parent_of w.forest other ≡ Some below.0 = sym (parent_made kind fields w u other s e) ∙ below.1 in
     record { parent = below.0; up = up; born = born_at kind fields w u v other below.0 s mute up e put }
+
+-- where one test of kinds says what another does, it does so of a node
+pub so_at : (test other : Kind → Bool) (t : Bool) → ((kind : Kind) → test kind ≡ true → other kind ≡ t) → (f : Forest) (k : ℕ) → is_at test f k ≡ true → is_at other f k ≡ t
+so_at test other t so f k is = let kind = kind_known f k (there_at test f k is) in ap (passes other) kind.1 ∙ so kind.0 (sym (ap (passes test) kind.1) ∙ is)
 
 -- a key that isn't there is of no kind
 absent_at : (test : Kind → Bool) (f : Forest) (k : ℕ) → has k f ≡ false → is_at test f k ≡ false

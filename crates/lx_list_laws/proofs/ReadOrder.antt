@@ -1,8 +1,7 @@
 -- Lists of names of which those that pass a test come before the others; and names that are beside each other.
-use Rattle.std.proofs.Common.{◌≡◌, ◌∙◌, ℕ, Bool, true, false, eqb, not, ◌&&◌, List, [], ◌∷◌, ◌++◌, Some, refl, ap, ap₂, arith, inl, inr}
+use Rattle.std.proofs.Common.{◌≡◌, ◌∙◌, ℕ, Bool, true, false, eqb, not, ◌&&◌, List, [], ◌∷◌, ◌++◌, Some, refl, ap, arith, inl, inr}
 use Rattle.std.specs.List.{filter, list_any, list_all}
 use Rattle.std.proofs.lemmas.Bool.Decides.{eqb_tells}
-use Rattle.std.proofs.lemmas.Option.{same_Some}
 use Rattle.lx_trees.specs.Siblings.{is_among, NoRepeats, names_without, names_with, previous_from, previous_in}
 use Rattle.lx_links.proofs.Detached.{is_among-filter}
 use Rattle.lx_edit_laws.proofs.WrapLists.{apart}
@@ -54,7 +53,6 @@ first-all t (x ∷ xs) all = grind (arith, all, first-all t xs)
 any-without : (t : ℕ → Bool) (k : ℕ) (xs : List ℕ) → list_any t xs ≡ false → list_any t (names_without k xs) ≡ false
 any-without t k [] none = refl
 any-without t k (x ∷ xs) none = grind (arith, none, any-without t k xs)
-
 
 pub first-without : (t : ℕ → Bool) (k : ℕ) (xs : List ℕ) → stand_first t xs ≡ true → stand_first t (names_without k xs) ≡ true
 first-without t k [] first = refl
