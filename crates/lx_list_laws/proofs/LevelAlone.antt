@@ -1,6 +1,6 @@
 -- An item between items that aren't nesting goes a level deeper, into a new list in a new item, and up again.
-use Rattle.std.proofs.Common.{◌≡◌, ◌≢◌, ◌∙◌, ℕ, ◌+◌, ◌&&◌, ◌==◌, Bool, true, false, cond, eqb, List, [], length, Option, None, Some, Result, Ok, refl, sym, ap, ap₂, subst, arith}
-use Rattle.std.specs.Prelude.{is_none, is_some, option_map, slice_get}
+use Rattle.std.proofs.Common.{◌≡◌, ◌≢◌, ◌∙◌, ℕ, ◌+◌, ◌&&◌, ◌==◌, true, false, cond, eqb, List, [], length, Option, None, Some, Result, Ok, refl, sym, ap, ap₂, subst, arith}
+use Rattle.std.specs.Prelude.{is_none, option_map, slice_get}
 use Rattle.std.proofs.lemmas.Bool.Decides.{eqb_tells}
 use Rattle.lx_trees.specs.Siblings.{is_among, is_named, first_of, names_without}
 use Rattle.lx_node.specs.Kinds.{is_item, is_list, may_be_empty}
@@ -118,14 +118,10 @@ went_down x p l w v ready up like e =
 
 -- ---- up
 
-item_item : is_item Item ≡ true
-unfolding is_item
-item_item = refl
-
 -- a new item without its list isn't left
-item_goes : (list : Kind) → is_list list ≡ true → may_not_be_left (Some Item) (Some list) ≡ true
+item_goes : (list : Kind) → (is_item Item ≡ true) × (is_list list ≡ true → may_not_be_left (Some Item) (Some list) ≡ true)
 unfolding may_be_empty is_item
-item_goes list is = is
+item_goes list = (refl, λ is. is)
 
 module _ (w v : Working) (p x : ℕ) (h : IsForest w.forest) (s : WentDown w v p x) where
   abbrev item : ℕ
@@ -180,10 +176,9 @@ module _ (w v : Working) (p x : ℕ) (h : IsForest w.forest) (s : WentDown w v p
         let outer : kind_of g item ≡ Some Item =
         ap (λ z. kind_of z item) gone ∙ kind_of-take_out list f item r_order ∙ now_kind new v.forest p x item list s.sunk r.forest p (Some item) rose item ∙ item_kind in
         let inner : kind_of f list ≡ Some s.list.kind = now_kind new v.forest p x item list s.sunk r.forest p (Some item) rose list ∙ list_kind in
-        let goes : may_not_be_left (kind_of g item) (kind_of f list) ≡ true = ap₂ may_not_be_left outer inner ∙ item_goes s.list.kind list_is in
+        let goes : may_not_be_left (kind_of g item) (kind_of f list) ≡ true = ap₂ may_not_be_left outer inner ∙ (item_goes s.list.kind).1 list_is in
         let next : Some item ≡ goes_next (kind_of f list) g (parent_of f list) =
-        sym (ap (goes_next (kind_of f list) g) there ∙ too (length (children_of g item) == 0) (is_some (parent_of g item)) (may_not_be_left (kind_of g item) (kind_of f list))
-        (ap (λ (ks : List ℕ). length ks == 0) empty) (ap is_some above) goes) in
+        sym (ap (goes_next (kind_of f list) g) there ∙ grind (arith, empty, above, goes)) in
         let rest : remove_step item a.0 ≡ Ok u = climbed list r a.0 (Some item) r_order a.1 next ∙ e in
         let above_x : parent_of g x ≡ Some p =
         ap (λ z. parent_of z x) gone ∙ parent_of-take_out list f x r_order
@@ -195,12 +190,6 @@ module _ (w v : Working) (p x : ℕ) (h : IsForest w.forest) (s : WentDown w v p
               let mid : a.0.selection ≡ r.selection = sent_stays list item r a.0 a.1 there off_m off_n in
               removed_stays item p x a.0 u order above among other rest (ap (has_point_on item) mid ∙ off_n) (ap (has_point_on p) mid ∙ off_p) ∙ mid,
         )
-      where
-        too : (a b c : Bool) → a ≡ true → b ≡ true → c ≡ true → cond (a && (b && c)) (Some item) None ≡ Some item
-        too true true true ia ib ic = refl
-        too true true false ia ib ic = absurd (cc)
-        too true false c ia ib ic = absurd (cc)
-        too false b c ia ib ic = absurd (cc)
 
     all_back : u.forest ≡ new
     all_back = both_gone.0 ∙ back_again_in new v.forest p x item list s.sunk r.forest up
@@ -212,7 +201,7 @@ module _ (w v : Working) (p x : ℕ) (h : IsForest w.forest) (s : WentDown w v p
   went_up u is list_is e =
       let g : Forest = v.forest in
       let x_is : is_at is_item g x ≡ true = ap (passes is_item) (now_kind new g p x item list s.sunk g list None s.sunk.moved x ∙ x_kind) ∙ is in
-      let item_is : is_at is_item g item ≡ true = ap (passes is_item) (now_kind new g p x item list s.sunk g list None s.sunk.moved item ∙ item_kind) ∙ item_item in
+      let item_is : is_at is_item g item ≡ true = ap (passes is_item) (now_kind new g p x item list s.sunk g list None s.sunk.moved item ∙ item_kind) ∙ (item_goes Item).0 in
       let by : out_by x (parent_of g x) v ≡ Ok u = chosen (is_at is_item g x) (out_by x (parent_of g x) v) (change_step (with_indent shallower) x v) u x_is e in
       let from : out_from x list (parent_of g list) v ≡ Ok u = sym (ap (λ o. out_by x o v) (x_up new g p x item list s.sunk g list None s.sunk.moved)) ∙ by in
       let in_item : out_from x list (Some item) v ≡ Ok u = sym (ap (λ o. out_from x list o v) (list_up new g p x item list s.sunk g list None s.sunk.moved)) ∙ from in
@@ -246,10 +235,7 @@ module _ (w v : Working) (p x : ℕ) (h : IsForest w.forest) (s : WentDown w v p
 -- ---- both
 
 absent : (f : Forest) (x q : ℕ) → has q f ≡ false → is_within f x q ≡ false
-absent f x q free = by_test (is_within f x q) refl where
-  by_test : (t : Bool) → is_within f x q ≡ t → is_within f x q ≡ false
-  by_test true is = absurd (grind (arith, free, there_within f x q is))
-  by_test false is = is
+absent f x q free = grind (arith, free, there_within f x q)
 
 wrapped_and_back : (x : ℕ) (w v u : Working) → GoesAndComes x w v u → (o : Option ℕ) → parent_of w.forest x ≡ o → wrapped_in x o w ≡ Ok v → (drop_detached u.forest ≡ drop_detached w.forest) × PointsStay x w v u
 unfolding outdented

@@ -1,16 +1,14 @@
 -- An item beside one that is nesting goes a level deeper, into the list there, and up again.
-use Rattle.std.proofs.Common.{◌≡◌, ◌≢◌, ◌∙◌, ℕ, ◌&&◌, ◌==◌, Bool, true, false, cond, List, [], ◌∷◌, ◌++◌, length, Option, None, Some, Ok, refl, sym, ap, ap₂, subst, arith, inl, inr}
+use Rattle.std.proofs.Common.{◌≡◌, ◌≢◌, ◌∙◌, ℕ, ◌&&◌, ◌==◌, true, false, cond, List, [], ◌∷◌, ◌++◌, length, Option, None, Some, Ok, refl, sym, ap, ap₂, subst, arith, inl, inr}
 use Rattle.std.specs.Prelude.{is_none, option_map}
 use Rattle.std.proofs.lemmas.Bool.Decides.{eqb_tells}
 use Rattle.lx_trees.specs.Siblings.{is_among, is_named, first_of, next_in, previous_from, previous_in, NoRepeats, names_without, names_with}
-use Rattle.lx_node.specs.Kinds.{is_item, is_list, may_hold}
-use Rattle.lx_node.specs.declared.kind.Kind.{Kind}
-use Rattle.lx_node.specs.declared.kind.Kind.TheVariants.{List as ListKind}
+use Rattle.lx_node.specs.Kinds.{is_item, is_list}
 use Rattle.lx_trees.proofs.Siblings.{first_of-among, names_without-absent_list, next_in-names_without}
 use Rattle.lx_select.specs.Selection.{has_point_on}
 use Rattle.lx_forest.specs.Forest.{Forest, Label}
-use Rattle.lx_forest.specs.Lookups.{kind_of, parent_of, children_of, children_below, size_of, first_child, previous_of, next_of, is_within, holds, IsForest, IsHeld}
-use Rattle.lx_forest.proofs.Lookups.{NoRepeats-children_of, children_of-take_out, has-child, has-parent_of, parent_of-self}
+use Rattle.lx_forest.specs.Lookups.{kind_of, parent_of, children_of, children_below, size_of, first_child, previous_of, next_of, is_within, IsForest}
+use Rattle.lx_forest.proofs.Lookups.{NoRepeats-children_of, children_of-take_out, has-child, parent_of-self}
 use Rattle.lx_forest.proofs.Siblings.{parent_of-previous, parent_of-next}
 use Rattle.lx_forest.proofs.Walks.{cases_option}
 use Rattle.lx_forest.proofs.Within.{is_within-parent, is_within-self, is_within-up}
@@ -24,12 +22,13 @@ use Rattle.lx_list.specs.Nesting.{if_list, nested_in}
 use Rattle.lx_list.specs.Indenting.{moved_to_front, nested_by, deeper, indented}
 use Rattle.lx_list.specs.Outdenting.{moved_out, parted, gone_if_empty, out_of, out_from, out_by, shallower, outdented}
 use Rattle.lx_list.proofs.Above.{list_above}
+use Rattle.lx_list.proofs.Itemless.{item_below}
 use Rattle.lx_edit_laws.proofs.WrapLists.{names_with-end}
 use Rattle.lx_edit_laws.proofs.WrapTrees.{own, different, not_child, WasMoved, IsForest-moved, label_of-moved, parent_of-moved, children_of-moved, take-moved, moved_twice, moved_back}
 use Rattle.lx_edit_laws.proofs.WrapSteps.{was_same, was_moved_to_end, was_moved_before}
 use Rattle.lx_list_laws.specs.Levels.{nested_before, nested_behind, has_points_within, GoesAndComes, PointsStay}
 use Rattle.lx_list_laws.proofs.LevelPoints.{off_outside, to_end_stays, to_front_stays, moved_before_stays, moved_behind_stays}
-use Rattle.lx_list_laws.proofs.LevelSteps.{chosen, unless, label_known, was_moved_behind, was_moved_to_front}
+use Rattle.lx_list_laws.proofs.LevelSteps.{chosen, unless, was_moved_behind, was_moved_to_front}
 
 -- ---- lists of names
 
@@ -81,25 +80,7 @@ nests f None list e = absurd (cc)
 nests f (Some k) list e = by_first (first_child f k) refl e where
   by_first : (c : Option ℕ) → first_child f k ≡ c → if_list f c ≡ Some list → Nests f (Some k) list
   by_first None is e = absurd (cc)
-  by_first (Some c) is e = by_test (is_at is_list f c) e where
-    by_test : (t : Bool) → cond t (Some c) None ≡ Some list → Nests f (Some k) list
-    by_test true e = record { holder = k; is = refl; first = is ∙ e }
-    by_test false e = absurd (cc)
-
--- what a list holds is an item
-by_kinds : (outer inner : Kind) → is_list outer ≡ true → may_hold outer inner ≡ true → is_item inner ≡ true
-unfolding is_list may_hold
-by_kinds (ListKind type) inner is may = may
-by_kinds outer inner is may = absurd (cc)
-
-item_below : (f : Forest) (k p : ℕ) → IsHeld may_hold f → is_at is_list f p ≡ true → parent_of f k ≡ Some p → is_at is_item f k ≡ true
-item_below f k p held is up =
-    let kind : Option Label → Option Kind = option_map (λ (l : Label). l.kind) in
-    let outer = label_known f p (has-parent_of f k p up) in
-    let inner = label_known f k (has-child f k p up) in
-    let may : may_hold outer.0.kind inner.0.kind ≡ true = sym (ap₂ (λ o i. holds may_hold (kind o) (kind i)) outer.1 inner.1) ∙ held.each k p up in
-    let list : is_list outer.0.kind ≡ true = sym (ap (λ o. passes is_list (kind o)) outer.1) ∙ is in
-    ap (λ o. passes is_item (kind o)) inner.1 ∙ by_kinds outer.0.kind inner.0.kind list may
+  by_first (Some c) is e = record { holder = k; is = refl; first = is ∙ grind (arith, e) }
 
 -- ---- the item goes into the list of a neighbour
 
@@ -288,7 +269,7 @@ behind_and_back x list w v u s before behind some =
     let went : WentIn x list at.0 nest.holder w v = record {
       in_order = s.ready.in_order;
       item = s.item;
-      holder_item = item_below f nest.holder at.0 s.held is_up holder_up;
+      holder_item = item_below f at.0 nest.holder s.held is_up holder_up;
       up = at.1;
       holder_up = holder_up;
       apart = λ e. before_itself None x (children_of f at.0) refl (at.2 ∙ ap Some e);
@@ -311,7 +292,7 @@ ahead_and_back x list w v u s before behind some =
     let went : WentIn x list at.0 nest.holder w v = record {
       in_order = s.ready.in_order;
       item = s.item;
-      holder_item = item_below f nest.holder at.0 s.held is_up holder_up;
+      holder_item = item_below f at.0 nest.holder s.held is_up holder_up;
       up = at.1;
       holder_up = holder_up;
       apart = λ e. not_behind_itself x (children_of f at.0) (NoRepeats-children_of f at.0 s.ready.in_order) (at.2 ∙ ap Some e);
