@@ -1,12 +1,12 @@
 -- Steps about nodes on which no point is leave the selection as it is.
-use Rattle.std.proofs.Common.{◌≡◌, ◌≢◌, ◌∙◌, ℕ, ◌==◌, true, false, Option, None, Some, Ok, refl, sym, ap, subst, arith}
+use Rattle.std.proofs.Common.{◌≡◌, ◌≢◌, ◌∙◌, ℕ, ◌==◌, true, false, Option, Some, Ok, refl, sym, ap, subst, arith}
 use Rattle.std.specs.Option.{option_or}
-use Rattle.std.proofs.lemmas.Bool.{and_parts, or_parts}
+use Rattle.std.proofs.lemmas.Bool.{or_parts}
 use Rattle.std.proofs.lemmas.Bool.Decides.{eqb_tells}
 use Rattle.lx_trees.specs.Siblings.{is_among}
 use Rattle.lx_node.specs.declared.cause.Point.{Point}
 use Rattle.lx_select.specs.declared.selection.Selection.{Selection}
-use Rattle.lx_select.specs.declared.selection.Selection.TheVariants.{Nothing, Range, Nodes, Cells}
+use Rattle.lx_select.specs.declared.selection.Selection.TheVariants.{Range}
 use Rattle.lx_select.specs.Selection.{has_point_on}
 use Rattle.lx_select.specs.Rules.{take_moves, is_behind}
 use Rattle.lx_select.proofs.Apart.{put-apart}
@@ -28,15 +28,10 @@ use Rattle.lx_edit_laws.proofs.WrapTurns.{left_alone}
 use Rattle.lx_list_laws.specs.Levels.{has_points_within}
 
 -- no point in the tree of x is on a node outside
-outside_point : (f : Forest) (x q : ℕ) (p : Point) → is_within f x p.key ≡ true → is_within f x q ≡ false → (p.key == q) ≡ false
-outside_point f x q p inside outside = grind (arith, eqb_tells p.key q, inside, outside)
 
 pub off_outside : (f : Forest) (x q : ℕ) (s : Selection) → has_points_within f x s ≡ true → is_within f x q ≡ false → has_point_on q s ≡ false
-off_outside f x q Nothing points outside = refl
-off_outside f x q (Range a b format) points outside =
-    let each = and_parts (is_within f x a.key) (is_within f x b.key) points in rw (outside_point f x q a each.0 outside, outside_point f x q b each.1 outside) refl
-off_outside f x q (Nodes keys) points outside = refl
-off_outside f x q (Cells table a b) points outside = refl
+off_outside f x q (Range a b format) points outside = grind (arith, points, outside, eqb_tells a.key q, eqb_tells b.key q)
+off_outside f x q other points outside = refl
 
 -- ---- take and put
 
@@ -45,11 +40,8 @@ unfolding take_moves is_behind
 take_leaves p index a off = grind (arith, off)
 
 take_apart : (p : ℕ) (o : Option ℕ) (s : Selection) → has_point_on p s ≡ false → take_points (Some p) o s ≡ s
-take_apart p None s off = refl
-take_apart p (Some index) Nothing off = refl
 take_apart p (Some index) (Range a b format) off = let each = or_parts (a.key == p) (b.key == p) off in rw (take_leaves p index a each.0, take_leaves p index b each.1) refl
-take_apart p (Some index) (Nodes keys) off = refl
-take_apart p (Some index) (Cells table a b) off = refl
+take_apart p o other off = refl
 
 pub take_stays : (k p : ℕ) (w v : Working) → take_step k w ≡ Ok v → parent_of w.forest k ≡ Some p → has_point_on p w.selection ≡ false → v.selection ≡ w.selection
 unfolding take_step

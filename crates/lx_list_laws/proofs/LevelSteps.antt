@@ -1,5 +1,5 @@
 -- What the steps of going deeper and up leave of a forest, in their parts.
-use Rattle.std.proofs.Common.{◌≡◌, ◌≢◌, ◌∙◌, ℕ, ◌+◌, Bool, true, false, cond, eqb, List, [], ◌∷◌, Option, None, Some, Result, Ok, refl, sym, ap, subst, arith}
+use Rattle.std.proofs.Common.{◌≡◌, ◌≢◌, ◌∙◌, ℕ, ◌+◌, Bool, true, false, cond, eqb, List, [], ◌∷◌, Option, Some, Result, Ok, refl, sym, ap, subst, arith}
 use Rattle.std.specs.Prelude.{slice_get, option_map}
 use Rattle.std.proofs.lemmas.Bool.Decides.{eqb_tells}
 use Rattle.lx_trees.specs.Siblings.{first_of, next_in, names_without}
@@ -9,9 +9,8 @@ use Rattle.lx_node.specs.declared.kind.Kind.{Kind}
 use Rattle.lx_node.specs.declared.fields.Fields.{Fields}
 use Rattle.lx_node.specs.declared.cause.Cause.{Cause}
 use Rattle.lx_forest.specs.Forest.{Forest, Label}
-use Rattle.lx_forest.specs.Lookups.{has, spot, label_of, kind_of, parent_of, children_of, children_below, next_of, ancestors, IsForest}
+use Rattle.lx_forest.specs.Lookups.{has, label_of, kind_of, parent_of, children_of, children_below, next_of, ancestors, IsForest}
 use Rattle.lx_forest.specs.Edits.{with_new, take_out, put_in, CanPut}
-use Rattle.lx_forest.proofs.Edits.{is_some-spot}
 use Rattle.lx_forest.proofs.Lookups.{kind_of-with_new, parent_of-with_new, children_of-with_new, parent_of-take_out, children_of-take_out}
 use Rattle.lx_forest.proofs.Order.{IsForest-with_new, IsForest-take_out}
 use Rattle.lx_forest.proofs.Walks.{ancestors-step}
@@ -24,6 +23,7 @@ use Rattle.lx_draft.proofs.Gaps.{gap_at, behind_is, next_is_place}
 use Rattle.lx_edit.specs.Edits.{moved_behind, sent_away, goes_too, removed, remove_step}
 use Rattle.lx_edit.proofs.Climbed.{first_part, sent_away-forest, taken-forest}
 use Rattle.lx_list.specs.Indenting.{moved_to_front}
+use Rattle.lx_list.proofs.Itemless.{spot_known}
 use Rattle.lx_edit_laws.proofs.WrapSteps.{was_taken, was_put}
 use Rattle.lx_edit_laws.proofs.WrapTrees.{WasMoved}
 
@@ -73,10 +73,7 @@ module _ (f : Forest) (one two : Label) (h : IsForest f) (free : has one.key f �
 
 -- one that is there has a label
 pub label_known : (f : Forest) (k : ℕ) → has k f ≡ true → (l : Label) × (label_of f k ≡ Some l)
-label_known f k there = by_spot (spot f k) refl where
-  by_spot : (s : Option (Spot Label)) → spot f k ≡ s → (l : Label) × (label_of f k ≡ Some l)
-  by_spot None is = absurd (grind (arith, there, is, is_some-spot f k))
-  by_spot (Some s) is = (s.label, ap (option_map (λ (t : Spot Label). t.label)) is)
+label_known f k there = let s = spot_known f k there in (s.0.label, ap (option_map (λ (t : Spot Label). t.label)) s.1)
 
 -- ---- moves
 
