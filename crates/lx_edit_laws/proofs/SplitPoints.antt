@@ -9,7 +9,7 @@ use Rattle.lx_node.specs.declared.cause.Point.{Point}
 use Rattle.lx_node.specs.declared.cause.PointKind.TheVariants as point
 use Rattle.lx_text.specs.Texts.{is_offset, text_length, slice_of}
 use Rattle.lx_select.specs.declared.selection.Selection.{Selection}
-use Rattle.lx_select.specs.declared.selection.Selection.TheVariants.{Nothing, Range, Nodes, Cells}
+use Rattle.lx_select.specs.declared.selection.Selection.TheVariants.{Range}
 use Rattle.lx_select.specs.Selection.{each_point}
 use Rattle.lx_select.specs.Rules.{is_counting_children, is_behind, offset_sum, put_moves, spliced_offset, splice_moves, split_moves}
 use Rattle.lx_forest.specs.Forest.{Forest}
@@ -23,22 +23,19 @@ use Rattle.lx_edit.specs.Texts.{cut_in_two, cut_at, keys_from}
 use Rattle.lx_edit.proofs.Climbed.{first_part}
 use Rattle.lx_edit_laws.specs.Reading.{place_among}
 use Rattle.lx_edit_laws.proofs.SplitCuts.{IsCut, cut_tells, points_cut, stays_there, not_new, text_there, parent_there, not_above, far_from, far_from_new}
-use Rattle.lx_edit_laws.proofs.SplitPieces.{IsParted, not_cut, cut_text, cut_place, first_label, one_more, ends_self}
+use Rattle.lx_edit_laws.proofs.SplitPieces.{IsParted, not_cut, cut_text, cut_place, first_label, one_more}
+use Rattle.lx_edit_laws.proofs.WrapSteps.{was_same as ends_self}
 use Rattle.lx_edit_laws.proofs.SplitTexts.{IsCutAt, piece-length, piece-back, rest-told, offsets}
 
 -- ---- points of a selection
 
 pub each_self : (s : Selection) → each_point (λ x. x) s ≡ s
-each_self Nothing = refl
 each_self (Range a b format) = refl
-each_self (Nodes keys) = refl
-each_self (Cells t a b) = refl
+each_self other = refl
 
 pub each_twice : (f g : Point → Point) (s : Selection) → each_point g (each_point f s) ≡ each_point (λ x. g (f x)) s
-each_twice f g Nothing = refl
 each_twice f g (Range a b format) = refl
-each_twice f g (Nodes keys) = refl
-each_twice f g (Cells t a b) = refl
+each_twice f g other = refl
 
 -- ---- one point
 
@@ -63,7 +60,7 @@ split_moves-other : (k offset n : ℕ) (x : Point) → x.key ≢ k → split_mov
 unfolding split_moves
 split_moves-other k offset n x other = grind (arith, other, eqb_tells x.key k)
 
-splice_moves-other : (k from to len : ℕ) (x : Point) → x.key ≢ k → splice_moves k from to len x ≡ x
+pub splice_moves-other : (k from to len : ℕ) (x : Point) → x.key ≢ k → splice_moves k from to len x ≡ x
 unfolding splice_moves
 splice_moves-other k from to len x other = grind (arith, other, eqb_tells x.key k)
 
@@ -72,7 +69,7 @@ split_moves-front : (k offset n : ℕ) (x : Point) → x.offset ≤ offset → s
 unfolding split_moves
 split_moves-front k offset n x within = grind (arith, within, nat_tests)
 
-splice_moves-front : (k from to len : ℕ) (x : Point) → x.offset ≤ from → splice_moves k from to len x ≡ x
+pub splice_moves-front : (k from to len : ℕ) (x : Point) → x.offset ≤ from → splice_moves k from to len x ≡ x
 unfolding splice_moves spliced_offset
 splice_moves-front k from to len x within = let front : leb x.offset from ≡ true = grind (arith, within, nat_tests) in rw front (by_key (eqb x.key k)) where
   by_key : (same : Bool) → cond same (record x { offset = x.offset }) x ≡ x
@@ -215,10 +212,7 @@ module _ (k start o : ℕ) (rest new text : List ℕ) (t : TextFields) (w u v : 
 
 -- a key that is there comes before the next one
 pub less_than_next : (k : ℕ) (w : Working) → IsReady w → has k w.forest ≡ true → k < w.next_key
-less_than_next k w ready there = elim (cases_lt k w.next_key) [
-  | inl less ↦ less
-  | inr over ↦ absurd (grind (arith, there, ready.free k over))
-]
+less_than_next k w ready there = grind (arith, there, ready.free k)
 
 -- all cuts of a split
 pub parted : (k start : ℕ) (list text : List ℕ) (t : TextFields) (w v : Working) → IsReady w → text_in (label_of w.forest k) ≡ Some t

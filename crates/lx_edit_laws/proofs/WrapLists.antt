@@ -69,18 +69,8 @@ pub where_it_was : (x : ℕ) (xs : List ℕ) → NoRepeats xs → is_among x xs 
 where_it_was x [] once among = absurd (cc)
 where_it_was x (y ∷ []) once among = grind (arith, among)
 where_it_was x (y ∷ z ∷ ys) once among =
-    grind (
-      arith,
-      once,
-      among,
-      eqb_tells y x,
-      eqb_tells z z,
-      eqb_tells z x,
-      where_it_was x (z ∷ ys) once.1,
-      names_without-absent_list x (z ∷ ys),
-      names_without-absent_list x ys,
-      next_in-apart (z ∷ ys) x y,
-    )
+    let gone : (xs : List ℕ) → is_among x xs ≡ false → names_without x xs ≡ xs = names_without-absent_list x in
+    grind (arith, once, among, eqb_tells y x, eqb_tells z z, eqb_tells z x, where_it_was x (z ∷ ys) once.1, gone (z ∷ ys), gone ys, next_in-apart (z ∷ ys) x y)
 
 -- a name that another came before comes before that one, which leaves
 pub swapped : (k n : ℕ) (xs : List ℕ) → NoRepeats xs → is_among k xs ≡ true → is_among n xs ≡ false → k ≢ n
@@ -89,17 +79,7 @@ swapped k n [] once among absent other = absurd (cc)
 swapped k n (x ∷ xs) once among absent other =
     elim (eqb_tells x k) [
       | inl own ↦
-          grind (
-            arith,
-            own,
-            once.0,
-            absent,
-            other,
-            eqb_tells n k,
-            eqb_tells k n,
-            eqb_tells n n,
-            names_without-absent_list k xs,
-            names_without-absent_list n xs,
-          )
+          let gone : (c : ℕ) → is_among c xs ≡ false → names_without c xs ≡ xs = λ c. names_without-absent_list c xs in
+          grind (arith, own, once.0, absent, other, eqb_tells n k, eqb_tells k n, eqb_tells n n, gone k, gone n)
       | inr else ↦ grind (arith, else.0, among, absent, other, eqb_tells n k, eqb_tells x n, swapped k n xs once.1)
     ]

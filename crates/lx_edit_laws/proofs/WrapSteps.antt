@@ -1,5 +1,5 @@
 -- What one step leaves of a forest: a node taken out, put before another, and moved.
-use Rattle.std.proofs.Common.{◌≡◌, ◌≢◌, ◌∙◌, ℕ, true, false, List, [], Option, None, Some, Result, Ok, Err, refl, sym, ap, subst, arith, inl, inr}
+use Rattle.std.proofs.Common.{◌≡◌, ◌≢◌, ◌∙◌, ℕ, true, false, List, [], Option, None, Some, Result, Ok, refl, sym, ap, subst, arith, inl, inr}
 use Rattle.std.specs.Prelude.{slice_get, option_map}
 use Rattle.std.specs.Option.{option_or}
 use Rattle.std.proofs.lemmas.Bool.Decides.{eqb_tells}
@@ -46,7 +46,7 @@ pub has_above : (f : Forest) (k : ℕ) → not_below f k ≡ None → (p : ℕ) 
 has_above f k none =
     elim (cases_option (parent_of f k)) [
       | inl top ↦ absurd (grind (arith, none, top))
-      | inr (p, up) ↦ (p, up)
+      | inr found ↦ found
     ]
 
 pub was_taken : (k : ℕ) (w v : Working) → take_step k w ≡ Ok v → (v.forest ≡ take_out k w.forest) × ((p : ℕ) × (parent_of w.forest k ≡ Some p))
@@ -72,11 +72,9 @@ was_put_before k other p w v h up e =
 pub before_below : (k other : ℕ) (w v : Working) → put_before_step k other w ≡ Ok v → (p : ℕ) × (parent_of w.forest other ≡ Some p)
 before_below k other w v e =
     elim (cases_option (parent_of w.forest other)) [
-      | inl top ↦ absurd (refused (before_none w k other top) e)
-      | inr (p, up) ↦ (p, up)
-    ] where
-      refused : {cause : Cause} → put_before_step k other w ≡ Err cause → put_before_step k other w ≡ Ok v → ⊥
-      refused a b = cc
+      | inl top ↦ absurd (cc (before_none w k other top))
+      | inr found ↦ found
+    ]
 
 -- ---- a node that is moved
 
