@@ -158,9 +158,6 @@ text_within : (o : Option TextFields) (offset : ℕ) (rest : List ℕ) → bad_o
 text_within None offset rest e = absurd (no_offset offset rest e)
 text_within (Some t) offset rest e = (t, refl)
 
-same_rest : (k : ℕ) (xs ys : List ℕ) → k ∷ xs ≡ k ∷ ys → xs ≡ ys
-same_rest k xs ys e = cc
-
 -- split nowhere, and joined with nothing
 nothing_done : (k : ℕ) (new : List ℕ) (w v u : Working) (q : ℕ) → new ≡ [] → cut_at k 0 [] w ≡ Ok v → in_turn (join_step k) new v ≡ Ok u → spot u.forest q ≡ spot w.forest q
 unfolding in_turn
@@ -168,9 +165,9 @@ nothing_done k [] w v u q none cuts e = ap (λ (x : Working). spot x.forest q) (
 nothing_done k (n ∷ new) w v u q none cuts e = absurd (cc)
 
 pub joined_again : (k : ℕ) (offsets new : List ℕ) (w v u : Working) (q : ℕ) → IsSplit k offsets (k ∷ new) w v → in_turn (join_step k) new v ≡ Ok u → has q w.forest ≡ true → spot u.forest q ≡ spot w.forest q
-joined_again k [] new w v u q s e old = nothing_done k new w v u q (same_rest k new [] s.pieces_are) (cut_up k [] w v s.split).cut e
+joined_again k [] new w v u q s e old = nothing_done k new w v u q (cc s.pieces_are) (cut_up k [] w v s.split).cut e
 joined_again k (o ∷ rest) new w v u q s e old =
     let of = cut_up k (o ∷ rest) w v s.split in
     let text = text_within (text_in (label_of w.forest k)) o rest of.allowed in
     let there : has k w.forest ≡ true = sym (is_some-kind_of w.forest k) ∙ ap is_some of.kind_is in
-    spot_again k (o ∷ rest) new text.0 w v u s text.1 there (same_rest k new (keys_from w.next_key (length (o ∷ rest))) s.pieces_are) e q old
+    spot_again k (o ∷ rest) new text.0 w v u s text.1 there (cc s.pieces_are) e q old

@@ -1,6 +1,6 @@
 -- Where the points of a text go that is split: each keeps its place in what the pieces have together.
-use Rattle.std.proofs.Common.{◌≡◌, ◌≢◌, ◌∙◌, ℕ, zero, suc, ◌+◌, ◌-◌, ◌<◌, ◌≤◌, ◌⊎◌, Bool, true, false, cond, eqb, leb, ltb, ◌&&◌, List, [], ◌∷◌, length, None, Some, Ok, refl, sym, ap, ap₂, subst, arith, inl, inr}
-use Rattle.std.proofs.lemmas.Bool.{cases_lt}
+use Rattle.std.proofs.Common.{◌≡◌, ◌≢◌, ◌∙◌, ℕ, zero, suc, ◌+◌, ◌-◌, ◌<◌, ◌≤◌, ◌⊎◌, true, false, cond, eqb, leb, ltb, ◌&&◌, List, [], ◌∷◌, length, None, Some, Ok, refl, sym, ap, ap₂, subst, arith, inl, inr}
+use Rattle.std.proofs.lemmas.Bool.{cases_Bool, cases_lt}
 use Rattle.std.proofs.lemmas.Bool.Decides.{eqb_tells, nat_tests}
 use Rattle.lx_node.specs.Limits.{last_u32}
 use Rattle.lx_trees.specs.Siblings.{is_among}
@@ -71,10 +71,8 @@ split_moves-front k offset n x within = grind (arith, within, nat_tests)
 
 pub splice_moves-front : (k from to len : ℕ) (x : Point) → x.offset ≤ from → splice_moves k from to len x ≡ x
 unfolding splice_moves spliced_offset
-splice_moves-front k from to len x within = let front : leb x.offset from ≡ true = grind (arith, within, nat_tests) in rw front (by_key (eqb x.key k)) where
-  by_key : (same : Bool) → cond same (record x { offset = x.offset }) x ≡ x
-  by_key false = refl
-  by_key true = refl
+splice_moves-front k from to len x within =
+    let front : leb x.offset from ≡ true = grind (arith, within, nat_tests) in rw front (elim (cases_Bool (eqb x.key k)) [ inl same ↦ rw same refl | inr other ↦ rw other refl ])
 
 split_moves-back : (k offset n : ℕ) (x : Point) → x.key ≡ k → offset < x.offset → split_moves k offset n x ≡ record x { key = n; offset = x.offset - offset }
 unfolding split_moves
@@ -132,10 +130,7 @@ below_keys q k (suc count) less = grind (arith, less, eqb_tells k q, below_keys 
 -- a point of a key that isn't the first of these is after what the first has
 behind_first : (f : Forest) (k : ℕ) (new : List ℕ) (x : Point) → is_among k new ≡ false → is_among x.key new ≡ true → place_among f (k ∷ new) x ≡ length_at f k + place_among f new x
 behind_first f k new x absent among =
-    elim (eqb_tells x.key k) [
-      | inl own ↦ absurd (grind (arith, own, absent, among))
-      | inr other ↦ rw other.0 refl
-    ]
+    grind (arith, absent, among, eqb_tells x.key k)
 
 module _ (k start o : ℕ) (rest new text : List ℕ) (t : TextFields) (w u v : Working) (ready : IsReady w) (here : text_in (label_of w.forest k) ≡ Some t) (is : t.text ≡ slice_of start (length_told text) text)
     (place : IsCutAt start o text) (c : IsCut k (o - start) t w u) (r : IsParted w.next_key o rest new text (cut_text (o - start) t) u v)

@@ -19,13 +19,11 @@ apart (x ∷ xs) ys q u e = grind (arith, e, u.0, is_among-append x xs ys, eqb_t
 
 pub filter-kept : (keep : ℕ → Bool) (xs : List ℕ) → ((q : ℕ) → is_among q xs ≡ true → keep q ≡ true) → filter keep xs ≡ xs
 filter-kept keep [] each = refl
-filter-kept keep (x ∷ xs) each =
-    rw (each x (grind (arith, eqb_tells x x)), filter-kept keep xs (λ q among. each q (grind (arith, among))))
+filter-kept keep (x ∷ xs) each = rw (each x (grind (arith, eqb_tells x x)), filter-kept keep xs (λ q among. each q (grind (arith, among))))
 
 pub filter-gone : (keep : ℕ → Bool) (xs : List ℕ) → ((q : ℕ) → is_among q xs ≡ true → keep q ≡ false) → filter keep xs ≡ []
 filter-gone keep [] each = refl
-filter-gone keep (x ∷ xs) each =
-    rw (each x (grind (arith, eqb_tells x x))) (filter-gone keep xs (λ q among. each q (grind (arith, among))))
+filter-gone keep (x ∷ xs) each = rw (each x (grind (arith, eqb_tells x x))) (filter-gone keep xs (λ q among. each q (grind (arith, among))))
 
 -- of names that leave one after another
 pub filter-without : (k : ℕ) (ks xs : List ℕ) → filter (λ q. not (is_among q ks)) (names_without k xs) ≡ filter (λ q. not (is_among q (k ∷ ks))) xs
@@ -37,11 +35,7 @@ filter-without k ks (x ∷ xs) = grind (arith, filter-without k ks xs, eqb_tells
 -- of names that come before one in two parts, the second part comes after the first
 pub names_with-twice : (k c : ℕ) (new xs : List ℕ) → eqb c k ≡ false → names_with (Some k) new (names_with (Some k) (c ∷ []) xs) ≡ names_with (Some k) (c ∷ new) xs
 names_with-twice k c new [] other = grind (arith, other)
-names_with-twice k c new (x ∷ xs) other =
-    elim (eqb_tells x k) [
-      | inl own ↦ grind (arith, own.0, other)
-      | inr else ↦ grind (arith, else.0, names_with-twice k c new xs other)
-    ]
+names_with-twice k c new (x ∷ xs) other = grind (arith, other, eqb_tells x k, names_with-twice k c new xs other)
 
 -- none comes
 pub names_with-none : (k : ℕ) (xs : List ℕ) → names_with (Some k) [] xs ≡ xs

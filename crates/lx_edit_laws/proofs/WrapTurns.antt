@@ -1,7 +1,7 @@
 -- What nodes that are moved one after another leave of a forest, and what is left where one is removed.
 use Rattle.std.proofs.Common.{◌≡◌, ◌≢◌, ◌∙◌, ℕ, Bool, true, false, cond, eqb, not, List, [], ◌∷◌, ◌++◌, length, Option, None, Some, Ok, refl, sym, ap, subst, arith, append_assoc}
 use Rattle.std.specs.List.{filter}
-use Rattle.std.proofs.lemmas.List.{append-nil}
+use Rattle.std.proofs.lemmas.List.{append-nil, nil_from_length}
 use Rattle.std.proofs.lemmas.Bool.Decides.{eqb_tells}
 use Rattle.lx_trees.specs.Siblings.{is_among, NoRepeats, names_without, names_with}
 use Rattle.lx_node.specs.declared.kind.Kind.{Kind}
@@ -144,12 +144,8 @@ pub removed_alone : (k p s : ℕ) (w v : Working) → IsForest w.forest → pare
 removed_alone k p s w v h up among other e = taken_alone k w v (left_alone k p s w v h up among other e)
 
 -- what goes too has no children and no text
-empty : (xs : List ℕ) → eqb (length xs) 0 ≡ true → xs ≡ []
-empty [] e = refl
-empty (x ∷ xs) e = absurd (grind (arith, e))
-
 goes_silent : (inner : Option Kind) (f : Forest) (p : ℕ) → IsForest f → goes_too inner f p ≡ true → read_below f p ≡ []
-goes_silent inner f p h e = read-leaf f p h (empty (children_of f p) (grind (arith, e))) ∙ silent_gone f p inner (grind (arith, e))
+goes_silent inner f p h e = read-leaf f p h (nil_from_length (children_of f p) (grind (arith, e, eqb_tells (length (children_of f p)) 0))) ∙ silent_gone f p inner (grind (arith, e))
 
 -- what holds of a forest and itself, of one change after another, and where a tree is taken out in which nothing is read
 pub record HoldsAsSilentGo (P : Forest → Forest → Type 0) : Type 0 where

@@ -54,10 +54,7 @@ pub record WentDown (w v : Working) (p x : ℕ) : Type 0 where
   pub stays : has_point_on p w.selection ≡ false → has_point_on item.key w.selection ≡ false → has_point_on list.key w.selection ≡ false → v.selection ≡ w.selection
 
 later_free : (w : Working) (l : Label) (m : ℕ) → IsReady w → l.key ≡ w.next_key → m ≡ w.next_key + 1 → has m (with_new l w.forest) ≡ false
-later_free w l m ready first next =
-    let free : has m w.forest ≡ false = ready.free m (omega arith) in
-    let other : l.key ≢ m = λ e. absurd (omega arith) in
-    grind (arith, free, other, count-with_new m l w.forest, eqb_tells l.key m)
+later_free w l m ready first next = grind (arith, first, next, ready.free m (omega (arith, next)), count-with_new m l w.forest, eqb_tells l.key m)
 
 pub went_down : (x p : ℕ) (l : Label) (w v : Working) → IsReady w → parent_of w.forest x ≡ Some p → label_of w.forest p ≡ Some l → wrapped_like x (Some l) w ≡ Ok v → WentDown w v p x
 went_down x p l w v ready up like e =
@@ -167,9 +164,9 @@ module _ (w v : Working) (p x : ℕ) (h : IsForest w.forest) (s : WentDown w v p
         let g : Forest = a.0.forest in
         let gone : g ≡ take_out list f = a.2 in
         let order : IsForest g = subst IsForest (sym gone) (IsForest-take_out list f r_order) in
-        let above : parent_of g item ≡ Some p =
-        ap (λ z. parent_of z item) gone ∙ parent_of-take_out list f item r_order
-        ∙ ap (λ b. cond b None (parent_of f item)) (different item list two) ∙ item_up new v.forest p x item list s.sunk r.forest p (Some item) rose in
+        let still : (q : ℕ) → q ≢ list → parent_of f q ≡ Some p → parent_of g q ≡ Some p =
+        λ q other up. ap (λ z. parent_of z q) gone ∙ grind (arith, parent_of-take_out list f q r_order, other, up, eqb_tells q list) in
+        let above : parent_of g item ≡ Some p = still item two (item_up new v.forest p x item list s.sunk r.forest p (Some item) rose) in
         let empty : children_of g item ≡ [] =
         ap (λ z. children_of z item) gone ∙ children_of-take_out list f item r_order
         ∙ ap (names_without list) (item_holds new v.forest p x item list s.sunk r.forest p (Some item) rose (not_new new p x item s.sunk.may)) ∙ grind (arith, eqb_tells list list) in
@@ -180,9 +177,7 @@ module _ (w v : Working) (p x : ℕ) (h : IsForest w.forest) (s : WentDown w v p
         let next : Some item ≡ goes_next (kind_of f list) g (parent_of f list) =
         sym (ap (goes_next (kind_of f list) g) there ∙ grind (arith, empty, above, goes)) in
         let rest : remove_step item a.0 ≡ Ok u = climbed list r a.0 (Some item) r_order a.1 next ∙ e in
-        let above_x : parent_of g x ≡ Some p =
-        ap (λ z. parent_of z x) gone ∙ parent_of-take_out list f x r_order
-        ∙ ap (λ b. cond b None (parent_of f x)) (different x list (x_not_list new v.forest p x item list s.sunk)) ∙ x_up new v.forest p x item list s.sunk r.forest p (Some item) rose in
+        let above_x = still x (x_not_list new v.forest p x item list s.sunk) (x_up new v.forest p x item list s.sunk r.forest p (Some item) rose) in
         let among : is_among x (children_of g p) ≡ true = child_of g p x order above_x in
         let other : x ≢ item = x_not_item new v.forest p x item list s.sunk in (
           removed_alone item p x a.0 u order above among other rest ∙ ap (take_out item) gone,

@@ -2,7 +2,7 @@
 use Rattle.std.proofs.Common.{◌≡◌, ◌≢◌, ◌∙◌, ℕ, ◌&&◌, ◌==◌, true, false, cond, List, [], ◌∷◌, ◌++◌, length, Option, None, Some, Ok, refl, sym, ap, ap₂, subst, arith, inl, inr}
 use Rattle.std.specs.Prelude.{is_none, option_map}
 use Rattle.std.proofs.lemmas.Bool.Decides.{eqb_tells}
-use Rattle.lx_trees.specs.Siblings.{is_among, is_named, first_of, next_in, previous_from, previous_in, NoRepeats, names_without, names_with}
+use Rattle.lx_trees.specs.Siblings.{is_among, is_named, first_of, next_in, previous_from, previous_in, names_without, names_with}
 use Rattle.lx_node.specs.Kinds.{is_item, is_list}
 use Rattle.lx_trees.proofs.Siblings.{first_of-among, names_without-absent_list, next_in-names_without}
 use Rattle.lx_select.specs.Selection.{has_point_on}
@@ -23,6 +23,7 @@ use Rattle.lx_list.specs.Indenting.{moved_to_front, nested_by, deeper, indented}
 use Rattle.lx_list.specs.Outdenting.{moved_out, parted, gone_if_empty, out_of, out_from, out_by, shallower, outdented}
 use Rattle.lx_list.proofs.Above.{list_above}
 use Rattle.lx_list.proofs.Itemless.{item_below}
+use Rattle.lx_edit_laws.proofs.JoinSteps.{next_apart}
 use Rattle.lx_edit_laws.proofs.WrapLists.{names_with-end}
 use Rattle.lx_edit_laws.proofs.WrapTrees.{own, different, not_child, WasMoved, IsForest-moved, label_of-moved, parent_of-moved, children_of-moved, take-moved, moved_twice, moved_back}
 use Rattle.lx_edit_laws.proofs.WrapSteps.{was_same, was_moved_to_end, was_moved_before}
@@ -32,14 +33,7 @@ use Rattle.lx_list_laws.proofs.LevelSteps.{chosen, unless, was_moved_behind, was
 
 -- ---- lists of names
 
--- no name comes right after itself, nor right before
-pub not_behind_itself : (x : ℕ) (xs : List ℕ) → NoRepeats xs → next_in xs x ≢ Some x
-not_behind_itself x [] once e = absurd (cc)
-not_behind_itself x (y ∷ ys) once e =
-    elim (eqb_tells y x) [
-      | inl same ↦ absurd (grind (arith, same, once.0, e, first_of-among ys x))
-      | inr other ↦ not_behind_itself x ys once.1 (grind (arith, other.0, e))
-    ]
+-- no name comes right before itself
 
 before_itself : (before : Option ℕ) (x : ℕ) (xs : List ℕ) → is_named before x ≡ false → previous_from before xs x ≢ Some x
 before_itself before x [] apart e = absurd (cc)
@@ -295,7 +289,7 @@ ahead_and_back x list w v u s before behind some =
       holder_item = item_below f at.0 nest.holder s.held is_up holder_up;
       up = at.1;
       holder_up = holder_up;
-      apart = λ e. not_behind_itself x (children_of f at.0) (NoRepeats-children_of f at.0 s.ready.in_order) (at.2 ∙ ap Some e);
+      apart = λ e. next_apart (children_of f at.0) x nest.holder (NoRepeats-children_of f at.0 s.ready.in_order) at.2 (sym e);
       first = nest.first;
       some = some;
       place = first_of (names_without x (children_of f list));

@@ -7,8 +7,6 @@ use Rattle.std.proofs.lemmas.Bool.Decides.{eqb_tells}
 use Rattle.lx_trees.specs.Siblings.{is_among, names_with}
 use Rattle.lx_node.specs.Kinds.{may_hold, is_inline, is_item, is_list, is_text_block}
 use Rattle.lx_node.specs.Plain.{plain_element}
-use Rattle.lx_node.specs.declared.kind.Kind.{Kind}
-use Rattle.lx_node.specs.declared.kind.Kind.TheVariants as kinds
 use Rattle.lx_node.specs.declared.kind.Kind.TheVariants.{Paragraph}
 use Rattle.lx_node.specs.declared.cause.Cause.{Cause}
 use Rattle.lx_trees.proofs.NamedTrees.{is_among-preorder, NoRepeats-preorder}
@@ -29,7 +27,7 @@ use Rattle.lx_edit.specs.InTurn.{in_turn}
 use Rattle.lx_edit.specs.Edits.{sent_away, removed, remove_step}
 use Rattle.lx_edit.proofs.Climbed.{first_part, sent_away-forest}
 use Rattle.lx_edit.proofs.Paths.{remove_path}
-use Rattle.lx_blocks.specs.Blocks.{passes, is_at, is_line}
+use Rattle.lx_blocks.specs.Blocks.{is_at, is_line}
 use Rattle.lx_list.specs.Dissolving.{emptied_into, paragraph_made, dissolved, is_in_item, is_outermost, outermost_above, dissolved_if, dissolved_around}
 use Rattle.lx_edit_laws.specs.Reading.{read_below}
 use Rattle.lx_edit_laws.proofs.Reading.{down, spread-none, reads_of, read-level, IsKnown, reads_known, reads-instead}
@@ -40,8 +38,8 @@ use Rattle.lx_list_laws.proofs.ReadForests.{reads_told}
 use Rattle.lx_list_laws.proofs.ReadSound.{StaysSound, stays_then, stays_selected, sound_path}
 use Rattle.lx_list_laws.proofs.ReadEdits.{parent_made, so_at, was_removed}
 use Rattle.lx_list.proofs.Itemless.{there_at as at_there}
-use Rattle.lx_list_laws.proofs.ReadSaid.{inlines, said, both_kinds, MaySay, AreSaid, are_said}
-use Rattle.lx_list_laws.proofs.ReadLines.{said-lines, is_listed, listed_below, listed_silent, none_in_list, none-any, is_block_at, list_or_item, lines_read}
+use Rattle.lx_list_laws.proofs.ReadSaid.{inlines, said, inline_below, MaySay, AreSaid, are_said}
+use Rattle.lx_list_laws.proofs.ReadLines.{inline_no_block, list_tells, said-lines, is_listed, listed_below, listed_silent, none_in_list, none-any, is_block_at, list_or_item, lines_read}
 
 -- the lines of a list
 abbrev lines_of : Forest → ℕ → List ℕ
@@ -201,29 +199,17 @@ top_stays list (line ∷ lines) w u v s e f =
     let below = before_below w.next_key list b.0 c.0 c.1 in
     (below.0, sym (parent_made Paragraph plain_element w b.0 list s b.1) ∙ below.1)
 
--- what holds a list isn't inline
-inline_no_list : (outer inner : Kind) → may_hold outer inner ≡ true → is_list inner ≡ true → is_inline outer ≡ false
-unfolding may_hold is_list is_inline
-inline_no_list kinds.Link (kinds.List type) h is = absurd (cc)
-inline_no_list outer inner h is = cc
-
-block_no_inline : (kind : Kind) → is_text_block kind ≡ true → is_inline kind ≡ false
-unfolding is_text_block is_inline
-block_no_inline kinds.Paragraph e = refl
-block_no_inline kind e = cc
-
 -- a line isn't inline
 pub block_apart : (f : Forest) (k : ℕ) → is_at is_text_block f k ≡ true → is_at is_inline f k ≡ false
-block_apart f k is = so_at is_text_block is_inline false block_no_inline f k is
+block_apart f k is = grind (arith, is, so_at is_inline is_text_block false inline_no_block f k)
 
 may_say : (f : Forest) (p list : ℕ) → IsForest f → IsHeld may_hold f → parent_of f list ≡ Some p → is_at is_list f list ≡ true → MaySay f p list (lines_of f list)
 may_say f p list h held up is =
-    let k = both_kinds (λ outer inner. is_list inner ≡ true → is_inline outer ≡ false) f list p held up (λ outer inner a b may x. inline_no_list outer inner may x) in
     let inside : (q : ℕ) → is_among q (lines_of f list) ≡ true → is_within f list q ≡ true = λ q among. grind (arith, among_lines f list q, among) in
     let block : (q : ℕ) → is_among q (lines_of f list) ≡ true → is_at is_text_block f q ≡ true = λ q among. grind (arith, among_lines f list q, among) in
     record {
       up = up;
-      place = ap (passes is_inline) k.2 ∙ k.4 (sym (ap (passes is_list) k.3) ∙ is);
+      place = grind (arith, inline_below f list p held up, so_at is_list is_inline false (λ kind e. (list_tells kind e).1) f list is);
       once = NoRepeats-filter (is_line f) (keys_within f list) (NoRepeats-preorder key_of (alone list f) (λ q. omega (arith, count-alone-le key_of q list f, h.once q)));
       there = λ q among. at_there is_text_block f q (block q among);
       apart = λ q among. grind (arith, inside q among, is_within-parent f list p h up, eqb_tells q p);

@@ -16,7 +16,7 @@ use Rattle.lx_edit_laws.proofs.Reading.{down, spread, spread-same, spread-none, 
 use Rattle.lx_edit_laws.proofs.WrapLists.{filter-gone}
 use Rattle.lx_edit_laws.proofs.WrapSteps.{silent}
 use Rattle.lx_list_laws.specs.Reading.{stand_first, InlinesFirst}
-use Rattle.lx_list.proofs.Itemless.{there_at as at_there}
+use Rattle.lx_list.proofs.Itemless.{item_below, there_at as at_there}
 use Rattle.lx_edit_laws.proofs.Reading.{kind_known}
 use Rattle.lx_list_laws.proofs.ReadEdits.{so_at}
 use Rattle.lx_list_laws.proofs.ReadSaid.{inlines, said, both_kinds, inline_below}
@@ -38,7 +38,7 @@ no_line : (f : Forest) (k : ℕ) → is_at is_text_block f k ≡ false → is_li
 no_line f k none = ap (λ b. b && (eqb (size_of f k) 0 || list_any (is_at is_inline f) (children_of f k))) none
 
 -- no inline node is a line, nor is what is in it
-inline_no_block : (kind : Kind) → is_inline kind ≡ true → is_text_block kind ≡ false
+pub inline_no_block : (kind : Kind) → is_inline kind ≡ true → is_text_block kind ≡ false
 unfolding is_inline is_text_block
 inline_no_block kinds.Text e = refl
 inline_no_block kind e = cc
@@ -73,17 +73,21 @@ listed_below f q p held up is other =
 pub listed_silent : (f : Forest) (k : ℕ) → is_at is_listed f k ≡ true → text_at f k ≡ []
 listed_silent f k is = silent f k (λ kind at. listed_no_text kind (sym (ap (passes is_listed) at) ∙ is))
 
+-- an item is a text block, and a list isn't; neither is inline
+item_tells : (kind : Kind) → is_item kind ≡ true → (is_text_block kind ≡ true) × (is_inline kind ≡ false)
+unfolding is_item is_text_block is_inline
+item_tells kinds.Item e = (refl, refl)
+item_tells kind e = absurd (cc)
+
+pub list_tells : (kind : Kind) → is_list kind ≡ true → (is_text_block kind ≡ false) × (is_inline kind ≡ false)
+unfolding is_list is_text_block is_inline
+list_tells (kinds.List type) e = (refl, refl)
+list_tells kind e = absurd (cc)
+
 -- what is in a list isn't inline
-item_holds_none : (outer inner : Kind) → may_hold outer inner ≡ true → is_list outer ≡ true → is_inline inner ≡ false
-unfolding may_hold is_list is_item is_inline
-item_holds_none (kinds.List type) kinds.Item h is = refl
-item_holds_none (kinds.List type) inner h is = absurd (cc)
-item_holds_none outer inner h is = absurd (cc)
 
 pub none_in_list : (f : Forest) (q p : ℕ) → IsHeld may_hold f → parent_of f q ≡ Some p → is_at is_list f p ≡ true → is_at is_inline f q ≡ false
-none_in_list f q p held up is =
-    let k = both_kinds (λ outer inner. is_list outer ≡ true → is_inline inner ≡ false) f q p held up (λ outer inner a b h x. item_holds_none outer inner h x) in
-    ap (passes is_inline) k.3 ∙ k.4 (sym (ap (passes is_list) k.2) ∙ is)
+none_in_list f q p held up is = so_at is_item is_inline false (λ kind e. (item_tells kind e).1) f q (item_below f p q held is up)
 
 pub none-any : (test : ℕ → Bool) (xs : List ℕ) (q : ℕ) → list_any test xs ≡ false → is_among q xs ≡ true → test q ≡ false
 none-any test [] q none among = absurd (cc)
@@ -120,21 +124,11 @@ line_says f k block = elim (cases_Bool (list_any (is_at is_inline f) (children_o
   | inr none ↦ grind (arith, block, none, filter-gone (is_at is_inline f) (children_of f k) (λ q among. none-any (is_at is_inline f) (children_of f k) q none among))
 ]
 
-item_is_block : (kind : Kind) → is_item kind ≡ true → is_text_block kind ≡ true
-unfolding is_item is_text_block
-item_is_block kinds.Item e = refl
-item_is_block kind e = absurd (cc)
-
-list_no_block : (kind : Kind) → is_list kind ≡ true → is_text_block kind ≡ false
-unfolding is_list is_text_block
-list_no_block (kinds.List type) e = refl
-list_no_block kind e = absurd (cc)
-
 pub is_block_at : (f : Forest) (k : ℕ) → is_at is_item f k ≡ true → is_at is_text_block f k ≡ true
-is_block_at f k is = so_at is_item is_text_block true item_is_block f k is
+is_block_at f k is = so_at is_item is_text_block true (λ kind e. (item_tells kind e).0) f k is
 
 pub list_no_line : (f : Forest) (k : ℕ) → is_at is_list f k ≡ true → is_line f k ≡ false
-list_no_line f k is = no_line f k (so_at is_list is_text_block false list_no_block f k is)
+list_no_line f k is = no_line f k (so_at is_list is_text_block false (λ kind e. (list_tells kind e).0) f k is)
 
 -- which of the two it is
 pub list_or_item : (f : Forest) (k : ℕ) → is_at is_listed f k ≡ true → (is_at is_list f k ≡ true) ⊎ (is_at is_item f k ≡ true)

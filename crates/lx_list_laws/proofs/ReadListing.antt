@@ -43,6 +43,7 @@ use Rattle.lx_edit_laws.proofs.WrapSteps.{was_same}
 use Rattle.lx_list_laws.specs.Reading.{stand_first, InlinesFirst, IsSound, ReadsAs}
 use Rattle.lx_list_laws.proofs.ReadOrder.{all-same, first-same, first-all, StandBeside, beside-previous, beside-with, beside-apart}
 use Rattle.lx_list_laws.proofs.ReadForests.{reads_alike, CameNew, came_here, came_elsewhere, came_empty, read_came}
+use Rattle.lx_list_laws.proofs.ReadLines.{list_tells}
 use Rattle.lx_list_laws.proofs.ReadOver.{both_up, GoesBackIn, up_item, read_back, read_back_in}
 use Rattle.lx_list_laws.proofs.ReadSound.{StaysSound, stays_then, stays_selected, set_forest, sound_path}
 use Rattle.lx_list_laws.proofs.ReadEdits.{IsBorn, born_last, born_before, so_at, kinds_born, first_born, first_went, was_removed}
@@ -326,16 +327,11 @@ keeps_retyped_with type list (Some x) w v s clear e =
     } in
     keeps_then w d.0 v up_to (keeps_each (remarked type) (keeps_remarked type) (children_of d.0.forest new) d.0 v left.sound d.2)
 
-list_no_inline : (kind : Kind) → is_list kind ≡ true → is_inline kind ≡ false
-unfolding is_list is_inline
-list_no_inline (ListKind found) e = refl
-list_no_inline other e = absurd (cc)
-
 pub keeps_retyped_above : (type : ListType) (line : ℕ) (o : Option ℕ) (w v : Working) → IsSound w → is_at is_item w.forest line ≡ true → parent_of w.forest line ≡ o → retyped_above type o w ≡ Ok v → Keeps w v
 unfolding retyped
 keeps_retyped_above type line None w v s item up e = keeps_same w v s e
 keeps_retyped_above type line (Some list) w v s item up e =
-    let apart : is_at is_inline w.forest list ≡ false = so_at is_list is_inline false list_no_inline w.forest list (list_above w.forest line list s.held item up) in
+    let apart : is_at is_inline w.forest list ≡ false = so_at is_list is_inline false (λ kind e. (list_tells kind e).1) w.forest list (list_above w.forest line list s.held item up) in
     keeps_either (is_at (is_list_of type) w.forest list) (Ok w) (retyped type list w) w v (λ is e. keeps_same w v s e) (λ is e. keeps_retyped_with type list (fields_of w.forest list) w v s apart e) e
 
 -- ---- a line
