@@ -79,7 +79,7 @@ next_apart (x ∷ xs) q n once e same =
     ]
 
 beside_by : (f : Forest) (o : Option ℕ) (first second : ℕ) → IsForest f → parent_of f first ≡ o → next_of f first ≡ Some second → AreBeside f first second
-beside_by f None first second h up e = absurd (let both : ◌≡◌ {A = Option ℕ} None (Some second) = sym (ap (λ o. next_in (children_below f o) first) up) ∙ e in cc)
+beside_by f None first second h up e = absurd (grind (arith, up, e))
 beside_by f (Some p) first second h up e =
     let next : next_in (children_of f p) first ≡ Some second = sym (ap (λ o. next_in (children_below f o) first) up) ∙ e in
     let below : parent_of f second ≡ Some p = parent_of-next f first second p h up e in
@@ -150,27 +150,18 @@ spliced_fields f k t more is fits =
     let end : length_at f k ≡ text_length t.text = ap length_in is ∙ told-all t.text (omega (arith, fits, length-append t.text more)) in
     ap (λ o. with_piece o (length_at f k) (length_at f k) more) is ∙ ap (text_replaced t) (spliced-end (length_at f k) more t.text end)
 
--- what the take left
-record IsTaken (k : ℕ) (u v : Working) : Type 0 where
-  forest : v.forest ≡ take_out k u.forest
-  selection : v.selection ≡ take_points (parent_of u.forest k) (index_of u.forest k) u.selection
-
-taken_of : (k : ℕ) (u v : Working) → take_step k u ≡ Ok v → IsTaken k u v
-unfolding take_step
-taken_of k u v e =
-    let told = answered (option_or (detach_fault k u.forest) (over_counts u)) (node_taken k u) v e in
-    record { forest = ap (λ (x : Working). x.forest) (sym told.1); selection = ap (λ (x : Working). x.selection) (sym told.1) }
 
 index_of-with_fields : (k : ℕ) (fields : Fields) (f : Forest) (q : ℕ) → index_of (with_fields k fields f) q ≡ index_of f q
 index_of-with_fields k fields f q = ap (λ xs. index_in xs q) (siblings-with_fields k fields f q)
 
 joined_of : (first second : ℕ) (w s v : Working) → IsForest w.forest → join_fault first second w.forest ≡ None → text_length (text_at w.forest first ++ text_at w.forest second) ≤ last_u32
     → IsSpliced first second w s → take_step second (pointed (join_moves first (length_at w.forest first) second) s) ≡ Ok v → AreJoined first second w v
+unfolding take_step
 joined_of first second w s v h none fits spliced e =
     let end : ℕ = length_at w.forest first in
     let text : List ℕ = text_at w.forest second in
     let u : Working = pointed (join_moves first end second) s in
-    let taken = taken_of second u v e in
+    let taken = (answered (option_or (detach_fault second u.forest) (over_counts u)) (node_taken second u) v e).1 in
     let same : text_at w.forest first ≡ spliced.own.text = ap text_or_none spliced.own_is in
     let room : text_length (spliced.own.text ++ text) ≤ last_u32 = subst (λ xs. text_length (xs ++ text) ≤ last_u32) same fits in
     let place = beside w.forest first second h (next_is (next_of w.forest first) second (grind (arith, none))) in
@@ -184,9 +175,9 @@ joined_of first second w s v h none fits spliced e =
       first_text = like_text w.forest first (grind (arith, none)) (grind (arith, none));
       second_text = like_text w.forest second (grind (arith, none)) (grind (arith, none));
       forest =
-          taken.forest ∙ ap (take_out second) (spliced.forest ∙ ap (λ x. with_fields first x w.forest) (spliced_fields w.forest first spliced.own text spliced.own_is room));
+          ap (λ (x : Working). x.forest) (sym taken) ∙ ap (take_out second) (spliced.forest ∙ ap (λ x. with_fields first x w.forest) (spliced_fields w.forest first spliced.own text spliced.own_is room));
       selection =
-          taken.selection
+          ap (λ (x : Working). x.selection) (sym taken)
           ∙ ap₂ (λ p i. take_points p i u.selection) up at
           ∙ ap (λ x. each_point (take_moves place.parent place.index) (each_point (join_moves first end second) x)) spliced.selection
           ∙ ap (each_point (take_moves place.parent place.index)) (each_twice (splice_moves first end end (length_told text)) (join_moves first end second) w.selection)

@@ -84,24 +84,15 @@ record IsBehind (n k : ℕ) (c d : Working) : Type 0 where
   can : CanPut parent n c.forest
   is : node_placed n parent (index + 1) c ≡ d
 
-placed_is : (n k p i : ℕ) (c d : Working) → parent_of c.forest k ≡ Some p → index_of c.forest k ≡ Some i → put_step n p (i + 1) c ≡ Ok d → IsBehind n k c d
-unfolding put_step
-placed_is n k p i c d up at e =
-    let told = answered (option_or (put_fault n p (i + 1) c.forest) (over_counts c)) (node_placed n p (i + 1) c) d e in
-    record {
-      parent = p;
-      index = i;
-      up = up;
-      at = at;
-      can = can_put c.forest n p (i + 1) (both_none (put_fault n p (i + 1) c.forest) (over_counts c) told.0).0;
-      is = told.1;
-    }
 
 behind_is : (n k : ℕ) (c d : Working) → put_behind_step n k c ≡ Ok d → IsBehind n k c d
-unfolding put_behind_step
+unfolding put_behind_step put_step
 behind_is n k c d e = by_place (parent_of c.forest k) (index_of c.forest k) refl refl e where
   by_place : (p i : Option ℕ) → parent_of c.forest k ≡ p → index_of c.forest k ≡ i → behind_at n k p i c ≡ Ok d → IsBehind n k c d
-  by_place (Some p) (Some i) up at e = placed_is n k p i c d up at e
+  by_place (Some p) (Some i) up at e =
+      let told = answered (option_or (put_fault n p (i + 1) c.forest) (over_counts c)) (node_placed n p (i + 1) c) d e in
+      let none = (both_none (put_fault n p (i + 1) c.forest) (over_counts c) told.0).0 in
+      record { parent = p; index = i; up = up; at = at; can = can_put c.forest n p (i + 1) none; is = told.1 }
   by_place p i up at e = absurd (cc)
 
 -- ---- the whole

@@ -37,6 +37,7 @@ use Rattle.lx_edit_laws.proofs.WrapTurns.{removed_alone}
 use Rattle.lx_list_laws.specs.Levels.{nested_before, nested_behind, GoesAndComes, PointsStay}
 use Rattle.lx_list_laws.proofs.LevelWraps.{prepared, HasSunk, x_not_item, x_not_list, now_order, now_kind, x_up, list_up, item_up, item_holds, sunk_list, left_list, risen, back_again_in}
 use Rattle.lx_list_laws.proofs.LevelPoints.{off_outside, before_stays, put_stays, to_end_stays, moved_before_stays, sent_stays, removed_stays}
+use Rattle.lx_list_laws.proofs.LevelBeside.{deeper_by}
 use Rattle.lx_list_laws.proofs.LevelSteps.{chosen, label_known, was_made, two_order, two_kind, two_parent, two_children, was_removed}
 
 -- ---- down
@@ -197,24 +198,21 @@ module _ (w v : Working) (p x : ℕ) (h : IsForest w.forest) (s : WentDown w v p
       let g : Forest = v.forest in
       let x_is : is_at is_item g x ≡ true = ap (passes is_item) (now_kind new g p x item list s.sunk g list None s.sunk.moved x ∙ x_kind) ∙ is in
       let item_is : is_at is_item g item ≡ true = ap (passes is_item) (now_kind new g p x item list s.sunk g list None s.sunk.moved item ∙ item_kind) ∙ (item_goes Item).0 in
-      let by : out_by x (parent_of g x) v ≡ Ok u = chosen (is_at is_item g x) (out_by x (parent_of g x) v) (change_step (with_indent shallower) x v) u x_is e in
-      let from : out_from x list (parent_of g list) v ≡ Ok u = sym (ap (λ o. out_by x o v) (x_up new g p x item list s.sunk g list None s.sunk.moved)) ∙ by in
-      let in_item : out_from x list (Some item) v ≡ Ok u = sym (ap (λ o. out_from x list o v) (list_up new g p x item list s.sunk g list None s.sunk.moved)) ∙ from in
-      let out : out_of x list item v ≡ Ok u = chosen (is_at is_item g item) (out_of x list item v) (Ok v) u item_is in_item in
-      let a = first_part (moved_out x list item v) (gone_if_empty list) u out in
+      let up_x = x_up new g p x item list s.sunk g list None s.sunk.moved in
+      let up_list = list_up new g p x item list s.sunk g list None s.sunk.moved in
+      let out : out_of x list item v ≡ Ok u = rw (x_is, up_x, up_list, item_is) at e in
+
       let x_first : is_named (first_child g list) x ≡ true = ap (λ ks. is_named (first_of ks) x) (sunk_list new g p x item list s.sunk) ∙ own x in
       let list_first : is_named (first_child g item) list ≡ true = ap (λ ks. is_named (first_of ks) list) (item_holds new g p x item list s.sunk g list None s.sunk.moved (λ e. s.sunk.two (sym e))) ∙ own list in
-      let before : moved_before item x v ≡ Ok a.0 =
-      chosen (is_named (first_child g list) x && is_named (first_child g item) list) (moved_before item x v)
-      (cond (is_none (next_of g x)) (moved_behind item x v) (parted x list item v)) a.0 (ap₂ ◌&&◌ x_first list_first) a.1 in
+      let a = first_part (moved_before item x v) (gone_if_empty list) u (rw (x_first, list_first) at out) in
       let up : WasMoved g a.0.forest p x (Some item) =
-      was_moved_before item x p v a.0 (now_order new g p x item list s.sunk g list None s.sunk.moved) (item_up new g p x item list s.sunk g list None s.sunk.moved) (λ same. x_not_item new g p x item list s.sunk (sym same)) before in
+      was_moved_before item x p v a.0 (now_order new g p x item list s.sunk g list None s.sunk.moved) (item_up new g p x item list s.sunk g list None s.sunk.moved) (λ same. x_not_item new g p x item list s.sunk (sym same)) a.1 in
       let left : (size_of a.0.forest list == 0) ≡ true = ap (λ (ks : List ℕ). length ks == 0) (left_list new g p x item list s.sunk a.0.forest up) in
       let removes : remove_step list a.0 ≡ Ok u = chosen (size_of a.0.forest list == 0) (remove_step list a.0) (Ok a.0) u left a.2 in (
         all_back a.0 u up list_is removes,
         λ off_p off_n off_m.
             let mid : a.0.selection ≡ v.selection =
-            moved_before_stays item x list p v a.0 (now_order new g p x item list s.sunk g list None s.sunk.moved) (item_up new g p x item list s.sunk g list None s.sunk.moved) (λ same. x_not_item new g p x item list s.sunk (sym same)) before
+            moved_before_stays item x list p v a.0 (now_order new g p x item list s.sunk g list None s.sunk.moved) (item_up new g p x item list s.sunk g list None s.sunk.moved) (λ same. x_not_item new g p x item list s.sunk (sym same)) a.1
             (x_up new g p x item list s.sunk g list None s.sunk.moved) off_m off_p in
             (both_gone a.0 u up list_is removes).1 (ap (has_point_on p) mid ∙ off_p) (ap (has_point_on item) mid ∙ off_n) (ap (has_point_on list) mid ∙ off_m) ∙ mid,
       )
@@ -237,8 +235,7 @@ unfolding outdented
 wrapped_and_back x w v u s None top e =
     let same : w ≡ v = was_same w v e in
     let again : outdented x w ≡ Ok u = ap (outdented x) same ∙ s.up in
-    let by : out_by x (parent_of w.forest x) w ≡ Ok u = chosen (is_at is_item w.forest x) (out_by x (parent_of w.forest x) w) (change_step (with_indent shallower) x w) u s.item again in
-    let stays : w ≡ u = was_same w u (sym (ap (λ o. out_by x o w) top) ∙ by) in
+    let stays : w ≡ u = was_same w u (rw (s.item, top) at again) in
     (ap (λ (z : Working). drop_detached z.forest) (sym stays), λ points. (ap (λ (z : Working). z.selection) (sym same), ap (λ (z : Working). z.selection) (sym stays)))
 wrapped_and_back x w v u s (Some p) up e =
     let f : Forest = w.forest in
@@ -258,8 +255,4 @@ wrapped_and_back x w v u s (Some p) up e =
     )
 
 pub alone_and_back : (x : ℕ) (w v u : Working) → GoesAndComes x w v u → nested_before w.forest x ≡ None → nested_behind w.forest x ≡ None → (drop_detached u.forest ≡ drop_detached w.forest) × PointsStay x w v u
-unfolding indented
-alone_and_back x w v u s before behind =
-    let by : nested_by (nested_before w.forest x) (nested_behind w.forest x) x w ≡ Ok v =
-    chosen (is_at is_item w.forest x) (nested_by (nested_before w.forest x) (nested_behind w.forest x) x w) (change_step (with_indent deeper) x w) v s.item s.deeper in
-    wrapped_and_back x w v u s (parent_of w.forest x) refl (sym (ap₂ (λ o t. nested_by o t x w) before behind) ∙ by)
+alone_and_back x w v u s before behind = wrapped_and_back x w v u s (parent_of w.forest x) refl (deeper_by x w v None None s.item s.deeper before behind)

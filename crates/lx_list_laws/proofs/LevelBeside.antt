@@ -163,10 +163,7 @@ module _ (x list p holder : ℕ) (w v : Working) (s : WentIn x list p holder w v
   out u e =
       let x_is : is_at is_item g x ≡ true = ap (passes is_item) (g_kind x) ∙ s.item in
       let holder_is : is_at is_item g holder ≡ true = ap (passes is_item) (g_kind holder) ∙ s.holder_item in
-      let by : out_by x (parent_of g x) v ≡ Ok u = chosen (is_at is_item g x) (out_by x (parent_of g x) v) (change_step (with_indent shallower) x v) u x_is e in
-      let from : out_from x list (parent_of g list) v ≡ Ok u = sym (ap (λ o. out_by x o v) x_in) ∙ by in
-      let in_item : out_from x list (Some holder) v ≡ Ok u = sym (ap (λ o. out_from x list o v) list_still) ∙ from in
-      chosen (is_at is_item g holder) (out_of x list holder v) (Ok v) u holder_is in_item
+      rw (x_is, x_in, list_still, holder_is) at e
 
   -- and where it comes back to its place, every node is where it was
   pub came_back : (y u : Working) → WasMoved g y.forest p x (next_in (children_of f p) x) → gone_if_empty list y ≡ Ok u
@@ -194,18 +191,14 @@ back_behind x list p holder w v u s at previous e =
     let f : Forest = w.forest in
     let g : Forest = v.forest in
     let xs : List ℕ = children_of f p in
-    let a = first_part (moved_out x list holder v) (gone_if_empty list) u (out x list p holder w v s u e) in
     let there : children_of g list ≡ children_of f list ++ (x ∷ []) =
     list_holds x list p holder w v s ∙ ap (λ o. names_with o (x ∷ []) (children_of f list)) at ∙ names_with-end x (children_of f list) in
     let gone : is_among x (children_of f list) ≡ false = absent x list p holder w v s in
     let later : is_named (first_child g list) x ≡ false = ap (λ ks. is_named (first_of ks) x) there ∙ not_first x (children_of f list) s.some gone in
     let last : next_of g x ≡ None =
     ap (λ o. next_in (children_below g o) x) (x_in x list p holder w v s) ∙ ap (λ ks. next_in ks x) there ∙ last_behind x (children_of f list) gone in
-    let behind : moved_behind holder x v ≡ Ok a.0 =
-    chosen (is_none (next_of g x)) (moved_behind holder x v) (parted x list holder v) a.0 (ap is_none last)
-    (unless (is_named (first_child g list) x && is_named (first_child g holder) list) (moved_before holder x v) (cond (is_none (next_of g x)) (moved_behind holder x v) (parted x list holder v)) a.0
-    (ap (λ b. b && is_named (first_child g holder) list) later) a.1) in
-    let moved = was_moved_behind holder x p v a.0 (g_order x list p holder w v s) (holder_still x list p holder w v s) s.apart behind in
+    let a = first_part (moved_behind holder x v) (gone_if_empty list) u (rw (later, last) at (out x list p holder w v s u e)) in
+    let moved = was_moved_behind holder x p v a.0 (g_order x list p holder w v s) (holder_still x list p holder w v s) s.apart a.1 in
     let place : next_in (names_without x (children_of g p)) holder ≡ next_in xs x =
     ap (λ ks. next_in ks holder)
     (sym (children_of-take_out x g p (g_order x list p holder w v s))
@@ -214,7 +207,7 @@ back_behind x list p holder w v u s at previous e =
     ∙ ap (λ o. cond (is_named o holder) (next_in xs x) (next_in xs holder)) previous
     ∙ ap (λ b. cond b (next_in xs x) (next_in xs holder)) (own holder) in
     came_back x list p holder w v s a.0 u (subst (λ o. WasMoved g a.0.forest p x o) place moved) a.2
-    (moved_behind_stays holder x list p v a.0 (g_order x list p holder w v s) (holder_still x list p holder w v s) s.apart behind (x_in x list p holder w v s))
+    (moved_behind_stays holder x list p v a.0 (g_order x list p holder w v s) (holder_still x list p holder w v s) s.apart a.1 (x_in x list p holder w v s))
 
 -- ---- before one
 
@@ -223,17 +216,14 @@ unfolding out_of moved_out
 back_ahead x list p holder w v u s at next e =
     let f : Forest = w.forest in
     let g : Forest = v.forest in
-    let a = first_part (moved_out x list holder v) (gone_if_empty list) u (out x list p holder w v s u e) in
     let there : children_of g list ≡ x ∷ children_of f list =
     list_holds x list p holder w v s ∙ ap (λ o. names_with o (x ∷ []) (children_of f list)) at ∙ at_front x (children_of f list) in
     let x_first : is_named (first_child g list) x ≡ true = ap (λ ks. is_named (first_of ks) x) there ∙ own x in
     let list_first : is_named (first_child g holder) list ≡ true = ap (λ o. is_named o list) (first_still x list p holder w v s) ∙ own list in
-    let before : moved_before holder x v ≡ Ok a.0 =
-    chosen (is_named (first_child g list) x && is_named (first_child g holder) list) (moved_before holder x v) (cond (is_none (next_of g x)) (moved_behind holder x v) (parted x list holder v)) a.0
-    (ap₂ ◌&&◌ x_first list_first) a.1 in
-    let moved = was_moved_before holder x p v a.0 (g_order x list p holder w v s) (holder_still x list p holder w v s) s.apart before in
+    let a = first_part (moved_before holder x v) (gone_if_empty list) u (rw (x_first, list_first) at (out x list p holder w v s u e)) in
+    let moved = was_moved_before holder x p v a.0 (g_order x list p holder w v s) (holder_still x list p holder w v s) s.apart a.1 in
     came_back x list p holder w v s a.0 u (subst (λ o. WasMoved g a.0.forest p x o) (sym next) moved) a.2
-    (moved_before_stays holder x list p v a.0 (g_order x list p holder w v s) (holder_still x list p holder w v s) s.apart before (x_in x list p holder w v s))
+    (moved_before_stays holder x list p v a.0 (g_order x list p holder w v s) (holder_still x list p holder w v s) s.apart a.1 (x_in x list p holder w v s))
 
 -- ---- the laws
 
@@ -245,12 +235,10 @@ neighbour_up f x holder side none e =
       | inr (p, up) ↦ (p, up, sym (ap (λ o. side (children_below f o) x) up) ∙ e)
     ]
 
-deeper_by : (x : ℕ) (w v : Working) (before behind : Option ℕ) → is_at is_item w.forest x ≡ true → indented x w ≡ Ok v
+pub deeper_by : (x : ℕ) (w v : Working) (before behind : Option ℕ) → is_at is_item w.forest x ≡ true → indented x w ≡ Ok v
     → nested_before w.forest x ≡ before → nested_behind w.forest x ≡ behind → nested_by before behind x w ≡ Ok v
 unfolding indented
-deeper_by x w v before behind item e is_before is_behind =
-    sym (ap₂ (λ o t. nested_by o t x w) is_before is_behind)
-    ∙ chosen (is_at is_item w.forest x) (nested_by (nested_before w.forest x) (nested_behind w.forest x) x w) (change_step (with_indent deeper) x w) v item e
+deeper_by x w v before behind item e is_before is_behind = rw (item, is_before, is_behind) at e
 
 pub behind_and_back : (x list : ℕ) (w v u : Working) → GoesAndComes x w v u → nested_before w.forest x ≡ Some list → nested_behind w.forest x ≡ None → children_of w.forest list ≢ [] → (u.forest ≡ w.forest) × PointsStay x w v u
 behind_and_back x list w v u s before behind some =

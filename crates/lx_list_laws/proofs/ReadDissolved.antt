@@ -242,10 +242,10 @@ found_passes test (x ∷ xs) k e = elim (cases_Bool (test x)) [
   | inr later ↦ found_passes test xs k (grind (arith, e, later))
 ]
 
-keeps_dissolved_if : (o : Option ℕ) (line : ℕ) (w v : Working) → IsSound w → InlinesFirst w.forest → outermost_above w.forest line ≡ o → dissolved_if o w ≡ Ok v → KeepsFirst w v
-keeps_dissolved_if None line w v s first at e = first_same w v s first e
-keeps_dissolved_if (Some list) line w v s first at e = keeps_dissolved list w v s first (found_passes (is_outermost w.forest) (ancestors w.forest line) list at) e
 
 pub keeps_dissolved_around : (line : ℕ) (w v : Working) → IsSound w → InlinesFirst w.forest → dissolved_around line w ≡ Ok v → KeepsFirst w v
 unfolding dissolved_around
-keeps_dissolved_around line w v s first e = keeps_dissolved_if (outermost_above w.forest line) line w v s first refl e
+keeps_dissolved_around line w v s first e = elim (cases_option (outermost_above w.forest line)) [
+  | inl none ↦ first_same w v s first (rw none at e)
+  | inr (list, found) ↦ keeps_dissolved list w v s first (found_passes (is_outermost w.forest) (ancestors w.forest line) list found) (rw found at e)
+]
