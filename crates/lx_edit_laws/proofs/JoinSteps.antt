@@ -150,7 +150,6 @@ spliced_fields f k t more is fits =
     let end : length_at f k ≡ text_length t.text = ap length_in is ∙ told-all t.text (omega (arith, fits, length-append t.text more)) in
     ap (λ o. with_piece o (length_at f k) (length_at f k) more) is ∙ ap (text_replaced t) (spliced-end (length_at f k) more t.text end)
 
-
 index_of-with_fields : (k : ℕ) (fields : Fields) (f : Forest) (q : ℕ) → index_of (with_fields k fields f) q ≡ index_of f q
 index_of-with_fields k fields f q = ap (λ xs. index_in xs q) (siblings-with_fields k fields f q)
 

@@ -84,7 +84,6 @@ record IsBehind (n k : ℕ) (c d : Working) : Type 0 where
   can : CanPut parent n c.forest
   is : node_placed n parent (index + 1) c ≡ d
 
-
 behind_is : (n k : ℕ) (c d : Working) → put_behind_step n k c ≡ Ok d → IsBehind n k c d
 unfolding put_behind_step put_step
 behind_is n k c d e = by_place (parent_of c.forest k) (index_of c.forest k) refl refl e where

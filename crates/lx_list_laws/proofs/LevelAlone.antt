@@ -1,6 +1,6 @@
 -- An item between items that aren't nesting goes a level deeper, into a new list in a new item, and up again.
-use Rattle.std.proofs.Common.{◌≡◌, ◌≢◌, ◌∙◌, ℕ, ◌+◌, ◌&&◌, ◌==◌, true, false, cond, eqb, List, [], length, Option, None, Some, Result, Ok, refl, sym, ap, ap₂, subst, arith}
-use Rattle.std.specs.Prelude.{is_none, option_map, slice_get}
+use Rattle.std.proofs.Common.{◌≡◌, ◌≢◌, ◌∙◌, ℕ, ◌+◌, ◌==◌, true, false, cond, eqb, List, [], length, Option, None, Some, Result, Ok, refl, sym, ap, ap₂, subst, arith}
+use Rattle.std.specs.Prelude.{option_map, slice_get}
 use Rattle.std.proofs.lemmas.Bool.Decides.{eqb_tells}
 use Rattle.lx_trees.specs.Siblings.{is_among, is_named, first_of, names_without}
 use Rattle.lx_node.specs.Kinds.{is_item, is_list, may_be_empty}
@@ -9,7 +9,7 @@ use Rattle.lx_node.specs.declared.kind.Kind.TheVariants.{Item}
 use Rattle.lx_node.specs.declared.cause.Cause.{Cause}
 use Rattle.lx_select.specs.Selection.{has_point_on}
 use Rattle.lx_forest.specs.Forest.{Forest, Label}
-use Rattle.lx_forest.specs.Lookups.{has, label_of, kind_of, parent_of, children_of, size_of, first_child, next_of, is_within, IsForest}
+use Rattle.lx_forest.specs.Lookups.{has, label_of, kind_of, parent_of, children_of, size_of, first_child, is_within, IsForest}
 use Rattle.lx_forest.specs.Edits.{with_new, take_out, put_in, drop_detached, CanPut}
 use Rattle.lx_forest.proofs.Edits.{count-with_new, has-root}
 use Rattle.lx_forest.proofs.Lookups.{has-parent_of, kind_of-take_out, parent_of-take_out, parent_of-put_in, children_of-take_out}
@@ -23,12 +23,12 @@ use Rattle.lx_draft.specs.Faults.{after}
 use Rattle.lx_draft.specs.Steps.{new_step, put_step}
 use Rattle.lx_draft.specs.Beside.{put_before_step}
 use Rattle.lx_draft.proofs.Gaps.{child_of}
-use Rattle.lx_edit.specs.Edits.{moved_before, moved_behind, moved_to_end, goes_next, may_not_be_left, remove_step}
+use Rattle.lx_edit.specs.Edits.{moved_before, moved_to_end, goes_next, may_not_be_left, remove_step}
 use Rattle.lx_edit.proofs.Climbed.{first_part, climbed}
 use Rattle.lx_blocks.specs.Blocks.{passes, is_at}
-use Rattle.lx_list.specs.Making.{with_like, item_fields, change_step, with_indent}
-use Rattle.lx_list.specs.Indenting.{wrapped_like, wrapped_in, nested_by, deeper, indented}
-use Rattle.lx_list.specs.Outdenting.{moved_out, parted, gone_if_empty, out_of, out_from, out_by, shallower, outdented}
+use Rattle.lx_list.specs.Making.{with_like, item_fields}
+use Rattle.lx_list.specs.Indenting.{wrapped_like, wrapped_in}
+use Rattle.lx_list.specs.Outdenting.{moved_out, gone_if_empty, out_of, outdented}
 use Rattle.lx_list.proofs.Above.{list_above}
 use Rattle.lx_edit_laws.proofs.Reading.{absent as is_absent}
 use Rattle.lx_edit_laws.proofs.WrapSteps.{was_same, was_put, was_put_before, was_moved_to_end, was_moved_before}
@@ -38,7 +38,7 @@ use Rattle.lx_list_laws.specs.Levels.{nested_before, nested_behind, GoesAndComes
 use Rattle.lx_list_laws.proofs.LevelWraps.{prepared, HasSunk, x_not_item, x_not_list, now_order, now_kind, x_up, list_up, item_up, item_holds, sunk_list, left_list, risen, back_again_in}
 use Rattle.lx_list_laws.proofs.LevelPoints.{off_outside, before_stays, put_stays, to_end_stays, moved_before_stays, sent_stays, removed_stays}
 use Rattle.lx_list_laws.proofs.LevelBeside.{deeper_by}
-use Rattle.lx_list_laws.proofs.LevelSteps.{chosen, label_known, was_made, two_order, two_kind, two_parent, two_children, was_removed}
+use Rattle.lx_list_laws.proofs.LevelSteps.{label_known, was_made, two_order, two_kind, two_parent, two_children, was_removed}
 
 -- ---- down
 
@@ -201,14 +201,13 @@ module _ (w v : Working) (p x : ℕ) (h : IsForest w.forest) (s : WentDown w v p
       let up_x = x_up new g p x item list s.sunk g list None s.sunk.moved in
       let up_list = list_up new g p x item list s.sunk g list None s.sunk.moved in
       let out : out_of x list item v ≡ Ok u = rw (x_is, up_x, up_list, item_is) at e in
-
       let x_first : is_named (first_child g list) x ≡ true = ap (λ ks. is_named (first_of ks) x) (sunk_list new g p x item list s.sunk) ∙ own x in
       let list_first : is_named (first_child g item) list ≡ true = ap (λ ks. is_named (first_of ks) list) (item_holds new g p x item list s.sunk g list None s.sunk.moved (λ e. s.sunk.two (sym e))) ∙ own list in
       let a = first_part (moved_before item x v) (gone_if_empty list) u (rw (x_first, list_first) at out) in
       let up : WasMoved g a.0.forest p x (Some item) =
       was_moved_before item x p v a.0 (now_order new g p x item list s.sunk g list None s.sunk.moved) (item_up new g p x item list s.sunk g list None s.sunk.moved) (λ same. x_not_item new g p x item list s.sunk (sym same)) a.1 in
       let left : (size_of a.0.forest list == 0) ≡ true = ap (λ (ks : List ℕ). length ks == 0) (left_list new g p x item list s.sunk a.0.forest up) in
-      let removes : remove_step list a.0 ≡ Ok u = chosen (size_of a.0.forest list == 0) (remove_step list a.0) (Ok a.0) u left a.2 in (
+      let removes : remove_step list a.0 ≡ Ok u = rw left at a.2 in (
         all_back a.0 u up list_is removes,
         λ off_p off_n off_m.
             let mid : a.0.selection ≡ v.selection =

@@ -1,6 +1,6 @@
 -- An item beside one that is nesting goes a level deeper, into the list there, and up again.
-use Rattle.std.proofs.Common.{◌≡◌, ◌≢◌, ◌∙◌, ℕ, ◌&&◌, ◌==◌, true, false, cond, List, [], ◌∷◌, ◌++◌, length, Option, None, Some, Ok, refl, sym, ap, ap₂, subst, arith, inl, inr}
-use Rattle.std.specs.Prelude.{is_none, option_map}
+use Rattle.std.proofs.Common.{◌≡◌, ◌≢◌, ◌∙◌, ℕ, ◌==◌, true, false, cond, List, [], ◌∷◌, ◌++◌, length, Option, None, Some, Ok, refl, sym, ap, subst, arith, inl, inr}
+use Rattle.std.specs.Prelude.{option_map}
 use Rattle.std.proofs.lemmas.Bool.Decides.{eqb_tells}
 use Rattle.lx_trees.specs.Siblings.{is_among, is_named, first_of, next_in, previous_from, previous_in, names_without, names_with}
 use Rattle.lx_node.specs.Kinds.{is_item, is_list}
@@ -14,13 +14,12 @@ use Rattle.lx_forest.proofs.Walks.{cases_option}
 use Rattle.lx_forest.proofs.Within.{is_within-parent, is_within-self, is_within-up}
 use Rattle.lx_draft.specs.Working.{Working}
 use Rattle.lx_draft.proofs.Gaps.{parent_here}
-use Rattle.lx_edit.specs.Edits.{moved_before, moved_behind, moved_to_end, remove_step}
+use Rattle.lx_edit.specs.Edits.{moved_before, moved_behind, moved_to_end}
 use Rattle.lx_edit.proofs.Climbed.{first_part}
 use Rattle.lx_blocks.specs.Blocks.{passes, is_at}
-use Rattle.lx_list.specs.Making.{change_step, with_indent}
 use Rattle.lx_list.specs.Nesting.{if_list, nested_in}
-use Rattle.lx_list.specs.Indenting.{moved_to_front, nested_by, deeper, indented}
-use Rattle.lx_list.specs.Outdenting.{moved_out, parted, gone_if_empty, out_of, out_from, out_by, shallower, outdented}
+use Rattle.lx_list.specs.Indenting.{moved_to_front, nested_by, indented}
+use Rattle.lx_list.specs.Outdenting.{moved_out, gone_if_empty, out_of, outdented}
 use Rattle.lx_list.proofs.Above.{list_above}
 use Rattle.lx_list.proofs.Itemless.{item_below}
 use Rattle.lx_edit_laws.proofs.JoinSteps.{next_apart}
@@ -29,7 +28,7 @@ use Rattle.lx_edit_laws.proofs.WrapTrees.{own, different, not_child, WasMoved, I
 use Rattle.lx_edit_laws.proofs.WrapSteps.{was_same, was_moved_to_end, was_moved_before}
 use Rattle.lx_list_laws.specs.Levels.{nested_before, nested_behind, has_points_within, GoesAndComes, PointsStay}
 use Rattle.lx_list_laws.proofs.LevelPoints.{off_outside, to_end_stays, to_front_stays, moved_before_stays, moved_behind_stays}
-use Rattle.lx_list_laws.proofs.LevelSteps.{chosen, unless, was_moved_behind, was_moved_to_front}
+use Rattle.lx_list_laws.proofs.LevelSteps.{was_moved_behind, was_moved_to_front}
 
 -- ---- lists of names
 
@@ -171,7 +170,7 @@ module _ (x list p holder : ℕ) (w v : Working) (s : WentIn x list p holder w v
   came_back y u came e comes =
       let same : y.forest ≡ f = moved_back f y.forest p x s.in_order s.up (moved_twice f g list x s.place s.in_order s.went y.forest p (next_in (children_of f p) x) came) in
       let some : (size_of y.forest list == 0) ≡ false = ap (λ z. size_of z list == 0) same ∙ not_none (children_of f list) s.some in
-      let stays : y ≡ u = was_same y u (unless (size_of y.forest list == 0) (remove_step list y) (Ok y) u some e) in
+      let stays : y ≡ u = was_same y u (rw some at e) in
       let off : (q : ℕ) → has_points_within f x w.selection ≡ true → is_within f x q ≡ false → has_point_on q w.selection ≡ false = λ q points outside. off_outside f x q w.selection points outside in
       let p_outside : is_within f x p ≡ false = is_within-parent f x p s.in_order s.up in
       let list_outside : is_within f x list ≡ false =

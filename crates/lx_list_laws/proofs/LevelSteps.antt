@@ -1,12 +1,11 @@
 -- What the steps of going deeper and up leave of a forest, in their parts.
-use Rattle.std.proofs.Common.{◌≡◌, ◌≢◌, ◌∙◌, ℕ, ◌+◌, Bool, true, false, cond, eqb, List, [], ◌∷◌, Option, Some, Result, Ok, refl, sym, ap}
+use Rattle.std.proofs.Common.{◌≡◌, ◌≢◌, ◌∙◌, ℕ, ◌+◌, true, false, cond, eqb, List, [], ◌∷◌, Option, Some, Ok, refl, sym, ap}
 use Rattle.std.specs.Prelude.{slice_get, option_map}
 use Rattle.lx_trees.specs.Siblings.{first_of, next_in, names_without}
 use Rattle.lx_trees.specs.Spots.{Spot}
 use Rattle.lx_node.specs.Strings.{characters_of}
 use Rattle.lx_node.specs.declared.kind.Kind.{Kind}
 use Rattle.lx_node.specs.declared.fields.Fields.{Fields}
-use Rattle.lx_node.specs.declared.cause.Cause.{Cause}
 use Rattle.lx_forest.specs.Forest.{Forest, Label}
 use Rattle.lx_forest.specs.Lookups.{has, label_of, kind_of, parent_of, children_of, children_below, next_of, ancestors, IsForest}
 use Rattle.lx_forest.specs.Edits.{with_new, take_out, put_in}
@@ -25,16 +24,6 @@ use Rattle.lx_list.specs.Indenting.{moved_to_front}
 use Rattle.lx_list.proofs.Itemless.{spot_known}
 use Rattle.lx_edit_laws.proofs.WrapSteps.{was_taken, was_put, was_moved, still_there}
 use Rattle.lx_edit_laws.proofs.WrapTrees.{WasMoved}
-
--- ---- choices
-
-pub chosen : (t : Bool) (one other : Result Working Cause) (v : Working) → t ≡ true → cond t one other ≡ Ok v → one ≡ Ok v
-chosen true one other v is e = e
-chosen false one other v is e = absurd (cc)
-
-pub unless : (t : Bool) (one other : Result Working Cause) (v : Working) → t ≡ false → cond t one other ≡ Ok v → other ≡ Ok v
-unless true one other v is e = absurd (cc)
-unless false one other v is e = e
 
 -- ---- new nodes
 

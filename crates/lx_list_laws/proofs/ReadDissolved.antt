@@ -1,5 +1,5 @@
 -- Lists whose lines become paragraphs read the same, where inline children come first in each item.
-use Rattle.std.proofs.Common.{◌≡◌, ◌≢◌, ◌∙◌, ℕ, Bool, true, false, eqb, not, ◌&&◌, ◌||◌, List, [], ◌∷◌, ◌++◌, Option, None, Some, Result, Ok, refl, sym, ap, ap₂, subst, arith, inl, inr, append-nil}
+use Rattle.std.proofs.Common.{◌≡◌, ◌≢◌, ◌∙◌, ℕ, Bool, true, false, eqb, not, ◌&&◌, ◌||◌, List, [], ◌∷◌, ◌++◌, Some, Result, Ok, refl, sym, ap, ap₂, subst, arith, inl, inr, append-nil}
 use Rattle.std.specs.Prelude.{find}
 use Rattle.std.specs.List.{filter}
 use Rattle.std.proofs.lemmas.Bool.{cases_Bool}
@@ -28,7 +28,7 @@ use Rattle.lx_edit.specs.Edits.{sent_away, removed, remove_step}
 use Rattle.lx_edit.proofs.Climbed.{first_part, sent_away-forest}
 use Rattle.lx_edit.proofs.Paths.{remove_path}
 use Rattle.lx_blocks.specs.Blocks.{is_at, is_line}
-use Rattle.lx_list.specs.Dissolving.{emptied_into, paragraph_made, dissolved, is_in_item, is_outermost, outermost_above, dissolved_if, dissolved_around}
+use Rattle.lx_list.specs.Dissolving.{emptied_into, paragraph_made, dissolved, is_in_item, is_outermost, outermost_above, dissolved_around}
 use Rattle.lx_edit_laws.specs.Reading.{read_below}
 use Rattle.lx_edit_laws.proofs.Reading.{down, spread-none, reads_of, read-level, IsKnown, reads_known, reads-instead}
 use Rattle.lx_edit_laws.proofs.WrapSteps.{was_same, was_taken, before_below}
@@ -241,7 +241,6 @@ found_passes test (x ∷ xs) k e = elim (cases_Bool (test x)) [
   | inl here ↦ let same : Some x ≡ Some k = grind (arith, e, here) in grind (arith, here, same)
   | inr later ↦ found_passes test xs k (grind (arith, e, later))
 ]
-
 
 pub keeps_dissolved_around : (line : ℕ) (w v : Working) → IsSound w → InlinesFirst w.forest → dissolved_around line w ≡ Ok v → KeepsFirst w v
 unfolding dissolved_around
