@@ -18,7 +18,7 @@ use Rattle.lx_edit_laws.proofs.JoinSteps.{AreJoined, are_joined}
 use Rattle.lx_edit_laws.proofs.Reading.{spread-same, spread-texts}
 use Rattle.lx_edit_laws.proofs.SplitCuts.{label_is, text_label}
 use Rattle.lx_edit_laws.proofs.SplitLaws.{IsLeft, cut_up, left, no_offset}
-use Rattle.lx_edit_laws.proofs.WrapSteps.{was_same as ends_self}
+use Rattle.lx_edit_laws.proofs.WrapSteps.{was_same}
 use Rattle.lx_edit_laws.proofs.SplitPoints.{below_keys, less_than_next}
 use Rattle.lx_edit_laws.proofs.WrapLists.{filter-gone, filter-kept, filter-without}
 use Rattle.lx_edit_laws.proofs.WrapTrees.{same_spot_by}
@@ -77,7 +77,7 @@ rejoined_then k n rest v w u h apart j more = record {
 -- all of them, where offsets can say every place of the whole
 rejoined : (k : ℕ) (new : List ℕ) (v u : Working) → IsReady v → is_among k new ≡ false → text_length (texts_of v.forest (k ∷ new)) ≤ last_u32 → in_turn (join_step k) new v ≡ Ok u → IsRejoined k new v u
 unfolding in_turn
-rejoined k [] v u r apart fits e = subst (IsRejoined k [] v) (ends_self v u e) (unjoined k v)
+rejoined k [] v u r apart fits e = subst (IsRejoined k [] v) (was_same v u e) (unjoined k v)
 rejoined k (n ∷ rest) v u r apart fits e =
     let a = first_part (join_step k n v) (in_turn (join_step k) rest) u e in
     let j = are_joined k n v a.0 r.in_order (omega (arith, fits, length-append)) a.1 in
@@ -161,7 +161,7 @@ text_within (Some t) offset rest e = (t, refl)
 -- split nowhere, and joined with nothing
 nothing_done : (k : ℕ) (new : List ℕ) (w v u : Working) (q : ℕ) → new ≡ [] → cut_at k 0 [] w ≡ Ok v → in_turn (join_step k) new v ≡ Ok u → spot u.forest q ≡ spot w.forest q
 unfolding in_turn
-nothing_done k [] w v u q none cuts e = ap (λ (x : Working). spot x.forest q) (sym (ends_self w v cuts ∙ ends_self v u e))
+nothing_done k [] w v u q none cuts e = ap (λ (x : Working). spot x.forest q) (sym (was_same w v cuts ∙ was_same v u e))
 nothing_done k (n ∷ new) w v u q none cuts e = absurd (cc)
 
 pub joined_again : (k : ℕ) (offsets new : List ℕ) (w v u : Working) (q : ℕ) → IsSplit k offsets (k ∷ new) w v → in_turn (join_step k) new v ≡ Ok u → has q w.forest ≡ true → spot u.forest q ≡ spot w.forest q

@@ -28,7 +28,7 @@ use Rattle.lx_edit_laws.specs.Reading.{text_at, texts_of, read_below, in_place_o
 use Rattle.lx_edit_laws.specs.Splits.{cut_from, IsSplit, SplitsAreTold}
 use Rattle.lx_edit_laws.proofs.Reading.{reads_of, read-leaf, reads-leaves, reads_by, reads_known, reads-in_place, childless_text}
 use Rattle.lx_edit_laws.proofs.SplitPieces.{AllStay, stay_self, IsParted}
-use Rattle.lx_edit_laws.proofs.WrapSteps.{was_allowed, was_same as ends_self}
+use Rattle.lx_edit_laws.proofs.WrapSteps.{was_allowed, was_same}
 use Rattle.lx_edit_laws.proofs.SplitPoints.{PointsGo, none_go, parted}
 use Rattle.lx_edit_laws.proofs.SplitTexts.{whole-is}
 use Rattle.lx_edit_laws.proofs.WrapTrees.{same_spot_by}
@@ -108,7 +108,7 @@ left_by k list w v ready few c = by_text (text_in (label_of w.forest k)) refl li
       let whole : t.text ≡ slice_of 0 (length_told t.text) t.text = sym (whole-is t.text short) in
       let both = parted k 0 list t.text t w v ready here whole (offset_start t.text) short good cut in
       left_by_cuts k list t w v c.kind_is here short both.0 both.1
-  by_text None here [] allowed cut = subst (IsLeft k [] [] w) (ends_self w v cut) (left_same k w ready c.kind_is here)
+  by_text None here [] allowed cut = subst (IsLeft k [] [] w) (was_same w v cut) (left_same k w ready c.kind_is here)
   by_text None here (o ∷ rest) allowed cut = absurd (no_offset o rest (ap (λ s. bad_offset 0 s (o ∷ rest)) (sym (ap text_or_none here)) ∙ allowed))
 
 pub left : (k : ℕ) (list pieces : List ℕ) (w v : Working) → IsSplit k list pieces w v → IsLeft k list (keys_from w.next_key (length list)) w v

@@ -24,7 +24,7 @@ use Rattle.lx_edit.proofs.Climbed.{first_part}
 use Rattle.lx_edit_laws.specs.Reading.{place_among}
 use Rattle.lx_edit_laws.proofs.SplitCuts.{IsCut, cut_tells, points_cut, stays_there, not_new, text_there, parent_there, not_above, far_from, far_from_new}
 use Rattle.lx_edit_laws.proofs.SplitPieces.{IsParted, not_cut, cut_text, cut_place, first_label, one_more}
-use Rattle.lx_edit_laws.proofs.WrapSteps.{was_same as ends_self}
+use Rattle.lx_edit_laws.proofs.WrapSteps.{was_same}
 use Rattle.lx_edit_laws.proofs.SplitTexts.{IsCutAt, piece-length, piece-back, rest-told, offsets}
 
 -- ---- points of a selection
@@ -214,7 +214,7 @@ pub parted : (k start : ℕ) (list text : List ℕ) (t : TextFields) (w v : Work
     → t.text ≡ slice_of start (length_told text) text → is_offset start text ≡ true → text_length text ≤ last_u32 → bad_offset start text list ≡ None
     → cut_at k start list w ≡ Ok v → IsParted k start list (keys_from w.next_key (length list)) text t w v × PointsGo k (keys_from w.next_key (length list)) w v
 parted k start [] text t w v ready here is begin few none e =
-    subst (λ x. IsParted k start [] [] text t w x × PointsGo k [] w x) (ends_self w v e) (not_cut k start text t w ready here is, none_go k w)
+    subst (λ x. IsParted k start [] [] text t w x × PointsGo k [] w x) (was_same w v e) (not_cut k start text t w ready here is, none_go k w)
 parted k start (o ∷ rest) text t w v ready here is begin few none e =
     let n : ℕ = w.next_key in
     let cut : TextFields = cut_text (o - start) t in

@@ -37,7 +37,7 @@ use Rattle.lx_list_laws.proofs.ReadOrder.{first-same, first-others}
 use Rattle.lx_list_laws.proofs.ReadForests.{reads_told}
 use Rattle.lx_list_laws.proofs.ReadSound.{StaysSound, stays_then, stays_selected, sound_path}
 use Rattle.lx_list_laws.proofs.ReadEdits.{parent_made, so_at, was_removed}
-use Rattle.lx_list.proofs.Itemless.{there_at as at_there}
+use Rattle.lx_list.proofs.Itemless.{there_at}
 use Rattle.lx_list_laws.proofs.ReadSaid.{inlines, said, inline_below, MaySay, AreSaid, are_said}
 use Rattle.lx_list_laws.proofs.ReadLines.{inline_no_block, list_tells, said-lines, is_listed, listed_below, listed_silent, none_in_list, none-any, is_block_at, list_or_item, lines_read}
 
@@ -92,7 +92,7 @@ module _ (f g : Forest) (p list : ℕ) (m : IsEmptied f g p list) where
         record { child = parent_here f b c order (grind (arith, rest)); other = grind (arith, rest) }
     | inr none ↦
         let away : is_among b (lines_of f list) ≡ false = among_lines f list b ∙ ap₂ (λ x y. x && y) inside none in
-        let same : children_of g b ≡ children_of f b = m.all.others b (at_there is_listed f b here) (not_p b inside) away in
+        let same : children_of g b ≡ children_of f b = m.all.others b (there_at is_listed f b here) (not_p b inside) away in
         let was : is_among c (children_of f b) ≡ true = sym (ap (is_among c) same) ∙ among in
         let up : parent_of f c ≡ Some b = parent_here f b c order was in
         record {
@@ -166,7 +166,7 @@ module _ (f g : Forest) (p list : ℕ) (m : IsEmptied f g p list) where
         first-same (is_at is_inline g) (is_at is_inline f) (children_of g x) (λ q among. m.all.inline q)
         ∙ elim (cases_Bool (is_among x (lines_of f list))) [
           | inl there ↦ ap (stand_first (is_at is_inline f)) (m.all.left x there) ∙ first-others (is_at is_inline f) (children_of f x)
-          | inr away ↦ ap (stand_first (is_at is_inline f)) (m.all.others x (at_there is_item f x was) other away) ∙ m.first.each x was
+          | inr away ↦ ap (stand_first (is_at is_inline f)) (m.all.others x (there_at is_item f x was) other away) ∙ m.first.each x was
         ];
   }
 
@@ -211,7 +211,7 @@ may_say f p list h held up is =
       up = up;
       place = grind (arith, inline_below f list p held up, so_at is_list is_inline false (λ kind e. (list_tells kind e).1) f list is);
       once = NoRepeats-filter (is_line f) (keys_within f list) (NoRepeats-preorder key_of (alone list f) (λ q. omega (arith, count-alone-le key_of q list f, h.once q)));
-      there = λ q among. at_there is_text_block f q (block q among);
+      there = λ q among. there_at is_text_block f q (block q among);
       apart = λ q among. grind (arith, inside q among, is_within-parent f list p h up, eqb_tells q p);
       block = λ q among. block_apart f q (block q among);
     }

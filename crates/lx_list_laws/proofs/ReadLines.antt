@@ -12,12 +12,11 @@ use Rattle.lx_forest.specs.Lookups.{parent_of, children_of, size_of, IsForest, I
 use Rattle.lx_draft.proofs.Gaps.{parent_here}
 use Rattle.lx_blocks.specs.Blocks.{passes, is_at, is_line}
 use Rattle.lx_edit_laws.specs.Reading.{text_at, read_below}
-use Rattle.lx_edit_laws.proofs.Reading.{down, spread, spread-same, spread-none, below, below-level, reads_of, read-level}
+use Rattle.lx_edit_laws.proofs.Reading.{kind_known, down, spread, spread-same, spread-none, below, below-level, reads_of, read-level}
 use Rattle.lx_edit_laws.proofs.WrapLists.{filter-gone}
 use Rattle.lx_edit_laws.proofs.WrapSteps.{silent}
 use Rattle.lx_list_laws.specs.Reading.{stand_first, InlinesFirst}
-use Rattle.lx_list.proofs.Itemless.{item_below, there_at as at_there}
-use Rattle.lx_edit_laws.proofs.Reading.{kind_known}
+use Rattle.lx_list.proofs.Itemless.{item_below, there_at}
 use Rattle.lx_list_laws.proofs.ReadEdits.{so_at}
 use Rattle.lx_list_laws.proofs.ReadSaid.{inlines, said, both_kinds, inline_below}
 
@@ -45,7 +44,7 @@ inline_no_block kind e = cc
 
 inline_says_nothing : (f : Forest) → IsForest f → IsHeld may_hold f → (k : ℕ) → is_at is_inline f k ≡ true → below (says f) f k ≡ []
 inline_says_nothing f h held k is = down f h (λ q. is_at is_inline f q ≡ true → below (says f) f q ≡ []) (λ b each here.
-    below-level (says f) f b h (λ free. absurd (grind (arith, free, at_there is_inline f b here)))
+    below-level (says f) f b h (λ free. absurd (grind (arith, free, there_at is_inline f b here)))
     ∙ ap₂ (λ x y. x ++ y) (ap (λ t. cond t (reads_of f (inlines f b)) []) (no_line f b (so_at is_inline is_text_block false inline_no_block f b here)))
     (spread-none (below (says f) f) (children_of f b) (λ c among. let up = parent_here f b c h among in each c up (inline_below f c b held up here)))) k is
 
@@ -132,7 +131,7 @@ list_no_line f k is = no_line f k (so_at is_list is_text_block false (λ kind e.
 
 -- which of the two it is
 pub list_or_item : (f : Forest) (k : ℕ) → is_at is_listed f k ≡ true → (is_at is_list f k ≡ true) ⊎ (is_at is_item f k ≡ true)
-list_or_item f k is = let kind = kind_known f k (at_there is_listed f k is) in elim (cases_Bool (is_at is_list f k)) [
+list_or_item f k is = let kind = kind_known f k (there_at is_listed f k is) in elim (cases_Bool (is_at is_list f k)) [
   | inl list ↦ inl list
   | inr other ↦ inr (grind (arith, is, other, kind.1))
 ]
@@ -147,7 +146,7 @@ lines_read f h held first k is = down f h (λ q. is_at is_listed f q ≡ true �
       let one : read_below f b ≡ spread (read_below f) (children_of f b) =
       read-level f b h ∙ ap (λ t. t ++ reads_of f (children_of f b)) (listed_silent f b here) in
       let two : below (says f) f b ≡ says f b ++ spread (below (says f) f) (children_of f b) =
-      below-level (says f) f b h (λ free. absurd (grind (arith, free, at_there is_listed f b here))) in
+      below-level (says f) f b h (λ free. absurd (grind (arith, free, there_at is_listed f b here))) in
       one ∙ elim (list_or_item f b here) [
         | inl list ↦
             spread-same (read_below f) (below (says f) f) (children_of f b) (λ q among. others q among (none_in_list f q b held (parent_here f b q h among) list))

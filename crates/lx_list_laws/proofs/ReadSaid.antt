@@ -28,7 +28,7 @@ use Rattle.lx_edit.proofs.Climbed.{first_part}
 use Rattle.lx_edit.proofs.Paths.{from_, points, every, put_before_path, moved_to_end_path}
 use Rattle.lx_blocks.specs.Blocks.{passes, is_at}
 use Rattle.lx_list.specs.Dissolving.{emptied_into, paragraph_made}
-use Rattle.lx_list.proofs.Itemless.{there_at as at_there}
+use Rattle.lx_list.proofs.Itemless.{there_at}
 use Rattle.lx_edit_laws.specs.Reading.{read_below}
 use Rattle.lx_edit_laws.proofs.Reading.{reads_of, reads-same, read-level, absent, reads_known, kind_known}
 use Rattle.lx_edit_laws.proofs.WrapTrees.{not_child}
@@ -221,7 +221,7 @@ module _ (f x g : Forest) (p list line n : ℕ) (ls : List ℕ) (held : IsHeld m
   later_still q among = still q (m.there q (among_later q among)) (m.apart q (among_later q among)) (grind (arith, among, m.once.0, eqb_tells q line))
 
   inline_first : (q : ℕ) → is_at is_inline f q ≡ true → read_below x q ≡ read_below f q
-  inline_first = inline_read f x one.told held (λ q is. still q (at_there is_inline f q is) (grind (arith, is, m.place, eqb_tells q p)) (grind (arith, is, m.block line among_first, eqb_tells q line)))
+  inline_first = inline_read f x one.told held (λ q is. still q (there_at is_inline f q is) (grind (arith, is, m.place, eqb_tells q p)) (grind (arith, is, m.block line among_first, eqb_tells q line)))
 
   may_go_on : MaySay x p list ls
   may_go_on = record {
