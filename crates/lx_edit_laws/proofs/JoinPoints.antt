@@ -5,63 +5,37 @@ use Rattle.lx_draft.specs.Working.{Working}
 use Rattle.lx_edit.specs.Conditions.{length_at, length_in}
 use Rattle.lx_edit.specs.Texts.{text_or_none}
 use Rattle.lx_forest.proofs.Lookups.{parent_of-self}
-use Rattle.lx_forest.specs.Lookups.{IsForest, label_of, parent_of}
+use Rattle.lx_forest.specs.Lookups.{IsForest, label_of}
 use Rattle.lx_edit_laws.proofs.JoinSpots.{neither}
+use Rattle.lx_edit_laws.proofs.SplitPoints.{splice_moves-front, splice_moves-other}
 use Rattle.lx_edit_laws.proofs.JoinSteps.{AreJoined, joined_point}
 use Rattle.lx_edit_laws.specs.Reading.{PlacesAreKept, place_among, text_at}
 use Rattle.lx_node.specs.Limits.{last_u32}
-use Rattle.lx_trees.specs.Siblings.{is_among, is_named}
+use Rattle.lx_trees.specs.Siblings.{is_among}
 use Rattle.lx_node.specs.declared.cause.Point.{Point}
-use Rattle.lx_node.specs.declared.cause.PointKind.{PointKind}
 use Rattle.lx_node.specs.declared.fields.TextFields.{TextFields}
-use Rattle.lx_select.specs.Rules.{carry_moves, is_behind, is_counting_children, join_moves, offset_sum, splice_moves, spliced_offset, take_moves}
+use Rattle.lx_select.specs.Rules.{carry_moves, is_behind, is_counting_children, join_moves, offset_sum, take_moves}
 use Rattle.lx_text.proofs.Places.{length-append}
 use Rattle.lx_text.proofs.Told.{told-within}
 use Rattle.lx_text.specs.Texts.{text_length}
-use Rattle.std.proofs.Common.{None, Option, Some, [], ap, arith, cond, eqb, false, inl, inr, ltb, refl, subst, sym, true, ℕ, ◌&&◌, ◌++◌, ◌+◌, ◌-◌, ◌∙◌, ◌∷◌, ◌≡◌, ◌≢◌, ◌≤◌, ◌⊎◌}
-use Rattle.std.proofs.lemmas.Bool.Decides.{eqb_tells, nat_tests}
+use Rattle.std.proofs.Common.{None, Option, Some, [], ap, arith, eqb, false, inl, inr, refl, subst, sym, true, ℕ, ◌++◌, ◌+◌, ◌∙◌, ◌∷◌, ◌≡◌, ◌≢◌, ◌≤◌, ◌⊎◌}
+use Rattle.std.proofs.lemmas.Bool.Decides.{eqb_tells}
 use Rattle.lx_node.specs.declared.cause.PointKind.TheVariants as point
 
 -- ---- what the three edits do to a point
 
--- what replaces nothing at the end leaves all points up to there
-spliced_still : (end len o : ℕ) → o ≤ end → spliced_offset end end len o ≡ o
-unfolding spliced_offset
-spliced_still end len o within = grind (arith, nat_tests, within)
-
-splice_stays : (key end len : ℕ) (x : Point) → (x.key ≡ key → x.offset ≤ end) → splice_moves key end end len x ≡ x
-unfolding splice_moves
-splice_stays key end len x within = elim (eqb_tells x.key key) [
-  | inl own ↦ rw own.0 (ap (λ o. let made : Point = record x { offset = o } in made) (spliced_still end len x.offset (within own.1)))
-  | inr other ↦ rw other.0 refl
-]
-
 join_stays : (first end second : ℕ) (x : Point) → x.key ≢ second → join_moves first end second x ≡ x
 unfolding join_moves carry_moves
-join_stays first end second x other = elim (eqb_tells x.key second) [
-  | inl own ↦ absurd (other own.1)
-  | inr far ↦ rw far.0 refl
-]
+join_stays first end second x other = grind (arith, other, eqb_tells x.key second)
 
 join_brings : (first end second : ℕ) (x : Point) → x.key ≡ second → join_moves first end second x ≡ record x { key = first; offset = offset_sum end x.offset }
 unfolding join_moves carry_moves
-join_brings first end second x own = elim (eqb_tells x.key second) [
-  | inl same ↦ rw same.0 refl
-  | inr far ↦ absurd (far.1 own)
-]
+join_brings first end second x own = let same : eqb x.key second ≡ true = grind (arith, own, eqb_tells x.key second) in rw same refl
 
 take_stays : (parent index : ℕ) (x : Point) → (x.kind ≡ point.Text) ⊎ (x.key ≢ parent) → take_moves parent index x ≡ x
 unfolding take_moves is_behind is_counting_children
-take_stays parent index x apart = elim apart [
-  | inl text ↦ rw text refl
-  | inr other ↦ elim (eqb_tells x.key parent) [
-    | inl own ↦ absurd (other own.1)
-    | inr far ↦ by_kind x.kind refl far.0
-  ]
-] where
-  by_kind : (kind : PointKind) → x.kind ≡ kind → eqb x.key parent ≡ false → cond (is_counting_children x.kind && (eqb x.key parent && ltb index x.offset)) (record x { offset = x.offset - 1 }) x ≡ x
-  by_kind point.Text is far = rw is refl
-  by_kind point.Element is far = rw (is, far) refl
+take_stays parent index x (inl text) = rw text refl
+take_stays parent index x (inr other) = grind (arith, other, eqb_tells x.key parent)
 
 -- ---- lengths
 
@@ -69,20 +43,13 @@ length_within : (o : Option TextFields) → length_in o ≤ text_length (text_or
 length_within None = omega arith
 length_within (Some t) = told-within t.text
 
-sum_within : (a b : ℕ) → a + b ≤ last_u32 → offset_sum a b ≡ a + b
-unfolding offset_sum
-sum_within a b within = omega (arith, within)
-
 -- ---- after a join
 
 module _ (first second : ℕ) (w v : Working) (h : IsForest w.forest) (j : AreJoined first second w v) where
   -- a text isn't its own parent
   apart_parent : first ≢ j.place.parent
   apart_parent same =
-      let own : is_named (parent_of w.forest first) j.place.parent ≡ true = ap (λ o. is_named o j.place.parent) j.place.up ∙ grind (arith, eqb_tells j.place.parent j.place.parent) in
-      let none : is_named (parent_of w.forest first) j.place.parent ≡ false = ap (is_named (parent_of w.forest first)) (sym same) ∙ parent_of-self w.forest first h in
-      let bad : true ≡ false = sym own ∙ none in
-      absurd (cc)
+      absurd (grind (arith, same, j.place.up, parent_of-self w.forest first h, eqb_tells first first))
 
   -- where points went
   moved : Point → Point
@@ -93,8 +60,7 @@ module _ (first second : ℕ) (w v : Working) (h : IsForest w.forest) (j : AreJo
   unfolding moved
   on_first x own within =
       let end : ℕ = length_at w.forest first in
-      let len : ℕ = length_told (text_at w.forest second) in
-      ap (λ y. take_moves j.place.parent j.place.index (join_moves first end second y)) (splice_stays first end len x (λ same. subst (λ k. x.offset ≤ length_at w.forest k) same within))
+      ap (λ y. take_moves j.place.parent j.place.index (join_moves first end second y)) (splice_moves-front first end end (length_told (text_at w.forest second)) x (subst (λ k. x.offset ≤ length_at w.forest k) own within))
       ∙ ap (take_moves j.place.parent j.place.index) (join_stays first end second x (λ same. j.place.apart (sym own ∙ same)))
       ∙ take_stays j.place.parent j.place.index x (inr (λ same. apart_parent (sym own ∙ same)))
 
@@ -102,8 +68,7 @@ module _ (first second : ℕ) (w v : Working) (h : IsForest w.forest) (j : AreJo
   unfolding moved
   on_second x own =
       let end : ℕ = length_at w.forest first in
-      let len : ℕ = length_told (text_at w.forest second) in
-      ap (λ y. take_moves j.place.parent j.place.index (join_moves first end second y)) (splice_stays first end len x (λ same. absurd (j.place.apart (sym same ∙ own))))
+      ap (λ y. take_moves j.place.parent j.place.index (join_moves first end second y)) (splice_moves-other first end end (length_told (text_at w.forest second)) x (λ same. j.place.apart (sym same ∙ own)))
       ∙ ap (take_moves j.place.parent j.place.index) (join_brings first end second x own)
       ∙ take_stays j.place.parent j.place.index (record x { key = first; offset = offset_sum end x.offset }) (inr apart_parent)
 
@@ -111,17 +76,16 @@ module _ (first second : ℕ) (w v : Working) (h : IsForest w.forest) (j : AreJo
   unfolding moved
   on_others x text outside =
       let end : ℕ = length_at w.forest first in
-      let len : ℕ = length_told (text_at w.forest second) in
       let far = neither x.key first second (λ among. absurd (grind (arith, among, outside))) in
-      ap (λ y. take_moves j.place.parent j.place.index (join_moves first end second y)) (splice_stays first end len x (λ same. absurd (far.0 same)))
+      ap (λ y. take_moves j.place.parent j.place.index (join_moves first end second y)) (splice_moves-other first end end (length_told (text_at w.forest second)) x far.0)
       ∙ ap (take_moves j.place.parent j.place.index) (join_stays first end second x far.1)
       ∙ take_stays j.place.parent j.place.index x (inl text)
 
   -- the place in the second, after all of the first
   place_second : (o : ℕ) → text_length (text_at w.forest first ++ text_at w.forest second) ≤ last_u32 → o ≤ length_at w.forest second → offset_sum (length_at w.forest first) o ≡ length_at w.forest first + o
+  unfolding offset_sum
   place_second o fits within =
-      sum_within (length_at w.forest first) o
-      (omega (arith, fits, within, length-append (text_at w.forest first) (text_at w.forest second), length_within (text_in (label_of w.forest first)), length_within (text_in (label_of w.forest second))))
+      omega (arith, fits, within, length-append (text_at w.forest first) (text_at w.forest second), length_within (text_in (label_of w.forest first)), length_within (text_in (label_of w.forest second)))
 
   keeps_place : text_length (text_at w.forest first ++ text_at w.forest second) ≤ last_u32 → (x : Point) → is_among x.key (first ∷ second ∷ []) ≡ true → x.offset ≤ length_at w.forest x.key
       → (is_among (moved x).key (first ∷ []) ≡ true) × (place_among v.forest (first ∷ []) (moved x) ≡ place_among w.forest (first ∷ second ∷ []) x)

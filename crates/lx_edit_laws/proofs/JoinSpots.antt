@@ -29,9 +29,7 @@ neither q a b apart = (λ e. apart (grind (arith, e, eqb_tells a q)), λ e. apar
 -- a label of another key stays as fields are written
 unwritten : (k : ℕ) (fields : Fields) (f : Forest) (q : ℕ) (o : Option Label) → label_of f q ≡ o → q ≢ k → option_map (fields_at k fields) o ≡ o
 unwritten k fields f q None is other = refl
-unwritten k fields f q (Some l) is other =
-    let off : eqb l.key k ≡ false = grind (arith, key-label_of f q l is, other, eqb_tells l.key k) in
-    ap (λ b. let made : Label = record { key = l.key; kind = l.kind; fields = cond b fields l.fields } in Some made) off
+unwritten k fields f q (Some l) is other = let off : eqb l.key k ≡ false = grind (arith, key-label_of f q l is, other, eqb_tells l.key k) in rw off refl
 
 module _ (first second : ℕ) (w v : Working) (h : IsForest w.forest) (j : AreJoined first second w v) where
   abbrev both : Fields

@@ -4,22 +4,24 @@ use Rattle.lx_draft.proofs.Covered.{answered}
 use Rattle.lx_draft.proofs.Gaps.{child_of}
 use Rattle.lx_draft.proofs.Put.{both_none}
 use Rattle.lx_draft.proofs.Touched.{is_some-kind_of}
-use Rattle.lx_draft.specs.Faults.{answer, label_fault, over_counts, over_limits, piece_fault, splice_fault, text_fields, text_in}
+use Rattle.lx_draft.specs.Faults.{over_counts, over_limits, splice_fault, text_in}
 use Rattle.lx_draft.specs.Selecting.{length_told, unlike}
 use Rattle.lx_draft.specs.Steps.{fields_written, label_with_piece, node_taken, splice_points, splice_step, take_points, take_step, text_replaced, with_piece}
 use Rattle.lx_draft.specs.Working.{Working}
 use Rattle.lx_edit.proofs.Climbed.{first_part}
-use Rattle.lx_edit.specs.Conditions.{is_key, join_fault, length_at, length_in, no_next}
+use Rattle.lx_edit.specs.Conditions.{is_key, join_fault, length_at, length_in}
 use Rattle.lx_edit.specs.Edits.{pointed}
 use Rattle.lx_edit.specs.Texts.{join_step, text_or_none, texts_joined}
 use Rattle.lx_forest.proofs.Edits.{is_some-spot}
 use Rattle.lx_forest.proofs.Lookups.{NoRepeats-children_of, parent_of-with_fields}
 use Rattle.lx_forest.proofs.Siblings.{parent_of-next, siblings-with_fields}
 use Rattle.lx_forest.specs.Edits.{take_out, with_fields}
-use Rattle.lx_forest.specs.Forest.{Forest, Label}
-use Rattle.lx_forest.specs.Lookups.{IsForest, children_below, children_of, has, index_of, kind_of, label_of, next_of, parent_of, spot}
-use Rattle.lx_links.specs.Faults.{detach_fault, unknown}
+use Rattle.lx_forest.specs.Forest.{Forest}
+use Rattle.lx_forest.specs.Lookups.{IsForest, children_below, children_of, has, index_of, kind_of, label_of, next_of, parent_of}
+use Rattle.lx_links.specs.Faults.{detach_fault}
+use Rattle.lx_forest.proofs.Walks.{cases_option}
 use Rattle.lx_edit_laws.proofs.SplitLaws.{kind_by}
+use Rattle.lx_edit_laws.proofs.WrapSteps.{was_allowed}
 use Rattle.lx_edit_laws.proofs.SplitPoints.{each_twice}
 use Rattle.lx_edit_laws.specs.Reading.{text_at}
 use Rattle.lx_trees.proofs.Positions.{place_in, index_in-among}
@@ -27,8 +29,6 @@ use Rattle.lx_trees.proofs.Siblings.{first_of-among}
 use Rattle.lx_node.specs.Kinds.{is_text}
 use Rattle.lx_node.specs.Limits.{last_u32}
 use Rattle.lx_trees.specs.Siblings.{NoRepeats, index_in, next_in}
-use Rattle.lx_trees.specs.Spots.{Spot}
-use Rattle.lx_node.specs.declared.cause.Cause.{Cause}
 use Rattle.lx_node.specs.declared.cause.Cause.TheVariants.{BadPlace}
 use Rattle.lx_node.specs.declared.cause.Point.{Point}
 use Rattle.lx_node.specs.declared.fields.Fields.{Fields}
@@ -39,7 +39,7 @@ use Rattle.lx_text.proofs.Appended.{spliced-end}
 use Rattle.lx_text.proofs.Places.{length-append}
 use Rattle.lx_text.proofs.Told.{told-all}
 use Rattle.lx_text.specs.Texts.{text_length}
-use Rattle.std.proofs.Common.{List, None, Ok, Option, Some, [], ap, ap₂, arith, cond, inl, inr, length, option_map, refl, subst, sym, true, ℕ, ◌++◌, ◌∙◌, ◌∷◌, ◌≡◌, ◌≢◌, ◌≤◌}
+use Rattle.std.proofs.Common.{List, None, Ok, Option, Some, [], ap, ap₂, arith, cond, inl, inr, length, refl, subst, sym, true, ℕ, ◌++◌, ◌∙◌, ◌∷◌, ◌≡◌, ◌≢◌, ◌≤◌}
 use Rattle.std.proofs.lemmas.Bool.Decides.{eqb_tells}
 use Rattle.std.specs.Option.{option_or}
 use Rattle.lx_node.specs.declared.kind.Kind.TheVariants as kinds
@@ -47,15 +47,11 @@ use Rattle.lx_node.specs.declared.kind.Kind.TheVariants as kinds
 -- ---- texts
 
 -- where a piece may be replaced there is a text
-text_there : (f : Forest) (k from to : ℕ) (o : Option (Spot Label)) → spot f k ≡ o → splice_fault k from to f ≡ None → (t : TextFields) × (text_in (option_map (λ (s : Spot Label). s.label) o) ≡ Some t)
-text_there f k from to None here e = absurd (grind (arith, here, e, is_some-spot f k))
-text_there f k from to (Some s) here e = by_text (text_fields s.label.kind s.label.fields) refl (ap (λ o. label_fault (option_map (λ (x : Spot Label). x.label) o) from to) (sym here) ∙ (both_none (unknown f k) (label_fault (label_of f k) from to) e).1) where
-  by_text : (o : Option TextFields) → text_fields s.label.kind s.label.fields ≡ o → piece_fault s.label.kind (text_fields s.label.kind s.label.fields) from to ≡ None → (t : TextFields) × (text_fields s.label.kind s.label.fields ≡ Some t)
-  by_text None is none = absurd (grind (arith, is, none))
-  by_text (Some t) is none = (t, is)
-
 pub text_spliced : (f : Forest) (k from to : ℕ) → splice_fault k from to f ≡ None → (t : TextFields) × (text_in (label_of f k) ≡ Some t)
-text_spliced f k from to e = text_there f k from to (spot f k) refl e
+text_spliced f k from to e = elim (cases_option (text_in (label_of f k))) [
+  | inl none ↦ absurd (grind (arith, e, none, is_some-spot f k))
+  | inr found ↦ found
+]
 
 -- a text's fields with more after its own text
 abbrev pub with_behind : TextFields → List ℕ → Fields
@@ -74,7 +70,7 @@ pub record AreBeside (f : Forest) (first second : ℕ) : Type 0 where
   pub at : index_of f second ≡ Some index
 
 -- what comes right after a name is another
-next_apart : (xs : List ℕ) (q n : ℕ) → NoRepeats xs → next_in xs q ≡ Some n → q ≢ n
+pub next_apart : (xs : List ℕ) (q n : ℕ) → NoRepeats xs → next_in xs q ≡ Some n → q ≢ n
 next_apart [] q n once e same = absurd (cc)
 next_apart (x ∷ xs) q n once e same =
     elim (eqb_tells x q) [
@@ -83,7 +79,7 @@ next_apart (x ∷ xs) q n once e same =
     ]
 
 beside_by : (f : Forest) (o : Option ℕ) (first second : ℕ) → IsForest f → parent_of f first ≡ o → next_of f first ≡ Some second → AreBeside f first second
-beside_by f None first second h up e = absurd (let both : ◌≡◌ {A = Option ℕ} None (Some second) = sym (ap (λ o. next_in (children_below f o) first) up) ∙ e in cc)
+beside_by f None first second h up e = absurd (grind (arith, up, e))
 beside_by f (Some p) first second h up e =
     let next : next_in (children_of f p) first ≡ Some second = sym (ap (λ o. next_in (children_below f o) first) up) ∙ e in
     let below : parent_of f second ≡ Some p = parent_of-next f first second p h up e in
@@ -116,23 +112,6 @@ pub record AreJoined (first second : ℕ) (w v : Working) : Type 0 where
   pub second_text : kind_of w.forest second ≡ Some kinds.Text
   pub forest : v.forest ≡ take_out second (with_fields first (with_behind own (text_at w.forest second)) w.forest)
   pub selection : v.selection ≡ each_point (joined_point first second (length_at w.forest first) (length_told (text_at w.forest second)) place.parent place.index) w.selection
-
--- the causes of a join one by one
-record NoneOf (first second : ℕ) (f : Forest) : Type 0 where
-  first_there : unknown f first ≡ None
-  second_there : unknown f second ≡ None
-  first_like : unlike is_text (kind_of f first) ≡ None
-  second_like : unlike is_text (kind_of f second) ≡ None
-  next : no_next f first second ≡ None
-
-none_of : (first second : ℕ) (f : Forest) → join_fault first second f ≡ None → NoneOf first second f
-none_of first second f e =
-    let texts : Option Cause = option_or (unlike is_text (kind_of f second)) (no_next f first second) in
-    let a = both_none (unknown f first) (option_or (unknown f second) (option_or (unlike is_text (kind_of f first)) texts)) e in
-    let b = both_none (unknown f second) (option_or (unlike is_text (kind_of f first)) texts) a.1 in
-    let c = both_none (unlike is_text (kind_of f first)) texts b.1 in
-    let d = both_none (unlike is_text (kind_of f second)) (no_next f first second) c.1 in
-    record { first_there = a.0; second_there = b.0; first_like = c.0; second_like = d.0; next = d.1 }
 
 -- what these causes say where they aren't there
 next_is : (o : Option ℕ) (k : ℕ) → cond (is_key o k) None (Some (BadPlace k)) ≡ None → o ≡ Some k
@@ -171,30 +150,20 @@ spliced_fields f k t more is fits =
     let end : length_at f k ≡ text_length t.text = ap length_in is ∙ told-all t.text (omega (arith, fits, length-append t.text more)) in
     ap (λ o. with_piece o (length_at f k) (length_at f k) more) is ∙ ap (text_replaced t) (spliced-end (length_at f k) more t.text end)
 
--- what the take left
-record IsTaken (k : ℕ) (u v : Working) : Type 0 where
-  forest : v.forest ≡ take_out k u.forest
-  selection : v.selection ≡ take_points (parent_of u.forest k) (index_of u.forest k) u.selection
-
-taken_of : (k : ℕ) (u v : Working) → take_step k u ≡ Ok v → IsTaken k u v
-unfolding take_step
-taken_of k u v e =
-    let told = answered (option_or (detach_fault k u.forest) (over_counts u)) (node_taken k u) v e in
-    record { forest = ap (λ (x : Working). x.forest) (sym told.1); selection = ap (λ (x : Working). x.selection) (sym told.1) }
-
 index_of-with_fields : (k : ℕ) (fields : Fields) (f : Forest) (q : ℕ) → index_of (with_fields k fields f) q ≡ index_of f q
 index_of-with_fields k fields f q = ap (λ xs. index_in xs q) (siblings-with_fields k fields f q)
 
-joined_of : (first second : ℕ) (w s v : Working) → IsForest w.forest → NoneOf first second w.forest → text_length (text_at w.forest first ++ text_at w.forest second) ≤ last_u32
+joined_of : (first second : ℕ) (w s v : Working) → IsForest w.forest → join_fault first second w.forest ≡ None → text_length (text_at w.forest first ++ text_at w.forest second) ≤ last_u32
     → IsSpliced first second w s → take_step second (pointed (join_moves first (length_at w.forest first) second) s) ≡ Ok v → AreJoined first second w v
+unfolding take_step
 joined_of first second w s v h none fits spliced e =
     let end : ℕ = length_at w.forest first in
     let text : List ℕ = text_at w.forest second in
     let u : Working = pointed (join_moves first end second) s in
-    let taken = taken_of second u v e in
+    let taken = (answered (option_or (detach_fault second u.forest) (over_counts u)) (node_taken second u) v e).1 in
     let same : text_at w.forest first ≡ spliced.own.text = ap text_or_none spliced.own_is in
     let room : text_length (spliced.own.text ++ text) ≤ last_u32 = subst (λ xs. text_length (xs ++ text) ≤ last_u32) same fits in
-    let place = beside w.forest first second h (next_is (next_of w.forest first) second none.next) in
+    let place = beside w.forest first second h (next_is (next_of w.forest first) second (grind (arith, none))) in
     let piece : Fields = label_with_piece (label_of w.forest first) end end text in
     let up : parent_of s.forest second ≡ Some place.parent = ap (λ f. parent_of f second) spliced.forest ∙ parent_of-with_fields first piece w.forest second ∙ place.below in
     let at : index_of s.forest second ≡ Some place.index = ap (λ f. index_of f second) spliced.forest ∙ index_of-with_fields first piece w.forest second ∙ place.at in
@@ -202,12 +171,12 @@ joined_of first second w s v h none fits spliced e =
       own = spliced.own;
       own_is = spliced.own_is;
       place = place;
-      first_text = like_text w.forest first (grind (arith, none.first_there)) none.first_like;
-      second_text = like_text w.forest second (grind (arith, none.second_there)) none.second_like;
+      first_text = like_text w.forest first (grind (arith, none)) (grind (arith, none));
+      second_text = like_text w.forest second (grind (arith, none)) (grind (arith, none));
       forest =
-          taken.forest ∙ ap (take_out second) (spliced.forest ∙ ap (λ x. with_fields first x w.forest) (spliced_fields w.forest first spliced.own text spliced.own_is room));
+          ap (λ (x : Working). x.forest) (sym taken) ∙ ap (take_out second) (spliced.forest ∙ ap (λ x. with_fields first x w.forest) (spliced_fields w.forest first spliced.own text spliced.own_is room));
       selection =
-          taken.selection
+          ap (λ (x : Working). x.selection) (sym taken)
           ∙ ap₂ (λ p i. take_points p i u.selection) up at
           ∙ ap (λ x. each_point (take_moves place.parent place.index) (each_point (join_moves first end second) x)) spliced.selection
           ∙ ap (each_point (take_moves place.parent place.index)) (each_twice (splice_moves first end end (length_told text)) (join_moves first end second) w.selection)
@@ -218,9 +187,7 @@ joined_of first second w s v h none fits spliced e =
 pub are_joined : (first second : ℕ) (w v : Working) → IsForest w.forest → text_length (text_at w.forest first ++ text_at w.forest second) ≤ last_u32 → join_step first second w ≡ Ok v → AreJoined first second w v
 unfolding join_step
 are_joined first second w v h fits e =
-    let a = first_part (answer (join_fault first second w.forest) w) (texts_joined first second) v e in
-    let allowed = answered (join_fault first second w.forest) w a.0 a.1 in
-    let same : texts_joined first second w ≡ Ok v = ap (texts_joined first second) allowed.1 ∙ a.2 in
+    let allowed = was_allowed (join_fault first second w.forest) w v (texts_joined first second) e in
     let end : ℕ = length_at w.forest first in
-    let b = first_part (splice_step first end end (text_at w.forest second) w) (λ x. take_step second (pointed (join_moves first end second) x)) v same in
-    joined_of first second w b.0 v h (none_of first second w.forest allowed.0) fits (spliced_of first second w b.0 b.1) b.2
+    let b = first_part (splice_step first end end (text_at w.forest second) w) (λ x. take_step second (pointed (join_moves first end second) x)) v allowed.1 in
+    joined_of first second w b.0 v h allowed.0 fits (spliced_of first second w b.0 b.1) b.2

@@ -18,7 +18,7 @@ use Rattle.lx_edit_laws.proofs.JoinSteps.{AreJoined, are_joined}
 use Rattle.lx_edit_laws.proofs.Reading.{spread-same, spread-texts}
 use Rattle.lx_edit_laws.proofs.SplitCuts.{label_is, text_label}
 use Rattle.lx_edit_laws.proofs.SplitLaws.{IsLeft, cut_up, left, no_offset}
-use Rattle.lx_edit_laws.proofs.SplitPieces.{ends_self}
+use Rattle.lx_edit_laws.proofs.WrapSteps.{was_same}
 use Rattle.lx_edit_laws.proofs.SplitPoints.{below_keys, less_than_next}
 use Rattle.lx_edit_laws.proofs.WrapLists.{filter-gone, filter-kept, filter-without}
 use Rattle.lx_edit_laws.proofs.WrapTrees.{same_spot_by}
@@ -27,11 +27,10 @@ use Rattle.lx_edit_laws.specs.Splits.{IsSplit}
 use Rattle.lx_node.specs.Limits.{last_u32}
 use Rattle.lx_trees.proofs.Siblings.{is_named_tells}
 use Rattle.lx_trees.specs.Siblings.{is_among}
-use Rattle.lx_node.specs.declared.cause.Cause.{Cause}
 use Rattle.lx_node.specs.declared.fields.TextFields.{TextFields}
 use Rattle.lx_text.proofs.Places.{length-append}
 use Rattle.lx_text.specs.Texts.{text_length}
-use Rattle.std.proofs.Common.{Bool, List, None, Ok, Option, Result, Some, [], ap, append-nil, append_assoc, ap₂, arith, false, inl, inr, length, not, refl, subst, sym, true, ℕ, ◌++◌, ◌∙◌, ◌∷◌, ◌≡◌, ◌≢◌, ◌≤◌}
+use Rattle.std.proofs.Common.{Bool, List, None, Ok, Option, Some, [], ap, append-nil, append_assoc, ap₂, arith, false, inl, inr, length, not, refl, subst, sym, true, ℕ, ◌++◌, ◌∙◌, ◌∷◌, ◌≡◌, ◌≢◌, ◌≤◌}
 use Rattle.std.proofs.lemmas.Bool.Decides.{eqb_tells}
 use Rattle.std.proofs.lemmas.List.Elements.{filter-append}
 use Rattle.std.specs.List.{filter}
@@ -75,16 +74,13 @@ rejoined_then k n rest v w u h apart j more = record {
       ∙ filter-without n rest (children_of v.forest q);
 }
 
-fits_first : (a b c : List ℕ) → text_length (a ++ (b ++ c)) ≤ last_u32 → text_length (a ++ b) ≤ last_u32
-fits_first a b c fits = omega (arith, fits, length-append a (b ++ c), length-append b c, length-append a b)
-
 -- all of them, where offsets can say every place of the whole
 rejoined : (k : ℕ) (new : List ℕ) (v u : Working) → IsReady v → is_among k new ≡ false → text_length (texts_of v.forest (k ∷ new)) ≤ last_u32 → in_turn (join_step k) new v ≡ Ok u → IsRejoined k new v u
 unfolding in_turn
-rejoined k [] v u r apart fits e = let same : v ≡ u = let f : ◌≡◌ {A = Result Working Cause} (Ok v) (Ok u) = e in cc in subst (IsRejoined k [] v) same (unjoined k v)
+rejoined k [] v u r apart fits e = subst (IsRejoined k [] v) (was_same v u e) (unjoined k v)
 rejoined k (n ∷ rest) v u r apart fits e =
     let a = first_part (join_step k n v) (in_turn (join_step k) rest) u e in
-    let j = are_joined k n v a.0 r.in_order (fits_first (text_at v.forest k) (text_at v.forest n) (texts_of v.forest rest) fits) a.1 in
+    let j = are_joined k n v a.0 r.in_order (omega (arith, fits, length-append)) a.1 in
     let beyond : is_among k rest ≡ false = grind (arith, apart) in
     let left : texts_of a.0.forest (k ∷ rest) ≡ texts_of v.forest (k ∷ n ∷ rest) =
     texts_left v.forest a.0.forest k n rest beyond (text_first k n v a.0 r.in_order j) (λ q other. label_other k n v a.0 r.in_order j q other) in
@@ -162,19 +158,16 @@ text_within : (o : Option TextFields) (offset : ℕ) (rest : List ℕ) → bad_o
 text_within None offset rest e = absurd (no_offset offset rest e)
 text_within (Some t) offset rest e = (t, refl)
 
-same_rest : (k : ℕ) (xs ys : List ℕ) → k ∷ xs ≡ k ∷ ys → xs ≡ ys
-same_rest k xs ys e = cc
-
 -- split nowhere, and joined with nothing
 nothing_done : (k : ℕ) (new : List ℕ) (w v u : Working) (q : ℕ) → new ≡ [] → cut_at k 0 [] w ≡ Ok v → in_turn (join_step k) new v ≡ Ok u → spot u.forest q ≡ spot w.forest q
 unfolding in_turn
-nothing_done k [] w v u q none cuts e = ap (λ (x : Working). spot x.forest q) (sym (ends_self w v cuts ∙ ends_self v u e))
+nothing_done k [] w v u q none cuts e = ap (λ (x : Working). spot x.forest q) (sym (was_same w v cuts ∙ was_same v u e))
 nothing_done k (n ∷ new) w v u q none cuts e = absurd (cc)
 
 pub joined_again : (k : ℕ) (offsets new : List ℕ) (w v u : Working) (q : ℕ) → IsSplit k offsets (k ∷ new) w v → in_turn (join_step k) new v ≡ Ok u → has q w.forest ≡ true → spot u.forest q ≡ spot w.forest q
-joined_again k [] new w v u q s e old = nothing_done k new w v u q (same_rest k new [] s.pieces_are) (cut_up k [] w v s.split).cut e
+joined_again k [] new w v u q s e old = nothing_done k new w v u q (cc s.pieces_are) (cut_up k [] w v s.split).cut e
 joined_again k (o ∷ rest) new w v u q s e old =
     let of = cut_up k (o ∷ rest) w v s.split in
     let text = text_within (text_in (label_of w.forest k)) o rest of.allowed in
     let there : has k w.forest ≡ true = sym (is_some-kind_of w.forest k) ∙ ap is_some of.kind_is in
-    spot_again k (o ∷ rest) new text.0 w v u s text.1 there (same_rest k new (keys_from w.next_key (length (o ∷ rest))) s.pieces_are) e q old
+    spot_again k (o ∷ rest) new text.0 w v u s text.1 there (cc s.pieces_are) e q old

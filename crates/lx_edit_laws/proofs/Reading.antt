@@ -53,8 +53,7 @@ spread-same one other (x ∷ xs) each =
 
 pub spread-none : (give : ℕ → List ℕ) (xs : List ℕ) → ((q : ℕ) → is_among q xs ≡ true → give q ≡ []) → spread give xs ≡ []
 spread-none give [] each = refl
-spread-none give (x ∷ xs) each =
-    ap₂ (λ a b. a ++ b) (each x (grind (arith, eqb_tells x x))) (spread-none give xs (λ q among. each q (grind (arith, among))))
+spread-none give (x ∷ xs) each = rw (each x (grind (arith, eqb_tells x x))) (spread-none give xs (λ q among. each q (grind (arith, among))))
 
 -- what the nodes of a tree give
 abbrev pub below : (ℕ → List ℕ) → Forest → ℕ → List ℕ

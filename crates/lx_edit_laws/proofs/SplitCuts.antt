@@ -1,29 +1,26 @@
 -- What a cut of a text in two leaves: the forest, where points go, and the next key.
-use Rattle.std.proofs.Common.{◌≡◌, ◌≢◌, ◌∙◌, ℕ, ◌+◌, true, false, List, [], length, Option, None, Some, Result, Ok, refl, sym, ap, subst, arith}
-use Rattle.std.specs.Prelude.{is_some, option_map}
+use Rattle.std.proofs.Common.{◌≡◌, ◌≢◌, ◌∙◌, ℕ, ◌+◌, true, false, List, [], length, Option, None, Some, Ok, refl, sym, ap, ap₂, subst, arith}
 use Rattle.std.specs.Option.{option_or}
 use Rattle.std.proofs.lemmas.Bool.Decides.{eqb_tells}
 use Rattle.lx_node.specs.Strings.{characters_of}
-use Rattle.lx_trees.specs.Spots.{Spot}
 use Rattle.lx_node.specs.declared.kind.Kind.{Kind}
 use Rattle.lx_node.specs.declared.kind.Kind.TheVariants as kinds
 use Rattle.lx_node.specs.declared.fields.Fields.{Fields}
 use Rattle.lx_node.specs.declared.fields.Fields.TheVariants as fields
 use Rattle.lx_node.specs.declared.fields.TextFields.{TextFields}
-use Rattle.lx_node.specs.declared.cause.Cause.{Cause}
 use Rattle.lx_text.specs.Texts.{slice_of, spliced_text}
 use Rattle.lx_select.specs.declared.selection.Selection.{Selection}
 use Rattle.lx_select.specs.Selection.{each_point}
 use Rattle.lx_select.specs.Rules.{put_moves, splice_moves, split_moves}
 use Rattle.lx_forest.specs.Forest.{Forest, Label}
-use Rattle.lx_forest.specs.Lookups.{has, spot, label_of, parent_of, index_of, IsForest}
+use Rattle.lx_forest.specs.Lookups.{has, label_of, parent_of, index_of, IsForest}
 use Rattle.lx_forest.specs.Edits.{with_new, CanPut}
 use Rattle.lx_forest.proofs.Edits.{is_some-spot}
 use Rattle.lx_forest.proofs.Lookups.{key-label_of, label_of-with_new, parent_of-with_new, parent_of-with_fields, parent_of-self, has-child, has-parent_of}
 use Rattle.lx_draft.specs.Working.{Working}
 use Rattle.lx_draft.specs.Covering.{IsReady}
 use Rattle.lx_draft.specs.Selecting.{length_told}
-use Rattle.lx_draft.specs.Faults.{answer, after, over_counts, over_limits, put_fault, text_fields, text_in, splice_fault}
+use Rattle.lx_draft.specs.Faults.{after, over_counts, over_limits, put_fault, text_fields, text_in, splice_fault}
 use Rattle.lx_draft.specs.Steps.{made, with_piece, new_step, fields_written, splice_points, label_with_piece, text_replaced, splice_step, node_placed, put_step}
 use Rattle.lx_draft.specs.Beside.{behind_at, put_behind_step}
 use Rattle.lx_draft.proofs.Covered.{answered}
@@ -36,15 +33,12 @@ use Rattle.lx_edit.proofs.Covered.{covered_path}
 use Rattle.lx_edit.proofs.Keyed.{cut-next_key}
 use Rattle.lx_edit.proofs.Paths.{cut_path}
 use Rattle.lx_edit_laws.proofs.SplitForests.{CutsTo, cuts}
+use Rattle.lx_edit_laws.proofs.WrapSteps.{was_allowed, was_same}
 
 -- ---- the label of a text
 
-record IsTextOf (kind : Kind) (x : Fields) (t : TextFields) : Type 0 where
-  pub kind_is : kind ≡ kinds.Text
-  pub fields_are : x ≡ fields.Text t
-
-text_of : (kind : Kind) (x : Fields) (t : TextFields) → text_fields kind x ≡ Some t → IsTextOf kind x t
-text_of kinds.Text (fields.Text u) t e = let same : u ≡ t = cc in record { kind_is = refl; fields_are = ap (λ s. fields.Text s) same }
+text_of : (kind : Kind) (x : Fields) (t : TextFields) → text_fields kind x ≡ Some t → (kind ≡ kinds.Text) × (x ≡ fields.Text t)
+text_of kinds.Text (fields.Text u) t e = (refl, cc)
 text_of kind x t e = absurd (cc)
 
 abbrev pub text_label : ℕ → TextFields → Label
@@ -57,10 +51,8 @@ label_is f k t e = by_label (label_of f k) refl e where
   by_label None is e = absurd (cc)
   by_label (Some l) is e =
       let tells = text_of l.kind l.fields t e in
-      is
-      ∙ ap (λ (q : ℕ). let m : Label = record { key = q; kind = l.kind; fields = l.fields } in Some m) (key-label_of f k l is)
-      ∙ ap (λ (kind : Kind). let m : Label = record { key = k; kind = kind; fields = l.fields } in Some m) tells.kind_is
-      ∙ ap (λ (x : Fields). let m : Label = record { key = k; kind = kinds.Text; fields = x } in Some m) tells.fields_are
+      is ∙ ap (λ (q : ℕ). let m : Label = record { key = q; kind = l.kind; fields = l.fields } in Some m) (key-label_of f k l is)
+      ∙ ap₂ (λ (kind : Kind) (x : Fields). let m : Label = record { key = k; kind = kind; fields = x } in Some m) tells.0 tells.1
 
 -- ---- the parts of a cut
 
@@ -70,19 +62,12 @@ record IsTail (k offset : ℕ) (w b : Working) : Type 0 where
 
 tail_is : (k offset : ℕ) (w b : Working) → tail_made k offset w ≡ Ok b → IsTail k offset w b
 unfolding tail_made new_step
-tail_is k offset w b e = by_fault (splice_fault k offset (length_at w.forest k) w.forest) refl e where
-  x : Fields
-  x = tail_of w.forest k offset
-
-  by_fault : (o : Option Cause) → splice_fault k offset (length_at w.forest k) w.forest ≡ o
-      → after (answer o w) (λ v. after (new_step kinds.Text (tail_of v.forest k offset) v) (λ made. Ok (pointed (split_moves k offset v.next_key) made))) ≡ Ok b → IsTail k offset w b
-  by_fault (Some c) is e = absurd (cc)
-  by_fault None is e =
-      let part = first_part (new_step kinds.Text x w) (λ made. Ok (pointed (split_moves k offset w.next_key) made)) b e in
-      let told = answered (over_limits (characters_of x) w) (made kinds.Text x w) part.0 part.1 in
-      let last : ◌≡◌ {A = Result Working Cause} (Ok (pointed (split_moves k offset w.next_key) part.0)) (Ok b) = part.2 in
-      let so : pointed (split_moves k offset w.next_key) part.0 ≡ b = cc in
-      record { piece = is; is = ap (pointed (split_moves k offset w.next_key)) told.1 ∙ so }
+tail_is k offset w b e =
+    let x : Fields = tail_of w.forest k offset in
+    let allowed = was_allowed (splice_fault k offset (length_at w.forest k) w.forest) w b (λ v. after (new_step kinds.Text (tail_of v.forest k offset) v) (λ made. Ok (pointed (split_moves k offset v.next_key) made))) e in
+    let part = first_part (new_step kinds.Text x w) (λ made. Ok (pointed (split_moves k offset w.next_key) made)) b allowed.1 in
+    let told = answered (over_limits (characters_of x) w) (made kinds.Text x w) part.0 part.1 in
+    record { piece = allowed.0; is = ap (pointed (split_moves k offset w.next_key)) told.1 ∙ was_same (pointed (split_moves k offset w.next_key) part.0) b part.2 }
 
 splice_is : (k from to : ℕ) (new : List ℕ) (b c : Working) → splice_step k from to new b ≡ Ok c
     → fields_written k (label_with_piece (label_of b.forest k) from to new) (length new) (splice_points k from to new) b ≡ c
@@ -99,26 +84,15 @@ record IsBehind (n k : ℕ) (c d : Working) : Type 0 where
   can : CanPut parent n c.forest
   is : node_placed n parent (index + 1) c ≡ d
 
-placed_is : (n k p i : ℕ) (c d : Working) → parent_of c.forest k ≡ Some p → index_of c.forest k ≡ Some i → put_step n p (i + 1) c ≡ Ok d → IsBehind n k c d
-unfolding put_step
-placed_is n k p i c d up at e =
-    let told = answered (option_or (put_fault n p (i + 1) c.forest) (over_counts c)) (node_placed n p (i + 1) c) d e in
-    record {
-      parent = p;
-      index = i;
-      up = up;
-      at = at;
-      can = can_put c.forest n p (i + 1) (both_none (put_fault n p (i + 1) c.forest) (over_counts c) told.0).0;
-      is = told.1;
-    }
-
 behind_is : (n k : ℕ) (c d : Working) → put_behind_step n k c ≡ Ok d → IsBehind n k c d
-unfolding put_behind_step
+unfolding put_behind_step put_step
 behind_is n k c d e = by_place (parent_of c.forest k) (index_of c.forest k) refl refl e where
   by_place : (p i : Option ℕ) → parent_of c.forest k ≡ p → index_of c.forest k ≡ i → behind_at n k p i c ≡ Ok d → IsBehind n k c d
-  by_place (Some p) (Some i) up at e = placed_is n k p i c d up at e
-  by_place None i up at e = absurd (cc)
-  by_place (Some p) None up at e = absurd (cc)
+  by_place (Some p) (Some i) up at e =
+      let told = answered (option_or (put_fault n p (i + 1) c.forest) (over_counts c)) (node_placed n p (i + 1) c) d e in
+      let none = (both_none (put_fault n p (i + 1) c.forest) (over_counts c) told.0).0 in
+      record { parent = p; index = i; up = up; at = at; can = can_put c.forest n p (i + 1) none; is = told.1 }
+  by_place p i up at e = absurd (cc)
 
 -- ---- the whole
 
@@ -146,10 +120,7 @@ pub record IsCut (k offset : ℕ) (t : TextFields) (w v : Working) : Type 0 wher
 
 -- a text is there
 there : (f : Forest) (k : ℕ) (t : TextFields) → text_in (label_of f k) ≡ Some t → has k f ≡ true
-there f k t e = by_spot (spot f k) refl where
-  by_spot : (o : Option (Spot Label)) → spot f k ≡ o → has k f ≡ true
-  by_spot None is = let bad : None ≡ Some t = sym (ap (λ s. text_in (option_map (λ s. s.label) s)) is) ∙ e in absurd (cc)
-  by_spot (Some s) is = sym (is_some-spot f k) ∙ ap is_some is
+there f k t e = grind (arith, e, is_some-spot f k)
 
 -- the draft once the new text is there, and once the old one has lost what is cut off
 tail_left : (k offset : ℕ) → TextFields → Working → Working

@@ -1,6 +1,5 @@
 -- What a split leaves, law by law.
-use Rattle.std.proofs.Common.{◌≡◌, ◌≢◌, ◌∙◌, ℕ, ◌≤◌, eqb, not, ◌||◌, Bool, true, false, cond, List, [], ◌∷◌, length, map, Option, None, Some, Ok, refl, sym, ap, subst, arith, append-nil, inl, inr}
-use Rattle.std.specs.Option.{option_or}
+use Rattle.std.proofs.Common.{◌≡◌, ◌≢◌, ◌∙◌, ℕ, ◌≤◌, eqb, not, ◌||◌, Bool, true, List, [], ◌∷◌, length, map, Option, None, Some, Ok, refl, sym, ap, subst, arith, append-nil, inl, inr}
 use Rattle.std.specs.Prelude.{is_some}
 use Rattle.std.proofs.lemmas.Bool.{or_parts}
 use Rattle.std.proofs.lemmas.Bool.Decides.{eqb_tells, nat_tests}
@@ -10,29 +9,26 @@ use Rattle.lx_trees.specs.Siblings.{is_among}
 use Rattle.lx_node.specs.declared.kind.Kind.{Kind}
 use Rattle.lx_node.specs.declared.kind.Kind.TheVariants as kinds
 use Rattle.lx_node.specs.declared.fields.TextFields.{TextFields}
-use Rattle.lx_node.specs.declared.cause.Cause.{Cause}
-use Rattle.lx_node.specs.declared.cause.Cause.TheVariants.{WrongKind}
 use Rattle.lx_trees.proofs.Siblings.{is_named_tells}
 use Rattle.lx_text.specs.Texts.{text_length, front_of, rest_of, slice_of}
 use Rattle.lx_text.proofs.Told.{offset_start, told-none}
 use Rattle.lx_forest.specs.Forest.{Label}
 use Rattle.lx_forest.specs.Lookups.{has, spot, label_of, kind_of, parent_of, children_of, IsForest, IsHeld}
 use Rattle.lx_forest.proofs.Lookups.{NoRepeats-children_of, has-child}
-use Rattle.lx_links.specs.Faults.{unknown, not_below}
 use Rattle.lx_draft.specs.Working.{Working}
 use Rattle.lx_draft.specs.Covering.{IsReady}
 use Rattle.lx_draft.specs.Selecting.{unlike, length_told}
-use Rattle.lx_draft.specs.Faults.{answer, after, text_in}
+use Rattle.lx_draft.specs.Faults.{text_in}
 use Rattle.lx_draft.specs.Steps.{text_replaced}
 use Rattle.lx_draft.proofs.Gaps.{parent_here}
-use Rattle.lx_draft.proofs.Put.{both_none}
 use Rattle.lx_draft.proofs.Touched.{is_some-kind_of}
 use Rattle.lx_edit.specs.Conditions.{length_at, bad_offset, split_fault}
 use Rattle.lx_edit.specs.Texts.{text_or_none, cut_at, split_step, keys_from}
 use Rattle.lx_edit_laws.specs.Reading.{text_at, texts_of, read_below, in_place_of, place_among, PlacesAreKept}
 use Rattle.lx_edit_laws.specs.Splits.{cut_from, IsSplit, SplitsAreTold}
 use Rattle.lx_edit_laws.proofs.Reading.{reads_of, read-leaf, reads-leaves, reads_by, reads_known, reads-in_place, childless_text}
-use Rattle.lx_edit_laws.proofs.SplitPieces.{AllStay, stay_self, IsParted, ends_self}
+use Rattle.lx_edit_laws.proofs.SplitPieces.{AllStay, stay_self, IsParted}
+use Rattle.lx_edit_laws.proofs.WrapSteps.{was_allowed, was_same}
 use Rattle.lx_edit_laws.proofs.SplitPoints.{PointsGo, none_go, parted}
 use Rattle.lx_edit_laws.proofs.SplitTexts.{whole-is}
 use Rattle.lx_edit_laws.proofs.WrapTrees.{same_spot_by}
@@ -43,18 +39,11 @@ use Rattle.lx_edit_laws.proofs.WrapTrees.{same_spot_by}
 pub no_offset : (o : ℕ) (rest : List ℕ) → bad_offset 0 [] (o ∷ rest) ≢ None
 no_offset o rest none = absurd (grind (arith, none, nat_tests, told-none))
 
-text_kind : (kind : Kind) → is_text kind ≡ true → kind ≡ kinds.Text
-unfolding is_text
-text_kind kinds.Text e = refl
-text_kind kind e = absurd (cc)
-
 -- what has to be a text is one
 pub kind_by : (o : Option Kind) → is_some o ≡ true → unlike is_text o ≡ None → o ≡ Some kinds.Text
-kind_by None known e = absurd (cc)
-kind_by (Some kind) known e = by_test (is_text kind) refl e where
-  by_test : (b : Bool) → is_text kind ≡ b → cond b None (Some (WrongKind kind)) ≡ None → Some kind ≡ Some kinds.Text
-  by_test true is e = ap (λ x. Some x) (text_kind kind is)
-  by_test false is e = absurd (cc)
+unfolding is_text
+kind_by (Some kinds.Text) known e = refl
+kind_by o known e = absurd (cc)
 
 pub record IsCutUp (k : ℕ) (list : List ℕ) (w v : Working) : Type 0 where
   pub kind_is : kind_of w.forest k ≡ Some kinds.Text
@@ -63,14 +52,9 @@ pub record IsCutUp (k : ℕ) (list : List ℕ) (w v : Working) : Type 0 where
 
 pub cut_up : (k : ℕ) (list : List ℕ) (w v : Working) → split_step k list w ≡ Ok v → IsCutUp k list w v
 unfolding split_step
-cut_up k list w v e = by_fault (split_fault k list w.forest) refl e where
-  by_fault : (o : Option Cause) → split_fault k list w.forest ≡ o → after (answer o w) (cut_at k 0 list) ≡ Ok v → IsCutUp k list w v
-  by_fault (Some c) is e = absurd (cc)
-  by_fault None is e =
-      let a = both_none (unknown w.forest k) (option_or (unlike is_text (kind_of w.forest k)) (option_or (not_below w.forest k) (bad_offset 0 (text_at w.forest k) list))) is in
-      let b = both_none (unlike is_text (kind_of w.forest k)) (option_or (not_below w.forest k) (bad_offset 0 (text_at w.forest k) list)) a.1 in
-      let c = both_none (not_below w.forest k) (bad_offset 0 (text_at w.forest k) list) b.1 in
-      record { kind_is = kind_by (kind_of w.forest k) (is_some-kind_of w.forest k ∙ grind (arith, a.0)) b.0; allowed = c.1; cut = e }
+cut_up k list w v e =
+    let a = was_allowed (split_fault k list w.forest) w v (cut_at k 0 list) e in
+    record { kind_is = kind_by (kind_of w.forest k) (is_some-kind_of w.forest k ∙ grind (arith, a.0)) (grind (arith, a.0)); allowed = grind (arith, a.0); cut = a.1 }
 
 -- ---- what is left
 
@@ -124,7 +108,7 @@ left_by k list w v ready few c = by_text (text_in (label_of w.forest k)) refl li
       let whole : t.text ≡ slice_of 0 (length_told t.text) t.text = sym (whole-is t.text short) in
       let both = parted k 0 list t.text t w v ready here whole (offset_start t.text) short good cut in
       left_by_cuts k list t w v c.kind_is here short both.0 both.1
-  by_text None here [] allowed cut = subst (IsLeft k [] [] w) (ends_self w v cut) (left_same k w ready c.kind_is here)
+  by_text None here [] allowed cut = subst (IsLeft k [] [] w) (was_same w v cut) (left_same k w ready c.kind_is here)
   by_text None here (o ∷ rest) allowed cut = absurd (no_offset o rest (ap (λ s. bad_offset 0 s (o ∷ rest)) (sym (ap text_or_none here)) ∙ allowed))
 
 pub left : (k : ℕ) (list pieces : List ℕ) (w v : Working) → IsSplit k list pieces w v → IsLeft k list (keys_from w.next_key (length list)) w v

@@ -1,10 +1,9 @@
 -- What all the cuts of a split leave: its pieces, their order, and the nodes that stay.
-use Rattle.std.proofs.Common.{◌≡◌, ◌≢◌, ◌∙◌, ℕ, ◌-◌, ◌≤◌, true, false, List, [], ◌∷◌, ◌++◌, map, None, Some, Result, Ok, refl, sym, ap, ap₂, subst, arith, append-nil, inl, inr}
+use Rattle.std.proofs.Common.{◌≡◌, ◌≢◌, ◌∙◌, ℕ, ◌-◌, ◌≤◌, true, false, List, [], ◌∷◌, ◌++◌, map, None, Some, refl, sym, ap, ap₂, subst, arith, append-nil, inl, inr}
 use Rattle.std.proofs.lemmas.Bool.Decides.{eqb_tells}
 use Rattle.lx_trees.specs.Siblings.{is_named, is_among}
 use Rattle.lx_node.specs.declared.kind.Kind.TheVariants as kinds
 use Rattle.lx_node.specs.declared.fields.TextFields.{TextFields}
-use Rattle.lx_node.specs.declared.cause.Cause.{Cause}
 use Rattle.lx_node.specs.Limits.{last_u32}
 use Rattle.lx_text.specs.Texts.{is_offset, slice_of, text_length}
 use Rattle.lx_forest.specs.Forest.{Forest, Label}
@@ -148,6 +147,3 @@ pub cut_place : (start o : ℕ) (rest text : List ℕ) → is_offset start text 
 cut_place start o rest text begin few none =
     let a = offsets start o text rest none in
     record { order = omega (arith, a.above); first = begin; second = a.place; few = few }
-
-pub ends_self : (w v : Working) → ◌≡◌ {A = Result Working Cause} (Ok w) (Ok v) → w ≡ v
-ends_self w v e = cc

@@ -1,6 +1,6 @@
 -- Where the points of a text go that is split: each keeps its place in what the pieces have together.
-use Rattle.std.proofs.Common.{◌≡◌, ◌≢◌, ◌∙◌, ℕ, zero, suc, ◌+◌, ◌-◌, ◌<◌, ◌≤◌, ◌⊎◌, Bool, true, false, cond, eqb, leb, ltb, ◌&&◌, List, [], ◌∷◌, length, None, Some, Ok, refl, sym, ap, ap₂, subst, arith, inl, inr}
-use Rattle.std.proofs.lemmas.Bool.{cases_lt}
+use Rattle.std.proofs.Common.{◌≡◌, ◌≢◌, ◌∙◌, ℕ, zero, suc, ◌+◌, ◌-◌, ◌<◌, ◌≤◌, ◌⊎◌, true, false, cond, eqb, leb, ltb, ◌&&◌, List, [], ◌∷◌, length, None, Some, Ok, refl, sym, ap, ap₂, subst, arith, inl, inr}
+use Rattle.std.proofs.lemmas.Bool.{cases_Bool, cases_lt}
 use Rattle.std.proofs.lemmas.Bool.Decides.{eqb_tells, nat_tests}
 use Rattle.lx_node.specs.Limits.{last_u32}
 use Rattle.lx_trees.specs.Siblings.{is_among}
@@ -9,7 +9,7 @@ use Rattle.lx_node.specs.declared.cause.Point.{Point}
 use Rattle.lx_node.specs.declared.cause.PointKind.TheVariants as point
 use Rattle.lx_text.specs.Texts.{is_offset, text_length, slice_of}
 use Rattle.lx_select.specs.declared.selection.Selection.{Selection}
-use Rattle.lx_select.specs.declared.selection.Selection.TheVariants.{Nothing, Range, Nodes, Cells}
+use Rattle.lx_select.specs.declared.selection.Selection.TheVariants.{Range}
 use Rattle.lx_select.specs.Selection.{each_point}
 use Rattle.lx_select.specs.Rules.{is_counting_children, is_behind, offset_sum, put_moves, spliced_offset, splice_moves, split_moves}
 use Rattle.lx_forest.specs.Forest.{Forest}
@@ -23,22 +23,19 @@ use Rattle.lx_edit.specs.Texts.{cut_in_two, cut_at, keys_from}
 use Rattle.lx_edit.proofs.Climbed.{first_part}
 use Rattle.lx_edit_laws.specs.Reading.{place_among}
 use Rattle.lx_edit_laws.proofs.SplitCuts.{IsCut, cut_tells, points_cut, stays_there, not_new, text_there, parent_there, not_above, far_from, far_from_new}
-use Rattle.lx_edit_laws.proofs.SplitPieces.{IsParted, not_cut, cut_text, cut_place, first_label, one_more, ends_self}
+use Rattle.lx_edit_laws.proofs.SplitPieces.{IsParted, not_cut, cut_text, cut_place, first_label, one_more}
+use Rattle.lx_edit_laws.proofs.WrapSteps.{was_same}
 use Rattle.lx_edit_laws.proofs.SplitTexts.{IsCutAt, piece-length, piece-back, rest-told, offsets}
 
 -- ---- points of a selection
 
 pub each_self : (s : Selection) → each_point (λ x. x) s ≡ s
-each_self Nothing = refl
 each_self (Range a b format) = refl
-each_self (Nodes keys) = refl
-each_self (Cells t a b) = refl
+each_self other = refl
 
 pub each_twice : (f g : Point → Point) (s : Selection) → each_point g (each_point f s) ≡ each_point (λ x. g (f x)) s
-each_twice f g Nothing = refl
 each_twice f g (Range a b format) = refl
-each_twice f g (Nodes keys) = refl
-each_twice f g (Cells t a b) = refl
+each_twice f g other = refl
 
 -- ---- one point
 
@@ -63,7 +60,7 @@ split_moves-other : (k offset n : ℕ) (x : Point) → x.key ≢ k → split_mov
 unfolding split_moves
 split_moves-other k offset n x other = grind (arith, other, eqb_tells x.key k)
 
-splice_moves-other : (k from to len : ℕ) (x : Point) → x.key ≢ k → splice_moves k from to len x ≡ x
+pub splice_moves-other : (k from to len : ℕ) (x : Point) → x.key ≢ k → splice_moves k from to len x ≡ x
 unfolding splice_moves
 splice_moves-other k from to len x other = grind (arith, other, eqb_tells x.key k)
 
@@ -72,12 +69,10 @@ split_moves-front : (k offset n : ℕ) (x : Point) → x.offset ≤ offset → s
 unfolding split_moves
 split_moves-front k offset n x within = grind (arith, within, nat_tests)
 
-splice_moves-front : (k from to len : ℕ) (x : Point) → x.offset ≤ from → splice_moves k from to len x ≡ x
+pub splice_moves-front : (k from to len : ℕ) (x : Point) → x.offset ≤ from → splice_moves k from to len x ≡ x
 unfolding splice_moves spliced_offset
-splice_moves-front k from to len x within = let front : leb x.offset from ≡ true = grind (arith, within, nat_tests) in rw front (by_key (eqb x.key k)) where
-  by_key : (same : Bool) → cond same (record x { offset = x.offset }) x ≡ x
-  by_key false = refl
-  by_key true = refl
+splice_moves-front k from to len x within =
+    let front : leb x.offset from ≡ true = grind (arith, within, nat_tests) in rw front (elim (cases_Bool (eqb x.key k)) [ inl same ↦ rw same refl | inr other ↦ rw other refl ])
 
 split_moves-back : (k offset n : ℕ) (x : Point) → x.key ≡ k → offset < x.offset → split_moves k offset n x ≡ record x { key = n; offset = x.offset - offset }
 unfolding split_moves
@@ -135,10 +130,7 @@ below_keys q k (suc count) less = grind (arith, less, eqb_tells k q, below_keys 
 -- a point of a key that isn't the first of these is after what the first has
 behind_first : (f : Forest) (k : ℕ) (new : List ℕ) (x : Point) → is_among k new ≡ false → is_among x.key new ≡ true → place_among f (k ∷ new) x ≡ length_at f k + place_among f new x
 behind_first f k new x absent among =
-    elim (eqb_tells x.key k) [
-      | inl own ↦ absurd (grind (arith, own, absent, among))
-      | inr other ↦ rw other.0 refl
-    ]
+    grind (arith, absent, among, eqb_tells x.key k)
 
 module _ (k start o : ℕ) (rest new text : List ℕ) (t : TextFields) (w u v : Working) (ready : IsReady w) (here : text_in (label_of w.forest k) ≡ Some t) (is : t.text ≡ slice_of start (length_told text) text)
     (place : IsCutAt start o text) (c : IsCut k (o - start) t w u) (r : IsParted w.next_key o rest new text (cut_text (o - start) t) u v)
@@ -215,17 +207,14 @@ module _ (k start o : ℕ) (rest new text : List ℕ) (t : TextFields) (w u v : 
 
 -- a key that is there comes before the next one
 pub less_than_next : (k : ℕ) (w : Working) → IsReady w → has k w.forest ≡ true → k < w.next_key
-less_than_next k w ready there = elim (cases_lt k w.next_key) [
-  | inl less ↦ less
-  | inr over ↦ absurd (grind (arith, there, ready.free k over))
-]
+less_than_next k w ready there = grind (arith, there, ready.free k)
 
 -- all cuts of a split
 pub parted : (k start : ℕ) (list text : List ℕ) (t : TextFields) (w v : Working) → IsReady w → text_in (label_of w.forest k) ≡ Some t
     → t.text ≡ slice_of start (length_told text) text → is_offset start text ≡ true → text_length text ≤ last_u32 → bad_offset start text list ≡ None
     → cut_at k start list w ≡ Ok v → IsParted k start list (keys_from w.next_key (length list)) text t w v × PointsGo k (keys_from w.next_key (length list)) w v
 parted k start [] text t w v ready here is begin few none e =
-    subst (λ x. IsParted k start [] [] text t w x × PointsGo k [] w x) (ends_self w v e) (not_cut k start text t w ready here is, none_go k w)
+    subst (λ x. IsParted k start [] [] text t w x × PointsGo k [] w x) (was_same w v e) (not_cut k start text t w ready here is, none_go k w)
 parted k start (o ∷ rest) text t w v ready here is begin few none e =
     let n : ℕ = w.next_key in
     let cut : TextFields = cut_text (o - start) t in

@@ -1,22 +1,20 @@
 -- What a wrapped node leaves, and that to unwrap it gives the old forest.
-use Rattle.std.proofs.Common.{◌≡◌, ◌≢◌, ◌∙◌, ℕ, true, false, eqb, [], ◌∷◌, ◌++◌, None, Some, Result, Ok, sym, ap, ap₂, subst, arith, append-nil, inl, inr}
-use Rattle.std.specs.Option.{option_or}
+use Rattle.std.proofs.Common.{◌≡◌, ◌≢◌, ◌∙◌, ℕ, true, false, cond, eqb, [], ◌∷◌, ◌++◌, None, Some, Result, Ok, sym, ap, ap₂, subst, arith, append-nil, inl, inr}
 use Rattle.std.proofs.lemmas.Bool.Decides.{eqb_tells}
 use Rattle.lx_trees.specs.Siblings.{is_among, names_without, names_with}
 use Rattle.lx_node.specs.declared.cause.Cause.{Cause}
 use Rattle.lx_trees.proofs.Siblings.{is_among-names_with, names_without-absent_list}
 use Rattle.lx_forest.specs.Forest.{Forest}
-use Rattle.lx_forest.specs.Lookups.{has, kind_of, parent_of, children_of, IsForest}
+use Rattle.lx_forest.specs.Lookups.{kind_of, parent_of, children_of, IsForest}
 use Rattle.lx_forest.specs.Edits.{take_out}
 use Rattle.lx_forest.proofs.Lookups.{NoRepeats-children_of}
-use Rattle.lx_links.specs.Faults.{unknown, not_below, bound_to, misfit}
+use Rattle.lx_links.specs.Faults.{misfit}
 use Rattle.lx_draft.specs.Working.{Working}
 use Rattle.lx_draft.specs.Faults.{after, text_in}
 use Rattle.lx_draft.specs.Beside.{put_before_step}
-use Rattle.lx_draft.proofs.Put.{both_none}
 use Rattle.lx_draft.proofs.Gaps.{child_of, parent_here}
 use Rattle.lx_edit.specs.InTurn.{in_turn}
-use Rattle.lx_edit.specs.Conditions.{kind_above, instead_fault, wrap_fault}
+use Rattle.lx_edit.specs.Conditions.{wrap_fault}
 use Rattle.lx_edit.specs.Edits.{moved_before, moved_to_end, wrap_step, unwrap_step}
 use Rattle.lx_edit.specs.Texts.{text_or_none}
 use Rattle.lx_edit.proofs.Climbed.{first_part}
@@ -38,18 +36,13 @@ pub record HasWrapped (f g : Forest) (p k outer : ℕ) : Type 0 where
   pub silent : text_at f outer ≡ []
   pub moved : WasMoved (beside p k outer f) g outer k None
 
-known : (f : Forest) (k : ℕ) → unknown f k ≡ None → has k f ≡ true
-known f k none = grind (arith, none)
-
 pub was_wrapped : (k outer : ℕ) (w v : Working) → IsWrapped k outer w v → (p : ℕ) × HasWrapped w.forest v.forest p k outer
 unfolding wrap_step
 was_wrapped k outer w v e =
     let f : Forest = w.forest in
     let h = e.ready.in_order in
     let allowed = was_allowed (wrap_fault k outer f) w v (λ x. after (put_before_step outer k x) (moved_to_end outer k)) e.wrapped in
-    let faults = both_none (instead_fault k outer f) (misfit (kind_of f outer) (kind_of f k)) allowed.0 in
-    let there = both_none (unknown f k) (option_or (unknown f outer) (option_or (not_below f k) (option_or (bound_to f k outer) (misfit (kind_above f k) (kind_of f outer))))) faults.0 in
-    let inner = kind_known f k (known f k there.0) in
+    let inner = kind_known f k (grind (arith, allowed.0)) in
     let a = first_part (put_before_step outer k w) (moved_to_end outer k) v allowed.1 in
     let below = before_below outer k w a.0 a.1 in
     let put = was_put_before outer k below.0 w a.0 h below.1 a.1 in (
@@ -57,7 +50,7 @@ was_wrapped k outer w v e =
       record {
         may = record { in_order = h; up = below.1; can = put.0 };
         empty = e.empty;
-        silent = silent_holder f outer inner.0 (ap (misfit (kind_of f outer)) (sym inner.1) ∙ faults.1);
+        silent = silent_holder f outer inner.0 (ap (misfit (kind_of f outer)) (sym inner.1) ∙ grind (arith, allowed.0));
         moved = subst (λ x. WasMoved x v.forest outer k None) put.1 (was_moved_to_end outer k a.0 v a.2);
       },
     )
@@ -77,56 +70,30 @@ module _ (f g : Forest) (p k outer : ℕ) (s : HasWrapped f g p k outer) where
 
   pub outer_up : parent_of g outer ≡ Some p
   outer_up =
-      grind (
-        arith,
-        parent_of-moved put g outer k None put_order s.moved outer,
-        beside-parent f p k outer s.may outer,
-        apart f p k outer s.may,
-        eqb_tells outer k,
-        eqb_tells outer outer,
-      )
+      let now = parent_of-moved put g outer k None put_order s.moved outer in
+      grind (arith, now, beside-parent f p k outer s.may outer, apart f p k outer s.may, eqb_tells outer k, eqb_tells outer outer)
+
+  now : (q : ℕ) → children_of g q ≡ cond (eqb q outer) (names_with None (k ∷ []) (names_without k (children_of put q))) (names_without k (children_of put q))
+  now = children_of-moved put g outer k None put_order s.moved
 
   -- k is the only child of the outer one ..
   pub outer_children : children_of g outer ≡ k ∷ []
   outer_children =
-      grind (
-        arith,
-        children_of-moved put g outer k None put_order s.moved outer,
-        beside-children f p k outer s.may outer,
-        not_new f p k outer s.may,
-        s.empty,
-        eqb_tells outer outer,
-        eqb_tells outer p,
-      )
+      grind (arith, now outer, beside-children f p k outer s.may outer, not_new f p k outer s.may, s.empty, eqb_tells outer outer, eqb_tells outer p)
 
   -- .. which is in the place of k
   pub outer_place : children_of g p ≡ in_place_of k (outer ∷ []) (children_of f p)
   outer_place =
       let left : children_of g p ≡ names_without k (names_with (Some k) (outer ∷ []) (children_of f p)) =
-      grind (
-        arith,
-        children_of-moved put g outer k None put_order s.moved p,
-        beside-children f p k outer s.may p,
-        not_new f p k outer s.may,
-        eqb_tells p p,
-        eqb_tells p outer,
-      ) in
+      grind (arith, now p, beside-children f p k outer s.may p, not_new f p k outer s.may, eqb_tells p p, eqb_tells p outer) in
       left ∙ in_its_place k (outer ∷ []) (children_of f p) (NoRepeats-children_of f p h) (child_of f p k h s.may.up)
       (grind (arith, apart f p k outer s.may, eqb_tells outer k))
 
   -- any other node has the children that it had, and k isn't one of them
   other_children : (q : ℕ) → q ≢ p → q ≢ outer → children_of g q ≡ children_of f q
   other_children q not_p away =
-      grind (
-        arith,
-        children_of-moved put g outer k None put_order s.moved q,
-        beside-children f p k outer s.may q,
-        not_p,
-        away,
-        names_without-absent_list k (children_of f q) (not_child f k p q h s.may.up (λ e. not_p (sym e))),
-        eqb_tells q p,
-        eqb_tells q outer,
-      )
+      let gone = names_without-absent_list k (children_of f q) (not_child f k p q h s.may.up (λ e. not_p (sym e))) in
+      grind (arith, now q, beside-children f p k outer s.may q, not_p, away, gone, eqb_tells q p, eqb_tells q outer)
 
   texts : (q : ℕ) → text_at g q ≡ text_at f q
   texts q = ap (λ o. text_or_none (text_in o)) (label_of-moved put g outer k None put_order s.moved q ∙ beside-label f p k outer s.may q)

@@ -19,13 +19,11 @@ apart (x ∷ xs) ys q u e = grind (arith, e, u.0, is_among-append x xs ys, eqb_t
 
 pub filter-kept : (keep : ℕ → Bool) (xs : List ℕ) → ((q : ℕ) → is_among q xs ≡ true → keep q ≡ true) → filter keep xs ≡ xs
 filter-kept keep [] each = refl
-filter-kept keep (x ∷ xs) each =
-    rw (each x (grind (arith, eqb_tells x x)), filter-kept keep xs (λ q among. each q (grind (arith, among))))
+filter-kept keep (x ∷ xs) each = rw (each x (grind (arith, eqb_tells x x)), filter-kept keep xs (λ q among. each q (grind (arith, among))))
 
 pub filter-gone : (keep : ℕ → Bool) (xs : List ℕ) → ((q : ℕ) → is_among q xs ≡ true → keep q ≡ false) → filter keep xs ≡ []
 filter-gone keep [] each = refl
-filter-gone keep (x ∷ xs) each =
-    rw (each x (grind (arith, eqb_tells x x))) (filter-gone keep xs (λ q among. each q (grind (arith, among))))
+filter-gone keep (x ∷ xs) each = rw (each x (grind (arith, eqb_tells x x))) (filter-gone keep xs (λ q among. each q (grind (arith, among))))
 
 -- of names that leave one after another
 pub filter-without : (k : ℕ) (ks xs : List ℕ) → filter (λ q. not (is_among q ks)) (names_without k xs) ≡ filter (λ q. not (is_among q (k ∷ ks))) xs
@@ -37,11 +35,7 @@ filter-without k ks (x ∷ xs) = grind (arith, filter-without k ks xs, eqb_tells
 -- of names that come before one in two parts, the second part comes after the first
 pub names_with-twice : (k c : ℕ) (new xs : List ℕ) → eqb c k ≡ false → names_with (Some k) new (names_with (Some k) (c ∷ []) xs) ≡ names_with (Some k) (c ∷ new) xs
 names_with-twice k c new [] other = grind (arith, other)
-names_with-twice k c new (x ∷ xs) other =
-    elim (eqb_tells x k) [
-      | inl own ↦ grind (arith, own.0, other)
-      | inr else ↦ grind (arith, else.0, names_with-twice k c new xs other)
-    ]
+names_with-twice k c new (x ∷ xs) other = grind (arith, other, eqb_tells x k, names_with-twice k c new xs other)
 
 -- none comes
 pub names_with-none : (k : ℕ) (xs : List ℕ) → names_with (Some k) [] xs ≡ xs
@@ -69,18 +63,8 @@ pub where_it_was : (x : ℕ) (xs : List ℕ) → NoRepeats xs → is_among x xs 
 where_it_was x [] once among = absurd (cc)
 where_it_was x (y ∷ []) once among = grind (arith, among)
 where_it_was x (y ∷ z ∷ ys) once among =
-    grind (
-      arith,
-      once,
-      among,
-      eqb_tells y x,
-      eqb_tells z z,
-      eqb_tells z x,
-      where_it_was x (z ∷ ys) once.1,
-      names_without-absent_list x (z ∷ ys),
-      names_without-absent_list x ys,
-      next_in-apart (z ∷ ys) x y,
-    )
+    let gone : (xs : List ℕ) → is_among x xs ≡ false → names_without x xs ≡ xs = names_without-absent_list x in
+    grind (arith, once, among, eqb_tells y x, eqb_tells z z, eqb_tells z x, where_it_was x (z ∷ ys) once.1, gone (z ∷ ys), gone ys, next_in-apart (z ∷ ys) x y)
 
 -- a name that another came before comes before that one, which leaves
 pub swapped : (k n : ℕ) (xs : List ℕ) → NoRepeats xs → is_among k xs ≡ true → is_among n xs ≡ false → k ≢ n
@@ -89,17 +73,7 @@ swapped k n [] once among absent other = absurd (cc)
 swapped k n (x ∷ xs) once among absent other =
     elim (eqb_tells x k) [
       | inl own ↦
-          grind (
-            arith,
-            own,
-            once.0,
-            absent,
-            other,
-            eqb_tells n k,
-            eqb_tells k n,
-            eqb_tells n n,
-            names_without-absent_list k xs,
-            names_without-absent_list n xs,
-          )
+          let gone : (c : ℕ) → is_among c xs ≡ false → names_without c xs ≡ xs = λ c. names_without-absent_list c xs in
+          grind (arith, own, once.0, absent, other, eqb_tells n k, eqb_tells k n, eqb_tells n n, gone k, gone n)
       | inr else ↦ grind (arith, else.0, among, absent, other, eqb_tells n k, eqb_tells x n, swapped k n xs once.1)
     ]

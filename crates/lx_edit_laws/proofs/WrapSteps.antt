@@ -1,5 +1,5 @@
 -- What one step leaves of a forest: a node taken out, put before another, and moved.
-use Rattle.std.proofs.Common.{◌≡◌, ◌≢◌, ◌∙◌, ℕ, true, false, List, [], Option, None, Some, Result, Ok, Err, refl, sym, ap, subst, arith, inl, inr}
+use Rattle.std.proofs.Common.{◌≡◌, ◌≢◌, ◌∙◌, ℕ, true, false, List, [], Option, None, Some, Result, Ok, refl, sym, ap, subst, arith, inl, inr}
 use Rattle.std.specs.Prelude.{slice_get, option_map}
 use Rattle.std.specs.Option.{option_or}
 use Rattle.std.proofs.lemmas.Bool.Decides.{eqb_tells}
@@ -46,7 +46,7 @@ pub has_above : (f : Forest) (k : ℕ) → not_below f k ≡ None → (p : ℕ) 
 has_above f k none =
     elim (cases_option (parent_of f k)) [
       | inl top ↦ absurd (grind (arith, none, top))
-      | inr (p, up) ↦ (p, up)
+      | inr found ↦ found
     ]
 
 pub was_taken : (k : ℕ) (w v : Working) → take_step k w ≡ Ok v → (v.forest ≡ take_out k w.forest) × ((p : ℕ) × (parent_of w.forest k ≡ Some p))
@@ -72,43 +72,38 @@ was_put_before k other p w v h up e =
 pub before_below : (k other : ℕ) (w v : Working) → put_before_step k other w ≡ Ok v → (p : ℕ) × (parent_of w.forest other ≡ Some p)
 before_below k other w v e =
     elim (cases_option (parent_of w.forest other)) [
-      | inl top ↦ absurd (refused (before_none w k other top) e)
-      | inr (p, up) ↦ (p, up)
-    ] where
-      refused : {cause : Cause} → put_before_step k other w ≡ Err cause → put_before_step k other w ≡ Ok v → ⊥
-      refused a b = cc
+      | inl top ↦ absurd (cc (before_none w k other top))
+      | inr found ↦ found
+    ]
 
 -- ---- a node that is moved
+
+-- a node that was taken, and put elsewhere
+pub was_moved : (k p : ℕ) (before : Option ℕ) (w u v : Working) → take_step k w ≡ Ok u → CanPut p k u.forest → v.forest ≡ put_in p before k u.forest → WasMoved w.forest v.forest p k before
+was_moved k p before w u v e can put =
+    let taken = was_taken k w u e in record { above = taken.1.0; up = taken.1.1; can = subst (CanPut p k) taken.0 can; is = put ∙ ap (put_in p before k) taken.0 }
+
+-- where the others are once it was taken
+pub still_there : (k other p : ℕ) (w v : Working) → IsForest w.forest → parent_of w.forest other ≡ Some p → other ≢ k → take_step k w ≡ Ok v → IsForest v.forest × (parent_of v.forest other ≡ Some p)
+still_there k other p w v h up apart e =
+    let taken = was_taken k w v e in
+    (subst IsForest (sym taken.0) (IsForest-take_out k w.forest h), ap (λ f. parent_of f other) taken.0 ∙ parent_of-take_out k w.forest other h ∙ grind (arith, up, apart, eqb_tells other k))
 
 pub was_moved_to_end : (to k : ℕ) (w v : Working) → moved_to_end to k w ≡ Ok v → WasMoved w.forest v.forest to k None
 unfolding moved_to_end
 was_moved_to_end to k w v e =
     let a = first_part (take_step k w) (λ u. put_step k to (size_of u.forest to) u) v e in
-    let taken = was_taken k w a.0 a.1 in
     let put = was_put k to (size_of a.0.forest to) a.0 v a.2 in
-    record {
-      above = taken.1.0;
-      up = taken.1.1;
-      can = subst (CanPut to k) taken.0 put.0;
-      is = put.1
-          ∙ ap (λ o. put_in to o k a.0.forest) (slice_get_past (children_of a.0.forest to) (size_of a.0.forest to) (omega arith))
-          ∙ ap (put_in to None k) taken.0;
-    }
+    was_moved k to None w a.0 v a.1 put.0
+    (put.1 ∙ ap (λ o. put_in to o k a.0.forest) (slice_get_past (children_of a.0.forest to) (size_of a.0.forest to) (omega arith)))
 
 pub was_moved_before : (other k p : ℕ) (w v : Working) → IsForest w.forest → parent_of w.forest other ≡ Some p → other ≢ k → moved_before other k w ≡ Ok v → WasMoved w.forest v.forest p k (Some other)
 unfolding moved_before
 was_moved_before other k p w v h up apart e =
     let a = first_part (take_step k w) (put_before_step k other) v e in
-    let taken = was_taken k w a.0 a.1 in
-    let left : IsForest a.0.forest = subst IsForest (sym taken.0) (IsForest-take_out k w.forest h) in
-    let still : parent_of a.0.forest other ≡ Some p = ap (λ f. parent_of f other) taken.0 ∙ parent_of-take_out k w.forest other h ∙ grind (arith, up, apart, eqb_tells other k) in
-    let put = was_put_before k other p a.0 v left still a.2 in
-    record {
-      above = taken.1.0;
-      up = taken.1.1;
-      can = subst (CanPut p k) taken.0 put.0;
-      is = put.1 ∙ ap (put_in p (Some other) k) taken.0;
-    }
+    let still = still_there k other p w a.0 h up apart a.1 in
+    let put = was_put_before k other p a.0 v still.0 still.1 a.2 in
+    was_moved k p (Some other) w a.0 v a.1 put.0 put.1
 
 -- ---- what has no text
 
@@ -124,15 +119,10 @@ silent f k other = by_label (label_of f k) refl where
   by_label (Some l) is = text_of_kind l.kind l.fields (other l.kind (ap (option_map (λ (x : Label). x.kind)) is))
 
 -- an element has none, nor has what may hold something, or may not be left without children
-element_silent : (kind : Kind) → is_element kind ≡ true → is_text kind ≡ false
-unfolding is_element is_text
-element_silent kinds.Text e = absurd (cc)
-element_silent kind e = refl
-
-holder_silent : (outer inner : Kind) → may_hold outer inner ≡ true → is_text outer ≡ false
-unfolding may_hold is_text
-holder_silent kinds.Text inner e = absurd (cc)
-holder_silent outer inner e = refl
+element_silent : (outer inner : Kind) → (is_element outer ≡ true → is_text outer ≡ false) × (may_hold outer inner ≡ true → is_text outer ≡ false)
+unfolding is_element may_hold is_text
+element_silent kinds.Text inner = (λ e. absurd (cc), λ e. absurd (cc))
+element_silent outer inner = (λ e. refl, λ e. refl)
 
 gone_silent : (outer : Kind) (inner : Option Kind) → may_not_be_left (Some outer) inner ≡ true → is_text outer ≡ false
 unfolding may_be_empty is_item is_text
@@ -141,10 +131,10 @@ gone_silent kinds.Text (Some inner) e = absurd (cc)
 gone_silent outer (Some inner) e = refl
 
 pub silent_element : (f : Forest) (k : ℕ) → unlike is_element (kind_of f k) ≡ None → text_at f k ≡ []
-silent_element f k none = silent f k (λ kind is. element_silent kind (grind (arith, none, is)))
+silent_element f k none = silent f k (λ kind is. (element_silent kind kind).0 (grind (arith, none, is)))
 
 pub silent_holder : (f : Forest) (k : ℕ) (inner : Kind) → misfit (kind_of f k) (Some inner) ≡ None → text_at f k ≡ []
-silent_holder f k inner none = silent f k (λ kind is. holder_silent kind inner (grind (arith, none, is)))
+silent_holder f k inner none = silent f k (λ kind is. (element_silent kind inner).1 (grind (arith, none, is)))
 
 pub silent_gone : (f : Forest) (k : ℕ) (inner : Option Kind) → may_not_be_left (kind_of f k) inner ≡ true → text_at f k ≡ []
 silent_gone f k inner goes = silent f k (λ kind is. gone_silent kind inner (ap (λ o. may_not_be_left o inner) (sym is) ∙ goes))

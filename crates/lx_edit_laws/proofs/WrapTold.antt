@@ -1,26 +1,21 @@
 -- What wrapping, unwrapping, moving children and replacing leave.
-use Rattle.std.proofs.Common.{◌≡◌, ◌≢◌, ◌∙◌, ℕ, Bool, true, false, cond, List, [], ◌∷◌, ◌++◌, not, Option, None, Some, Ok, refl, sym, ap, ap₂, subst, arith, Result}
-use Rattle.std.specs.Option.{option_or}
+use Rattle.std.proofs.Common.{◌≡◌, ◌≢◌, ◌∙◌, ℕ, Bool, true, false, cond, List, [], ◌∷◌, ◌++◌, not, Option, Some, Ok, refl, sym, ap, ap₂, subst, arith, Result}
 use Rattle.std.proofs.lemmas.Bool.Decides.{eqb_tells}
-use Rattle.lx_node.specs.Kinds.{is_element}
 use Rattle.lx_trees.specs.Siblings.{is_among, names_without, names_with}
 use Rattle.lx_node.specs.declared.cause.Point.{Point}
 use Rattle.lx_node.specs.declared.cause.Cause.{Cause}
 use Rattle.lx_select.specs.Selection.{ends_of}
 use Rattle.lx_trees.proofs.Siblings.{is_among-names_with, names_without-absent_list}
 use Rattle.lx_forest.specs.Forest.{Forest}
-use Rattle.lx_forest.specs.Lookups.{kind_of, parent_of, children_of, size_of, index_of, IsForest}
+use Rattle.lx_forest.specs.Lookups.{parent_of, children_of, size_of, index_of, IsForest}
 use Rattle.lx_forest.specs.Edits.{take_out}
 use Rattle.lx_forest.proofs.Lookups.{NoRepeats-children_of, parent_of-self, children_of-take_out}
-use Rattle.lx_links.specs.Faults.{unknown, not_below}
 use Rattle.lx_draft.specs.Working.{Working}
-use Rattle.lx_draft.specs.Selecting.{unlike}
 use Rattle.lx_draft.specs.Faults.{after, text_in}
 use Rattle.lx_draft.specs.Beside.{put_before_step}
-use Rattle.lx_draft.proofs.Put.{both_none}
 use Rattle.lx_draft.proofs.Gaps.{child_of, parent_here}
 use Rattle.lx_edit.specs.InTurn.{in_turn}
-use Rattle.lx_edit.specs.Conditions.{inside, kind_above, misfit_among, children_fault, replace_fault, unwrap_fault}
+use Rattle.lx_edit.specs.Conditions.{children_fault, replace_fault, unwrap_fault}
 use Rattle.lx_edit.specs.Edits.{pointed, moved_before, moved_to_end, remove_step, brought, children_moved, children_step, kept, texts_pointed, replace_step, brought_up, unwrapped, unwrap_step}
 use Rattle.lx_edit.specs.Texts.{text_or_none}
 use Rattle.lx_edit.proofs.Climbed.{first_part}
@@ -44,18 +39,15 @@ unfolding children_step
 went_all from to w v h two e =
     let f : Forest = w.forest in
     let ks : List ℕ = children_of f from in
-    let kinds : Option Cause = option_or (unlike is_element (kind_of f to)) (option_or (inside f from to) (misfit_among f (kind_of f to) ks)) in
     let allowed = was_allowed (children_fault from to f) w v (children_moved from to) e in
     let a = first_part (in_turn (moved_to_end to) ks w) (λ u. Ok (brought from to (size_of f to) (ends_of w.selection) u)) v allowed.1 in
     let same : a.0.forest ≡ v.forest = ap (λ (x : Working). x.forest) (was_same (brought from to (size_of f to) (ends_of w.selection) a.0) v a.2) in
     let over : WentOver f v.forest from to ks =
     subst (λ g. WentOver f g from to ks) same (went_over from to ks w a.0 h two (NoRepeats-children_of f from h) (λ c among. parent_here f from c h among) a.1) in
-    let known = both_none (unknown f from) (option_or (unknown f to) (option_or (unlike is_element (kind_of f from)) kinds)) allowed.0 in
-    let other = both_none (unknown f to) (option_or (unlike is_element (kind_of f from)) kinds) known.1 in
     record {
       over = over;
       none = over.left ∙ filter-gone (λ q. not (is_among q ks)) ks (λ q among. ap not among);
-      silent = silent_element f from (both_none (unlike is_element (kind_of f from)) kinds other.1).0;
+      silent = silent_element f from (grind (arith, allowed.0));
     }
 
 -- ---- a node that stands for another, with its children
@@ -146,8 +138,7 @@ replaced_behind k with w v h e = children_kept k with w v (was_replaced k with w
 
 brought_up-forest : (k : ℕ) (p index : Option ℕ) (before : Option (Point × Point)) (w : Working) → (brought_up k p index before w).forest ≡ w.forest
 brought_up-forest k (Some p) (Some index) before w = refl
-brought_up-forest k None index before w = refl
-brought_up-forest k (Some p) None before w = refl
+brought_up-forest k p index before w = refl
 
 -- the children of k came before it in the draft `mid`, from which it was removed
 pub record WasUnwrapped (k : ℕ) (w v : Working) : Type 0 where
@@ -165,14 +156,12 @@ unfolding unwrap_step
 was_unwrapped k w v e =
     let f : Forest = w.forest in
     let allowed = was_allowed (unwrap_fault k f) w v (unwrapped k) e in
-    let known = both_none (unknown f k) (option_or (unlike is_element (kind_of f k)) (option_or (not_below f k) (misfit_among f (kind_above f k) (children_of f k)))) allowed.0 in
-    let element = both_none (unlike is_element (kind_of f k)) (option_or (not_below f k) (misfit_among f (kind_above f k) (children_of f k))) known.1 in
-    let below = has_above f k (both_none (not_below f k) (misfit_among f (kind_above f k) (children_of f k)) element.1).0 in
+    let below = has_above f k (grind (arith, allowed.0)) in
     let a = first_part (in_turn (moved_before k) (children_of f k) w) (λ u. remove_step k (brought_up k (parent_of f k) (index_of f k) (ends_of w.selection) u)) v allowed.1 in
     record {
       parent = below.0;
       up = below.1;
-      silent = silent_element f k element.0;
+      silent = silent_element f k (grind (arith, allowed.0));
       mid = a.0;
       each = a.1;
       last = brought_up k (parent_of f k) (index_of f k) (ends_of w.selection) a.0;

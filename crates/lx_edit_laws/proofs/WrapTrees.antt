@@ -32,12 +32,11 @@ not_child f k p q h up other = is_among-children_of f k q h ∙ rw up (different
 pub same_spot_by : (o r : Option (Spot Label)) → option_map (λ (s : Spot Label). s.label) o ≡ option_map (λ (s : Spot Label). s.label) r
     → parent_at o ≡ parent_at r → children_at o ≡ children_at r → o ≡ r
 same_spot_by None None a b c = refl
-same_spot_by None (Some s) a b c = absurd (cc)
-same_spot_by (Some s) None a b c = absurd (cc)
 same_spot_by (Some s) (Some t) a b c =
     let labels : s.label ≡ t.label = cc in
     ap (λ x. let made : Spot Label = record { label = x; parent = s.parent; children = s.children } in Some made) labels
     ∙ ap₂ (λ x y. let made : Spot Label = record { label = t.label; parent = x; children = y } in Some made) b c
+same_spot_by o r a b c = absurd (cc)
 
 pub same_reads : (f g : Forest) → IsForest f → IsForest g → ((q : ℕ) → label_of f q ≡ label_of g q) → ((q : ℕ) → parent_of f q ≡ parent_of g q)
     → ((q : ℕ) → children_of f q ≡ children_of g q) → f ≡ g
@@ -51,15 +50,8 @@ take-put f p k before h can =
     same_reads (take_out k g) f (IsForest-take_out k g order) h
     (λ q. label_of-take_out k g q order ∙ label_of-put_in p before k f q h can)
     (λ q. parent_of-take_out k g q order ∙ grind (arith, parent_of-put_in p before k f q h can, can.detached, eqb_tells q k))
-    (λ q. children_of-take_out k g q order ∙ ap (names_without k) (children_of-put_in p before k f q h can)
-    ∙ grind (
-      arith,
-      is_among-children_of f k q h,
-      can.detached,
-      names_without-names_with before k (children_of f q),
-      names_without-absent_list k (children_of f q),
-      eqb_tells q p,
-    ))
+    (λ q. let ks = children_of f q in children_of-take_out k g q order ∙ ap (names_without k) (children_of-put_in p before k f q h can)
+    ∙ grind (arith, is_among-children_of f k q h, can.detached, names_without-names_with before k ks, names_without-absent_list k ks, eqb_tells q p))
 
 -- ---- a node that is moved
 
@@ -110,16 +102,8 @@ moved_back f u p k h up m =
     let next : Option ℕ = next_in (children_of f p) k in
     same_reads u f (IsForest-moved f u p k next h m) h (label_of-moved f u p k next h m)
     (λ q. grind (arith, parent_of-moved f u p k next h m q, up, eqb_tells q k))
-    (λ q. children_of-moved f u p k next h m q
-    ∙ grind (
-      arith,
-      up,
-      is_among-children_of f k q h,
-      where_it_was k (children_of f q) (NoRepeats-children_of f q h),
-      names_without-absent_list k (children_of f q),
-      eqb_tells q p,
-      eqb_tells p p,
-    ))
+    (λ q. let ks = children_of f q in let stays = where_it_was k ks (NoRepeats-children_of f q h) in children_of-moved f u p k next h m q
+    ∙ grind (arith, up, is_among-children_of f k q h, stays, names_without-absent_list k ks, eqb_tells q p, eqb_tells p p))
 
 -- ---- a detached node that is put before another
 
@@ -175,19 +159,11 @@ module _ (f : Forest) (p k new : ℕ) (s : MayStandBefore f p k new) where
       (λ q. label_of-take_out new u q order ∙ label_of-moved b u p k (Some new) beside-order m q ∙ beside-label q)
       (λ q. parent_of-take_out new u q order
       ∙ grind (arith, parent_of-moved b u p k (Some new) beside-order m q, beside-parent q, s.can.detached, s.up, eqb_tells q new, eqb_tells q k))
-      (λ q. children_of-take_out new u q order
+      (λ q. let ks = children_of f q in
+      let gone : (c : ℕ) → is_among c ks ≡ false → names_without c ks ≡ ks = λ c. names_without-absent_list c ks in
+      let swap = swapped k new ks (NoRepeats-children_of f q s.in_order) in
+      let nobodys : is_among new ks ≡ false = grind (arith, s.can.detached, is_among-children_of f new q s.in_order) in
+      children_of-take_out new u q order
       ∙ ap (names_without new) (children_of-moved b u p k (Some new) beside-order m q
       ∙ ap (λ xs. cond (eqb q p) (names_with (Some new) (k ∷ []) (names_without k xs)) (names_without k xs)) (beside-children q))
-      ∙ grind (
-        arith,
-        apart,
-        s.up,
-        s.can.detached,
-        is_among-children_of f k q s.in_order,
-        is_among-children_of f new q s.in_order,
-        swapped k new (children_of f q) (NoRepeats-children_of f q s.in_order),
-        names_without-absent_list k (children_of f q),
-        names_without-absent_list new (children_of f q),
-        eqb_tells q p,
-        eqb_tells p q,
-      ))
+      ∙ grind (arith, apart, s.up, nobodys, is_among-children_of f k q s.in_order, swap, gone k, gone new, eqb_tells q p, eqb_tells p q))

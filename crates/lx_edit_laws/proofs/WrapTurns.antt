@@ -1,15 +1,13 @@
 -- What nodes that are moved one after another leave of a forest, and what is left where one is removed.
-use Rattle.std.proofs.Common.{◌≡◌, ◌≢◌, ◌∙◌, ℕ, Bool, true, false, cond, eqb, not, ◌&&◌, List, [], ◌∷◌, ◌++◌, length, Option, None, Some, Ok, refl, sym, ap, subst, arith, append_assoc}
+use Rattle.std.proofs.Common.{◌≡◌, ◌≢◌, ◌∙◌, ℕ, Bool, true, false, cond, eqb, not, List, [], ◌∷◌, ◌++◌, length, Option, None, Some, Ok, refl, sym, ap, subst, arith, append_assoc}
 use Rattle.std.specs.List.{filter}
-use Rattle.std.specs.Prelude.{is_some}
-use Rattle.std.proofs.lemmas.List.{append-nil}
-use Rattle.std.proofs.lemmas.Bool.{and_parts}
+use Rattle.std.proofs.lemmas.List.{append-nil, nil_from_length}
 use Rattle.std.proofs.lemmas.Bool.Decides.{eqb_tells}
 use Rattle.lx_trees.specs.Siblings.{is_among, NoRepeats, names_without, names_with}
 use Rattle.lx_node.specs.declared.kind.Kind.{Kind}
 use Rattle.lx_trees.proofs.Siblings.{is_among-names_without, names_without-absent_list}
 use Rattle.lx_forest.specs.Forest.{Forest}
-use Rattle.lx_forest.specs.Lookups.{label_of, kind_of, parent_of, children_of, size_of, ancestors, IsForest}
+use Rattle.lx_forest.specs.Lookups.{label_of, kind_of, parent_of, children_of, ancestors, IsForest}
 use Rattle.lx_forest.specs.Edits.{take_out}
 use Rattle.lx_forest.proofs.Lookups.{children_of-take_out}
 use Rattle.lx_forest.proofs.Order.{IsForest-take_out}
@@ -18,7 +16,7 @@ use Rattle.lx_draft.specs.Working.{Working}
 use Rattle.lx_draft.specs.Faults.{text_in}
 use Rattle.lx_draft.specs.Steps.{take_step}
 use Rattle.lx_edit.specs.InTurn.{in_turn}
-use Rattle.lx_edit.specs.Edits.{moved_before, moved_to_end, sent_away, goes_too, may_not_be_left, removed, remove_step}
+use Rattle.lx_edit.specs.Edits.{moved_before, moved_to_end, sent_away, goes_too, removed, remove_step}
 use Rattle.lx_edit.specs.Texts.{text_or_none}
 use Rattle.lx_edit.proofs.Climbed.{first_part, sent_away-forest, taken-forest}
 use Rattle.lx_edit_laws.specs.Reading.{text_at, read_below}
@@ -146,14 +144,8 @@ pub removed_alone : (k p s : ℕ) (w v : Working) → IsForest w.forest → pare
 removed_alone k p s w v h up among other e = taken_alone k w v (left_alone k p s w v h up among other e)
 
 -- what goes too has no children and no text
-empty : (xs : List ℕ) → eqb (length xs) 0 ≡ true → xs ≡ []
-empty [] e = refl
-empty (x ∷ xs) e = absurd (grind (arith, e))
-
 goes_silent : (inner : Option Kind) (f : Forest) (p : ℕ) → IsForest f → goes_too inner f p ≡ true → read_below f p ≡ []
-goes_silent inner f p h e =
-    let a = and_parts (eqb (size_of f p) 0) (is_some (parent_of f p) && may_not_be_left (kind_of f p) inner) e in
-    read-leaf f p h (empty (children_of f p) a.0) ∙ silent_gone f p inner (and_parts (is_some (parent_of f p)) (may_not_be_left (kind_of f p) inner) a.1).1
+goes_silent inner f p h e = read-leaf f p h (nil_from_length (children_of f p) (grind (arith, e, eqb_tells (length (children_of f p)) 0))) ∙ silent_gone f p inner (grind (arith, e))
 
 -- what holds of a forest and itself, of one change after another, and where a tree is taken out in which nothing is read
 pub record HoldsAsSilentGo (P : Forest → Forest → Type 0) : Type 0 where

@@ -1,6 +1,6 @@
 -- An item between items that aren't nesting goes a level deeper, into a new list in a new item, and up again.
-use Rattle.std.proofs.Common.{◌≡◌, ◌≢◌, ◌∙◌, ℕ, ◌+◌, ◌&&◌, ◌==◌, Bool, true, false, cond, eqb, List, [], length, Option, None, Some, Result, Ok, refl, sym, ap, ap₂, subst, arith}
-use Rattle.std.specs.Prelude.{is_none, is_some, option_map, slice_get}
+use Rattle.std.proofs.Common.{◌≡◌, ◌≢◌, ◌∙◌, ℕ, ◌+◌, ◌==◌, true, false, cond, eqb, List, [], length, Option, None, Some, Result, Ok, refl, sym, ap, ap₂, subst, arith}
+use Rattle.std.specs.Prelude.{option_map, slice_get}
 use Rattle.std.proofs.lemmas.Bool.Decides.{eqb_tells}
 use Rattle.lx_trees.specs.Siblings.{is_among, is_named, first_of, names_without}
 use Rattle.lx_node.specs.Kinds.{is_item, is_list, may_be_empty}
@@ -9,7 +9,7 @@ use Rattle.lx_node.specs.declared.kind.Kind.TheVariants.{Item}
 use Rattle.lx_node.specs.declared.cause.Cause.{Cause}
 use Rattle.lx_select.specs.Selection.{has_point_on}
 use Rattle.lx_forest.specs.Forest.{Forest, Label}
-use Rattle.lx_forest.specs.Lookups.{has, label_of, kind_of, parent_of, children_of, size_of, first_child, next_of, is_within, IsForest}
+use Rattle.lx_forest.specs.Lookups.{has, label_of, kind_of, parent_of, children_of, size_of, first_child, is_within, IsForest}
 use Rattle.lx_forest.specs.Edits.{with_new, take_out, put_in, drop_detached, CanPut}
 use Rattle.lx_forest.proofs.Edits.{count-with_new, has-root}
 use Rattle.lx_forest.proofs.Lookups.{has-parent_of, kind_of-take_out, parent_of-take_out, parent_of-put_in, children_of-take_out}
@@ -23,12 +23,12 @@ use Rattle.lx_draft.specs.Faults.{after}
 use Rattle.lx_draft.specs.Steps.{new_step, put_step}
 use Rattle.lx_draft.specs.Beside.{put_before_step}
 use Rattle.lx_draft.proofs.Gaps.{child_of}
-use Rattle.lx_edit.specs.Edits.{moved_before, moved_behind, moved_to_end, goes_next, may_not_be_left, remove_step}
+use Rattle.lx_edit.specs.Edits.{moved_before, moved_to_end, goes_next, may_not_be_left, remove_step}
 use Rattle.lx_edit.proofs.Climbed.{first_part, climbed}
 use Rattle.lx_blocks.specs.Blocks.{passes, is_at}
-use Rattle.lx_list.specs.Making.{with_like, item_fields, change_step, with_indent}
-use Rattle.lx_list.specs.Indenting.{wrapped_like, wrapped_in, nested_by, deeper, indented}
-use Rattle.lx_list.specs.Outdenting.{moved_out, parted, gone_if_empty, out_of, out_from, out_by, shallower, outdented}
+use Rattle.lx_list.specs.Making.{with_like, item_fields}
+use Rattle.lx_list.specs.Indenting.{wrapped_like, wrapped_in}
+use Rattle.lx_list.specs.Outdenting.{moved_out, gone_if_empty, out_of, outdented}
 use Rattle.lx_list.proofs.Above.{list_above}
 use Rattle.lx_edit_laws.proofs.Reading.{absent as is_absent}
 use Rattle.lx_edit_laws.proofs.WrapSteps.{was_same, was_put, was_put_before, was_moved_to_end, was_moved_before}
@@ -37,7 +37,8 @@ use Rattle.lx_edit_laws.proofs.WrapTurns.{removed_alone}
 use Rattle.lx_list_laws.specs.Levels.{nested_before, nested_behind, GoesAndComes, PointsStay}
 use Rattle.lx_list_laws.proofs.LevelWraps.{prepared, HasSunk, x_not_item, x_not_list, now_order, now_kind, x_up, list_up, item_up, item_holds, sunk_list, left_list, risen, back_again_in}
 use Rattle.lx_list_laws.proofs.LevelPoints.{off_outside, before_stays, put_stays, to_end_stays, moved_before_stays, sent_stays, removed_stays}
-use Rattle.lx_list_laws.proofs.LevelSteps.{chosen, label_known, was_made, two_order, two_kind, two_parent, two_children, was_removed}
+use Rattle.lx_list_laws.proofs.LevelBeside.{deeper_by}
+use Rattle.lx_list_laws.proofs.LevelSteps.{label_known, was_made, two_order, two_kind, two_parent, two_children, was_removed}
 
 -- ---- down
 
@@ -54,10 +55,7 @@ pub record WentDown (w v : Working) (p x : ℕ) : Type 0 where
   pub stays : has_point_on p w.selection ≡ false → has_point_on item.key w.selection ≡ false → has_point_on list.key w.selection ≡ false → v.selection ≡ w.selection
 
 later_free : (w : Working) (l : Label) (m : ℕ) → IsReady w → l.key ≡ w.next_key → m ≡ w.next_key + 1 → has m (with_new l w.forest) ≡ false
-later_free w l m ready first next =
-    let free : has m w.forest ≡ false = ready.free m (omega arith) in
-    let other : l.key ≢ m = λ e. absurd (omega arith) in
-    grind (arith, free, other, count-with_new m l w.forest, eqb_tells l.key m)
+later_free w l m ready first next = grind (arith, first, next, ready.free m (omega (arith, next)), count-with_new m l w.forest, eqb_tells l.key m)
 
 pub went_down : (x p : ℕ) (l : Label) (w v : Working) → IsReady w → parent_of w.forest x ≡ Some p → label_of w.forest p ≡ Some l → wrapped_like x (Some l) w ≡ Ok v → WentDown w v p x
 went_down x p l w v ready up like e =
@@ -118,14 +116,10 @@ went_down x p l w v ready up like e =
 
 -- ---- up
 
-item_item : is_item Item ≡ true
-unfolding is_item
-item_item = refl
-
 -- a new item without its list isn't left
-item_goes : (list : Kind) → is_list list ≡ true → may_not_be_left (Some Item) (Some list) ≡ true
+item_goes : (list : Kind) → (is_item Item ≡ true) × (is_list list ≡ true → may_not_be_left (Some Item) (Some list) ≡ true)
 unfolding may_be_empty is_item
-item_goes list is = is
+item_goes list = (refl, λ is. is)
 
 module _ (w v : Working) (p x : ℕ) (h : IsForest w.forest) (s : WentDown w v p x) where
   abbrev item : ℕ
@@ -171,23 +165,20 @@ module _ (w v : Working) (p x : ℕ) (h : IsForest w.forest) (s : WentDown w v p
         let g : Forest = a.0.forest in
         let gone : g ≡ take_out list f = a.2 in
         let order : IsForest g = subst IsForest (sym gone) (IsForest-take_out list f r_order) in
-        let above : parent_of g item ≡ Some p =
-        ap (λ z. parent_of z item) gone ∙ parent_of-take_out list f item r_order
-        ∙ ap (λ b. cond b None (parent_of f item)) (different item list two) ∙ item_up new v.forest p x item list s.sunk r.forest p (Some item) rose in
+        let still : (q : ℕ) → q ≢ list → parent_of f q ≡ Some p → parent_of g q ≡ Some p =
+        λ q other up. ap (λ z. parent_of z q) gone ∙ grind (arith, parent_of-take_out list f q r_order, other, up, eqb_tells q list) in
+        let above : parent_of g item ≡ Some p = still item two (item_up new v.forest p x item list s.sunk r.forest p (Some item) rose) in
         let empty : children_of g item ≡ [] =
         ap (λ z. children_of z item) gone ∙ children_of-take_out list f item r_order
         ∙ ap (names_without list) (item_holds new v.forest p x item list s.sunk r.forest p (Some item) rose (not_new new p x item s.sunk.may)) ∙ grind (arith, eqb_tells list list) in
         let outer : kind_of g item ≡ Some Item =
         ap (λ z. kind_of z item) gone ∙ kind_of-take_out list f item r_order ∙ now_kind new v.forest p x item list s.sunk r.forest p (Some item) rose item ∙ item_kind in
         let inner : kind_of f list ≡ Some s.list.kind = now_kind new v.forest p x item list s.sunk r.forest p (Some item) rose list ∙ list_kind in
-        let goes : may_not_be_left (kind_of g item) (kind_of f list) ≡ true = ap₂ may_not_be_left outer inner ∙ item_goes s.list.kind list_is in
+        let goes : may_not_be_left (kind_of g item) (kind_of f list) ≡ true = ap₂ may_not_be_left outer inner ∙ (item_goes s.list.kind).1 list_is in
         let next : Some item ≡ goes_next (kind_of f list) g (parent_of f list) =
-        sym (ap (goes_next (kind_of f list) g) there ∙ too (length (children_of g item) == 0) (is_some (parent_of g item)) (may_not_be_left (kind_of g item) (kind_of f list))
-        (ap (λ (ks : List ℕ). length ks == 0) empty) (ap is_some above) goes) in
+        sym (ap (goes_next (kind_of f list) g) there ∙ grind (arith, empty, above, goes)) in
         let rest : remove_step item a.0 ≡ Ok u = climbed list r a.0 (Some item) r_order a.1 next ∙ e in
-        let above_x : parent_of g x ≡ Some p =
-        ap (λ z. parent_of z x) gone ∙ parent_of-take_out list f x r_order
-        ∙ ap (λ b. cond b None (parent_of f x)) (different x list (x_not_list new v.forest p x item list s.sunk)) ∙ x_up new v.forest p x item list s.sunk r.forest p (Some item) rose in
+        let above_x = still x (x_not_list new v.forest p x item list s.sunk) (x_up new v.forest p x item list s.sunk r.forest p (Some item) rose) in
         let among : is_among x (children_of g p) ≡ true = child_of g p x order above_x in
         let other : x ≢ item = x_not_item new v.forest p x item list s.sunk in (
           removed_alone item p x a.0 u order above among other rest ∙ ap (take_out item) gone,
@@ -195,12 +186,6 @@ module _ (w v : Working) (p x : ℕ) (h : IsForest w.forest) (s : WentDown w v p
               let mid : a.0.selection ≡ r.selection = sent_stays list item r a.0 a.1 there off_m off_n in
               removed_stays item p x a.0 u order above among other rest (ap (has_point_on item) mid ∙ off_n) (ap (has_point_on p) mid ∙ off_p) ∙ mid,
         )
-      where
-        too : (a b c : Bool) → a ≡ true → b ≡ true → c ≡ true → cond (a && (b && c)) (Some item) None ≡ Some item
-        too true true true ia ib ic = refl
-        too true true false ia ib ic = absurd (cc)
-        too true false c ia ib ic = absurd (cc)
-        too false b c ia ib ic = absurd (cc)
 
     all_back : u.forest ≡ new
     all_back = both_gone.0 ∙ back_again_in new v.forest p x item list s.sunk r.forest up
@@ -212,25 +197,21 @@ module _ (w v : Working) (p x : ℕ) (h : IsForest w.forest) (s : WentDown w v p
   went_up u is list_is e =
       let g : Forest = v.forest in
       let x_is : is_at is_item g x ≡ true = ap (passes is_item) (now_kind new g p x item list s.sunk g list None s.sunk.moved x ∙ x_kind) ∙ is in
-      let item_is : is_at is_item g item ≡ true = ap (passes is_item) (now_kind new g p x item list s.sunk g list None s.sunk.moved item ∙ item_kind) ∙ item_item in
-      let by : out_by x (parent_of g x) v ≡ Ok u = chosen (is_at is_item g x) (out_by x (parent_of g x) v) (change_step (with_indent shallower) x v) u x_is e in
-      let from : out_from x list (parent_of g list) v ≡ Ok u = sym (ap (λ o. out_by x o v) (x_up new g p x item list s.sunk g list None s.sunk.moved)) ∙ by in
-      let in_item : out_from x list (Some item) v ≡ Ok u = sym (ap (λ o. out_from x list o v) (list_up new g p x item list s.sunk g list None s.sunk.moved)) ∙ from in
-      let out : out_of x list item v ≡ Ok u = chosen (is_at is_item g item) (out_of x list item v) (Ok v) u item_is in_item in
-      let a = first_part (moved_out x list item v) (gone_if_empty list) u out in
+      let item_is : is_at is_item g item ≡ true = ap (passes is_item) (now_kind new g p x item list s.sunk g list None s.sunk.moved item ∙ item_kind) ∙ (item_goes Item).0 in
+      let up_x = x_up new g p x item list s.sunk g list None s.sunk.moved in
+      let up_list = list_up new g p x item list s.sunk g list None s.sunk.moved in
+      let out : out_of x list item v ≡ Ok u = rw (x_is, up_x, up_list, item_is) at e in
       let x_first : is_named (first_child g list) x ≡ true = ap (λ ks. is_named (first_of ks) x) (sunk_list new g p x item list s.sunk) ∙ own x in
       let list_first : is_named (first_child g item) list ≡ true = ap (λ ks. is_named (first_of ks) list) (item_holds new g p x item list s.sunk g list None s.sunk.moved (λ e. s.sunk.two (sym e))) ∙ own list in
-      let before : moved_before item x v ≡ Ok a.0 =
-      chosen (is_named (first_child g list) x && is_named (first_child g item) list) (moved_before item x v)
-      (cond (is_none (next_of g x)) (moved_behind item x v) (parted x list item v)) a.0 (ap₂ ◌&&◌ x_first list_first) a.1 in
+      let a = first_part (moved_before item x v) (gone_if_empty list) u (rw (x_first, list_first) at out) in
       let up : WasMoved g a.0.forest p x (Some item) =
-      was_moved_before item x p v a.0 (now_order new g p x item list s.sunk g list None s.sunk.moved) (item_up new g p x item list s.sunk g list None s.sunk.moved) (λ same. x_not_item new g p x item list s.sunk (sym same)) before in
+      was_moved_before item x p v a.0 (now_order new g p x item list s.sunk g list None s.sunk.moved) (item_up new g p x item list s.sunk g list None s.sunk.moved) (λ same. x_not_item new g p x item list s.sunk (sym same)) a.1 in
       let left : (size_of a.0.forest list == 0) ≡ true = ap (λ (ks : List ℕ). length ks == 0) (left_list new g p x item list s.sunk a.0.forest up) in
-      let removes : remove_step list a.0 ≡ Ok u = chosen (size_of a.0.forest list == 0) (remove_step list a.0) (Ok a.0) u left a.2 in (
+      let removes : remove_step list a.0 ≡ Ok u = rw left at a.2 in (
         all_back a.0 u up list_is removes,
         λ off_p off_n off_m.
             let mid : a.0.selection ≡ v.selection =
-            moved_before_stays item x list p v a.0 (now_order new g p x item list s.sunk g list None s.sunk.moved) (item_up new g p x item list s.sunk g list None s.sunk.moved) (λ same. x_not_item new g p x item list s.sunk (sym same)) before
+            moved_before_stays item x list p v a.0 (now_order new g p x item list s.sunk g list None s.sunk.moved) (item_up new g p x item list s.sunk g list None s.sunk.moved) (λ same. x_not_item new g p x item list s.sunk (sym same)) a.1
             (x_up new g p x item list s.sunk g list None s.sunk.moved) off_m off_p in
             (both_gone a.0 u up list_is removes).1 (ap (has_point_on p) mid ∙ off_p) (ap (has_point_on item) mid ∙ off_n) (ap (has_point_on list) mid ∙ off_m) ∙ mid,
       )
@@ -246,18 +227,14 @@ module _ (w v : Working) (p x : ℕ) (h : IsForest w.forest) (s : WentDown w v p
 -- ---- both
 
 absent : (f : Forest) (x q : ℕ) → has q f ≡ false → is_within f x q ≡ false
-absent f x q free = by_test (is_within f x q) refl where
-  by_test : (t : Bool) → is_within f x q ≡ t → is_within f x q ≡ false
-  by_test true is = absurd (grind (arith, free, there_within f x q is))
-  by_test false is = is
+absent f x q free = grind (arith, free, there_within f x q)
 
 wrapped_and_back : (x : ℕ) (w v u : Working) → GoesAndComes x w v u → (o : Option ℕ) → parent_of w.forest x ≡ o → wrapped_in x o w ≡ Ok v → (drop_detached u.forest ≡ drop_detached w.forest) × PointsStay x w v u
 unfolding outdented
 wrapped_and_back x w v u s None top e =
     let same : w ≡ v = was_same w v e in
     let again : outdented x w ≡ Ok u = ap (outdented x) same ∙ s.up in
-    let by : out_by x (parent_of w.forest x) w ≡ Ok u = chosen (is_at is_item w.forest x) (out_by x (parent_of w.forest x) w) (change_step (with_indent shallower) x w) u s.item again in
-    let stays : w ≡ u = was_same w u (sym (ap (λ o. out_by x o w) top) ∙ by) in
+    let stays : w ≡ u = was_same w u (rw (s.item, top) at again) in
     (ap (λ (z : Working). drop_detached z.forest) (sym stays), λ points. (ap (λ (z : Working). z.selection) (sym same), ap (λ (z : Working). z.selection) (sym stays)))
 wrapped_and_back x w v u s (Some p) up e =
     let f : Forest = w.forest in
@@ -277,8 +254,4 @@ wrapped_and_back x w v u s (Some p) up e =
     )
 
 pub alone_and_back : (x : ℕ) (w v u : Working) → GoesAndComes x w v u → nested_before w.forest x ≡ None → nested_behind w.forest x ≡ None → (drop_detached u.forest ≡ drop_detached w.forest) × PointsStay x w v u
-unfolding indented
-alone_and_back x w v u s before behind =
-    let by : nested_by (nested_before w.forest x) (nested_behind w.forest x) x w ≡ Ok v =
-    chosen (is_at is_item w.forest x) (nested_by (nested_before w.forest x) (nested_behind w.forest x) x w) (change_step (with_indent deeper) x w) v s.item s.deeper in
-    wrapped_and_back x w v u s (parent_of w.forest x) refl (sym (ap₂ (λ o t. nested_by o t x w) before behind) ∙ by)
+alone_and_back x w v u s before behind = wrapped_and_back x w v u s (parent_of w.forest x) refl (deeper_by x w v None None s.item s.deeper before behind)

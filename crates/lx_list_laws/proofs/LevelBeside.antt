@@ -1,46 +1,38 @@
 -- An item beside one that is nesting goes a level deeper, into the list there, and up again.
-use Rattle.std.proofs.Common.{◌≡◌, ◌≢◌, ◌∙◌, ℕ, ◌&&◌, ◌==◌, Bool, true, false, cond, List, [], ◌∷◌, ◌++◌, length, Option, None, Some, Ok, refl, sym, ap, ap₂, subst, arith, inl, inr}
-use Rattle.std.specs.Prelude.{is_none, option_map}
+use Rattle.std.proofs.Common.{◌≡◌, ◌≢◌, ◌∙◌, ℕ, ◌==◌, true, false, cond, List, [], ◌∷◌, ◌++◌, length, Option, None, Some, Ok, refl, sym, ap, subst, arith, inl, inr}
+use Rattle.std.specs.Prelude.{option_map}
 use Rattle.std.proofs.lemmas.Bool.Decides.{eqb_tells}
-use Rattle.lx_trees.specs.Siblings.{is_among, is_named, first_of, next_in, previous_from, previous_in, NoRepeats, names_without, names_with}
-use Rattle.lx_node.specs.Kinds.{is_item, is_list, may_hold}
-use Rattle.lx_node.specs.declared.kind.Kind.{Kind}
-use Rattle.lx_node.specs.declared.kind.Kind.TheVariants.{List as ListKind}
+use Rattle.lx_trees.specs.Siblings.{is_among, is_named, first_of, next_in, previous_from, previous_in, names_without, names_with}
+use Rattle.lx_node.specs.Kinds.{is_item, is_list}
 use Rattle.lx_trees.proofs.Siblings.{first_of-among, names_without-absent_list, next_in-names_without}
 use Rattle.lx_select.specs.Selection.{has_point_on}
 use Rattle.lx_forest.specs.Forest.{Forest, Label}
-use Rattle.lx_forest.specs.Lookups.{kind_of, parent_of, children_of, children_below, size_of, first_child, previous_of, next_of, is_within, holds, IsForest, IsHeld}
-use Rattle.lx_forest.proofs.Lookups.{NoRepeats-children_of, children_of-take_out, has-child, has-parent_of, parent_of-self}
+use Rattle.lx_forest.specs.Lookups.{kind_of, parent_of, children_of, children_below, size_of, first_child, previous_of, next_of, is_within, IsForest}
+use Rattle.lx_forest.proofs.Lookups.{NoRepeats-children_of, children_of-take_out, has-child, parent_of-self}
 use Rattle.lx_forest.proofs.Siblings.{parent_of-previous, parent_of-next}
 use Rattle.lx_forest.proofs.Walks.{cases_option}
 use Rattle.lx_forest.proofs.Within.{is_within-parent, is_within-self, is_within-up}
 use Rattle.lx_draft.specs.Working.{Working}
 use Rattle.lx_draft.proofs.Gaps.{parent_here}
-use Rattle.lx_edit.specs.Edits.{moved_before, moved_behind, moved_to_end, remove_step}
+use Rattle.lx_edit.specs.Edits.{moved_before, moved_behind, moved_to_end}
 use Rattle.lx_edit.proofs.Climbed.{first_part}
 use Rattle.lx_blocks.specs.Blocks.{passes, is_at}
-use Rattle.lx_list.specs.Making.{change_step, with_indent}
 use Rattle.lx_list.specs.Nesting.{if_list, nested_in}
-use Rattle.lx_list.specs.Indenting.{moved_to_front, nested_by, deeper, indented}
-use Rattle.lx_list.specs.Outdenting.{moved_out, parted, gone_if_empty, out_of, out_from, out_by, shallower, outdented}
+use Rattle.lx_list.specs.Indenting.{moved_to_front, nested_by, indented}
+use Rattle.lx_list.specs.Outdenting.{moved_out, gone_if_empty, out_of, outdented}
 use Rattle.lx_list.proofs.Above.{list_above}
+use Rattle.lx_list.proofs.Itemless.{item_below}
+use Rattle.lx_edit_laws.proofs.JoinSteps.{next_apart}
 use Rattle.lx_edit_laws.proofs.WrapLists.{names_with-end}
 use Rattle.lx_edit_laws.proofs.WrapTrees.{own, different, not_child, WasMoved, IsForest-moved, label_of-moved, parent_of-moved, children_of-moved, take-moved, moved_twice, moved_back}
 use Rattle.lx_edit_laws.proofs.WrapSteps.{was_same, was_moved_to_end, was_moved_before}
 use Rattle.lx_list_laws.specs.Levels.{nested_before, nested_behind, has_points_within, GoesAndComes, PointsStay}
 use Rattle.lx_list_laws.proofs.LevelPoints.{off_outside, to_end_stays, to_front_stays, moved_before_stays, moved_behind_stays}
-use Rattle.lx_list_laws.proofs.LevelSteps.{chosen, unless, label_known, was_moved_behind, was_moved_to_front}
+use Rattle.lx_list_laws.proofs.LevelSteps.{was_moved_behind, was_moved_to_front}
 
 -- ---- lists of names
 
--- no name comes right after itself, nor right before
-pub not_behind_itself : (x : ℕ) (xs : List ℕ) → NoRepeats xs → next_in xs x ≢ Some x
-not_behind_itself x [] once e = absurd (cc)
-not_behind_itself x (y ∷ ys) once e =
-    elim (eqb_tells y x) [
-      | inl same ↦ absurd (grind (arith, same, once.0, e, first_of-among ys x))
-      | inr other ↦ not_behind_itself x ys once.1 (grind (arith, other.0, e))
-    ]
+-- no name comes right before itself
 
 before_itself : (before : Option ℕ) (x : ℕ) (xs : List ℕ) → is_named before x ≡ false → previous_from before xs x ≢ Some x
 before_itself before x [] apart e = absurd (cc)
@@ -81,25 +73,7 @@ nests f None list e = absurd (cc)
 nests f (Some k) list e = by_first (first_child f k) refl e where
   by_first : (c : Option ℕ) → first_child f k ≡ c → if_list f c ≡ Some list → Nests f (Some k) list
   by_first None is e = absurd (cc)
-  by_first (Some c) is e = by_test (is_at is_list f c) e where
-    by_test : (t : Bool) → cond t (Some c) None ≡ Some list → Nests f (Some k) list
-    by_test true e = record { holder = k; is = refl; first = is ∙ e }
-    by_test false e = absurd (cc)
-
--- what a list holds is an item
-by_kinds : (outer inner : Kind) → is_list outer ≡ true → may_hold outer inner ≡ true → is_item inner ≡ true
-unfolding is_list may_hold
-by_kinds (ListKind type) inner is may = may
-by_kinds outer inner is may = absurd (cc)
-
-item_below : (f : Forest) (k p : ℕ) → IsHeld may_hold f → is_at is_list f p ≡ true → parent_of f k ≡ Some p → is_at is_item f k ≡ true
-item_below f k p held is up =
-    let kind : Option Label → Option Kind = option_map (λ (l : Label). l.kind) in
-    let outer = label_known f p (has-parent_of f k p up) in
-    let inner = label_known f k (has-child f k p up) in
-    let may : may_hold outer.0.kind inner.0.kind ≡ true = sym (ap₂ (λ o i. holds may_hold (kind o) (kind i)) outer.1 inner.1) ∙ held.each k p up in
-    let list : is_list outer.0.kind ≡ true = sym (ap (λ o. passes is_list (kind o)) outer.1) ∙ is in
-    ap (λ o. passes is_item (kind o)) inner.1 ∙ by_kinds outer.0.kind inner.0.kind list may
+  by_first (Some c) is e = record { holder = k; is = refl; first = is ∙ grind (arith, e) }
 
 -- ---- the item goes into the list of a neighbour
 
@@ -188,10 +162,7 @@ module _ (x list p holder : ℕ) (w v : Working) (s : WentIn x list p holder w v
   out u e =
       let x_is : is_at is_item g x ≡ true = ap (passes is_item) (g_kind x) ∙ s.item in
       let holder_is : is_at is_item g holder ≡ true = ap (passes is_item) (g_kind holder) ∙ s.holder_item in
-      let by : out_by x (parent_of g x) v ≡ Ok u = chosen (is_at is_item g x) (out_by x (parent_of g x) v) (change_step (with_indent shallower) x v) u x_is e in
-      let from : out_from x list (parent_of g list) v ≡ Ok u = sym (ap (λ o. out_by x o v) x_in) ∙ by in
-      let in_item : out_from x list (Some holder) v ≡ Ok u = sym (ap (λ o. out_from x list o v) list_still) ∙ from in
-      chosen (is_at is_item g holder) (out_of x list holder v) (Ok v) u holder_is in_item
+      rw (x_is, x_in, list_still, holder_is) at e
 
   -- and where it comes back to its place, every node is where it was
   pub came_back : (y u : Working) → WasMoved g y.forest p x (next_in (children_of f p) x) → gone_if_empty list y ≡ Ok u
@@ -199,7 +170,7 @@ module _ (x list p holder : ℕ) (w v : Working) (s : WentIn x list p holder w v
   came_back y u came e comes =
       let same : y.forest ≡ f = moved_back f y.forest p x s.in_order s.up (moved_twice f g list x s.place s.in_order s.went y.forest p (next_in (children_of f p) x) came) in
       let some : (size_of y.forest list == 0) ≡ false = ap (λ z. size_of z list == 0) same ∙ not_none (children_of f list) s.some in
-      let stays : y ≡ u = was_same y u (unless (size_of y.forest list == 0) (remove_step list y) (Ok y) u some e) in
+      let stays : y ≡ u = was_same y u (rw some at e) in
       let off : (q : ℕ) → has_points_within f x w.selection ≡ true → is_within f x q ≡ false → has_point_on q w.selection ≡ false = λ q points outside. off_outside f x q w.selection points outside in
       let p_outside : is_within f x p ≡ false = is_within-parent f x p s.in_order s.up in
       let list_outside : is_within f x list ≡ false =
@@ -219,18 +190,14 @@ back_behind x list p holder w v u s at previous e =
     let f : Forest = w.forest in
     let g : Forest = v.forest in
     let xs : List ℕ = children_of f p in
-    let a = first_part (moved_out x list holder v) (gone_if_empty list) u (out x list p holder w v s u e) in
     let there : children_of g list ≡ children_of f list ++ (x ∷ []) =
     list_holds x list p holder w v s ∙ ap (λ o. names_with o (x ∷ []) (children_of f list)) at ∙ names_with-end x (children_of f list) in
     let gone : is_among x (children_of f list) ≡ false = absent x list p holder w v s in
     let later : is_named (first_child g list) x ≡ false = ap (λ ks. is_named (first_of ks) x) there ∙ not_first x (children_of f list) s.some gone in
     let last : next_of g x ≡ None =
     ap (λ o. next_in (children_below g o) x) (x_in x list p holder w v s) ∙ ap (λ ks. next_in ks x) there ∙ last_behind x (children_of f list) gone in
-    let behind : moved_behind holder x v ≡ Ok a.0 =
-    chosen (is_none (next_of g x)) (moved_behind holder x v) (parted x list holder v) a.0 (ap is_none last)
-    (unless (is_named (first_child g list) x && is_named (first_child g holder) list) (moved_before holder x v) (cond (is_none (next_of g x)) (moved_behind holder x v) (parted x list holder v)) a.0
-    (ap (λ b. b && is_named (first_child g holder) list) later) a.1) in
-    let moved = was_moved_behind holder x p v a.0 (g_order x list p holder w v s) (holder_still x list p holder w v s) s.apart behind in
+    let a = first_part (moved_behind holder x v) (gone_if_empty list) u (rw (later, last) at (out x list p holder w v s u e)) in
+    let moved = was_moved_behind holder x p v a.0 (g_order x list p holder w v s) (holder_still x list p holder w v s) s.apart a.1 in
     let place : next_in (names_without x (children_of g p)) holder ≡ next_in xs x =
     ap (λ ks. next_in ks holder)
     (sym (children_of-take_out x g p (g_order x list p holder w v s))
@@ -239,7 +206,7 @@ back_behind x list p holder w v u s at previous e =
     ∙ ap (λ o. cond (is_named o holder) (next_in xs x) (next_in xs holder)) previous
     ∙ ap (λ b. cond b (next_in xs x) (next_in xs holder)) (own holder) in
     came_back x list p holder w v s a.0 u (subst (λ o. WasMoved g a.0.forest p x o) place moved) a.2
-    (moved_behind_stays holder x list p v a.0 (g_order x list p holder w v s) (holder_still x list p holder w v s) s.apart behind (x_in x list p holder w v s))
+    (moved_behind_stays holder x list p v a.0 (g_order x list p holder w v s) (holder_still x list p holder w v s) s.apart a.1 (x_in x list p holder w v s))
 
 -- ---- before one
 
@@ -248,17 +215,14 @@ unfolding out_of moved_out
 back_ahead x list p holder w v u s at next e =
     let f : Forest = w.forest in
     let g : Forest = v.forest in
-    let a = first_part (moved_out x list holder v) (gone_if_empty list) u (out x list p holder w v s u e) in
     let there : children_of g list ≡ x ∷ children_of f list =
     list_holds x list p holder w v s ∙ ap (λ o. names_with o (x ∷ []) (children_of f list)) at ∙ at_front x (children_of f list) in
     let x_first : is_named (first_child g list) x ≡ true = ap (λ ks. is_named (first_of ks) x) there ∙ own x in
     let list_first : is_named (first_child g holder) list ≡ true = ap (λ o. is_named o list) (first_still x list p holder w v s) ∙ own list in
-    let before : moved_before holder x v ≡ Ok a.0 =
-    chosen (is_named (first_child g list) x && is_named (first_child g holder) list) (moved_before holder x v) (cond (is_none (next_of g x)) (moved_behind holder x v) (parted x list holder v)) a.0
-    (ap₂ ◌&&◌ x_first list_first) a.1 in
-    let moved = was_moved_before holder x p v a.0 (g_order x list p holder w v s) (holder_still x list p holder w v s) s.apart before in
+    let a = first_part (moved_before holder x v) (gone_if_empty list) u (rw (x_first, list_first) at (out x list p holder w v s u e)) in
+    let moved = was_moved_before holder x p v a.0 (g_order x list p holder w v s) (holder_still x list p holder w v s) s.apart a.1 in
     came_back x list p holder w v s a.0 u (subst (λ o. WasMoved g a.0.forest p x o) (sym next) moved) a.2
-    (moved_before_stays holder x list p v a.0 (g_order x list p holder w v s) (holder_still x list p holder w v s) s.apart before (x_in x list p holder w v s))
+    (moved_before_stays holder x list p v a.0 (g_order x list p holder w v s) (holder_still x list p holder w v s) s.apart a.1 (x_in x list p holder w v s))
 
 -- ---- the laws
 
@@ -270,12 +234,10 @@ neighbour_up f x holder side none e =
       | inr (p, up) ↦ (p, up, sym (ap (λ o. side (children_below f o) x) up) ∙ e)
     ]
 
-deeper_by : (x : ℕ) (w v : Working) (before behind : Option ℕ) → is_at is_item w.forest x ≡ true → indented x w ≡ Ok v
+pub deeper_by : (x : ℕ) (w v : Working) (before behind : Option ℕ) → is_at is_item w.forest x ≡ true → indented x w ≡ Ok v
     → nested_before w.forest x ≡ before → nested_behind w.forest x ≡ behind → nested_by before behind x w ≡ Ok v
 unfolding indented
-deeper_by x w v before behind item e is_before is_behind =
-    sym (ap₂ (λ o t. nested_by o t x w) is_before is_behind)
-    ∙ chosen (is_at is_item w.forest x) (nested_by (nested_before w.forest x) (nested_behind w.forest x) x w) (change_step (with_indent deeper) x w) v item e
+deeper_by x w v before behind item e is_before is_behind = rw (item, is_before, is_behind) at e
 
 pub behind_and_back : (x list : ℕ) (w v u : Working) → GoesAndComes x w v u → nested_before w.forest x ≡ Some list → nested_behind w.forest x ≡ None → children_of w.forest list ≢ [] → (u.forest ≡ w.forest) × PointsStay x w v u
 behind_and_back x list w v u s before behind some =
@@ -288,7 +250,7 @@ behind_and_back x list w v u s before behind some =
     let went : WentIn x list at.0 nest.holder w v = record {
       in_order = s.ready.in_order;
       item = s.item;
-      holder_item = item_below f nest.holder at.0 s.held is_up holder_up;
+      holder_item = item_below f at.0 nest.holder s.held is_up holder_up;
       up = at.1;
       holder_up = holder_up;
       apart = λ e. before_itself None x (children_of f at.0) refl (at.2 ∙ ap Some e);
@@ -311,10 +273,10 @@ ahead_and_back x list w v u s before behind some =
     let went : WentIn x list at.0 nest.holder w v = record {
       in_order = s.ready.in_order;
       item = s.item;
-      holder_item = item_below f nest.holder at.0 s.held is_up holder_up;
+      holder_item = item_below f at.0 nest.holder s.held is_up holder_up;
       up = at.1;
       holder_up = holder_up;
-      apart = λ e. not_behind_itself x (children_of f at.0) (NoRepeats-children_of f at.0 s.ready.in_order) (at.2 ∙ ap Some e);
+      apart = λ e. next_apart (children_of f at.0) x nest.holder (NoRepeats-children_of f at.0 s.ready.in_order) at.2 (sym e);
       first = nest.first;
       some = some;
       place = first_of (names_without x (children_of f list));

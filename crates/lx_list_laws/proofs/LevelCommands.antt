@@ -1,7 +1,6 @@
 -- The commands, where they go by one line alone, are steps at that line.
 use Rattle.std.proofs.Common.{◌≡◌, ◌∙◌, ℕ, [], ◌∷◌, Result, Ok, sym, ap}
 use Rattle.lx_node.specs.declared.cause.Cause.{Cause}
-use Rattle.lx_forest.specs.Lookups.{is_attached}
 use Rattle.lx_draft.specs.Working.{Working}
 use Rattle.lx_draft.specs.Faults.{after}
 use Rattle.lx_edit.specs.InTurn.{in_turn}
@@ -12,7 +11,6 @@ use Rattle.lx_list.specs.Indenting.{indented, indent_step}
 use Rattle.lx_list.specs.Outdenting.{outdented, outdent_step}
 use Rattle.lx_edit_laws.proofs.WrapSteps.{was_same}
 use Rattle.lx_list_laws.specs.Levels.{GoesAndComes, SelectsAlone, CommandsGoAndCome}
-use Rattle.lx_list_laws.proofs.LevelSteps.{chosen}
 
 at_line : (step : ℕ → Working → Result Working Cause) (x : ℕ) (w v : Working) → SelectsAlone x w → each_line step w ≡ Ok v → step x w ≡ Ok v
 unfolding each_line in_turn
@@ -21,7 +19,7 @@ at_line step x w v s e =
     sym (ap (λ r. after r (λ range. in_turn (if_there step) (selected_lines w.forest range) w)) s.is) ∙ e in
     let one : in_turn (if_there step) (x ∷ []) w ≡ Ok v = sym (ap (λ ks. in_turn (if_there step) ks w) s.line) ∙ lines in
     let a = first_part (if_there step x w) (in_turn (if_there step) []) v one in
-    chosen (is_attached w.forest x) (step x w) (Ok w) v s.attached (a.1 ∙ ap Ok (was_same a.0 v a.2))
+    let there : if_there step x w ≡ Ok v = a.1 ∙ ap Ok (was_same a.0 v a.2) in rw s.attached at there
 
 pub commands_go : (x : ℕ) (w v u : Working) → CommandsGoAndCome x w v u → GoesAndComes x w v u
 unfolding indent_step outdent_step

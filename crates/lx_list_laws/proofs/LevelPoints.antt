@@ -1,19 +1,17 @@
 -- Steps about nodes on which no point is leave the selection as it is.
-use Rattle.std.proofs.Common.{◌≡◌, ◌≢◌, ◌∙◌, ℕ, ◌==◌, true, false, Option, None, Some, Ok, refl, sym, ap, subst, arith}
+use Rattle.std.proofs.Common.{◌≡◌, ◌≢◌, ◌∙◌, ℕ, ◌==◌, true, false, Option, Some, Ok, refl, sym, ap, arith}
 use Rattle.std.specs.Option.{option_or}
-use Rattle.std.proofs.lemmas.Bool.{and_parts, or_parts}
+use Rattle.std.proofs.lemmas.Bool.{or_parts}
 use Rattle.std.proofs.lemmas.Bool.Decides.{eqb_tells}
 use Rattle.lx_trees.specs.Siblings.{is_among}
 use Rattle.lx_node.specs.declared.cause.Point.{Point}
 use Rattle.lx_select.specs.declared.selection.Selection.{Selection}
-use Rattle.lx_select.specs.declared.selection.Selection.TheVariants.{Nothing, Range, Nodes, Cells}
+use Rattle.lx_select.specs.declared.selection.Selection.TheVariants.{Range}
 use Rattle.lx_select.specs.Selection.{has_point_on}
 use Rattle.lx_select.specs.Rules.{take_moves, is_behind}
 use Rattle.lx_select.proofs.Apart.{put-apart}
 use Rattle.lx_forest.specs.Forest.{Forest}
 use Rattle.lx_forest.specs.Lookups.{parent_of, children_of, size_of, next_of, index_of, is_within, IsForest}
-use Rattle.lx_forest.proofs.Lookups.{parent_of-take_out}
-use Rattle.lx_forest.proofs.Order.{IsForest-take_out}
 use Rattle.lx_links.specs.Faults.{detach_fault}
 use Rattle.lx_draft.specs.Working.{Working}
 use Rattle.lx_draft.specs.Faults.{over_counts, put_fault}
@@ -22,21 +20,17 @@ use Rattle.lx_draft.specs.Beside.{gap_index, put_before_step, put_behind_step}
 use Rattle.lx_draft.proofs.Covered.{answered}
 use Rattle.lx_draft.proofs.Gaps.{before_is, behind_is}
 use Rattle.lx_edit.specs.Edits.{moved_before, moved_behind, moved_to_end, sent_away, remove_step}
-use Rattle.lx_edit.proofs.Climbed.{first_part, sent_away-apart, taken-forest}
+use Rattle.lx_edit.proofs.Climbed.{first_part, sent_away-apart}
 use Rattle.lx_list.specs.Indenting.{moved_to_front}
+use Rattle.lx_edit_laws.proofs.WrapSteps.{still_there}
 use Rattle.lx_edit_laws.proofs.WrapTurns.{left_alone}
 use Rattle.lx_list_laws.specs.Levels.{has_points_within}
 
 -- no point in the tree of x is on a node outside
-outside_point : (f : Forest) (x q : ℕ) (p : Point) → is_within f x p.key ≡ true → is_within f x q ≡ false → (p.key == q) ≡ false
-outside_point f x q p inside outside = grind (arith, eqb_tells p.key q, inside, outside)
 
 pub off_outside : (f : Forest) (x q : ℕ) (s : Selection) → has_points_within f x s ≡ true → is_within f x q ≡ false → has_point_on q s ≡ false
-off_outside f x q Nothing points outside = refl
-off_outside f x q (Range a b format) points outside =
-    let each = and_parts (is_within f x a.key) (is_within f x b.key) points in rw (outside_point f x q a each.0 outside, outside_point f x q b each.1 outside) refl
-off_outside f x q (Nodes keys) points outside = refl
-off_outside f x q (Cells table a b) points outside = refl
+off_outside f x q (Range a b format) points outside = grind (arith, points, outside, eqb_tells a.key q, eqb_tells b.key q)
+off_outside f x q other points outside = refl
 
 -- ---- take and put
 
@@ -45,11 +39,8 @@ unfolding take_moves is_behind
 take_leaves p index a off = grind (arith, off)
 
 take_apart : (p : ℕ) (o : Option ℕ) (s : Selection) → has_point_on p s ≡ false → take_points (Some p) o s ≡ s
-take_apart p None s off = refl
-take_apart p (Some index) Nothing off = refl
 take_apart p (Some index) (Range a b format) off = let each = or_parts (a.key == p) (b.key == p) off in rw (take_leaves p index a each.0, take_leaves p index b each.1) refl
-take_apart p (Some index) (Nodes keys) off = refl
-take_apart p (Some index) (Cells table a b) off = refl
+take_apart p o other off = refl
 
 pub take_stays : (k p : ℕ) (w v : Working) → take_step k w ≡ Ok v → parent_of w.forest k ≡ Some p → has_point_on p w.selection ≡ false → v.selection ≡ w.selection
 unfolding take_step
@@ -85,20 +76,14 @@ to_front_stays to k p w v e up off off_to =
     let taken = take_stays k p w a.0 a.1 up off in
     put_stays k to 0 a.0 v a.2 (ap (has_point_on to) taken ∙ off_to) ∙ taken
 
--- where the other is once the node has left
-left_order : (k : ℕ) (w v : Working) → IsForest w.forest → take_step k w ≡ Ok v → IsForest v.forest
-left_order k w v h e = subst IsForest (sym (taken-forest k w v e)) (IsForest-take_out k w.forest h)
-
-still_up : (k other p : ℕ) (w v : Working) → IsForest w.forest → parent_of w.forest other ≡ Some p → other ≢ k → take_step k w ≡ Ok v → parent_of v.forest other ≡ Some p
-still_up k other p w v h up apart e = ap (λ f. parent_of f other) (taken-forest k w v e) ∙ parent_of-take_out k w.forest other h ∙ grind (arith, up, apart, eqb_tells other k)
-
 pub moved_before_stays : (other k from p : ℕ) (w v : Working) → IsForest w.forest → parent_of w.forest other ≡ Some p → other ≢ k → moved_before other k w ≡ Ok v → parent_of w.forest k ≡ Some from
     → has_point_on from w.selection ≡ false → has_point_on p w.selection ≡ false → v.selection ≡ w.selection
 unfolding moved_before
 moved_before_stays other k from p w v h up apart e below off off_to =
     let a = first_part (take_step k w) (put_before_step k other) v e in
     let taken = take_stays k from w a.0 a.1 below off in
-    before_stays k other p a.0 v (left_order k w a.0 h a.1) (still_up k other p w a.0 h up apart a.1) a.2 (ap (has_point_on p) taken ∙ off_to) ∙ taken
+    let still = still_there k other p w a.0 h up apart a.1 in
+    before_stays k other p a.0 v still.0 still.1 a.2 (ap (has_point_on p) taken ∙ off_to) ∙ taken
 
 pub moved_behind_stays : (other k from p : ℕ) (w v : Working) → IsForest w.forest → parent_of w.forest other ≡ Some p → other ≢ k → moved_behind other k w ≡ Ok v → parent_of w.forest k ≡ Some from
     → has_point_on from w.selection ≡ false → has_point_on p w.selection ≡ false → v.selection ≡ w.selection
@@ -106,7 +91,8 @@ unfolding moved_behind
 moved_behind_stays other k from p w v h up apart e below off off_to =
     let a = first_part (take_step k w) (put_behind_step k other) v e in
     let taken = take_stays k from w a.0 a.1 below off in
-    behind_stays k other p a.0 v (left_order k w a.0 h a.1) (still_up k other p w a.0 h up apart a.1) a.2 (ap (has_point_on p) taken ∙ off_to) ∙ taken
+    let still = still_there k other p w a.0 h up apart a.1 in
+    behind_stays k other p a.0 v still.0 still.1 a.2 (ap (has_point_on p) taken ∙ off_to) ∙ taken
 
 -- ---- removed
 

@@ -1,19 +1,16 @@
 -- What the steps of going deeper and up leave of a forest, in their parts.
-use Rattle.std.proofs.Common.{◌≡◌, ◌≢◌, ◌∙◌, ℕ, ◌+◌, Bool, true, false, cond, eqb, List, [], ◌∷◌, Option, None, Some, Result, Ok, refl, sym, ap, subst, arith}
+use Rattle.std.proofs.Common.{◌≡◌, ◌≢◌, ◌∙◌, ℕ, ◌+◌, true, false, cond, eqb, List, [], ◌∷◌, Option, Some, Ok, refl, sym, ap}
 use Rattle.std.specs.Prelude.{slice_get, option_map}
-use Rattle.std.proofs.lemmas.Bool.Decides.{eqb_tells}
 use Rattle.lx_trees.specs.Siblings.{first_of, next_in, names_without}
 use Rattle.lx_trees.specs.Spots.{Spot}
 use Rattle.lx_node.specs.Strings.{characters_of}
 use Rattle.lx_node.specs.declared.kind.Kind.{Kind}
 use Rattle.lx_node.specs.declared.fields.Fields.{Fields}
-use Rattle.lx_node.specs.declared.cause.Cause.{Cause}
 use Rattle.lx_forest.specs.Forest.{Forest, Label}
-use Rattle.lx_forest.specs.Lookups.{has, spot, label_of, kind_of, parent_of, children_of, children_below, next_of, ancestors, IsForest}
-use Rattle.lx_forest.specs.Edits.{with_new, take_out, put_in, CanPut}
-use Rattle.lx_forest.proofs.Edits.{is_some-spot}
-use Rattle.lx_forest.proofs.Lookups.{kind_of-with_new, parent_of-with_new, children_of-with_new, parent_of-take_out, children_of-take_out}
-use Rattle.lx_forest.proofs.Order.{IsForest-with_new, IsForest-take_out}
+use Rattle.lx_forest.specs.Lookups.{has, label_of, kind_of, parent_of, children_of, children_below, next_of, ancestors, IsForest}
+use Rattle.lx_forest.specs.Edits.{with_new, take_out, put_in}
+use Rattle.lx_forest.proofs.Lookups.{kind_of-with_new, parent_of-with_new, children_of-with_new, children_of-take_out}
+use Rattle.lx_forest.proofs.Order.{IsForest-with_new}
 use Rattle.lx_forest.proofs.Walks.{ancestors-step}
 use Rattle.lx_draft.specs.Working.{Working}
 use Rattle.lx_draft.specs.Faults.{over_limits}
@@ -24,18 +21,9 @@ use Rattle.lx_draft.proofs.Gaps.{gap_at, behind_is, next_is_place}
 use Rattle.lx_edit.specs.Edits.{moved_behind, sent_away, goes_too, removed, remove_step}
 use Rattle.lx_edit.proofs.Climbed.{first_part, sent_away-forest, taken-forest}
 use Rattle.lx_list.specs.Indenting.{moved_to_front}
-use Rattle.lx_edit_laws.proofs.WrapSteps.{was_taken, was_put}
+use Rattle.lx_list.proofs.Itemless.{spot_known}
+use Rattle.lx_edit_laws.proofs.WrapSteps.{was_taken, was_put, was_moved, still_there}
 use Rattle.lx_edit_laws.proofs.WrapTrees.{WasMoved}
-
--- ---- choices
-
-pub chosen : (t : Bool) (one other : Result Working Cause) (v : Working) → t ≡ true → cond t one other ≡ Ok v → one ≡ Ok v
-chosen true one other v is e = e
-chosen false one other v is e = absurd (cc)
-
-pub unless : (t : Bool) (one other : Result Working Cause) (v : Working) → t ≡ false → cond t one other ≡ Ok v → other ≡ Ok v
-unless true one other v is e = absurd (cc)
-unless false one other v is e = e
 
 -- ---- new nodes
 
@@ -73,10 +61,7 @@ module _ (f : Forest) (one two : Label) (h : IsForest f) (free : has one.key f �
 
 -- one that is there has a label
 pub label_known : (f : Forest) (k : ℕ) → has k f ≡ true → (l : Label) × (label_of f k ≡ Some l)
-label_known f k there = by_spot (spot f k) refl where
-  by_spot : (s : Option (Spot Label)) → spot f k ≡ s → (l : Label) × (label_of f k ≡ Some l)
-  by_spot None is = absurd (grind (arith, there, is, is_some-spot f k))
-  by_spot (Some s) is = (s.label, ap (option_map (λ (t : Spot Label). t.label)) is)
+label_known f k there = let s = spot_known f k there in (s.0.label, ap (option_map (λ (t : Spot Label). t.label)) s.1)
 
 -- ---- moves
 
@@ -86,23 +71,16 @@ pub was_moved_behind : (other k p : ℕ) (w v : Working) → IsForest w.forest �
 unfolding moved_behind
 was_moved_behind other k p w v h up apart e =
     let a = first_part (take_step k w) (put_behind_step k other) v e in
-    let taken = was_taken k w a.0 a.1 in
-    let left : IsForest a.0.forest = subst IsForest (sym taken.0) (IsForest-take_out k w.forest h) in
-    let still : parent_of a.0.forest other ≡ Some p = ap (λ f. parent_of f other) taken.0 ∙ parent_of-take_out k w.forest other h ∙ grind (arith, up, apart, eqb_tells other k) in
+    let left = still_there k other p w a.0 h up apart a.1 in
+    let still : parent_of a.0.forest other ≡ Some p = left.1 in
     let xs : List ℕ = children_of a.0.forest p in
     let next : Option ℕ = next_of a.0.forest other in
-    let put = was_put k p (gap_index next xs) a.0 v (behind_is a.0 k p other next refl left still ∙ a.2) in
+    let put = was_put k p (gap_index next xs) a.0 v (behind_is a.0 k p other next refl left.0 still ∙ a.2) in
     let there : next_of a.0.forest other ≡ next_in (names_without k (children_of w.forest p)) other =
-    ap (λ o. next_in (children_below a.0.forest o) other) still ∙ ap (λ f. next_in (children_of f p) other) taken.0 ∙ ap (λ ys. next_in ys other) (children_of-take_out k w.forest p h) in
-    record {
-      above = taken.1.0;
-      up = taken.1.1;
-      can = subst (CanPut p k) taken.0 put.0;
-      is = put.1
-          ∙ ap (λ o. put_in p o k a.0.forest) (sym (gap_at next xs (next_is_place a.0.forest p other next refl still)))
-          ∙ ap (λ o. put_in p o k a.0.forest) there
-          ∙ ap (put_in p (next_in (names_without k (children_of w.forest p)) other) k) taken.0;
-    }
+    ap (λ o. next_in (children_below a.0.forest o) other) still ∙ ap (λ f. next_in (children_of f p) other) (was_taken k w a.0 a.1).0
+    ∙ ap (λ ys. next_in ys other) (children_of-take_out k w.forest p h) in
+    was_moved k p (next_in (names_without k (children_of w.forest p)) other) w a.0 v a.1 put.0
+    (put.1 ∙ ap (λ o. put_in p o k a.0.forest) (sym (gap_at next xs (next_is_place a.0.forest p other next refl still)) ∙ there))
 
 first_at : (xs : List ℕ) → slice_get xs 0 ≡ first_of xs
 first_at [] = refl
@@ -113,16 +91,10 @@ pub was_moved_to_front : (to k : ℕ) (w v : Working) → IsForest w.forest → 
 unfolding moved_to_front
 was_moved_to_front to k w v h e =
     let a = first_part (take_step k w) (put_step k to 0) v e in
-    let taken = was_taken k w a.0 a.1 in
     let put = was_put k to 0 a.0 v a.2 in
     let there : slice_get (children_of a.0.forest to) 0 ≡ first_of (names_without k (children_of w.forest to)) =
-    first_at (children_of a.0.forest to) ∙ ap (λ f. first_of (children_of f to)) taken.0 ∙ ap first_of (children_of-take_out k w.forest to h) in
-    record {
-      above = taken.1.0;
-      up = taken.1.1;
-      can = subst (CanPut to k) taken.0 put.0;
-      is = put.1 ∙ ap (λ o. put_in to o k a.0.forest) there ∙ ap (put_in to (first_of (names_without k (children_of w.forest to))) k) taken.0;
-    }
+    first_at (children_of a.0.forest to) ∙ ap (λ f. first_of (children_of f to)) (was_taken k w a.0 a.1).0 ∙ ap first_of (children_of-take_out k w.forest to h) in
+    was_moved k to (first_of (names_without k (children_of w.forest to))) w a.0 v a.1 put.0 (put.1 ∙ ap (λ o. put_in to o k a.0.forest) there)
 
 -- ---- removed
 

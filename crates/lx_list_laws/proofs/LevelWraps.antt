@@ -1,5 +1,5 @@
 -- A node that goes into a new list in a new item in its place, and comes back before that item, in a forest.
-use Rattle.std.proofs.Common.{◌≡◌, ◌≢◌, ◌∙◌, ℕ, false, cond, eqb, List, [], ◌∷◌, Option, None, Some, ap, arith, inl, inr}
+use Rattle.std.proofs.Common.{◌≡◌, ◌≢◌, ◌∙◌, ℕ, false, cond, eqb, List, [], ◌∷◌, Option, None, Some, sym, ap, arith, inl, inr}
 use Rattle.std.specs.Prelude.{option_map}
 use Rattle.std.proofs.lemmas.Bool.Decides.{eqb_tells}
 use Rattle.lx_trees.specs.Siblings.{is_among, names_without, names_with}
@@ -10,7 +10,7 @@ use Rattle.lx_forest.specs.Edits.{take_out, put_in, CanPut}
 use Rattle.lx_forest.proofs.Lookups.{is_among-children_of, NoRepeats-children_of, label_of-put_in, label_of-take_out, parent_of-put_in, parent_of-take_out, children_of-put_in, children_of-take_out}
 use Rattle.lx_forest.proofs.Order.{IsForest-take_out, IsForest-put_in}
 use Rattle.lx_edit_laws.proofs.WrapLists.{swapped}
-use Rattle.lx_edit_laws.proofs.WrapTrees.{same_reads, WasMoved, IsForest-moved, label_of-moved, parent_of-moved, children_of-moved, moved_twice, beside, MayStandBefore, not_new, apart, beside-order, beside-label, beside-parent, beside-children}
+use Rattle.lx_edit_laws.proofs.WrapTrees.{not_child, same_reads, WasMoved, IsForest-moved, label_of-moved, parent_of-moved, children_of-moved, moved_twice, beside, MayStandBefore, not_new, apart, beside-order, beside-label, beside-parent, beside-children}
 
 -- the new item before x with the new list in it
 abbrev pub prepared : ℕ → ℕ → ℕ → ℕ → Forest → Forest
@@ -116,40 +116,19 @@ module _ (f g : Forest) (p x item list : ℕ) (s : HasSunk f g p x item list) wh
     | inl own ↦
         let xs : List ℕ = names_with (Some x) (item ∷ []) (children_of f q) in
         let here : children_of (prepared p x item list f) q ≡ xs = grind (arith, nested_children q, own, not_new f p x item s.may, eqb_tells q item) in
+        let came = is_among-names_with (Some x) (item ∷ []) (children_of f q) list in
         let gone : is_among list (names_with (Some item) (x ∷ []) (names_without x xs)) ≡ false =
         is_among-names_with (Some item) (x ∷ []) (names_without x xs) list
-        ∙ grind (
-          arith,
-          is_among-names_without x list xs,
-          is_among-names_with (Some x) (item ∷ []) (children_of f q) list,
-          (nobodys q).0,
-          s.two,
-          x_not_list,
-          eqb_tells x list,
-          eqb_tells item list,
-        ) in
+        ∙ grind (arith, is_among-names_without x list xs, came, (nobodys q).0, s.two, x_not_list, eqb_tells x list, eqb_tells item list) in
         rw (own.0, here) (
         ap (names_without item) (names_without-absent_list list _ gone)
         ∙ swapped x item (children_of f q) (NoRepeats-children_of f q h)
         (is_among-children_of f x q h ∙ grind (arith, s.may.up, own, eqb_tells q p)) (nobodys q).1 x_not_item
         )
     | inr other ↦
-        grind (
-          arith,
-          other.0,
-          nested_children q,
-          nobodys q,
-          is_among-children_of f x q h,
-          s.may.up,
-          s.item_empty,
-          x_not_list,
-          eqb_tells q item,
-          eqb_tells list list,
-          eqb_tells list x,
-          names_without-absent_list x (children_of f q),
-          names_without-absent_list list (children_of f q),
-          names_without-absent_list item (children_of f q),
-        )
+        let away = not_child f x p q h s.may.up (λ e. other.1 (sym e)) in
+        let gone : (c : ℕ) → is_among c (children_of f q) ≡ false → names_without c (children_of f q) ≡ children_of f q = λ c. names_without-absent_list c (children_of f q) in
+        grind (arith, other.0, nested_children q, nobodys q, away, s.item_empty, x_not_list, eqb_tells q item, eqb_tells list list, eqb_tells list x, gone x, gone list, gone item)
   ]
 
   module _ (r : Forest) (up : WasMoved g r p x (Some item)) where
@@ -163,20 +142,11 @@ module _ (f g : Forest) (p x item list : ℕ) (s : HasSunk f g p x item list) wh
     pub back_again_in : take_out item (take_out list r) ≡ f
     back_again_in =
         let order : IsForest r = now_order r p (Some item) risen in
+        let out = λ (q : ℕ). parent_of-take_out list r q order in
         let mid : IsForest (take_out list r) = IsForest-take_out list r order in
         same_reads (take_out item (take_out list r)) f (IsForest-take_out item (take_out list r) mid) h
         (λ q. label_of-take_out item (take_out list r) q mid ∙ label_of-take_out list r q order ∙ now_label r p (Some item) risen q)
         (λ q. parent_of-take_out item (take_out list r) q mid
-        ∙ grind (
-          arith,
-          parent_of-take_out list r q order,
-          now_parent r p (Some item) risen q,
-          s.may.can.detached,
-          s.may.up,
-          list_detached,
-          eqb_tells q item,
-          eqb_tells q list,
-          eqb_tells q x,
-        ))
+        ∙ grind (arith, out q, now_parent r p (Some item) risen q, s.may.can.detached, s.may.up, list_detached, eqb_tells q item, eqb_tells q list, eqb_tells q x))
         (λ q. children_of-take_out item (take_out list r) q mid ∙ ap (names_without item) (children_of-take_out list r q order)
         ∙ ap (λ ks. names_without item (names_without list ks)) (now_children r p (Some item) risen q) ∙ left q)

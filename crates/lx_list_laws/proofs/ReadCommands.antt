@@ -1,15 +1,13 @@
 -- The commands that make lists and remove them, line by line.
-use Rattle.std.proofs.Common.{◌≡◌, ◌∙◌, ℕ, Bool, true, false, cond, eqb, ◌&&◌, ◌||◌, List, [], ◌∷◌, Option, None, Some, Result, Ok, Err, refl, sym, ap, arith}
-use Rattle.std.specs.List.{list_any}
+use Rattle.std.proofs.Common.{◌≡◌, ◌∙◌, ℕ, Bool, true, false, cond, List, [], ◌∷◌, Result, Ok, Err, refl, sym, ap, arith}
 use Rattle.std.proofs.lemmas.Bool.Decides.{eqb_tells}
 use Rattle.lx_trees.specs.Siblings.{is_among}
-use Rattle.lx_node.specs.Kinds.{is_text_block, is_inline}
-use Rattle.lx_node.specs.declared.kind.Kind.{Kind}
+use Rattle.lx_node.specs.Kinds.{is_text_block}
 use Rattle.lx_node.specs.declared.cause.Point.{Point}
 use Rattle.lx_node.specs.declared.kind.ListType.{ListType}
 use Rattle.lx_node.specs.declared.cause.Cause.{Cause}
 use Rattle.lx_forest.specs.Forest.{Forest}
-use Rattle.lx_forest.specs.Lookups.{kind_of, size_of, children_of, is_attached}
+use Rattle.lx_forest.specs.Lookups.{is_attached}
 use Rattle.lx_links.proofs.Detached.{is_among-filter}
 use Rattle.lx_draft.specs.Working.{Working}
 use Rattle.lx_draft.specs.Covering.{KindsStay}
@@ -17,7 +15,7 @@ use Rattle.lx_draft.specs.Faults.{after}
 use Rattle.lx_edit.specs.InTurn.{in_turn}
 use Rattle.lx_edit.proofs.Climbed.{first_part}
 use Rattle.lx_blocks.specs.declared.ranges.Ranged.{Ranged}
-use Rattle.lx_blocks.specs.Blocks.{passes, is_at, is_line, block_of, frame_of, same_node}
+use Rattle.lx_blocks.specs.Blocks.{passes, is_at, block_of}
 use Rattle.lx_blocks.specs.Lines.{is_line_beside, up_to, behind_block, from_block, selected_lines}
 use Rattle.lx_blocks.specs.Ranges.{range_of, start_of, end_of}
 use Rattle.lx_list.specs.Lines.{if_there, each_line}
@@ -25,20 +23,16 @@ use Rattle.lx_list.specs.Listing.{listed, make_list_step}
 use Rattle.lx_list.specs.Dissolving.{dissolved_around, remove_list_step}
 use Rattle.lx_list_laws.specs.Reading.{InlinesFirst, IsSound, ListsComeAndGo}
 use Rattle.lx_list_laws.proofs.ReadSound.{stays_then, stays_selected}
-use Rattle.lx_list_laws.proofs.ReadListing.{Keeps, keeps_then, keeps_same, keeps_listed}
+use Rattle.lx_edit_laws.proofs.Reading.{kind_known}
+use Rattle.lx_list.proofs.Itemless.{there_at}
+use Rattle.lx_list_laws.proofs.ReadListing.{Keeps, keeps_then, keeps_same, keeps_either, keeps_listed}
 use Rattle.lx_list_laws.proofs.ReadDissolved.{KeepsFirst, first_same, block_apart, keeps_dissolved_around}
 
 -- ---- made
 
-keeps_there : (type : ListType) (k : ℕ) (w v : Working) → IsSound w → is_at is_text_block w.forest k ≡ true → (there : Bool) → cond there (listed type k w) (Ok w) ≡ Ok v → Keeps w v
-keeps_there type k w v s block true e = keeps_listed type k w v s (block_apart w.forest k block) e
-keeps_there type k w v s block false e = keeps_same w v s e
-
 block_stays : (f g : Forest) (q : ℕ) → KindsStay f g → is_at is_text_block f q ≡ true → is_at is_text_block g q ≡ true
-block_stays f g q stay block = by_kind (kind_of f q) refl block where
-  by_kind : (o : Option Kind) → kind_of f q ≡ o → passes is_text_block o ≡ true → is_at is_text_block g q ≡ true
-  by_kind None at e = absurd (cc)
-  by_kind (Some kind) at e = ap (passes is_text_block) (stay.each q kind at) ∙ e
+block_stays f g q stay block =
+    let kind = kind_known f q (there_at is_text_block f q block) in ap (passes is_text_block) (stay.each q kind.0 kind.1 ∙ sym kind.1) ∙ block
 
 -- the lines are text blocks
 keeps_lines : (type : ListType) (ks : List ℕ) (w v : Working) → IsSound w → ((q : ℕ) → is_among q ks ≡ true → is_at is_text_block w.forest q ≡ true) → in_turn (if_there (listed type)) ks w ≡ Ok v → Keeps w v
@@ -46,17 +40,9 @@ unfolding in_turn
 keeps_lines type [] w v s block e = keeps_same w v s e
 keeps_lines type (k ∷ ks) w v s block e =
     let a = first_part (if_there (listed type) k w) (in_turn (if_there (listed type)) ks) v e in
-    let one = keeps_there type k w a.0 s (block k (grind (arith, eqb_tells k k))) (is_attached w.forest k) a.1 in
+    let one = keeps_either (is_attached w.forest k) (listed type k w) (Ok w) w a.0 (λ is e. keeps_listed type k w a.0 s (block_apart w.forest k (block k (grind (arith, eqb_tells k k)))) e) (λ is e. keeps_same w a.0 s e) a.1 in
     let rest = keeps_lines type ks a.0 v one.stays.sound (λ q among. block_stays w.forest a.0.forest q one.stays.kinds (block q (grind (arith, among)))) a.2 in
     keeps_then w a.0 v one rest
-
-first : (a b : Bool) → (a && b) ≡ true → a ≡ true
-first true b e = refl
-first false b e = absurd (cc)
-
-second : (a b : Bool) → (a && b) ≡ true → b ≡ true
-second true b e = e
-second false b e = absurd (cc)
 
 -- what is selected are lines, and so text blocks
 selected_blocks : (f : Forest) (r : Ranged) (q : ℕ) → is_among q (selected_lines f r) ≡ true → is_at is_text_block f q ≡ true
@@ -65,10 +51,7 @@ selected_blocks f r q among =
     let start : Point = start_of f r in
     let end : Point = end_of f r in
     let keys : List ℕ = up_to (behind_block f end (block_of f end.key)) (from_block f start (block_of f start.key)) in
-    let line : is_line_beside f start.key q ≡ true =
-    second (is_among q keys) (is_line_beside f start.key q) (sym (is_among-filter (is_line_beside f start.key) q keys) ∙ among) in
-    first (is_at is_text_block f q) (eqb (size_of f q) 0 || list_any (is_at is_inline f) (children_of f q))
-    (first (is_line f q) (same_node (frame_of f q) (frame_of f start.key)) line)
+    grind (arith, is_among-filter (is_line_beside f start.key) q keys, among)
 
 keeps_made : (type : ListType) (w v : Working) → IsSound w → make_list_step type w ≡ Ok v → Keeps w v
 unfolding make_list_step each_line

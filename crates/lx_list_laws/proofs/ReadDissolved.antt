@@ -1,20 +1,18 @@
 -- Lists whose lines become paragraphs read the same, where inline children come first in each item.
-use Rattle.std.proofs.Common.{◌≡◌, ◌≢◌, ◌∙◌, ℕ, Bool, true, false, eqb, not, ◌&&◌, ◌||◌, List, [], ◌∷◌, ◌++◌, Option, None, Some, Result, Ok, refl, sym, ap, ap₂, subst, arith, inl, inr, append-nil}
+use Rattle.std.proofs.Common.{◌≡◌, ◌≢◌, ◌∙◌, ℕ, Bool, true, false, eqb, not, ◌&&◌, ◌||◌, List, [], ◌∷◌, ◌++◌, Some, Result, Ok, refl, sym, ap, ap₂, subst, arith, inl, inr, append-nil}
 use Rattle.std.specs.Prelude.{find}
-use Rattle.std.specs.List.{filter, list_any}
+use Rattle.std.specs.List.{filter}
 use Rattle.std.proofs.lemmas.Bool.{cases_Bool}
 use Rattle.std.proofs.lemmas.Bool.Decides.{eqb_tells}
 use Rattle.lx_trees.specs.Siblings.{is_among, names_with}
 use Rattle.lx_node.specs.Kinds.{may_hold, is_inline, is_item, is_list, is_text_block}
 use Rattle.lx_node.specs.Plain.{plain_element}
-use Rattle.lx_node.specs.declared.kind.Kind.{Kind}
-use Rattle.lx_node.specs.declared.kind.Kind.TheVariants as kinds
 use Rattle.lx_node.specs.declared.kind.Kind.TheVariants.{Paragraph}
 use Rattle.lx_node.specs.declared.cause.Cause.{Cause}
 use Rattle.lx_trees.proofs.NamedTrees.{is_among-preorder, NoRepeats-preorder}
 use Rattle.lx_trees.proofs.Subtrees.{count-alone-le}
 use Rattle.lx_forest.specs.Forest.{Forest}
-use Rattle.lx_forest.specs.Lookups.{key_of, has, alone, kind_of, parent_of, children_of, size_of, ancestors, is_within, keys_within, IsForest, IsHeld}
+use Rattle.lx_forest.specs.Lookups.{key_of, has, alone, parent_of, children_of, ancestors, is_within, keys_within, IsForest, IsHeld}
 use Rattle.lx_forest.proofs.Edits.{has-root, parent_of-root}
 use Rattle.lx_forest.proofs.Lookups.{NoRepeats-children_of, has-child}
 use Rattle.lx_forest.proofs.Walks.{cases_option, ancestors-top}
@@ -29,8 +27,8 @@ use Rattle.lx_edit.specs.InTurn.{in_turn}
 use Rattle.lx_edit.specs.Edits.{sent_away, removed, remove_step}
 use Rattle.lx_edit.proofs.Climbed.{first_part, sent_away-forest}
 use Rattle.lx_edit.proofs.Paths.{remove_path}
-use Rattle.lx_blocks.specs.Blocks.{passes, is_at, is_line}
-use Rattle.lx_list.specs.Dissolving.{emptied_into, paragraph_made, dissolved, is_in_item, is_outermost, outermost_above, dissolved_if, dissolved_around}
+use Rattle.lx_blocks.specs.Blocks.{is_at, is_line}
+use Rattle.lx_list.specs.Dissolving.{emptied_into, paragraph_made, dissolved, is_in_item, is_outermost, outermost_above, dissolved_around}
 use Rattle.lx_edit_laws.specs.Reading.{read_below}
 use Rattle.lx_edit_laws.proofs.Reading.{down, spread-none, reads_of, read-level, IsKnown, reads_known, reads-instead}
 use Rattle.lx_edit_laws.proofs.WrapSteps.{was_same, was_taken, before_below}
@@ -38,17 +36,14 @@ use Rattle.lx_list_laws.specs.Reading.{stand_first, InlinesFirst, IsSound, Reads
 use Rattle.lx_list_laws.proofs.ReadOrder.{first-same, first-others}
 use Rattle.lx_list_laws.proofs.ReadForests.{reads_told}
 use Rattle.lx_list_laws.proofs.ReadSound.{StaysSound, stays_then, stays_selected, sound_path}
-use Rattle.lx_list_laws.proofs.ReadEdits.{parent_made, was_removed}
-use Rattle.lx_list_laws.proofs.ReadSaid.{inlines, said, second, at_there, both_kinds, MaySay, AreSaid, are_said}
-use Rattle.lx_list_laws.proofs.ReadLines.{said-lines, is_listed, listed_below, listed_silent, none_in_list, none-any, is_block_at, list_or_item, lines_read}
+use Rattle.lx_list_laws.proofs.ReadEdits.{parent_made, so_at, was_removed}
+use Rattle.lx_list.proofs.Itemless.{there_at}
+use Rattle.lx_list_laws.proofs.ReadSaid.{inlines, said, inline_below, MaySay, AreSaid, are_said}
+use Rattle.lx_list_laws.proofs.ReadLines.{inline_no_block, list_tells, said-lines, is_listed, listed_below, listed_silent, none_in_list, none-any, is_block_at, list_or_item, lines_read}
 
 -- the lines of a list
 abbrev lines_of : Forest → ℕ → List ℕ
 lines_of f list = filter (is_line f) (keys_within f list)
-
-first : (a b : Bool) → (a && b) ≡ true → a ≡ true
-first true b e = refl
-first false b e = absurd (cc)
 
 -- a line of a list is in its tree
 among_lines : (f : Forest) (list q : ℕ) → is_among q (lines_of f list) ≡ (is_within f list q && is_line f q)
@@ -81,10 +76,7 @@ module _ (f g : Forest) (p list : ℕ) (m : IsEmptied f g p list) where
   not_p q inside = grind (arith, inside, p_outside, eqb_tells q p)
 
   list_listed : is_at is_listed f list ≡ true
-  list_listed = by_option (kind_of f list) refl m.is_list where
-    by_option : (o : Option Kind) → kind_of f list ≡ o → passes is_list o ≡ true → is_at is_listed f list ≡ true
-    by_option None at e = absurd (cc)
-    by_option (Some kind) at e = ap (passes is_listed) at ∙ ap (λ b. b || is_item kind) e
+  list_listed = so_at is_list is_listed true (λ kind e. grind (arith, e)) f list m.is_list
 
   -- no child that is left is inline
   record LeftBelow (b c : ℕ) : Type 0 where
@@ -97,26 +89,20 @@ module _ (f g : Forest) (p list : ℕ) (m : IsEmptied f g p list) where
         let there : is_among b (lines_of f list) ≡ true = among_lines f list b ∙ ap₂ (λ x y. x && y) inside line in
         let rest : (is_among c (children_of f b) && not (is_at is_inline f c)) ≡ true =
         sym (is_among-filter (λ q. not (is_at is_inline f q)) c (children_of f b)) ∙ sym (ap (is_among c) (m.all.left b there)) ∙ among in
-        record {
-          child = parent_here f b c order (first (is_among c (children_of f b)) (not (is_at is_inline f c)) rest);
-          other = grind (arith, second (is_among c (children_of f b)) (not (is_at is_inline f c)) rest);
-        }
+        record { child = parent_here f b c order (grind (arith, rest)); other = grind (arith, rest) }
     | inr none ↦
         let away : is_among b (lines_of f list) ≡ false = among_lines f list b ∙ ap₂ (λ x y. x && y) inside none in
-        let same : children_of g b ≡ children_of f b = m.all.others b (at_there is_listed f b here) (not_p b inside) away in
+        let same : children_of g b ≡ children_of f b = m.all.others b (there_at is_listed f b here) (not_p b inside) away in
         let was : is_among c (children_of f b) ≡ true = sym (ap (is_among c) same) ∙ among in
         let up : parent_of f c ≡ Some b = parent_here f b c order was in
         record {
           child = up;
           other = elim (list_or_item f b here) [
             | inl is ↦ none_in_list f c b m.held up is
-            | inr is ↦ none-any (is_at is_inline f) (children_of f b) c (not_any (eqb (size_of f b) 0) (list_any (is_at is_inline f) (children_of f b)) (sym (ap (λ t. t && (eqb (size_of f b) 0 || list_any (is_at is_inline f) (children_of f b))) (is_block_at f b is)) ∙ none)) was
+            | inr is ↦ none-any (is_at is_inline f) (children_of f b) c (grind (arith, none, is_block_at f b is)) was
           ];
         }
-  ] where
-    not_any : (x y : Bool) → (x || y) ≡ false → y ≡ false
-    not_any true y e = absurd (cc)
-    not_any false y e = e
+  ]
 
   -- nothing is read below the list
   empty_below : (b : ℕ) → is_within f list b ≡ true → is_at is_listed f b ≡ true → read_below g b ≡ []
@@ -145,7 +131,7 @@ module _ (f g : Forest) (p list : ℕ) (m : IsEmptied f g p list) where
 
   emptied_level : (b : ℕ) → spared b ≡ false → IsKnown f g spared b → reads_of g (children_of g b) ≡ reads_of f (children_of f b)
   emptied_level b clear k =
-      let outside : is_within f list b ≡ false = left_false (is_within f list b) (not (has b f)) clear in
+      let outside : is_within f list b ≡ false = grind (arith, clear) in
       elim (eqb_tells b p) [
         | inl own ↦
             let here : children_of g b ≡ names_with (Some list) m.all.paragraphs (children_of f b) = ap (children_of g) own.1 ∙ m.all.here ∙ ap (λ q. names_with (Some list) m.all.paragraphs (children_of f q)) (sym own.1) in
@@ -156,23 +142,12 @@ module _ (f g : Forest) (p list : ℕ) (m : IsEmptied f g p list) where
             ∙ reads-instead f g list m.all.paragraphs (children_of f b) (NoRepeats-children_of f b order) among same
             (λ q there other. let up = parent_here f b q order there in k.child q up (beside_spared q b up other outside))
         | inr other ↦
-            let there : has b f ≡ true = not_not (has b f) (right_false (is_within f list b) (not (has b f)) clear) in
+            let there : has b f ≡ true = grind (arith, clear) in
             let away : is_among b (lines_of f list) ≡ false = among_lines f list b ∙ ap (λ x. x && is_line f b) outside in
             ap (reads_of g) (m.all.others b there other.0 away)
             ∙ reads_known f g spared b order k (λ q up.
             beside_spared q b up (λ same. absurd (grind (arith, other.0, same, up, m.up, eqb_tells b p))) outside)
-      ] where
-        left_false : (x y : Bool) → (x || y) ≡ false → x ≡ false
-        left_false true y e = absurd (cc)
-        left_false false y e = refl
-
-        right_false : (x y : Bool) → (x || y) ≡ false → y ≡ false
-        right_false true y e = absurd (cc)
-        right_false false y e = e
-
-        not_not : (x : Bool) → not x ≡ false → x ≡ true
-        not_not true e = refl
-        not_not false e = absurd (cc)
+      ]
 
   root_other : 0 ≢ list
   root_other same = absurd (grind (arith, m.up, same, parent_of-root f order))
@@ -191,7 +166,7 @@ module _ (f g : Forest) (p list : ℕ) (m : IsEmptied f g p list) where
         first-same (is_at is_inline g) (is_at is_inline f) (children_of g x) (λ q among. m.all.inline q)
         ∙ elim (cases_Bool (is_among x (lines_of f list))) [
           | inl there ↦ ap (stand_first (is_at is_inline f)) (m.all.left x there) ∙ first-others (is_at is_inline f) (children_of f x)
-          | inr away ↦ ap (stand_first (is_at is_inline f)) (m.all.others x (at_there is_item f x was) other away) ∙ m.first.each x was
+          | inr away ↦ ap (stand_first (is_at is_inline f)) (m.all.others x (there_at is_item f x was) other away) ∙ m.first.each x was
         ];
   }
 
@@ -224,44 +199,19 @@ top_stays list (line ∷ lines) w u v s e f =
     let below = before_below w.next_key list b.0 c.0 c.1 in
     (below.0, sym (parent_made Paragraph plain_element w b.0 list s b.1) ∙ below.1)
 
--- what holds a list isn't inline
-inline_no_list : (outer inner : Kind) → may_hold outer inner ≡ true → is_list inner ≡ true → is_inline outer ≡ false
-unfolding may_hold is_list is_inline
-inline_no_list kinds.Link (kinds.List type) h is = absurd (cc)
-inline_no_list kinds.Text inner h is = absurd (cc)
-inline_no_list kinds.Tab inner h is = absurd (cc)
-inline_no_list kinds.Break inner h is = absurd (cc)
-inline_no_list kinds.Embed inner h is = absurd (cc)
-inline_no_list kinds.Link inner h is = absurd (cc)
-inline_no_list outer inner h is = refl
-
-block_no_inline : (kind : Kind) → is_text_block kind ≡ true → is_inline kind ≡ false
-unfolding is_text_block is_inline
-block_no_inline kinds.Paragraph e = refl
-block_no_inline (kinds.Heading level) e = refl
-block_no_inline kinds.Quote e = refl
-block_no_inline kinds.Item e = refl
-block_no_inline kind e = absurd (cc)
-
 -- a line isn't inline
 pub block_apart : (f : Forest) (k : ℕ) → is_at is_text_block f k ≡ true → is_at is_inline f k ≡ false
-block_apart f k is = by_option (kind_of f k) refl is where
-  by_option : (o : Option Kind) → kind_of f k ≡ o → passes is_text_block o ≡ true → is_at is_inline f k ≡ false
-  by_option None at e = absurd (cc)
-  by_option (Some kind) at e = ap (passes is_inline) at ∙ block_no_inline kind e
+block_apart f k is = grind (arith, is, so_at is_inline is_text_block false inline_no_block f k)
 
 may_say : (f : Forest) (p list : ℕ) → IsForest f → IsHeld may_hold f → parent_of f list ≡ Some p → is_at is_list f list ≡ true → MaySay f p list (lines_of f list)
 may_say f p list h held up is =
-    let k = both_kinds (λ outer inner. is_list inner ≡ true → is_inline outer ≡ false) f list p held up (λ outer inner a b may x. inline_no_list outer inner may x) in
-    let inside : (q : ℕ) → is_among q (lines_of f list) ≡ true → is_within f list q ≡ true = λ q among. first (is_within f list q) (is_line f q) (sym (among_lines f list q) ∙ among) in
-    let line : (q : ℕ) → is_among q (lines_of f list) ≡ true → is_line f q ≡ true = λ q among. second (is_within f list q) (is_line f q) (sym (among_lines f list q) ∙ among) in
-    let block : (q : ℕ) → is_among q (lines_of f list) ≡ true → is_at is_text_block f q ≡ true =
-    λ q among. first (is_at is_text_block f q) (eqb (size_of f q) 0 || list_any (is_at is_inline f) (children_of f q)) (line q among) in
+    let inside : (q : ℕ) → is_among q (lines_of f list) ≡ true → is_within f list q ≡ true = λ q among. grind (arith, among_lines f list q, among) in
+    let block : (q : ℕ) → is_among q (lines_of f list) ≡ true → is_at is_text_block f q ≡ true = λ q among. grind (arith, among_lines f list q, among) in
     record {
       up = up;
-      place = ap (passes is_inline) k.2 ∙ k.4 (sym (ap (passes is_list) k.3) ∙ is);
+      place = grind (arith, inline_below f list p held up, so_at is_list is_inline false (λ kind e. (list_tells kind e).1) f list is);
       once = NoRepeats-filter (is_line f) (keys_within f list) (NoRepeats-preorder key_of (alone list f) (λ q. omega (arith, count-alone-le key_of q list f, h.once q)));
-      there = λ q among. at_there is_text_block f q (block q among);
+      there = λ q among. there_at is_text_block f q (block q among);
       apart = λ q among. grind (arith, inside q among, is_within-parent f list p h up, eqb_tells q p);
       block = λ q among. block_apart f q (block q among);
     }
@@ -271,11 +221,11 @@ unfolding dissolved
 keeps_dissolved list w v s inlines outer e =
     let f : Forest = w.forest in
     let h : IsForest f = s.ready.in_order in
-    let is : is_at is_list f list ≡ true = first (is_at is_list f list) (not (is_in_item f (parent_of f list))) outer in
+    let is : is_at is_list f list ≡ true = grind (arith, outer) in
     let a = first_part (in_turn (paragraph_made list) (lines_of f list) w) (remove_step list) v e in
     let above = top_stays list (lines_of f list) w a.0 v s a.1 a.2 in
     let p : ℕ = above.0 in
-    let no_item : is_at is_item f p ≡ false = grind (arith, second (is_at is_list f list) (not (is_in_item f (parent_of f list))) outer, ap (is_in_item f) above.1) in
+    let no_item : is_at is_item f p ≡ false = grind (arith, outer, ap (is_in_item f) above.1) in
     let said = are_said p list (lines_of f list) w a.0 s (may_say f p list h s.held above.1 is) a.1 in
     let m : IsEmptied f a.0.forest p list = record { held = s.held; first = inlines; up = above.1; is_list = is; all = said.0 } in
     let gone = was_removed list a.0 v said.1.sound.ready.in_order (emptied_list f a.0.forest p list m) a.2 in
@@ -292,10 +242,9 @@ found_passes test (x ∷ xs) k e = elim (cases_Bool (test x)) [
   | inr later ↦ found_passes test xs k (grind (arith, e, later))
 ]
 
-keeps_dissolved_if : (o : Option ℕ) (line : ℕ) (w v : Working) → IsSound w → InlinesFirst w.forest → outermost_above w.forest line ≡ o → dissolved_if o w ≡ Ok v → KeepsFirst w v
-keeps_dissolved_if None line w v s first at e = first_same w v s first e
-keeps_dissolved_if (Some list) line w v s first at e = keeps_dissolved list w v s first (found_passes (is_outermost w.forest) (ancestors w.forest line) list at) e
-
 pub keeps_dissolved_around : (line : ℕ) (w v : Working) → IsSound w → InlinesFirst w.forest → dissolved_around line w ≡ Ok v → KeepsFirst w v
 unfolding dissolved_around
-keeps_dissolved_around line w v s first e = keeps_dissolved_if (outermost_above w.forest line) line w v s first refl e
+keeps_dissolved_around line w v s first e = elim (cases_option (outermost_above w.forest line)) [
+  | inl none ↦ first_same w v s first (rw none at e)
+  | inr (list, found) ↦ keeps_dissolved list w v s first (found_passes (is_outermost w.forest) (ancestors w.forest line) list found) (rw found at e)
+]

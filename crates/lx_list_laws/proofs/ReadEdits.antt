@@ -17,12 +17,12 @@ use Rattle.lx_draft.specs.Working.{Working}
 use Rattle.lx_draft.specs.Faults.{text_in}
 use Rattle.lx_draft.specs.Steps.{new_step, put_step}
 use Rattle.lx_draft.specs.Beside.{put_before_step}
-use Rattle.lx_draft.proofs.Touched.{is_some-kind_of}
+use Rattle.lx_list.proofs.Itemless.{there_at}
 use Rattle.lx_edit.specs.Edits.{remove_step}
 use Rattle.lx_edit.specs.Texts.{text_or_none}
 use Rattle.lx_blocks.specs.Blocks.{passes, is_at}
 use Rattle.lx_edit_laws.specs.Reading.{text_at, read_below}
-use Rattle.lx_edit_laws.proofs.Reading.{absent, read_without}
+use Rattle.lx_edit_laws.proofs.Reading.{absent, read_without, kind_known}
 use Rattle.lx_edit_laws.proofs.WrapTurns.{WentOver, was_removed as removal}
 use Rattle.lx_edit_laws.proofs.WrapTold.{WentAll}
 use Rattle.lx_edit_laws.proofs.WrapSteps.{was_put, was_put_before, before_below, silent}
@@ -38,17 +38,13 @@ pub record IsBorn (w v : Working) (kind : Kind) (p : ℕ) (before : Option ℕ) 
   pub came : CameNew w.forest v.forest w.next_key p before
   pub kinds : (q : ℕ) → kind_of v.forest q ≡ cond (eqb q w.next_key) (Some kind) (kind_of w.forest q)
 
-some_kind : (a b : Kind) → Some a ≡ Some b → a ≡ b
-some_kind a b e = cc
-
 text_new : (f : Forest) (l : Label) (q : ℕ) → IsForest f → has l.key f ≡ false → is_text l.kind ≡ false → text_at (with_new l f) q ≡ text_at f q
-text_new f l q h free mute = by_key (eqb_tells q l.key) where
-  by_key : ((eqb q l.key ≡ true) × (q ≡ l.key)) ⊎ ((eqb q l.key ≡ false) × (q ≢ l.key)) → text_at (with_new l f) q ≡ text_at f q
-  by_key (inl here) =
-      let kind : kind_of (with_new l f) q ≡ Some l.kind = kind_of-with_new l f q h free ∙ ap (λ b. cond b (Some l.kind) (kind_of f q)) here.0 in
-      let none : has q f ≡ false = ap (λ k. has k f) here.1 ∙ free in
-      silent (with_new l f) q (λ found is. let same : found ≡ l.kind = some_kind found l.kind (sym is ∙ kind) in ap is_text same ∙ mute) ∙ sym (absent f q none).text
-  by_key (inr other) = ap (λ o. text_or_none (text_in o)) (label_of-with_new l f q h free ∙ ap (λ b. cond b (Some l) (label_of f q)) other.0)
+text_new f l q h free mute = elim (eqb_tells q l.key) [
+  | inl here ↦
+      let kind : kind_of (with_new l f) q ≡ Some l.kind = grind (arith, kind_of-with_new l f q h free, here.0) in
+      silent (with_new l f) q (λ found is. grind (arith, is, kind, mute)) ∙ sym (absent f q (ap (λ k. has k f) here.1 ∙ free)).text
+  | inr other ↦ ap (λ o. text_or_none (text_in o)) (label_of-with_new l f q h free ∙ ap (λ b. cond b (Some l) (label_of f q)) other.0)
+]
 
 pub born : (kind : Kind) (fields : Fields) (w u v : Working) (p : ℕ) (before : Option ℕ) → IsSound w → is_text kind ≡ false → new_step kind fields w ≡ Ok u
     → CanPut p w.next_key u.forest → v.forest ≡ put_in p before w.next_key u.forest → IsBorn w v kind p before
@@ -59,7 +55,7 @@ born kind fields w u v p before s mute e can put =
     let l : Label = record { key = n; kind = kind; fields = fields } in
     let free : has n f ≡ false = is_free w s in
     let is : u.forest ≡ with_new l f = new_forest kind fields w u e in
-    let order : IsForest u.forest = u_order u e in
+    let order : IsForest u.forest = (sound_new kind fields w u s e).sound.ready.in_order in
     record {
       came = record {
         told = record {
@@ -75,9 +71,7 @@ born kind fields w u v p before s mute e can put =
       };
       kinds = λ q. ap (option_map (λ (x : Label). x.kind)) (ap (λ x. label_of x q) put ∙ label_of-put_in p before n u.forest q order can)
           ∙ ap (λ x. kind_of x q) is ∙ kind_of-with_new l f q h free;
-    } where
-      u_order : (u : Working) → new_step kind fields w ≡ Ok u → IsForest u.forest
-      u_order u e = (sound_new kind fields w u s e).sound.ready.in_order
+    }
 
 -- at the end of a node's children
 pub born_last : (kind : Kind) (fields : Fields) (w u v : Working) (p : ℕ) → IsSound w → is_text kind ≡ false → new_step kind fields w ≡ Ok u
@@ -112,22 +106,18 @@ born_before kind fields w u v other s mute e put =
     let up : parent_of w.forest other ≡ Some below.0 = sym (parent_made kind fields w u other s e) ∙ below.1 in
     record { parent = below.0; up = up; born = born_at kind fields w u v other below.0 s mute up e put }
 
+-- where one test of kinds says what another does, it does so of a node
+pub so_at : (test other : Kind → Bool) (t : Bool) → ((kind : Kind) → test kind ≡ true → other kind ≡ t) → (f : Forest) (k : ℕ) → is_at test f k ≡ true → is_at other f k ≡ t
+so_at test other t so f k is = let kind = kind_known f k (there_at test f k is) in ap (passes other) kind.1 ∙ so kind.0 (sym (ap (passes test) kind.1) ∙ is)
+
 -- a key that isn't there is of no kind
 absent_at : (test : Kind → Bool) (f : Forest) (k : ℕ) → has k f ≡ false → is_at test f k ≡ false
-absent_at test f k free = by_kind (kind_of f k) refl where
-  by_kind : (o : Option Kind) → kind_of f k ≡ o → is_at test f k ≡ false
-  by_kind None is = ap (passes test) is
-  by_kind (Some kind) is = absurd (grind (arith, free, is, is_some-kind_of f k))
+absent_at test f k free = grind (arith, free, there_at test f k)
 
 -- whether a node is of a kind stays, where the new one isn't
 pub kinds_born : (test : Kind → Bool) (w v : Working) (kind : Kind) (p : ℕ) (before : Option ℕ) → IsBorn w v kind p before → test kind ≡ false → (q : ℕ) → is_at test v.forest q ≡ is_at test w.forest q
-kinds_born test w v kind p before b clear q = by_key (eqb_tells q w.next_key) where
-  by_key : ((eqb q w.next_key ≡ true) × (q ≡ w.next_key)) ⊎ ((eqb q w.next_key ≡ false) × (q ≢ w.next_key)) → is_at test v.forest q ≡ is_at test w.forest q
-  by_key (inl here) =
-      let new : is_at test v.forest q ≡ false = ap (passes test) (b.kinds q ∙ ap (λ t. cond t (Some kind) (kind_of w.forest q)) here.0) ∙ clear in
-      let gone : is_at test w.forest q ≡ false = ap (is_at test w.forest) here.1 ∙ absent_at test w.forest w.next_key b.came.free in
-      new ∙ sym gone
-  by_key (inr other) = ap (passes test) (b.kinds q ∙ ap (λ t. cond t (Some kind) (kind_of w.forest q)) other.0)
+kinds_born test w v kind p before b clear q =
+    ap (passes test) (b.kinds q) ∙ grind (arith, clear, absent_at test w.forest w.next_key b.came.free, eqb_tells q w.next_key)
 
 -- Inline children come first in each item then: where the new node, which isn't inline, has no item as its parent, or comes
 -- before a node that isn't inline.
@@ -137,27 +127,21 @@ first_born w v kind p before b clear place first = record { each = λ x item. by
   same : (q : ℕ) → is_at is_inline v.forest q ≡ is_at is_inline w.forest q
   same q = kinds_born is_inline w v kind p before b clear q
 
-  here : (x : ℕ) → is_at is_item w.forest x ≡ true → eqb x p ≡ true → stand_first (is_at is_inline w.forest) (names_with before (w.next_key ∷ []) (children_of w.forest x)) ≡ true
-  here x item own = elim place [
-    | inl none ↦ absurd (grind (arith, none, item, own, eqb_tells x p))
+  there : (x : ℕ) → is_at is_item w.forest x ≡ true → stand_first (is_at is_inline w.forest) (cond (eqb x p) (names_with before (w.next_key ∷ []) (children_of w.forest x)) (children_of w.forest x)) ≡ true
+  there x item = elim place [
+    | inl none ↦ grind (arith, none, item, first.each x item, eqb_tells x p)
     | inr (o, is, other) ↦
-        ap (λ c. stand_first (is_at is_inline w.forest) (names_with c (w.next_key ∷ []) (children_of w.forest x))) is
-        ∙ first-with (is_at is_inline w.forest) w.next_key o (children_of w.forest x) (absent_at is_inline w.forest w.next_key b.came.free) other (first.each x item)
+        let born = first-with (is_at is_inline w.forest) w.next_key o (children_of w.forest x) (absent_at is_inline w.forest w.next_key b.came.free) other (first.each x item) in
+        rw is (grind (arith, born, first.each x item))
   ]
 
-  by_place : (x : ℕ) → is_at is_item w.forest x ≡ true → (t : Bool) → eqb x p ≡ t → stand_first (is_at is_inline w.forest) (cond t (names_with before (w.next_key ∷ []) (children_of w.forest x)) (children_of w.forest x)) ≡ true
-  by_place x item true own = here x item own
-  by_place x item false own = first.each x item
-
   by_key : (x : ℕ) → is_at is_item v.forest x ≡ true → ((eqb x w.next_key ≡ true) × (x ≡ w.next_key)) ⊎ ((eqb x w.next_key ≡ false) × (x ≢ w.next_key)) → stand_first (is_at is_inline v.forest) (children_of v.forest x) ≡ true
-  by_key x item (inl own) =
-      let none : children_of v.forest x ≡ [] = ap (children_of v.forest) own.1 ∙ came_empty w.forest v.forest w.next_key p before b.came in
-      ap (stand_first (is_at is_inline v.forest)) none
+  by_key x item (inl own) = ap (stand_first (is_at is_inline v.forest)) (ap (children_of v.forest) own.1 ∙ came_empty w.forest v.forest w.next_key p before b.came)
   by_key x item (inr other) =
       let was : is_at is_item w.forest x ≡ true = sym (ap (passes is_item) (b.kinds x ∙ ap (λ t. cond t (Some kind) (kind_of w.forest x)) other.0)) ∙ item in
       ap (stand_first (is_at is_inline v.forest)) (b.came.children x)
       ∙ first-same (is_at is_inline v.forest) (is_at is_inline w.forest) (cond (eqb x p) (names_with before (w.next_key ∷ []) (children_of w.forest x)) (children_of w.forest x)) (λ q among. same q)
-      ∙ by_place x was (eqb x p) refl
+      ∙ there x was
 
 -- ---- all children of a node go to another
 

@@ -1,5 +1,5 @@
 -- What is read below a list is what its lines say, one after another, where inline children come first in each item.
-use Rattle.std.proofs.Common.{◌≡◌, ◌∙◌, ℕ, ◌⊎◌, Bool, true, false, cond, eqb, ◌&&◌, ◌||◌, List, [], ◌∷◌, ◌++◌, Option, None, Some, refl, sym, ap, ap₂, subst, arith, inl, inr, append_assoc}
+use Rattle.std.proofs.Common.{◌≡◌, ◌∙◌, ℕ, ◌⊎◌, Bool, true, false, cond, eqb, ◌&&◌, ◌||◌, List, [], ◌∷◌, ◌++◌, Some, refl, sym, ap, ap₂, arith, inl, inr, append_assoc}
 use Rattle.std.specs.List.{filter, list_any}
 use Rattle.std.proofs.lemmas.Bool.{cases_Bool}
 use Rattle.std.proofs.lemmas.Bool.Decides.{eqb_tells}
@@ -8,15 +8,17 @@ use Rattle.lx_node.specs.Kinds.{may_hold, is_inline, is_item, is_list, is_text, 
 use Rattle.lx_node.specs.declared.kind.Kind.{Kind}
 use Rattle.lx_node.specs.declared.kind.Kind.TheVariants as kinds
 use Rattle.lx_forest.specs.Forest.{Forest}
-use Rattle.lx_forest.specs.Lookups.{kind_of, parent_of, children_of, size_of, IsForest, IsHeld}
+use Rattle.lx_forest.specs.Lookups.{parent_of, children_of, size_of, IsForest, IsHeld}
 use Rattle.lx_draft.proofs.Gaps.{parent_here}
 use Rattle.lx_blocks.specs.Blocks.{passes, is_at, is_line}
 use Rattle.lx_edit_laws.specs.Reading.{text_at, read_below}
-use Rattle.lx_edit_laws.proofs.Reading.{down, spread, spread-same, spread-none, below, below-level, reads_of, read-level}
+use Rattle.lx_edit_laws.proofs.Reading.{kind_known, down, spread, spread-same, spread-none, below, below-level, reads_of, read-level}
 use Rattle.lx_edit_laws.proofs.WrapLists.{filter-gone}
 use Rattle.lx_edit_laws.proofs.WrapSteps.{silent}
 use Rattle.lx_list_laws.specs.Reading.{stand_first, InlinesFirst}
-use Rattle.lx_list_laws.proofs.ReadSaid.{inlines, said, at_there, both_kinds, inline_below}
+use Rattle.lx_list.proofs.Itemless.{item_below, there_at}
+use Rattle.lx_list_laws.proofs.ReadEdits.{so_at}
+use Rattle.lx_list_laws.proofs.ReadSaid.{inlines, said, both_kinds, inline_below}
 
 -- ---- what lines give
 
@@ -35,25 +37,15 @@ no_line : (f : Forest) (k : ℕ) → is_at is_text_block f k ≡ false → is_li
 no_line f k none = ap (λ b. b && (eqb (size_of f k) 0 || list_any (is_at is_inline f) (children_of f k))) none
 
 -- no inline node is a line, nor is what is in it
-by_kind : (test other : Kind → Bool) → ((kind : Kind) → test kind ≡ true → other kind ≡ false) → (f : Forest) (k : ℕ) → is_at test f k ≡ true → is_at other f k ≡ false
-by_kind test other apart f k is = by_option (kind_of f k) refl is where
-  by_option : (o : Option Kind) → kind_of f k ≡ o → passes test o ≡ true → is_at other f k ≡ false
-  by_option None at e = absurd (cc)
-  by_option (Some kind) at e = ap (passes other) at ∙ apart kind e
-
-inline_no_block : (kind : Kind) → is_inline kind ≡ true → is_text_block kind ≡ false
+pub inline_no_block : (kind : Kind) → is_inline kind ≡ true → is_text_block kind ≡ false
 unfolding is_inline is_text_block
 inline_no_block kinds.Text e = refl
-inline_no_block kinds.Tab e = refl
-inline_no_block kinds.Break e = refl
-inline_no_block kinds.Link e = refl
-inline_no_block kinds.Embed e = refl
-inline_no_block kind e = absurd (cc)
+inline_no_block kind e = cc
 
 inline_says_nothing : (f : Forest) → IsForest f → IsHeld may_hold f → (k : ℕ) → is_at is_inline f k ≡ true → below (says f) f k ≡ []
 inline_says_nothing f h held k is = down f h (λ q. is_at is_inline f q ≡ true → below (says f) f q ≡ []) (λ b each here.
-    below-level (says f) f b h (λ free. absurd (grind (arith, free, at_there is_inline f b here)))
-    ∙ ap₂ (λ x y. x ++ y) (ap (λ t. cond t (reads_of f (inlines f b)) []) (no_line f b (by_kind is_inline is_text_block inline_no_block f b here)))
+    below-level (says f) f b h (λ free. absurd (grind (arith, free, there_at is_inline f b here)))
+    ∙ ap₂ (λ x y. x ++ y) (ap (λ t. cond t (reads_of f (inlines f b)) []) (no_line f b (so_at is_inline is_text_block false inline_no_block f b here)))
     (spread-none (below (says f) f) (children_of f b) (λ c among. let up = parent_here f b c h among in each c up (inline_below f c b held up here)))) k is
 
 -- ---- lists and items
@@ -63,15 +55,8 @@ is_listed kind = is_list kind || is_item kind
 
 pub listed_holds : (outer inner : Kind) → may_hold outer inner ≡ true → is_listed outer ≡ true → is_inline inner ≡ false → is_listed inner ≡ true
 unfolding may_hold is_list is_item
-listed_holds (kinds.List type) inner h is other = by_test (is_list inner) (is_item inner) h where
-  by_test : (a b : Bool) → b ≡ true → (a || b) ≡ true
-  by_test true b e = refl
-  by_test false b e = e
-listed_holds kinds.Item inner h is other = by_test (is_inline inner) (is_list inner) (is_item inner) h other where
-  by_test : (a b c : Bool) → (a || b) ≡ true → a ≡ false → (b || c) ≡ true
-  by_test true b c e f = absurd (cc)
-  by_test false true c e f = refl
-  by_test false false c e f = absurd (cc)
+listed_holds (kinds.List type) inner h is other = grind (arith, h)
+listed_holds kinds.Item inner h is other = grind (arith, h, other)
 listed_holds outer inner h is other = absurd (cc)
 
 listed_no_text : (kind : Kind) → is_listed kind ≡ true → is_text kind ≡ false
@@ -87,17 +72,21 @@ listed_below f q p held up is other =
 pub listed_silent : (f : Forest) (k : ℕ) → is_at is_listed f k ≡ true → text_at f k ≡ []
 listed_silent f k is = silent f k (λ kind at. listed_no_text kind (sym (ap (passes is_listed) at) ∙ is))
 
+-- an item is a text block, and a list isn't; neither is inline
+item_tells : (kind : Kind) → is_item kind ≡ true → (is_text_block kind ≡ true) × (is_inline kind ≡ false)
+unfolding is_item is_text_block is_inline
+item_tells kinds.Item e = (refl, refl)
+item_tells kind e = absurd (cc)
+
+pub list_tells : (kind : Kind) → is_list kind ≡ true → (is_text_block kind ≡ false) × (is_inline kind ≡ false)
+unfolding is_list is_text_block is_inline
+list_tells (kinds.List type) e = (refl, refl)
+list_tells kind e = absurd (cc)
+
 -- what is in a list isn't inline
-item_holds_none : (outer inner : Kind) → may_hold outer inner ≡ true → is_list outer ≡ true → is_inline inner ≡ false
-unfolding may_hold is_list is_item is_inline
-item_holds_none (kinds.List type) kinds.Item h is = refl
-item_holds_none (kinds.List type) inner h is = absurd (cc)
-item_holds_none outer inner h is = absurd (cc)
 
 pub none_in_list : (f : Forest) (q p : ℕ) → IsHeld may_hold f → parent_of f q ≡ Some p → is_at is_list f p ≡ true → is_at is_inline f q ≡ false
-none_in_list f q p held up is =
-    let k = both_kinds (λ outer inner. is_list outer ≡ true → is_inline inner ≡ false) f q p held up (λ outer inner a b h x. item_holds_none outer inner h x) in
-    ap (passes is_inline) k.3 ∙ k.4 (sym (ap (passes is_list) k.2) ∙ is)
+none_in_list f q p held up is = so_at is_item is_inline false (λ kind e. (item_tells kind e).1) f q (item_below f p q held is up)
 
 pub none-any : (test : ℕ → Bool) (xs : List ℕ) (q : ℕ) → list_any test xs ≡ false → is_among q xs ≡ true → test q ≡ false
 none-any test [] q none among = absurd (cc)
@@ -129,44 +118,23 @@ mixed test give read (x ∷ xs) first none same =
 
 -- an item says what its inline children read, whether it is a line or not
 line_says : (f : Forest) (k : ℕ) → is_at is_text_block f k ≡ true → says f k ≡ reads_of f (inlines f k)
-line_says f k block = by_tests (eqb (size_of f k) 0) (list_any (is_at is_inline f) (children_of f k)) refl where
-  by_tests : (a b : Bool) → list_any (is_at is_inline f) (children_of f k) ≡ b
-      → cond (is_at is_text_block f k && (a || b)) (reads_of f (inlines f k)) [] ≡ reads_of f (inlines f k)
-  by_tests true b is = ap (λ t. cond (t && true) (reads_of f (inlines f k)) []) block
-  by_tests false true is = ap (λ t. cond (t && true) (reads_of f (inlines f k)) []) block
-  by_tests false false is =
-      ap (λ t. cond (t && false) (reads_of f (inlines f k)) []) block
-      ∙ sym (ap (reads_of f) (filter-gone (is_at is_inline f) (children_of f k) (λ q among. none-any (is_at is_inline f) (children_of f k) q is among)))
-
-item_is_block : (kind : Kind) → is_item kind ≡ true → is_text_block kind ≡ true
-unfolding is_item is_text_block
-item_is_block kinds.Item e = refl
-item_is_block kind e = absurd (cc)
-
-list_no_block : (kind : Kind) → is_list kind ≡ true → is_text_block kind ≡ false
-unfolding is_list is_text_block
-list_no_block (kinds.List type) e = refl
-list_no_block kind e = absurd (cc)
+line_says f k block = elim (cases_Bool (list_any (is_at is_inline f) (children_of f k))) [
+  | inl some ↦ grind (arith, block, some)
+  | inr none ↦ grind (arith, block, none, filter-gone (is_at is_inline f) (children_of f k) (λ q among. none-any (is_at is_inline f) (children_of f k) q none among))
+]
 
 pub is_block_at : (f : Forest) (k : ℕ) → is_at is_item f k ≡ true → is_at is_text_block f k ≡ true
-is_block_at f k is = by_option (kind_of f k) refl is where
-  by_option : (o : Option Kind) → kind_of f k ≡ o → passes is_item o ≡ true → is_at is_text_block f k ≡ true
-  by_option None at e = absurd (cc)
-  by_option (Some kind) at e = ap (passes is_text_block) at ∙ item_is_block kind e
+is_block_at f k is = so_at is_item is_text_block true (λ kind e. (item_tells kind e).0) f k is
 
 pub list_no_line : (f : Forest) (k : ℕ) → is_at is_list f k ≡ true → is_line f k ≡ false
-list_no_line f k is = no_line f k (by_kind is_list is_text_block list_no_block f k is)
+list_no_line f k is = no_line f k (so_at is_list is_text_block false (λ kind e. (list_tells kind e).0) f k is)
 
 -- which of the two it is
 pub list_or_item : (f : Forest) (k : ℕ) → is_at is_listed f k ≡ true → (is_at is_list f k ≡ true) ⊎ (is_at is_item f k ≡ true)
-list_or_item f k is = by_option (kind_of f k) refl is where
-  by_tests : (a b : Bool) → (a || b) ≡ true → (a ≡ true) ⊎ (b ≡ true)
-  by_tests true b e = inl refl
-  by_tests false b e = inr e
-
-  by_option : (o : Option Kind) → kind_of f k ≡ o → passes is_listed o ≡ true → (is_at is_list f k ≡ true) ⊎ (is_at is_item f k ≡ true)
-  by_option None at e = absurd (cc)
-  by_option (Some kind) at e = subst (λ x. (passes is_list x ≡ true) ⊎ (passes is_item x ≡ true)) (sym at) (by_tests (is_list kind) (is_item kind) e)
+list_or_item f k is = let kind = kind_known f k (there_at is_listed f k is) in elim (cases_Bool (is_at is_list f k)) [
+  | inl list ↦ inl list
+  | inr other ↦ inr (grind (arith, is, other, kind.1))
+]
 
 -- what is read below a list or an item is what the lines of its tree say
 pub lines_read : (f : Forest) → IsForest f → IsHeld may_hold f → InlinesFirst f → (k : ℕ) → is_at is_listed f k ≡ true → read_below f k ≡ below (says f) f k
@@ -178,7 +146,7 @@ lines_read f h held first k is = down f h (λ q. is_at is_listed f q ≡ true �
       let one : read_below f b ≡ spread (read_below f) (children_of f b) =
       read-level f b h ∙ ap (λ t. t ++ reads_of f (children_of f b)) (listed_silent f b here) in
       let two : below (says f) f b ≡ says f b ++ spread (below (says f) f) (children_of f b) =
-      below-level (says f) f b h (λ free. absurd (grind (arith, free, at_there is_listed f b here))) in
+      below-level (says f) f b h (λ free. absurd (grind (arith, free, there_at is_listed f b here))) in
       one ∙ elim (list_or_item f b here) [
         | inl list ↦
             spread-same (read_below f) (below (says f) f) (children_of f b) (λ q among. others q among (none_in_list f q b held (parent_here f b q h among) list))

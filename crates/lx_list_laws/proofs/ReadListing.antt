@@ -1,5 +1,5 @@
 -- Lines that are made items, and lists that get another type, read the same.
-use Rattle.std.proofs.Common.{◌≡◌, ◌≢◌, ◌∙◌, ℕ, ◌⊎◌, Bool, true, false, cond, eqb, List, [], ◌∷◌, ◌++◌, Option, None, Some, Result, Ok, refl, sym, ap, ap₂, subst, arith, inl, inr}
+use Rattle.std.proofs.Common.{◌≡◌, ◌≢◌, ◌∙◌, ℕ, Bool, true, false, cond, eqb, List, [], ◌∷◌, ◌++◌, Option, None, Some, Result, Ok, refl, sym, ap, ap₂, subst, arith, inl, inr}
 use Rattle.std.specs.Prelude.{option_map}
 use Rattle.std.specs.List.{list_all}
 use Rattle.std.proofs.lemmas.Bool.Decides.{eqb_tells}
@@ -9,7 +9,7 @@ use Rattle.lx_node.specs.declared.kind.Kind.{Kind}
 use Rattle.lx_node.specs.declared.kind.Kind.TheVariants.{Item, List as ListKind}
 use Rattle.lx_node.specs.declared.kind.Kind.TheVariants as kinds
 use Rattle.lx_node.specs.declared.kind.ListType.{ListType}
-use Rattle.lx_node.specs.declared.kind.ListType.TheVariants.{Bullet, Number, Check}
+use Rattle.lx_node.specs.declared.kind.ListType.TheVariants.{Check}
 use Rattle.lx_node.specs.declared.fields.Fields.{Fields}
 use Rattle.lx_node.specs.declared.fields.Fields.TheVariants as fields
 use Rattle.lx_node.specs.declared.fields.ElementFields.{ElementFields}
@@ -43,9 +43,10 @@ use Rattle.lx_edit_laws.proofs.WrapSteps.{was_same}
 use Rattle.lx_list_laws.specs.Reading.{stand_first, InlinesFirst, IsSound, ReadsAs}
 use Rattle.lx_list_laws.proofs.ReadOrder.{all-same, first-same, first-all, StandBeside, beside-previous, beside-with, beside-apart}
 use Rattle.lx_list_laws.proofs.ReadForests.{reads_alike, CameNew, came_here, came_elsewhere, came_empty, read_came}
+use Rattle.lx_list_laws.proofs.ReadLines.{list_tells}
 use Rattle.lx_list_laws.proofs.ReadOver.{both_up, GoesBackIn, up_item, read_back, read_back_in}
 use Rattle.lx_list_laws.proofs.ReadSound.{StaysSound, stays_then, stays_selected, set_forest, sound_path}
-use Rattle.lx_list_laws.proofs.ReadEdits.{IsBorn, born_last, born_before, kinds_born, first_born, first_went, was_removed}
+use Rattle.lx_list_laws.proofs.ReadEdits.{IsBorn, born_last, born_before, so_at, kinds_born, first_born, first_went, was_removed}
 
 -- ---- what an edit keeps
 
@@ -58,11 +59,13 @@ pub record Keeps (w v : Working) : Type 0 where
 pub keeps_then : (u v w : Working) → Keeps u v → Keeps v w → Keeps u w
 keeps_then u v w a b = record { stays = stays_then u v w a.stays b.stays; first = λ x. b.first (a.first x); read = b.read ∙ a.read }
 
-pub keeps_self : (w : Working) → IsSound w → Keeps w w
-keeps_self w s = record { stays = stays_selected w w s refl refl; first = λ x. x; read = refl }
-
 pub keeps_same : (w v : Working) → IsSound w → ◌≡◌ {A = Result Working Cause} (Ok w) (Ok v) → Keeps w v
-keeps_same w v s e = subst (Keeps w) (was_same w v e) (keeps_self w s)
+keeps_same w v s e = subst (Keeps w) (was_same w v e) (record { stays = stays_selected w w s refl refl; first = λ x. x; read = refl })
+
+-- where a test chooses between two
+pub keeps_either : (t : Bool) (one other : Result Working Cause) (w v : Working) → (t ≡ true → one ≡ Ok v → Keeps w v) → (t ≡ false → other ≡ Ok v → Keeps w v) → cond t one other ≡ Ok v → Keeps w v
+keeps_either true one other w v first second e = first refl e
+keeps_either false one other w v first second e = second refl e
 
 -- a step for each of a list
 pub keeps_each : (step : ℕ → Working → Result Working Cause) → ((k : ℕ) (w v : Working) → IsSound w → step k w ≡ Ok v → Keeps w v) → (ks : List ℕ) (w v : Working) → IsSound w → in_turn step ks w ≡ Ok v → Keeps w v
@@ -78,13 +81,9 @@ not_root f k p h up same = absurd (grind (arith, up, same, parent_of-root f h))
 
 -- ---- a line becomes an item
 
-item_silent : is_text Item ≡ false
-unfolding is_text
-item_silent = refl
-
-item_not_inline : is_inline Item ≡ false
-unfolding is_inline
-item_not_inline = refl
+item_kind : (is_text Item ≡ false) × (is_inline Item ≡ false)
+unfolding is_text is_inline
+item_kind = (refl, refl)
 
 -- a line right after a list, where all children of the line are inline
 pub record MayBeItem (f : Forest) (line list : ℕ) : Type 0 where
@@ -133,11 +132,11 @@ item_filled f u x line list item m c t =
 item_first : (w u : Working) (x : Forest) (line list : ℕ) (m : MayBeItem w.forest line list) (b : IsBorn w u Item list None) → WentAll u.forest x line w.next_key → InlinesFirst w.forest → InlinesFirst x
 item_first w u x line list m b t first =
     let i = has_item w.forest u.forest line list w.next_key m b.came in
-    let same : (q : ℕ) → is_at is_inline u.forest q ≡ is_at is_inline w.forest q = λ q. kinds_born is_inline w u Item list None b item_not_inline q in
+    let same : (q : ℕ) → is_at is_inline u.forest q ≡ is_at is_inline w.forest q = λ q. kinds_born is_inline w u Item list None b item_kind.1 q in
     first_went u.forest x line w.next_key t (λ item.
     ap₂ (λ xs ys. stand_first (is_at is_inline u.forest) (xs ++ ys)) i.leaf i.kept
     ∙ first-same (is_at is_inline u.forest) (is_at is_inline w.forest) (children_of w.forest line) (λ q among. same q)
-    ∙ first-all (is_at is_inline w.forest) (children_of w.forest line) m.inline) (first_born w u Item list None b item_not_inline (inl m.no_item) first)
+    ∙ first-all (is_at is_inline w.forest) (children_of w.forest line) m.inline) (first_born w u Item list None b item_kind.1 (inl m.no_item) first)
 
 pub keeps_item : (type : ListType) (line list : ℕ) (w v : Working) → IsSound w → MayBeItem w.forest line list → item_made type line list w ≡ Ok v → Keeps w v
 unfolding item_made
@@ -150,7 +149,7 @@ keeps_item type line list w v s m e =
     let put = stays_then w a.0 b.0 made (sound_path.put item list (size_of a.0.forest list) a.0 b.0 tt made.sound b.1) in
     let went = stays_then w b.0 c.0 put (children_path sound_path line item b.0 c.0 put.sound (λ k among. tt) c.1) in
     let left = stays_then w c.0 v went (remove_path sound_path line c.0 v went.sound c.2) in
-    let born = born_last Item (item_fields (unchecked type)) w a.0 b.0 list s item_silent a.1 b.1 in
+    let born = born_last Item (item_fields (unchecked type)) w a.0 b.0 list s item_kind.0 a.1 b.1 in
     let i = has_item w.forest b.0.forest line list item m born.came in
     let all = went_all line item b.0 c.0 put.sound.ready.in_order i.apart c.1 in
     let mute : text_at c.0.forest line ≡ [] = ap (λ l. text_or_none (text_in l)) (all.over.label line) ∙ all.silent in
@@ -163,17 +162,9 @@ keeps_item type line list w v s m e =
 
 -- ---- of a new list
 
-list_silent : (type : ListType) → is_text (ListKind type) ≡ false
-unfolding is_text
-list_silent type = refl
-
-list_not_inline : (type : ListType) → is_inline (ListKind type) ≡ false
-unfolding is_inline
-list_not_inline type = refl
-
-list_no_item : (type : ListType) → is_item (ListKind type) ≡ false
-unfolding is_item
-list_no_item type = refl
+list_kind : (type : ListType) → (is_text (ListKind type) ≡ false) × (is_inline (ListKind type) ≡ false) × (is_item (ListKind type) ≡ false)
+unfolding is_text is_inline is_item
+list_kind type = (refl, refl, refl)
 
 -- a new list before a node: it has no children, and the node those that it had
 record HasList (w v : Working) (type : ListType) (p other : ℕ) : Type 0 where
@@ -208,19 +199,19 @@ keeps_list type line w v s clear inline e =
     let b = first_part (put_before_step list line a.0) (item_made type line list) v a.2 in
     let made = sound_path.new (ListKind type) list_fields w a.0 s a.1 in
     let put = stays_then w a.0 b.0 made (put_before_path sound_path list line tt a.0 b.0 made.sound b.1) in
-    let born = born_before (ListKind type) list_fields w a.0 b.0 line s (list_silent type) a.1 b.1 in
+    let born = born_before (ListKind type) list_fields w a.0 b.0 line s (list_kind type).0 a.1 b.1 in
     let l = has_list w b.0 type born.parent line born.up born.born in
-    let same : (q : ℕ) → is_at is_inline b.0.forest q ≡ is_at is_inline w.forest q = λ q. kinds_born is_inline w b.0 (ListKind type) born.parent (Some line) born.born (list_not_inline type) q in
+    let same : (q : ℕ) → is_at is_inline b.0.forest q ≡ is_at is_inline w.forest q = λ q. kinds_born is_inline w b.0 (ListKind type) born.parent (Some line) born.born (list_kind type).1 q in
     let may : MayBeItem b.0.forest line list = record {
       parent = born.parent;
       beside = l.beside;
-      no_item = ap (passes is_item) l.kind ∙ list_no_item type;
+      no_item = ap (passes is_item) l.kind ∙ (list_kind type).2;
       inline = ap (list_all (is_at is_inline b.0.forest)) l.children ∙ all-same (is_at is_inline b.0.forest) (is_at is_inline w.forest) (children_of w.forest line) (λ q among. same q) ∙ inline;
     } in
     let rest = keeps_item type line list b.0 v put.sound may b.2 in
     record {
       stays = stays_then w b.0 v put rest.stays;
-      first = λ x. rest.first (first_born w b.0 (ListKind type) born.parent (Some line) born.born (list_not_inline type) (inr (line, refl, clear)) x);
+      first = λ x. rest.first (first_born w b.0 (ListKind type) born.parent (Some line) born.born (list_kind type).1 (inr (line, refl, clear)) x);
       read = rest.read ∙ read_came w.forest b.0.forest list born.parent (Some line) born.born.came 0;
     }
 
@@ -228,12 +219,6 @@ list_of_no_item : (type : ListType) (kind : Kind) → is_list_of type kind ≡ t
 unfolding is_item
 list_of_no_item type (ListKind found) e = refl
 list_of_no_item type other e = absurd (cc)
-
-list_no_item_at : (type : ListType) (f : Forest) (k : ℕ) → is_at (is_list_of type) f k ≡ true → is_at is_item f k ≡ false
-list_no_item_at type f k is = by_kind (kind_of f k) refl is where
-  by_kind : (o : Option Kind) → kind_of f k ≡ o → passes (is_list_of type) o ≡ true → passes is_item (kind_of f k) ≡ false
-  by_kind None at e = absurd (cc)
-  by_kind (Some kind) at e = ap (passes is_item) at ∙ list_of_no_item type kind e
 
 -- the list before a line
 before_in : (f : Forest) (line list : ℕ) → previous_of f line ≡ Some list → (p : ℕ) × StandBeside (children_of f p) list line
@@ -246,40 +231,31 @@ before_in f line list e =
 pub keeps_itemized : (type : ListType) (line : ℕ) (o : Option ℕ) (w v : Working) → IsSound w → is_at is_inline w.forest line ≡ false → list_all (is_at is_inline w.forest) (children_of w.forest line) ≡ true
     → previous_of w.forest line ≡ o → itemized type line o w ≡ Ok v → Keeps w v
 keeps_itemized type line None w v s clear inline at e = keeps_list type line w v s clear inline e
-keeps_itemized type line (Some list) w v s clear inline at e = by_test (is_at (is_list_of type) w.forest list) refl e where
-  by_test : (t : Bool) → is_at (is_list_of type) w.forest list ≡ t → cond t (item_made type line list w) (list_made type line w) ≡ Ok v → Keeps w v
-  by_test true is e =
-      let found = before_in w.forest line list at in
-      keeps_item type line list w v s (record { parent = found.0; beside = found.1; no_item = list_no_item_at type w.forest list is; inline = inline }) e
-  by_test false is e = keeps_list type line w v s clear inline e
+keeps_itemized type line (Some list) w v s clear inline at e =
+    keeps_either (is_at (is_list_of type) w.forest list) (item_made type line list w) (list_made type line w) w v (λ is e.
+    let found = before_in w.forest line list at in
+    let no_item = so_at (is_list_of type) is_item false (list_of_no_item type) w.forest list is in
+    keeps_item type line list w v s (record { parent = found.0; beside = found.1; no_item = no_item; inline = inline }) e) (λ is e. keeps_list type line w v s clear inline e) e
 
 -- ---- check marks
 
 -- the same fields with a change of what only elements have give the same text
 changed_silent : (change : ElementFields → ElementFields) (kind : Kind) (x : Fields) → text_or_none (text_fields kind (changed change x)) ≡ text_or_none (text_fields kind x)
-changed_silent change kind (fields.Element element) = not_text kind where
-  not_text : (kind : Kind) → text_or_none (text_fields kind (fields.Element (change element))) ≡ text_or_none (text_fields kind (fields.Element element))
-  not_text kinds.Text = refl
-  not_text kind = refl
+changed_silent change kinds.Text (fields.Element element) = refl
+changed_silent change kind (fields.Element element) = refl
 changed_silent change kind other = refl
-
-some_fields : (a b : Fields) → Some a ≡ Some b → a ≡ b
-some_fields a b e = cc
 
 set_text : (change : ElementFields → ElementFields) (f : Forest) (k : ℕ) (x : Fields) (q : ℕ) → fields_of f k ≡ Some x → text_at (with_fields k (changed change x) f) q ≡ text_at f q
 set_text change f k x q is =
     ap (λ o. text_or_none (text_in o)) (label_of-with_fields k (changed change x) f q) ∙ by_label (label_of f q) refl where
-      by_test : (l : Label) → label_of f q ≡ Some l → ((eqb l.key k ≡ true) × (l.key ≡ k)) ⊎ ((eqb l.key k ≡ false) × (l.key ≢ k))
-          → text_or_none (text_fields l.kind (cond (eqb l.key k) (changed change x) l.fields)) ≡ text_or_none (text_fields l.kind l.fields)
-      by_test l at (inl here) =
-          let key : q ≡ k = sym (key-label_of f q l at) ∙ here.1 in
-          let same : l.fields ≡ x = some_fields l.fields x (sym (ap (option_map (λ (y : Label). y.fields)) at) ∙ ap (fields_of f) key ∙ is) in
-          ap (λ b. text_or_none (text_fields l.kind (cond b (changed change x) l.fields))) here.0 ∙ changed_silent change l.kind x ∙ sym (ap (λ y. text_or_none (text_fields l.kind y)) same)
-      by_test l at (inr other) = ap (λ b. text_or_none (text_fields l.kind (cond b (changed change x) l.fields))) other.0
-
       by_label : (o : Option Label) → label_of f q ≡ o → text_or_none (text_in (option_map (fields_at k (changed change x)) o)) ≡ text_or_none (text_in o)
       by_label None at = refl
-      by_label (Some l) at = by_test l at (eqb_tells l.key k)
+      by_label (Some l) at = elim (eqb_tells l.key k) [
+        | inl here ↦
+            let same : Some l.fields ≡ Some x = sym (ap (option_map (λ (y : Label). y.fields)) at) ∙ ap (fields_of f) (sym (key-label_of f q l at) ∙ here.1) ∙ is in
+            rw here.0 (changed_silent change l.kind x ∙ grind (arith, same))
+        | inr other ↦ rw other.0 refl
+      ]
 
 keeps_change : (change : ElementFields → ElementFields) (k : ℕ) (w v : Working) → IsSound w → change_step change k w ≡ Ok v → Keeps w v
 unfolding change_step
@@ -307,17 +283,11 @@ keeps_change change k w v s e = by_fields (fields_of w.forest k) refl e where
         }) children 0;
       }
 
-keeps_check : (check : Option Bool) (k : ℕ) (w v : Working) → IsSound w → check_item check k w ≡ Ok v → Keeps w v
-unfolding check_item
-keeps_check check k w v s e = keeps_change (with_extra (checked_as check)) k w v s e
-
 keeps_remarked : (type : ListType) (k : ℕ) (w v : Working) → IsSound w → remarked type k w ≡ Ok v → Keeps w v
-keeps_remarked Check k w v s e = by_test (has_mark (fields_of w.forest k)) e where
-  by_test : (t : Bool) → cond t (Ok w) (check_item (Some false) k w) ≡ Ok v → Keeps w v
-  by_test true e = keeps_same w v s e
-  by_test false e = keeps_check (Some false) k w v s e
-keeps_remarked Bullet k w v s e = keeps_check None k w v s e
-keeps_remarked Number k w v s e = keeps_check None k w v s e
+unfolding check_item
+keeps_remarked Check k w v s e =
+    keeps_either (has_mark (fields_of w.forest k)) (Ok w) (check_item (Some false) k w) w v (λ is e. keeps_same w v s e) (λ is e. keeps_change (with_extra (checked_as (Some false))) k w v s e) e
+keeps_remarked other k w v s e = keeps_change (with_extra (checked_as None)) k w v s e
 
 -- ---- a list gets another type
 
@@ -343,49 +313,33 @@ keeps_retyped_with type list (Some x) w v s clear e =
     let put = stays_then w a.0 b.0 made (put_before_path sound_path new list tt a.0 b.0 made.sound b.1) in
     let went = stays_then w b.0 c.0 put (children_path sound_path list new b.0 c.0 put.sound (λ k among. tt) c.1) in
     let left = stays_then w c.0 d.0 went (remove_path sound_path list c.0 d.0 went.sound d.1) in
-    let born = born_before (ListKind type) x w a.0 b.0 list s (list_silent type) a.1 b.1 in
+    let born = born_before (ListKind type) x w a.0 b.0 list s (list_kind type).0 a.1 b.1 in
     let l = has_list w b.0 type born.parent list born.up born.born in
     let all = went_all list new b.0 c.0 put.sound.ready.in_order l.apart c.1 in
     let mute : text_at c.0.forest list ≡ [] = ap (λ o. text_or_none (text_in o)) (all.over.label list) ∙ all.silent in
     let gone = was_removed list c.0 d.0 went.sound.ready.in_order (read-leaf c.0.forest list went.sound.ready.in_order all.none ∙ mute) d.1 in
-    let no_item : is_at is_item b.0.forest new ≡ false = ap (passes is_item) l.kind ∙ list_no_item type in
+    let no_item : is_at is_item b.0.forest new ≡ false = ap (passes is_item) l.kind ∙ (list_kind type).2 in
     let up_to : Keeps w d.0 = record {
       stays = left;
       first = λ first. gone.first (first_went b.0.forest c.0.forest list new all (λ item. absurd (grind (arith, item, no_item)))
-          (first_born w b.0 (ListKind type) born.parent (Some list) born.born (list_not_inline type) (inr (list, refl, clear)) first));
+          (first_born w b.0 (ListKind type) born.parent (Some list) born.born (list_kind type).1 (inr (list, refl, clear)) first));
       read = gone.read 0 ∙ list_filled w b.0 c.0.forest type born.parent list born.up born.born all ∙ read_came w.forest b.0.forest new born.parent (Some list) born.born.came 0;
     } in
     keeps_then w d.0 v up_to (keeps_each (remarked type) (keeps_remarked type) (children_of d.0.forest new) d.0 v left.sound d.2)
 
-keeps_retyped : (type : ListType) (list : ℕ) (w v : Working) → IsSound w → is_at is_inline w.forest list ≡ false → retyped type list w ≡ Ok v → Keeps w v
-unfolding retyped
-keeps_retyped type list w v s clear e = keeps_retyped_with type list (fields_of w.forest list) w v s clear e
-
-list_no_inline : (kind : Kind) → is_list kind ≡ true → is_inline kind ≡ false
-unfolding is_list is_inline
-list_no_inline (ListKind found) e = refl
-list_no_inline other e = absurd (cc)
-
-list_apart : (f : Forest) (k : ℕ) → is_at is_list f k ≡ true → is_at is_inline f k ≡ false
-list_apart f k is = by_kind (kind_of f k) refl is where
-  by_kind : (o : Option Kind) → kind_of f k ≡ o → passes is_list o ≡ true → passes is_inline (kind_of f k) ≡ false
-  by_kind None at e = absurd (cc)
-  by_kind (Some kind) at e = ap (passes is_inline) at ∙ list_no_inline kind e
-
 pub keeps_retyped_above : (type : ListType) (line : ℕ) (o : Option ℕ) (w v : Working) → IsSound w → is_at is_item w.forest line ≡ true → parent_of w.forest line ≡ o → retyped_above type o w ≡ Ok v → Keeps w v
+unfolding retyped
 keeps_retyped_above type line None w v s item up e = keeps_same w v s e
-keeps_retyped_above type line (Some list) w v s item up e = by_test (is_at (is_list_of type) w.forest list) e where
-  by_test : (t : Bool) → cond t (Ok w) (retyped type list w) ≡ Ok v → Keeps w v
-  by_test true e = keeps_same w v s e
-  by_test false e = keeps_retyped type list w v s (list_apart w.forest list (list_above w.forest line list s.held item up)) e
+keeps_retyped_above type line (Some list) w v s item up e =
+    let apart : is_at is_inline w.forest list ≡ false = so_at is_list is_inline false (λ kind e. (list_tells kind e).1) w.forest list (list_above w.forest line list s.held item up) in
+    keeps_either (is_at (is_list_of type) w.forest list) (Ok w) (retyped type list w) w v (λ is e. keeps_same w v s e) (λ is e. keeps_retyped_with type list (fields_of w.forest list) w v s apart e) e
 
 -- ---- a line
 
 pub keeps_listed : (type : ListType) (line : ℕ) (w v : Working) → IsSound w → is_at is_inline w.forest line ≡ false → listed type line w ≡ Ok v → Keeps w v
 unfolding listed
-keeps_listed type line w v s clear e = by_tests (is_at is_item w.forest line) (list_all (is_at is_inline w.forest) (children_of w.forest line)) refl refl e where
-  by_tests : (t u : Bool) → is_at is_item w.forest line ≡ t → list_all (is_at is_inline w.forest) (children_of w.forest line) ≡ u
-      → cond t (retyped_above type (parent_of w.forest line) w) (cond u (itemized type line (previous_of w.forest line) w) (Ok w)) ≡ Ok v → Keeps w v
-  by_tests true u item inline e = keeps_retyped_above type line (parent_of w.forest line) w v s item refl e
-  by_tests false true item inline e = keeps_itemized type line (previous_of w.forest line) w v s clear inline refl e
-  by_tests false false item inline e = keeps_same w v s e
+keeps_listed type line w v s clear e =
+    let all : Bool = list_all (is_at is_inline w.forest) (children_of w.forest line) in
+    let one : Result Working Cause = itemized type line (previous_of w.forest line) w in
+    keeps_either (is_at is_item w.forest line) (retyped_above type (parent_of w.forest line) w) (cond all one (Ok w)) w v (λ item e. keeps_retyped_above type line (parent_of w.forest line) w v s item refl e)
+    (λ is e. keeps_either all one (Ok w) w v (λ inline e. keeps_itemized type line (previous_of w.forest line) w v s clear inline refl e) (λ is e. keeps_same w v s e) e) e

@@ -1,8 +1,7 @@
 -- Lists of names of which those that pass a test come before the others; and names that are beside each other.
-use Rattle.std.proofs.Common.{◌≡◌, ◌∙◌, ℕ, Bool, true, false, eqb, not, ◌&&◌, List, [], ◌∷◌, ◌++◌, Some, refl, ap, ap₂, arith, inl, inr}
+use Rattle.std.proofs.Common.{◌≡◌, ◌∙◌, ℕ, Bool, true, false, eqb, not, ◌&&◌, List, [], ◌∷◌, ◌++◌, Some, refl, ap, arith, inl, inr}
 use Rattle.std.specs.List.{filter, list_any, list_all}
 use Rattle.std.proofs.lemmas.Bool.Decides.{eqb_tells}
-use Rattle.std.proofs.lemmas.Option.{same_Some}
 use Rattle.lx_trees.specs.Siblings.{is_among, NoRepeats, names_without, names_with, previous_from, previous_in}
 use Rattle.lx_links.proofs.Detached.{is_among-filter}
 use Rattle.lx_edit_laws.proofs.WrapLists.{apart}
@@ -12,18 +11,15 @@ use Rattle.lx_list_laws.specs.Reading.{stand_first}
 
 pub filter-same : (s t : ℕ → Bool) (xs : List ℕ) → ((q : ℕ) → is_among q xs ≡ true → s q ≡ t q) → filter s xs ≡ filter t xs
 filter-same s t [] each = refl
-filter-same s t (x ∷ xs) each =
-    rw (each x (grind (arith, eqb_tells x x)), filter-same s t xs (λ q among. each q (grind (arith, among)))) refl
+filter-same s t (x ∷ xs) each = rw (each x (grind (arith, eqb_tells x x)), filter-same s t xs (λ q among. each q (grind (arith, among)))) refl
 
 any-same : (s t : ℕ → Bool) (xs : List ℕ) → ((q : ℕ) → is_among q xs ≡ true → s q ≡ t q) → list_any s xs ≡ list_any t xs
 any-same s t [] each = refl
-any-same s t (x ∷ xs) each =
-    rw (each x (grind (arith, eqb_tells x x)), any-same s t xs (λ q among. each q (grind (arith, among)))) refl
+any-same s t (x ∷ xs) each = rw (each x (grind (arith, eqb_tells x x)), any-same s t xs (λ q among. each q (grind (arith, among)))) refl
 
 pub all-same : (s t : ℕ → Bool) (xs : List ℕ) → ((q : ℕ) → is_among q xs ≡ true → s q ≡ t q) → list_all s xs ≡ list_all t xs
 all-same s t [] each = refl
-all-same s t (x ∷ xs) each =
-    rw (each x (grind (arith, eqb_tells x x)), all-same s t xs (λ q among. each q (grind (arith, among)))) refl
+all-same s t (x ∷ xs) each = rw (each x (grind (arith, eqb_tells x x)), all-same s t xs (λ q among. each q (grind (arith, among)))) refl
 
 pub first-same : (s t : ℕ → Bool) (xs : List ℕ) → ((q : ℕ) → is_among q xs ≡ true → s q ≡ t q) → stand_first s xs ≡ stand_first t xs
 first-same s t [] each = refl
@@ -58,13 +54,10 @@ any-without : (t : ℕ → Bool) (k : ℕ) (xs : List ℕ) → list_any t xs ≡
 any-without t k [] none = refl
 any-without t k (x ∷ xs) none = grind (arith, none, any-without t k xs)
 
-none-first : (t : ℕ → Bool) (ys : List ℕ) → list_any t ys ≡ false → stand_first t ys ≡ true
-none-first t [] none = refl
-none-first t (y ∷ ys) none = grind (arith, none)
-
 pub first-without : (t : ℕ → Bool) (k : ℕ) (xs : List ℕ) → stand_first t xs ≡ true → stand_first t (names_without k xs) ≡ true
 first-without t k [] first = refl
-first-without t k (x ∷ xs) first = grind (arith, first, first-without t k xs, any-without t k xs, none-first t (names_without k xs))
+first-without t k (x ∷ []) first = grind (arith, first)
+first-without t k (x ∷ y ∷ ys) first = grind (arith, first, first-without t k (y ∷ ys), any-without t k (y ∷ ys))
 
 -- where one comes before another, and neither passes it
 any-with : (t : ℕ → Bool) (n o : ℕ) (xs : List ℕ) → t n ≡ false → list_any t xs ≡ false → list_any t (names_with (Some o) (n ∷ []) xs) ≡ false
@@ -90,9 +83,7 @@ previous_beside : (x k m : ℕ) (xs : List ℕ) → previous_from (Some x) xs k 
 previous_beside x k m [] e = absurd (cc)
 previous_beside x k m (y ∷ ys) e =
     elim (eqb_tells y k) [
-      | inl own ↦
-          let first : Some x ≡ Some m = grind (arith, e, own.0) in
-          record { front = []; rest = ys; is = ap₂ (λ a b. a ∷ b ∷ ys) (same_Some x m first) own.1 }
+      | inl own ↦ record { front = []; rest = ys; is = grind (arith, e, own) }
       | inr other ↦ further x m k (y ∷ ys) (previous_beside y k m ys (grind (arith, e, other.0)))
     ]
 

@@ -1,10 +1,10 @@
 -- Lines that become paragraphs before their list: each paragraph has the inline children of its line.
-use Rattle.std.proofs.Common.{◌≡◌, ◌≢◌, ◌∙◌, ℕ, Bool, true, false, cond, eqb, not, ◌&&◌, List, [], ◌∷◌, ◌++◌, Option, None, Some, Ok, refl, sym, ap, ap₂, subst, arith, inl, inr}
+use Rattle.std.proofs.Common.{◌≡◌, ◌≢◌, ◌∙◌, ℕ, Bool, true, false, cond, eqb, not, ◌&&◌, List, [], ◌∷◌, ◌++◌, Some, Ok, refl, sym, ap, ap₂, subst, arith, inl, inr}
 use Rattle.std.specs.Prelude.{is_some}
 use Rattle.std.specs.List.{filter}
 use Rattle.std.proofs.lemmas.Bool.Decides.{eqb_tells}
 use Rattle.lx_trees.specs.Siblings.{is_among, NoRepeats, names_with}
-use Rattle.lx_node.specs.Kinds.{may_hold, is_inline, is_item, is_link, is_text}
+use Rattle.lx_node.specs.Kinds.{may_hold, is_inline, is_item, is_text}
 use Rattle.lx_node.specs.Plain.{plain_element}
 use Rattle.lx_node.specs.declared.kind.Kind.{Kind}
 use Rattle.lx_node.specs.declared.kind.Kind.TheVariants as kinds
@@ -28,6 +28,7 @@ use Rattle.lx_edit.proofs.Climbed.{first_part}
 use Rattle.lx_edit.proofs.Paths.{from_, points, every, put_before_path, moved_to_end_path}
 use Rattle.lx_blocks.specs.Blocks.{passes, is_at}
 use Rattle.lx_list.specs.Dissolving.{emptied_into, paragraph_made}
+use Rattle.lx_list.proofs.Itemless.{there_at}
 use Rattle.lx_edit_laws.specs.Reading.{read_below}
 use Rattle.lx_edit_laws.proofs.Reading.{reads_of, reads-same, read-level, absent, reads_known, kind_known}
 use Rattle.lx_edit_laws.proofs.WrapTrees.{not_child}
@@ -53,33 +54,15 @@ abbrev pub said : Forest → List ℕ → List ℕ
 said f [] = []
 said f (l ∷ ls) = reads_of f (inlines f l) ++ said f ls
 
-pub second : (a b : Bool) → (a && b) ≡ true → b ≡ true
-second true b e = e
-second false b e = absurd (cc)
-
 pub among_inlines : (f : Forest) (k q : ℕ) → is_among q (inlines f k) ≡ true → is_at is_inline f q ≡ true
-among_inlines f k q among = second (is_among q (children_of f k)) (is_at is_inline f q) (sym (is_among-filter (is_at is_inline f) q (children_of f k)) ∙ among)
+among_inlines f k q among = grind (arith, is_among-filter (is_at is_inline f) q (children_of f k), among)
 
 -- ---- what is in an inline node is inline
 
 inline_holds : (outer inner : Kind) → is_inline outer ≡ true → may_hold outer inner ≡ true → is_inline inner ≡ true
 unfolding is_inline may_hold
-inline_holds kinds.Link inner is h = by_test (is_inline inner) (is_link inner) h where
-  by_test : (a b : Bool) → (a && not b) ≡ true → a ≡ true
-  by_test true b e = refl
-  by_test false b e = absurd (cc)
-inline_holds kinds.Text inner is h = absurd (cc)
-inline_holds kinds.Tab inner is h = absurd (cc)
-inline_holds kinds.Break inner is h = absurd (cc)
-inline_holds kinds.Embed inner is h = absurd (cc)
+inline_holds kinds.Link inner is h = grind (arith, h)
 inline_holds outer inner is h = absurd (cc)
-
--- what is there is of a kind, and what is of a kind is there
-pub at_there : (test : Kind → Bool) (f : Forest) (q : ℕ) → is_at test f q ≡ true → has q f ≡ true
-at_there test f q is = by_kind (kind_of f q) refl where
-  by_kind : (o : Option Kind) → kind_of f q ≡ o → has q f ≡ true
-  by_kind None none = let bad : false ≡ true = sym (ap (passes test) none) ∙ is in absurd (cc)
-  by_kind (Some kind) some = sym (is_some-kind_of f q) ∙ ap is_some some
 
 -- what is so of two kinds of which the first may hold the second is so of a parent's kind and a child's
 pub both_kinds : (P : Kind → Kind → Type 0) (f : Forest) (q p : ℕ) → IsHeld may_hold f → parent_of f q ≡ Some p → ((outer inner : Kind) → kind_of f p ≡ Some outer → kind_of f q ≡ Some inner → may_hold outer inner ≡ true → P outer inner)
@@ -99,25 +82,14 @@ pub inline_read : (f g : Forest) → AreTold f g → IsHeld may_hold f → ((q :
 inline_read f g t held same q is =
     let skip : ℕ → Bool = λ c. not (is_at is_inline f c) in
     reads_told f g skip t (λ b clear k.
-    let here : is_at is_inline f b ≡ true = not_not (is_at is_inline f b) clear in
-    ap (reads_of g) (same b here) ∙ reads_known f g skip b t.before k (λ c up. ap not (inline_below f c b held up here))) q (ap not is) where
-      not_not : (b : Bool) → not b ≡ false → b ≡ true
-      not_not true e = refl
-      not_not false e = absurd (cc)
+    let here : is_at is_inline f b ≡ true = grind (arith, clear) in
+    ap (reads_of g) (same b here) ∙ reads_known f g skip b t.before k (λ c up. ap not (inline_below f c b held up here))) q (ap not is)
 
 -- ---- one line
 
-paragraph_silent : is_text Paragraph ≡ false
-unfolding is_text
-paragraph_silent = refl
-
-paragraph_not_inline : is_inline Paragraph ≡ false
-unfolding is_inline
-paragraph_not_inline = refl
-
-paragraph_no_item : is_item Paragraph ≡ false
-unfolding is_item
-paragraph_no_item = refl
+paragraph_kind : (is_text Paragraph ≡ false) × (is_inline Paragraph ≡ false) × (is_item Paragraph ≡ false)
+unfolding is_text is_inline is_item
+paragraph_kind = (refl, refl, refl)
 
 -- a paragraph n came before the list with the inline children of a line
 record IsSaid (f g : Forest) (p list line n : ℕ) : Type 0 where
@@ -133,36 +105,12 @@ record IsSaid (f g : Forest) (p list line n : ℕ) : Type 0 where
 
 -- a new paragraph among the children of p took what was in the line
 module _ (f u g : Forest) (p list line n : ℕ) (c : CameNew f u n p (Some list)) (here : has line f ≡ true) (apart : eqb line p ≡ false) (up : parent_of f list ≡ Some p)
-    (inline : (q : ℕ) → is_at is_inline u q ≡ is_at is_inline f q) (o : WentOver u g line n (inlines u line)) where
+    (inline : (q : ℕ) → is_at is_inline u q ≡ is_at is_inline f q) (item : (q : ℕ) → is_at is_item u q ≡ is_at is_item f q) (o : WentOver u g line n (inlines u line)) where
   kept : (q : ℕ) → eqb q p ≡ false → children_of u q ≡ children_of f q
   kept = came_elsewhere f u n p (Some list) c
 
   not_new : (q : ℕ) → has q f ≡ true → eqb q n ≡ false
   not_new q there = grind (arith, there, c.free, eqb_tells q n)
-
-  parent_there : has p f ≡ true
-  parent_there = has-parent_of f list p up
-
-  is_filled : children_of g n ≡ inlines f line
-  is_filled =
-      o.there
-      ∙ ap (λ ks. ks ++ inlines u line) (came_empty f u n p (Some list) c)
-      ∙ ap (filter (is_at is_inline u)) (kept line apart)
-      ∙ filter-same (is_at is_inline u) (is_at is_inline f) (children_of f line) (λ q among. inline q)
-
-  is_left : children_of g line ≡ rest_of f line
-  is_left =
-      o.left ∙ filter-others (is_at is_inline u) (children_of u line)
-      ∙ ap (filter (λ q. not (is_at is_inline u q))) (kept line apart)
-      ∙ filter-same (λ q. not (is_at is_inline u q)) (λ q. not (is_at is_inline f q)) (children_of f line) (λ q among. ap not (inline q))
-
-  is_here : children_of g p ≡ names_with (Some list) (n ∷ []) (children_of f p)
-  is_here =
-      o.others p (λ e. absurd (grind (arith, e, apart, eqb_tells line p))) (λ e. absurd (grind (arith, e, c.other, eqb_tells n p)))
-      ∙ came_here f u n p (Some list) c
-
-  is_other : (q : ℕ) → eqb q p ≡ false → eqb q n ≡ false → eqb q line ≡ false → children_of g q ≡ children_of f q
-  is_other q x y z = o.others q (λ e. absurd (grind (arith, e, z, eqb_tells q line))) (λ e. absurd (grind (arith, e, y, eqb_tells q n))) ∙ kept q x
 
   is_up : parent_of g list ≡ parent_of f list
   is_up =
@@ -170,6 +118,23 @@ module _ (f u g : Forest) (p list line n : ℕ) (c : CameNew f u n p (Some list)
       let stays : is_among list (children_of u line) ≡ false = not_child u list p line c.told.behind (before ∙ up) (λ e. absurd (grind (arith, e, apart, eqb_tells line p))) in
       let none : is_among list (inlines u line) ≡ false = is_among-filter (is_at is_inline u) list (children_of u line) ∙ ap (λ t. t && is_at is_inline u list) stays in
       o.up list ∙ ap (λ t. cond t (Some n) (parent_of u list)) none ∙ before
+
+  said_now : IsSaid f g p list line n
+  said_now =
+      let t = told_over u g line n (inlines u line) c.told.behind o in
+      record {
+        told = record { before = c.told.before; behind = t.behind; texts = λ q. t.texts q ∙ c.told.texts q };
+        free = c.free;
+        inline = λ q. kinds_went is_inline u g line n (inlines u line) o q ∙ inline q;
+        item = λ q. kinds_went is_item u g line n (inlines u line) o q ∙ item q;
+        here = o.others p (λ e. absurd (grind (arith, e, apart, eqb_tells line p))) (λ e. absurd (grind (arith, e, c.other, eqb_tells n p))) ∙ came_here f u n p (Some list) c;
+        filled = o.there ∙ ap (λ ks. ks ++ inlines u line) (came_empty f u n p (Some list) c) ∙ ap (filter (is_at is_inline u)) (kept line apart)
+            ∙ filter-same (is_at is_inline u) (is_at is_inline f) (children_of f line) (λ q among. inline q);
+        left = o.left ∙ filter-others (is_at is_inline u) (children_of u line) ∙ ap (filter (λ q. not (is_at is_inline u q))) (kept line apart)
+            ∙ filter-same (λ q. not (is_at is_inline u q)) (λ q. not (is_at is_inline f q)) (children_of f line) (λ q among. ap not (inline q));
+        others = λ q x y z. o.others q (λ e. absurd (grind (arith, e, z, eqb_tells q line))) (λ e. absurd (grind (arith, e, y, eqb_tells q n))) ∙ kept q x;
+        up = is_up;
+      }
 
 pub sound_paragraph : (list line : ℕ) (w v : Working) → IsSound w → paragraph_made list line w ≡ Ok v → StaysSound w v
 unfolding paragraph_made emptied_into
@@ -193,31 +158,17 @@ is_said p list line w v s up there apart e =
     let n : ℕ = w.next_key in
     let a = first_part (new_step Paragraph plain_element w) (λ o. after (put_before_step n list o) (emptied_into n line)) v e in
     let b = first_part (put_before_step n list a.0) (emptied_into n line) v a.2 in
-    let born = born_at Paragraph plain_element w a.0 b.0 list p s paragraph_silent up a.1 b.1 in
+    let born = born_at Paragraph plain_element w a.0 b.0 list p s paragraph_kind.0 up a.1 b.1 in
     let c = born.came in
     let u : Forest = b.0.forest in
-    let inline : (q : ℕ) → is_at is_inline u q ≡ is_at is_inline f q = λ q. kinds_born is_inline w b.0 Paragraph p (Some list) born paragraph_not_inline q in
-    let item : (q : ℕ) → is_at is_item u q ≡ is_at is_item f q = λ q. kinds_born is_item w b.0 Paragraph p (Some list) born paragraph_no_item q in
+    let inline : (q : ℕ) → is_at is_inline u q ≡ is_at is_inline f q = λ q. kinds_born is_inline w b.0 Paragraph p (Some list) born paragraph_kind.1 q in
+    let item : (q : ℕ) → is_at is_item u q ≡ is_at is_item f q = λ q. kinds_born is_item w b.0 Paragraph p (Some list) born paragraph_kind.2 q in
     let two : line ≢ n = λ same. absurd (grind (arith, same, there, c.free)) in
     let h : IsForest u = c.told.behind in
     let o : WentOver u v.forest line n (inlines u line) =
     went_over line n (inlines u line) (pointed (moved_to line (element_point n 0)) b.0) v h two (NoRepeats-filter (is_at is_inline u) (children_of u line) (NoRepeats-children_of u line h))
-    (λ q among. parent_here u line q h (first (is_among q (children_of u line)) (is_at is_inline u q) (sym (is_among-filter (is_at is_inline u) q (children_of u line)) ∙ among))) b.2 in
-    let t = told_over u v.forest line n (inlines u line) h o in
-    record {
-      told = record { before = c.told.before; behind = t.behind; texts = λ q. t.texts q ∙ c.told.texts q };
-      free = c.free;
-      inline = λ q. kinds_went is_inline u v.forest line n (inlines u line) o q ∙ inline q;
-      item = λ q. kinds_went is_item u v.forest line n (inlines u line) o q ∙ item q;
-      here = is_here f u v.forest p list line n c there apart up inline o;
-      filled = is_filled f u v.forest p list line n c there apart up inline o;
-      left = is_left f u v.forest p list line n c there apart up inline o;
-      others = is_other f u v.forest p list line n c there apart up inline o;
-      up = is_up f u v.forest p list line n c there apart up inline o;
-    } where
-      first : (a b : Bool) → (a && b) ≡ true → a ≡ true
-      first true b e = refl
-      first false b e = absurd (cc)
+    (λ q among. parent_here u line q h (grind (arith, is_among-filter (is_at is_inline u) q (children_of u line), among))) b.2 in
+    said_now f u v.forest p list line n c there apart up inline item o
 
 -- ---- one line after another
 
@@ -270,7 +221,7 @@ module _ (f x g : Forest) (p list line n : ℕ) (ls : List ℕ) (held : IsHeld m
   later_still q among = still q (m.there q (among_later q among)) (m.apart q (among_later q among)) (grind (arith, among, m.once.0, eqb_tells q line))
 
   inline_first : (q : ℕ) → is_at is_inline f q ≡ true → read_below x q ≡ read_below f q
-  inline_first = inline_read f x one.told held (λ q is. still q (at_there is_inline f q is) (grind (arith, is, m.place, eqb_tells q p)) (grind (arith, is, m.block line among_first, eqb_tells q line)))
+  inline_first = inline_read f x one.told held (λ q is. still q (there_at is_inline f q is) (grind (arith, is, m.place, eqb_tells q p)) (grind (arith, is, m.block line among_first, eqb_tells q line)))
 
   may_go_on : MaySay x p list ls
   may_go_on = record {
@@ -296,7 +247,7 @@ module _ (f x g : Forest) (p list line n : ℕ) (ls : List ℕ) (held : IsHeld m
   goes_on : AreSaid x g p list ls → AreSaid f g p list (line ∷ ls)
   goes_on rest =
       let not_p : eqb n p ≡ false = grind (arith, new_up, parent_of-self x n one.told.behind, eqb_tells n p) in
-      let not_later : is_among n ls ≡ false = none_later (is_among n ls) refl in
+      let not_later : is_among n ls ≡ false = grind (arith, one.free, m.there n) in
       let both : (q : ℕ) → is_at is_inline f q ≡ true → read_below g q ≡ read_below f q = λ q is. rest.reads q (one.inline q ∙ is) ∙ inline_first q is in
       let first : read_below g n ≡ reads_of f (inlines f line) =
       read-level g n rest.told.behind
@@ -320,10 +271,7 @@ module _ (f x g : Forest) (p list line n : ℕ) (ls : List ℕ) (held : IsHeld m
         others = λ q there other away.
             rest.others q (stays q there) other (grind (arith, away)) ∙ still q there other (grind (arith, away, eqb_tells q line, eqb_tells line q));
         reads = both;
-      } where
-        none_later : (b : Bool) → is_among n ls ≡ b → is_among n ls ≡ false
-        none_later true is = absurd (grind (arith, one.free, m.there n (among_later n is)))
-        none_later false is = is
+      }
 
 pub are_said : (p list : ℕ) (ls : List ℕ) (w v : Working) → IsSound w → MaySay w.forest p list ls → in_turn (paragraph_made list) ls w ≡ Ok v → AreSaid w.forest v.forest p list ls × StaysSound w v
 unfolding in_turn

@@ -1,20 +1,19 @@
 -- Each edit leaves a draft in which every node holds what it may, and every node that was there with its kind.
-use Rattle.std.proofs.Common.{◌≡◌, ◌∙◌, ℕ, ◌≤◌, Bool, true, false, cond, List, length, Option, None, Some, Ok, refl, sym, ap, subst, arith}
+use Rattle.std.proofs.Common.{◌≡◌, ◌∙◌, ℕ, ◌≤◌, true, false, List, length, Option, None, Some, Ok, refl, sym, ap, subst, arith}
 use Rattle.std.specs.Prelude.{slice_get}
 use Rattle.std.specs.Option.{option_or}
 use Rattle.lx_node.specs.Kinds.{may_hold}
 use Rattle.lx_node.specs.Strings.{characters_of}
 use Rattle.lx_node.specs.declared.kind.Kind.{Kind}
 use Rattle.lx_node.specs.declared.fields.Fields.{Fields}
-use Rattle.lx_node.specs.declared.cause.Cause.TheVariants.{WrongKind}
 use Rattle.lx_forest.specs.Forest.{Forest}
 use Rattle.lx_forest.specs.Lookups.{has, label_of, kind_of, children_of, holds, IsForest, IsHeld}
 use Rattle.lx_forest.specs.Edits.{with_new, with_fields}
 use Rattle.lx_forest.proofs.Held.{IsHeld-with_new, IsHeld-with_fields, IsHeld-take_out, IsHeld-put_in}
-use Rattle.lx_links.specs.Faults.{unknown, misfit, bound_to, set_fault}
+use Rattle.lx_links.specs.Faults.{misfit, set_fault}
 use Rattle.lx_draft.specs.Working.{Working}
 use Rattle.lx_draft.specs.Covering.{KindsStay, AreCovered}
-use Rattle.lx_draft.specs.Faults.{over_counts, over_limits, put_fault, beyond, splice_fault}
+use Rattle.lx_draft.specs.Faults.{over_counts, over_limits, put_fault, splice_fault}
 use Rattle.lx_draft.specs.Steps.{made, new_step, fields_written, set_points, set_step, splice_points, label_with_piece, splice_step, take_step, node_placed, put_step}
 use Rattle.lx_draft.proofs.Covered.{answered}
 use Rattle.lx_draft.proofs.CoveredSteps.{covered-new, covered-set, covered-splice, covered-take, covered-put}
@@ -87,19 +86,11 @@ sound_take k w v s e =
     by_covered w v (covered-take k w v s.ready e) (subst (IsHeld may_hold) (sym (taken-forest k w v e)) (IsHeld-take_out may_hold w.forest s.ready.in_order s.held k))
 
 misfit_holds : (outer inner : Option Kind) → misfit outer inner ≡ None → holds may_hold outer inner ≡ true
-misfit_holds (Some a) (Some b) e = by_test (may_hold a b) e where
-  by_test : (t : Bool) → cond t None (Some (WrongKind b)) ≡ None → t ≡ true
-  by_test true e = refl
-  by_test false e = absurd (cc)
-misfit_holds None inner e = refl
-misfit_holds (Some a) None e = refl
+misfit_holds (Some a) (Some b) e = grind (arith, e)
+misfit_holds outer inner e = refl
 
 put_fits : (f : Forest) (k p index : ℕ) → put_fault k p index f ≡ None → holds may_hold (kind_of f p) (kind_of f k) ≡ true
-put_fits f k p index e =
-    let a = both_none (unknown f k) (option_or (unknown f p) (option_or (bound_to f p k) (option_or (misfit (kind_of f p) (kind_of f k)) (beyond f p index)))) e in
-    let b = both_none (unknown f p) (option_or (bound_to f p k) (option_or (misfit (kind_of f p) (kind_of f k)) (beyond f p index))) a.1 in
-    let c = both_none (bound_to f p k) (option_or (misfit (kind_of f p) (kind_of f k)) (beyond f p index)) b.1 in
-    misfit_holds (kind_of f p) (kind_of f k) (both_none (misfit (kind_of f p) (kind_of f k)) (beyond f p index) c.1).0
+put_fits f k p index e = misfit_holds (kind_of f p) (kind_of f k) (grind (arith, e))
 
 sound_put : (k p index : ℕ) (w v : Working) → IsSound w → put_step k p index w ≡ Ok v → StaysSound w v
 unfolding put_step
