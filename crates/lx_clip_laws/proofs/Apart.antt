@@ -1,13 +1,11 @@
 -- What nodes that are read make where they stand below nothing: the trees that are described.
-use Rattle.std.proofs.Common.{◌≡◌, ◌∙◌, ◌+◌, ◌<◌, ℕ, Bool, true, false, cond, eqb, ◌||◌, [], ◌∷◌, Option, None, Some, Result, Ok, refl, ap, sym, subst, arith, if◌then◌else◌}
+use Rattle.std.proofs.Common.{◌≡◌, ◌∙◌, ◌+◌, ◌<◌, ℕ, Bool, true, false, cond, eqb, ◌||◌, ◌∷◌, Option, None, Result, refl, ap, sym, subst, arith}
 use Rattle.std.specs.Option.{option_or}
 use Rattle.std.proofs.lemmas.Bool.Decides.{eqb_tells, nat_tests}
-use Rattle.serde_json.specs.Data.{Data, null, boolean, number, string, array, object, Items, no_items, item}
 use Rattle.lx_trees.specs.Trees.{Trees, nil, tree, joined}
 use Rattle.lx_trees.specs.NamedTrees.{total}
 use Rattle.lx_trees.specs.Siblings.{is_among}
 use Rattle.lx_trees.specs.Spots.{Spot, parent_at}
-use Rattle.lx_node.specs.Kinds.{is_element}
 use Rattle.lx_trees.proofs.NamedTrees.{put_below-absent}
 use Rattle.lx_trees.proofs.Spots.{spot_below-absent}
 use Rattle.lx_node.specs.declared.kind.Kind.{Kind}
@@ -24,11 +22,14 @@ use Rattle.lx_draft.specs.Faults.{after}
 use Rattle.lx_draft.specs.Steps.{new_step}
 use Rattle.lx_draft.specs.Covering.{IsReady, AreCovered}
 use Rattle.lx_draft.proofs.Covered.{covered-self, covered-then}
-use Rattle.lx_json.specs.Reading.{Piece, told_under, child_place, piece_of, with_tree, if_element, tree_of, children_in, trees_of}
+use Rattle.lx_json.specs.Reading.{Piece, told_under}
+use Rattle.lx_json.specs.Exporting.{trees_data}
+use Rattle.lx_json.specs.Back.{pieces_of}
 use Rattle.lx_json.specs.Importing.{label_for, keyed}
-use Rattle.lx_json.specs.Nodes.{put_below as put_where, node_new, made_with, node_made, children_made, Made, index_place, with_first, nodes_made}
+use Rattle.lx_json.specs.Nodes.{put_below as put_where, node_made, Made, index_place, with_first, nodes_made}
 use Rattle.lx_json.proofs.Grown.{keyed-low}
-use Rattle.lx_clip_laws.proofs.Growing.{Makes, makes_after, makes_as, makes_under, AreFit, Grows, IsNew, new_made, own_key, kind_new, next_free, one_told, lone_node, parted, MakesTold, children_make, by_piece, members_make}
+use Rattle.lx_clip_laws.proofs.Growing.{Makes, makes_after, makes_under, Grows, IsNew, new_made, own_key, kind_new, next_free, piece_in, data_of, node_makes, trees_make}
+use Rattle.lx_clip_laws.proofs.Kept.{AreGood}
 
 -- ---- a tree among the first ones
 
@@ -62,33 +63,19 @@ comes_below piece below w u v ready a b =
       covered = covered-then w u v a.covered b.covered;
     }
 
-piece_comes : (above : Kind) (piece : Piece) (told : Result (Trees Piece) Cause) (children : Working → Result Working Cause) (trees : Trees Piece) (w : Working) → IsReady w → AreFit above trees
-    → with_tree piece (if_element piece.kind told) ≡ Ok trees → MakesTold w.next_key piece.kind told children → Makes (Comes trees w) (made_with piece None children w)
-piece_comes above piece told children trees w ready fit e make =
-    let one = one_told piece told trees e in
-    let fits : AreFit above (tree piece one.below nil) = subst (AreFit above) (sym one.one) fit in
-    subst (λ t. Makes (Comes t w) (made_with piece None children w)) one.one
-    (makes_after (IsNew piece w) (Comes (tree piece one.below nil) w) (node_new piece None w) (λ u. if is_element piece.kind then children u else Ok u) (apart piece w ready) (λ u a.
-    makes_as (Grows w.next_key one.below u) (Comes (tree piece one.below nil) w) (if is_element piece.kind then children u else Ok u)
-    (children_make w.next_key piece.kind told children one.below u make one.are fits.1 (record { ready = a.covered.ready; kind_is = kind_new piece w u ready a }))
-    (λ v b. comes_below piece one.below w u v ready a b)))
-  where
-    apart : (piece : Piece) (w : Working) → IsReady w → Makes (IsNew piece w) (node_new piece None w)
-    apart piece w ready = makes_after (IsNew piece w) (IsNew piece w) (new_step piece.kind piece.fields w) (λ u. put_where None w.next_key u) (new_made piece w ready) (λ u new. new)
-
-node_comes : (d : Data) (above : Kind) (trees : Trees Piece) (w : Working) → tree_of d (Some above) ≡ Ok trees → AreFit above trees → IsReady w → Makes (Comes trees w) (node_made d above None w)
-unfolding node_made tree_of
-node_comes (object ms) above trees w e fit ready =
-    by_piece (Comes trees w) trees (piece_of (Some above) (object ms)) (λ piece. with_tree piece (if_element piece.kind (children_in ms piece.kind))) (λ piece. made_with piece None (children_made ms piece.kind w.next_key) w)
-    (λ piece one. piece_comes above piece (children_in ms piece.kind) (children_made ms piece.kind w.next_key) trees w ready fit one
-    (λ t u told fits holds. members_make ms piece.kind w.next_key t u told fits holds)) e
-node_comes null above trees w e fit ready = absurd (cc)
-node_comes (boolean b) above trees w e fit ready = absurd (cc)
-node_comes (number n) above trees w e fit ready = absurd (cc)
-node_comes (string text) above trees w e fit ready = absurd (cc)
-node_comes (array ds) above trees w e fit ready = absurd (cc)
+node_comes : (kind : Kind) (l : Label) (below : Forest) (w : Working) → AreGood kind (tree l below nil) → IsReady w → Makes (Comes (pieces_of (tree l below nil)) w) (node_made (data_of l below) kind None w)
+node_comes kind l below w good ready =
+    let piece : Piece = piece_in l in
+    node_makes (IsNew piece w) (Comes (pieces_of (tree l below nil)) w) None kind l below w good (λ x holds. trees_make below 0 l.kind w.next_key x good.2 holds)
+    (makes_after (IsNew piece w) (IsNew piece w) (new_step l.kind l.fields w) (λ u. put_where None w.next_key u) (new_made piece w ready) (λ u new. new))
+    (λ u a. record { ready = a.covered.ready; kind_is = kind_new piece w u ready a }) (λ u v a b. comes_below piece (pieces_of below) w u v ready a b)
 
 -- ---- one after another
+
+-- a node that is there, below nothing
+pub record IsTop (k : ℕ) (f : Forest) : Type 0 where
+  pub there : has k f ≡ true
+  pub top : parent_of f k ≡ None
 
 -- These trees were made, with the new nodes of these keys on top and below nothing. What there was before is as it was.
 pub record AreMade (trees : Trees Piece) (w : Working) (made : Made) : Type 0 where
@@ -96,8 +83,7 @@ pub record AreMade (trees : Trees Piece) (w : Working) (made : Made) : Type 0 wh
   pub next : made.draft.next_key ≡ w.next_key + total trees
   pub stays : (q : ℕ) → q < w.next_key → alone q made.draft.forest ≡ alone q w.forest
   pub parents : (q : ℕ) → q < w.next_key → parent_of made.draft.forest q ≡ parent_of w.forest q
-  pub there : (k : ℕ) → is_among k made.keys ≡ true → has k made.draft.forest ≡ true
-  pub tops : (k : ℕ) → is_among k made.keys ≡ true → parent_of made.draft.forest k ≡ None
+  pub tops : (k : ℕ) → is_among k made.keys ≡ true → IsTop k made.draft.forest
   pub covered : AreCovered w made.draft
 
 comes-own : (piece : Piece) (below : Trees Piece) (w v : Working) → IsReady w → Comes (tree piece below nil) w v → alone w.next_key v.forest ≡ keyed w.next_key (tree piece below nil)
@@ -134,14 +120,6 @@ comes-top piece below w v ready a =
 first_there : (n : ℕ) (piece : Piece) (below : Forest) → has n (tree (label_for n piece) below nil) ≡ true
 first_there n piece below = grind (arith, nat_tests, eqb_tells n n)
 
-same_key : (n k : ℕ) → eqb n k ≡ true → n ≡ k
-same_key n k is = grind (arith, is, eqb_tells n k)
-
-made_there : (piece : Piece) (below rest : Trees Piece) (w v : Working) (made : Made) → IsReady w → Comes (tree piece below nil) w v → AreMade rest v made → has w.next_key made.draft.forest ≡ true
-made_there piece below rest w v made ready a b =
-    let n : ℕ = w.next_key in
-    sym (is_within-self made.draft.forest n) ∙ ap (has n) (b.stays n (omega (arith, a.next)) ∙ comes-own piece below w v ready a) ∙ first_there n piece (keyed (n + 1) below)
-
 made_then : (piece : Piece) (below rest : Trees Piece) (w v : Working) (made : Made) → IsReady w → Comes (tree piece below nil) w v → AreMade rest v made
     → AreMade (tree piece below rest) w (record { draft = made.draft; keys = w.next_key ∷ made.keys })
 made_then piece below rest w v made ready a b =
@@ -154,33 +132,31 @@ made_then piece below rest w v made ready a b =
       next = omega (arith, next, b.next);
       stays = λ q low. b.stays q (omega (arith, low, next)) ∙ comes-stays (tree piece below nil) w v q a low;
       parents = λ q low. b.parents q (omega (arith, low, next)) ∙ comes-parents (tree piece below nil) w v q ready a low;
-      there = λ k among. either k (eqb n k) refl among;
       tops = λ k among. top k (eqb n k) refl among;
       covered = covered-then w v made.draft a.covered b.covered;
     }
   where
-    either : (k : ℕ) (t : Bool) → eqb w.next_key k ≡ t → is_among k (w.next_key ∷ made.keys) ≡ true → has k made.draft.forest ≡ true
-    either k true is among = subst (λ q. has q made.draft.forest ≡ true) (same_key w.next_key k is) (made_there piece below rest w v made ready a b)
-    either k false is among = b.there k (ap (λ t. t || is_among k made.keys) (sym is) ∙ among)
+    first : IsTop w.next_key made.draft.forest
+    first =
+        let low : w.next_key < v.next_key = omega (arith, a.next) in
+        record {
+          there = sym (is_within-self made.draft.forest w.next_key) ∙ ap (has w.next_key) (b.stays w.next_key low ∙ comes-own piece below w v ready a) ∙ first_there w.next_key piece (keyed (w.next_key + 1) below);
+          top = b.parents w.next_key low ∙ comes-top piece below w v ready a;
+        }
 
-    top : (k : ℕ) (t : Bool) → eqb w.next_key k ≡ t → is_among k (w.next_key ∷ made.keys) ≡ true → parent_of made.draft.forest k ≡ None
-    top k true is among =
-        subst (λ q. parent_of made.draft.forest q ≡ None) (same_key w.next_key k is)
-        (b.parents w.next_key (omega (arith, a.next)) ∙ comes-top piece below w v ready a)
+    top : (k : ℕ) (t : Bool) → eqb w.next_key k ≡ t → is_among k (w.next_key ∷ made.keys) ≡ true → IsTop k made.draft.forest
+    top k true is among = let same : w.next_key ≡ k = grind (arith, is, eqb_tells w.next_key k) in subst (λ q. IsTop q made.draft.forest) same first
     top k false is among = b.tops k (ap (λ t. t || is_among k made.keys) (sym is) ∙ among)
 
-pub nodes_make : (ds : Items) (i j : ℕ) (kind : Kind) (t : Trees Piece) (w : Working) → trees_of ds j kind ≡ Ok t → AreFit kind t → IsReady w → Makes (AreMade t w) (nodes_made ds i kind w)
-unfolding nodes_made trees_of
-nodes_make no_items i j kind t w e fit ready =
-    subst (λ t. AreMade t w (record { draft = w; keys = [] })) (let same : nil ≡ t = cc in same)
-    (record { are = refl; next = omega arith; stays = λ q low. refl; parents = λ q low. refl; there = λ k among. absurd (cc); tops = λ k among. absurd (cc); covered = covered-self w ready })
-nodes_make (item d ds) i j kind t w e fit ready =
-    let parts = parted (child_place j) (tree_of d (Some kind)) (trees_of ds (j + 1) kind) t (lone_node d kind) e in
-    let one : Trees Piece = tree parts.piece parts.below nil in
-    let all : Trees Piece = tree parts.piece parts.below parts.rest in
-    let fits : AreFit kind all = subst (AreFit kind) (sym parts.all) fit in
-    subst (λ t. Makes (AreMade t w) (after (told_under (index_place i) (node_made d kind None w)) (λ v. after (nodes_made ds (i + 1) kind v) (with_first w.next_key)))) parts.all
-    (makes_after (Comes one w) (AreMade all w) (told_under (index_place i) (node_made d kind None w)) (λ v. after (nodes_made ds (i + 1) kind v) (with_first w.next_key))
-    (makes_under (Comes one w) (index_place i) (node_made d kind None w) (node_comes d kind one w parts.first_is (fits.0, fits.1, tt) ready)) (λ v a.
-    makes_after (AreMade parts.rest v) (AreMade all w) (nodes_made ds (i + 1) kind v) (with_first w.next_key) (nodes_make ds (i + 1) (j + 1) kind parts.rest v parts.others_are fits.2 a.covered.ready)
-    (λ made b. made_then parts.piece parts.below parts.rest w v made ready a b)))
+pub nodes_make : (c : Forest) (i : ℕ) (kind : Kind) (w : Working) → AreGood kind c → IsReady w → Makes (AreMade (pieces_of c) w) (nodes_made (trees_data c) i kind w)
+unfolding nodes_made trees_data
+nodes_make nil i kind w good ready =
+    record { are = refl; next = omega arith; stays = λ q low. refl; parents = λ q low. refl; tops = λ k among. absurd (cc); covered = covered-self w ready }
+nodes_make (tree l below rest) i kind w good ready =
+    let one : Trees Piece = pieces_of (tree l below nil) in
+    let all : Trees Piece = pieces_of (tree l below rest) in
+    let r : Result Working Cause = node_made (data_of l below) kind None w in
+    makes_after (Comes one w) (AreMade all w) (told_under (index_place i) r) (λ v. after (nodes_made (trees_data rest) (i + 1) kind v) (with_first w.next_key))
+    (makes_under (Comes one w) (index_place i) r (node_comes kind l below w (good.0, good.1, good.2, tt) ready)) (λ v a.
+    makes_after (AreMade (pieces_of rest) v) (AreMade all w) (nodes_made (trees_data rest) (i + 1) kind v) (with_first w.next_key) (nodes_make rest (i + 1) kind v good.3 a.covered.ready)
+    (λ made b. made_then (piece_in l) (pieces_of below) (pieces_of rest) w v made ready a b))

@@ -1,5 +1,5 @@
 -- What is covered of a document's trees may stand where it is read, and is given back by what is written for it.
-use Rattle.std.proofs.Common.{◌≡◌, ◌∙◌, ◌-◌, ℕ, Bool, true, false, cond, leb, ◌&&◌, not, List, [], ◌∷◌, Option, None, Some, Ok, refl, ap, sym, subst, arith}
+use Rattle.std.proofs.Common.{◌≡◌, ◌∙◌, ◌-◌, ℕ, Bool, true, false, cond, leb, ◌&&◌, not, List, [], ◌∷◌, Option, None, Some, refl, ap, sym, subst, arith}
 use Rattle.std.specs.Prelude.{find, unwrap_or}
 use Rattle.std.specs.Str.{all_scalars}
 use Rattle.std.proofs.lemmas.Str.{chars-encodes}
@@ -27,18 +27,12 @@ use Rattle.lx_blocks.specs.Ranges.{if_normal, shown_range, is_collapsed, start_o
 use Rattle.lx_fields.specs.Storable.{IsText, IsStorable, IsTextStorable}
 use Rattle.lx_fields.specs.Types.{kind_of_type}
 use Rattle.lx_fields.proofs.Exported.{type-there}
-use Rattle.lx_fields.proofs.ReadBack.{reads_back}
-use Rattle.lx_json.specs.Reading as reading
 use Rattle.lx_json.specs.Exporting.{trees_data}
-use Rattle.lx_json.specs.GivenBack.{AreGivenBack}
-use Rattle.lx_json.specs.Back.{pieces_of}
-use Rattle.lx_json.proofs.BackTrees.{trees-back}
 use Rattle.lx_clip.specs.Covers.{Extent, from_in, to_in, is_covered_text, cut_to, part_cover, is_nil, cover, covers, are_inline}
 use Rattle.lx_clip.specs.Slices.{extent, covers_below, common_block, frame_covers, if_inline, covers_in, covers_between, range_covers, covers_if, sliced}
 use Rattle.lx_clip.specs.Pasting.{is_inline_type, begins_inline, holder}
 use Rattle.lx_clip.proofs.Cut.{piece_suits}
 use Rattle.lx_clip_laws.specs.Copies.{is_scalar, IsStored, IsKept}
-use Rattle.lx_clip_laws.proofs.Growing.{AreFit}
 use Rattle.lx_clip_laws.proofs.Kept.{IsGood, AreGood, kept_below, none_below}
 
 -- ---- a piece of a text
@@ -235,29 +229,3 @@ slice_readable f s c kept e = by_range (shown_range s) e where
   by_range : (o : Option Ranged) → covers_if f o ≡ Some c → IsReadable c
   by_range None e = absurd (cc)
   by_range (Some r) e = range_readable f r c kept e
-
--- ---- what is written for them
-
-given_back : (parent : Kind) (c : Forest) → AreGood parent c → AreGivenBack c
-given_back parent nil good = tt
-given_back parent (tree l below rest) good = (
-  record { of_kind = good.1.of_kind; fields = reads_back l.kind l.fields (trees_data below) good.1.of_kind good.1.stored.storable },
-  given_back l.kind below good.2,
-  given_back parent rest good.3,
-)
-
--- the same trees, as what is read knows of them
-abbrev AreHeld : Kind → Forest → Type 0
-AreHeld parent nil = Unit {0}
-AreHeld parent (tree l below rest) = (may_hold parent l.kind ≡ true) × AreHeld l.kind below × AreHeld parent rest
-
-held : (parent : Kind) (c : Forest) → AreGood parent c → AreHeld parent c
-held parent nil good = tt
-held parent (tree l below rest) good = (good.0, held l.kind below good.2, held parent rest good.3)
-
-pub pieces_fit : (parent : Kind) (c : Forest) → AreGood parent c → AreFit parent (pieces_of c)
-pieces_fit parent nil good = tt
-pieces_fit parent (tree l below rest) good = (good.0, pieces_fit l.kind below good.2, pieces_fit parent rest good.3)
-
-pub written_back : (parent : Kind) (c : Forest) → AreGood parent c → reading.trees_of (trees_data c) 0 parent ≡ Ok (pieces_of c)
-written_back parent c good = trees-back parent 0 c (given_back parent c good) (held parent c good)

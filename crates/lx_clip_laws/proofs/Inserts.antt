@@ -46,7 +46,7 @@ AreSame keys w v = (k : ℕ) → is_among k keys ≡ true → alone k v.forest �
 
 inlines_same : (c : Forest) (w : Working) (made : Made) (p : Point) (v : Working) → AreMade (pieces_of c) w made → IsReady w → IsKnown w.forest p → placed_at true made.keys p 0 made.draft ≡ Ok v → AreSame made.keys made.draft v
 inlines_same c w made p v m ready known e =
-    added_same made.keys p made.draft v m.covered.ready (λ k among. (m.there k among, old_outside c w made k p.key m (key_low p.key w ready known) among)) e
+    added_same made.keys p made.draft v m.covered.ready (λ k among. ((m.tops k among).there, old_outside c w made k p.key m (key_low p.key w ready known) among)) e
 
 blocks_same : (c : Forest) (w : Working) (made : Made) (p : Point) (v : Working) (block : Option ℕ) → AreMade (pieces_of c) w made → IsReady w → IsKnown w.forest p → block_of made.draft.forest p.key ≡ block
     → blocks_added block p made.keys made.draft ≡ Ok v → AreSame made.keys made.draft v

@@ -76,7 +76,7 @@ pub inlines_pasted : (c : Forest) (w : Working) (made : Made) (p : Point) (v : W
 inlines_pasted c w made p v copied there e =
     let m = copied_made c w made copied in
     let low : p.key < w.next_key = key_low p.key w copied.ready there in
-    still_same c w made v copied (added_same made.keys p made.draft v m.covered.ready (λ k among. (m.there k among, old_outside c w made k p.key m low among)) e)
+    still_same c w made v copied (added_same made.keys p made.draft v m.covered.ready (λ k among. ((m.tops k among).there, old_outside c w made k p.key m low among)) e)
 
 -- what was there before is there, with what was read
 pub old_there : (c : Forest) (w : Working) (made : Made) (q : ℕ) → AreMade (pieces_of c) w made → IsReady w → has q w.forest ≡ true → has q made.draft.forest ≡ true
@@ -85,7 +85,7 @@ old_there c w made q m ready there = sym (is_within-self made.draft.forest q) �
 pub unplaced : (c : Forest) (w : Working) (made : Made) (block : ℕ) (p : Point) (k : ℕ) → AreMade (pieces_of c) w made → is_within made.draft.forest k block ≡ false → is_within made.draft.forest k p.key ≡ false → is_among k made.keys ≡ true
     → IsUnplaced k block p made.draft
 unplaced c w made block p k m not_block not_point among = record {
-  loose = record { ready = m.covered.ready; there = m.there k among; top = m.tops k among };
+  loose = record { ready = m.covered.ready; there = (m.tops k among).there; top = (m.tops k among).top };
   not_block = not_block;
   not_point = not_point;
 }

@@ -16,14 +16,14 @@ use Rattle.lx_clip.specs.Pasting.{begins_inline, placed, insert_step}
 use Rattle.lx_clip_laws.specs.Copies.{IsKept, slice_read, is_limit, IsReadBack, SlicesAreReadBack}
 use Rattle.lx_clip_laws.proofs.Growing.{Makes, makes_under, key_low}
 use Rattle.lx_clip_laws.proofs.Apart.{AreMade, nodes_make}
-use Rattle.lx_clip_laws.proofs.Covering.{slice_readable, pieces_fit, written_back}
+use Rattle.lx_clip_laws.proofs.Covering.{slice_readable}
 
 pub slice_makes : (f : Forest) (s : Selection) (c : Forest) (w : Working) → IsKept f → sliced f s ≡ Some c → IsReady w → Makes (AreMade (pieces_of c) w) (slice_read c w)
 unfolding nodes_read
 slice_makes f s c w kept is ready =
     let r = slice_readable f s c kept is in
     subst (λ kind. Makes (AreMade (pieces_of c) w) (nodes_read (codes "/nodes") (array (trees_data c)) kind w)) (sym r.holds)
-    (makes_under (AreMade (pieces_of c) w) (codes "/nodes") (nodes_made (trees_data c) 0 r.kind w) (nodes_make (trees_data c) 0 0 r.kind (pieces_of c) w (written_back r.kind c r.good) (pieces_fit r.kind c r.good) ready))
+    (makes_under (AreMade (pieces_of c) w) (codes "/nodes") (nodes_made (trees_data c) 0 r.kind w) (nodes_make c 0 r.kind w r.good ready))
 
 pub made_by : {A : Type 0} (P : A → Type 0) (r : Result A Cause) (a : A) → r ≡ Ok a → Makes P r → P a
 made_by P (Ok b) a e m = subst P (let same : b ≡ a = cc in same) m
