@@ -28,7 +28,8 @@ use Rattle.lx_clip_laws.specs.Between.{IsOutside, key_if, PastedStandBetween}
 use Rattle.lx_clip_laws.proofs.Between.{put_came, put_stands, is_child}
 use Rattle.lx_clip_laws.proofs.Pasted.{inlines_between, around_between, beyond_between}
 use Rattle.lx_clip_laws.proofs.Placing.{none_of}
-use Rattle.lx_clip_laws.proofs.Staying.{IsApart, Keeps, keeps, keeps_then, keeps_new}
+use Rattle.lx_clip_laws.proofs.Staying.{IsApart, Keeps, keeps, keeps_then, keeps_new, if_taken}
+use Rattle.lx_edit.proofs.Paths.{ok}
 
 -- ---- taken out, and put at an end
 
@@ -55,22 +56,13 @@ keeps_moved a n m w v apart out e =
     let x = keeps_take a n m w one.0 apart out one.1 in
     keeps_then a n w one.0 v x (keeps_end a n m (size_of (one.0).forest n) one.0 v x.apart one.2)
 
-same_ok : (a b : Working) → ◌≡◌ {A = Result Working Cause} (Ok a) (Ok b) → a ≡ b
-same_ok a b e = cc
-
 pub keeps_all : (ms : List ℕ) (a n : ℕ) (w v : Working) → IsApart a n w → ((m : ℕ) → is_among m ms ≡ true → is_within w.forest a m ≡ false) → in_turn (moved_to_end n) ms w ≡ Ok v → Keeps a n w v
 unfolding in_turn
-keeps_all [] a n w v apart out e = subst (Keeps a n w) (same_ok w v e) (record { same = refl; apart = apart })
+keeps_all [] a n w v apart out e = ok (Keeps a n) w w v (record { same = refl; apart = apart }) e
 keeps_all (m ∷ ms) a n w v apart out e =
     let one = first_part (moved_to_end n m w) (in_turn (moved_to_end n) ms) v e in
-    let x = keeps_moved a n m w one.0 apart (out m (first_among m ms)) one.1 in
-    keeps_then a n w one.0 v x (keeps_all ms a n one.0 v x.apart (λ q among. ap (has q) x.same ∙ out q (later m q ms among)) one.2)
-  where
-    first_among : (m : ℕ) (ms : List ℕ) → is_among m (m ∷ ms) ≡ true
-    first_among m ms = grind (arith, eqb_tells m m)
-
-    later : (m q : ℕ) (ms : List ℕ) → is_among q ms ≡ true → is_among q (m ∷ ms) ≡ true
-    later m q ms among = grind (arith, among)
+    let x = keeps_moved a n m w one.0 apart (out m (grind (arith, eqb_tells m m))) one.1 in
+    keeps_then a n w one.0 v x (keeps_all ms a n one.0 v x.apart (λ q among. ap (has q) x.same ∙ out q (grind (arith, among))) one.2)
 
 -- ---- the new block
 
@@ -81,15 +73,12 @@ nowhere f a n free = ap (λ m. ltb 0 m) (none (none_of n f free)) where
   none all = omega (arith, all, count-without-alone key_of n a f)
 
 pub keeps_like : (a : ℕ) (l : Option Label) (w v : Working) → IsApart a w.next_key w → new_like l w ≡ Ok v → Keeps a w.next_key w v
-keeps_like a None w v apart e = subst (Keeps a w.next_key w) (same_ok w v e) (record { same = refl; apart = apart })
+keeps_like a None w v apart e = ok (Keeps a w.next_key) w w v (record { same = refl; apart = apart }) e
 keeps_like a (Some l) w v apart e = keeps_new a w.next_key l.kind l.fields w v apart e
 
 tail_keeps : (a block : ℕ) (moved : List ℕ) (w : Working) (t : Tailed) → IsReady w → has a w.forest ≡ true → ((m : ℕ) → is_among m moved ≡ true → is_within w.forest a m ≡ false) → tail_made block moved w ≡ Ok t
     → alone a (t.draft).forest ≡ alone a w.forest
-tail_keeps a block [] w t ready there out e = ap (λ (x : Tailed). alone a (x.draft).forest) (same_tail t (record { draft = w; key = None }) e)
-  where
-    same_tail : (a b : Tailed) → ◌≡◌ {A = Result Tailed Cause} (Ok b) (Ok a) → a ≡ b
-    same_tail a b e = cc
+tail_keeps a block [] w t ready there out e = cc
 tail_keeps a block (k ∷ ks) w t ready there out e =
     let n : ℕ = w.next_key in
     let all : Working → Result Working Cause = in_turn (moved_to_end n) (k ∷ ks) in
@@ -99,52 +88,36 @@ tail_keeps a block (k ∷ ks) w t ready there out e =
     let apart : IsApart a n w = record { ready = ready; there = there; out = nowhere w.forest a n (ready.free n (omega arith)) } in
     let x = keeps_like a (label_of w.forest block) w one.0 apart one.1.0 in
     let y = keeps_all (k ∷ ks) a n one.0 two.0 x.apart (λ m among. ap (has m) x.same ∙ out m among) two.1.0 in
-    ap (λ (x : Tailed). alone a (x.draft).forest) (same_tail t (record { draft = two.0; key = Some n }) two.1.1) ∙ y.same ∙ x.same
-  where
-    same_tail : (a b : Tailed) → ◌≡◌ {A = Result Tailed Cause} (Ok b) (Ok a) → a ≡ b
-    same_tail a b e = cc
+    let same : alone a (two.0).forest ≡ alone a w.forest = y.same ∙ x.same in
+    let is = two.1.1 in
+    cc
 
 -- ---- the old block goes
 
 removed_keeps : (above : List ℕ) (a x : ℕ) (w v : Working) → IsForest w.forest → ((q : ℕ) → is_among q (x ∷ above) ≡ true → is_within w.forest a q ≡ false) → removed x above w ≡ Ok v → alone a v.forest ≡ alone a w.forest
-removed_keeps [] a x w v h out e = taken_here a x w v h (out x (first_in x [])) e where
-  first_in : (x : ℕ) (xs : List ℕ) → is_among x (x ∷ xs) ≡ true
-  first_in x xs = grind (arith, eqb_tells x x)
-
-  taken_here : (a x : ℕ) (w v : Working) → IsForest w.forest → is_within w.forest a x ≡ false → take_step x (sent_away x w) ≡ Ok v → alone a v.forest ≡ alone a w.forest
-  taken_here a x w v h off e = ap (alone a) (taken-forest x (sent_away x w) v e ∙ ap (take_out x) (sent_away-forest x w)) ∙ taken_apart a x w.forest h off
+removed_keeps [] a x w v h out e =
+    ap (alone a) (taken-forest x (sent_away x w) v e ∙ ap (take_out x) (sent_away-forest x w)) ∙ taken_apart a x w.forest h (out x (grind (arith, eqb_tells x x)))
 removed_keeps (p ∷ above) a x w v h out e =
     let next : Working → Result Working Cause = λ u. cond (goes_too (kind_of w.forest x) u.forest p) (removed p above u) (Ok u) in
     let one = first_part (take_step x (sent_away x w)) next v e in
     let forest : (one.0).forest ≡ take_out x w.forest = taken-forest x (sent_away x w) one.0 one.1 ∙ ap (take_out x) (sent_away-forest x w) in
-    let same : alone a (one.0).forest ≡ alone a w.forest = ap (alone a) forest ∙ taken_apart a x w.forest h (out x (first_in x (p ∷ above))) in
-    goes_on (goes_too (kind_of w.forest x) (one.0).forest p) one.0 v
-    (removed_keeps above a p one.0 v (subst IsForest (sym forest) (IsForest-take_out x w.forest h)) (λ q among. ap (has q) same ∙ out q (later x q (p ∷ above) among))) one.2
+    let same : alone a (one.0).forest ≡ alone a w.forest = ap (alone a) forest ∙ taken_apart a x w.forest h (out x (grind (arith, eqb_tells x x))) in
+    if_taken (λ w v. alone a v.forest ≡ alone a w.forest) (goes_too (kind_of w.forest x) (one.0).forest p) (removed p above one.0) one.0 v refl
+    (removed_keeps above a p one.0 v (subst IsForest (sym forest) (IsForest-take_out x w.forest h)) (λ q among. ap (has q) same ∙ out q (grind (arith, among)))) one.2
     ∙ same
-  where
-    first_in : (x : ℕ) (xs : List ℕ) → is_among x (x ∷ xs) ≡ true
-    first_in x xs = grind (arith, eqb_tells x x)
-
-    later : (x q : ℕ) (xs : List ℕ) → is_among q xs ≡ true → is_among q (x ∷ xs) ≡ true
-    later x q xs among = grind (arith, among)
-
-    goes_on : (b : Bool) (u v : Working) → (removed p above u ≡ Ok v → alone a v.forest ≡ alone a u.forest) → cond b (removed p above u) (Ok u) ≡ Ok v → alone a v.forest ≡ alone a u.forest
-    goes_on true u v later e = later e
-    goes_on false u v later e = ap (λ (x : Working). alone a x.forest) (sym (same_ok u v e))
 
 -- what is above a node outside a tree is outside it too
 pub above_out : (a q k : ℕ) (f : Forest) → IsForest f → has k f ≡ true → is_within f a k ≡ false → is_among q (k ∷ ancestors f k) ≡ true → is_within f a q ≡ false
-above_out a q k f h there out among = by_place (is_within f a q) refl where
-  by_place : (b : Bool) → is_within f a q ≡ b → is_within f a q ≡ false
-  by_place false is = is
-  by_place true is = absurd (let two : true ≡ false = sym (is_within-trans f a q k h is (is_within-ancestors f q k h there ∙ among)) ∙ out in cc)
+above_out a q k f h there out among = elim (cases_Bool (is_within f a q)) [
+  | inl is ↦ absurd (let two : true ≡ false = sym (is_within-trans f a q k h is (is_within-ancestors f q k h there ∙ among)) ∙ out in cc)
+  | inr is ↦ is
+]
 
 empty_keeps : (a block : ℕ) (w v : Working) → IsForest w.forest → has block w.forest ≡ true → is_within w.forest a block ≡ false → removed_empty block w ≡ Ok v → alone a v.forest ≡ alone a w.forest
 unfolding removed_empty remove_step
-empty_keeps a block w v h there out e = by_size (eqb (size_of w.forest block) 0) e where
-  by_size : (b : Bool) → cond b (removed block (ancestors w.forest block) w) (Ok w) ≡ Ok v → alone a v.forest ≡ alone a w.forest
-  by_size true e = removed_keeps (ancestors w.forest block) a block w v h (λ q among. above_out a q block w.forest h there out among) e
-  by_size false e = ap (λ (x : Working). alone a x.forest) (sym (same_ok w v e))
+empty_keeps a block w v h there out e =
+    if_taken (λ w v. alone a v.forest ≡ alone a w.forest) (eqb (size_of w.forest block) 0) (removed block (ancestors w.forest block) w) w v refl
+    (λ e. removed_keeps (ancestors w.forest block) a block w v h (λ q among. above_out a q block w.forest h there out among) e) e
 
 -- ---- all of it
 
