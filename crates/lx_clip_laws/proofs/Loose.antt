@@ -26,9 +26,6 @@ pub record StaysTop (a : ℕ) (w v : Working) : Type 0 where
   pub ready : IsReady v
   pub top : parent_of w.forest a ≡ None → parent_of v.forest a ≡ None
 
-pub top_then : (a : ℕ) (w u v : Working) → StaysTop a w u → StaysTop a u v → StaysTop a w v
-top_then a w u v x y = record { ready = y.ready; top = λ is. y.top (x.top is) }
-
 top_same : (a : ℕ) (w v : Working) → IsReady v → parent_of v.forest a ≡ parent_of w.forest a → StaysTop a w v
 top_same a w v ready same = record { ready = ready; top = λ is. same ∙ is }
 
@@ -37,32 +34,25 @@ unfolding new_step
 top_new a kind x w v ready e =
     let told = answered (over_limits (characters_of x) w) (made kind x w) v e in
     let l : Label = record { key = w.next_key; kind = kind; fields = x } in
-    let forest : v.forest ≡ with_new l w.forest = ap (λ (u : Working). u.forest) (sym told.1) in
-    top_same a w v (covered-new kind x w v ready e).ready (ap (λ f. parent_of f a) forest ∙ parent_of-with_new l w.forest a ready.in_order (ready.free w.next_key (omega arith)))
+    top_same a w v (covered-new kind x w v ready e).ready (rw (← told.1) (parent_of-with_new l w.forest a ready.in_order (ready.free w.next_key (omega arith))))
 
 top_set : (a k : ℕ) (x : Fields) (w v : Working) → IsReady w → set_step k x w ≡ Ok v → StaysTop a w v
 unfolding set_step
 top_set a k x w v ready e =
     let told = answered (option_or (set_fault k x w.forest) (over_limits (characters_of x) w)) (fields_written k x (characters_of x) (set_points k x) w) v e in
-    let forest : v.forest ≡ with_fields k x w.forest = ap (λ (u : Working). u.forest) (sym told.1) in
-    top_same a w v (covered-set k x w v ready e).ready (ap (λ f. parent_of f a) forest ∙ parent_of-with_fields k x w.forest a)
+    top_same a w v (covered-set k x w v ready e).ready (rw (← told.1) (parent_of-with_fields k x w.forest a))
 
 top_splice : (a k from to : ℕ) (new : List ℕ) (w v : Working) → IsReady w → splice_step k from to new w ≡ Ok v → StaysTop a w v
 unfolding splice_step
 top_splice a k from to new w v ready e =
     let x : Fields = label_with_piece (label_of w.forest k) from to new in
     let told = answered (option_or (splice_fault k from to w.forest) (over_limits (length new) w)) (fields_written k x (length new) (splice_points k from to new) w) v e in
-    let forest : v.forest ≡ with_fields k x w.forest = ap (λ (u : Working). u.forest) (sym told.1) in
-    top_same a w v (covered-splice k from to new w v ready e).ready (ap (λ f. parent_of f a) forest ∙ parent_of-with_fields k x w.forest a)
-
-none_either : (b : Bool) (o : Option ℕ) → o ≡ None → cond b None o ≡ None
-none_either true o none = refl
-none_either false o none = none
+    top_same a w v (covered-splice k from to new w v ready e).ready (rw (← told.1) (parent_of-with_fields k x w.forest a))
 
 top_take : (a k : ℕ) (w v : Working) → IsReady w → take_step k w ≡ Ok v → StaysTop a w v
 top_take a k w v ready e = record {
   ready = (covered-take k w v ready e).ready;
-  top = λ is. ap (λ f. parent_of f a) (taken-forest k w v e) ∙ parent_of-take_out k w.forest a ready.in_order ∙ none_either (eqb a k) (parent_of w.forest a) is;
+  top = λ is. ap (λ f. parent_of f a) (taken-forest k w v e) ∙ parent_of-take_out k w.forest a ready.in_order ∙ grind (arith, is);
 }
 
 top_put : (a k p index : ℕ) (w v : Working) → k ≢ a → IsReady w → put_step k p index w ≡ Ok v → StaysTop a w v
@@ -70,20 +60,18 @@ unfolding put_step
 top_put a k p index w v other ready e =
     let told = answered (option_or (put_fault k p index w.forest) (over_counts w)) (node_placed k p index w) v e in
     let can = can_put w.forest k p index (both_none (put_fault k p index w.forest) (over_counts w) told.0).0 in
-    let before : Option ℕ = slice_get (children_of w.forest p) index in
-    let forest : v.forest ≡ put_in p before k w.forest = ap (λ (u : Working). u.forest) (sym told.1) in
     let apart : eqb a k ≡ false = grind (arith, other, eqb_tells a k) in
     top_same a w v (covered-put k p index w v ready e).ready
-    (ap (λ f. parent_of f a) forest ∙ parent_of-put_in p before k w.forest a ready.in_order can ∙ ap (λ b. cond b (Some p) (parent_of w.forest a)) apart)
+    (rw (← told.1) (parent_of-put_in p (slice_get (children_of w.forest p) index) k w.forest a ready.in_order can ∙ ap (λ b. cond b (Some p) (parent_of w.forest a)) apart))
 
 pub top_path : (a : ℕ) → IsPath IsReady (StaysTop a) (λ k. k ≢ a)
 top_path a = record {
   ready = λ w v x. x.ready;
   selected = λ w s ready. record { ready = (covered-pointed w s ready).ready; top = λ is. is };
-  composed = λ u v w x y. top_then a u v w x y;
-  new = λ kind fields w v ready e. top_new a kind fields w v ready e;
-  set = λ k fields w v ready e. top_set a k fields w v ready e;
-  splice = λ k from to new w v ready e. top_splice a k from to new w v ready e;
-  take = λ k w v ready e. top_take a k w v ready e;
-  put = λ k p index w v other ready e. top_put a k p index w v other ready e;
+  composed = λ u v w x y. record { ready = y.ready; top = λ is. y.top (x.top is) };
+  new = top_new a;
+  set = top_set a;
+  splice = top_splice a;
+  take = top_take a;
+  put = top_put a;
 }

@@ -16,7 +16,7 @@ use Rattle.lx_edit.specs.Edits.{moved_to_end}
 use Rattle.lx_edit.specs.InTurn.{in_turn}
 use Rattle.lx_edit.specs.Texts.{keys_from, split_step}
 use Rattle.lx_edit.proofs.Climbed.{first_part}
-use Rattle.lx_edit.proofs.Paths.{self, turns, put_behind_path, moved_to_end_path, split_path}
+use Rattle.lx_edit.proofs.Paths.{self, ok, turns, put_behind_path, moved_to_end_path, split_path}
 use Rattle.lx_blocks.specs.Blocks.{is_at}
 use Rattle.lx_blocks.specs.Making.{new_like}
 use Rattle.lx_caret.specs.Adding.{is_inside}
@@ -25,7 +25,7 @@ use Rattle.lx_caret.proofs.Fit.{after_tells}
 use Rattle.lx_clip.proofs.Parted.{named_up, among_drop}
 use Rattle.lx_clip_laws.proofs.Around.{keeps_like, keeps_all, nowhere}
 use Rattle.lx_clip_laws.proofs.Loose.{StaysTop, top_path}
-use Rattle.lx_clip_laws.proofs.Staying.{IsApart, Keeps, keeps_behind, keeps_split}
+use Rattle.lx_clip_laws.proofs.Staying.{IsApart, Keeps, keeps_behind, keeps_split, if_taken}
 
 -- a draft with a tree that stands below nothing
 pub record IsLoose (a : ℕ) (w : Working) : Type 0 where
@@ -41,8 +41,8 @@ pub record Leaves (a : ℕ) (w v : Working) : Type 0 where
 leaves : (a k : ℕ) (w v : Working) → IsLoose a w → Keeps a k w v → StaysTop a w v → Leaves a w v
 leaves a k w v loose x t = record { same = x.same; loose = record { ready = x.apart.ready; there = x.apart.there; top = t.top loose.top } }
 
-leaves_self : (a : ℕ) (w v : Working) → IsLoose a w → ◌≡◌ {A = Result Working Cause} (Ok w) (Ok v) → Leaves a w v
-leaves_self a w v loose e = let is : w ≡ v = cc in subst (Leaves a w) is (record { same = refl; loose = loose })
+leaves_none : (a : ℕ) (w : Working) → IsLoose a w → Leaves a w w
+leaves_none a w loose = record { same = refl; loose = loose }
 
 pub leaves_then : (a : ℕ) (w u v : Working) → Leaves a w u → Leaves a u v → Leaves a w v
 leaves_then a w u v x y = record { same = y.same ∙ x.same; loose = y.loose }
@@ -57,15 +57,13 @@ new_other a w loose same = absurd (let free : has w.next_key w.forest ≡ false 
 -- ---- the text is split
 
 pub cut_leaves : (a : ℕ) (p : Point) (w v : Working) → IsLoose a w → is_within w.forest a p.key ≡ false → cut_open p w ≡ Ok v → Leaves a w v
-cut_leaves a p w v loose out e = by_test (is_inside w.forest p p.kind) e where
-  new_key : (q : ℕ) → is_among q (keys_from w.next_key (length (p.offset ∷ []))) ≡ true → w.next_key ≡ q
-  new_key q among = grind (arith, among, eqb_tells w.next_key q)
-
-  by_test : (b : Bool) → cond b (split_step p.key (p.offset ∷ []) w) (Ok w) ≡ Ok v → Leaves a w v
-  by_test true e =
-      leaves a p.key w v loose (keeps_split a p.key p.offset w v (apart a p.key w loose out) e)
-      (split_path (top_path a) p.key (p.offset ∷ []) w v loose.ready (λ q among same. new_other a w loose (new_key q among ∙ same)) e)
-  by_test false e = leaves_self a w v loose e
+cut_leaves a p w v loose out e =
+    if_taken (Leaves a) (is_inside w.forest p p.kind) (split_step p.key (p.offset ∷ []) w) w v (leaves_none a w loose) (λ e.
+    leaves a p.key w v loose (keeps_split a p.key p.offset w v (apart a p.key w loose out) e)
+    (split_path (top_path a) p.key (p.offset ∷ []) w v loose.ready (λ q among same. new_other a w loose (new_key q among ∙ same)) e)) e
+  where
+    new_key : (q : ℕ) → is_among q (keys_from w.next_key (length (p.offset ∷ []))) ≡ true → w.next_key ≡ q
+    new_key q among = grind (arith, among, eqb_tells w.next_key q)
 
 -- ---- a node is parted
 
@@ -81,7 +79,7 @@ child_outside a k index m w loose out among =
     record { other = other; out = is_within-up w.forest a m k loose.ready.in_order up other ∙ out }
 
 like_top : (a : ℕ) (l : Option Label) (w v : Working) → IsReady w → new_like l w ≡ Ok v → StaysTop a w v
-like_top a None w v ready e = let is : w ≡ v = cc in subst (StaysTop a w) is (self (top_path a) w ready)
+like_top a None w v ready e = ok (StaysTop a) w w v (self (top_path a) w ready) e
 like_top a (Some l) w v ready e = (top_path a).new l.kind l.fields w v ready e
 
 parted_leaves : (a k index : ℕ) (w v : Working) → IsLoose a w → is_within w.forest a k ≡ false → parted_at k index w ≡ Ok v → Leaves a w v
@@ -107,14 +105,12 @@ parted_leaves a k index w v loose out e =
 
 link_leaves : (a k index : ℕ) (w v : Working) → IsLoose a w → is_within w.forest a k ≡ false → link_parted k index w ≡ Ok v → Leaves a w v
 unfolding link_parted
-link_leaves a k index w v loose out e = by_test (is_at is_link w.forest k && (ltb 0 index && ltb index (size_of w.forest k))) e where
-  by_test : (b : Bool) → cond b (parted_at k index w) (Ok w) ≡ Ok v → Leaves a w v
-  by_test true e = parted_leaves a k index w v loose out e
-  by_test false e = leaves_self a w v loose e
+link_leaves a k index w v loose out e =
+    if_taken (Leaves a) (is_at is_link w.forest k && (ltb 0 index && ltb index (size_of w.forest k))) (parted_at k index w) w v (leaves_none a w loose) (λ e. parted_leaves a k index w v loose out e) e
 
 pub up_leaves : (ks : List ℕ) (a index : ℕ) (w : Working) (made : Parted) → IsLoose a w → ((q : ℕ) → is_among q ks ≡ true → is_within w.forest a q ≡ false) → parted_up ks index w ≡ Ok made → Leaves a w made.draft
 unfolding parted_up
-up_leaves [] a index w made loose out e = let is : w ≡ made.draft = cc in subst (Leaves a w) is (record { same = refl; loose = loose })
+up_leaves [] a index w made loose out e = let is : w ≡ made.draft = cc in subst (Leaves a w) is (leaves_none a w loose)
 up_leaves (k ∷ ks) a index w made loose out e =
     let first = after_tells (link_parted k index w) (λ v. parted_up ks (place_of (index_of v.forest k) index) v) made e in
     let x = link_leaves a k index w first.0 loose (out k (grind (arith, eqb_tells k k))) first.1.0 in
