@@ -1,5 +1,5 @@
 -- Trees that are put in around a block stay as they were made, also when the block goes.
-use Rattle.std.proofs.Common.{◌≡◌, ◌∙◌, ℕ, Bool, true, false, cond, eqb, ltb, ◌||◌, List, [], ◌∷◌, ◌++◌, Option, None, Some, Result, Ok, refl, ap, sym, subst, arith, inl, inr, append_assoc}
+use Rattle.std.proofs.Common.{◌≡◌, ◌∙◌, ℕ, true, false, cond, eqb, ltb, ◌||◌, List, [], ◌∷◌, ◌++◌, Option, None, Some, Result, Ok, refl, ap, sym, subst, arith, inl, inr, append_assoc}
 use Rattle.std.proofs.lemmas.Bool.{cases_Bool}
 use Rattle.std.proofs.lemmas.Bool.Decides.{eqb_tells}
 use Rattle.lx_trees.specs.Siblings.{is_among}
@@ -25,9 +25,8 @@ use Rattle.lx_caret.specs.Removing.{removed_empty}
 use Rattle.lx_caret.proofs.Fit.{after_tells}
 use Rattle.lx_clip.specs.Pasting.{Tailed, tail_made, put_around}
 use Rattle.lx_clip_laws.specs.Between.{IsOutside, key_if, PastedStandBetween}
-use Rattle.lx_clip_laws.proofs.Between.{put_came, put_stands, is_child}
+use Rattle.lx_clip_laws.proofs.Between.{put_came, put_stands, is_child, none_of}
 use Rattle.lx_clip_laws.proofs.Pasted.{inlines_between, around_between, beyond_between}
-use Rattle.lx_clip_laws.proofs.Placing.{none_of}
 use Rattle.lx_clip_laws.proofs.Staying.{IsApart, Keeps, keeps, keeps_then, keeps_new, if_taken}
 use Rattle.lx_edit.proofs.Paths.{ok}
 

@@ -1,14 +1,18 @@
 -- Nodes that are put in stand between what stood before the place and what stood after it.
-use Rattle.std.proofs.Common.{◌≡◌, ◌≢◌, ◌∙◌, ◌+◌, ℕ, Bool, true, false, cond, eqb, ◌||◌, List, [], ◌∷◌, ◌++◌, length, Option, None, Some, Ok, refl, ap, sym, subst, arith, append_assoc, take, drop, Result, inl, inr}
+use Rattle.std.proofs.Common.{◌≡◌, ◌≢◌, ◌∙◌, ℕ, true, false, Option, ap, sym, arith, inl, inr, ◌+◌, eqb, List, [], ◌∷◌, ◌++◌, length, None, Some, Ok, refl, append_assoc, take, drop, Result}
+use Rattle.std.proofs.lemmas.Bool.{cases_Bool}
+use Rattle.std.proofs.lemmas.Bool.Decides.{nat_tests, eqb_tells}
+use Rattle.lx_trees.specs.NamedTrees.{put_below}
+use Rattle.lx_trees.proofs.NamedTrees.{put_below-absent, without-absent}
+use Rattle.lx_forest.specs.Forest.{Forest}
+use Rattle.lx_forest.specs.Lookups.{key_of, has, count, alone, without, is_within, IsForest, label_of, parent_of, children_of, children_below, index_of}
+use Rattle.lx_forest.specs.Edits.{put_in, CanPut}
+use Rattle.lx_forest.proofs.Within.{alone-put_in_inside, alone-put_in_outside, is_within-put_in, is_within-top, is_within-self}
 use Rattle.std.specs.Prelude.{slice_get}
 use Rattle.std.specs.Option.{option_or}
-use Rattle.std.proofs.lemmas.Bool.Decides.{eqb_tells}
-use Rattle.lx_trees.specs.Siblings.{is_named, is_among, NoRepeats, index_in, names_with}
+use Rattle.lx_trees.specs.Siblings.{is_among, index_in, names_with}
 use Rattle.lx_trees.proofs.Siblings.{is_among-append}
-use Rattle.lx_forest.specs.Forest.{Forest}
-use Rattle.lx_forest.specs.Lookups.{alone, label_of, parent_of, children_of, children_below, index_of, is_within, IsForest}
-use Rattle.lx_forest.specs.Edits.{put_in}
-use Rattle.lx_forest.proofs.Lookups.{is_among-children_of, NoRepeats-children_of, children_of-put_in, label_of-put_in}
+use Rattle.lx_forest.proofs.Lookups.{NoRepeats-children_of, children_of-put_in, label_of-put_in}
 use Rattle.lx_draft.specs.Working.{Working}
 use Rattle.lx_draft.specs.Faults.{over_counts, put_fault}
 use Rattle.lx_draft.specs.Steps.{node_placed, put_step}
@@ -21,12 +25,30 @@ use Rattle.lx_edit.proofs.Climbed.{first_part}
 use Rattle.lx_clip.specs.Pasting.{put_behind_each}
 use Rattle.lx_clip.proofs.Parted.{named_up}
 use Rattle.lx_edit.proofs.Paths.{ok}
-use Rattle.std.proofs.lemmas.Bool.{cases_Bool}
 use Rattle.lx_trees.proofs.Positions.{slice_get-index_in}
 use Rattle.lx_node.specs.declared.cause.Cause.{Cause}
 use Rattle.std.proofs.lemmas.List.{take-append-drop, length-take}
 use Rattle.lx_clip_laws.proofs.Gaps.{names_at, at_name, index_between, among_between}
-use Rattle.lx_clip_laws.proofs.Placing.{within_put, alone_put}
+
+pub none_of : (q : ℕ) (f : Forest) → has q f ≡ false → count q f ≡ 0
+none_of q f free = grind (arith, nat_tests, free)
+
+-- whoever holds the parent held it before
+pub within_put : (a p : ℕ) (before : Option ℕ) (k : ℕ) (f : Forest) → IsForest f → CanPut p k f → is_within (put_in p before k f) a p ≡ is_within f a p
+within_put a p before k f h can = is_within-put_in p before k f a p h can ∙ grind (arith, can.outside)
+
+-- a tree that doesn't hold the parent stays
+pub alone_put : (a p : ℕ) (before : Option ℕ) (k : ℕ) (f : Forest) → IsForest f → CanPut p k f → is_within f a p ≡ false → alone a (put_in p before k f) ≡ alone a f
+alone_put a p before k f h can out = elim (cases_Bool (is_within f k a)) [
+  | inl inside ↦ alone-put_in_inside a p before k f h can inside
+  | inr outside ↦
+      let other : k ≢ a = λ same. absurd (let self : is_within f k a ≡ true = ap (is_within f k) (sym same) ∙ is_within-self f k ∙ can.there in cc) in
+      let apart : is_within f a k ≡ false = is_within-top f a k h can.detached other in
+      let stays : without k (alone a f) ≡ alone a f = without-absent key_of k (alone a f) (none_of k (alone a f) apart) in
+      alone-put_in_outside a p before k f h can outside
+      ∙ ap (put_below key_of p before (alone k f)) stays
+      ∙ put_below-absent key_of p before (alone k f) (alone a f) (none_of p (alone a f) out)
+]
 
 -- These nodes came below one parent, between the children before and those after them.
 pub record Came (p : ℕ) (before keys behind : List ℕ) (w v : Working) : Type 0 where

@@ -1,8 +1,8 @@
 -- Names that come into a list at a place, between those before it and those after it.
-use Rattle.std.proofs.Common.{◌≡◌, ◌∙◌, ◌+◌, ◌≤◌, ℕ, suc, Bool, true, false, cond, eqb, List, [], ◌∷◌, ◌++◌, length, Option, None, Some, refl, ap, sym, arith, length-append, zero}
-use Rattle.std.specs.Prelude.{slice_get, option_map}
+use Rattle.std.proofs.Common.{◌≡◌, ◌∙◌, ℕ, suc, true, List, [], ◌∷◌, ◌++◌, length, Some, refl, ap, arith, length-append, zero}
+use Rattle.std.specs.Prelude.{slice_get}
 use Rattle.std.specs.List.{insert}
-use Rattle.lx_trees.specs.Siblings.{is_named, is_among, NoRepeats, index_in, names_with}
+use Rattle.lx_trees.specs.Siblings.{is_among, NoRepeats, index_in, names_with}
 use Rattle.lx_trees.proofs.Positions.{is_among-slice_get, index_in-slice_get, names_with-insert}
 
 pub names_at : (a b : List ℕ) (k : ℕ) → NoRepeats (a ++ b) → names_with (slice_get (a ++ b) (length a)) (k ∷ []) (a ++ b) ≡ a ++ (k ∷ b)

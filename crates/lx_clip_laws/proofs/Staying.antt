@@ -1,21 +1,20 @@
 -- A tree stays as it is where a text outside it is split.
-use Rattle.std.proofs.Common.{◌≡◌, ◌≢◌, ◌∙◌, ◌+◌, ◌-◌, ℕ, Bool, true, false, cond, eqb, ◌&&◌, List, [], ◌∷◌, length, Option, None, Some, Result, Ok, refl, ap, sym, subst, arith}
+use Rattle.std.proofs.Common.{◌≡◌, ◌≢◌, ◌∙◌, ◌-◌, ℕ, Bool, true, false, cond, ◌&&◌, List, [], ◌∷◌, length, Result, Ok, refl, ap, sym, arith}
 use Rattle.std.specs.Prelude.{is_some}
 use Rattle.std.specs.Option.{option_or}
 use Rattle.lx_trees.specs.Trees.{nil, tree}
-use Rattle.lx_trees.specs.NamedTrees.{mapped}
 use Rattle.lx_node.specs.Strings.{characters_of}
 use Rattle.lx_node.specs.declared.kind.Kind.{Kind}
 use Rattle.lx_node.specs.declared.kind.Kind.TheVariants.{Text}
 use Rattle.lx_node.specs.declared.fields.Fields.{Fields}
 use Rattle.lx_node.specs.declared.cause.Cause.{Cause}
 use Rattle.lx_node.specs.declared.cause.Point.{Point}
-use Rattle.lx_forest.specs.Forest.{Forest, Label}
+use Rattle.lx_forest.specs.Forest.{Forest}
 use Rattle.lx_forest.specs.Lookups.{has, count, alone, label_of, is_within}
-use Rattle.lx_forest.specs.Edits.{with_fields, with_new, fields_at}
+use Rattle.lx_forest.specs.Edits.{with_fields}
 use Rattle.lx_forest.proofs.Within.{alone-with_new, alone-with_fields, is_within-self, is_within-up}
 use Rattle.lx_draft.specs.Working.{Working}
-use Rattle.lx_draft.specs.Faults.{answer, after, over_limits, splice_fault}
+use Rattle.lx_draft.specs.Faults.{after, over_limits, splice_fault}
 use Rattle.lx_draft.specs.Steps.{made, new_step, fields_written, splice_points, label_with_piece, splice_step}
 use Rattle.lx_draft.specs.Beside.{put_behind_step}
 use Rattle.lx_draft.specs.Covering.{IsReady}
@@ -30,8 +29,7 @@ use Rattle.lx_edit.proofs.Paths.{ok, allowed}
 use Rattle.std.proofs.lemmas.Bool.Decides.{eqb_tells}
 use Rattle.lx_blocks.specs.Ranges.{normal_at}
 use Rattle.lx_caret.specs.Adding.{is_inside, opened}
-use Rattle.lx_clip_laws.proofs.Placing.{none_of}
-use Rattle.lx_clip_laws.proofs.Between.{behind_stands, put_behind_came}
+use Rattle.lx_clip_laws.proofs.Between.{none_of, behind_stands, put_behind_came}
 
 -- ---- one step
 
