@@ -55,9 +55,7 @@ comes_below piece below w u v ready a b =
     let free : count w.next_key w.forest ≡ 0 = grind (arith, nat_tests, next_free w ready) in
     record {
       forest =
-          b.forest
-          ∙ ap (λ n. last_below w.next_key (keyed n below) u.forest) a.next
-          ∙ ap (last_below w.next_key (keyed (w.next_key + 1) below)) (a.forest ∙ new_among l w.forest)
+          (rw (a.next, a.forest, new_among l w.forest) at b.forest)
           ∙ below_among l (keyed (w.next_key + 1) below) w.forest free;
       next = omega (arith, a.next, b.next);
       covered = covered-then w u v a.covered b.covered;

@@ -41,7 +41,7 @@ use Rattle.lx_clip_laws.proofs.Pasted.{inlines_between, beyond_between}
 use Rattle.lx_clip_laws.proofs.Staying.{opened_stays}
 use Rattle.lx_clip_laws.proofs.Parting.{opened_trees}
 use Rattle.lx_node.specs.Kinds.{is_text_block, may_hold}
-use Rattle.lx_select.specs.declared.selection.Selection.TheVariants.{Nothing, Range, Nodes, Cells}
+use Rattle.lx_select.specs.declared.selection.Selection.TheVariants.{Range}
 use Rattle.lx_draft.specs.Selecting.{lies_in}
 use Rattle.lx_blocks.specs.Blocks.{is_at, block_of}
 use Rattle.lx_blocks.specs.Ranges.{lies, at_anchor_of}
@@ -208,9 +208,7 @@ point_same c w made false p format v m ready known e = blocks_same c w made p v 
 anchor_same : (c : Forest) (w : Working) (made : Made) (inline : Bool) (s : Selection) (v : Working) → AreMade (pieces_of c) w made → IsReady w → EachPoint (IsKnown w.forest) s → at_anchor_of s (placed_at inline made.keys) made.draft ≡ Ok v
     → AreSame made.keys made.draft v
 anchor_same c w made inline (Range a b format) v m ready known e = point_same c w made inline a format v m ready known.0 e
-anchor_same c w made inline Nothing v m ready known e = absurd (cc)
-anchor_same c w made inline (Nodes keys) v m ready known e = absurd (cc)
-anchor_same c w made inline (Cells t a b) v m ready known e = absurd (cc)
+anchor_same c w made inline _ v m ready known e = absurd (cc)
 
 placed_same : (c : Forest) (w : Working) (made : Made) (inline : Bool) (v : Working) (keys : List ℕ) → AreMade (pieces_of c) w made → IsReady w → EachPoint (IsKnown w.forest) made.draft.selection → made.keys ≡ keys → placed inline keys made.draft ≡ Ok v
     → AreSame made.keys made.draft v
