@@ -166,14 +166,10 @@ none_moves spots row None w v none e = cc
 none_moves spots row (Some next) w v none e =
     let same : Ok w ≡ Ok v = sym (ap (λ (zs : List Spot). in_turn (moved_down spots next) zs w) none) ∙ e in cc (same)
 
-selected_forest : (s : Selection) (w v : Working) → select_step s w ≡ Ok v → v.forest ≡ w.forest
-unfolding select_step
-selected_forest s w v e = ap (λ (x : Working). x.forest) (answered _ _ v e)
-
 careted_forest : (o : Option Spot) (w v : Working) → caret_in_spot o w ≡ Ok v → v.forest ≡ w.forest
-unfolding caret_in_step caret_step
+unfolding caret_in_step caret_step select_step
 careted_forest None w v e = let same : w ≡ v = cc in sym (ap (λ (x : Working). x.forest) same)
-careted_forest (Some s) w v e = selected_forest _ w v e
+careted_forest (Some s) w v e = ap (λ (x : Working). x.forest) (answered _ _ v e)
 
 -- what is above a node that goes has other children
 stays_above : (k p : ℕ) (above : List ℕ) (w v : Working) → (size_of (take_out k w.forest) p == 0) ≡ false → removed k (p ∷ above) w ≡ Ok v → v.forest ≡ take_out k w.forest
@@ -181,12 +177,9 @@ stays_above k p above w v more e =
     let a = first_part (take_step k (sent_away k w)) (λ u. cond (goes_too (kind_of w.forest k) u.forest p) (removed p above u) (Ok u)) v e in
     let forest : a.0.forest ≡ take_out k w.forest = taken-forest k (sent_away k w) a.0 a.1 ∙ ap (take_out k) (sent_away-forest k w) in
     let left : goes_too (kind_of w.forest k) a.0.forest p ≡ false = ap (λ g. goes_too (kind_of w.forest k) g p) forest ∙ rw more refl in
-    let same : a.0 ≡ v = kept (goes_too (kind_of w.forest k) a.0.forest p) (removed p above a.0) a.0 v left a.2 in
+    let rest = rw left at a.2 in
+    let same : a.0 ≡ v = cc in
     sym (ap (λ (x : Working). x.forest) same) ∙ forest
-  where
-    kept : (t : Bool) (r : Result Working Cause) (x y : Working) → t ≡ false → cond t r (Ok x) ≡ Ok y → x ≡ y
-    kept true r x y is e = absurd (cc)
-    kept false r x y is e = cc
 
 removed_forest : (k p : ℕ) (w v : Working) → IsForest w.forest → parent_of w.forest k ≡ Some p → (size_of (take_out k w.forest) p == 0) ≡ false → remove_step k w ≡ Ok v → v.forest ≡ take_out k w.forest
 unfolding remove_step
@@ -228,9 +221,6 @@ not_alone f table new i k q x come at among =
     not_all (is_in_row_alone new) (spots_of x.forest table) found.index found.spot found.at
     (ap (λ r. (r == new) && (found.spot.height == 1)) row ∙ ap (λ b. b && (found.spot.height == 1)) (other_row new i there.index there.shift))
 
-not_none : (n i : ℕ) → i < n → (n == 0) ≡ false
-not_none n i h = grind (arith, eqb_tells n 0, h)
-
 row_goes : (f : Forest) (table new i k : ℕ) (x h y z t u : Working) (come : HasCome f table new x) → slice_get (children_of f table) i ≡ Some k → IsShrunk table new x.forest h.forest y.forest
     → y ≡ z → t.forest ≡ z.forest → row_removed (slice_get (children_of t.forest table) new) t ≡ Ok u → grid_of u.forest table ≡ grid_of f table
 row_goes f table new i k x h y z t u come at gone moved careted e =
@@ -244,7 +234,7 @@ row_goes f table new i k x h y z t u come at gone moved careted e =
     let up : parent_of t.forest come.row ≡ Some table = above_is t.forest come.row table ordered (is_among-slice_get (children_of t.forest table) come.row new row) in
     let others : children_of (take_out come.row t.forest) table ≡ children_of f table = ap (λ z. children_of (take_out come.row z) table) forest ∙ alike.keys in
     let some : i < length (children_of f table) = slice_get_within (children_of f table) i k at in
-    let more : (size_of (take_out come.row t.forest) table == 0) ≡ false = ap (λ (xs : List ℕ). length xs == 0) others ∙ not_none (length (children_of f table)) i some in
+    let more : (size_of (take_out come.row t.forest) table == 0) ≡ false = ap (λ (xs : List ℕ). length xs == 0) others ∙ grind (arith, eqb_tells (length (children_of f table)) 0, some) in
     let taken : u.forest ≡ take_out come.row y.forest = removed_forest come.row table t u ordered up more removes ∙ ap (take_out come.row) forest in
     ap (λ z. grid_of z table) taken ∙ same_grid f (take_out come.row y.forest) table alike
 
@@ -291,10 +281,6 @@ inserted_at : (behind : Bool) (p : Place) (w v : Working) → row_at behind p w 
 inserted_at false p w v e = (p.spot.row, e)
 inserted_at true p w v e = (p.spot.row + p.spot.height - 1, e)
 
-unless : (t : Bool) (one other : Result Working Cause) (v : Working) → t ≡ false → cond t one other ≡ Ok v → other ≡ Ok v
-unless true one other v is e = absurd (cc)
-unless false one other v is e = e
-
 pub rows_come_and_go : (behind : Bool) (w v u : Working) (s : Selection) (p q : Place) → IsReady w → place_of w ≡ Ok p → insert_row_step behind w ≡ Ok v → place_of (record v { selection = s }) ≡ Ok q
     → q.table ≡ p.table → q.spot.row ≡ new_row behind p.spot → delete_row_step (record v { selection = s }) ≡ Ok u → grid_of u.forest p.table ≡ grid_of w.forest p.table
 unfolding insert_row_step delete_row_step
@@ -320,8 +306,6 @@ rows_come_and_go behind w v u s p q ready at inserts at_new table row deletes =
     let set : heights_set (spots_of v.forest p.table) x ≡ Ok c.0 = sym (ap (λ z. heights_set z x) spots) ∙ c.1 in
     let alone : list_all (is_in_row_alone q.spot.row) q.spots ≡ false =
     ap (λ r. list_all (is_in_row_alone r) q.spots) row ∙ ap (list_all (is_in_row_alone new)) spots ∙ not_alone f p.table new p.spot.row was.own.key p.spot.cell x come was.own.row was.own.among in
-    let taken : row_taken q.table q.spots q.spot.row q.spot.column c.0 ≡ Ok u = unless (list_all (is_in_row_alone q.spot.row) q.spots) _ _ u alone c.2 in
-    let takes : row_taken p.table (spots_of v.forest p.table) new q.spot.column c.0 ≡ Ok u =
-    sym (ap (λ t. row_taken t q.spots q.spot.row q.spot.column c.0) table ∙ ap (λ z. row_taken p.table z q.spot.row q.spot.column c.0) spots
-    ∙ ap (λ r. row_taken p.table (spots_of v.forest p.table) r q.spot.column c.0) row) ∙ taken in
+    let taken : row_taken q.table q.spots q.spot.row q.spot.column c.0 ≡ Ok u = (let rest = c.2 in rw alone at rest) in
+    let takes : row_taken p.table (spots_of v.forest p.table) new q.spot.column c.0 ≡ Ok u = rw (← spots, ← table, ← row) taken in
     goes f p.table new q.spot.column p.spot.row was.own.key x c.0 u come was.own.row set takes
