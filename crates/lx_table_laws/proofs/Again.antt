@@ -27,19 +27,16 @@ use Rattle.lx_table.proofs.Spanned.{tell_spans, has_spans, IsSpanned}
 abbrev pub IsShifted : ℕ → ℕ → ℕ → Type 0
 IsShifted new i j = ((i < new) × (j ≡ i)) ⊎ ((new ≤ i) × (j ≡ i + 1))
 
+shifted_on : (new i j : ℕ) → IsShifted new i j → IsShifted (suc new) (suc i) (suc j)
+shifted_on new i j (inl low) = inl (omega (arith, low.0), omega (arith, low.1))
+shifted_on new i j (inr high) = inr (omega (arith, high.0), omega (arith, high.1))
+
 pub shifted : (xs : List ℕ) (new x i k : ℕ) → slice_get xs i ≡ Some k → new ≤ length xs → (j : ℕ) × (slice_get (insert xs new x) j ≡ Some k) × IsShifted new i j
 shifted [] new x i k at within = absurd (cc)
 shifted (y ∷ ys) zero x i k at within = (suc i, at, inr (omega arith, omega arith))
 shifted (y ∷ ys) (suc new) x zero k at within = (0, at, inl (omega arith, refl))
 shifted (y ∷ ys) (suc new) x (suc i) k at within =
-    let r = shifted ys new x i k at (omega (arith, within)) in (
-      suc r.0,
-      r.1,
-      elim r.2 [
-        | inl low ↦ let l : i < new = low.0 in let s : r.0 ≡ i = low.1 in inl (omega (arith, l), omega (arith, s))
-        | inr high ↦ let h : new ≤ i = high.0 in let s : r.0 ≡ i + 1 = high.1 in inr (omega (arith, h), omega (arith, s))
-      ],
-    )
+    let r = shifted ys new x i k at (omega (arith, within)) in (suc r.0, r.1, shifted_on new i r.0 r.2)
 
 -- ---- the rows of a cell, as a row comes and goes
 
@@ -49,19 +46,10 @@ crossing_is c row height new e = (λ is. let t = e ∙ is in (grind (arith, nat_
 -- A cell that starts in front of the new row and goes on after it gets a row, and loses it again. Any other stays as high.
 back : (i j new most rows height high again : ℕ) (c d : Bool) → i < most → height ≡ min rows (most - i) → (nat_lt i new && is_among_from i height new) ≡ c → high ≡ cond c (height + 1) height
     → again ≡ min high (most + 1 - j) → (nat_lt j new && is_among_from j again new) ≡ d → IsShifted new i j → min (cond d (again - 1) again) (most - i) ≡ min rows (most - i)
-back i j new most rows height high again true true within is crossed higher lower crossed_again shift =
-    let a = (crossing_is true i height new crossed).0 refl in
-    let b = (crossing_is true j again new crossed_again).0 refl in
+back i j new most rows height high again c d within is crossed higher lower crossed_again shift =
+    let a = crossing_is c i height new crossed in
+    let b = crossing_is d j again new crossed_again in
     grind (arith, within, is, higher, lower, a, b, shift)
-back i j new most rows height high again true false within is crossed higher lower crossed_again shift =
-    let a = (crossing_is true i height new crossed).0 refl in
-    let b = (crossing_is false j again new crossed_again).1 refl in
-    grind (arith, within, is, higher, lower, a, b, shift)
-back i j new most rows height high again false true within is crossed higher lower crossed_again shift =
-    let a = (crossing_is false i height new crossed).1 refl in
-    let b = (crossing_is true j again new crossed_again).0 refl in
-    grind (arith, within, is, higher, lower, a, b, shift)
-back i j new most rows height high again false false within is crossed higher lower crossed_again shift = grind (arith, within, is, higher, lower, shift)
 
 -- a cell that has no spans stays as it is
 told : (b c d : Bool) (i j new most rows height high again : ℕ) (first second third fourth : ℕ) → i < most → height ≡ min rows (most - i) → (nat_lt i new && is_among_from i height new) ≡ c

@@ -1,5 +1,5 @@
 -- A row is inserted and deleted again, step by step.
-use Rattle.std.proofs.Common.{◌≡◌, ◌∙◌, ℕ, zero, suc, ◌+◌, ◌-◌, ◌<◌, ◌≤◌, ◌==◌, ◌&&◌, Bool, true, false, cond, List, [], ◌∷◌, length, Option, None, Some, Result, Ok, Err, refl, sym, ap, subst, arith, inl, inr}
+use Rattle.std.proofs.Common.{◌≡◌, ◌∙◌, ℕ, zero, suc, ◌+◌, ◌-◌, ◌<◌, ◌==◌, ◌&&◌, Bool, true, false, cond, List, [], ◌∷◌, length, Option, None, Some, Result, Ok, Err, refl, sym, ap, subst, arith, inl, inr}
 use Rattle.std.specs.Prelude.{min, nat_lt, filter}
 use Rattle.std.specs.Option.{option_or}
 use Rattle.std.specs.List.{All, slice_get, list_all}
@@ -51,23 +51,21 @@ record IsTold (f : Forest) (p : Place) : Type 0 where
   pub own : IsOwn f (children_of f p.table) p.spot
 
 spot_told : (f : Forest) (table cell : ℕ) (o : Option Spot) (p : Place) → spot_of (spots_of f table) cell ≡ o → place_among table (spots_of f table) cell ≡ Some p → IsTold f p
-spot_told f table cell None p found e = let none : place_among table (spots_of f table) cell ≡ None = rw found refl in absurd (cc)
+spot_told f table cell None p found e = absurd (let none = rw found at e in cc)
 spot_told f table cell (Some s) p found e =
-    let some : place_among table (spots_of f table) cell ≡ Some (place table (spots_of f table) s) = rw found refl in
-    let is : place table (spots_of f table) s ≡ p = cc in
+    let is : place table (spots_of f table) s ≡ p = (let some = rw found at e in cc) in
     subst (IsTold f) is (record { spots = refl; own = found_has (IsOwn f (children_of f table)) (is_of_cell cell) (spots_of f table) s (spots_own f table) found })
-
-table_told : (f : Forest) (cell : ℕ) (o : Option ℕ) (p : Place) → place_below f cell o ≡ Some p → IsTold f p
-table_told f cell None p e = absurd (cc)
-table_told f cell (Some table) p e = spot_told f table cell (spot_of (spots_of f table) cell) p refl e
 
 cell_told : (f : Forest) (o : Option ℕ) (p : Place) → place_of_cell f o ≡ Some p → IsTold f p
 cell_told f None p e = absurd (cc)
-cell_told f (Some cell) p e = table_told f cell (table_above f cell) p e
+cell_told f (Some cell) p e = by_table (table_above f cell) e where
+  by_table : (o : Option ℕ) → place_below f cell o ≡ Some p → IsTold f p
+  by_table None e = absurd (cc)
+  by_table (Some table) e = spot_told f table cell (spot_of (spots_of f table) cell) p refl e
 
 needed_told : (f : Forest) (s : Selection) (o : Option ℕ) (found : Option Place) (p : Place) → place_of_cell f o ≡ found → needed s found ≡ Ok p → IsTold f p
 needed_told f s o None p is e = absurd (cc)
-needed_told f s o (Some q) p is e = let same : q ≡ p = cc in cell_told f o p (is ∙ ap (λ (x : Place). Some x) same)
+needed_told f s o (Some q) p is e = cell_told f o p (let same : q ≡ p = cc in cc)
 
 focus_told : (w : Working) (r : Result ℕ Cause) (p : Place) → after r (λ k. needed w.selection (place_of_cell w.forest (cell_of w.forest k))) ≡ Ok p → IsTold w.forest p
 focus_told w (Ok k) p e = needed_told w.forest w.selection (cell_of w.forest k) (place_of_cell w.forest (cell_of w.forest k)) p refl e
@@ -150,15 +148,12 @@ comes w h v table new like i k ready at set e =
 filter_none : (test : Spot → Bool) (spots : List Spot) → All (λ s. test s ≡ false) spots → filter test spots ≡ []
 filter_none test [] all = refl
 filter_none test (s ∷ spots) all =
-    let here : test s ≡ false = All-head (λ t. test t ≡ false) s spots all in rw here (filter_none test spots (All-tail (λ t. test t ≡ false) s spots all))
+    rw (All-head (λ t. test t ≡ false) s spots all) (filter_none test spots (All-tail (λ t. test t ≡ false) s spots all))
 
 not_all : (test : Spot → Bool) (spots : List Spot) (i : ℕ) (s : Spot) → slice_get spots i ≡ Some s → test s ≡ false → list_all test spots ≡ false
 not_all test [] i s at fails = absurd (cc)
-not_all test (x ∷ spots) zero s at fails = let is : x ≡ s = cc in ap (λ b. b && list_all test spots) (ap test is ∙ fails)
-not_all test (x ∷ spots) (suc i) s at fails = ap (λ b. test x && b) (not_all test spots i s at fails) ∙ and_false (test x) where
-  and_false : (b : Bool) → (b && false) ≡ false
-  and_false true = refl
-  and_false false = refl
+not_all test (x ∷ spots) zero s at fails = let is : x ≡ s = cc in rw (is, fails) refl
+not_all test (x ∷ spots) (suc i) s at fails = grind (arith, not_all test spots i s at fails)
 
 none_moves : (spots : List Spot) (row : ℕ) (o : Option ℕ) (w v : Working) → filter (goes_below row) spots ≡ [] → all_moved_down spots row o w ≡ Ok v → w ≡ v
 unfolding in_turn
@@ -168,7 +163,7 @@ none_moves spots row (Some next) w v none e =
 
 careted_forest : (o : Option Spot) (w v : Working) → caret_in_spot o w ≡ Ok v → v.forest ≡ w.forest
 unfolding caret_in_step caret_step select_step
-careted_forest None w v e = let same : w ≡ v = cc in sym (ap (λ (x : Working). x.forest) same)
+careted_forest None w v e = cc
 careted_forest (Some s) w v e = ap (λ (x : Working). x.forest) (answered _ _ v e)
 
 -- what is above a node that goes has other children
@@ -188,11 +183,7 @@ removed_forest k p w v ordered up more e =
 
 -- the row of a cell that was there isn't the new one
 other_row : (new i j : ℕ) → IsShifted new i j → (j == new) ≡ false
-other_row new i j shift =
-    elim shift [
-      | inl low ↦ let h : i < new = low.0 in let is : j ≡ i = low.1 in grind (arith, eqb_tells j new, h, is)
-      | inr high ↦ let h : new ≤ i = high.0 in let is : j ≡ i + 1 = high.1 in grind (arith, eqb_tells j new, h, is)
-    ]
+other_row new i j shift = grind (arith, eqb_tells j new, shift)
 
 -- no cell of the new row goes on below it
 none_below : (f : Forest) (table new : ℕ) (x : Working) (come : HasCome f table new x) → filter (goes_below new) (spots_of x.forest table) ≡ []
