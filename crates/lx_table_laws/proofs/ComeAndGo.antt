@@ -29,7 +29,7 @@ use Rattle.lx_edit.proofs.Paths.{every}
 use Rattle.lx_blocks.specs.Blocks.{cell_of}
 use Rattle.lx_table.specs.declared.spots.Spot.{Spot}
 use Rattle.lx_table.specs.Spots.{spot_of, spot_at, is_of_cell, end_column}
-use Rattle.lx_table.specs.Spans.{row_span, heights_set}
+use Rattle.lx_table.specs.Spans.{row_span, heights_set, span_step}
 use Rattle.lx_table.specs.Grid.{spots_of, spots_over, grid_of}
 use Rattle.lx_table.specs.Places.{Place, place, place_among, place_below, table_above, place_of_cell, needed, focus_of, place_of, at_place, caret_step, caret_in_step, caret_in_spot}
 use Rattle.lx_table.specs.Growing.{crosses_row, crossing, taller, column_filled, row_inserted, row_at, insert_row_step}
@@ -77,18 +77,6 @@ place_told w p e = focus_told w (focus_of w) p e
 
 -- ---- the row comes
 
-abbrev taller_rows : Spot → ℕ
-taller_rows s = s.height + 1
-
-abbrev lower_rows : Spot → ℕ
-lower_rows s = s.height - 1
-
-due_across : (f : Forest) (table new : ℕ) (rows : Spot → ℕ) (rows_at : ℕ → ℕ) → ((i : ℕ) (s : Spot) → slice_get (spots_of f table) i ≡ Some s → IsOwn f (children_of f table) s → rows s ≡ rows_at s.cell)
-    → All (IsDue f rows rows_at) (crossing new (spots_of f table))
-due_across f table new rows rows_at each =
-    All-filter (crosses_row new) (IsDue f rows rows_at) (spots_of f table)
-    (all_by (IsDue f rows rows_at) (IsOwn f (children_of f table)) (spots_of f table) (spots_own f table) (λ i s at own. record { width = own.width; height = each i s at own }))
-
 record HasCome (f : Forest) (table new : ℕ) (v : Working) : Type 0 where
   pub row : ℕ
   pub set : Forest
@@ -96,40 +84,20 @@ record HasCome (f : Forest) (table new : ℕ) (v : Working) : Type 0 where
   pub way : HasRow f table new row set grown v.forest
   pub ready : IsReady v
 
-grows : (w h y : Working) (table new : ℕ) → IsReady w → heights_set (spots_of w.forest table) w ≡ Ok h → in_turn taller (crossing new (spots_of w.forest table)) h ≡ Ok y
-    → IsSpanned h.forest y.forest (cells_in (crossing new (spots_of w.forest table))) (λ q. height_at (spots_of w.forest table) q + 1) × IsReady y
-grows w h y table new ready set e =
-    let spots : List Spot = spots_of w.forest table in
-    let heights = heights_spanned w h table ready.in_order set in
+-- heights are set, and then those of the cells across a row are changed
+changed : (change : ℕ → ℕ) (w h y : Working) (table new : ℕ) → IsReady w → heights_set (spots_of w.forest table) w ≡ Ok h → in_turn (λ (s : Spot). span_step (change s.height) s.width s.cell) (crossing new (spots_of w.forest table)) h ≡ Ok y
+    → IsSpanned h.forest y.forest (cells_in (crossing new (spots_of w.forest table))) (λ q. change (height_at (spots_of w.forest table) q)) × IsReady y
+changed change w h y table new ready set e =
+    let f : Forest = w.forest in
+    let spots : List Spot = spots_of f table in
+    let rows : Spot → ℕ = λ s. change s.height in
+    let rows_at : ℕ → ℕ = λ q. change (height_at spots q) in
+    let all : All (IsDue f rows rows_at) spots = all_by (IsDue f rows rows_at) (IsOwn f (children_of f table)) spots (spots_own f table)
+    (λ i s at own. record { width = own.width; height = ap change (sym (height_found f table ready.in_order spots i s (spots_own f table) own at)) }) in
     let ready_h : IsReady h = (heights_path covered_path spots w h ready set).ready in (
-      spots_spanned w.forest taller_rows (λ q. height_at spots q + 1) (crossing new spots) h y heights.columns
-          (due_across w.forest table new taller_rows (λ q. height_at spots q + 1) (λ j s there own. ap (λ n. n + 1) (sym (height_found w.forest table ready.in_order spots j s (spots_own w.forest table) own there)))) e,
-      (every covered_path taller (crossing new spots) (λ s. span_path covered_path (s.height + 1) s.width s.cell) h y ready_h e).ready,
+      spots_spanned f rows rows_at (crossing new spots) h y (heights_spanned w h table ready.in_order set).columns (All-filter (crosses_row new) (IsDue f rows rows_at) spots all) e,
+      (every covered_path (λ (s : Spot). span_step (change s.height) s.width s.cell) (crossing new spots) (λ s. span_path covered_path (change s.height) s.width s.cell) h y ready_h e).ready,
     )
-
-row_comes : (w h y u t v : Working) (table new like i k : ℕ) → IsReady w → slice_get (children_of w.forest table) i ≡ Some k → heights_set (spots_of w.forest table) w ≡ Ok h
-    → in_turn taller (crossing new (spots_of w.forest table)) h ≡ Ok y → new_step Row plain_element y ≡ Ok u → put_step y.next_key table new u ≡ Ok t
-    → in_turn (column_filled (spots_of w.forest table) (crossing new (spots_of w.forest table)) like y.next_key) (keys_from 0 (end_column (spots_of w.forest table))) t ≡ Ok v → HasCome w.forest table new v
-row_comes w h y u t v table new like i k ready at set taller_e new_e put_e filled_e =
-    let spots : List Spot = spots_of w.forest table in
-    let heights = heights_spanned w h table ready.in_order set in
-    let grown = grows w h y table new ready set taller_e in
-    let first : is_among k (children_of y.forest table) ≡ true =
-    ap (is_among k) (grown.0.children table ∙ heights.children table) ∙ is_among-slice_get (children_of w.forest table) k i at in
-    let opened = row_opened table new spots (crossing new spots) like (keys_from 0 (end_column spots)) y u t v grown.1 (parent_below y k table grown.1 first) new_e put_e filled_e in
-    record {
-      row = y.next_key;
-      set = h.forest;
-      grown = y.forest;
-      way = record {
-        in_order = ready.in_order;
-        heights = heights;
-        taller = grown.0;
-        made = opened.0;
-        below = λ p q among. (child_below y q p grown.1 among, parent_below y q p grown.1 among);
-      };
-      ready = opened.1;
-    }
 
 comes : (w h v : Working) (table new like i k : ℕ) → IsReady w → slice_get (children_of w.forest table) i ≡ Some k → heights_set (spots_of w.forest table) w ≡ Ok h
     → row_inserted table (spots_of w.forest table) new like h ≡ Ok v → HasCome w.forest table new v
@@ -141,7 +109,18 @@ comes w h v table new like i k ready at set e =
     let a = first_part (in_turn taller (crossing new spots) h) (λ x. after (new_step Row plain_element x) (put x.next_key)) v e in
     let b = first_part (new_step Row plain_element a.0) (put a.0.next_key) v a.2 in
     let c = first_part (put_step a.0.next_key table new b.0) (cells a.0.next_key) v b.2 in
-    row_comes w h a.0 b.0 c.0 v table new like i k ready at set a.1 b.1 c.1 c.2
+    let heights = heights_spanned w h table ready.in_order set in
+    let grown = changed (λ n. n + 1) w h a.0 table new ready set a.1 in
+    let first : is_among k (children_of a.0.forest table) ≡ true =
+    ap (is_among k) (grown.0.children table ∙ heights.children table) ∙ is_among-slice_get (children_of w.forest table) k i at in
+    let opened = row_opened table new spots (crossing new spots) like (keys_from 0 (end_column spots)) a.0 b.0 c.0 v grown.1 (parent_below a.0 k table grown.1 first) b.1 c.1 c.2 in
+    record {
+      row = a.0.next_key;
+      set = h.forest;
+      grown = a.0.forest;
+      way = record { in_order = ready.in_order; heights = heights; taller = grown.0; made = opened.0; below = λ p q among. (child_below a.0 q p grown.1 among, parent_below a.0 q p grown.1 among) };
+      ready = opened.1;
+    }
 
 -- ---- the row goes
 
@@ -235,18 +214,8 @@ caret_goes keys row column w v e =
 
 shrinks : (x h y : Working) (table new : ℕ) → IsReady x → heights_set (spots_of x.forest table) x ≡ Ok h → in_turn lower (crossing new (spots_of x.forest table)) h ≡ Ok y → IsShrunk table new x.forest h.forest y.forest
 shrinks x h y table new ready set e =
-    let spots : List Spot = spots_of x.forest table in
-    let reset = heights_spanned x h table ready.in_order set in
-    let ready_h : IsReady h = (heights_path covered_path spots x h ready set).ready in
-    let ready_y : IsReady y = (every covered_path lower (crossing new spots) (λ s. span_path covered_path (s.height - 1) s.width s.cell) h y ready_h e).ready in
-    record {
-      opened_in_order = ready.in_order;
-      reset = reset;
-      lower =
-          spots_spanned x.forest lower_rows (λ q. height_at spots q - 1) (crossing new spots) h y reset.columns
-          (due_across x.forest table new lower_rows (λ q. height_at spots q - 1) (λ j s there own. ap (λ n. n - 1) (sym (height_found x.forest table ready.in_order spots j s (spots_own x.forest table) own there)))) e;
-      shrunk_in_order = ready_y.in_order;
-    }
+    let lower = changed (λ n. n - 1) x h y table new ready set e in
+    record { opened_in_order = ready.in_order; reset = heights_spanned x h table ready.in_order set; lower = lower.0; shrunk_in_order = lower.1.in_order }
 
 goes : (f : Forest) (table new column i k : ℕ) (x h u : Working) (come : HasCome f table new x) → slice_get (children_of f table) i ≡ Some k
     → heights_set (spots_of x.forest table) x ≡ Ok h → row_taken table (spots_of x.forest table) new column h ≡ Ok u → grid_of u.forest table ≡ grid_of f table
