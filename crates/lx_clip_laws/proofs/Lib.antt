@@ -1,5 +1,3 @@
-pub mod Apart
-pub mod Around
 pub mod Between
 pub mod Covering
 pub mod Gaps

@@ -34,8 +34,7 @@ use Rattle.lx_caret.specs.Adding.{is_inside}
 use Rattle.lx_caret.specs.Paragraphs.{place_of, cut_open, parted_at, link_parted, Parted, parted_up, before_point, holders, holders_in}
 use Rattle.lx_caret.proofs.Fit.{after_tells}
 use Rattle.lx_clip.proofs.Parted.{named_up, among_drop}
-use Rattle.lx_clip_laws.proofs.Around.{keeps_like, keeps_all, nowhere, above_out, around_trees}
-use Rattle.lx_clip_laws.proofs.Staying.{IsApart, Keeps, keeps_behind, keeps_split, if_taken}
+use Rattle.lx_clip_laws.proofs.Staying.{keeps_like, keeps_all, nowhere, above_out, around_trees, IsApart, Keeps, keeps_behind, keeps_split, if_taken}
 use Rattle.lx_node.specs.declared.cause.PointKind.{PointKind}
 use Rattle.lx_node.specs.declared.cause.PointKind.TheVariants as point
 use Rattle.lx_edit.proofs.Covered.{covered_path}

@@ -14,8 +14,7 @@ use Rattle.lx_json.proofs.BackKeys.{pieces-keyed}
 use Rattle.lx_clip.specs.Slices.{sliced, slice_data}
 use Rattle.lx_clip.specs.Pasting.{begins_inline, placed, insert_step, nodes_added, block_opened, put_beyond, outer_block, blocks_added, holder, placed_at, json_of, paste_step}
 use Rattle.lx_clip_laws.specs.Copies.{IsKept, slice_read, is_limit, IsReadBack, SlicesAreReadBack}
-use Rattle.lx_clip_laws.proofs.Growing.{Makes, makes_under, key_low}
-use Rattle.lx_clip_laws.proofs.Apart.{AreMade, nodes_make}
+use Rattle.lx_clip_laws.proofs.Growing.{Makes, makes_under, key_low, AreMade, nodes_make}
 use Rattle.lx_clip_laws.proofs.Covering.{slice_readable}
 use Rattle.std.specs.Option.{option_or}
 use Rattle.lx_node.specs.Strings.{characters_of}
@@ -38,7 +37,7 @@ use Rattle.lx_forest.proofs.Within.{is_within-self}
 use Rattle.lx_json.proofs.Grown.{keyed-low}
 use Rattle.lx_clip_laws.specs.Pastes.{IsCopied, IsInserted, IsPasted, CopiesArePasted}
 use Rattle.lx_clip_laws.proofs.Pasted.{inlines_between, beyond_between}
-use Rattle.lx_clip_laws.proofs.Staying.{opened_stays}
+use Rattle.lx_clip_laws.proofs.Staying.{opened_stays, above_out}
 use Rattle.lx_clip_laws.proofs.Parting.{opened_trees}
 use Rattle.lx_node.specs.Kinds.{is_text_block, may_hold}
 use Rattle.lx_select.specs.declared.selection.Selection.TheVariants.{Range}
@@ -50,7 +49,6 @@ use Rattle.lx_caret.proofs.Breaks.{attached_known}
 use Rattle.lx_caret.proofs.Cleared.{remove_text_fits}
 use Rattle.lx_caret.proofs.Lies.{both}
 use Rattle.lx_caret.proofs.Selected.{found_among}
-use Rattle.lx_clip_laws.proofs.Around.{above_out}
 
 -- ---- read back
 

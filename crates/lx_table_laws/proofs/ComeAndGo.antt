@@ -1,7 +1,14 @@
 -- A row is inserted and deleted again, step by step.
-use Rattle.std.proofs.Common.{◌≡◌, ◌∙◌, ℕ, zero, suc, ◌+◌, ◌-◌, ◌<◌, ◌==◌, ◌&&◌, Bool, true, false, cond, List, [], ◌∷◌, length, Option, None, Some, Result, Ok, Err, refl, sym, ap, subst, arith, inl, inr}
-use Rattle.std.specs.Prelude.{min, nat_lt, filter}
+use Rattle.std.proofs.Common.{ℕ, List, Option, None, Some, ◌≡◌, ◌∙◌, zero, suc, ◌+◌, ◌-◌, ◌<◌, ◌==◌, ◌&&◌, Bool, true, false, cond, [], ◌∷◌, length, Result, Ok, Err, refl, sym, ap, subst, arith, inl, inr}
 use Rattle.std.specs.Option.{option_or}
+use Rattle.lx_node.specs.declared.fields.Fields.{Fields}
+use Rattle.lx_forest.specs.Lookups.{fields_of, kind_of, parent_of, children_of, size_of, ancestors, IsForest}
+use Rattle.lx_draft.specs.Working.{Working}
+use Rattle.lx_edit.proofs.Paths.{Leads, allowed, every}
+use Rattle.lx_blocks.proofs.Paths.{IsWay, stays}
+use Rattle.lx_table.specs.declared.spots.Spot.{Spot}
+use Rattle.lx_table.specs.Spans.{over_span, with_spans, spans_written, span_step, height_set, heights_set, row_span}
+use Rattle.std.specs.Prelude.{min, nat_lt, filter}
 use Rattle.std.specs.List.{All, slice_get, list_all}
 use Rattle.std.proofs.lemmas.Bool.Decides.{eqb_tells, nat_tests}
 use Rattle.std.proofs.lemmas.Option.{slice_get_within}
@@ -13,10 +20,8 @@ use Rattle.lx_node.specs.declared.kind.Kind.TheVariants.{Row}
 use Rattle.lx_node.specs.declared.cause.Cause.{Cause}
 use Rattle.lx_select.specs.declared.selection.Selection.{Selection}
 use Rattle.lx_forest.specs.Forest.{Forest}
-use Rattle.lx_forest.specs.Lookups.{kind_of, parent_of, children_of, size_of, ancestors, IsForest}
 use Rattle.lx_forest.specs.Edits.{take_out}
 use Rattle.lx_forest.proofs.Walks.{ancestors-step}
-use Rattle.lx_draft.specs.Working.{Working}
 use Rattle.lx_draft.specs.Covering.{IsReady}
 use Rattle.lx_draft.specs.Faults.{after}
 use Rattle.lx_draft.specs.Steps.{new_step, take_step, put_step, select_step}
@@ -25,24 +30,37 @@ use Rattle.lx_edit.specs.Edits.{sent_away, goes_too, removed, remove_step}
 use Rattle.lx_edit.specs.Texts.{keys_from}
 use Rattle.lx_edit.proofs.Climbed.{answered, first_part, sent_away-forest, taken-forest}
 use Rattle.lx_edit.proofs.Covered.{covered_path}
-use Rattle.lx_edit.proofs.Paths.{every}
 use Rattle.lx_blocks.specs.Blocks.{cell_of}
-use Rattle.lx_table.specs.declared.spots.Spot.{Spot}
 use Rattle.lx_table.specs.Spots.{spot_of, spot_at, is_of_cell, end_column}
-use Rattle.lx_table.specs.Spans.{row_span, heights_set, span_step}
 use Rattle.lx_table.specs.Grid.{spots_of, spots_over, grid_of}
 use Rattle.lx_table.specs.Places.{Place, place, place_among, place_below, table_above, place_of_cell, needed, focus_of, place_of, at_place, caret_step, caret_in_step, caret_in_spot}
 use Rattle.lx_table.specs.Growing.{crosses_row, crossing, taller, column_filled, row_inserted, row_at, insert_row_step}
 use Rattle.lx_table.specs.Shrinking.{first_spot, is_in_row_alone, goes_below, lower, moved_down, all_moved_down, without_at, caret_without_row, row_removed, row_taken, row_deleted, delete_row_step}
 use Rattle.lx_table_laws.specs.Laws.{new_row}
 use Rattle.lx_table.proofs.Kept.{found_has}
-use Rattle.lx_table_laws.proofs.Paths.{span_path, heights_path}
 use Rattle.lx_table.proofs.Alike.{same_grid}
 use Rattle.lx_table.proofs.Own.{IsOwn, spots_own, spot_in_row, row_of_spot, above_is, height_at, height_found, all_by, cells_in}
 use Rattle.lx_table.proofs.Spanned.{IsSpanned, IsDue, spots_spanned}
 use Rattle.lx_table_laws.proofs.Opened.{child_below, parent_below, row_opened}
 use Rattle.lx_table.proofs.Heights.{heights_spanned}
 use Rattle.lx_table_laws.proofs.Again.{IsShifted, HasRow, IsShrunk, was_there, alike_again, new_row_at}
+
+-- ---- what holds of each step of a draft, and of one after another, holds of setting spans
+
+module _ {D : Working → Type 0} {R : Working → Working → Type 0} (way : IsWay D R) where
+  spans_written_path : (rows columns cell : ℕ) (o : Option Fields) → Leads D R (spans_written rows columns cell o)
+  spans_written_path rows columns cell None w v r e = stays way w v r e
+  spans_written_path rows columns cell (Some fields) w v r e = way.set cell (with_spans rows columns fields) w v r e
+
+  pub span_path : (rows columns cell : ℕ) → Leads D R (span_step rows columns cell)
+  unfolding span_step
+  span_path rows columns cell w v r e =
+      allowed R w v (option_or (over_span rows) (over_span columns)) (λ u. spans_written rows columns cell (fields_of u.forest cell) u)
+      (λ f. spans_written_path rows columns cell (fields_of w.forest cell) w v r f) e
+
+  pub heights_path : (spots : List Spot) → Leads D R (heights_set spots)
+  unfolding heights_set
+  heights_path spots w v r e = every way height_set spots (λ s. span_path s.height s.width s.cell) w v r e
 
 -- ---- the caret's cell
 
