@@ -27,7 +27,7 @@ use Rattle.lx_draft.specs.Steps.{made, new_step, node_placed, put_step}
 use Rattle.lx_draft.specs.Covering.{IsReady, AreCovered}
 use Rattle.lx_draft.proofs.Covered.{covered-self, covered-then}
 use Rattle.lx_draft.proofs.CoveredSteps.{covered-new, covered-put}
-use Rattle.lx_json.specs.Reading.{Piece, and_then, under, told_under, child_place, piece_of, with_tree, with_rest, trees_of}
+use Rattle.lx_json.specs.Reading.{Piece, and_then, told_under, child_place, piece_of, with_tree, with_rest, trees_of}
 use Rattle.std.specs.Prelude.{option_and_then}
 use Rattle.serde_json.specs.Find.{as_array}
 use Rattle.lx_fields.specs.Exporting.{node_data}
@@ -46,7 +46,7 @@ use Rattle.lx_json.specs.Nodes.{put_below, node_new, node_made, items_made, chil
 use Rattle.lx_json.proofs.Grown.{keyed-low, grown-none}
 use Rattle.lx_clip_laws.specs.Copies.{is_limit}
 use Rattle.lx_trees.specs.Siblings.{is_among}
-use Rattle.lx_trees.specs.Spots.{Spot, parent_at}
+use Rattle.lx_trees.specs.Spots.{parent_at}
 use Rattle.lx_trees.proofs.Spots.{spot_below-absent}
 use Rattle.lx_trees.specs.Edits as rooted
 use Rattle.lx_forest.specs.Lookups as lookups
@@ -65,13 +65,10 @@ pub makes_as : {A : Type 0} (P Q : A → Type 0) (r : Result A Cause) → Makes 
 makes_as P Q (Ok a) m so = so a m
 makes_as P Q (Err cause) m so = m
 
-limit_under : (place : List ℕ) (cause : Cause) → is_limit cause ≡ true → is_limit (under place cause) ≡ true
-limit_under place (BadState rest) is = absurd (cc)
-limit_under place _ is = is
-
 pub makes_under : {A : Type 0} (P : A → Type 0) (place : List ℕ) (r : Result A Cause) → Makes P r → Makes P (told_under place r)
 makes_under P place (Ok a) m = m
-makes_under P place (Err cause) m = limit_under place cause m
+makes_under P place (Err (BadState rest)) m = absurd (cc)
+makes_under P place (Err _) m = m
 
 counts_limit : (w : Working) (cause : Cause) → over_counts w ≡ Some cause → is_limit cause ≡ true
 counts_limit w cause e = grind (arith, e)
@@ -129,9 +126,6 @@ kind_new piece w u ready new =
     ap (λ f. kind_of f w.next_key) new.forest ∙ kind_of-with_new l w.forest w.next_key ready.in_order (next_free w ready)
     ∙ ap (λ b. cond b (Some l.kind) (kind_of w.forest w.next_key)) (own_key w.next_key)
 
-kind_stays : (p : ℕ) (kind : Kind) (w u : Working) → AreCovered w u → kind_of w.forest p ≡ Some kind → kind_of u.forest p ≡ Some kind
-kind_stays p kind w u a is = a.kinds.each p kind is
-
 above_zero : (n : ℕ) → 0 < n → eqb n 0 ≡ false
 above_zero n low = grind (arith, eqb_tells n 0)
 
@@ -146,7 +140,7 @@ no_fault p above piece w u parent held new =
     let ready = parent.ready in
     let free = next_free w ready in
     let inner = kind_new piece w u ready new in
-    let outer = kind_stays p above w u new.covered parent.kind_is in
+    let outer = new.covered.kinds.each p above parent.kind_is in
     let key_there : has w.next_key u.forest ≡ true = has-kind u.forest w.next_key piece.kind inner in
     let there : has p u.forest ≡ true = has-kind u.forest p above outer in
     let low : p < w.next_key = key_low p w ready (has-kind w.forest p above parent.kind_is) in
@@ -187,7 +181,7 @@ put_made p above piece w u parent held new =
         next = omega (arith, new.next);
         covered = covered-then w u v new.covered came;
       };
-      kind_is = kind_stays w.next_key piece.kind u v came (kind_new piece w u parent.ready new);
+      kind_is = came.kinds.each w.next_key piece.kind (kind_new piece w u parent.ready new);
     }))
 
 node_new_made : (p : ℕ) (above : Kind) (piece : Piece) (w : Working) → HasParent p above w → may_hold above piece.kind ≡ true → Makes (IsPut p piece w) (node_new piece (Some p) w)
@@ -233,7 +227,7 @@ grows_then p piece below rest w u v low a b =
     }
 
 parent_after : (p : ℕ) (kind : Kind) (w u : Working) → HasParent p kind w → AreCovered w u → HasParent p kind u
-parent_after p kind w u parent a = record { ready = a.ready; kind_is = kind_stays p kind w u a parent.kind_is }
+parent_after p kind w u parent a = record { ready = a.ready; kind_is = a.kinds.each p kind parent.kind_is }
 
 parent_low : (p : ℕ) (kind : Kind) (w : Working) → HasParent p kind w → p < w.next_key
 parent_low p kind w parent = key_low p w parent.ready (has-kind w.forest p kind parent.kind_is)
@@ -394,10 +388,7 @@ comes-top piece below w v ready a =
     let free : count n w.forest ≡ 0 = grind (arith, nat_tests, next_free w ready) in
     let under : count n (keyed (n + 1) below) ≡ 0 = keyed-low (n + 1) n below (omega arith) in
     let once : count n new + count n w.forest < 2 = grind (arith, free, under, eqb_tells n n) in
-    ap (λ f. parent_of f n) a.forest ∙ ap parent_at (spot-among_roots n new w.forest n once) ∙ first_top n piece (keyed (n + 1) below) (spot w.forest n)
-  where
-    first_top : (n : ℕ) (piece : Piece) (below : Forest) (s : Option (Spot Label)) → parent_at (option_or (spot (tree (label_for n piece) below nil) n) s) ≡ None
-    first_top n piece below s = rw (own_key n) refl
+    ap (λ f. parent_of f n) a.forest ∙ ap parent_at (spot-among_roots n new w.forest n once) ∙ rw (own_key n) refl
 
 first_there : (n : ℕ) (piece : Piece) (below : Forest) → has n (tree (label_for n piece) below nil) ≡ true
 first_there n piece below = grind (arith, nat_tests, eqb_tells n n)
