@@ -1,14 +1,18 @@
 -- Nodes that are put in stand between what stood before the place and what stood after it.
-use Rattle.std.proofs.Common.{◌≡◌, ◌≢◌, ◌∙◌, ◌+◌, ℕ, Bool, true, false, cond, eqb, ◌||◌, List, [], ◌∷◌, ◌++◌, length, Option, None, Some, Ok, refl, ap, sym, subst, arith, append_assoc}
+use Rattle.std.proofs.Common.{◌≡◌, ◌≢◌, ◌∙◌, ℕ, true, false, Option, ap, sym, arith, inl, inr, ◌+◌, eqb, List, [], ◌∷◌, ◌++◌, length, None, Some, Ok, refl, append_assoc, take, drop, Result}
+use Rattle.std.proofs.lemmas.Bool.{cases_Bool}
+use Rattle.std.proofs.lemmas.Bool.Decides.{nat_tests, eqb_tells}
+use Rattle.lx_trees.specs.NamedTrees.{put_below}
+use Rattle.lx_trees.proofs.NamedTrees.{put_below-absent, without-absent}
+use Rattle.lx_forest.specs.Forest.{Forest}
+use Rattle.lx_forest.specs.Lookups.{key_of, has, count, alone, without, is_within, IsForest, label_of, parent_of, children_of, children_below, index_of}
+use Rattle.lx_forest.specs.Edits.{put_in, CanPut}
+use Rattle.lx_forest.proofs.Within.{alone-put_in_inside, alone-put_in_outside, is_within-put_in, is_within-top, is_within-self}
 use Rattle.std.specs.Prelude.{slice_get}
 use Rattle.std.specs.Option.{option_or}
-use Rattle.std.proofs.lemmas.Bool.Decides.{eqb_tells}
-use Rattle.lx_trees.specs.Siblings.{is_named, is_among, NoRepeats, index_in, names_with}
+use Rattle.lx_trees.specs.Siblings.{is_among, index_in, names_with}
 use Rattle.lx_trees.proofs.Siblings.{is_among-append}
-use Rattle.lx_forest.specs.Forest.{Forest}
-use Rattle.lx_forest.specs.Lookups.{alone, label_of, parent_of, children_of, children_below, index_of, is_within, IsForest}
-use Rattle.lx_forest.specs.Edits.{put_in}
-use Rattle.lx_forest.proofs.Lookups.{is_among-children_of, NoRepeats-children_of, children_of-put_in, label_of-put_in}
+use Rattle.lx_forest.proofs.Lookups.{NoRepeats-children_of, children_of-put_in, label_of-put_in}
 use Rattle.lx_draft.specs.Working.{Working}
 use Rattle.lx_draft.specs.Faults.{over_counts, put_fault}
 use Rattle.lx_draft.specs.Steps.{node_placed, put_step}
@@ -19,8 +23,32 @@ use Rattle.lx_draft.proofs.CoveredSteps.{covered-put}
 use Rattle.lx_draft.proofs.Put.{both_none, can_put, put_within}
 use Rattle.lx_edit.proofs.Climbed.{first_part}
 use Rattle.lx_clip.specs.Pasting.{put_behind_each}
-use Rattle.lx_clip_laws.proofs.Gaps.{names_at, in_two, at_name, index_between, among_between}
-use Rattle.lx_clip_laws.proofs.Placing.{within_put, alone_put}
+use Rattle.lx_clip.proofs.Parted.{named_up}
+use Rattle.lx_edit.proofs.Paths.{ok}
+use Rattle.lx_trees.proofs.Positions.{slice_get-index_in}
+use Rattle.lx_node.specs.declared.cause.Cause.{Cause}
+use Rattle.std.proofs.lemmas.List.{take-append-drop, length-take}
+use Rattle.lx_clip_laws.proofs.Gaps.{names_at, at_name, index_between, among_between}
+
+pub none_of : (q : ℕ) (f : Forest) → has q f ≡ false → count q f ≡ 0
+none_of q f free = grind (arith, nat_tests, free)
+
+-- whoever holds the parent held it before
+pub within_put : (a p : ℕ) (before : Option ℕ) (k : ℕ) (f : Forest) → IsForest f → CanPut p k f → is_within (put_in p before k f) a p ≡ is_within f a p
+within_put a p before k f h can = is_within-put_in p before k f a p h can ∙ grind (arith, can.outside)
+
+-- a tree that doesn't hold the parent stays
+pub alone_put : (a p : ℕ) (before : Option ℕ) (k : ℕ) (f : Forest) → IsForest f → CanPut p k f → is_within f a p ≡ false → alone a (put_in p before k f) ≡ alone a f
+alone_put a p before k f h can out = elim (cases_Bool (is_within f k a)) [
+  | inl inside ↦ alone-put_in_inside a p before k f h can inside
+  | inr outside ↦
+      let other : k ≢ a = λ same. absurd (let self : is_within f k a ≡ true = ap (is_within f k) (sym same) ∙ is_within-self f k ∙ can.there in cc) in
+      let apart : is_within f a k ≡ false = is_within-top f a k h can.detached other in
+      let stays : without k (alone a f) ≡ alone a f = without-absent key_of k (alone a f) (none_of k (alone a f) apart) in
+      alone-put_in_outside a p before k f h can outside
+      ∙ ap (put_below key_of p before (alone k f)) stays
+      ∙ put_below-absent key_of p before (alone k f) (alone a f) (none_of p (alone a f) out)
+]
 
 -- These nodes came below one parent, between the children before and those after them.
 pub record Came (p : ℕ) (before keys behind : List ℕ) (w v : Working) : Type 0 where
@@ -35,9 +63,6 @@ pub record Came (p : ℕ) (before keys behind : List ℕ) (w v : Working) : Type
 
 -- ---- one
 
-one_outside : (k p q : ℕ) (f : Forest) → is_within f k p ≡ false → is_among q (k ∷ []) ≡ true → is_within f q p ≡ false
-one_outside k p q f out among = let same : k ≡ q = grind (arith, among, eqb_tells k q) in subst (λ x. is_within f x p ≡ false) same out
-
 pub put_came : (k p index : ℕ) (before behind : List ℕ) (w v : Working) → IsReady w → children_of w.forest p ≡ before ++ behind → length before ≡ index → put_step k p index w ≡ Ok v → Came p before (k ∷ []) behind w v
 unfolding put_step
 put_came k p index before behind w v ready was many e =
@@ -45,44 +70,31 @@ put_came k p index before behind w v ready was many e =
     let none = (both_none (put_fault k p index w.forest) (over_counts w) told.0).0 in
     let can = can_put w.forest k p index none in
     let h = ready.in_order in
+    let here : names_with (slice_get (children_of w.forest p) index) (k ∷ []) (children_of w.forest p) ≡ before ++ (k ∷ behind) =
+    rw (was, ← many) (names_at before behind k (let once = NoRepeats-children_of w.forest p h in rw was at once)) in
     let o : Option ℕ = slice_get (children_of w.forest p) index in
-    let forest : v.forest ≡ put_in p o k w.forest = ap (λ u. u.forest) (sym told.1) in
-    let own : eqb p p ≡ true = grind (arith, eqb_tells p p) in
-    let here : names_with o (k ∷ []) (children_of w.forest p) ≡ before ++ (k ∷ behind) =
-    ap (λ i. names_with (slice_get (children_of w.forest p) i) (k ∷ []) (children_of w.forest p)) (sym many)
-    ∙ ap (λ xs. names_with (slice_get xs (length before)) (k ∷ []) xs) was
-    ∙ names_at before behind (k ∷ []) (subst NoRepeats was (NoRepeats-children_of w.forest p h)) in
     record {
       was = was;
-      now =
-          ap (λ f. children_of f p) forest ∙ children_of-put_in p o k w.forest p h can
-          ∙ ap (λ b. cond b (names_with o (k ∷ []) (children_of w.forest p)) (children_of w.forest p)) own
-          ∙ here;
-      others = λ q other. ap (λ f. children_of f q) forest ∙ children_of-put_in p o k w.forest q h can
-          ∙ ap (λ b. cond b (names_with o (k ∷ []) (children_of w.forest q)) (children_of w.forest q)) (different q other);
-      labels = λ q. ap (λ f. label_of f q) forest ∙ label_of-put_in p o k w.forest q h can;
-      trees = λ a out. ap (alone a) forest ∙ alone_put a p o k w.forest h can out;
-      within = λ a. ap (λ f. is_within f a p) forest ∙ within_put a p o k w.forest h can;
-      outside = λ q among. one_outside k p q w.forest can.outside among;
+      now = rw (← told.1) (children_of-put_in p o k w.forest p h can ∙ rw (own p) here);
+      others = λ q other. rw (← told.1) (children_of-put_in p o k w.forest q h can ∙ rw (different q p other) refl);
+      labels = λ q. rw (← told.1) (label_of-put_in p o k w.forest q h can);
+      trees = λ a out. rw (← told.1) (alone_put a p o k w.forest h can out);
+      within = λ a. rw (← told.1) (within_put a p o k w.forest h can);
+      outside = λ q among. let same : k ≡ q = grind (arith, among, eqb_tells k q) in rw (← same) can.outside;
       covered = covered-put k p index w v ready e;
     }
   where
-    different : (q : ℕ) → q ≢ p → eqb q p ≡ false
-    different q other = grind (arith, other, eqb_tells q p)
+    own : (p : ℕ) → eqb p p ≡ true
+    own p = grind (arith, eqb_tells p p)
+
+    different : (q p : ℕ) → q ≢ p → eqb q p ≡ false
+    different q p other = grind (arith, other, eqb_tells q p)
 
 -- ---- several
 
 came_none : (p : ℕ) (before behind : List ℕ) (w : Working) → IsReady w → children_of w.forest p ≡ before ++ behind → Came p before [] behind w w
-came_none p before behind w ready was = record {
-  was = was;
-  now = was;
-  others = λ q other. refl;
-  labels = λ q. refl;
-  trees = λ a out. refl;
-  within = λ a. refl;
-  outside = λ k among. absurd (cc);
-  covered = covered-self w ready;
-}
+came_none p before behind w ready was =
+    record { was = was; now = was; others = λ q other. refl; labels = λ q. refl; trees = λ a out. refl; within = λ a. refl; outside = λ k among. absurd (cc); covered = covered-self w ready }
 
 pub came_then : (p : ℕ) (before keys more behind : List ℕ) (w u v : Working) → Came p before keys behind w u → Came p (before ++ keys) more behind u v → Came p before (keys ++ more) behind w v
 came_then p before keys more behind w u v a b = record {
@@ -92,13 +104,12 @@ came_then p before keys more behind w u v a b = record {
   labels = λ q. b.labels q ∙ a.labels q;
   trees = λ x out. b.trees x (a.within x ∙ out) ∙ a.trees x out;
   within = λ x. b.within x ∙ a.within x;
-  outside = λ q among. either q (is_among q keys) refl (sym (is_among-append q keys more) ∙ among);
+  outside = λ q among. elim (cases_Bool (is_among q keys)) [
+    | inl is ↦ a.outside q is
+    | inr is ↦ sym (a.within q) ∙ b.outside q (rw is at (sym (is_among-append q keys more) ∙ among))
+  ];
   covered = covered-then w u v a.covered b.covered;
 }
-  where
-    either : (q : ℕ) (t : Bool) → is_among q keys ≡ t → (is_among q keys || is_among q more) ≡ true → is_within w.forest q p ≡ false
-    either q true is among = a.outside q is
-    either q false is among = sym (a.within q) ∙ b.outside q (ap (λ t. t || is_among q more) (sym is) ∙ among)
 
 -- the parent and the index of a child
 pub record IsChild (f : Forest) (p other i : ℕ) : Type 0 where
@@ -107,21 +118,15 @@ pub record IsChild (f : Forest) (p other i : ℕ) : Type 0 where
 
 pub is_child : (f : Forest) (p other : ℕ) (before behind : List ℕ) → IsForest f → children_of f p ≡ before ++ (other ∷ behind) → IsChild f p other (length before)
 is_child f p other before behind h are =
-    let up : parent_of f other ≡ Some p = named_parent (parent_of f other) (sym (is_among-children_of f other p h) ∙ ap (is_among other) are ∙ among_between before behind other) in
-    record {
-      up = up;
-      at = ap (λ o. index_in (children_below f o) other) up ∙ ap (λ xs. index_in xs other) are ∙ index_between before behind other (subst NoRepeats are (NoRepeats-children_of f p h));
-    }
-  where
-    named_parent : (o : Option ℕ) → is_named o p ≡ true → o ≡ Some p
-    named_parent None is = absurd (cc)
-    named_parent (Some x) is = ap Some (grind (arith, is, eqb_tells p x))
+    let up : parent_of f other ≡ Some p = named_up f other p h (rw are (among_between before behind other)) in
+    let once = NoRepeats-children_of f p h in
+    record { up = up; at = ap (λ o. index_in (children_below f o) other) up ∙ rw are (index_between before behind other (rw are at once)) }
 
 pub put_behind_came : (k p other : ℕ) (before behind : List ℕ) (w v : Working) → IsReady w → children_of w.forest p ≡ before ++ (other ∷ behind) → put_behind_step k other w ≡ Ok v → Came p (before ++ (other ∷ [])) (k ∷ []) behind w v
 unfolding put_behind_step
 put_behind_came k p other before behind w v ready are e =
     let child = is_child w.forest p other before behind ready.in_order are in
-    let step : put_step k p (length before + 1) w ≡ Ok v = sym (ap (λ o. behind_at k other o (index_of w.forest other) w) child.up ∙ ap (λ o. behind_at k other (Some p) o w) child.at) ∙ e in
+    let step : put_step k p (length before + 1) w ≡ Ok v = rw (child.at, child.up) at e in
     put_came k p (length before + 1) (before ++ (other ∷ [])) behind w v ready (are ∙ sym (append_assoc before (other ∷ []) behind)) (one_longer before other) step
   where
     one_longer : (xs : List ℕ) (x : ℕ) → length (xs ++ (x ∷ [])) ≡ length xs + 1
@@ -132,7 +137,7 @@ pub behind_each_came : (keys : List ℕ) (p other : ℕ) (before behind : List �
     → Came p (before ++ (other ∷ [])) keys behind w v
 unfolding put_behind_each
 behind_each_came [] p other before behind w v ready are e =
-    subst (λ u. Came p (before ++ (other ∷ [])) [] behind w u) (let same : w ≡ v = cc in same) (came_none p (before ++ (other ∷ [])) behind w ready (are ∙ sym (append_assoc before (other ∷ []) behind)))
+    ok (Came p (before ++ (other ∷ [])) [] behind) w w v (came_none p (before ++ (other ∷ [])) behind w ready (are ∙ sym (append_assoc before (other ∷ []) behind))) e
 behind_each_came (k ∷ ks) p other before behind w v ready are e =
     let one = first_part (put_behind_step k other w) (put_behind_each k ks) v e in
     let a = put_behind_came k p other before behind w one.0 ready are one.1 in
@@ -152,41 +157,31 @@ pub record StandsIn (f : Forest) (other : ℕ) : Type 0 where
 
 stands_in : (f : Forest) (other p i : ℕ) → parent_of f other ≡ Some p → index_of f other ≡ Some i → StandsIn f other
 stands_in f other p i up at =
-    let a = at_name (children_of f p) other i (sym (ap (λ o. index_in (children_below f o) other) up) ∙ at) in
+    let a = at_name (children_of f p) other i (slice_get-index_in (children_of f p) other i (rw (up) at at)) in
     record { parent = p; before = a.before; behind = a.behind; are = a.all; up = up; at = at ∙ ap Some (sym a.so_many) }
 
-beside : (f : Forest) (other : ℕ) (P : Type 0) (p i : Option ℕ) → parent_of f other ≡ p → index_of f other ≡ i → (StandsIn f other → P) → (p ≡ None → P) → (i ≡ None → P) → P
-beside f other P (Some p) (Some i) up at then no_parent no_index = then (stands_in f other p i up at)
-beside f other P None i up at then no_parent no_index = no_parent refl
-beside f other P (Some p) None up at then no_parent no_index = no_index refl
-
-none_behind : (k other : ℕ) (p i : Option ℕ) (w v : Working) → behind_at k other p i w ≡ Ok v → (p ≡ None → ⊥) × (i ≡ None → ⊥)
-none_behind k other (Some p) (Some i) w v e = (λ none. absurd (cc), λ none. absurd (cc))
-none_behind k other None i w v e = absurd (cc)
-none_behind k other (Some p) None w v e = absurd (cc)
-
-none_before : (k other : ℕ) (p i : Option ℕ) (w v : Working) → before_at k other p i w ≡ Ok v → (p ≡ None → ⊥) × (i ≡ None → ⊥)
-none_before k other (Some p) (Some i) w v e = (λ none. absurd (cc), λ none. absurd (cc))
-none_before k other None i w v e = absurd (cc)
-none_before k other (Some p) None w v e = absurd (cc)
+-- where it is asked what a child's parent and index are
+stands : (f : Forest) (other : ℕ) (place : Option ℕ → Option ℕ → Result Working Cause) (v : Working) → ((i : Option ℕ) → place None i ≡ Ok v → ⊥) → ((p : ℕ) → place (Some p) None ≡ Ok v → ⊥) → place (parent_of f other) (index_of f other) ≡ Ok v
+    → StandsIn f other
+stands f other place v no_parent no_index e = by_place (parent_of f other) (index_of f other) refl refl e where
+  by_place : (p i : Option ℕ) → parent_of f other ≡ p → index_of f other ≡ i → place p i ≡ Ok v → StandsIn f other
+  by_place (Some p) (Some i) up at e = stands_in f other p i up at
+  by_place (Some p) None up at e = absurd (no_index p e)
+  by_place None i up at e = absurd (no_parent i e)
 
 -- what it is put right after stands somewhere
 pub behind_stands : (k other : ℕ) (w v : Working) → put_behind_step k other w ≡ Ok v → StandsIn w.forest other
 unfolding put_behind_step
-behind_stands k other w v e =
-    let some = none_behind k other (parent_of w.forest other) (index_of w.forest other) w v e in
-    beside w.forest other (StandsIn w.forest other) (parent_of w.forest other) (index_of w.forest other) refl refl (λ s. s) (λ none. absurd (some.0 none)) (λ none. absurd (some.1 none))
+behind_stands k other w v e = stands w.forest other (λ p i. behind_at k other p i w) v (λ i e. cc) (λ p e. cc) e
 
 pub before_stands : (k other : ℕ) (w v : Working) → put_before_step k other w ≡ Ok v → StandsIn w.forest other
 unfolding put_before_step
-before_stands k other w v e =
-    let some = none_before k other (parent_of w.forest other) (index_of w.forest other) w v e in
-    beside w.forest other (StandsIn w.forest other) (parent_of w.forest other) (index_of w.forest other) refl refl (λ s. s) (λ none. absurd (some.0 none)) (λ none. absurd (some.1 none))
+before_stands k other w v e = stands w.forest other (λ p i. before_at k other p i w) v (λ i e. cc) (λ p e. cc) e
 
 pub put_before_came : (k other : ℕ) (w v : Working) (s : StandsIn w.forest other) → IsReady w → put_before_step k other w ≡ Ok v → Came s.parent s.before (k ∷ []) (other ∷ s.behind) w v
 unfolding put_before_step
 put_before_came k other w v s ready e =
-    let step : put_step k s.parent (length s.before) w ≡ Ok v = sym (ap (λ o. before_at k other o (index_of w.forest other) w) s.up ∙ ap (λ o. before_at k other (Some s.parent) o w) s.at) ∙ e in
+    let step : put_step k s.parent (length s.before) w ≡ Ok v = rw (s.at, s.up) at e in
     put_came k s.parent (length s.before) s.before (other ∷ s.behind) w v ready s.are refl step
 
 -- in an element, at an index
@@ -200,5 +195,6 @@ pub put_stands : (k p index : ℕ) (w v : Working) → put_step k p index w ≡ 
 unfolding put_step
 put_stands k p index w v e =
     let told = answered (option_or (put_fault k p index w.forest) (over_counts w)) (node_placed k p index w) v e in
-    let t = in_two (children_of w.forest p) index (put_within w.forest k p index (both_none (put_fault k p index w.forest) (over_counts w) told.0).0) in
-    record { before = t.before; behind = t.behind; are = t.all; so_many = t.so_many }
+    let xs : List ℕ = children_of w.forest p in
+    let within = put_within w.forest k p index (both_none (put_fault k p index w.forest) (over_counts w) told.0).0 in
+    record { before = take index xs; behind = drop index xs; are = sym (take-append-drop index xs); so_many = omega (arith, length-take index xs, within) }

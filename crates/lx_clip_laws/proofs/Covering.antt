@@ -1,5 +1,5 @@
 -- What is covered of a document's trees may stand where it is read, and is given back by what is written for it.
-use Rattle.std.proofs.Common.{◌≡◌, ◌∙◌, ◌-◌, ℕ, Bool, true, false, cond, leb, ◌&&◌, not, List, [], ◌∷◌, Option, None, Some, Ok, refl, ap, sym, subst, arith}
+use Rattle.std.proofs.Common.{◌≡◌, ◌∙◌, ◌-◌, ℕ, Bool, true, false, cond, ◌&&◌, not, List, [], ◌∷◌, Option, None, Some, refl, ap, sym, subst, arith}
 use Rattle.std.specs.Prelude.{find, unwrap_or}
 use Rattle.std.specs.Str.{all_scalars}
 use Rattle.std.proofs.lemmas.Str.{chars-encodes}
@@ -8,7 +8,6 @@ use Rattle.lx_trees.specs.Trees.{nil, tree, joined}
 use Rattle.lx_trees.specs.Siblings.{is_among}
 use Rattle.lx_node.specs.Units.{units_of}
 use Rattle.lx_node.specs.Kinds.{is_cell, is_inline, is_block, may_hold, type_name}
-use Rattle.lx_node.specs.OfKind.{is_normal}
 use Rattle.lx_node.specs.declared.kind.Kind.{Kind}
 use Rattle.lx_node.specs.declared.kind.Kind.TheVariants as kinds
 use Rattle.lx_node.specs.declared.fields.Fields.{Fields}
@@ -24,21 +23,15 @@ use Rattle.lx_draft.specs.Selecting.{length_told}
 use Rattle.lx_blocks.specs.declared.ranges.Ranged.{Ranged}
 use Rattle.lx_blocks.specs.Blocks.{passes, is_at, frame_of, same_node}
 use Rattle.lx_blocks.specs.Ranges.{if_normal, shown_range, is_collapsed, start_of, end_of}
-use Rattle.lx_fields.specs.Storable.{IsText, IsStorable, IsTextStorable}
+use Rattle.lx_fields.specs.Storable.{IsStorable, IsTextStorable}
 use Rattle.lx_fields.specs.Types.{kind_of_type}
 use Rattle.lx_fields.proofs.Exported.{type-there}
-use Rattle.lx_fields.proofs.ReadBack.{reads_back}
-use Rattle.lx_json.specs.Reading as reading
 use Rattle.lx_json.specs.Exporting.{trees_data}
-use Rattle.lx_json.specs.GivenBack.{AreGivenBack}
-use Rattle.lx_json.specs.Back.{pieces_of}
-use Rattle.lx_json.proofs.BackTrees.{trees-back}
 use Rattle.lx_clip.specs.Covers.{Extent, from_in, to_in, is_covered_text, cut_to, part_cover, is_nil, cover, covers, are_inline}
 use Rattle.lx_clip.specs.Slices.{extent, covers_below, common_block, frame_covers, if_inline, covers_in, covers_between, range_covers, covers_if, sliced}
 use Rattle.lx_clip.specs.Pasting.{is_inline_type, begins_inline, holder}
 use Rattle.lx_clip.proofs.Cut.{piece_suits}
 use Rattle.lx_clip_laws.specs.Copies.{is_scalar, IsStored, IsKept}
-use Rattle.lx_clip_laws.proofs.Growing.{AreFit}
 use Rattle.lx_clip_laws.proofs.Kept.{IsGood, AreGood, kept_below, none_below}
 
 -- ---- a piece of a text
@@ -46,38 +39,26 @@ use Rattle.lx_clip_laws.proofs.Kept.{IsGood, AreGood, kept_below, none_below}
 scalars_front : (n : ℕ) (text : List ℕ) → all_scalars text ≡ true → all_scalars (front_of n text) ≡ true
 unfolding front_of
 scalars_front n [] is = refl
-scalars_front n (c ∷ text) is = by_place (leb (units_of c) n) (scalars_front (n - units_of c) text) where
-  by_place : (b : Bool) → (all_scalars text ≡ true → all_scalars (front_of (n - units_of c) text) ≡ true) → all_scalars (cond b (c ∷ front_of (n - units_of c) text) []) ≡ true
-  by_place true later = grind (arith, is, later)
-  by_place false later = refl
+scalars_front n (c ∷ text) is = grind (arith, is, scalars_front (n - units_of c) text)
 
 scalars_rest : (n : ℕ) (text : List ℕ) → all_scalars text ≡ true → all_scalars (rest_of n text) ≡ true
 unfolding rest_of
 scalars_rest n [] is = refl
-scalars_rest n (c ∷ text) is = by_place (leb (units_of c) n) (scalars_rest (n - units_of c) text) where
-  by_place : (b : Bool) → (all_scalars text ≡ true → all_scalars (rest_of (n - units_of c) text) ≡ true) → all_scalars (cond b (rest_of (n - units_of c) text) (c ∷ text)) ≡ true
-  by_place true later = later (grind (arith, is))
-  by_place false later = is
+scalars_rest n (c ∷ text) is = grind (arith, is, scalars_rest (n - units_of c) text)
 
 scalars_slice : (from to : ℕ) (text : List ℕ) → all_scalars text ≡ true → all_scalars (slice_of from to text) ≡ true
 unfolding slice_of
 scalars_slice from to text is = scalars_front (to - from) (rest_of from text) (scalars_rest from text is)
 
-is_text : (text : List ℕ) → all_scalars text ≡ true → IsText text
-is_text text is = chars-encodes text is
-
 normal_is : (kind : Kind) (f : Fields) (text : TextFields) → if_normal (text_fields kind f) ≡ Some text → f ≡ fields.Text text
-normal_is kinds.Text (fields.Text old) text e = by_mode (is_normal old.mode) e where
-  by_mode : (b : Bool) → cond b (Some old) None ≡ Some text → fields.Text old ≡ fields.Text text
-  by_mode true same = ap fields.Text (same_Some old text same)
-  by_mode false same = absurd (cc)
+normal_is kinds.Text (fields.Text old) text e = grind (arith, e)
 normal_is kind f text e = absurd (cc)
 
 -- another text of scalar values
 stored_piece : (l : Label) (text : TextFields) (new : List ℕ) → l.fields ≡ fields.Text text → IsStored l → all_scalars new ≡ true → IsStored (record l { fields = text_replaced text new })
 stored_piece l text new is stored scalar =
     let own : IsTextStorable text = subst IsStorable is stored.storable in
-    record { storable = record { text = is_text new scalar; format = own.format; style = own.style }; scalar = scalar }
+    record { storable = record { text = chars-encodes new scalar; format = own.format; style = own.style }; scalar = scalar }
 
 good_cut : (from to : ℕ) (l : Label) → IsGood l → IsGood (cut_to (if_normal (text_in (Some l))) from to l)
 good_cut from to l good = by_text (if_normal (text_fields l.kind l.fields)) refl where
@@ -148,12 +129,8 @@ typed_inline _ = refl
 
 no_inline : (kind : Kind) → is_block kind ≡ true → is_inline kind ≡ false
 unfolding is_block is_inline
-no_inline kinds.Text e = absurd (cc)
-no_inline kinds.Tab e = absurd (cc)
-no_inline kinds.Break e = absurd (cc)
-no_inline kinds.Link e = absurd (cc)
-no_inline kinds.Embed e = absurd (cc)
-no_inline _ e = refl
+no_inline kinds.Root e = cc
+no_inline _ e = cc
 
 -- they are read as children of a kind that holds them
 pub record IsReadable (c : Forest) : Type 0 where
@@ -179,16 +156,12 @@ blocks_readable (tree l below rest) good = record { kind = kinds.Root; good = go
 
 found : (test : ℕ → Bool) (ks : List ℕ) (k : ℕ) → find test ks ≡ Some k → test k ≡ true
 found test [] k e = absurd (cc)
-found test (x ∷ xs) k e = by_test (test x) refl e (found test xs k) where
-  by_test : (b : Bool) → test x ≡ b → cond b (Some x) (find test xs) ≡ Some k → (find test xs ≡ Some k → test k ≡ true) → test k ≡ true
-  by_test true is e later = ap test (sym (same_Some x k e)) ∙ is
-  by_test false is e later = later e
+found test (x ∷ xs) k e = grind (arith, e, found test xs k)
 
 cell_kind : (o : Option Kind) → passes is_cell o ≡ true → o ≡ Some kinds.Cell
 unfolding is_cell
-cell_kind None e = absurd (cc)
 cell_kind (Some kinds.Cell) e = refl
-cell_kind (Some other) e = absurd (cc)
+cell_kind _ e = absurd (cc)
 
 -- the covers of children of a node of this kind
 below_good : (e : Extent) (f : Forest) (p : ℕ) (kind : Kind) → IsKept f → kind_of f p ≡ Some kind → AreGood kind (covers_below e f p)
@@ -222,12 +195,11 @@ covers_readable (Some block) e f kept = either_readable e f block kept
 range_readable : (f : Forest) (r : Ranged) (c : Forest) → IsKept f → range_covers f r ≡ Some c → IsReadable c
 range_readable f r c kept e = by_tests (is_collapsed r) (same_node (frame_of f r.anchor.key) (frame_of f r.focus.key)) e where
   by_tests : (a b : Bool) → cond a None (cond b (Some (covers_between f (start_of f r) (end_of f r))) None) ≡ Some c → IsReadable c
-  by_tests true b e = absurd (cc)
-  by_tests false false e = absurd (cc)
   by_tests false true e =
       let start = start_of f r in
       let end = end_of f r in
       subst IsReadable (same_Some (covers_between f start end) c e) (covers_readable (common_block f start end) (extent f start end) f kept)
+  by_tests _ _ e = absurd (cc)
 
 pub slice_readable : (f : Forest) (s : Selection) (c : Forest) → IsKept f → sliced f s ≡ Some c → IsReadable c
 unfolding sliced
@@ -235,29 +207,3 @@ slice_readable f s c kept e = by_range (shown_range s) e where
   by_range : (o : Option Ranged) → covers_if f o ≡ Some c → IsReadable c
   by_range None e = absurd (cc)
   by_range (Some r) e = range_readable f r c kept e
-
--- ---- what is written for them
-
-given_back : (parent : Kind) (c : Forest) → AreGood parent c → AreGivenBack c
-given_back parent nil good = tt
-given_back parent (tree l below rest) good = (
-  record { of_kind = good.1.of_kind; fields = reads_back l.kind l.fields (trees_data below) good.1.of_kind good.1.stored.storable },
-  given_back l.kind below good.2,
-  given_back parent rest good.3,
-)
-
--- the same trees, as what is read knows of them
-abbrev AreHeld : Kind → Forest → Type 0
-AreHeld parent nil = Unit {0}
-AreHeld parent (tree l below rest) = (may_hold parent l.kind ≡ true) × AreHeld l.kind below × AreHeld parent rest
-
-held : (parent : Kind) (c : Forest) → AreGood parent c → AreHeld parent c
-held parent nil good = tt
-held parent (tree l below rest) good = (good.0, held l.kind below good.2, held parent rest good.3)
-
-pub pieces_fit : (parent : Kind) (c : Forest) → AreGood parent c → AreFit parent (pieces_of c)
-pieces_fit parent nil good = tt
-pieces_fit parent (tree l below rest) good = (good.0, pieces_fit l.kind below good.2, pieces_fit parent rest good.3)
-
-pub written_back : (parent : Kind) (c : Forest) → AreGood parent c → reading.trees_of (trees_data c) 0 parent ≡ Ok (pieces_of c)
-written_back parent c good = trees-back parent 0 c (given_back parent c good) (held parent c good)

@@ -1,5 +1,6 @@
 -- What is kept of each node of a forest, tree by tree: its fields are those of its kind, and its parent may hold it.
-use Rattle.std.proofs.Common.{◌≡◌, ◌∙◌, ℕ, Bool, true, false, cond, eqb, Option, None, Some, refl, ap, sym, subst, arith}
+use Rattle.std.proofs.Common.{◌≡◌, ◌∙◌, ℕ, true, eqb, Option, None, Some, refl, ap, sym, subst, arith, inl, inr}
+use Rattle.std.proofs.lemmas.Bool.{cases_Bool}
 use Rattle.std.specs.Prelude.{option_map}
 use Rattle.std.proofs.lemmas.Bool.Decides.{eqb_tells}
 use Rattle.lx_trees.specs.Trees.{nil, tree, joined}
@@ -79,13 +80,10 @@ fits f kept q s e = record {
   kind = ap (kind_of f) (key-spot f q s e) ∙ kind_here f q s e;
   held = λ p up. sym (ap (holds may_hold (kind_of f p)) (kind_here f q s e)) ∙ kept.held.each q p (ap parent_at e ∙ up);
   good = record {
-    of_kind = suited (sym (ap is_suited (label_here f q s e)) ∙ kept.suited.each q);
+    of_kind = sym (ap is_suited (label_here f q s e)) ∙ kept.suited.each q;
     stored = kept.stored q s.label (label_here f q s e);
   };
 }
-  where
-    suited : is_suited (Some s.label) ≡ true → IsOfKind s.label.kind s.label.fields
-    suited is = is
 
 kept_sound : (f : Forest) → IsKept f → AreSound f
 kept_sound f kept = are_sound (kind_of f) f kept.order.once (fits f kept)
@@ -103,11 +101,11 @@ sound_joined (tree l below rest) b x y = (x.0, x.1, sound_joined rest b x.2 y)
 sound_alone : (k : ℕ) (t : Forest) → AreSound t → AreSound (alone k t)
 sound_alone k nil sound = tt
 sound_alone k (tree l below rest) sound =
-    by_key (eqb l.key k) (sound_alone k rest sound.2) (sound_alone k below (good_sound l.kind below sound.1))
-  where
-    by_key : (b : Bool) → AreSound (alone k rest) → AreSound (alone k below) → AreSound (cond b (tree l below (alone k rest)) (joined (alone k below) (alone k rest)))
-    by_key true later inner = (sound.0, sound.1, later)
-    by_key false later inner = sound_joined (alone k below) (alone k rest) inner later
+    let later = sound_alone k rest sound.2 in
+    elim (cases_Bool (eqb l.key k)) [
+      | inl is ↦ rw is (sound.0, sound.1, later)
+      | inr is ↦ rw is (sound_joined (alone k below) (alone k rest) (sound_alone k below (good_sound l.kind below sound.1)) later)
+    ]
 
 -- the children of a node of this kind
 pub kept_below : (f : Forest) (p : ℕ) (kind : Kind) → IsKept f → kind_of f p ≡ Some kind → AreGood kind (trees_of f (children_of f p))

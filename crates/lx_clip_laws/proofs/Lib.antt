@@ -1,17 +1,9 @@
-pub mod Anchored
-pub mod Apart
-pub mod Around
 pub mod Between
 pub mod Covering
 pub mod Gaps
 pub mod Growing
-pub mod Inserts
 pub mod Kept
-pub mod Loose
-pub mod Opened
 pub mod Parting
 pub mod Pasted
 pub mod Pastes
-pub mod Placing
-pub mod ReadBack
 pub mod Staying

@@ -1,19 +1,21 @@
 -- What is pasted stands between: inlines at a point, and blocks around or after one.
-use Rattle.std.proofs.Common.{◌≡◌, ◌≢◌, ◌∙◌, ℕ, Bool, true, false, cond, eqb, List, [], ◌∷◌, ◌++◌, Option, None, Some, Result, Ok, refl, ap, sym, subst, append-nil, append_assoc}
-use Rattle.lx_trees.specs.Siblings.{first_of, last_from, last_of}
+use Rattle.std.proofs.Common.{◌≡◌, ◌≢◌, ◌∙◌, ℕ, eqb, List, [], ◌∷◌, ◌++◌, Option, None, Some, Result, Ok, refl, ap, sym, subst, append-nil, append_assoc, inl, inr}
+use Rattle.lx_trees.specs.Siblings.{last_from, last_of}
 use Rattle.lx_node.specs.declared.cause.Cause.{Cause}
 use Rattle.lx_node.specs.declared.cause.Point.{Point}
 use Rattle.lx_node.specs.declared.cause.PointKind.{PointKind}
 use Rattle.lx_node.specs.declared.cause.PointKind.TheVariants as point
 use Rattle.lx_forest.specs.Lookups.{alone, label_of, children_of, IsForest}
 use Rattle.lx_draft.specs.Working.{Working}
-use Rattle.lx_draft.specs.Faults.{answer, after}
+use Rattle.lx_draft.specs.Faults.{after}
 use Rattle.lx_draft.specs.Beside.{put_before_step, put_behind_step}
 use Rattle.lx_draft.specs.Covering.{IsReady, AreCovered}
 use Rattle.lx_draft.proofs.Covered.{covered-self, covered-then}
 use Rattle.lx_edit.specs.Edits.{moved_to_end}
 use Rattle.lx_edit.specs.InTurn.{in_turn}
 use Rattle.lx_edit.proofs.Covered.{covered_path}
+use Rattle.lx_edit.proofs.Paths.{ok, allowed}
+use Rattle.std.proofs.lemmas.Bool.{cases_Bool}
 use Rattle.lx_blocks.specs.Making.{new_like}
 use Rattle.lx_caret.specs.Adding.{kind_around, opened, put_by}
 use Rattle.lx_caret.specs.Removing.{removed_empty}
@@ -30,6 +32,9 @@ use Rattle.lx_clip_laws.proofs.Between.{Came, came_then, put_came, put_behind_ca
 caret_forest : (last : Option ℕ) (w : Working) → (caret_by last w).forest ≡ w.forest
 caret_forest None w = refl
 caret_forest (Some last) w = refl
+
+left : (keys : List ℕ) (w v : Working) → ◌≡◌ {A = Result Working Cause} (Ok (caret_after keys w)) (Ok v) → v.forest ≡ w.forest
+left keys w v e = let same = caret_forest (last_of keys) w in cc
 
 stand : (p : ℕ) (before keys rest : List ℕ) (w u v : Working) → Came p before keys rest w u → v.forest ≡ u.forest → StandBetween p before keys rest w v
 stand p before keys rest w u v a same = record {
@@ -58,35 +63,27 @@ came_by : (k : ℕ) (p : Point) (kind : PointKind) (w v : Working) → IsReady w
 came_by k p point.Element w v ready e =
     let s = put_stands k p.key p.offset w v e in
     record { parent = p.key; before = s.before; rest = s.behind; place = (refl, s.so_many); came = put_came k p.key p.offset s.before s.behind w v ready s.are s.so_many e }
-came_by k p point.Text w v ready e = by_start (eqb p.offset 0) refl e where
-  at_start : (b : Bool) → eqb p.offset 0 ≡ b → (before rest : List ℕ) → cond b (first_of rest) (last_of before) ≡ Some p.key → cond (eqb p.offset 0) (first_of rest) (last_of before) ≡ Some p.key
-  at_start b is before rest e = ap (λ t. cond t (first_of rest) (last_of before)) is ∙ e
-
-  by_start : (b : Bool) → eqb p.offset 0 ≡ b → cond b (put_before_step k p.key w) (put_behind_step k p.key w) ≡ Ok v → CameBy p point.Text k w v
-  by_start true is e =
-      let s = before_stands k p.key w v e in
-      record { parent = s.parent; before = s.before; rest = p.key ∷ s.behind; place = at_start true is s.before (p.key ∷ s.behind) refl; came = put_before_came k p.key w v s ready e }
-  by_start false is e =
-      let s = behind_stands k p.key w v e in
+came_by k p point.Text w v ready e = elim (cases_Bool (eqb p.offset 0)) [
+  | inl is ↦
+      let put : put_before_step k p.key w ≡ Ok v = rw is at e in
+      let s = before_stands k p.key w v put in
+      record { parent = s.parent; before = s.before; rest = p.key ∷ s.behind; place = rw is refl; came = put_before_came k p.key w v s ready put }
+  | inr is ↦
+      let put : put_behind_step k p.key w ≡ Ok v = rw is at e in
+      let s = behind_stands k p.key w v put in
       record {
         parent = s.parent;
         before = s.before ++ (p.key ∷ []);
         rest = s.behind;
-        place = at_start false is (s.before ++ (p.key ∷ [])) s.behind (last_ends None s.before p.key);
-        came = put_behind_came k s.parent p.key s.before s.behind w v ready s.are e;
+        place = rw is (last_ends None s.before p.key);
+        came = put_behind_came k s.parent p.key s.before s.behind w v ready s.are put;
       }
+]
 
 -- the other nodes after the first
 added_came : (p : Point) (k : ℕ) (ks : List ℕ) (w u v : Working) (c : CameBy p p.kind k w u) → put_behind_each k ks u ≡ Ok v → Came c.parent c.before (k ∷ ks) c.rest w v
 added_came p k ks w u v c e =
     came_then c.parent c.before (k ∷ []) ks c.rest w u v c.came (behind_each_came ks c.parent k c.before c.rest u v c.came.covered.ready c.came.now e)
-
-same_ok : (a b : Working) → ◌≡◌ {A = Result Working Cause} (Ok a) (Ok b) → a ≡ b
-same_ok a b e = cc
-
-allowed : (o : Option Cause) (w v : Working) (next : Working → Result Working Cause) → after (answer o w) next ≡ Ok v → next w ≡ Ok v
-allowed None w v next e = e
-allowed (Some cause) w v next e = absurd (cc)
 
 pub inlines_between : (p : Point) (keys : List ℕ) (w v : Working) → IsReady w → keys ≢ [] → nodes_added p keys w ≡ Ok v → AreAdded p keys w v
 unfolding nodes_added
@@ -94,14 +91,13 @@ inlines_between p [] w v ready some e = absurd (some refl)
 inlines_between p (k ∷ ks) w v ready some e =
     let keys : List ℕ = k ∷ ks in
     let put : Working → Result Working Cause = λ split. after (put_all_by p keys split) (λ put. Ok (caret_after keys put)) in
-    let on : after (opened p w) put ≡ Ok v = allowed (no_room_for w.forest keys (kind_around w.forest p.key p.kind)) w v (λ u. after (opened p u) put) e in
-    let one = after_tells (opened p w) put v on in
+    let one = allowed (λ w v. (u : Working) × ((opened p w ≡ Ok u) × (put u ≡ Ok v))) w v (no_room_for w.forest keys (kind_around w.forest p.key p.kind)) (λ u. after (opened p u) put) (λ e. after_tells (opened p w) put v e) e in
     let split : Working = one.0 in
     let two = after_tells (put_all_by p keys split) (λ put. Ok (caret_after keys put)) v one.1.1 in
     let first = after_tells (put_by k p p.kind split) (put_behind_each k ks) two.0 two.1.0 in
     let way = opened_path covered_path p w split ready one.1.0 in
     let c = came_by k p p.kind split first.0 way.ready first.1.0 in
-    let forest : v.forest ≡ (two.0).forest = ap (λ (x : Working). x.forest) (sym (same_ok (caret_after keys two.0) v two.1.1)) ∙ caret_forest (last_of keys) two.0 in
+    let forest : v.forest ≡ (two.0).forest = left keys two.0 v two.1.1 in
     record {
       split = split;
       made_way = one.1.0;
@@ -137,7 +133,7 @@ beyond_between outer [] w v ready some e = absurd (some refl)
 beyond_between outer (k ∷ ks) w v ready some e =
     let keys : List ℕ = k ∷ ks in
     let one = after_tells (put_behind_each outer keys w) (λ u. Ok (caret_after keys u)) v e in
-    beyond outer keys w one.0 v (came_behind outer k ks w one.0 ready one.1.0) (ap (λ (x : Working). x.forest) (sym (same_ok (caret_after keys one.0) v one.1.1)) ∙ caret_forest (last_of keys) one.0)
+    beyond outer keys w one.0 v (came_behind outer k ks w one.0 ready one.1.0) (left keys one.0 v one.1.1)
 
 -- the last of several, and those before it
 record HasLast (xs : List ℕ) : Type 0 where
@@ -150,15 +146,12 @@ has_last : (x : ℕ) (xs : List ℕ) → HasLast (x ∷ xs)
 has_last x [] = record { front = []; end = x; all = refl; is = refl }
 has_last x (y ∷ ys) =
     let l = has_last y ys in
-    record { front = x ∷ l.front; end = l.end; all = ap (λ zs. x ∷ zs) l.all; is = later x y ys l.end l.is }
-  where
-    later : (x y : ℕ) (ys : List ℕ) (e : ℕ) → last_of (y ∷ ys) ≡ Some e → last_of (x ∷ (y ∷ ys)) ≡ Some e
-    later x y ys e is = is
+    record { front = x ∷ l.front; end = l.end; all = ap (λ zs. x ∷ zs) l.all; is = l.is }
 
 -- the new block after the last of the nodes
 tail_came : (outer k : ℕ) (ks : List ℕ) (tail : Option ℕ) (w u v : Working) → CameBehind outer (k ∷ ks) w u → tail_put tail (last_of (k ∷ ks)) u ≡ Ok v → CameBehind outer ((k ∷ ks) ++ key_if tail) w v
 tail_came outer k ks None w u v c e =
-    subst (λ x. CameBehind outer ((k ∷ ks) ++ []) w x) (same_ok u v e) (subst (λ xs. CameBehind outer xs w u) (sym (append-nil (k ∷ ks))) c)
+    ok (CameBehind outer ((k ∷ ks) ++ [])) w u v (subst (λ xs. CameBehind outer xs w u) (sym (append-nil (k ∷ ks))) c) e
 tail_came outer k ks (Some new) w u v c e =
     let keys : List ℕ = k ∷ ks in
     let l = has_last k ks in
@@ -176,10 +169,7 @@ tail_came outer k ks (Some new) w u v c e =
     }
 
 tail_covered : (block : ℕ) (moved : List ℕ) (w : Working) (t : Tailed) → IsReady w → tail_made block moved w ≡ Ok t → AreCovered w t.draft
-tail_covered block [] w t ready e = subst (λ (x : Tailed). AreCovered w x.draft) (same_tail (record { draft = w; key = None }) t e) (covered-self w ready)
-  where
-    same_tail : (a b : Tailed) → ◌≡◌ {A = Result Tailed Cause} (Ok a) (Ok b) → a ≡ b
-    same_tail a b e = cc
+tail_covered block [] w t ready e = let same : w ≡ t.draft = cc in subst (AreCovered w) same (covered-self w ready)
 tail_covered block (k ∷ ks) w t ready e =
     let all : Working → Result Working Cause = in_turn (moved_to_end w.next_key) (k ∷ ks) in
     let left : Working → Result Tailed Cause = λ v. Ok (record { draft = v; key = Some w.next_key }) in
@@ -187,10 +177,9 @@ tail_covered block (k ∷ ks) w t ready e =
     let two = after_tells (all one.0) left t one.1.1 in
     let first = new_like_path covered_path (label_of w.forest block) w one.0 ready one.1.0 in
     let moved = all_moved_path covered_path w.next_key (k ∷ ks) one.0 two.0 first.ready two.1.0 in
-    subst (λ (x : Tailed). AreCovered w x.draft) (same_tail (record { draft = two.0; key = Some w.next_key }) t two.1.1) (covered-then w one.0 two.0 first moved)
-  where
-    same_tail : (a b : Tailed) → ◌≡◌ {A = Result Tailed Cause} (Ok a) (Ok b) → a ≡ b
-    same_tail a b e = cc
+    let is = two.1.1 in
+    let same : two.0 ≡ t.draft = cc in
+    subst (AreCovered w) same (covered-then w one.0 two.0 first moved)
 
 -- all goes as it is said, and leaves a forest in order
 pub record IsAround (block : ℕ) (keys moved : List ℕ) (w v : Working) : Type 0 where

@@ -2,6 +2,7 @@
 use Rattle.std.proofs.Common.{◌≡◌, ◌∙◌, ℕ, zero, suc, ◌+◌, ◌-◌, ◌<◌, ◌≤◌, eqb, ◌&&◌, ◌⊎◌, Bool, true, false, cond, List, [], ◌∷◌, length, Some, option_map, refl, sym, ap, subst, arith, inl, inr}
 use Rattle.std.specs.Prelude.{min, nat_lt}
 use Rattle.std.specs.List.{slice_get, insert}
+use Rattle.std.proofs.lemmas.Bool.{cases_Bool}
 use Rattle.std.proofs.lemmas.Bool.Decides.{eqb_tells, nat_tests}
 use Rattle.lx_trees.specs.Siblings.{is_among, is_named, names_with, names_without}
 use Rattle.std.proofs.lemmas.Option.{slice_get_within}
@@ -26,19 +27,16 @@ use Rattle.lx_table.proofs.Spanned.{tell_spans, has_spans, IsSpanned}
 abbrev pub IsShifted : ℕ → ℕ → ℕ → Type 0
 IsShifted new i j = ((i < new) × (j ≡ i)) ⊎ ((new ≤ i) × (j ≡ i + 1))
 
+shifted_on : (new i j : ℕ) → IsShifted new i j → IsShifted (suc new) (suc i) (suc j)
+shifted_on new i j (inl low) = inl (omega (arith, low.0), omega (arith, low.1))
+shifted_on new i j (inr high) = inr (omega (arith, high.0), omega (arith, high.1))
+
 pub shifted : (xs : List ℕ) (new x i k : ℕ) → slice_get xs i ≡ Some k → new ≤ length xs → (j : ℕ) × (slice_get (insert xs new x) j ≡ Some k) × IsShifted new i j
 shifted [] new x i k at within = absurd (cc)
 shifted (y ∷ ys) zero x i k at within = (suc i, at, inr (omega arith, omega arith))
 shifted (y ∷ ys) (suc new) x zero k at within = (0, at, inl (omega arith, refl))
 shifted (y ∷ ys) (suc new) x (suc i) k at within =
-    let r = shifted ys new x i k at (omega (arith, within)) in (
-      suc r.0,
-      r.1,
-      elim r.2 [
-        | inl low ↦ let l : i < new = low.0 in let s : r.0 ≡ i = low.1 in inl (omega (arith, l), omega (arith, s))
-        | inr high ↦ let h : new ≤ i = high.0 in let s : r.0 ≡ i + 1 = high.1 in inr (omega (arith, h), omega (arith, s))
-      ],
-    )
+    let r = shifted ys new x i k at (omega (arith, within)) in (suc r.0, r.1, shifted_on new i r.0 r.2)
 
 -- ---- the rows of a cell, as a row comes and goes
 
@@ -48,54 +46,18 @@ crossing_is c row height new e = (λ is. let t = e ∙ is in (grind (arith, nat_
 -- A cell that starts in front of the new row and goes on after it gets a row, and loses it again. Any other stays as high.
 back : (i j new most rows height high again : ℕ) (c d : Bool) → i < most → height ≡ min rows (most - i) → (nat_lt i new && is_among_from i height new) ≡ c → high ≡ cond c (height + 1) height
     → again ≡ min high (most + 1 - j) → (nat_lt j new && is_among_from j again new) ≡ d → IsShifted new i j → min (cond d (again - 1) again) (most - i) ≡ min rows (most - i)
-back i j new most rows height high again true true within is crossed higher lower crossed_again shift =
-    let a = (crossing_is true i height new crossed).0 refl in
-    let b = (crossing_is true j again new crossed_again).0 refl in
-    let a0 : i < new = a.0 in let a1 : new < i + height = a.1 in
-    elim shift [
-      | inl low ↦ let same : j ≡ i = low.1 in omega (arith, within, is, higher, lower, same, a0, a1)
-      | inr behind ↦ let wrong : new ≤ i = behind.0 in absurd (omega (arith, wrong, a0))
-    ]
-back i j new most rows height high again true false within is crossed higher lower crossed_again shift =
-    let a = (crossing_is true i height new crossed).0 refl in
-    let a0 : i < new = a.0 in let a1 : new < i + height = a.1 in
-    elim shift [
-      | inl low ↦
-          let same : j ≡ i = low.1 in
-          let clash : j + again ≤ new = (crossing_is false j again new crossed_again).1 refl (omega (arith, same, a0)) in
-          absurd (omega (arith, within, is, higher, lower, same, a0, a1, clash))
-      | inr behind ↦ let wrong : new ≤ i = behind.0 in absurd (omega (arith, wrong, a0))
-    ]
-back i j new most rows height high again false true within is crossed higher lower crossed_again shift =
-    let b = (crossing_is true j again new crossed_again).0 refl in
-    let b0 : j < new = b.0 in let b1 : new < j + again = b.1 in
-    elim shift [
-      | inl low ↦
-          let same : j ≡ i = low.1 in let before : i < new = low.0 in
-          let ends : i + height ≤ new = (crossing_is false i height new crossed).1 refl before in
-          absurd (omega (arith, within, is, higher, lower, same, b1, ends))
-      | inr behind ↦ let wrong : new ≤ i = behind.0 in let next : j ≡ i + 1 = behind.1 in absurd (omega (arith, wrong, next, b0))
-    ]
-back i j new most rows height high again false false within is crossed higher lower crossed_again shift =
-    elim shift [
-      | inl low ↦ let same : j ≡ i = low.1 in omega (arith, within, is, higher, lower, same)
-      | inr behind ↦ let next : j ≡ i + 1 = behind.1 in omega (arith, within, is, higher, lower, next)
-    ]
+back i j new most rows height high again c d within is crossed higher lower crossed_again shift =
+    let a = crossing_is c i height new crossed in
+    let b = crossing_is d j again new crossed_again in
+    grind (arith, within, is, higher, lower, a, b, shift)
 
 -- a cell that has no spans stays as it is
 told : (b c d : Bool) (i j new most rows height high again : ℕ) (first second third fourth : ℕ) → i < most → height ≡ min rows (most - i) → (nat_lt i new && is_among_from i height new) ≡ c
     → first ≡ cond b height rows → second ≡ cond (c && b) (height + 1) first → high ≡ second → again ≡ min high (most + 1 - j) → third ≡ cond b again high
     → (nat_lt j new && is_among_from j again new) ≡ d → fourth ≡ cond (d && b) (again - 1) third → IsShifted new i j → min fourth (most - i) ≡ min rows (most - i)
-told true true d i j new most rows height high again first second third fourth within is crossed e1 e2 e3 e4 e5 crossed_again e6 shift =
+told true c d i j new most rows height high again first second third fourth within is crossed e1 e2 e3 e4 e5 crossed_again e6 shift =
     ap (λ n. min n (most - i)) (e6 ∙ ap (λ n. cond (d && true) (again - 1) n) e5 ∙ picked d (again - 1) again)
-    ∙ back i j new most rows height high again true d within is crossed (e3 ∙ e2) e4 crossed_again shift
-  where
-    picked : (d : Bool) (x y : ℕ) → cond (d && true) x y ≡ cond d x y
-    picked true x y = refl
-    picked false x y = refl
-told true false d i j new most rows height high again first second third fourth within is crossed e1 e2 e3 e4 e5 crossed_again e6 shift =
-    ap (λ n. min n (most - i)) (e6 ∙ ap (λ n. cond (d && true) (again - 1) n) e5 ∙ picked d (again - 1) again)
-    ∙ back i j new most rows height high again false d within is crossed (e3 ∙ e2 ∙ e1) e4 crossed_again shift
+    ∙ back i j new most rows height high again c d within is crossed (e3 ∙ e2 ∙ ap (λ n. cond (c && true) (height + 1) n) e1 ∙ picked c (height + 1) height) e4 crossed_again shift
   where
     picked : (d : Bool) (x y : ℕ) → cond (d && true) x y ≡ cond d x y
     picked true x y = refl
@@ -142,17 +104,8 @@ cell_seen f table new i k q ordered at among =
     }
 
 -- what is known of its rows on the way, read at it
-set_rows : (a b : Bool) (at height rows after : ℕ) → after ≡ cond (a && b) at rows → a ≡ true → at ≡ height → after ≡ cond b height rows
-set_rows a b at height rows after e is same = e ∙ ap (λ t. cond (t && b) at rows) is ∙ ap (λ n. cond b n rows) same
-
-grown_rows : (a c p b : Bool) (at height rows after : ℕ) → after ≡ cond (a && p) (at + 1) rows → a ≡ c → p ≡ b → at ≡ height → after ≡ cond (c && b) (height + 1) rows
-grown_rows a c p b at height rows after e is spans same = e ∙ ap (λ t. cond (t && p) (at + 1) rows) is ∙ ap (λ t. cond (c && t) (at + 1) rows) spans ∙ ap (λ n. cond (c && b) (n + 1) rows) same
-
-reset_rows : (a p b : Bool) (at height rows after : ℕ) → after ≡ cond (a && p) at rows → a ≡ true → p ≡ b → at ≡ height → after ≡ cond b height rows
-reset_rows a p b at height rows after e is spans same = e ∙ ap (λ t. cond (t && p) at rows) is ∙ ap (λ t. cond t at rows) spans ∙ ap (λ n. cond b n rows) same
-
-shrunk_rows : (a d p b : Bool) (at height rows after : ℕ) → after ≡ cond (a && p) (at - 1) rows → a ≡ d → p ≡ b → at ≡ height → after ≡ cond (d && b) (height - 1) rows
-shrunk_rows a d p b at height rows after e is spans same = e ∙ ap (λ t. cond (t && p) (at - 1) rows) is ∙ ap (λ t. cond (d && t) (at - 1) rows) spans ∙ ap (λ n. cond (d && b) (n - 1) rows) same
+rows_are : (a c p b : Bool) (at height rows after : ℕ) → after ≡ cond (a && p) at rows → a ≡ c → p ≡ b → at ≡ height → after ≡ cond (c && b) height rows
+rows_are a c p b at height rows after e is spans same = rw (is, spans, same) at e
 
 -- ---- the forests on the way
 
@@ -178,11 +131,10 @@ module _ (f : Forest) (table new row : ℕ) (set grown opened : Forest) (way : H
 
   -- the row's key is new
   absent : (p : ℕ) → is_among row (children_of f p) ≡ false
-  absent p = by_test (is_among row (children_of f p)) refl where
-    by_test : (t : Bool) → is_among row (children_of f p) ≡ t → is_among row (children_of f p) ≡ false
-    by_test false e = e
-    by_test true e =
-        let clash : row < row = (way.below p row (ap (is_among row) (grown_children p) ∙ e)).0 in absurd (omega (arith, clash))
+  absent p = elim (cases_Bool (is_among row (children_of f p))) [
+    | inl e ↦ absurd (let clash : row < row = (way.below p row (ap (is_among row) (grown_children p) ∙ e)).0 in omega (arith, clash))
+    | inr e ↦ e
+  ]
 
   pub within : new ≤ length (children_of f table)
   within = subst (λ xs. new ≤ length xs) (grown_children table) way.made.within
@@ -207,7 +159,9 @@ module _ (f : Forest) (table new row : ℕ) (set grown opened : Forest) (way : H
       let among : is_among k (children_of f table) ≡ true = is_among-slice_get (children_of f table) k i at in
       let low : k < row = (way.below table k (ap (is_among k) (grown_children table) ∙ among)).0 in
       let moved = shifted (children_of f table) new row i k at within in
-      let other : eqb k table ≡ false = by_test among (eqb k table) refl in
+      let up : parent_of f k ≡ Some table = above_is f k table way.in_order among in
+      let free : is_named (parent_of f k) k ≡ false = parent_of-self f k way.in_order in
+      let other : eqb k table ≡ false = grind (arith, rw up at free, eqb_tells k table, eqb_tells table k) in
       record {
         key_below = low;
         other = other;
@@ -216,14 +170,6 @@ module _ (f : Forest) (table new row : ℕ) (set grown opened : Forest) (way : H
         at = ap (λ xs. slice_get xs moved.0) inserted_rows ∙ moved.1;
         shift = moved.2;
       }
-    where
-      by_test : is_among k (children_of f table) ≡ true → (t : Bool) → eqb k table ≡ t → eqb k table ≡ false
-      by_test among false e = e
-      by_test among true e =
-          let same : k ≡ table = grind (arith, eqb_tells k table, e) in
-          let up : parent_of f k ≡ Some table = above_is f k table way.in_order among in
-          let named : is_named (parent_of f k) k ≡ true = ap (λ o. is_named o k) up ∙ ap (λ t. eqb k t) (sym same) ∙ grind (arith, eqb_tells k k) in
-          absurd (cc (parent_of-self f k way.in_order, named))
 
   -- where the new row is
   pub new_row_at : slice_get (children_of opened table) new ≡ Some row
@@ -259,13 +205,15 @@ module _ (f : Forest) (table new row : ℕ) (set grown opened again shrunk : For
       ∙ told (has_spans f q) c d i there.index new (length (children_of f table)) (row_span f q) seen.height (row_span opened q) later.height
       (row_span set q) (row_span grown q) (row_span again q) (row_span shrunk q)
       (slice_get_within (children_of f table) i k at) seen.is refl
-      (set_rows (is_among q (cells_in (spots_of f table))) (has_spans f q) (height_at (spots_of f table) q) seen.height (row_span f q) (row_span set q) (way.heights.rows q) seen.among seen.height_is)
-      (grown_rows (is_among q (cells_in (crossing new (spots_of f table)))) c (has_spans set q) (has_spans f q) (height_at (spots_of f table) q) seen.height (row_span set q) (row_span grown q) (way.taller.rows q) seen.across spans_set seen.height_is)
+      (rows_are (is_among q (cells_in (spots_of f table))) true (has_spans f q) (has_spans f q) (height_at (spots_of f table) q) seen.height (row_span f q) (row_span set q) (way.heights.rows q) seen.among refl seen.height_is)
+      (rows_are (is_among q (cells_in (crossing new (spots_of f table)))) c (has_spans set q) (has_spans f q) (height_at (spots_of f table) q + 1) (seen.height + 1) (row_span set q) (row_span grown q) (way.taller.rows q) seen.across spans_set
+      (ap (λ n. n + 1) seen.height_is))
       (ap (read_by rows_in 1) (way.made.fields q low))
       high
-      (reset_rows (is_among q (cells_in (spots_of opened table))) (has_spans opened q) (has_spans f q) (height_at (spots_of opened table) q) later.height (row_span opened q) (row_span again q) (gone.reset.rows q) later.among spans_opened later.height_is)
+      (rows_are (is_among q (cells_in (spots_of opened table))) true (has_spans opened q) (has_spans f q) (height_at (spots_of opened table) q) later.height (row_span opened q) (row_span again q) (gone.reset.rows q) later.among spans_opened later.height_is)
       refl
-      (shrunk_rows (is_among q (cells_in (crossing new (spots_of opened table)))) d (has_spans again q) (has_spans f q) (height_at (spots_of opened table) q) later.height (row_span again q) (row_span shrunk q) (gone.lower.rows q) later.across spans_again later.height_is)
+      (rows_are (is_among q (cells_in (crossing new (spots_of opened table)))) d (has_spans again q) (has_spans f q) (height_at (spots_of opened table) q - 1) (later.height - 1) (row_span again q) (row_span shrunk q) (gone.lower.rows q) later.across spans_again
+      (ap (λ n. n - 1) later.height_is))
       there.shift
 
   pub alike_again : IsAlike f (take_out row shrunk) table

@@ -1,7 +1,14 @@
 -- A row is inserted and deleted again, step by step.
-use Rattle.std.proofs.Common.{◌≡◌, ◌∙◌, ℕ, zero, suc, ◌+◌, ◌-◌, ◌<◌, ◌≤◌, ◌==◌, ◌&&◌, Bool, true, false, cond, List, [], ◌∷◌, length, Option, None, Some, Result, Ok, Err, refl, sym, ap, subst, arith, inl, inr}
-use Rattle.std.specs.Prelude.{min, nat_lt, filter}
+use Rattle.std.proofs.Common.{ℕ, List, Option, None, Some, ◌≡◌, ◌∙◌, zero, suc, ◌+◌, ◌-◌, ◌<◌, ◌==◌, ◌&&◌, Bool, true, false, cond, [], ◌∷◌, length, Result, Ok, Err, refl, sym, ap, subst, arith, inl, inr}
 use Rattle.std.specs.Option.{option_or}
+use Rattle.lx_node.specs.declared.fields.Fields.{Fields}
+use Rattle.lx_forest.specs.Lookups.{fields_of, kind_of, parent_of, children_of, size_of, ancestors, IsForest}
+use Rattle.lx_draft.specs.Working.{Working}
+use Rattle.lx_edit.proofs.Paths.{Leads, allowed, every}
+use Rattle.lx_blocks.proofs.Paths.{IsWay, stays}
+use Rattle.lx_table.specs.declared.spots.Spot.{Spot}
+use Rattle.lx_table.specs.Spans.{over_span, with_spans, spans_written, span_step, height_set, heights_set, row_span}
+use Rattle.std.specs.Prelude.{min, nat_lt, filter}
 use Rattle.std.specs.List.{All, slice_get, list_all}
 use Rattle.std.proofs.lemmas.Bool.Decides.{eqb_tells, nat_tests}
 use Rattle.std.proofs.lemmas.Option.{slice_get_within}
@@ -13,10 +20,8 @@ use Rattle.lx_node.specs.declared.kind.Kind.TheVariants.{Row}
 use Rattle.lx_node.specs.declared.cause.Cause.{Cause}
 use Rattle.lx_select.specs.declared.selection.Selection.{Selection}
 use Rattle.lx_forest.specs.Forest.{Forest}
-use Rattle.lx_forest.specs.Lookups.{kind_of, parent_of, children_of, size_of, ancestors, IsForest}
 use Rattle.lx_forest.specs.Edits.{take_out}
 use Rattle.lx_forest.proofs.Walks.{ancestors-step}
-use Rattle.lx_draft.specs.Working.{Working}
 use Rattle.lx_draft.specs.Covering.{IsReady}
 use Rattle.lx_draft.specs.Faults.{after}
 use Rattle.lx_draft.specs.Steps.{new_step, take_step, put_step, select_step}
@@ -25,24 +30,37 @@ use Rattle.lx_edit.specs.Edits.{sent_away, goes_too, removed, remove_step}
 use Rattle.lx_edit.specs.Texts.{keys_from}
 use Rattle.lx_edit.proofs.Climbed.{answered, first_part, sent_away-forest, taken-forest}
 use Rattle.lx_edit.proofs.Covered.{covered_path}
-use Rattle.lx_edit.proofs.Paths.{every}
 use Rattle.lx_blocks.specs.Blocks.{cell_of}
-use Rattle.lx_table.specs.declared.spots.Spot.{Spot}
 use Rattle.lx_table.specs.Spots.{spot_of, spot_at, is_of_cell, end_column}
-use Rattle.lx_table.specs.Spans.{row_span, heights_set}
 use Rattle.lx_table.specs.Grid.{spots_of, spots_over, grid_of}
 use Rattle.lx_table.specs.Places.{Place, place, place_among, place_below, table_above, place_of_cell, needed, focus_of, place_of, at_place, caret_step, caret_in_step, caret_in_spot}
 use Rattle.lx_table.specs.Growing.{crosses_row, crossing, taller, column_filled, row_inserted, row_at, insert_row_step}
 use Rattle.lx_table.specs.Shrinking.{first_spot, is_in_row_alone, goes_below, lower, moved_down, all_moved_down, without_at, caret_without_row, row_removed, row_taken, row_deleted, delete_row_step}
 use Rattle.lx_table_laws.specs.Laws.{new_row}
 use Rattle.lx_table.proofs.Kept.{found_has}
-use Rattle.lx_table_laws.proofs.Paths.{span_path, heights_path}
 use Rattle.lx_table.proofs.Alike.{same_grid}
 use Rattle.lx_table.proofs.Own.{IsOwn, spots_own, spot_in_row, row_of_spot, above_is, height_at, height_found, all_by, cells_in}
 use Rattle.lx_table.proofs.Spanned.{IsSpanned, IsDue, spots_spanned}
 use Rattle.lx_table_laws.proofs.Opened.{child_below, parent_below, row_opened}
 use Rattle.lx_table.proofs.Heights.{heights_spanned}
 use Rattle.lx_table_laws.proofs.Again.{IsShifted, HasRow, IsShrunk, was_there, alike_again, new_row_at}
+
+-- ---- what holds of each step of a draft, and of one after another, holds of setting spans
+
+module _ {D : Working → Type 0} {R : Working → Working → Type 0} (way : IsWay D R) where
+  spans_written_path : (rows columns cell : ℕ) (o : Option Fields) → Leads D R (spans_written rows columns cell o)
+  spans_written_path rows columns cell None w v r e = stays way w v r e
+  spans_written_path rows columns cell (Some fields) w v r e = way.set cell (with_spans rows columns fields) w v r e
+
+  pub span_path : (rows columns cell : ℕ) → Leads D R (span_step rows columns cell)
+  unfolding span_step
+  span_path rows columns cell w v r e =
+      allowed R w v (option_or (over_span rows) (over_span columns)) (λ u. spans_written rows columns cell (fields_of u.forest cell) u)
+      (λ f. spans_written_path rows columns cell (fields_of w.forest cell) w v r f) e
+
+  pub heights_path : (spots : List Spot) → Leads D R (heights_set spots)
+  unfolding heights_set
+  heights_path spots w v r e = every way height_set spots (λ s. span_path s.height s.width s.cell) w v r e
 
 -- ---- the caret's cell
 
@@ -51,23 +69,21 @@ record IsTold (f : Forest) (p : Place) : Type 0 where
   pub own : IsOwn f (children_of f p.table) p.spot
 
 spot_told : (f : Forest) (table cell : ℕ) (o : Option Spot) (p : Place) → spot_of (spots_of f table) cell ≡ o → place_among table (spots_of f table) cell ≡ Some p → IsTold f p
-spot_told f table cell None p found e = let none : place_among table (spots_of f table) cell ≡ None = rw found refl in absurd (cc)
+spot_told f table cell None p found e = absurd (let none = rw found at e in cc)
 spot_told f table cell (Some s) p found e =
-    let some : place_among table (spots_of f table) cell ≡ Some (place table (spots_of f table) s) = rw found refl in
-    let is : place table (spots_of f table) s ≡ p = cc in
+    let is : place table (spots_of f table) s ≡ p = (let some = rw found at e in cc) in
     subst (IsTold f) is (record { spots = refl; own = found_has (IsOwn f (children_of f table)) (is_of_cell cell) (spots_of f table) s (spots_own f table) found })
-
-table_told : (f : Forest) (cell : ℕ) (o : Option ℕ) (p : Place) → place_below f cell o ≡ Some p → IsTold f p
-table_told f cell None p e = absurd (cc)
-table_told f cell (Some table) p e = spot_told f table cell (spot_of (spots_of f table) cell) p refl e
 
 cell_told : (f : Forest) (o : Option ℕ) (p : Place) → place_of_cell f o ≡ Some p → IsTold f p
 cell_told f None p e = absurd (cc)
-cell_told f (Some cell) p e = table_told f cell (table_above f cell) p e
+cell_told f (Some cell) p e = by_table (table_above f cell) e where
+  by_table : (o : Option ℕ) → place_below f cell o ≡ Some p → IsTold f p
+  by_table None e = absurd (cc)
+  by_table (Some table) e = spot_told f table cell (spot_of (spots_of f table) cell) p refl e
 
 needed_told : (f : Forest) (s : Selection) (o : Option ℕ) (found : Option Place) (p : Place) → place_of_cell f o ≡ found → needed s found ≡ Ok p → IsTold f p
 needed_told f s o None p is e = absurd (cc)
-needed_told f s o (Some q) p is e = let same : q ≡ p = cc in cell_told f o p (is ∙ ap (λ (x : Place). Some x) same)
+needed_told f s o (Some q) p is e = cell_told f o p (let same : q ≡ p = cc in cc)
 
 focus_told : (w : Working) (r : Result ℕ Cause) (p : Place) → after r (λ k. needed w.selection (place_of_cell w.forest (cell_of w.forest k))) ≡ Ok p → IsTold w.forest p
 focus_told w (Ok k) p e = needed_told w.forest w.selection (cell_of w.forest k) (place_of_cell w.forest (cell_of w.forest k)) p refl e
@@ -79,18 +95,6 @@ place_told w p e = focus_told w (focus_of w) p e
 
 -- ---- the row comes
 
-abbrev taller_rows : Spot → ℕ
-taller_rows s = s.height + 1
-
-abbrev lower_rows : Spot → ℕ
-lower_rows s = s.height - 1
-
-due_across : (f : Forest) (table new : ℕ) (rows : Spot → ℕ) (rows_at : ℕ → ℕ) → ((i : ℕ) (s : Spot) → slice_get (spots_of f table) i ≡ Some s → IsOwn f (children_of f table) s → rows s ≡ rows_at s.cell)
-    → All (IsDue f rows rows_at) (crossing new (spots_of f table))
-due_across f table new rows rows_at each =
-    All-filter (crosses_row new) (IsDue f rows rows_at) (spots_of f table)
-    (all_by (IsDue f rows rows_at) (IsOwn f (children_of f table)) (spots_of f table) (spots_own f table) (λ i s at own. record { width = own.width; height = each i s at own }))
-
 record HasCome (f : Forest) (table new : ℕ) (v : Working) : Type 0 where
   pub row : ℕ
   pub set : Forest
@@ -98,40 +102,20 @@ record HasCome (f : Forest) (table new : ℕ) (v : Working) : Type 0 where
   pub way : HasRow f table new row set grown v.forest
   pub ready : IsReady v
 
-grows : (w h y : Working) (table new : ℕ) → IsReady w → heights_set (spots_of w.forest table) w ≡ Ok h → in_turn taller (crossing new (spots_of w.forest table)) h ≡ Ok y
-    → IsSpanned h.forest y.forest (cells_in (crossing new (spots_of w.forest table))) (λ q. height_at (spots_of w.forest table) q + 1) × IsReady y
-grows w h y table new ready set e =
-    let spots : List Spot = spots_of w.forest table in
-    let heights = heights_spanned w h table ready.in_order set in
+-- heights are set, and then those of the cells across a row are changed
+changed : (change : ℕ → ℕ) (w h y : Working) (table new : ℕ) → IsReady w → heights_set (spots_of w.forest table) w ≡ Ok h → in_turn (λ (s : Spot). span_step (change s.height) s.width s.cell) (crossing new (spots_of w.forest table)) h ≡ Ok y
+    → IsSpanned h.forest y.forest (cells_in (crossing new (spots_of w.forest table))) (λ q. change (height_at (spots_of w.forest table) q)) × IsReady y
+changed change w h y table new ready set e =
+    let f : Forest = w.forest in
+    let spots : List Spot = spots_of f table in
+    let rows : Spot → ℕ = λ s. change s.height in
+    let rows_at : ℕ → ℕ = λ q. change (height_at spots q) in
+    let all : All (IsDue f rows rows_at) spots = all_by (IsDue f rows rows_at) (IsOwn f (children_of f table)) spots (spots_own f table)
+    (λ i s at own. record { width = own.width; height = ap change (sym (height_found f table ready.in_order spots i s (spots_own f table) own at)) }) in
     let ready_h : IsReady h = (heights_path covered_path spots w h ready set).ready in (
-      spots_spanned w.forest taller_rows (λ q. height_at spots q + 1) (crossing new spots) h y heights.columns
-          (due_across w.forest table new taller_rows (λ q. height_at spots q + 1) (λ j s there own. ap (λ n. n + 1) (sym (height_found w.forest table ready.in_order spots j s (spots_own w.forest table) own there)))) e,
-      (every covered_path taller (crossing new spots) (λ s. span_path covered_path (s.height + 1) s.width s.cell) h y ready_h e).ready,
+      spots_spanned f rows rows_at (crossing new spots) h y (heights_spanned w h table ready.in_order set).columns (All-filter (crosses_row new) (IsDue f rows rows_at) spots all) e,
+      (every covered_path (λ (s : Spot). span_step (change s.height) s.width s.cell) (crossing new spots) (λ s. span_path covered_path (change s.height) s.width s.cell) h y ready_h e).ready,
     )
-
-row_comes : (w h y u t v : Working) (table new like i k : ℕ) → IsReady w → slice_get (children_of w.forest table) i ≡ Some k → heights_set (spots_of w.forest table) w ≡ Ok h
-    → in_turn taller (crossing new (spots_of w.forest table)) h ≡ Ok y → new_step Row plain_element y ≡ Ok u → put_step y.next_key table new u ≡ Ok t
-    → in_turn (column_filled (spots_of w.forest table) (crossing new (spots_of w.forest table)) like y.next_key) (keys_from 0 (end_column (spots_of w.forest table))) t ≡ Ok v → HasCome w.forest table new v
-row_comes w h y u t v table new like i k ready at set taller_e new_e put_e filled_e =
-    let spots : List Spot = spots_of w.forest table in
-    let heights = heights_spanned w h table ready.in_order set in
-    let grown = grows w h y table new ready set taller_e in
-    let first : is_among k (children_of y.forest table) ≡ true =
-    ap (is_among k) (grown.0.children table ∙ heights.children table) ∙ is_among-slice_get (children_of w.forest table) k i at in
-    let opened = row_opened table new spots (crossing new spots) like (keys_from 0 (end_column spots)) y u t v grown.1 (parent_below y k table grown.1 first) new_e put_e filled_e in
-    record {
-      row = y.next_key;
-      set = h.forest;
-      grown = y.forest;
-      way = record {
-        in_order = ready.in_order;
-        heights = heights;
-        taller = grown.0;
-        made = opened.0;
-        below = λ p q among. (child_below y q p grown.1 among, parent_below y q p grown.1 among);
-      };
-      ready = opened.1;
-    }
 
 comes : (w h v : Working) (table new like i k : ℕ) → IsReady w → slice_get (children_of w.forest table) i ≡ Some k → heights_set (spots_of w.forest table) w ≡ Ok h
     → row_inserted table (spots_of w.forest table) new like h ≡ Ok v → HasCome w.forest table new v
@@ -143,22 +127,30 @@ comes w h v table new like i k ready at set e =
     let a = first_part (in_turn taller (crossing new spots) h) (λ x. after (new_step Row plain_element x) (put x.next_key)) v e in
     let b = first_part (new_step Row plain_element a.0) (put a.0.next_key) v a.2 in
     let c = first_part (put_step a.0.next_key table new b.0) (cells a.0.next_key) v b.2 in
-    row_comes w h a.0 b.0 c.0 v table new like i k ready at set a.1 b.1 c.1 c.2
+    let heights = heights_spanned w h table ready.in_order set in
+    let grown = changed (λ n. n + 1) w h a.0 table new ready set a.1 in
+    let first : is_among k (children_of a.0.forest table) ≡ true =
+    ap (is_among k) (grown.0.children table ∙ heights.children table) ∙ is_among-slice_get (children_of w.forest table) k i at in
+    let opened = row_opened table new spots (crossing new spots) like (keys_from 0 (end_column spots)) a.0 b.0 c.0 v grown.1 (parent_below a.0 k table grown.1 first) b.1 c.1 c.2 in
+    record {
+      row = a.0.next_key;
+      set = h.forest;
+      grown = a.0.forest;
+      way = record { in_order = ready.in_order; heights = heights; taller = grown.0; made = opened.0; below = λ p q among. (child_below a.0 q p grown.1 among, parent_below a.0 q p grown.1 among) };
+      ready = opened.1;
+    }
 
 -- ---- the row goes
 
 filter_none : (test : Spot → Bool) (spots : List Spot) → All (λ s. test s ≡ false) spots → filter test spots ≡ []
 filter_none test [] all = refl
 filter_none test (s ∷ spots) all =
-    let here : test s ≡ false = All-head (λ t. test t ≡ false) s spots all in rw here (filter_none test spots (All-tail (λ t. test t ≡ false) s spots all))
+    rw (All-head (λ t. test t ≡ false) s spots all) (filter_none test spots (All-tail (λ t. test t ≡ false) s spots all))
 
 not_all : (test : Spot → Bool) (spots : List Spot) (i : ℕ) (s : Spot) → slice_get spots i ≡ Some s → test s ≡ false → list_all test spots ≡ false
 not_all test [] i s at fails = absurd (cc)
-not_all test (x ∷ spots) zero s at fails = let is : x ≡ s = cc in ap (λ b. b && list_all test spots) (ap test is ∙ fails)
-not_all test (x ∷ spots) (suc i) s at fails = ap (λ b. test x && b) (not_all test spots i s at fails) ∙ and_false (test x) where
-  and_false : (b : Bool) → (b && false) ≡ false
-  and_false true = refl
-  and_false false = refl
+not_all test (x ∷ spots) zero s at fails = let is : x ≡ s = cc in rw (is, fails) refl
+not_all test (x ∷ spots) (suc i) s at fails = grind (arith, not_all test spots i s at fails)
 
 none_moves : (spots : List Spot) (row : ℕ) (o : Option ℕ) (w v : Working) → filter (goes_below row) spots ≡ [] → all_moved_down spots row o w ≡ Ok v → w ≡ v
 unfolding in_turn
@@ -166,14 +158,10 @@ none_moves spots row None w v none e = cc
 none_moves spots row (Some next) w v none e =
     let same : Ok w ≡ Ok v = sym (ap (λ (zs : List Spot). in_turn (moved_down spots next) zs w) none) ∙ e in cc (same)
 
-selected_forest : (s : Selection) (w v : Working) → select_step s w ≡ Ok v → v.forest ≡ w.forest
-unfolding select_step
-selected_forest s w v e = ap (λ (x : Working). x.forest) (answered _ _ v e)
-
 careted_forest : (o : Option Spot) (w v : Working) → caret_in_spot o w ≡ Ok v → v.forest ≡ w.forest
-unfolding caret_in_step caret_step
-careted_forest None w v e = let same : w ≡ v = cc in sym (ap (λ (x : Working). x.forest) same)
-careted_forest (Some s) w v e = selected_forest _ w v e
+unfolding caret_in_step caret_step select_step
+careted_forest None w v e = cc
+careted_forest (Some s) w v e = ap (λ (x : Working). x.forest) (answered _ _ v e)
 
 -- what is above a node that goes has other children
 stays_above : (k p : ℕ) (above : List ℕ) (w v : Working) → (size_of (take_out k w.forest) p == 0) ≡ false → removed k (p ∷ above) w ≡ Ok v → v.forest ≡ take_out k w.forest
@@ -181,12 +169,9 @@ stays_above k p above w v more e =
     let a = first_part (take_step k (sent_away k w)) (λ u. cond (goes_too (kind_of w.forest k) u.forest p) (removed p above u) (Ok u)) v e in
     let forest : a.0.forest ≡ take_out k w.forest = taken-forest k (sent_away k w) a.0 a.1 ∙ ap (take_out k) (sent_away-forest k w) in
     let left : goes_too (kind_of w.forest k) a.0.forest p ≡ false = ap (λ g. goes_too (kind_of w.forest k) g p) forest ∙ rw more refl in
-    let same : a.0 ≡ v = kept (goes_too (kind_of w.forest k) a.0.forest p) (removed p above a.0) a.0 v left a.2 in
+    let rest = rw left at a.2 in
+    let same : a.0 ≡ v = cc in
     sym (ap (λ (x : Working). x.forest) same) ∙ forest
-  where
-    kept : (t : Bool) (r : Result Working Cause) (x y : Working) → t ≡ false → cond t r (Ok x) ≡ Ok y → x ≡ y
-    kept true r x y is e = absurd (cc)
-    kept false r x y is e = cc
 
 removed_forest : (k p : ℕ) (w v : Working) → IsForest w.forest → parent_of w.forest k ≡ Some p → (size_of (take_out k w.forest) p == 0) ≡ false → remove_step k w ≡ Ok v → v.forest ≡ take_out k w.forest
 unfolding remove_step
@@ -195,11 +180,7 @@ removed_forest k p w v ordered up more e =
 
 -- the row of a cell that was there isn't the new one
 other_row : (new i j : ℕ) → IsShifted new i j → (j == new) ≡ false
-other_row new i j shift =
-    elim shift [
-      | inl low ↦ let h : i < new = low.0 in let is : j ≡ i = low.1 in grind (arith, eqb_tells j new, h, is)
-      | inr high ↦ let h : new ≤ i = high.0 in let is : j ≡ i + 1 = high.1 in grind (arith, eqb_tells j new, h, is)
-    ]
+other_row new i j shift = grind (arith, eqb_tells j new, shift)
 
 -- no cell of the new row goes on below it
 none_below : (f : Forest) (table new : ℕ) (x : Working) (come : HasCome f table new x) → filter (goes_below new) (spots_of x.forest table) ≡ []
@@ -228,9 +209,6 @@ not_alone f table new i k q x come at among =
     not_all (is_in_row_alone new) (spots_of x.forest table) found.index found.spot found.at
     (ap (λ r. (r == new) && (found.spot.height == 1)) row ∙ ap (λ b. b && (found.spot.height == 1)) (other_row new i there.index there.shift))
 
-not_none : (n i : ℕ) → i < n → (n == 0) ≡ false
-not_none n i h = grind (arith, eqb_tells n 0, h)
-
 row_goes : (f : Forest) (table new i k : ℕ) (x h y z t u : Working) (come : HasCome f table new x) → slice_get (children_of f table) i ≡ Some k → IsShrunk table new x.forest h.forest y.forest
     → y ≡ z → t.forest ≡ z.forest → row_removed (slice_get (children_of t.forest table) new) t ≡ Ok u → grid_of u.forest table ≡ grid_of f table
 row_goes f table new i k x h y z t u come at gone moved careted e =
@@ -244,7 +222,7 @@ row_goes f table new i k x h y z t u come at gone moved careted e =
     let up : parent_of t.forest come.row ≡ Some table = above_is t.forest come.row table ordered (is_among-slice_get (children_of t.forest table) come.row new row) in
     let others : children_of (take_out come.row t.forest) table ≡ children_of f table = ap (λ z. children_of (take_out come.row z) table) forest ∙ alike.keys in
     let some : i < length (children_of f table) = slice_get_within (children_of f table) i k at in
-    let more : (size_of (take_out come.row t.forest) table == 0) ≡ false = ap (λ (xs : List ℕ). length xs == 0) others ∙ not_none (length (children_of f table)) i some in
+    let more : (size_of (take_out come.row t.forest) table == 0) ≡ false = ap (λ (xs : List ℕ). length xs == 0) others ∙ grind (arith, eqb_tells (length (children_of f table)) 0, some) in
     let taken : u.forest ≡ take_out come.row y.forest = removed_forest come.row table t u ordered up more removes ∙ ap (take_out come.row) forest in
     ap (λ z. grid_of z table) taken ∙ same_grid f (take_out come.row y.forest) table alike
 
@@ -254,18 +232,8 @@ caret_goes keys row column w v e =
 
 shrinks : (x h y : Working) (table new : ℕ) → IsReady x → heights_set (spots_of x.forest table) x ≡ Ok h → in_turn lower (crossing new (spots_of x.forest table)) h ≡ Ok y → IsShrunk table new x.forest h.forest y.forest
 shrinks x h y table new ready set e =
-    let spots : List Spot = spots_of x.forest table in
-    let reset = heights_spanned x h table ready.in_order set in
-    let ready_h : IsReady h = (heights_path covered_path spots x h ready set).ready in
-    let ready_y : IsReady y = (every covered_path lower (crossing new spots) (λ s. span_path covered_path (s.height - 1) s.width s.cell) h y ready_h e).ready in
-    record {
-      opened_in_order = ready.in_order;
-      reset = reset;
-      lower =
-          spots_spanned x.forest lower_rows (λ q. height_at spots q - 1) (crossing new spots) h y reset.columns
-          (due_across x.forest table new lower_rows (λ q. height_at spots q - 1) (λ j s there own. ap (λ n. n - 1) (sym (height_found x.forest table ready.in_order spots j s (spots_own x.forest table) own there)))) e;
-      shrunk_in_order = ready_y.in_order;
-    }
+    let lower = changed (λ n. n - 1) x h y table new ready set e in
+    record { opened_in_order = ready.in_order; reset = heights_spanned x h table ready.in_order set; lower = lower.0; shrunk_in_order = lower.1.in_order }
 
 goes : (f : Forest) (table new column i k : ℕ) (x h u : Working) (come : HasCome f table new x) → slice_get (children_of f table) i ≡ Some k
     → heights_set (spots_of x.forest table) x ≡ Ok h → row_taken table (spots_of x.forest table) new column h ≡ Ok u → grid_of u.forest table ≡ grid_of f table
@@ -290,10 +258,6 @@ placed w v p command at e =
 inserted_at : (behind : Bool) (p : Place) (w v : Working) → row_at behind p w ≡ Ok v → (like : ℕ) × (row_inserted p.table p.spots (new_row behind p.spot) like w ≡ Ok v)
 inserted_at false p w v e = (p.spot.row, e)
 inserted_at true p w v e = (p.spot.row + p.spot.height - 1, e)
-
-unless : (t : Bool) (one other : Result Working Cause) (v : Working) → t ≡ false → cond t one other ≡ Ok v → other ≡ Ok v
-unless true one other v is e = absurd (cc)
-unless false one other v is e = e
 
 pub rows_come_and_go : (behind : Bool) (w v u : Working) (s : Selection) (p q : Place) → IsReady w → place_of w ≡ Ok p → insert_row_step behind w ≡ Ok v → place_of (record v { selection = s }) ≡ Ok q
     → q.table ≡ p.table → q.spot.row ≡ new_row behind p.spot → delete_row_step (record v { selection = s }) ≡ Ok u → grid_of u.forest p.table ≡ grid_of w.forest p.table
@@ -320,8 +284,6 @@ rows_come_and_go behind w v u s p q ready at inserts at_new table row deletes =
     let set : heights_set (spots_of v.forest p.table) x ≡ Ok c.0 = sym (ap (λ z. heights_set z x) spots) ∙ c.1 in
     let alone : list_all (is_in_row_alone q.spot.row) q.spots ≡ false =
     ap (λ r. list_all (is_in_row_alone r) q.spots) row ∙ ap (list_all (is_in_row_alone new)) spots ∙ not_alone f p.table new p.spot.row was.own.key p.spot.cell x come was.own.row was.own.among in
-    let taken : row_taken q.table q.spots q.spot.row q.spot.column c.0 ≡ Ok u = unless (list_all (is_in_row_alone q.spot.row) q.spots) _ _ u alone c.2 in
-    let takes : row_taken p.table (spots_of v.forest p.table) new q.spot.column c.0 ≡ Ok u =
-    sym (ap (λ t. row_taken t q.spots q.spot.row q.spot.column c.0) table ∙ ap (λ z. row_taken p.table z q.spot.row q.spot.column c.0) spots
-    ∙ ap (λ r. row_taken p.table (spots_of v.forest p.table) r q.spot.column c.0) row) ∙ taken in
+    let taken : row_taken q.table q.spots q.spot.row q.spot.column c.0 ≡ Ok u = (let rest = c.2 in rw alone at rest) in
+    let takes : row_taken p.table (spots_of v.forest p.table) new q.spot.column c.0 ≡ Ok u = rw (← spots, ← table, ← row) taken in
     goes f p.table new q.spot.column p.spot.row was.own.key x c.0 u come was.own.row set takes

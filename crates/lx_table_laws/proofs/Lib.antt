@@ -1,4 +1,3 @@
 pub mod Again
 pub mod ComeAndGo
 pub mod Opened
-pub mod Paths

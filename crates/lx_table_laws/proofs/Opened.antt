@@ -1,8 +1,8 @@
 -- What a new row with new cells leaves of a forest.
 use Rattle.std.proofs.Common.{◌≡◌, ◌∙◌, ℕ, ◌+◌, ◌<◌, ◌≤◌, eqb, ◌||◌, Bool, true, false, cond, List, [], ◌∷◌, length, None, Some, Ok, option_map, refl, sym, ap, subst, arith, inl, inr}
-use Rattle.std.specs.Prelude.{nat_lt}
 use Rattle.std.specs.List.{slice_get, list_any}
-use Rattle.std.proofs.lemmas.Bool.Decides.{eqb_tells, nat_tests}
+use Rattle.std.proofs.lemmas.Bool.{cases_lt}
+use Rattle.std.proofs.lemmas.Bool.Decides.{eqb_tells}
 use Rattle.lx_trees.specs.Siblings.{is_among, names_with}
 use Rattle.lx_trees.proofs.Siblings.{is_among-names_with}
 use Rattle.lx_node.specs.Strings.{characters_of}
@@ -12,7 +12,6 @@ use Rattle.lx_node.specs.declared.kind.Kind.TheVariants.{Paragraph, Row, Cell}
 use Rattle.lx_node.specs.declared.fields.Fields.{Fields}
 use Rattle.lx_forest.specs.Forest.{Forest, Label}
 use Rattle.lx_forest.specs.Lookups.{has, label_of, fields_of, children_of, size_of}
-use Rattle.lx_forest.specs.Edits.{with_new, put_in}
 use Rattle.lx_forest.proofs.Lookups.{has-parent_of, has-child, label_of-with_new, children_of-with_new, label_of-put_in, children_of-put_in}
 use Rattle.lx_draft.specs.Working.{Working}
 use Rattle.lx_draft.specs.Covering.{IsReady}
@@ -34,10 +33,10 @@ use Rattle.lx_table.proofs.Own.{above_is}
 -- ---- keys that were given are below the next
 
 pub has_below : (w : Working) (q : ℕ) → IsReady w → has q w.forest ≡ true → q < w.next_key
-has_below w q ready there = by_test (nat_lt q w.next_key) refl where
-  by_test : (t : Bool) → nat_lt q w.next_key ≡ t → q < w.next_key
-  by_test true e = grind (arith, nat_tests, e)
-  by_test false e = let gone : has q w.forest ≡ false = ready.free q (grind (arith, nat_tests, e)) in absurd (cc (gone, there))
+has_below w q ready there = elim (cases_lt q w.next_key) [
+  | inl low ↦ low
+  | inr high ↦ absurd (let gone = ready.free q high in cc)
+]
 
 pub child_below : (w : Working) (q p : ℕ) → IsReady w → is_among q (children_of w.forest p) ≡ true → q < w.next_key
 child_below w q p ready among = has_below w q ready (has-child w.forest q p (above_is w.forest q p ready.in_order among))
@@ -47,9 +46,6 @@ parent_below w q p ready among = has_below w p ready (has-parent_of w.forest q p
 
 below_other : (q k : ℕ) → q < k → eqb q k ≡ false
 below_other q k h = grind (arith, eqb_tells q k, h)
-
-above_other : (q k : ℕ) → k < q → eqb q k ≡ false
-above_other q k h = grind (arith, eqb_tells q k, h)
 
 -- ---- a new node, and a node that is put
 
@@ -65,15 +61,13 @@ unfolding new_step
 made_by kind fields w v ready e =
     let is : made kind fields w ≡ v = (answered (over_limits (characters_of fields) w) (made kind fields w) v e).1 in
     let l : Label = record { key = w.next_key; kind = kind; fields = fields } in
-    let forest : v.forest ≡ with_new l w.forest = sym (ap (λ (x : Working). x.forest) is) in
     let free : has w.next_key w.forest ≡ false = ready.free w.next_key (omega arith) in
-    let label : (q : ℕ) → label_of v.forest q ≡ cond (eqb q w.next_key) (Some l) (label_of w.forest q) =
-    λ q. ap (λ f. label_of f q) forest ∙ label_of-with_new l w.forest q ready.in_order free in
+    let label : (q : ℕ) → label_of v.forest q ≡ cond (eqb q w.next_key) (Some l) (label_of w.forest q) = λ q. rw (← is) (label_of-with_new l w.forest q ready.in_order free) in
     let same : eqb w.next_key w.next_key ≡ true = grind (arith, eqb_tells w.next_key w.next_key) in
     record {
       ready = (covered_path.new kind fields w v ready e).ready;
-      next = sym (ap (λ (x : Working). x.next_key) is);
-      children = λ q. ap (λ f. children_of f q) forest ∙ children_of-with_new l w.forest q ready.in_order free;
+      next = rw (← is) refl;
+      children = λ q. rw (← is) (children_of-with_new l w.forest q ready.in_order free);
       here = ap (option_map (λ (x : Label). x.fields)) (label w.next_key ∙ ap (λ b. cond b (Some l) (label_of w.forest w.next_key)) same);
       others = λ q low. ap (option_map (λ (x : Label). x.fields)) (label q ∙ ap (λ b. cond b (Some l) (label_of w.forest q)) (below_other q w.next_key low));
     }
@@ -92,23 +86,19 @@ put_by k p index w v ready e =
     let none : put_fault k p index w.forest ≡ None = (both_none (put_fault k p index w.forest) (over_counts w) a.0).0 in
     let before = slice_get (children_of w.forest p) index in
     let can = can_put w.forest k p index none in
-    let forest : v.forest ≡ put_in p before k w.forest = sym (ap (λ (x : Working). x.forest) a.1) in
     record {
       ready = (covered_path.put k p index w v tt ready e).ready;
-      next = sym (ap (λ (x : Working). x.next_key) a.1);
-      children = λ q. ap (λ f. children_of f q) forest ∙ children_of-put_in p before k w.forest q ready.in_order can;
-      fields = λ q. ap (option_map (λ (x : Label). x.fields)) (ap (λ f. label_of f q) forest ∙ label_of-put_in p before k w.forest q ready.in_order can);
+      next = rw (← a.1) refl;
+      children = λ q. rw (← a.1) (children_of-put_in p before k w.forest q ready.in_order can);
+      fields = λ q. rw (← a.1) (ap (option_map (λ (x : Label). x.fields)) (label_of-put_in p before k w.forest q ready.in_order can));
       within = put_within w.forest k p index none;
     }
 
 put_apart : (k p index : ℕ) (w v : Working) (q : ℕ) → IsPut k p index w v → eqb q p ≡ false → children_of v.forest q ≡ children_of w.forest q
-put_apart k p index w v q put other =
-    put.children q ∙ ap (λ b. cond b (names_with (slice_get (children_of w.forest p) index) (k ∷ []) (children_of w.forest q)) (children_of w.forest q)) other
+put_apart k p index w v q put other = put.children q ∙ rw other refl
 
 put_there : (k p index : ℕ) (w v : Working) → IsPut k p index w v → children_of v.forest p ≡ names_with (slice_get (children_of w.forest p) index) (k ∷ []) (children_of w.forest p)
-put_there k p index w v put =
-    let same : eqb p p ≡ true = grind (arith, eqb_tells p p) in
-    put.children p ∙ ap (λ b. cond b (names_with (slice_get (children_of w.forest p) index) (k ∷ []) (children_of w.forest p)) (children_of w.forest p)) same
+put_there k p index w v put = let same : eqb p p ≡ true = grind (arith, eqb_tells p p) in put.children p ∙ rw same refl
 
 -- ---- new cells in a row
 
@@ -195,7 +185,7 @@ row_opened table index spots above like columns w u p v ready low made_e put_e f
       fields = λ q h. refl;
       single = λ q among.
           let old : is_among q (children_of w.forest w.next_key) ≡ true =
-          sym (ap (is_among q) (put_apart w.next_key table index u p w.next_key put (above_other w.next_key table low) ∙ made.children w.next_key)) ∙ among in
+          sym (ap (is_among q) (put_apart w.next_key table index u p w.next_key put (let above : eqb w.next_key table ≡ false = grind (arith, eqb_tells w.next_key table, low) in above) ∙ made.children w.next_key)) ∙ among in
           let clash : w.next_key < w.next_key = parent_below w q w.next_key ready old in absurd (omega (arith, clash));
     } in
     let filled = columns_kept spots above like w.next_key columns p.forest p v begun filled_e in (

@@ -1,4 +1,4 @@
-use Rattle.lx_clip_laws.proofs.Inserts.{copies_are_pasted}
+use Rattle.lx_clip_laws.proofs.Pastes.{copies_are_pasted}
 use Rattle.lx_clip_laws.proofs.laws.copies_are_pasted.Goals as goal
 
 pub returns : goal.returns
