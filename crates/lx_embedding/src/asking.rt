@@ -3,7 +3,7 @@
 use crate::editing::room;
 use anyhow::Result;
 use lx_editor::{Editor, answer_line};
-use lx_step::Shown;
+use lx_step::{Shown, Turn};
 use lx_value::Room;
 use std::alloc::Global;
 
@@ -17,6 +17,14 @@ pub(crate) fn view(alloc: Global, editor: &Editor) -> Result<String> {
 pub(crate) fn depths(alloc: Global, editor: &Editor) -> Result<String> {
     let (undo, redo) = editor.depths();
     Ok(format!(in alloc; "{undo} {redo}")?)
+}
+
+/// How many nodes the states have to which an undo and a redo go, where there are such.
+pub(crate) fn entries(alloc: Global, editor: &Editor) -> Result<String> {
+    let history = editor.history();
+    let undo = history.state_at(Turn::Undo).map(|state| state.links.len());
+    let redo = history.state_at(Turn::Redo).map(|state| state.links.len());
+    Ok(format!(in alloc; "{undo:?} {redo:?}")?)
 }
 
 /// How often the editor has committed, and how many updates wait.

@@ -28,6 +28,7 @@ fn tell_all<W: Write>(alloc: Global, out: &mut W) -> Result<()> {
     tell(out, "redo", editing::redo(alloc, &mut editor)?)?;
     tell(out, "redo again", editing::redo(alloc, &mut editor)?)?;
     tell(out, "depths", asking::depths(alloc, &editor)?)?;
+    tell(out, "entries", asking::entries(alloc, &editor)?)?;
     tell(out, "rule", registering::rule(alloc, &mut editor)?)?;
     tell(out, "listener", registering::listener(alloc, &mut editor)?)?;
     tell(out, "dispatch", editing::sign(alloc, &mut editor)?)?;
