@@ -19,12 +19,17 @@ pub(crate) fn depths(alloc: Global, editor: &Editor) -> Result<String> {
     Ok(format!(in alloc; "{undo} {redo}")?)
 }
 
-/// How many nodes the states have to which an undo and a redo go, where there are such.
+/// How many nodes the states have to which an undo and a redo go, where there are such, and at which keys the first may differ
+/// from what is committed.
 pub(crate) fn entries(alloc: Global, editor: &Editor) -> Result<String> {
     let history = editor.history();
     let undo = history.state_at(Turn::Undo).map(|state| state.links.len());
     let redo = history.state_at(Turn::Redo).map(|state| state.links.len());
-    Ok(format!(in alloc; "{undo:?} {redo:?}")?)
+    let keys = history
+        .entry_at(Turn::Undo)
+        .and_then(|entry| entry.places.keys());
+    let since = history.strays().keys();
+    Ok(format!(in alloc; "{undo:?} {redo:?} at {keys:?} and {since:?}")?)
 }
 
 /// How often the editor has committed, and how many updates wait.
