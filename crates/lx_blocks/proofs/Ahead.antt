@@ -40,7 +40,8 @@ ahead_on test stop first at o f q d made more way next last deep other kept is =
     (way_on test stop at o f q d made more all way.0 next last deep other kept is, still ∙ way.1)
 
 -- it comes to its end, with no stop to look for
-pub ahead_ends : (test : ℕ → Bool) (stop first at : Option (ℕ × ℕ)) (f : Forest) (made : List ℕ) → stop ≡ None → IsAhead test (key_of_step stop) f first at made → at ≡ None →
+pub ahead_ends : (test : ℕ → Bool) (stop first at : Option (ℕ × ℕ)) (f : Forest) (made : List ℕ) → stop ≡ None → IsAhead test (key_of_step stop) f first at made
+    → at ≡ None →
     made ≡ filter test (up_to (key_of_step stop) (left_from f first))
 ahead_ends test None first at f made none way is =
     sym (append-nil made) ∙ ap (λ a. made ++ filter test (until None (left_from f a))) (sym is) ∙ way.0.1 ∙ ap (filter test) (until_none (left_from f first))
@@ -55,5 +56,6 @@ unfolding selected_lines
 lines_are f r start end first stop frame starts ends left stops framed =
     ap (λ ks. filter (λ k. is_line f k && same_node (frame_of f k) frame) (up_to (key_of_step stop) ks)) left
     ∙ ap (λ o. filter (λ k. is_line f k && same_node (frame_of f k) frame) (up_to o (from_block f start (block_of f start.key)))) stops
-    ∙ ap (λ o. filter (λ k. is_line f k && same_node (frame_of f k) o) (up_to (behind_block f end (block_of f end.key)) (from_block f start (block_of f start.key)))) framed
+    ∙ ap (λ o. filter (λ k. is_line f k && same_node (frame_of f k) o)
+    (up_to (behind_block f end (block_of f end.key)) (from_block f start (block_of f start.key)))) framed
     ∙ ap (λ p. lines_between f p end) starts ∙ ap (lines_between f (start_of f r)) ends

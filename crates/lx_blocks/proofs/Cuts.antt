@@ -26,7 +26,8 @@ record IsCut (f : Forest) (s : ℕ) (back : List ℕ) : Type 0 where
   front : List ℕ
   split : preorder f ≡ front ++ back
   own : place f s < length front
-  held : (p k : ℕ) → is_within f p k ≡ true → is_attached f p ≡ true → is_attached f k ≡ true → place f p < length front → length front ≤ place f k → is_within f p s ≡ true
+  held : (p k : ℕ) → is_within f p k ≡ true → is_attached f p ≡ true → is_attached f k ≡ true → place f p < length front → length front ≤ place f k
+      → is_within f p s ≡ true
 
 -- a node below another comes after it
 place_below : (f : Forest) (p k : ℕ) → IsForest f → is_attached f p ≡ true → is_attached f k ≡ true → is_within f p k ≡ true → k ≢ p → place f p < place f k
@@ -39,7 +40,8 @@ place_below f p k h there here inside other =
     ]
 
 -- whose tree reaches over the place after a tree holds that one's node
-held_behind : (f : Forest) (s p k : ℕ) → IsForest f → is_attached f s ≡ true → is_within f p k ≡ true → is_attached f p ≡ true → is_attached f k ≡ true → place f p < place f s + size f s → place f s + size f s ≤ place f k → is_within f p s ≡ true
+held_behind : (f : Forest) (s p k : ℕ) → IsForest f → is_attached f s ≡ true → is_within f p k ≡ true → is_attached f p ≡ true → is_attached f k ≡ true
+    → place f p < place f s + size f s → place f s + size f s ≤ place f k → is_within f p s ≡ true
 held_behind f s p k h attached inside there here before behind =
     elim (within_tells f s p h attached there) [
       | inl lower ↦ elim (within_tells f s k h attached here) [
@@ -72,7 +74,8 @@ cut_behind f s h attached =
     }
 
 -- whose tree reaches over the place before a child holds its parent
-held_from : (f : Forest) (s c p k : ℕ) → IsForest f → is_attached f c ≡ true → parent_of f c ≡ Some s → is_within f p k ≡ true → is_attached f p ≡ true → is_attached f k ≡ true → place f p < place f c → place f c ≤ place f k → is_within f p s ≡ true
+held_from : (f : Forest) (s c p k : ℕ) → IsForest f → is_attached f c ≡ true → parent_of f c ≡ Some s → is_within f p k ≡ true → is_attached f p ≡ true
+    → is_attached f k ≡ true → place f p < place f c → place f c ≤ place f k → is_within f p s ≡ true
 held_from f s c p k h attached up inside there here before behind =
     elim (within_tells f p c h there attached) [
       | inl holds ↦
@@ -102,13 +105,15 @@ cut_from f s c h attached up =
       front = nodes_before f c;
       split = before_and_from f c h attached;
       own = omega (arith, place_below f s c h above attached (child_inside f c s h up) (not_parent f c s h up), long);
-      held = λ p k inside there here before behind. held_from f s c p k h attached up inside there here (omega (arith, before, long)) (omega (arith, behind, long));
+      held = λ p k inside there here before behind. held_from f s c p k h attached up inside there here (omega (arith, before, long))
+          (omega (arith, behind, long));
     }
 
 -- ---- the nodes up to a stop
 
 -- of a node in such a front, the parent is in it exactly where its tree doesn't hold the node of the cut
-tie : (f : Forest) (s p k : ℕ) (xs ys zs : List ℕ) → IsForest f → preorder f ≡ xs ++ (ys ++ zs) → place f s < length xs → is_attached f s ≡ true → is_attached f p ≡ true → is_attached f k ≡ true → is_within f p k ≡ true → k ≢ p → is_among k ys ≡ true →
+tie : (f : Forest) (s p k : ℕ) (xs ys zs : List ℕ) → IsForest f → preorder f ≡ xs ++ (ys ++ zs) → place f s < length xs → is_attached f s ≡ true
+    → is_attached f p ≡ true → is_attached f k ≡ true → is_within f p k ≡ true → k ≢ p → is_among k ys ≡ true →
     (place f p < length xs → length xs ≤ place f k → is_within f p s ≡ true) → is_among p ys ≡ not (is_within f p s)
 tie f s p k xs ys zs h split own attached there here inside other among held =
     let through : preorder f ≡ (xs ++ ys) ++ zs = split ∙ sym (append_assoc xs ys zs) in
@@ -134,28 +139,37 @@ tie f s p k xs ys zs h split own attached there here inside other among held =
       ]
     ]
 
-among_tie : (f : Forest) (s p k : ℕ) (back : List ℕ) (end : Option ℕ) → IsForest f → IsCut f s back → is_attached f s ≡ true → parent_of f k ≡ Some p → is_among k (until end back) ≡ true → is_among p (until end back) ≡ not (is_within f p s)
+among_tie : (f : Forest) (s p k : ℕ) (back : List ℕ) (end : Option ℕ) → IsForest f → IsCut f s back → is_attached f s ≡ true → parent_of f k ≡ Some p
+    → is_among k (until end back) ≡ true → is_among p (until end back) ≡ not (is_within f p s)
 among_tie f s p k back end h cut attached up among =
     let begins = until_begins end back in
     let split : preorder f ≡ cut.front ++ (until end back ++ begins.0) = cut.split ∙ ap (λ ks. cut.front ++ ks) begins.1 in
-    let here : is_attached f k ≡ true = sym (is_among-preorder_of f k) ∙ ap (is_among k) split ∙ grind (arith, among, is_among-append k cut.front (until end back ++ begins.0), is_among-append k (until end back) begins.0) in
+    let here : is_attached f k ≡ true =
+    sym (is_among-preorder_of f k) ∙ ap (is_among k) split
+    ∙ grind (arith, among, is_among-append k cut.front (until end back ++ begins.0), is_among-append k (until end back) begins.0) in
     let there : is_attached f p ≡ true = sym (is_attached-up f k p h up) ∙ here in
     let inside : is_within f p k ≡ true = child_inside f k p h up in
     tie f s p k cut.front (until end back) begins.0 h split cut.own attached there here inside (not_parent f k p h up) among (cut.held p k inside there here)
 
-outer : (f : Forest) (s e p k : ℕ) (back : List ℕ) (end : Option ℕ) → IsForest f → IsCut f s back → is_attached f s ≡ true → parent_of f k ≡ Some p → is_among k (filter (λ k. not (is_within f k e)) (until end back)) ≡ true → not (is_among p (filter (λ k. not (is_within f k e)) (until end back))) ≡ (is_within f p s || is_within f p e)
+outer : (f : Forest) (s e p k : ℕ) (back : List ℕ) (end : Option ℕ) → IsForest f → IsCut f s back → is_attached f s ≡ true → parent_of f k ≡ Some p
+    → is_among k (filter (λ k. not (is_within f k e)) (until end back)) ≡ true
+    → not (is_among p (filter (λ k. not (is_within f k e)) (until end back))) ≡ (is_within f p s || is_within f p e)
 outer f s e p k back end h cut attached up among =
     let some : is_among k (until end back) ≡ true = grind (arith, among, filter_among (λ k. not (is_within f k e)) (until end back) k) in
     grind (arith, filter_among (λ k. not (is_within f k e)) (until end back) p, among_tie f s p k back end h cut attached up some)
 
-stands_outer : (f : Forest) (o : Option ℕ) (s e k : ℕ) (back : List ℕ) (end : Option ℕ) → IsForest f → IsCut f s back → is_attached f s ≡ true → parent_of f k ≡ o → is_among k (filter (λ k. not (is_within f k e)) (until end back)) ≡ true → not (stands_below o (filter (λ k. not (is_within f k e)) (until end back))) ≡ unwrap_or (option_map (λ p. is_within f p s || is_within f p e) o) true
+stands_outer : (f : Forest) (o : Option ℕ) (s e k : ℕ) (back : List ℕ) (end : Option ℕ) → IsForest f → IsCut f s back → is_attached f s ≡ true
+    → parent_of f k ≡ o → is_among k (filter (λ k. not (is_within f k e)) (until end back)) ≡ true
+    → not (stands_below o (filter (λ k. not (is_within f k e)) (until end back))) ≡ unwrap_or (option_map (λ p. is_within f p s || is_within f p e) o) true
 stands_outer f None s e k back end h cut attached up among = refl
 stands_outer f (Some p) s e k back end h cut attached up among = outer f s e p k back end h cut attached up among
 
 outermost_is : (f : Forest) (start end : Point) → IsForest f → IsCut f start.key (nodes_behind f start) → is_attached f start.key ≡ true →
-    filter (λ k. unwrap_or (option_map (λ p. is_within f p start.key || is_within f p end.key) (parent_of f k)) true) (covered f start end) ≡ outermost f (covered f start end)
+    filter (λ k. unwrap_or (option_map (λ p. is_within f p start.key || is_within f p end.key) (parent_of f k)) true) (covered f start end)
+    ≡ outermost f (covered f start end)
 outermost_is f start end h cut attached =
-    sym (filter_alike (λ k. not (stands_below (parent_of f k) (covered f start end))) (λ k. unwrap_or (option_map (λ p. is_within f p start.key || is_within f p end.key) (parent_of f k)) true) (covered f start end)
+    sym (filter_alike (λ k. not (stands_below (parent_of f k) (covered f start end)))
+    (λ k. unwrap_or (option_map (λ p. is_within f p start.key || is_within f p end.key) (parent_of f k)) true) (covered f start end)
     (λ k among. stands_outer f (parent_of f k) start.key end.key k (nodes_behind f start) (first_of (nodes_behind f end)) h cut attached refl among))
 
 -- ---- the place of a point
@@ -172,5 +186,7 @@ cut_place f k offset point.Element s attached = cut_child f k offset (slice_get 
 
 -- a covered node is below none of them exactly where its parent's tree holds a point
 pub outer_tie : (f : Forest) (start end : Point) → Sound f → is_attached f start.key ≡ true →
-    filter (λ k. unwrap_or (option_map (λ p. is_within f p start.key || is_within f p end.key) (parent_of f k)) true) (covered f start end) ≡ outermost f (covered f start end)
-outer_tie f start end s attached = outermost_is f start end (in_order_with f start.key s attached) (cut_place f start.key start.offset start.kind s attached) attached
+    filter (λ k. unwrap_or (option_map (λ p. is_within f p start.key || is_within f p end.key) (parent_of f k)) true) (covered f start end)
+    ≡ outermost f (covered f start end)
+outer_tie f start end s attached =
+    outermost_is f start end (in_order_with f start.key s attached) (cut_place f start.key start.offset start.kind s attached) attached

@@ -49,7 +49,8 @@ first_of-split : (xs : List ℕ) (c : ℕ) → first_of xs ≡ Some c → (rest 
 first_of-split [] c e = absurd (cc)
 first_of-split (x ∷ xs) c e = (xs, (let is : x ≡ c = cc in ap (λ q. q ∷ xs) is))
 
-keys_first : (f : Forest) (q c : ℕ) (o : Option (Spot Label)) → IsForest f → spot f q ≡ o → first_of (children_at o) ≡ Some c → (rest : List ℕ) × (keys_within f q ≡ q ∷ (keys_within f c ++ rest))
+keys_first : (f : Forest) (q c : ℕ) (o : Option (Spot Label)) → IsForest f → spot f q ≡ o → first_of (children_at o) ≡ Some c
+    → (rest : List ℕ) × (keys_within f q ≡ q ∷ (keys_within f c ++ rest))
 keys_first f q c None i at e = absurd (cc)
 keys_first f q c (Some s) i at e =
     let split = first_of-split s.children c e in (
@@ -59,7 +60,8 @@ keys_first f q c (Some s) i at e =
           ∙ ap (λ xs. q ∷ xs) (preorder-joined key_of (alone c f) (trees_of f split.0)),
     )
 
-past : (f : Forest) (q c : ℕ) (rest : List ℕ) → keys_within f q ≡ q ∷ (keys_within f c ++ rest) → first_child f q ≡ Some c → is_some (find (is_leaf f) (keys_within f c)) ≡ true → find (is_leaf f) (keys_within f q) ≡ find (is_leaf f) (keys_within f c)
+past : (f : Forest) (q c : ℕ) (rest : List ℕ) → keys_within f q ≡ q ∷ (keys_within f c ++ rest) → first_child f q ≡ Some c
+    → is_some (find (is_leaf f) (keys_within f c)) ≡ true → find (is_leaf f) (keys_within f q) ≡ find (is_leaf f) (keys_within f c)
 past f q c rest keys e some =
     ap (find (is_leaf f)) keys
     ∙ ap (λ b. cond b (Some q) (find (is_leaf f) (keys_within f c ++ rest))) (not_leaf f q c e)
@@ -69,7 +71,8 @@ none_first : (xs : List ℕ) → first_of xs ≡ None → xs ≡ []
 none_first [] e = refl
 none_first (x ∷ xs) e = absurd (cc)
 
-alone_leaf : (f : Forest) (q : ℕ) (o : Option (Spot Label)) → IsForest f → spot f q ≡ o → is_some o ≡ true → children_at o ≡ [] → find (is_leaf f) (keys_within f q) ≡ Some q
+alone_leaf : (f : Forest) (q : ℕ) (o : Option (Spot Label)) → IsForest f → spot f q ≡ o → is_some o ≡ true → children_at o ≡ []
+    → find (is_leaf f) (keys_within f q) ≡ Some q
 alone_leaf f q None i at there none = absurd (cc)
 alone_leaf f q (Some s) i at there none =
     let children : children_of f q ≡ [] = ap children_at at ∙ none in
@@ -79,7 +82,8 @@ alone_leaf f q (Some s) i at there none =
 -- there is a leaf in each tree
 leaf_by : (f : Forest) (q : ℕ) (o : Option ℕ) → Sound f → f ≢ nil → has q f ≡ true → first_child f q ≡ o
     → ((c : ℕ) → first_child f q ≡ Some c → is_some (find (is_leaf f) (keys_within f c)) ≡ true) → is_some (find (is_leaf f) (keys_within f q)) ≡ true
-leaf_by f q None s living there e below = ap is_some (alone_leaf f q (spot f q) (s.in_order living) refl (is_some-spot f q ∙ there) (none_first (children_of f q) e))
+leaf_by f q None s living there e below =
+    ap is_some (alone_leaf f q (spot f q) (s.in_order living) refl (is_some-spot f q ∙ there) (none_first (children_of f q) e))
 leaf_by f q (Some c) s living there e below =
     let keys = keys_first f q c (spot f q) (s.in_order living) refl e in
     ap is_some (past f q c keys.0 keys.1 e (below c e)) ∙ below c e
@@ -105,7 +109,8 @@ first_fewer f q c s living e = total-alone-lt f c q (s.in_order living) (first_u
 pub first_there : (f : Forest) (q c : ℕ) → Sound f → first_child f q ≡ Some c → has c f ≡ true
 first_there f q c s e = has-child f c q (first_up f q c s e)
 
-pub first_found : (f : Forest) (q : ℕ) (whole : Option ℕ) → Sound f → f ≢ nil → has q f ≡ true → first_child f q ≡ None → find (is_leaf f) (keys_within f q) ≡ whole → Some q ≡ whole
+pub first_found : (f : Forest) (q : ℕ) (whole : Option ℕ) → Sound f → f ≢ nil → has q f ≡ true → first_child f q ≡ None
+    → find (is_leaf f) (keys_within f q) ≡ whole → Some q ≡ whole
 first_found f q whole s living there e so_far =
     sym (alone_leaf f q (spot f q) (s.in_order living) refl (is_some-spot f q ∙ there) (none_first (children_of f q) e)) ∙ so_far
 

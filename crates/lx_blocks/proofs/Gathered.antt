@@ -21,7 +21,8 @@ gathered_on test stop q rest made more whole other is so_far =
     ∙ ap (λ xs. made ++ xs) (sym (filter_first test q (until stop rest)))
     ∙ ap (λ b. made ++ filter test (cond b [] (q ∷ until stop rest))) (sym other) ∙ so_far
 
-pub next_left : (o : Option (ℕ × ℕ)) (f : Forest) (q : ℕ) → IfSome o (λ next. from f q ≡ q ∷ from f next.0) → IfNone o (from f q ≡ q ∷ []) → from f q ≡ q ∷ left_from f o
+pub next_left : (o : Option (ℕ × ℕ)) (f : Forest) (q : ℕ) → IfSome o (λ next. from f q ≡ q ∷ from f next.0) → IfNone o (from f q ≡ q ∷ [])
+    → from f q ≡ q ∷ left_from f o
 next_left None f q next last = last
 next_left (Some at) f q next last = next
 
@@ -29,7 +30,8 @@ pub next_at : (o : Option (ℕ × ℕ)) (f : Forest) → IfSome o (λ next. dept
 next_at None f e = tt
 next_at (Some at) f e = e
 
-gathered_next : (test : ℕ → Bool) (stop : Option ℕ) (o : Option (ℕ × ℕ)) (f : Forest) (q : ℕ) (made more whole : List ℕ) → IfSome o (λ next. from f q ≡ q ∷ from f next.0)
+gathered_next : (test : ℕ → Bool) (stop : Option ℕ) (o : Option (ℕ × ℕ)) (f : Forest) (q : ℕ) (made more whole : List ℕ)
+    → IfSome o (λ next. from f q ≡ q ∷ from f next.0)
     → IfNone o (from f q ≡ q ∷ []) → is_named stop q ≡ false → more ≡ made ++ filter test (q ∷ []) → made ++ filter test (until stop (from f q)) ≡ whole
     → more ++ filter test (until stop (left_from f o)) ≡ whole
 gathered_next test stop o f q made more whole next last other is so_far =
@@ -40,7 +42,8 @@ gathered_next test stop o f q made more whole next last other is so_far =
 abbrev pub IsUnderWay : (test : ℕ → Bool) (stop : Option ℕ) (f : Forest) (at : Option (ℕ × ℕ)) (made whole : List ℕ) → Type 0
 IsUnderWay test stop f at made whole = IsAt f at × (made ++ filter test (until stop (left_from f at)) ≡ whole)
 
-pub way_on : (test : ℕ → Bool) (stop : Option ℕ) (at o : Option (ℕ × ℕ)) (f : Forest) (q d : ℕ) (made more whole : List ℕ) → IsUnderWay test stop f at made whole
+pub way_on : (test : ℕ → Bool) (stop : Option ℕ) (at o : Option (ℕ × ℕ)) (f : Forest) (q d : ℕ) (made more whole : List ℕ)
+    → IsUnderWay test stop f at made whole
     → IfSome o (λ next. from f q ≡ q ∷ from f next.0) → IfNone o (from f q ≡ q ∷ []) → IfSome o (λ next. depth f next.0 ≡ Some next.1)
     → is_named stop q ≡ false → more ≡ made ++ filter test (q ∷ []) → at ≡ Some (q, d) → IsUnderWay test stop f o more whole
 way_on test stop at o f q d made more whole way next last deep other kept is =

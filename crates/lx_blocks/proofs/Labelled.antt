@@ -21,7 +21,8 @@ use Rattle.lx_links.proofs.Seen.{Seen, seen_in}
 abbrev pub labelled : ℕ → Node → Label
 labelled k n = record { key = k; kind = n.kind; fields = n.fields }
 
-label_by : (f : Forest) (k : ℕ) (n : Node) (o : Option Label) → label_of f k ≡ o → option_map (λ (l : Label). l.kind) o ≡ Some n.kind → option_map (λ (l : Label). l.fields) o ≡ Some n.fields → o ≡ Some (labelled k n)
+label_by : (f : Forest) (k : ℕ) (n : Node) (o : Option Label) → label_of f k ≡ o → option_map (λ (l : Label). l.kind) o ≡ Some n.kind
+    → option_map (λ (l : Label). l.fields) o ≡ Some n.fields → o ≡ Some (labelled k n)
 label_by f k n None is kind fields = absurd (cc)
 label_by f k n (Some l) is kind fields =
     let a : l.key ≡ k = key-label_of f k l is in
@@ -31,7 +32,8 @@ label_by f k n (Some l) is kind fields =
     ∙ ap (λ (x : Kind). let made : Label = record { key = k; kind = x; fields = l.fields } in Some made) b
     ∙ ap (λ (x : Fields). let made : Label = record { key = k; kind = n.kind; fields = x } in Some made) c
 
-label_read : (o : Option (Bor Node)) (n : Bor Node) (f : Forest) (k : ℕ) → option_copied o ≡ option_map node_of (record_at f k) → o ≡ Some n → label_of f k ≡ Some (labelled k n.now)
+label_read : (o : Option (Bor Node)) (n : Bor Node) (f : Forest) (k : ℕ) → option_copied o ≡ option_map node_of (record_at f k) → o ≡ Some n
+    → label_of f k ≡ Some (labelled k n.now)
 label_read o n f k read is =
     let s : Seen f k n.now = seen_in o n f k read is in
     label_by f k n.now (label_of f k) refl s.kind s.fields
@@ -40,15 +42,18 @@ label_suits : (f : Forest) (k : ℕ) (n : Node) → Sound f → label_of f k ≡
 label_suits f k n s is = sym (ap is_suited is) ∙ s.suited.each k
 
 -- a node that is read shows the label, and its fields are of its kind
-pub labels : (o : Option (Bor Node)) (f : Forest) (k : ℕ) → option_copied o ≡ option_map node_of (record_at f k) → IfSome o (λ n. label_of f k ≡ Some (labelled k n.now))
+pub labels : (o : Option (Bor Node)) (f : Forest) (k : ℕ) → option_copied o ≡ option_map node_of (record_at f k)
+    → IfSome o (λ n. label_of f k ≡ Some (labelled k n.now))
 labels None f k read = tt
 labels (Some n) f k read = label_read (Some n) n f k read refl
 
-pub suits : (o : Option (Bor Node)) (f : Forest) (k : ℕ) → Sound f → option_copied o ≡ option_map node_of (record_at f k) → IfSome o (λ n. IsOfKind n.now.kind n.now.fields)
+pub suits : (o : Option (Bor Node)) (f : Forest) (k : ℕ) → Sound f → option_copied o ≡ option_map node_of (record_at f k)
+    → IfSome o (λ n. IsOfKind n.now.kind n.now.fields)
 suits None f k s read = tt
 suits (Some n) f k s read = label_suits f k n.now s (label_read (Some n) n f k read refl)
 
-none_by : (f : Forest) (k : ℕ) (o : Option (Spot Label)) → None ≡ option_map node_of (option_map (linked (siblings f k) k) o) → option_map (λ (s : Spot Label). s.label) o ≡ None
+none_by : (f : Forest) (k : ℕ) (o : Option (Spot Label)) → None ≡ option_map node_of (option_map (linked (siblings f k) k) o)
+    → option_map (λ (s : Spot Label). s.label) o ≡ None
 none_by f k None e = refl
 none_by f k (Some s) e = absurd (cc)
 

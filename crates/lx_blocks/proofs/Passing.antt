@@ -29,7 +29,8 @@ pub record IsPassing (f : Forest) (p index : ℕ) (at : Option ℕ) (kept : List
   pub here : at ≡ slice_get (children_of f p) (index + length kept)
   pub all : kept ++ drop (index + length kept) (children_of f p) ≡ drop index (children_of f p)
 
-pub passing_on : (f : Forest) (p index k : ℕ) (at next : Option ℕ) (kept more : List ℕ) → Sound f → IsPassing f p index at kept → at ≡ Some k → next ≡ next_of f k → more ≡ kept ++ k ∷ [] → IsPassing f p index next more
+pub passing_on : (f : Forest) (p index k : ℕ) (at next : Option ℕ) (kept more : List ℕ) → Sound f → IsPassing f p index at kept → at ≡ Some k
+    → next ≡ next_of f k → more ≡ kept ++ k ∷ [] → IsPassing f p index next more
 passing_on f p index k at next kept more s h is e keeps =
     let children : List ℕ = children_of f p in
     let at_k : slice_get children (index + length kept) ≡ Some k = sym h.here ∙ is in

@@ -34,12 +34,14 @@ module _ {D : Working → Type 0} {R : Working → Working → Type 0} (way : Is
   either false one other a b w v r e = b w v r e
 
   -- a step and then another, which goes by what the draft was before
-  pub chained : (first : Working → Result Working Cause) (next : Working → Working → Result Working Cause) → Leads D R first → ((w : Working) → Leads D R (next w))
+  pub chained : (first : Working → Result Working Cause) (next : Working → Working → Result Working Cause) → Leads D R first
+      → ((w : Working) → Leads D R (next w))
       → Leads D R (λ w. after (first w) (next w))
   chained first next a b w v r e = then way w v (first w) (next w) (λ u f. a w u r f) (λ u c f. b w u v (way.ready w u c) f) e
 
   -- what is read of a draft, and a step that goes by it
-  pub by_read : {A : Type 0} (w v : Working) (found : Result A Cause) (next : A → Working → Result Working Cause) → ((a : A) → next a w ≡ Ok v → R w v) → after found (λ a. next a w) ≡ Ok v → R w v
+  pub by_read : {A : Type 0} (w v : Working) (found : Result A Cause) (next : A → Working → Result Working Cause) → ((a : A) → next a w ≡ Ok v → R w v)
+      → after found (λ a. next a w) ≡ Ok v → R w v
   by_read w v (Ok a) next each e = each a e
   by_read w v (Err cause) next each e = absurd (cc)
 
@@ -56,13 +58,15 @@ module _ {D : Working → Type 0} {R : Working → Working → Type 0} (way : Is
   -- ---- points
 
   -- both points go to a place that is found after a step
-  pub placed : (step : Working → Result Working Cause) (there : Working → Point) → Leads D R step → Leads D R (λ w. after (step w) (λ v. Ok (caret_at (there v) v)))
+  pub placed : (step : Working → Result Working Cause) (there : Working → Point) → Leads D R step
+      → Leads D R (λ w. after (step w) (λ v. Ok (caret_at (there v) v)))
   placed step there a w v r e =
       then way w v (step w) (λ u. Ok (caret_at (there u) u)) (λ u f. a w u r f)
       (λ u c f. ok R u (caret_at (there u) u) v (points way (λ p. there u) u (way.ready w u c)) f) e
 
   -- a step that goes by the anchor and the format
-  anchored_of : (s : Selection) (step : Point → ℕ → Working → Result Working Cause) → ((p : Point) (format : ℕ) → Leads D R (step p format)) → Leads D R (at_anchor_of s step)
+  anchored_of : (s : Selection) (step : Point → ℕ → Working → Result Working Cause) → ((p : Point) (format : ℕ) → Leads D R (step p format))
+      → Leads D R (at_anchor_of s step)
   anchored_of (Range a b format) step each w v r e = each a format w v r e
   anchored_of _ step each w v r e = absurd (cc)
 

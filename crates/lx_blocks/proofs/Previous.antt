@@ -43,18 +43,21 @@ last_there xs q e = elim (cases_option (last_of xs)) [
 ]
 
 -- the last node of trees is that of the last tree
-last_in_trees : (f : Forest) (ks : List ℕ) (c l : ℕ) → last_of ks ≡ Some c → last_of (keys_within f c) ≡ Some l → last_of (named.preorder key_of (trees_of f ks)) ≡ Some l
+last_in_trees : (f : Forest) (ks : List ℕ) (c l : ℕ) → last_of ks ≡ Some c → last_of (keys_within f c) ≡ Some l
+    → last_of (named.preorder key_of (trees_of f ks)) ≡ Some l
 last_in_trees f [] c l e last = absurd (grind arith)
 last_in_trees f (k ∷ []) c l e last =
     let is : k ≡ c = grind arith in
     ap (λ t. last_of (named.preorder key_of t)) (joined-nil (alone k f)) ∙ ap (λ x. last_of (keys_within f x)) is ∙ last
 last_in_trees f (k ∷ y ∷ ks) c l e last =
-    ap last_of (preorder-joined key_of (alone k f) (trees_of f (y ∷ ks))) ∙ last_append (keys_within f k) (named.preorder key_of (trees_of f (y ∷ ks))) l (last_in_trees f (y ∷ ks) c l e last)
+    ap last_of (preorder-joined key_of (alone k f) (trees_of f (y ∷ ks)))
+    ∙ last_append (keys_within f k) (named.preorder key_of (trees_of f (y ∷ ks))) l (last_in_trees f (y ∷ ks) c l e last)
 
 no_children : (f : Forest) (q : ℕ) → spot f q ≡ None → children_of f q ≡ []
 no_children f q e = grind (arith, e)
 
-last_below : (f : Forest) (q c l : ℕ) (s : Spot Label) → IsForest f → spot f q ≡ Some s → last_child f q ≡ Some c → last_of (keys_within f c) ≡ Some l → last_of (keys_within f q) ≡ Some l
+last_below : (f : Forest) (q c l : ℕ) (s : Spot Label) → IsForest f → spot f q ≡ Some s → last_child f q ≡ Some c → last_of (keys_within f c) ≡ Some l
+    → last_of (keys_within f q) ≡ Some l
 last_below f q c l s h at e last =
     let is : children_of f q ≡ s.children = grind (arith, at) in
     ap (λ t. last_of (named.preorder key_of t)) (alone-spot f q s h at)
@@ -104,15 +107,18 @@ previous_is f k p h attached e =
           let before : previous_in (children_of f r) k ≡ Some p = rw up at e in
           let above : parent_of f p ≡ Some r = parent_of-previous f k p r h up e in
           let there : is_attached f p ≡ true = is_attached-up f p r h above ∙ sym (is_attached-up f k r h up) ∙ attached in
-          let next : next_of f p ≡ Some k = ap (λ o. next_in (children_below f o) p) above ∙ next_back (children_of f r) k p (NoRepeats-children_of f r h) before among in
+          let next : next_of f p ≡ Some k =
+          ap (λ o. next_in (children_below f o) p) above ∙ next_back (children_of f r) k p (NoRepeats-children_of f r h) before among in
           record { attached = there; behind = behind-next f p k h there next }
     ]
 
 -- after the tree of the previous sibling
-before_sibling : (f : Forest) (k p l : ℕ) → IsForest f → is_attached f k ≡ true → previous_of f k ≡ Some p → last_of (keys_within f p) ≡ Some l → Some l ≡ node_before f k
+before_sibling : (f : Forest) (k p l : ℕ) → IsForest f → is_attached f k ≡ true → previous_of f k ≡ Some p → last_of (keys_within f p) ≡ Some l
+    → Some l ≡ node_before f k
 before_sibling f k p l h attached e last =
     let is = previous_is f k p h attached e in
-    let split : preorder f ≡ (nodes_before f p ++ keys_within f p) ++ from f k = stretches_through f p h is.attached ∙ ap (λ ks. (nodes_before f p ++ keys_within f p) ++ ks) is.behind in
+    let split : preorder f ≡ (nodes_before f p ++ keys_within f p) ++ from f k =
+    stretches_through f p h is.attached ∙ ap (λ ks. (nodes_before f p ++ keys_within f p) ++ ks) is.behind in
     sym (ap last_of (before_is f k (nodes_before f p ++ keys_within f p) h attached split) ∙ last_append (nodes_before f p) (keys_within f p) l last)
 
 first_named : (o : Option ℕ) (k : ℕ) → is_named o k ≡ true → o ≡ Some k
@@ -123,10 +129,12 @@ before_child : (f : Forest) (k r : ℕ) → IsForest f → is_attached f k ≡ t
 before_child f k r h attached up e =
     let among : is_among k (children_of f r) ≡ true = is_among-children_of f k r h ∙ grind (arith, up, eqb_tells r r) in
     let none : previous_in (children_of f r) k ≡ None = rw up at e in
-    let first : first_child f r ≡ Some k = first_named (first_child f r) k (sym (is_none-previous_in (children_of f r) k (NoRepeats-children_of f r h) among) ∙ grind (arith, none)) in
+    let first : first_child f r ≡ Some k =
+    first_named (first_child f r) k (sym (is_none-previous_in (children_of f r) k (NoRepeats-children_of f r h) among) ∙ grind (arith, none)) in
     let above : is_attached f r ≡ true = sym (is_attached-up f k r h up) ∙ attached in
     let split : preorder f ≡ (nodes_before f r ++ r ∷ []) ++ from f k =
-    before_and_from f r h above ∙ ap (λ ks. nodes_before f r ++ ks) (from-child f r k h above first) ∙ sym (append_assoc (nodes_before f r) (r ∷ []) (from f k)) in
+    before_and_from f r h above ∙ ap (λ ks. nodes_before f r ++ ks) (from-child f r k h above first)
+    ∙ sym (append_assoc (nodes_before f r) (r ∷ []) (from f k)) in
     sym (ap last_of (before_is f k (nodes_before f r ++ r ∷ []) h attached split) ∙ last_append (nodes_before f r) (r ∷ []) r refl)
 
 -- and nothing is before the root
@@ -156,7 +164,9 @@ pub last_is : (f : Forest) (front back : List ℕ) (b : ℕ) → IsForest f → 
 last_is f front back b h split last =
     let among : is_among b front ≡ true = elim (last_among None front b last) [ inl own ↦ absurd (grind arith) | inr there ↦ there ] in
     record {
-      others = last_splits front b (no_repeats_front front back (subst NoRepeats split (NoRepeats-preorder_of f h))) last ∙ ap (λ ks. ks ++ b ∷ []) (sym (until_ahead b front back among) ∙ sym (ap (until (Some b)) split));
+      others =
+          last_splits front b (no_repeats_front front back (subst NoRepeats split (NoRepeats-preorder_of f h))) last
+          ∙ ap (λ ks. ks ++ b ∷ []) (sym (until_ahead b front back among) ∙ sym (ap (until (Some b)) split));
       attached = sym (is_among-preorder_of f b) ∙ ap (is_among b) split ∙ grind (arith, among, is_among-append b front back);
     }
 
@@ -187,7 +197,8 @@ none_if : (o : Option ℕ) → ((x : ℕ) → o ≢ Some x) → o ≡ None
 none_if None no_such = refl
 none_if (Some x) no_such = absurd (no_such x refl)
 
-pub last_reached : (f : Forest) (at : ℕ) (o : Option ℕ) → Sound f → has at f ≡ true → o ≡ last_child f at → ((x : ℕ) → o ≢ Some x) → last_of (keys_within f at) ≡ Some at
+pub last_reached : (f : Forest) (at : ℕ) (o : Option ℕ) → Sound f → has at f ≡ true → o ≡ last_child f at → ((x : ℕ) → o ≢ Some x)
+    → last_of (keys_within f at) ≡ Some at
 last_reached f at o s there e no_such = last_here f at s there (sym e ∙ none_if o no_such)
 
 -- ---- what a caller is answered
@@ -195,7 +206,8 @@ last_reached f at o s there e no_such = last_here f at s there (sym e ∙ none_i
 pub sibling_there : (f : Forest) (k p : ℕ) → Sound f → is_attached f k ≡ true → previous_of f k ≡ Some p → has p f ≡ true
 sibling_there f k p s attached e = attached_there f p (previous_is f k p (in_order_with f k s attached) attached e).attached
 
-pub sibling_before : (f : Forest) (k p l : ℕ) → Sound f → is_attached f k ≡ true → previous_of f k ≡ Some p → Some l ≡ last_of (keys_within f p) → Some l ≡ node_before f k
+pub sibling_before : (f : Forest) (k p l : ℕ) → Sound f → is_attached f k ≡ true → previous_of f k ≡ Some p → Some l ≡ last_of (keys_within f p)
+    → Some l ≡ node_before f k
 sibling_before f k p l s attached e last = before_sibling f k p l (in_order_with f k s attached) attached e (sym last)
 
 pub parent_before : (f : Forest) (k : ℕ) (o : Option ℕ) → Sound f → is_attached f k ≡ true → previous_of f k ≡ None → o ≡ parent_of f k → o ≡ node_before f k
@@ -204,7 +216,8 @@ parent_before f k o s attached e up = up ∙ before_first f k (in_order_with f k
 before_last : (f : Forest) (k l : ℕ) → Sound f → is_attached f k ≡ true → Some l ≡ node_before f k → IsLast f (nodes_before f k) l
 before_last f k l s attached e = let h = in_order_with f k s attached in last_is f (nodes_before f k) (from f k) l h (before_and_from f k h attached) (sym e)
 
-pub before_others : (f : Forest) (k : ℕ) (o : Option ℕ) → Sound f → is_attached f k ≡ true → o ≡ node_before f k → IfSome o (λ b. nodes_before f k ≡ nodes_before f b ++ b ∷ [])
+pub before_others : (f : Forest) (k : ℕ) (o : Option ℕ) → Sound f → is_attached f k ≡ true → o ≡ node_before f k
+    → IfSome o (λ b. nodes_before f k ≡ nodes_before f b ++ b ∷ [])
 before_others f k None s attached e = tt
 before_others f k (Some l) s attached e = (before_last f k l s attached e).others
 
@@ -219,13 +232,15 @@ before_none f k (Some l) e = tt
 -- ---- up to a point
 
 -- all up to the end of a tree
-pub tree_last : (f : Forest) (p : Point) (l : ℕ) → Sound f → is_attached f p.key ≡ true → nodes_behind f p ≡ behind f p.key → Some l ≡ last_of (keys_within f p.key) → IsLast f (nodes_up_to f p) l
+pub tree_last : (f : Forest) (p : Point) (l : ℕ) → Sound f → is_attached f p.key ≡ true → nodes_behind f p ≡ behind f p.key
+    → Some l ≡ last_of (keys_within f p.key) → IsLast f (nodes_up_to f p) l
 tree_last f p l s attached is last =
     let h = in_order_with f p.key s attached in
     let front : List ℕ = nodes_before f p.key ++ keys_within f p.key in
     let split : preorder f ≡ front ++ behind f p.key = stretches_through f p.key h attached in
     let up_to : nodes_up_to f p ≡ front =
-    ap (λ ks. until (first_of ks) (preorder f)) is ∙ ap (until (first_of (behind f p.key))) split ∙ until_front front (behind f p.key) (subst NoRepeats split (NoRepeats-preorder_of f h)) in
+    ap (λ ks. until (first_of ks) (preorder f)) is ∙ ap (until (first_of (behind f p.key))) split
+    ∙ until_front front (behind f p.key) (subst NoRepeats split (NoRepeats-preorder_of f h)) in
     subst (λ ks. IsLast f ks l) (sym up_to) (last_is f front (behind f p.key) l h split (last_append (nodes_before f p.key) (keys_within f p.key) l (sym last)))
 
 -- all before a child

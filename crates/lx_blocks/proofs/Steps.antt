@@ -44,13 +44,15 @@ first_left f None at = refl
 first_left f (Some step) at = sym (first_from f step.0 (deep f step.0 step.1 at).0)
 
 -- what is left up to the step from another point
-pub left_until : (f : Forest) (start end : Point) (from_step stop : Option (ℕ × ℕ)) → IsAt f stop → left_from f from_step ≡ nodes_behind f start → left_from f stop ≡ nodes_behind f end →
+pub left_until : (f : Forest) (start end : Point) (from_step stop : Option (ℕ × ℕ)) → IsAt f stop → left_from f from_step ≡ nodes_behind f start
+    → left_from f stop ≡ nodes_behind f end →
     until (key_of_step stop) (left_from f from_step) ≡ until (first_of (nodes_behind f end)) (nodes_behind f start)
 left_until f start end from_step stop at left is =
     ap (λ ks. until (key_of_step stop) ks) left ∙ ap (λ o. until o (nodes_behind f start)) (first_left f stop at ∙ ap first_of is)
 
 -- the first node after one, as a step that the walk takes from it
-pub next_key : (o : Option (ℕ × ℕ)) (f : Forest) (q : ℕ) → IfSome o (λ next. from f q ≡ q ∷ from f next.0) → IfNone o (from f q ≡ q ∷ []) → IfSome o (λ next. depth f next.0 ≡ Some next.1) →
+pub next_key : (o : Option (ℕ × ℕ)) (f : Forest) (q : ℕ) → IfSome o (λ next. from f q ≡ q ∷ from f next.0) → IfNone o (from f q ≡ q ∷ [])
+    → IfSome o (λ next. depth f next.0 ≡ Some next.1) →
     key_of_step o ≡ first_of (drop 1 (from f q))
 next_key o f q next last deep =
     first_left f o (next_at o f deep) ∙ ap (λ ks. first_of (drop 1 ks)) (sym (next_left o f q next last))

@@ -23,47 +23,69 @@ use Rattle.lx_blocks.proofs.Until.{until_ahead, until_past, until_without, until
 
 module _ {A : Type 0} (name : A → ℕ) where
   -- a name below the first one, and one after its tree
-  split_below : (after : List ℕ) (a : A) (below rest : Trees A) (q : ℕ) → eqb (name a) q ≡ false → count name q rest ≡ 0 → is_among q (named.preorder name below) ≡ true → behind_before name after (tree a below rest) q ≡ behind_before name (named.preorder name rest ++ after) below q →
-      named.preorder name below ++ (named.preorder name rest ++ after) ≡ until (Some q) (named.preorder name below) ++ (named.preorder name (named.alone name q below) ++ unwrap_or (behind_before name (named.preorder name rest ++ after) below q) []) →
-      named.preorder name (tree a below rest) ++ after ≡ until (Some q) (named.preorder name (tree a below rest)) ++ (named.preorder name (named.alone name q (tree a below rest)) ++ unwrap_or (behind_before name after (tree a below rest) q) [])
+  split_below : (after : List ℕ) (a : A) (below rest : Trees A) (q : ℕ) → eqb (name a) q ≡ false → count name q rest ≡ 0
+      → is_among q (named.preorder name below) ≡ true
+      → behind_before name after (tree a below rest) q ≡ behind_before name (named.preorder name rest ++ after) below q →
+      named.preorder name below ++ (named.preorder name rest ++ after)
+      ≡ until (Some q) (named.preorder name below)
+      ++ (named.preorder name (named.alone name q below) ++ unwrap_or (behind_before name (named.preorder name rest ++ after) below q) []) →
+      named.preorder name (tree a below rest) ++ after
+      ≡ until (Some q) (named.preorder name (tree a below rest))
+      ++ (named.preorder name (named.alone name q (tree a below rest)) ++ unwrap_or (behind_before name after (tree a below rest) q) [])
   split_below after a below rest q other gone there same lower =
-      let trees : joined (named.alone name q below) (named.alone name q rest) ≡ named.alone name q below = ap (joined (named.alone name q below)) (alone-absent name q rest gone) ∙ joined-nil (named.alone name q below) in
-      rw (same, other, trees, until_ahead q (named.preorder name below) (named.preorder name rest) there) (ap (λ ks. name a ∷ ks) (append_assoc (named.preorder name below) (named.preorder name rest) after ∙ lower))
+      let trees : joined (named.alone name q below) (named.alone name q rest) ≡ named.alone name q below =
+      ap (joined (named.alone name q below)) (alone-absent name q rest gone) ∙ joined-nil (named.alone name q below) in
+      rw (same, other, trees, until_ahead q (named.preorder name below) (named.preorder name rest) there)
+      (ap (λ ks. name a ∷ ks) (append_assoc (named.preorder name below) (named.preorder name rest) after ∙ lower))
 
-  split_rest : (after : List ℕ) (a : A) (below rest : Trees A) (q : ℕ) → eqb (name a) q ≡ false → count name q below ≡ 0 → is_among q (named.preorder name below) ≡ false → behind_before name after (tree a below rest) q ≡ behind_before name after rest q →
-      named.preorder name rest ++ after ≡ until (Some q) (named.preorder name rest) ++ (named.preorder name (named.alone name q rest) ++ unwrap_or (behind_before name after rest q) []) →
-      named.preorder name (tree a below rest) ++ after ≡ until (Some q) (named.preorder name (tree a below rest)) ++ (named.preorder name (named.alone name q (tree a below rest)) ++ unwrap_or (behind_before name after (tree a below rest) q) [])
+  split_rest : (after : List ℕ) (a : A) (below rest : Trees A) (q : ℕ) → eqb (name a) q ≡ false → count name q below ≡ 0
+      → is_among q (named.preorder name below) ≡ false → behind_before name after (tree a below rest) q ≡ behind_before name after rest q →
+      named.preorder name rest ++ after
+      ≡ until (Some q) (named.preorder name rest) ++ (named.preorder name (named.alone name q rest) ++ unwrap_or (behind_before name after rest q) []) →
+      named.preorder name (tree a below rest) ++ after
+      ≡ until (Some q) (named.preorder name (tree a below rest))
+      ++ (named.preorder name (named.alone name q (tree a below rest)) ++ unwrap_or (behind_before name after (tree a below rest) q) [])
   split_rest after a below rest q other gone away same later =
       rw (same, other, alone-absent name q below gone, until_past q (named.preorder name below) (named.preorder name rest) away)
       (ap (λ ks. name a ∷ ks) (append_assoc (named.preorder name below) (named.preorder name rest) after ∙ ap (λ ks. named.preorder name below ++ ks) later
-      ∙ sym (append_assoc (named.preorder name below) (until (Some q) (named.preorder name rest)) (named.preorder name (named.alone name q rest) ++ unwrap_or (behind_before name after rest q) []))))
+      ∙ sym (append_assoc (named.preorder name below) (until (Some q) (named.preorder name rest))
+      (named.preorder name (named.alone name q rest) ++ unwrap_or (behind_before name after rest q) []))))
 
   -- the names up to one, those of its tree, and those after it, where others follow
-  split_trees : (after : List ℕ) (t : Trees A) (q : ℕ) → IsDistinct name t → 0 < count name q t → named.preorder name t ++ after ≡ until (Some q) (named.preorder name t) ++ (named.preorder name (named.alone name q t) ++ unwrap_or (behind_before name after t q) [])
+  split_trees : (after : List ℕ) (t : Trees A) (q : ℕ) → IsDistinct name t → 0 < count name q t
+      → named.preorder name t ++ after
+      ≡ until (Some q) (named.preorder name t) ++ (named.preorder name (named.alone name q t) ++ unwrap_or (behind_before name after t q) [])
   split_trees after nil q once some = absurd (omega arith)
   split_trees after (tree a below rest) q once some =
       elim (eqb_tells (name a) q) [
         | inl own ↦
             let gone : count name q rest ≡ 0 = grind (arith, own, once q) in
-            rw (own.0, alone-absent name q rest gone, append-nil (named.preorder name below)) (ap (λ ks. name a ∷ ks) (append_assoc (named.preorder name below) (named.preorder name rest) after))
+            rw (own.0, alone-absent name q rest gone, append-nil (named.preorder name below))
+            (ap (λ ks. name a ∷ ks) (append_assoc (named.preorder name below) (named.preorder name rest) after))
         | inr other ↦ elim (cases_lt 0 (count name q below)) [
           | inl inner ↦
-              split_below after a below rest q other.0 (omega (arith, once q)) (grind (arith, inner, is_among-preorder name q below)) (behind_before-below name after a below rest q (once q) inner)
+              split_below after a below rest q other.0 (omega (arith, once q)) (grind (arith, inner, is_among-preorder name q below))
+              (behind_before-below name after a below rest q (once q) inner)
               (split_trees (named.preorder name rest ++ after) below q (λ x. omega (arith, once x)) inner)
           | inr outer ↦
               let there : 0 < count name q rest = grind (arith, other, some, outer) in
-              split_rest after a below rest q other.0 (omega arith) (grind (arith, outer, is_among-preorder name q below)) (behind_before-rest name after a below rest q (once q) there)
+              split_rest after a below rest q other.0 (omega arith) (grind (arith, outer, is_among-preorder name q below))
+              (behind_before-rest name after a below rest q (once q) there)
               (split_trees after rest q (λ x. omega (arith, once x)) there)
         ]
       ]
 
-  begins_here : (a : A) (below rest : Trees A) (q : ℕ) → eqb (name a) q ≡ true → name a ≡ q → named.preorder name (named.alone name q (tree a below rest)) ≡ q ∷ (named.preorder name below ++ named.preorder name (named.alone name q rest))
+  begins_here : (a : A) (below rest : Trees A) (q : ℕ) → eqb (name a) q ≡ true → name a ≡ q
+      → named.preorder name (named.alone name q (tree a below rest)) ≡ q ∷ (named.preorder name below ++ named.preorder name (named.alone name q rest))
   begins_here a below rest q own is = rw own (ap (λ x. x ∷ (named.preorder name below ++ named.preorder name (named.alone name q rest))) is)
 
-  begins_below : (a : A) (below rest : Trees A) (q : ℕ) (ks : List ℕ) → eqb (name a) q ≡ false → named.preorder name (named.alone name q below) ≡ q ∷ ks → named.preorder name (named.alone name q (tree a below rest)) ≡ q ∷ (ks ++ named.preorder name (named.alone name q rest))
-  begins_below a below rest q ks other e = rw other (preorder-joined name (named.alone name q below) (named.alone name q rest) ∙ ap (λ xs. xs ++ named.preorder name (named.alone name q rest)) e)
+  begins_below : (a : A) (below rest : Trees A) (q : ℕ) (ks : List ℕ) → eqb (name a) q ≡ false → named.preorder name (named.alone name q below) ≡ q ∷ ks
+      → named.preorder name (named.alone name q (tree a below rest)) ≡ q ∷ (ks ++ named.preorder name (named.alone name q rest))
+  begins_below a below rest q ks other e =
+      rw other (preorder-joined name (named.alone name q below) (named.alone name q rest) ∙ ap (λ xs. xs ++ named.preorder name (named.alone name q rest)) e)
 
-  begins_rest : (a : A) (below rest : Trees A) (q : ℕ) (ks : List ℕ) → eqb (name a) q ≡ false → count name q below ≡ 0 → named.preorder name (named.alone name q rest) ≡ q ∷ ks → named.preorder name (named.alone name q (tree a below rest)) ≡ q ∷ ks
+  begins_rest : (a : A) (below rest : Trees A) (q : ℕ) (ks : List ℕ) → eqb (name a) q ≡ false → count name q below ≡ 0
+      → named.preorder name (named.alone name q rest) ≡ q ∷ ks → named.preorder name (named.alone name q (tree a below rest)) ≡ q ∷ ks
   begins_rest a below rest q ks other gone e = rw (other, alone-absent name q below gone) e
 
   -- a tree alone begins with its own name
@@ -113,7 +135,8 @@ first_from f q attached = let begins = from_begins f q attached in ap first_of b
 -- what is in front of the nodes from one on is what is before it
 pub before_is : (f : Forest) (q : ℕ) (front : List ℕ) → IsForest f → is_attached f q ≡ true → preorder f ≡ front ++ from f q → nodes_before f q ≡ front
 before_is f q front h attached e =
-    ap (until (Some q)) e ∙ ap (λ o. until o (front ++ from f q)) (sym (first_from f q attached)) ∙ until_front front (from f q) (subst NoRepeats e (NoRepeats-preorder_of f h))
+    ap (until (Some q)) e ∙ ap (λ o. until o (front ++ from f q)) (sym (first_from f q attached))
+    ∙ until_front front (from f q) (subst NoRepeats e (NoRepeats-preorder_of f h))
 
 -- ---- places in numbers
 
@@ -132,7 +155,9 @@ pub back_of : (f : Forest) (xs ys : List ℕ) (x : ℕ) → IsForest f → preor
     ((is_among x xs ≡ true) × (is_among x ys ≡ false) × (place f x < length xs)) ⊎ ((is_among x xs ≡ false) × (is_among x ys ≡ true) × (length xs ≤ place f x))
 unfolding place
 back_of f xs ys x h e attached =
-    let T : List ℕ → Type 0 = λ zs. ((is_among x xs ≡ true) × (is_among x ys ≡ false) × (place_in zs x < length xs)) ⊎ ((is_among x xs ≡ false) × (is_among x ys ≡ true) × (length xs ≤ place_in zs x)) in
+    let T : List ℕ → Type 0 =
+    λ zs. ((is_among x xs ≡ true) × (is_among x ys ≡ false) × (place_in zs x < length xs))
+    ⊎ ((is_among x xs ≡ false) × (is_among x ys ≡ true) × (length xs ≤ place_in zs x)) in
     subst T (sym e) (back_tells xs ys x (subst NoRepeats e (NoRepeats-preorder_of f h)) (subst (λ zs. is_among x zs ≡ true) e (there_in f x attached)))
 
 place_at : (xs ys : List ℕ) (q : ℕ) → is_among q xs ≡ false → place_in (xs ++ q ∷ ys) q ≡ length xs
@@ -143,13 +168,15 @@ pub length_before : (f : Forest) (q : ℕ) → IsForest f → is_attached f q �
 unfolding place
 length_before f q h attached =
     let begins = from_begins f q attached in
-    sym (ap (λ zs. place_in zs q) (before_and_from f q h attached ∙ ap (λ ks. nodes_before f q ++ ks) begins.1) ∙ place_at (nodes_before f q) begins.0 q (until_without q (preorder f)))
+    sym (ap (λ zs. place_in zs q) (before_and_from f q h attached ∙ ap (λ ks. nodes_before f q ++ ks) begins.1)
+    ∙ place_at (nodes_before f q) begins.0 q (until_without q (preorder f)))
 
 -- no two nodes have one place
 pub same_place : (f : Forest) (x y : ℕ) → is_attached f x ≡ true → is_attached f y ≡ true → place f x ≡ place f y → x ≡ y
 unfolding place
 same_place f x y there here e =
-    let is : Some x ≡ Some y = sym (slice_get-place_in (preorder f) x (there_in f x there)) ∙ ap (slice_get (preorder f)) e ∙ slice_get-place_in (preorder f) y (there_in f y here) in
+    let is : Some x ≡ Some y =
+    sym (slice_get-place_in (preorder f) x (there_in f x there)) ∙ ap (slice_get (preorder f)) e ∙ slice_get-place_in (preorder f) y (there_in f y here) in
     grind (arith, is)
 
 pub length_through : (f : Forest) (q : ℕ) → IsForest f → is_attached f q ≡ true → length (nodes_before f q ++ keys_within f q) ≡ place f q + size f q
@@ -171,7 +198,8 @@ second x xs ys e among = grind (arith, e, among, is_among-append x xs ys)
 
 -- the tree of a node lies at places one after another
 pub within_tells : (f : Forest) (q x : ℕ) → IsForest f → is_attached f q ≡ true → is_attached f x ≡ true →
-    ((is_within f q x ≡ true) × (place f q ≤ place f x) × (place f x < place f q + size f q)) ⊎ ((is_within f q x ≡ false) × ((place f x < place f q) ⊎ (place f q + size f q ≤ place f x)))
+    ((is_within f q x ≡ true) × (place f q ≤ place f x) × (place f x < place f q + size f q))
+    ⊎ ((is_within f q x ≡ false) × ((place f x < place f q) ⊎ (place f q + size f q ≤ place f x)))
 within_tells f q x h attached there =
     let as_list : is_among x (keys_within f q) ≡ is_within f q x = is_among-preorder key_of x (alone q f) in
     let start : length (nodes_before f q) ≡ place f q = length_before f q h attached in
@@ -179,7 +207,8 @@ within_tells f q x h attached there =
     elim (back_of f (nodes_before f q) (keys_within f q ++ behind f q) x h (stretches f q h attached) there) [
       | inl front ↦ inr (sym as_list ∙ not_first x (keys_within f q) (behind f q) front.1, inl (omega (arith, front.2, start)))
       | inr later ↦ elim (back_of f (nodes_before f q ++ keys_within f q) (behind f q) x h (stretches_through f q h attached) there) [
-        | inl inner ↦ inl (sym as_list ∙ second x (nodes_before f q) (keys_within f q) later.0 inner.0, omega (arith, later.2, start), omega (arith, inner.2, stop))
+        | inl inner ↦
+            inl (sym as_list ∙ second x (nodes_before f q) (keys_within f q) later.0 inner.0, omega (arith, later.2, start), omega (arith, inner.2, stop))
         | inr outer ↦ inr (sym as_list ∙ not_second x (nodes_before f q) (keys_within f q) outer.0, inr (omega (arith, outer.2, stop)))
       ]
     ]

@@ -49,7 +49,8 @@ until_front xs (y ∷ ys) u =
     until_past y xs (y ∷ ys) gone ∙ ap (λ zs. xs ++ zs) (until_here y ys) ∙ append-nil xs where
       elim_absent : (xs : List ℕ) (y : ℕ) (ys : List ℕ) → NoRepeats (xs ++ y ∷ ys) → is_among y xs ≡ false
       elim_absent [] y ys u = refl
-      elim_absent (x ∷ xs) y ys u = grind (arith, elim_absent xs y ys u.1, u.0, eqb_tells x y, eqb_tells y y, is_among-append x xs (y ∷ ys), is_among-append y xs (y ∷ ys))
+      elim_absent (x ∷ xs) y ys u =
+          grind (arith, elim_absent xs y ys u.1, u.0, eqb_tells x y, eqb_tells y y, is_among-append x xs (y ∷ ys), is_among-append y xs (y ∷ ys))
 
 -- they are a front of the list
 pub until_begins : (end : Option ℕ) (xs : List ℕ) → (rest : List ℕ) × (xs ≡ until end xs ++ rest)
@@ -95,16 +96,20 @@ last_splits [] q u e = absurd (grind arith)
 last_splits (x ∷ []) q u e = grind (arith, eqb_tells x q)
 last_splits (x ∷ y ∷ xs) q u e =
     let later : y ∷ xs ≡ until (Some q) (y ∷ xs) ++ q ∷ [] = last_splits (y ∷ xs) q u.1 e in
-    let other : eqb x q ≡ false = elim (last_among None (y ∷ xs) q e) [ inl own ↦ absurd (grind arith) | inr there ↦ grind (arith, there, u.0, eqb_tells x q) ] in
+    let other : eqb x q ≡ false =
+    elim (last_among None (y ∷ xs) q e) [ inl own ↦ absurd (grind arith) | inr there ↦ grind (arith, there, u.0, eqb_tells x q) ] in
     ap (λ zs. x ∷ zs) later ∙ ap (λ b. cond b [] (x ∷ until (Some q) (y ∷ xs)) ++ q ∷ []) (sym other)
 
 -- ---- where names are
 
 -- a name comes after a front just where no fewer come before it
 pub back_tells : (xs ys : List ℕ) (q : ℕ) → NoRepeats (xs ++ ys) → is_among q (xs ++ ys) ≡ true →
-    ((is_among q xs ≡ true) × (is_among q ys ≡ false) × (place_in (xs ++ ys) q < length xs)) ⊎ ((is_among q xs ≡ false) × (is_among q ys ≡ true) × (length xs ≤ place_in (xs ++ ys) q))
+    ((is_among q xs ≡ true) × (is_among q ys ≡ false) × (place_in (xs ++ ys) q < length xs))
+    ⊎ ((is_among q xs ≡ false) × (is_among q ys ≡ true) × (length xs ≤ place_in (xs ++ ys) q))
 back_tells xs ys q u e = by_test (is_among q xs) refl where
-  by_test : (b : Bool) → is_among q xs ≡ b → ((is_among q xs ≡ true) × (is_among q ys ≡ false) × (place_in (xs ++ ys) q < length xs)) ⊎ ((is_among q xs ≡ false) × (is_among q ys ≡ true) × (length xs ≤ place_in (xs ++ ys) q))
+  by_test : (b : Bool) → is_among q xs ≡ b
+      → ((is_among q xs ≡ true) × (is_among q ys ≡ false) × (place_in (xs ++ ys) q < length xs))
+      ⊎ ((is_among q xs ≡ false) × (is_among q ys ≡ true) × (length xs ≤ place_in (xs ++ ys) q))
   by_test true is = inl (is, apart xs ys q u is, grind (arith, is, index_in-append xs ys q, index_in-among xs q is, index_in-lt xs q (place_in xs q)))
   by_test false is =
       let there : is_among q ys ≡ true = grind (arith, is, e, is_among-append q xs ys) in

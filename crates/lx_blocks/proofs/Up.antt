@@ -9,7 +9,8 @@ use Rattle.lx_blocks.specs.Blocks.{is_at, frame_of}
 use Rattle.lx_links.specs.Stands.{Sound}
 use Rattle.lx_links.proofs.Up.{in_order}
 
-pub find_up : (test : ℕ → Bool) (f : Forest) (q p : ℕ) → Sound f → parent_of f q ≡ Some p → test q ≡ false → find test (q ∷ ancestors f q) ≡ find test (p ∷ ancestors f p)
+pub find_up : (test : ℕ → Bool) (f : Forest) (q p : ℕ) → Sound f → parent_of f q ≡ Some p → test q ≡ false
+    → find test (q ∷ ancestors f q) ≡ find test (p ∷ ancestors f p)
 find_up test f q p s up other = rw other (ap (find test) (ancestors-step f q p (in_order f q p s up) up))
 
 pub find_top : (test : ℕ → Bool) (f : Forest) (q : ℕ) → parent_of f q ≡ None → test q ≡ false → find test (q ∷ ancestors f q) ≡ None

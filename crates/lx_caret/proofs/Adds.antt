@@ -51,14 +51,16 @@ use Rattle.lx_caret.proofs.Cleared.{remove_text_fits}
 
 -- ---- a new node
 
-new_label : (kind : Kind) (fields : Fields) (w v : Working) → Fit w → new_step kind fields w ≡ Ok v → label_of v.forest w.next_key ≡ Some (record { key = w.next_key; kind = kind; fields = fields })
+new_label : (kind : Kind) (fields : Fields) (w v : Working) → Fit w → new_step kind fields w ≡ Ok v
+    → label_of v.forest w.next_key ≡ Some (record { key = w.next_key; kind = kind; fields = fields })
 unfolding new_step
 new_label kind fields w v fit e =
     let told = answered (over_limits (characters_of fields) w) (made kind fields w) v e in
     let l : Label = record { key = w.next_key; kind = kind; fields = fields } in
     let own : eqb w.next_key w.next_key ≡ true = grind (arith, eqb_tells w.next_key w.next_key) in
     subst (λ u. label_of u.forest w.next_key ≡ Some l) told.1
-    (label_of-with_new l w.forest w.next_key fit.ready.in_order (fit.ready.free w.next_key (omega arith)) ∙ ap (λ b. cond b (Some l) (label_of w.forest w.next_key)) own)
+    (label_of-with_new l w.forest w.next_key fit.ready.in_order (fit.ready.free w.next_key (omega arith))
+    ∙ ap (λ b. cond b (Some l) (label_of w.forest w.next_key)) own)
 
 pub new_kind : (kind : Kind) (fields : Fields) (w v : Working) → Fit w → new_step kind fields w ≡ Ok v → kind_of v.forest w.next_key ≡ Some kind
 new_kind kind fields w v fit e = ap (option_map (λ l. l.kind)) (new_label kind fields w v fit e)
@@ -104,12 +106,15 @@ pub record IsAdded (w v : Working) (kind : Kind) (x : Fields) : Type 0 where
   pub fields_are : fields_of v.forest (newest v) ≡ Some x
 
 pub stays_opened : (p : Point) → Staying (opened p)
-stays_opened p w v fit e = stays_if (is_inside w.forest p p.kind && is_some (normal_at w.forest p.key)) (split_step p.key (p.offset ∷ [])) w v fit (λ a b f g. stays_split p.key (p.offset ∷ []) a b f g) e
+stays_opened p w v fit e =
+    stays_if (is_inside w.forest p p.kind && is_some (normal_at w.forest p.key)) (split_step p.key (p.offset ∷ [])) w v fit
+    (λ a b f g. stays_split p.key (p.offset ∷ []) a b f g) e
 
 is_newest : (a b c : ℕ) → a ≡ b → b ≡ c + 1 → a - 1 ≡ c
 is_newest a b c e f = omega arith
 
-put_added : (p : Point) (kind : Kind) (x : Fields) (w s m v : Working) → Stays w s → is_attached w.forest p.key ≡ true → new_step kind x s ≡ Ok m → put_by s.next_key p p.kind m ≡ Ok v → IsAdded w v kind x
+put_added : (p : Point) (kind : Kind) (x : Fields) (w s m v : Working) → Stays w s → is_attached w.forest p.key ≡ true → new_step kind x s ≡ Ok m
+    → put_by s.next_key p p.kind m ≡ Ok v → IsAdded w v kind x
 put_added p kind x w s m v opened place second third =
     let new = stays_new kind x s m opened.fit second in
     let put = put_by_tells s.next_key p p.kind m v new.fit (new.attached p.key (opened.attached p.key place)) third in
@@ -128,7 +133,8 @@ put_added p kind x w s m v opened place second third =
 pub added : (p : Point) (kind : Kind) (x : Fields) (w v : Working) → Fit w → is_attached w.forest p.key ≡ true → add_step p kind x w ≡ Ok v → IsAdded w v kind x
 unfolding add_step
 added p kind x w v fit place e = by_fault (no_room kind (kind_around w.forest p.key p.kind)) e where
-  by_fault : (o : Option Cause) → after (answer o w) (λ u. after (opened p u) (λ split. after (new_step kind x split) (put_by split.next_key p p.kind))) ≡ Ok v → IsAdded w v kind x
+  by_fault : (o : Option Cause) → after (answer o w) (λ u. after (opened p u) (λ split. after (new_step kind x split) (put_by split.next_key p p.kind))) ≡ Ok v
+      → IsAdded w v kind x
   by_fault (Some cause) e = absurd (cc)
   by_fault None e =
       let one = after_tells (opened p w) (λ split. after (new_step kind x split) (put_by split.next_key p p.kind)) v e in
@@ -168,7 +174,8 @@ typed_point f k o text t is piece few g same there =
     ap₂ ◌&&◌ there (ap₂ (λ kind y. is_counted_in point.Text kind && is_place_in (offset_sum o (length_told text)) y) kind_is fields_are
     ∙ place_in (offset_sum o (length_told text)) (spliced_text o o text t.text) (new_end_place o o text t.text (piece_of o o t.text piece) few))
 
-splice_point : (k o : ℕ) (text : List ℕ) (w v : Working) → Fit w → is_attached w.forest k ≡ true → splice_step k o o text w ≡ Ok v → lies v.forest (text_point k (offset_sum o (length_told text))) ≡ true
+splice_point : (k o : ℕ) (text : List ℕ) (w v : Working) → Fit w → is_attached w.forest k ≡ true → splice_step k o o text w ≡ Ok v
+    → lies v.forest (text_point k (offset_sum o (length_told text))) ≡ true
 unfolding splice_step
 splice_point k o text w v fit place e =
     let x : Fields = label_with_piece (label_of w.forest k) o o text in
@@ -178,14 +185,18 @@ splice_point k o text w v fit place e =
     let s = spliced w.forest k o o none.0 in
     let same : x ≡ text_replaced s.text (spliced_text o o text s.text.text) = ap (λ t. with_piece t o o text) s.text_is in
     let stays = stays_splice k o o text w v fit e in
-    let forest : v.forest ≡ with_fields k (text_replaced s.text (spliced_text o o text s.text.text)) w.forest = ap (λ u. u.forest) (sym told.1) ∙ ap (λ y. with_fields k y w.forest) same in
-    typed_point w.forest k o text s.text (text_at w.forest k s.text s.text_is) s.piece (spliced_few k o o text w s fit.short none.1) v.forest forest (stays.attached k place)
+    let forest : v.forest ≡ with_fields k (text_replaced s.text (spliced_text o o text s.text.text)) w.forest =
+    ap (λ u. u.forest) (sym told.1) ∙ ap (λ y. with_fields k y w.forest) same in
+    typed_point w.forest k o text s.text (text_at w.forest k s.text s.text_is) s.piece (spliced_few k o o text w s fit.short none.1) v.forest forest
+    (stays.attached k place)
 
 typed_into_fits : (text : List ℕ) (p : Point) (w v : Working) → Fit w → is_attached w.forest p.key ≡ true → typed_into text p w ≡ Ok v → Fit v
 unfolding typed_into
 typed_into_fits text p w v fit place e =
-    let first = after_tells (splice_step p.key p.offset p.offset text w) (λ u. Ok (caret_at (text_point p.key (offset_sum p.offset (length_told text))) u)) v e in
-    caret_fits first.0 v (text_point p.key (offset_sum p.offset (length_told text))) (stays_splice p.key p.offset p.offset text w first.0 fit first.1.0).fit (splice_point p.key p.offset text w first.0 fit place first.1.0) first.1.1
+    let first =
+    after_tells (splice_step p.key p.offset p.offset text w) (λ u. Ok (caret_at (text_point p.key (offset_sum p.offset (length_told text))) u)) v e in
+    caret_fits first.0 v (text_point p.key (offset_sum p.offset (length_told text))) (stays_splice p.key p.offset p.offset text w first.0 fit first.1.0).fit
+    (splice_point p.key p.offset text w first.0 fit place first.1.0) first.1.1
 
 typed_new_fits : (text : List ℕ) (format : ℕ) (p : Point) (w v : Working) → Fit w → is_attached w.forest p.key ≡ true → typed_new text format p w ≡ Ok v → Fit v
 unfolding typed_new has_characters
@@ -193,7 +204,8 @@ typed_new_fits text format p w v fit place e =
     let x : Fields = typed_fields text format (style_in (normal_at w.forest p.key)) in
     let first = after_tells (add_step p kinds.Text x w) (λ u. Ok (caret_at (text_point (newest u) (length_told text)) u)) v e in
     let a = added p kinds.Text x w first.0 fit place first.1.0 in
-    caret_fits first.0 v (text_point (newest first.0) (length_told text)) a.stays.fit (added_text w first.0 kinds.Text _ (length_told text) a refl (end_place text)) first.1.1
+    caret_fits first.0 v (text_point (newest first.0) (length_told text)) a.stays.fit
+    (added_text w first.0 kinds.Text _ (length_told text) a refl (end_place text)) first.1.1
 
 typed_fits : (text : List ℕ) (p : Point) (format : ℕ) (w v : Working) → Fit w → is_attached w.forest p.key ≡ true → typed text p format w ≡ Ok v → Fit v
 unfolding typed
@@ -207,7 +219,8 @@ unfolding broken
 broken_fits p format w v fit place e =
     let first = after_tells (add_step p kinds.Break fields.Bare w) (λ u. Ok (caret_at (place_behind u.forest (newest u)) u)) v e in
     let a = added p kinds.Break fields.Bare w first.0 fit place first.1.0 in
-    caret_fits first.0 v (place_behind first.0.forest (newest first.0)) a.stays.fit (behind_lies first.0.forest (newest first.0) a.parent a.stays.fit.ready.in_order a.stays.fit.held a.up a.attached) first.1.1
+    caret_fits first.0 v (place_behind first.0.forest (newest first.0)) a.stays.fit
+    (behind_lies first.0.forest (newest first.0) a.parent a.stays.fit.ready.in_order a.stays.fit.held a.up a.attached) first.1.1
 
 tab_end : IsPlace 1 (9 ∷ [])
 unfolding is_offset within text_length front_of units units_of
@@ -223,7 +236,8 @@ tabbed_fits p format w v fit place e =
 -- ---- the commands
 
 -- a step that goes on from a point in the tree
-pub at_anchor_fits : (step : Point → ℕ → Working → Result Working Cause) (w v : Working) → Fit w → ((p : Point) (format : ℕ) → is_attached w.forest p.key ≡ true → step p format w ≡ Ok v → Fit v) → at_anchor step w ≡ Ok v → Fit v
+pub at_anchor_fits : (step : Point → ℕ → Working → Result Working Cause) (w v : Working) → Fit w
+    → ((p : Point) (format : ℕ) → is_attached w.forest p.key ≡ true → step p format w ≡ Ok v → Fit v) → at_anchor step w ≡ Ok v → Fit v
 at_anchor_fits step w v fit each e = by_selection w.selection fit.lying e where
   by_selection : (s : Selection) → EachPoint (λ p. lies w.forest p ≡ true) s → at_anchor_of s step w ≡ Ok v → Fit v
   by_selection (Range a b format) lying e = each a format (both (is_attached w.forest a.key) (lies_in w.forest a) lying.0).0 e

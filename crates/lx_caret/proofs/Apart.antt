@@ -12,20 +12,25 @@ use Rattle.lx_trees.proofs.Subtrees.{count-alone-le}
 
 module _ {A : Type 0} (name : A → ℕ) where
   -- what isn't in trees, nor after them, is after nothing in them
-  absent_behind : (after : List ℕ) (t : Trees A) (x q : ℕ) → count name x t ≡ 0 → is_among x after ≡ false → is_among x (unwrap_or (behind_before name after t q) []) ≡ false
+  absent_behind : (after : List ℕ) (t : Trees A) (x q : ℕ) → count name x t ≡ 0 → is_among x after ≡ false
+      → is_among x (unwrap_or (behind_before name after t q) []) ≡ false
   absent_behind after nil x q none out = refl
   absent_behind after (tree a below rest) x q none out =
-      let more : is_among x (preorder name rest ++ after) ≡ false = grind (arith, none, out, is_among-append x (preorder name rest) after, is_among-preorder name x rest) in
+      let more : is_among x (preorder name rest ++ after) ≡ false =
+      grind (arith, none, out, is_among-append x (preorder name rest) after, is_among-preorder name x rest) in
       grind (arith, none, out, more, absent_behind (preorder name rest ++ after) below x q, absent_behind after rest x q)
 
   behind_none : (after : List ℕ) (t : Trees A) (q : ℕ) → count name q t ≡ 0 → behind_before name after t q ≡ None
   behind_none after nil q e = refl
-  behind_none after (tree a below rest) q e = grind (arith, e, eqb_tells (name a) q, behind_none (preorder name rest ++ after) below q, behind_none after rest q)
+  behind_none after (tree a below rest) q e =
+      grind (arith, e, eqb_tells (name a) q, behind_none (preorder name rest ++ after) below q, behind_none after rest q)
 
-  apart_below : (after : List ℕ) (t : Trees A) (x q : ℕ) → IsDistinct name t → 0 < count name q (alone name x t) → is_among x after ≡ false → is_among x (unwrap_or (behind_before name after t q) []) ≡ false
+  apart_below : (after : List ℕ) (t : Trees A) (x q : ℕ) → IsDistinct name t → 0 < count name q (alone name x t) → is_among x after ≡ false
+      → is_among x (unwrap_or (behind_before name after t q) []) ≡ false
   apart_below after nil x q once some out = refl
   apart_below after (tree a below rest) x q once some out =
-      let more : count name x rest ≡ 0 → is_among x (preorder name rest ++ after) ≡ false = λ none. grind (arith, none, out, is_among-append x (preorder name rest) after, is_among-preorder name x rest) in
+      let more : count name x rest ≡ 0 → is_among x (preorder name rest ++ after) ≡ false =
+      λ none. grind (arith, none, out, is_among-append x (preorder name rest) after, is_among-preorder name x rest) in
       grind (
         arith,
         once q,

@@ -85,7 +85,8 @@ cut_before f b h attached =
     let cut = preorder-cut key_of (alone 0 f) b (tree_distinct f h) (grind (arith, attached)) in
     cut.1 ∙ ap (λ ks. ks ++ from f b) (front_of f b cut.0 h attached cut.1)
 
-within_own : (f : Forest) (b k : ℕ) → IsForest f → is_attached f b ≡ true → is_within f b k ≡ true → is_among k (named.preorder key_of (alone b (alone 0 f))) ≡ true
+within_own : (f : Forest) (b k : ℕ) → IsForest f → is_attached f b ≡ true → is_within f b k ≡ true
+    → is_among k (named.preorder key_of (alone b (alone 0 f))) ≡ true
 within_own f b k h attached inside =
     is_among-preorder key_of k (alone b (alone 0 f)) ∙ grind (arith, h.once b, attached, inside, count-without-alone key_of b 0 f, alone-alone key_of b 0 f)
 
@@ -96,7 +97,8 @@ once_cut f b h attached = subst NoRepeats (cut_before f b h attached) (NoRepeats
 pub before_outside : (f : Forest) (b k : ℕ) → IsForest f → is_attached f b ≡ true → is_among k (nodes_before f b) ≡ true → is_within f b k ≡ false
 before_outside f b k h attached before = elim (cases_Bool (is_within f b k)) [
   | inl inside ↦
-      let here : is_among k (from f b) ≡ true = is_among-append k (named.preorder key_of (alone b (alone 0 f))) (behind f b) ∙ rw (within_own f b k h attached inside) refl in
+      let here : is_among k (from f b) ≡ true =
+      is_among-append k (named.preorder key_of (alone b (alone 0 f))) (behind f b) ∙ rw (within_own f b k h attached inside) refl in
       let no : true ≡ false = sym here ∙ apart (nodes_before f b) (from f b) k (once_cut f b h attached) before in
       cc
   | inr outside ↦ outside
@@ -119,7 +121,8 @@ before_attached f b k h attached before =
 behind_attached : (f : Forest) (b k : ℕ) → IsForest f → is_attached f b ≡ true → is_among k (behind f b) ≡ true → is_attached f k ≡ true
 behind_attached f b k h attached later =
     sym (is_among-preorder_of f k) ∙ ap (is_among k) (cut_before f b h attached) ∙ is_among-append k (nodes_before f b) (from f b)
-    ∙ ap (λ (x : Bool). is_among k (nodes_before f b) || x) (is_among-append k (named.preorder key_of (alone b (alone 0 f))) (behind f b)) ∙ grind (arith, later)
+    ∙ ap (λ (x : Bool). is_among k (nodes_before f b) || x) (is_among-append k (named.preorder key_of (alone b (alone 0 f))) (behind f b))
+    ∙ grind (arith, later)
 
 -- ---- blocks
 

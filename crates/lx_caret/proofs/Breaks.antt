@@ -54,7 +54,8 @@ attached_known f q h place = grind (arith, nat_tests, place, count-alone-le key_
 pub block_place : (f : Forest) (q block : ℕ) → IsForest f → is_attached f q ≡ true → block_of f q ≡ Some block → is_attached f block ≡ true
 block_place f q block h place e = above_there f q block h (attached_known f q h place) place (found_among (is_at is_text_block f) (q ∷ ancestors f q) block e)
 
-pub holder_place : (f : Forest) (p : Point) (kind : PointKind) (a : ℕ) → IsForest f → is_attached f p.key ≡ true → is_among a (holders f p kind) ≡ true → is_attached f a ≡ true
+pub holder_place : (f : Forest) (p : Point) (kind : PointKind) (a : ℕ) → IsForest f → is_attached f p.key ≡ true → is_among a (holders f p kind) ≡ true
+    → is_attached f a ≡ true
 holder_place f p point.Text a h place among = above_there f p.key a h (attached_known f p.key h place) place (later a p.key (ancestors f p.key) among) where
   later : (a x : ℕ) (xs : List ℕ) → is_among a xs ≡ true → is_among a (x ∷ xs) ≡ true
   later a x xs among = grind (arith, among)
@@ -63,7 +64,8 @@ holder_place f p point.Element a h place among = above_there f p.key a h (attach
 -- ---- parted
 
 pub stays_open : (p : Point) → Staying (cut_open p)
-stays_open p w v fit e = stays_if (is_inside w.forest p p.kind) (split_step p.key (p.offset ∷ [])) w v fit (λ a b f g. stays_split p.key (p.offset ∷ []) a b f g) e
+stays_open p w v fit e =
+    stays_if (is_inside w.forest p p.kind) (split_step p.key (p.offset ∷ [])) w v fit (λ a b f g. stays_split p.key (p.offset ∷ []) a b f g) e
 
 pub stays_like : (l : Option Label) → Staying (new_like l)
 stays_like None w v fit e = stays_ok w w v (stays_self w fit) e
@@ -73,7 +75,8 @@ stays_parted_at : (k index : ℕ) (w v : Working) → Fit w → is_attached w.fo
 unfolding parted_at
 stays_parted_at k index w v fit place e =
     let moved : List ℕ = drop index (children_of w.forest k) in
-    let one = after_tells (new_like (label_of w.forest k) w) (λ made. after (put_behind_step w.next_key k made) (in_turn (moved_to_end w.next_key) moved)) v e in
+    let one =
+    after_tells (new_like (label_of w.forest k) w) (λ made. after (put_behind_step w.next_key k made) (in_turn (moved_to_end w.next_key) moved)) v e in
     let two = after_tells (put_behind_step w.next_key k one.0) (in_turn (moved_to_end w.next_key) moved) v one.1.1 in
     let made = stays_like (label_of w.forest k) w one.0 fit one.1.0 in
     let put = stays_behind w.next_key k one.0 two.0 made.fit two.1.0 in
@@ -87,18 +90,21 @@ stays_link k index w v fit place e = by_test (is_at is_link w.forest k && (ltb 0
   by_test true e = stays_parted_at k index w v fit place e
   by_test false e = stays_ok w w v (stays_self w fit) e
 
-pub stays_parted_up : (ks : List ℕ) (index : ℕ) (w : Working) (made : Parted) → Fit w → ((k : ℕ) → is_among k ks ≡ true → is_attached w.forest k ≡ true) → parted_up ks index w ≡ Ok made → Stays w made.draft
+pub stays_parted_up : (ks : List ℕ) (index : ℕ) (w : Working) (made : Parted) → Fit w → ((k : ℕ) → is_among k ks ≡ true → is_attached w.forest k ≡ true)
+    → parted_up ks index w ≡ Ok made → Stays w made.draft
 unfolding parted_up
 stays_parted_up [] index w made fit place e = let is : w ≡ made.draft = cc in subst (Stays w) is (stays_self w fit)
 stays_parted_up (k ∷ ks) index w made fit place e =
     let first = after_tells (link_parted k index w) (λ v. parted_up ks (place_of (index_of v.forest k) index) v) made e in
     let link = stays_link k index w first.0 fit (place k (grind (arith, eqb_tells k k))) first.1.0 in
     stays_then w first.0 made.draft link
-    (stays_parted_up ks (place_of (index_of first.0.forest k) index) first.0 made link.fit (λ q among. link.attached q (place q (grind (arith, among)))) first.1.1)
+    (stays_parted_up ks (place_of (index_of first.0.forest k) index) first.0 made link.fit (λ q among. link.attached q (place q (grind (arith, among))))
+    first.1.1)
 
 -- ---- the new block
 
-next_element : (f : Forest) (l : Label) (moved : List ℕ) (kind : Kind) → l.kind ≡ kind → is_text_block kind ≡ true → is_element (next_of_kind f l moved kind).kind ≡ true
+next_element : (f : Forest) (l : Label) (moved : List ℕ) (kind : Kind) → l.kind ≡ kind → is_text_block kind ≡ true
+    → is_element (next_of_kind f l moved kind).kind ≡ true
 unfolding is_text_block is_element
 next_element f l [] kinds.Paragraph is e = ap is_element is
 next_element f l (k ∷ ks) kinds.Paragraph is e = ap is_element is
@@ -114,14 +120,16 @@ next_element f l (k ∷ ks) kinds.Item is e = refl
 next_element f l moved kind is e = absurd (cc)
 
 -- the first of what was moved into the tree
-first_in : (parent k : ℕ) (ks : List ℕ) (w v : Working) → Fit w → is_attached w.forest parent ≡ true → in_turn (moved_to_end parent) (k ∷ ks) w ≡ Ok v → is_attached v.forest k ≡ true
+first_in : (parent k : ℕ) (ks : List ℕ) (w v : Working) → Fit w → is_attached w.forest parent ≡ true → in_turn (moved_to_end parent) (k ∷ ks) w ≡ Ok v
+    → is_attached v.forest k ≡ true
 unfolding in_turn
 first_in parent k ks w v fit place e =
     let first = after_tells (moved_to_end parent k w) (in_turn (moved_to_end parent) ks) v e in
     let stays = stays_moved parent k w first.0 fit place first.1.0 in
     (stays_each_moved parent ks first.0 v stays.fit (stays.attached parent place) first.1.1).attached k (moved_attached parent k w first.0 fit place first.1.0)
 
-start_lies : (f : Forest) (block : ℕ) (moved : List ℕ) → lies f (element_point block 0) ≡ true → ((k : ℕ) (ks : List ℕ) → moved ≡ k ∷ ks → is_attached f k ≡ true) → lies f (start_of_first f block moved) ≡ true
+start_lies : (f : Forest) (block : ℕ) (moved : List ℕ) → lies f (element_point block 0) ≡ true
+    → ((k : ℕ) (ks : List ℕ) → moved ≡ k ∷ ks → is_attached f k ≡ true) → lies f (start_of_first f block moved) ≡ true
 start_lies f block [] so first = so
 start_lies f block (k ∷ ks) so first = by_test (is_at has_characters f k) refl where
   text : (o : Option Kind) → passes has_characters o ≡ true → is_counted_in point.Text o ≡ true
@@ -132,17 +140,21 @@ start_lies f block (k ∷ ks) so first = by_test (is_at has_characters f k) refl
   by_test true is = ap₂ ◌&&◌ (first k ks refl) (ap₂ ◌&&◌ (text (kind_of f k) is) (start_in (fields_of f k)))
   by_test false is = so
 
-moved_first : (parent : ℕ) (moved : List ℕ) (w v : Working) → Fit w → is_attached w.forest parent ≡ true → in_turn (moved_to_end parent) moved w ≡ Ok v → (k : ℕ) (ks : List ℕ) → moved ≡ k ∷ ks → is_attached v.forest k ≡ true
+moved_first : (parent : ℕ) (moved : List ℕ) (w v : Working) → Fit w → is_attached w.forest parent ≡ true → in_turn (moved_to_end parent) moved w ≡ Ok v
+    → (k : ℕ) (ks : List ℕ) → moved ≡ k ∷ ks → is_attached v.forest k ≡ true
 moved_first parent moved w v fit place e k ks is = first_in parent k ks w v fit place (ap (λ xs. in_turn (moved_to_end parent) xs w) (sym is) ∙ e)
 
-element_start : (f : Forest) (k : ℕ) (kind : Kind) → is_attached f k ≡ true → kind_of f k ≡ Some kind → is_element kind ≡ true → lies f (element_point k 0) ≡ true
+element_start : (f : Forest) (k : ℕ) (kind : Kind) → is_attached f k ≡ true → kind_of f k ≡ Some kind → is_element kind ≡ true
+    → lies f (element_point k 0) ≡ true
 element_start f k kind place is element = ap₂ ◌&&◌ place (ap₂ ◌&&◌ (ap (is_counted_in point.Element) is ∙ element) (least (size_of f k)))
 
-label_known : (f : Forest) (k : ℕ) (l : Option Label) → label_of f k ≡ l → passes is_text_block (kind_of f k) ≡ true → (x : Label) × ((l ≡ Some x) × (is_text_block x.kind ≡ true))
+label_known : (f : Forest) (k : ℕ) (l : Option Label) → label_of f k ≡ l → passes is_text_block (kind_of f k) ≡ true
+    → (x : Label) × ((l ≡ Some x) × (is_text_block x.kind ≡ true))
 label_known f k None is e = let bad : false ≡ true = sym (ap (λ o. passes is_text_block (option_map (λ x. x.kind) o)) is) ∙ e in absurd (cc)
 label_known f k (Some x) is e = (x, (refl, sym (ap (λ o. passes is_text_block (option_map (λ y. y.kind) o)) is) ∙ e))
 
-moved_on_fits : (block : ℕ) (moved : List ℕ) (w v : Working) → Fit w → is_attached w.forest block ≡ true → passes is_text_block (kind_of w.forest block) ≡ true → moved_on block moved w ≡ Ok v → Fit v
+moved_on_fits : (block : ℕ) (moved : List ℕ) (w v : Working) → Fit w → is_attached w.forest block ≡ true → passes is_text_block (kind_of w.forest block) ≡ true
+    → moved_on block moved w ≡ Ok v → Fit v
 unfolding moved_on
 moved_on_fits block moved w v fit place text e =
     let f : Forest = w.forest in
@@ -150,10 +162,13 @@ moved_on_fits block moved w v fit place text e =
     let known = label_known f block (label_of f block) refl text in
     let l : Label = known.0 in
     let b : Block = next_of_kind f l moved l.kind in
-    let next : (u : Working) → Result Working Cause = λ u. after (put_behind_step n block u) (λ put. after (in_turn (moved_to_end n) moved put) (λ x. Ok (caret_at (start_of_first x.forest n moved) x))) in
+    let next : (u : Working) → Result Working Cause =
+    λ u. after (put_behind_step n block u) (λ put. after (in_turn (moved_to_end n) moved put) (λ x. Ok (caret_at (start_of_first x.forest n moved) x))) in
     let step : after (new_step b.kind b.fields w) next ≡ Ok v = ap (λ o. after (new_next f o moved w) next) (sym known.1.0) ∙ e in
     let one = after_tells (new_step b.kind b.fields w) next v step in
-    let two = after_tells (put_behind_step n block one.0) (λ put. after (in_turn (moved_to_end n) moved put) (λ x. Ok (caret_at (start_of_first x.forest n moved) x))) v one.1.1 in
+    let two =
+    after_tells (put_behind_step n block one.0) (λ put. after (in_turn (moved_to_end n) moved put) (λ x. Ok (caret_at (start_of_first x.forest n moved) x)))
+    v one.1.1 in
     let three = after_tells (in_turn (moved_to_end n) moved two.0) (λ x. Ok (caret_at (start_of_first x.forest n moved) x)) v two.1.1 in
     let made = stays_new b.kind b.fields w one.0 fit one.1.0 in
     let put = stays_behind n block one.0 two.0 made.fit two.1.0 in
@@ -166,7 +181,8 @@ moved_on_fits block moved w v fit place text e =
     caret_fits three.0 v (start_of_first three.0.forest n moved) last.fit
     (start_lies three.0.forest n moved start (moved_first n moved two.0 three.0 put.fit beside.attached three.1.0)) three.1.1
 
-kind_stays : (w v : Working) (k : ℕ) → KindsStay w.forest v.forest → passes is_text_block (kind_of w.forest k) ≡ true → passes is_text_block (kind_of v.forest k) ≡ true
+kind_stays : (w v : Working) (k : ℕ) → KindsStay w.forest v.forest → passes is_text_block (kind_of w.forest k) ≡ true
+    → passes is_text_block (kind_of v.forest k) ≡ true
 kind_stays w v k kept text = by_kind (kind_of w.forest k) refl text where
   by_kind : (o : Option Kind) → kind_of w.forest k ≡ o → passes is_text_block o ≡ true → passes is_text_block (kind_of v.forest k) ≡ true
   by_kind None is text = absurd (cc)
@@ -174,7 +190,8 @@ kind_stays w v k kept text = by_kind (kind_of w.forest k) refl text where
 
 -- ---- the command
 
-block_cut_fits : (block : ℕ) (p : Point) (w v : Working) → Fit w → is_attached w.forest p.key ≡ true → block_of w.forest p.key ≡ Some block → block_cut block p w ≡ Ok v → Fit v
+block_cut_fits : (block : ℕ) (p : Point) (w v : Working) → Fit w → is_attached w.forest p.key ≡ true → block_of w.forest p.key ≡ Some block
+    → block_cut block p w ≡ Ok v → Fit v
 unfolding block_cut
 block_cut_fits block p w v fit place is e =
     let next : (parted : Parted) → Result Working Cause = λ parted. moved_on block (drop parted.index (children_of parted.draft.forest block)) parted.draft in
@@ -183,11 +200,13 @@ block_cut_fits block p w v fit place is e =
     let two = after_tells (parted_up (holders_in u.forest block p) (before_point u.forest p p.kind) u) next v one.1.1 in
     let open_ = stays_open p w u fit one.1.0 in
     let parted = stays_parted_up (holders_in u.forest block p) (before_point u.forest p p.kind) u two.0 open_.fit
-    (λ k among. holder_place u.forest p p.kind k open_.fit.ready.in_order (open_.attached p.key place) (among_until (Some block) (holders u.forest p p.kind) k among)) two.1.0 in
+    (λ k among. holder_place u.forest p p.kind k open_.fit.ready.in_order (open_.attached p.key place)
+    (among_until (Some block) (holders u.forest p p.kind) k among)) two.1.0 in
     let all = stays_then w u two.0.draft open_ parted in
     let block_in : is_attached w.forest block ≡ true = block_place w.forest p.key block fit.ready.in_order place is in
     let text : passes is_text_block (kind_of w.forest block) ≡ true = found_passes (is_at is_text_block w.forest) (p.key ∷ ancestors w.forest p.key) block is in
-    moved_on_fits block (drop two.0.index (children_of two.0.draft.forest block)) two.0.draft v parted.fit (all.attached block block_in) (kind_stays w two.0.draft block all.kept text) two.1.1
+    moved_on_fits block (drop two.0.index (children_of two.0.draft.forest block)) two.0.draft v parted.fit (all.attached block block_in)
+    (kind_stays w two.0.draft block all.kept text) two.1.1
 
 paragraph_added_fits : (p : Point) (w v : Working) → Fit w → is_attached w.forest p.key ≡ true → paragraph_added p w ≡ Ok v → Fit v
 unfolding paragraph_added is_element
@@ -196,7 +215,8 @@ paragraph_added_fits p w v fit place e =
     let a = added p kinds.Paragraph plain_element w first.0 fit place first.1.0 in
     caret_fits first.0 v (element_point (newest first.0) 0) a.stays.fit (added_element w first.0 kinds.Paragraph plain_element a refl) first.1.1
 
-paragraph_fits : (item block : Option ℕ) (p : Point) (w v : Working) → Fit w → is_attached w.forest p.key ≡ true → block_of w.forest p.key ≡ block → paragraph_at item block p w ≡ Ok v → Fit v
+paragraph_fits : (item block : Option ℕ) (p : Point) (w v : Working) → Fit w → is_attached w.forest p.key ≡ true → block_of w.forest p.key ≡ block
+    → paragraph_at item block p w ≡ Ok v → Fit v
 paragraph_fits (Some item) block p w v fit place is e = let same : w ≡ v = cc in subst Fit same fit
 paragraph_fits None None p w v fit place is e = paragraph_added_fits p w v fit place e
 paragraph_fits None (Some block) p w v fit place is e = block_cut_fits block p w v fit place is e
@@ -205,9 +225,13 @@ left_tells : (r : Result Broken Cause) (v : Working) → draft_left r ≡ Ok v �
 left_tells (Ok b) v e = (b, (refl, cc))
 left_tells (Err cause) v e = absurd (cc)
 
-broken_fits : (w : Working) (b : Broken) → Fit w → after (at_anchor (λ p format. paragraph_at (empty_item w) (block_of w.forest p.key) p) w) (λ u. Ok (record { draft = u; item = empty_item w })) ≡ Ok b → Fit b.draft
+broken_fits : (w : Working) (b : Broken) → Fit w
+    → after (at_anchor (λ p format. paragraph_at (empty_item w) (block_of w.forest p.key) p) w) (λ u. Ok (record { draft = u; item = empty_item w })) ≡ Ok b
+    → Fit b.draft
 broken_fits w b fit e =
-    let first = after_tells (at_anchor (λ p format. paragraph_at (empty_item w) (block_of w.forest p.key) p) w) (λ u. Ok (record { draft = u; item = empty_item w })) b e in
+    let first =
+    after_tells (at_anchor (λ p format. paragraph_at (empty_item w) (block_of w.forest p.key) p) w) (λ u. Ok (record { draft = u; item = empty_item w })) b
+    e in
     let last : ◌≡◌ {A = Result Broken Cause} (Ok (record { draft = first.0; item = empty_item w })) (Ok b) = first.1.1 in
     let is : first.0 ≡ b.draft = cc in
     subst Fit is (at_anchor_fits (λ p format. paragraph_at (empty_item w) (block_of w.forest p.key) p) w first.0 fit
@@ -217,5 +241,8 @@ pub lies-insert_paragraph : LeavesLying (λ w. draft_left (insert_paragraph_step
 unfolding insert_paragraph_step
 lies-insert_paragraph w v ready held short e =
     let told = left_tells (insert_paragraph_step w) v e in
-    let first = after_tells (remove_text_step w) (λ u. after (at_anchor (λ p format. paragraph_at (empty_item u) (block_of u.forest p.key) p) u) (λ x. Ok (record { draft = x; item = empty_item u }))) told.0 told.1.0 in
+    let first =
+    after_tells (remove_text_step w)
+    (λ u. after (at_anchor (λ p format. paragraph_at (empty_item u) (block_of u.forest p.key) p) u) (λ x. Ok (record { draft = x; item = empty_item u })))
+    told.0 told.1.0 in
     (subst Fit told.1.1 (broken_fits first.0 told.0 (remove_text_fits w first.0 ready held short first.1.0) first.1.1)).lying

@@ -96,7 +96,8 @@ child_up f p c i h e =
     let named : is_named (parent_of f c) p ≡ true = sym (is_among-children_of f c p h) ∙ is_among-slice_get (children_of f p) c i e in
     grind (arith, named, is_named_tells (parent_of f c) p)
 
-behind_place_outside : (f : Forest) (k o : ℕ) (kind : PointKind) (a : ℕ) → IsForest f → is_attached f k ≡ true → is_among a (behind_place f k o kind) ≡ true → is_within f a k ≡ false
+behind_place_outside : (f : Forest) (k o : ℕ) (kind : PointKind) (a : ℕ) → IsForest f → is_attached f k ≡ true → is_among a (behind_place f k o kind) ≡ true
+    → is_within f a k ≡ false
 behind_place_outside f k o point.Text a h place among = behind_outside f k a h place among
 behind_place_outside f k o point.Element a h place among = by_child (slice_get (children_of f k) o) refl among where
   by_child : (c : Option ℕ) → slice_get (children_of f k) o ≡ c → is_among a (from_child f k c) ≡ true → is_within f a k ≡ false
@@ -117,14 +118,16 @@ start_avoids f start h place a so inside =
 pub among_filter : (test : ℕ → Bool) (xs : List ℕ) (a : ℕ) → is_among a (filter test xs) ≡ true → is_among a xs ≡ true
 among_filter test [] a e = e
 among_filter test (x ∷ xs) a e = by_test (among_filter test xs a) (test x) e where
-  by_test : (is_among a (filter test xs) ≡ true → is_among a xs ≡ true) → (b : Bool) → is_among a (cond b (x ∷ filter test xs) (filter test xs)) ≡ true → is_among a (x ∷ xs) ≡ true
+  by_test : (is_among a (filter test xs) ≡ true → is_among a xs ≡ true) → (b : Bool) → is_among a (cond b (x ∷ filter test xs) (filter test xs)) ≡ true
+      → is_among a (x ∷ xs) ≡ true
   by_test later true e = grind (arith, e, later)
   by_test later false e = grind (arith, e, later)
 
 pub among_until : (end : Option ℕ) (xs : List ℕ) (a : ℕ) → is_among a (until end xs) ≡ true → is_among a xs ≡ true
 among_until end [] a e = e
 among_until end (x ∷ xs) a e = by_test (among_until end xs a) (is_named end x) e where
-  by_test : (is_among a (until end xs) ≡ true → is_among a xs ≡ true) → (b : Bool) → is_among a (cond b [] (x ∷ until end xs)) ≡ true → is_among a (x ∷ xs) ≡ true
+  by_test : (is_among a (until end xs) ≡ true → is_among a xs ≡ true) → (b : Bool) → is_among a (cond b [] (x ∷ until end xs)) ≡ true
+      → is_among a (x ∷ xs) ≡ true
   by_test later true e = absurd (cc)
   by_test later false e = grind (arith, e, later)
 
@@ -145,7 +148,8 @@ splice_avoids D k from to new w v avoiding e =
     let g : Forest = with_fields k x w.forest in
     let moved : Point → Point = splice_moves k from to (length_told new) in
     subst (IsAvoiding D) told.1 (each_moved (λ p. Avoids D w.forest p.key) (λ p. Avoids D g p.key) moved w.selection
-    (λ p avoids. subst (Avoids D g) (sym (key_of_splice k from to (length_told new) p)) (λ a so inside. avoids a so (sym (is_within-with_fields k x w.forest a p.key) ∙ inside))) avoiding)
+    (λ p avoids. subst (Avoids D g) (sym (key_of_splice k from to (length_told new) p))
+    (λ a so inside. avoids a so (sym (is_within-with_fields k x w.forest a p.key) ∙ inside))) avoiding)
 
 splice_keeps : (D : ℕ → Bool) (k from to : ℕ) (new : List ℕ) (w v : Working) → Fit w → IsAvoiding D w → splice_step k from to new w ≡ Ok v → Kept D w v
 splice_keeps D k from to new w v fit avoiding e =
@@ -161,9 +165,11 @@ cut_keeps D k from to w v fit avoiding leaf e = by_test (eqb from to) (is_some (
   by_test false false e = remove_keeps D k w v fit avoiding (clear_leaf k w fit leaf) e
 
 -- what a point counts characters in has no children, also later
-text_leaf : (w u : Working) (x : Point) → KindsStay w.forest u.forest → Fit u → x.kind ≡ point.Text → lies_in w.forest x ≡ true → children_of u.forest x.key ≡ []
+text_leaf : (w u : Working) (x : Point) → KindsStay w.forest u.forest → Fit u → x.kind ≡ point.Text → lies_in w.forest x ≡ true
+    → children_of u.forest x.key ≡ []
 text_leaf w u x kinds fit is e =
-    let counted : is_counted_in point.Text (kind_of w.forest x.key) ≡ true = ap (λ kind. is_counted_in kind (kind_of w.forest x.key)) (sym is) ∙ (both _ _ e).0 in
+    let counted : is_counted_in point.Text (kind_of w.forest x.key) ≡ true =
+    ap (λ kind. is_counted_in kind (kind_of w.forest x.key)) (sym is) ∙ (both _ _ e).0 in
     by_kind (kind_of w.forest x.key) refl counted where
       by_kind : (o : Option Kind) → kind_of w.forest x.key ≡ o → is_counted_in point.Text o ≡ true → children_of u.forest x.key ≡ []
       by_kind None is counted = absurd (cc)
@@ -174,11 +180,14 @@ text_leaf w u x kinds fit is e =
 stays_kinds : (w : Working) → KindsStay w.forest w.forest
 stays_kinds w = record { each = λ q kind e. e }
 
-start_keeps : (D : ℕ → Bool) (start end : Point) (kind : PointKind) (w v : Working) → start.kind ≡ kind → lies_in w.forest start ≡ true → Fit w → IsAvoiding D w → start_cut start end kind w ≡ Ok v → Kept D w v
-start_keeps D start end point.Text w v is e fit avoiding f = cut_keeps D start.key start.offset (start_part w.forest start end) w v fit avoiding (text_leaf w w start (stays_kinds w) fit is e) f
+start_keeps : (D : ℕ → Bool) (start end : Point) (kind : PointKind) (w v : Working) → start.kind ≡ kind → lies_in w.forest start ≡ true → Fit w → IsAvoiding D w
+    → start_cut start end kind w ≡ Ok v → Kept D w v
+start_keeps D start end point.Text w v is e fit avoiding f =
+    cut_keeps D start.key start.offset (start_part w.forest start end) w v fit avoiding (text_leaf w w start (stays_kinds w) fit is e) f
 start_keeps D start end point.Element w v is e fit avoiding f = kept_ok D w w v (kept_self D w fit avoiding) f
 
-end_keeps : (D : ℕ → Bool) (start end : Point) (kind : PointKind) (w u v : Working) → end.kind ≡ kind → lies_in w.forest end ≡ true → Kept D w u → end_cut start end kind u ≡ Ok v → Kept D u v
+end_keeps : (D : ℕ → Bool) (start end : Point) (kind : PointKind) (w u v : Working) → end.kind ≡ kind → lies_in w.forest end ≡ true → Kept D w u
+    → end_cut start end kind u ≡ Ok v → Kept D u v
 end_keeps D start end point.Text w u v is e kept f = by_test (eqb start.key end.key) f where
   by_test : (same : Bool) → cond same (Ok u) (cut_step end.key 0 end.offset u) ≡ Ok v → Kept D u v
   by_test true f = kept_ok D u u v (kept_self D u kept.fit kept.avoiding) f
@@ -194,7 +203,8 @@ below_keeps D k w v so fit avoiding e = by_test (is_some (parent_of w.forest k))
   by_test true e = remove_keeps D k w v fit avoiding (clear_avoided D k w avoiding so) e
   by_test false e = kept_ok D w w v (kept_self D w fit avoiding) e
 
-each_keeps : (D : ℕ → Bool) (ks : List ℕ) (w v : Working) → ((k : ℕ) → is_among k ks ≡ true → D k ≡ true) → Fit w → IsAvoiding D w → in_turn removed_below ks w ≡ Ok v → Kept D w v
+each_keeps : (D : ℕ → Bool) (ks : List ℕ) (w v : Working) → ((k : ℕ) → is_among k ks ≡ true → D k ≡ true) → Fit w → IsAvoiding D w
+    → in_turn removed_below ks w ≡ Ok v → Kept D w v
 unfolding in_turn
 each_keeps D [] w v so fit avoiding e = kept_ok D w w v (kept_self D w fit avoiding) e
 each_keeps D (k ∷ ks) w v so fit avoiding e =
@@ -216,7 +226,9 @@ merge_blocks_fits a b w v fit e = by_test (are_apart w.forest a b) refl e where
   by_test : (t : Bool) → are_apart w.forest a b ≡ t → cond t (after (in_turn (moved_to_end a) (leading w.forest b) w) (removed_empty b)) (Ok w) ≡ Ok v → Fit v
   by_test false apart e = let is : w ≡ v = cc in subst Fit is fit
   by_test true apart e =
-      let place : is_attached w.forest a ≡ true = (both (is_attached w.forest a) (is_attached w.forest b) (both (is_attached w.forest a && is_attached w.forest b) (not (is_within w.forest a b) && not (is_within w.forest b a)) apart).0).0 in
+      let place : is_attached w.forest a ≡ true =
+      (both (is_attached w.forest a) (is_attached w.forest b)
+      (both (is_attached w.forest a && is_attached w.forest b) (not (is_within w.forest a b) && not (is_within w.forest b a)) apart).0).0 in
       let first = after_tells (in_turn (moved_to_end a) (leading w.forest b) w) (removed_empty b) v e in
       empty_fits b first.0 v (stays_each_moved a (leading w.forest b) w first.0 fit place first.1.0).fit first.1.1
 
@@ -229,9 +241,11 @@ merge_fits (Some a) None w v fit e = let is : w ≡ v = cc in subst Fit is fit
 -- ---- the whole
 
 caret_avoids : (D : ℕ → Bool) (start : Point) (w : Working) → Avoids D w.forest start.key → IsAvoiding D (caret_at start w)
-caret_avoids D start w avoids = each_moved (λ x. Unit {0}) (λ x. Avoids D w.forest x.key) (λ x. start) w.selection (λ x so. avoids) (each_all (λ x. Unit {0}) w.selection (λ x. tt))
+caret_avoids D start w avoids =
+    each_moved (λ x. Unit {0}) (λ x. Avoids D w.forest x.key) (λ x. start) w.selection (λ x so. avoids) (each_all (λ x. Unit {0}) w.selection (λ x. tt))
 
-pub remove_between_fits : (start end : Point) (w v : Working) → Fit w → lies w.forest start ≡ true → lies w.forest end ≡ true → remove_between start end w ≡ Ok v → Fit v
+pub remove_between_fits : (start end : Point) (w v : Working) → Fit w → lies w.forest start ≡ true → lies w.forest end ≡ true
+    → remove_between start end w ≡ Ok v → Fit v
 unfolding remove_between
 remove_between_fits start end w v fit first_lies last_lies e =
     let f : Forest = w.forest in
@@ -241,8 +255,13 @@ remove_between_fits start end w v fit first_lies last_lies e =
     let at : Working = caret_at start w in
     let caret : Fit at = (stays_caret start w fit first_lies).fit in
     let avoiding : IsAvoiding D at = caret_avoids D start w (start_avoids f start fit.ready.in_order place.0) in
-    let one = after_tells (start_cut start end start.kind at) (λ cut. after (in_turn removed_below (outermost f (covered f start end)) cut) (λ removed. after (end_cut start end end.kind removed) (merge_step (block_of f start.key) (block_of f end.key)))) v e in
-    let two = after_tells (in_turn removed_below (outermost f (covered f start end)) one.0) (λ removed. after (end_cut start end end.kind removed) (merge_step (block_of f start.key) (block_of f end.key))) v one.1.1 in
+    let one =
+    after_tells (start_cut start end start.kind at)
+    (λ cut. after (in_turn removed_below (outermost f (covered f start end)) cut)
+    (λ removed. after (end_cut start end end.kind removed) (merge_step (block_of f start.key) (block_of f end.key)))) v e in
+    let two =
+    after_tells (in_turn removed_below (outermost f (covered f start end)) one.0)
+    (λ removed. after (end_cut start end end.kind removed) (merge_step (block_of f start.key) (block_of f end.key))) v one.1.1 in
     let three = after_tells (end_cut start end end.kind two.0) (merge_step (block_of f start.key) (block_of f end.key)) v two.1.1 in
     let cut = start_keeps D start end start.kind at one.0 refl place.1 caret avoiding one.1.0 in
     let gone = each_keeps D (outermost f (covered f start end)) one.0 two.0 (λ k among. covered_behind f start end k among) cut.fit cut.avoiding two.1.0 in
@@ -255,7 +274,8 @@ pub record IsRange (w : Working) (r : Ranged) : Type 0 where
   pub anchor : lies w.forest r.anchor ≡ true
   pub focus : lies w.forest r.focus ≡ true
 
-range_tells : (f : Forest) (s : Selection) (r : Ranged) → range_in f s ≡ Ok r → EachPoint (λ p. lies f p ≡ true) s × ((lies f r.anchor ≡ true) × (lies f r.focus ≡ true))
+range_tells : (f : Forest) (s : Selection) (r : Ranged) → range_in f s ≡ Ok r
+    → EachPoint (λ p. lies f p ≡ true) s × ((lies f r.anchor ≡ true) × (lies f r.focus ≡ true))
 range_tells f (Range a b format) r e = by_test (is_fit f a b) refl e where
   by_test : (t : Bool) → is_fit f a b ≡ t → cond t (Ok (record { anchor = a; focus = b; format = format })) (Err (NoSelection selected.Range)) ≡ Ok r
       → EachPoint (λ p. lies f p ≡ true) (Range a b format) × ((lies f r.anchor ≡ true) × (lies f r.focus ≡ true))
@@ -284,7 +304,9 @@ removed_in_fits r w v fit is e = by_test (is_collapsed r) e where
 
   by_test : (b : Bool) → cond b (Ok w) (remove_between (start_of w.forest r) (end_of w.forest r) w) ≡ Ok v → Fit v
   by_test true e = let same : w ≡ v = cc in subst Fit same fit
-  by_test false e = remove_between_fits (start_of w.forest r) (end_of w.forest r) w v fit (start_lies (comes_first w.forest r.anchor r.focus)) (end_lies (comes_first w.forest r.anchor r.focus)) e
+  by_test false e =
+      remove_between_fits (start_of w.forest r) (end_of w.forest r) w v fit (start_lies (comes_first w.forest r.anchor r.focus))
+      (end_lies (comes_first w.forest r.anchor r.focus)) e
 
 -- a draft on which nothing else is known goes on with a range
 pub fit_of : (w : Working) (r : Ranged) → IsReady w → IsHeld may_hold w.forest → TextsAreShort w → IsRange w r → Fit w

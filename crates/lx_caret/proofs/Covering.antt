@@ -28,7 +28,8 @@ wholes_first : (f : Forest) (k : ℕ) (ks : List ℕ) → wholes f (k ∷ ks) �
 wholes_first f k ks =
     ap (λ xs. kept (map (whole f) xs)) (filter-append (is_at has_characters f) (k ∷ []) ks)
     ∙ ap kept (map-append (whole f) (filter (is_at has_characters f) (k ∷ [])) (filter (is_at has_characters f) ks))
-    ∙ filter-append (λ (p : Piece). nat_lt p.from p.to) (map (whole f) (filter (is_at has_characters f) (k ∷ []))) (map (whole f) (filter (is_at has_characters f) ks))
+    ∙ filter-append (λ (p : Piece). nat_lt p.from p.to) (map (whole f) (filter (is_at has_characters f) (k ∷ [])))
+    (map (whole f) (filter (is_at has_characters f) ks))
 
 one_more : (i : ℕ) → i + 1 ≡ suc i
 one_more i = omega arith

@@ -44,7 +44,8 @@ found_passes test (x ∷ xs) k e = by_test (found_passes test xs k) (test x) ref
 filter_passes : (test : ℕ → Bool) (xs : List ℕ) (k : ℕ) → is_among k (filter test xs) ≡ true → test k ≡ true
 filter_passes test [] k e = absurd (cc)
 filter_passes test (x ∷ xs) k e = by_test (filter_passes test xs k) (test x) refl e where
-  by_test : (is_among k (filter test xs) ≡ true → test k ≡ true) → (b : Bool) → test x ≡ b → is_among k (cond b (x ∷ filter test xs) (filter test xs)) ≡ true → test k ≡ true
+  by_test : (is_among k (filter test xs) ≡ true → test k ≡ true) → (b : Bool) → test x ≡ b → is_among k (cond b (x ∷ filter test xs) (filter test xs)) ≡ true
+      → test k ≡ true
   by_test later true is e = elim (eqb_tells x k) [
     | inl own ↦ ap test (sym own.1) ∙ is
     | inr other ↦ later (grind (arith, e, other.0))
@@ -56,7 +57,8 @@ filter_passes test (x ∷ xs) k e = by_test (filter_passes test xs k) (test x) r
 remove_leaf : (k : ℕ) (w v : Working) → Fit w → children_of w.forest k ≡ [] → remove_step k w ≡ Ok v → Fit v
 remove_leaf k w v fit leaf e = remove_fits k w v fit (clear_leaf k w fit leaf) e
 
-erased_fits : (back : Bool) (reach : Reach) (k at : ℕ) (t : Option TextFields) (w v : Working) → Fit w → children_of w.forest k ≡ [] → erased back reach k at t w ≡ Ok v → Fit v
+erased_fits : (back : Bool) (reach : Reach) (k at : ℕ) (t : Option TextFields) (w v : Working) → Fit w → children_of w.forest k ≡ []
+    → erased back reach k at t w ≡ Ok v → Fit v
 erased_fits true reach k at None w v fit leaf e = remove_leaf k w v fit leaf e
 erased_fits false reach k at None w v fit leaf e = remove_leaf k w v fit leaf e
 erased_fits true reach k at (Some t) w v fit leaf e = (stays_splice k (reach t.text at) at [] w v fit e).fit
@@ -79,9 +81,11 @@ not_true false e = refl
 not_true true e = absurd (cc)
 
 leaf_in : (f : Forest) (block k : ℕ) → IsForest f → IsHeld may_hold f → is_leaf_in f block k ≡ true → children_of f k ≡ []
-leaf_in f block k h held e = no_children f k h held (not_true (is_at is_element f k) (both (not (is_at is_element f k)) (same_node (block_of f k) (Some block)) e).0)
+leaf_in f block k h held e =
+    no_children f k h held (not_true (is_at is_element f k) (both (not (is_at is_element f k)) (same_node (block_of f k) (Some block)) e).0)
 
-beside_leaf : (back : Bool) (f : Forest) (block : ℕ) (p : Point) (k : ℕ) → IsForest f → IsHeld may_hold f → leaf_beside back f block p ≡ Some k → children_of f k ≡ []
+beside_leaf : (back : Bool) (f : Forest) (block : ℕ) (p : Point) (k : ℕ) → IsForest f → IsHeld may_hold f → leaf_beside back f block p ≡ Some k
+    → children_of f k ≡ []
 beside_leaf true f block p k h held e =
     leaf_in f block k h held (filter_passes (is_leaf_in f block) (nodes_ahead f p) k (last_among (filter (is_leaf_in f block) (nodes_ahead f p)) k e))
 beside_leaf false f block p k h held e = leaf_in f block k h held (found_passes (is_leaf_in f block) (nodes_behind f p) k e)
@@ -108,7 +112,8 @@ block_element kind e = absurd (cc)
 end_within : (f : Forest) (so_far here : ℕ) (ks : List ℕ) → so_far ≤ here → inline_end f so_far here ks ≤ here + length ks
 end_within f so_far here [] e = omega (arith, e)
 end_within f so_far here (k ∷ ks) e = by_test (is_at is_inline f k) (λ n few. end_within f n (here + 1) ks few) where
-  by_test : (b : Bool) → ((n : ℕ) → n ≤ here + 1 → inline_end f n (here + 1) ks ≤ here + 1 + length ks) → inline_end f (cond b (here + 1) so_far) (here + 1) ks ≤ here + length (k ∷ ks)
+  by_test : (b : Bool) → ((n : ℕ) → n ≤ here + 1 → inline_end f n (here + 1) ks ≤ here + 1 + length ks)
+      → inline_end f (cond b (here + 1) so_far) (here + 1) ks ≤ here + length (k ∷ ks)
   by_test true rest = omega (arith, rest (here + 1) (omega arith))
   by_test false rest = omega (arith, rest so_far (omega (arith, e)))
 
@@ -126,7 +131,8 @@ moved_place f k to x there so = by_test (eqb x.key k) where
   by_test true = there
   by_test false = so
 
-line_fits : (line block : ℕ) (kind : Kind) (w v : Working) → Fit w → is_attached w.forest line ≡ true → kind_of w.forest line ≡ Some kind → is_element kind ≡ true → line_joined line block w ≡ Ok v → Fit v
+line_fits : (line block : ℕ) (kind : Kind) (w v : Working) → Fit w → is_attached w.forest line ≡ true → kind_of w.forest line ≡ Some kind
+    → is_element kind ≡ true → line_joined line block w ≡ Ok v → Fit v
 unfolding line_joined
 line_fits line block kind w v fit place is element e =
     let index : ℕ = inline_place w.forest line block in
@@ -134,15 +140,18 @@ line_fits line block kind w v fit place is element e =
     let first = after_tells (moved_in line index (leading w.forest block) w) (λ u. removed_empty block (pointed (moved_to block there) u)) v e in
     let moved = moved_in_stays line index (leading w.forest block) w first.0 fit place (place_within w.forest line block) first.1.0 in
     let u : Working = first.0 in
-    let counted : is_counted_in point.Element (kind_of u.forest line) ≡ true = ap (is_counted_in point.Element) (moved.stays.kept.each line kind is) ∙ element in
+    let counted : is_counted_in point.Element (kind_of u.forest line) ≡ true =
+    ap (is_counted_in point.Element) (moved.stays.kept.each line kind is) ∙ element in
     let lies_there : lies u.forest there ≡ true = ap₂ ◌&&◌ (moved.stays.attached line place) (ap₂ ◌&&◌ counted (grind (arith, nat_tests, moved.reach))) in
-    empty_fits block (pointed (moved_to block there) u) v (stays_pointed (moved_to block there) u moved.stays.fit (λ x so. moved_place u.forest block there x lies_there so)).fit first.1.1
+    empty_fits block (pointed (moved_to block there) u) v
+    (stays_pointed (moved_to block there) u moved.stays.fit (λ x so. moved_place u.forest block there x lies_there so)).fit first.1.1
 
 either : (a b : Bool) → (a || b) ≡ true → (a ≡ true) ⊎ (b ≡ true)
 either true b e = inl refl
 either false b e = inr e
 
-joined_fits : (o : Option Kind) (found block : ℕ) (w v : Working) → kind_of w.forest found ≡ o → Fit w → is_attached w.forest found ≡ true → (passes is_text_block o ≡ true) ⊎ (passes is_rule_or_table o ≡ true) → joined_with o found block w ≡ Ok v → Fit v
+joined_fits : (o : Option Kind) (found block : ℕ) (w v : Working) → kind_of w.forest found ≡ o → Fit w → is_attached w.forest found ≡ true
+    → (passes is_text_block o ≡ true) ⊎ (passes is_rule_or_table o ≡ true) → joined_with o found block w ≡ Ok v → Fit v
 unfolding is_element
 joined_fits None found block w v is fit place stop e = absurd (elim stop [ inl a ↦ cc | inr b ↦ cc ])
 joined_fits (Some kinds.Table) found block w v is fit place stop e = let same : w ≡ v = cc in subst Fit same fit
@@ -150,7 +159,8 @@ joined_fits (Some kinds.Rule) found block w v is fit place stop e = remove_leaf 
 joined_fits (Some kind) found block w v is fit place stop e =
     line_fits found block kind w v fit place is (elim stop [ inl a ↦ block_element kind a | inr b ↦ absurd (cc) ]) e
 
-stop_kind : (f : Forest) (frame : Option ℕ) (k : ℕ) → is_stop f frame k ≡ true → (passes is_text_block (kind_of f k) ≡ true) ⊎ (passes is_rule_or_table (kind_of f k) ≡ true)
+stop_kind : (f : Forest) (frame : Option ℕ) (k : ℕ) → is_stop f frame k ≡ true
+    → (passes is_text_block (kind_of f k) ≡ true) ⊎ (passes is_rule_or_table (kind_of f k) ≡ true)
 stop_kind f frame k e =
     elim (either (is_line f k) (is_at is_rule_or_table f k) (both (is_line f k || is_at is_rule_or_table f k) (same_node (frame_of f k) frame) e).0) [
       | inl line ↦ inl (both (is_at is_text_block f k) _ line).0
@@ -163,8 +173,11 @@ back_fits (Some k) block w v is fit e =
     let f : Forest = w.forest in
     let stops : List ℕ = filter (is_stop f (frame_of f block)) (until (Some block) (preorder f)) in
     let among : is_among k stops ≡ true = last_among stops k is in
-    let place : is_attached f k ≡ true = sym (is_among-preorder_of f k) ∙ among_until (Some block) (preorder f) k (among_filter (is_stop f (frame_of f block)) (until (Some block) (preorder f)) k among) in
-    joined_fits (kind_of f k) k block w v refl fit place (stop_kind f (frame_of f block) k (filter_passes (is_stop f (frame_of f block)) (until (Some block) (preorder f)) k among)) e
+    let place : is_attached f k ≡ true =
+    sym (is_among-preorder_of f k)
+    ∙ among_until (Some block) (preorder f) k (among_filter (is_stop f (frame_of f block)) (until (Some block) (preorder f)) k among) in
+    joined_fits (kind_of f k) k block w v refl fit place
+    (stop_kind f (frame_of f block) k (filter_passes (is_stop f (frame_of f block)) (until (Some block) (preorder f)) k among)) e
 
 join_back_fits : (block : ℕ) (w v : Working) → Fit w → join_back_step block w ≡ Ok v → Fit v
 unfolding join_back_step
@@ -187,30 +200,37 @@ join_fits false block w v fit e = on_fits (stop_behind w.forest block) w v fit e
 
 -- ---- the commands
 
-leaf_or_line_fits : (back : Bool) (reach : Reach) (block : ℕ) (p : Point) (leaf : Option ℕ) (w v : Working) → Fit w → leaf_beside back w.forest block p ≡ leaf → leaf_or_line back reach block leaf w ≡ Ok v → Fit v
+leaf_or_line_fits : (back : Bool) (reach : Reach) (block : ℕ) (p : Point) (leaf : Option ℕ) (w v : Working) → Fit w → leaf_beside back w.forest block p ≡ leaf
+    → leaf_or_line back reach block leaf w ≡ Ok v → Fit v
 leaf_or_line_fits back reach block p None w v fit is e = join_fits back block w v fit e
-leaf_or_line_fits back reach block p (Some leaf) w v fit is e = leaf_fits back reach leaf w v fit (beside_leaf back w.forest block p leaf fit.ready.in_order fit.held is) e
+leaf_or_line_fits back reach block p (Some leaf) w v fit is e =
+    leaf_fits back reach leaf w v fit (beside_leaf back w.forest block p leaf fit.ready.in_order fit.held is) e
 
 more_text : (back : Bool) (f : Forest) (p : Point) (kind : PointKind) → has_more back f p kind ≡ true → kind ≡ point.Text
 more_text back f p point.Text e = refl
 more_text true f p point.Element e = absurd (cc)
 more_text false f p point.Element e = absurd (cc)
 
-deleted_fits : (back : Bool) (reach : Reach) (p : Point) (block : Option ℕ) (w v : Working) → Fit w → lies w.forest p ≡ true → deleted_in back reach p block w ≡ Ok v → Fit v
+deleted_fits : (back : Bool) (reach : Reach) (p : Point) (block : Option ℕ) (w v : Working) → Fit w → lies w.forest p ≡ true
+    → deleted_in back reach p block w ≡ Ok v → Fit v
 deleted_fits back reach p None w v fit so e = let same : w ≡ v = cc in subst Fit same fit
 deleted_fits back reach p (Some block) w v fit so e = by_test (has_more back w.forest p p.kind) refl e where
-  by_test : (b : Bool) → has_more back w.forest p p.kind ≡ b → cond b (erase_step back reach p.key p.offset w) (leaf_or_line back reach block (leaf_beside back w.forest block p) w) ≡ Ok v → Fit v
-  by_test true more e = erase_fits back reach p.key p.offset w v fit (point_leaf w.forest p fit.ready.in_order fit.held (more_text back w.forest p p.kind more) so) e
+  by_test : (b : Bool) → has_more back w.forest p p.kind ≡ b
+      → cond b (erase_step back reach p.key p.offset w) (leaf_or_line back reach block (leaf_beside back w.forest block p) w) ≡ Ok v → Fit v
+  by_test true more e =
+      erase_fits back reach p.key p.offset w v fit (point_leaf w.forest p fit.ready.in_order fit.held (more_text back w.forest p p.kind more) so) e
   by_test false more e = leaf_or_line_fits back reach block p (leaf_beside back w.forest block p) w v fit refl e
 
 lies-delete : (back : Bool) (reach : Reach) → LeavesLying (delete_step back reach)
 unfolding delete_step
 lies-delete back reach w v ready held short e =
-    let first = after_tells (range_of w) (λ r. cond (is_collapsed r) (deleted_in back reach r.anchor (block_of w.forest r.anchor.key) w) (removed_in r w)) v e in
+    let first =
+    after_tells (range_of w) (λ r. cond (is_collapsed r) (deleted_in back reach r.anchor (block_of w.forest r.anchor.key) w) (removed_in r w)) v e in
     let is = range_lies w first.0 first.1.0 in
     let fit = fit_of w first.0 ready held short is in
     (by_test first.0 (is_collapsed first.0) fit is first.1.1).lying where
-      by_test : (r : Ranged) (b : Bool) → Fit w → IsRange w r → cond b (deleted_in back reach r.anchor (block_of w.forest r.anchor.key) w) (removed_in r w) ≡ Ok v → Fit v
+      by_test : (r : Ranged) (b : Bool) → Fit w → IsRange w r
+          → cond b (deleted_in back reach r.anchor (block_of w.forest r.anchor.key) w) (removed_in r w) ≡ Ok v → Fit v
       by_test r true fit is e = deleted_fits back reach r.anchor (block_of w.forest r.anchor.key) w v fit is.anchor e
       by_test r false fit is e = removed_in_fits r w v fit is e
 

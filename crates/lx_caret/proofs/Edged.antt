@@ -71,14 +71,16 @@ at_start_get (x ∷ xs) (suc i) p a e = at_start_get xs i p a.1 e
 
 -- ---- the first piece
 
-begins : (f : Forest) (s e : Point) (kind : PointKind) (rest : List Piece) → AtStart rest → (kind ≡ point.Text → s.offset < start_part f s e → s.offset < characters_at f s.key)
+begins : (f : Forest) (s e : Point) (kind : PointKind) (rest : List Piece) → AtStart rest
+    → (kind ≡ point.Text → s.offset < start_part f s e → s.offset < characters_at f s.key)
     → (i : ℕ) (p : Piece) → slice_get (kept (start_piece f s e kind ++ rest)) i ≡ Some p → 0 < p.from → (i ≡ 0) × (p.from < characters_at f p.key)
 begins f s e point.Element rest at inside i p here behind = absurd (omega (arith, behind, at_start_get (kept rest) i p (at_start_kept rest at) here))
 begins f s e point.Text rest at inside i p here behind = by_test (ltb_tells s.offset (start_part f s e)) i here where
   ltb_tells : (a b : ℕ) → ((nat_lt a b ≡ true) × (a < b)) ⊎ (nat_lt a b ≡ false)
   ltb_tells a b = elim (cases_lt a b) [ inl lt ↦ inl (grind (arith, lt, nat_tests), lt) | inr ge ↦ inr (grind (arith, ge, nat_tests)) ]
 
-  at_first : (i : ℕ) → s.offset < start_part f s e → slice_get (piece s.key s.offset (start_part f s e) ∷ kept rest) i ≡ Some p → (i ≡ 0) × (p.from < characters_at f p.key)
+  at_first : (i : ℕ) → s.offset < start_part f s e → slice_get (piece s.key s.offset (start_part f s e) ∷ kept rest) i ≡ Some p
+      → (i ≡ 0) × (p.from < characters_at f p.key)
   at_first zero lt is =
       let same : piece s.key s.offset (start_part f s e) ≡ p = cc in
       let P : Piece → Type 0 = λ x. x.from < characters_at f x.key in
@@ -86,7 +88,8 @@ begins f s e point.Text rest at inside i p here behind = by_test (ltb_tells s.of
   at_first (suc i) lt is = absurd (omega (arith, behind, at_start_get (kept rest) i p (at_start_kept rest at) is))
 
   by_test : ((nat_lt s.offset (start_part f s e) ≡ true) × (s.offset < start_part f s e)) ⊎ (nat_lt s.offset (start_part f s e) ≡ false) → (i : ℕ)
-      → slice_get (cond (nat_lt s.offset (start_part f s e)) (piece s.key s.offset (start_part f s e) ∷ kept rest) (kept rest)) i ≡ Some p → (i ≡ 0) × (p.from < characters_at f p.key)
+      → slice_get (cond (nat_lt s.offset (start_part f s e)) (piece s.key s.offset (start_part f s e) ∷ kept rest) (kept rest)) i ≡ Some p
+      → (i ≡ 0) × (p.from < characters_at f p.key)
   by_test (inl lt) i is = at_first i lt.1 (rw lt.0 at is)
   by_test (inr away) i is = absurd (omega (arith, behind, at_start_get (kept rest) i p (at_start_kept rest at) (rw away at is)))
 
@@ -118,9 +121,11 @@ end_within f s e text in_s in_e same = by_kind e.kind in_e where
       let le : e.offset ≤ characters_at f e.key = grind (arith, nat_tests, within.0) in
       omega (arith, le, ap (characters_at f) same)
   by_kind point.Element h =
-      absurd (no_element (kind_of f e.key) (ap (λ k. is_counted_in point.Text (kind_of f k)) (sym same) ∙ counted) (both (is_counted_in point.Element (kind_of f e.key)) (is_place f e point.Element) h).0)
+      absurd (no_element (kind_of f e.key) (ap (λ k. is_counted_in point.Text (kind_of f k)) (sym same) ∙ counted)
+      (both (is_counted_in point.Element (kind_of f e.key)) (is_place f e point.Element) h).0)
 
-start_inside : (f : Forest) (s e : Point) → lies_in f s ≡ true → lies_in f e ≡ true → s.kind ≡ point.Text → s.offset < start_part f s e → s.offset < characters_at f s.key
+start_inside : (f : Forest) (s e : Point) → lies_in f s ≡ true → lies_in f e ≡ true → s.kind ≡ point.Text → s.offset < start_part f s e
+    → s.offset < characters_at f s.key
 start_inside f s e in_s in_e text lt = elim (eqb_tells s.key e.key) [
   | inl same ↦ let part : start_part f s e ≡ e.offset = rw same.0 in omega (arith, lt, part, end_within f s e text in_s in_e same.1)
   | inr other ↦ let part : start_part f s e ≡ characters_at f s.key = rw other.0 in omega (arith, lt, part)
@@ -133,7 +138,9 @@ fit f Nothing r e = cc
 fit f (Nodes keys) r e = cc
 fit f (Cells table a b) r e = cc
 fit f (Range a b format) r e = by_fit (is_fit f a b) refl e where
-  by_fit : (t : Bool) → is_fit f a b ≡ t → ◌≡◌ {A = Result Ranged Cause} (cond t (Ok (record { anchor = a; focus = b; format = format })) (Err (NoSelection kinds.Range))) (Ok r) → is_fit f r.anchor r.focus ≡ true
+  by_fit : (t : Bool) → is_fit f a b ≡ t
+      → ◌≡◌ {A = Result Ranged Cause} (cond t (Ok (record { anchor = a; focus = b; format = format })) (Err (NoSelection kinds.Range))) (Ok r)
+      → is_fit f r.anchor r.focus ≡ true
   by_fit true is h =
       let m : Ranged = record { anchor = a; focus = b; format = format } in
       let same : m ≡ r = cc in
@@ -151,18 +158,22 @@ lies_both f r e =
     ((both (is_attached f r.anchor.key) (lies_in f r.anchor) pair.0).1, (both (is_attached f r.focus.key) (lies_in f r.focus) pair.1).1)
 
 -- only the first piece may begin after the start of its text, and that inside it
-pub edged : (w : Working) (r : Ranged) → range_of w ≡ Ok r → (i : ℕ) (p : Piece) → slice_get (pieces w.forest (start_of w.forest r) (end_of w.forest r)) i ≡ Some p → 0 < p.from
+pub edged : (w : Working) (r : Ranged) → range_of w ≡ Ok r → (i : ℕ) (p : Piece)
+    → slice_get (pieces w.forest (start_of w.forest r) (end_of w.forest r)) i ≡ Some p → 0 < p.from
     → (i ≡ 0) × (p.from < characters_at w.forest p.key)
 edged w r e i p here behind = by_order (comes_first w.forest r.anchor r.focus) here where
   there : (lies_in w.forest r.anchor ≡ true) × (lies_in w.forest r.focus ≡ true)
   there = lies_both w.forest r (range_fit w r e)
 
-  between : (s t : Point) → lies_in w.forest s ≡ true → lies_in w.forest t ≡ true → slice_get (pieces w.forest s t) i ≡ Some p → (i ≡ 0) × (p.from < characters_at w.forest p.key)
+  between : (s t : Point) → lies_in w.forest s ≡ true → lies_in w.forest t ≡ true → slice_get (pieces w.forest s t) i ≡ Some p
+      → (i ≡ 0) × (p.from < characters_at w.forest p.key)
   between s t in_s in_t is =
       begins w.forest s t s.kind (map (whole w.forest) (filter (is_at has_characters w.forest) (covered w.forest s t)) ++ end_piece s t t.kind)
-      (at_start_append (map (whole w.forest) (filter (is_at has_characters w.forest) (covered w.forest s t))) (end_piece s t t.kind) (at_start_wholes w.forest (filter (is_at has_characters w.forest) (covered w.forest s t))) (at_start_end s t t.kind))
+      (at_start_append (map (whole w.forest) (filter (is_at has_characters w.forest) (covered w.forest s t))) (end_piece s t t.kind)
+      (at_start_wholes w.forest (filter (is_at has_characters w.forest) (covered w.forest s t))) (at_start_end s t t.kind))
       (start_inside w.forest s t in_s in_t) i p is behind
 
-  by_order : (b : Bool) → slice_get (pieces w.forest (cond b r.anchor r.focus) (cond b r.focus r.anchor)) i ≡ Some p → (i ≡ 0) × (p.from < characters_at w.forest p.key)
+  by_order : (b : Bool) → slice_get (pieces w.forest (cond b r.anchor r.focus) (cond b r.focus r.anchor)) i ≡ Some p
+      → (i ≡ 0) × (p.from < characters_at w.forest p.key)
   by_order true is = between r.anchor r.focus there.0 there.1 is
   by_order false is = between r.focus r.anchor there.1 there.0 is

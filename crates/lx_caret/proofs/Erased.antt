@@ -63,7 +63,8 @@ more_in back f p point.Text place more = (and_parts (nat_le p.offset (characters
 pub more_place : (back : Bool) (f : Forest) (p : Point) → lies f p ≡ true → has_more back f p p.kind ≡ true
     → is_offset p.offset (text_of (fields_of f p.key)) ≡ true
 more_place back f p e more =
-    more_in back f p p.kind (and_parts (is_counted_in p.kind (kind_of f p.key)) (is_place f p p.kind) (and_parts (is_attached f p.key) (lies_in f p) e).1).1 more
+    more_in back f p p.kind (and_parts (is_counted_in p.kind (kind_of f p.key)) (is_place f p p.kind) (and_parts (is_attached f p.key) (lies_in f p) e).1).1
+    more
 
 -- and so is an edge
 pub edge_place : (back : Bool) (x : Option Fields) → is_offset (edge back (length_of x)) (text_of x) ≡ true
@@ -94,12 +95,14 @@ offset_of f k at text normal e =
 
 -- ---- up to the end of a stretch
 
-erased_is : (back : Bool) (reach : Reach) (k at : ℕ) (o : Option TextFields) (w : Working) → erased_to back k at (option_map (λ (t : TextFields). reach t.text at) o) w ≡ erased back reach k at o w
+erased_is : (back : Bool) (reach : Reach) (k at : ℕ) (o : Option TextFields) (w : Working)
+    → erased_to back k at (option_map (λ (t : TextFields). reach t.text at) o) w ≡ erased back reach k at o w
 erased_is back reach k at None w = refl
 erased_is true reach k at (Some text) w = refl
 erased_is false reach k at (Some text) w = refl
 
-pub erased_by : (back : Bool) (reach : Reach) (k at : ℕ) (end : Option ℕ) (w : Working) → end ≡ option_map (λ (t : TextFields). reach t.text at) (normal_at w.forest k)
+pub erased_by : (back : Bool) (reach : Reach) (k at : ℕ) (end : Option ℕ) (w : Working)
+    → end ≡ option_map (λ (t : TextFields). reach t.text at) (normal_at w.forest k)
     → erased_to back k at end w ≡ erase_step back reach k at w
 unfolding erase_step
 erased_by back reach k at end w e = ap (λ o. erased_to back k at o w) e ∙ erased_is back reach k at (normal_at w.forest k) w

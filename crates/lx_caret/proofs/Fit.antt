@@ -45,7 +45,8 @@ use Rattle.lx_caret.proofs.Short.{u32-tells, written-allowed, fields-short, spli
 -- ---- points one by one
 
 -- a rule takes points where P holds to points where Q does
-pub each_moved : (P Q : Point → Type 0) (moved : Point → Point) (s : Selection) → ((x : Point) → P x → Q (moved x)) → EachPoint P s → EachPoint Q (each_point moved s)
+pub each_moved : (P Q : Point → Type 0) (moved : Point → Point) (s : Selection) → ((x : Point) → P x → Q (moved x)) → EachPoint P s
+    → EachPoint Q (each_point moved s)
 each_moved P Q moved (Range a b format) step e = (step a e.0, step b e.1)
 each_moved P Q moved Nothing step e = tt
 each_moved P Q moved (Nodes keys) step e = tt
@@ -116,13 +117,15 @@ pub stays_if : (taken : Bool) (step : Working → Result Working Cause) (w v : W
 stays_if true step w v fit each e = each w v fit e
 stays_if false step w v fit each e = stays_ok w w v (stays_self w fit) e
 
-pub stays_allowed : (w v : Working) (o : Option Cause) (next : Working → Result Working Cause) → (next w ≡ Ok v → Stays w v) → after (answer o w) next ≡ Ok v → Stays w v
+pub stays_allowed : (w v : Working) (o : Option Cause) (next : Working → Result Working Cause) → (next w ≡ Ok v → Stays w v) → after (answer o w) next ≡ Ok v
+    → Stays w v
 stays_allowed w v None next each e = each e
 stays_allowed w v (Some cause) next each e = absurd (cc)
 
 -- ---- points alone
 
-pub stays_pointed : (moved : Point → Point) (w : Working) → Fit w → ((x : Point) → lies w.forest x ≡ true → lies w.forest (moved x) ≡ true) → Stays w (pointed moved w)
+pub stays_pointed : (moved : Point → Point) (w : Working) → Fit w → ((x : Point) → lies w.forest x ≡ true → lies w.forest (moved x) ≡ true)
+    → Stays w (pointed moved w)
 stays_pointed moved w fit each = record {
   fit = record {
     ready = record { in_order = fit.ready.in_order; free = fit.ready.free };
@@ -138,7 +141,8 @@ pub stays_caret : (there : Point) (w : Working) → Fit w → lies w.forest ther
 stays_caret there w fit e = stays_pointed (λ p. there) w fit (λ x so. e)
 
 -- what a command leaves that sets the caret last
-pub caret_fits : (u v : Working) (there : Point) → Fit u → lies u.forest there ≡ true → ◌≡◌ {A = Result Working Cause} (Ok (pointed (λ p. there) u)) (Ok v) → Fit v
+pub caret_fits : (u v : Working) (there : Point) → Fit u → lies u.forest there ≡ true → ◌≡◌ {A = Result Working Cause} (Ok (pointed (λ p. there) u)) (Ok v)
+    → Fit v
 caret_fits u v there fit so e = let is : pointed (λ p. there) u ≡ v = cc in subst Fit is (stays_caret there u fit so).fit
 
 -- ---- new
@@ -157,7 +161,8 @@ stays_new kind fields w v fit e =
         short = made-short kind fields w fit.ready fit.short;
         lying = each_still (λ x. lies w.forest x ≡ true) (λ x. lies (with_new l w.forest) x ≡ true) w.selection (λ x so.
             let parts = both (is_attached w.forest x.key) (lies_in w.forest x) so in
-            ap₂ ◌&&◌ (is_attached-with_new l w.forest x.key fit.ready.in_order free ∙ parts.0) (lies_new l w.forest x.key x.offset x.kind fit.ready.in_order free parts.1)) fit.lying;
+            ap₂ ◌&&◌ (is_attached-with_new l w.forest x.key fit.ready.in_order free ∙ parts.0)
+            (lies_new l w.forest x.key x.offset x.kind fit.ready.in_order free parts.1)) fit.lying;
       };
       attached = λ q so. is_attached-with_new l w.forest q fit.ready.in_order free ∙ so;
       kept = all.kinds;
@@ -232,11 +237,15 @@ stays_splice k from to new w v fit e =
         ready = all.ready;
         held = IsHeld-with_fields may_hold w.forest fit.ready.in_order fit.held k x;
         short = splice_written k from to new w s x same fit.short;
-        lying = each_moved (λ p. lies w.forest p ≡ true) (λ p. lies (with_fields k x w.forest) p ≡ true) (splice_moves k from to (length_told new)) w.selection (λ p so.
+        lying = each_moved (λ p. lies w.forest p ≡ true) (λ p. lies (with_fields k x w.forest) p ≡ true) (splice_moves k from to (length_told new)) w.selection
+            (λ p so.
             let parts = both (is_attached w.forest p.key) (lies_in w.forest p) so in
-            ap₂ ◌&&◌ (ap (is_attached (with_fields k x w.forest)) (key_of_splice k from to (length_told new) p) ∙ is_within-with_fields k x w.forest 0 p.key ∙ parts.0)
+            ap₂ ◌&&◌
+            (ap (is_attached (with_fields k x w.forest)) (key_of_splice k from to (length_told new) p) ∙ is_within-with_fields k x w.forest 0 p.key
+            ∙ parts.0)
             (ap (λ y. lies_in (with_fields k y w.forest) (splice_moves k from to (length_told new) p)) same
-            ∙ lies_spliced w.forest k from to new s.text p.key p.offset p.kind (text_at w.forest k s.text s.text_is) s.piece (spliced_few k from to new w s fit.short none.1) parts.1)) fit.lying;
+            ∙ lies_spliced w.forest k from to new s.text p.key p.offset p.kind (text_at w.forest k s.text s.text_is) s.piece
+            (spliced_few k from to new w s fit.short none.1) parts.1)) fit.lying;
       };
       attached = λ q so. is_within-with_fields k x w.forest 0 q ∙ so;
       kept = all.kinds;
@@ -271,7 +280,8 @@ stays_set k u w v fit e =
     let after_it : Working = fields_written k x (characters_of x) (set_points k x) w in
     let told = answered (option_or (set_fault k x w.forest) (over_limits (characters_of x) w)) after_it v e in
     let all = covered-set k x w after_it fit.ready (ap (λ o. answer o after_it) told.0) in
-    let first = both_none (unknown w.forest k) (wrong_fields (kind_of w.forest k) x) (both_none (set_fault k x w.forest) (over_limits (characters_of x) w) told.0).0 in
+    let first =
+    both_none (unknown w.forest k) (wrong_fields (kind_of w.forest k) x) (both_none (set_fault k x w.forest) (over_limits (characters_of x) w) told.0).0 in
     let there = kind_there w.forest k first.0 in
     let kind_is : kind_of w.forest k ≡ Some there.0.kind = ap (option_map (λ l. l.kind)) there.1 in
     let fields_is : fields_of w.forest k ≡ Some there.0.fields = ap (option_map (λ l. l.fields)) there.1 in
@@ -311,7 +321,8 @@ not_beyond f p index e = grind (arith, nat_tests, e)
 
 pub puts : (f : Forest) (k p index : ℕ) → put_fault k p index f ≡ None → IsPut f k p index
 puts f k p index e =
-    let a = both_none (unknown f k) (option_or (unknown f p) (option_or (bound_to f p k) (option_or (misfit (kind_of f p) (kind_of f k)) (beyond f p index)))) e in
+    let a = both_none (unknown f k) (option_or (unknown f p) (option_or (bound_to f p k) (option_or (misfit (kind_of f p) (kind_of f k)) (beyond f p index))))
+    e in
     let b = both_none (unknown f p) (option_or (bound_to f p k) (option_or (misfit (kind_of f p) (kind_of f k)) (beyond f p index))) a.1 in
     let c = both_none (bound_to f p k) (option_or (misfit (kind_of f p) (kind_of f k)) (beyond f p index)) b.1 in
     let d = both_none (misfit (kind_of f p) (kind_of f k)) (beyond f p index) c.1 in
@@ -328,7 +339,8 @@ key_of_put p i x = by_test (is_behind p i x) where
   by_test true = refl
   by_test false = refl
 
-pub attached_put : (f : Forest) (k p : ℕ) (before : Option ℕ) (q : ℕ) → IsForest f → CanPut p k f → is_attached f q ≡ true → is_attached (put_in p before k f) q ≡ true
+pub attached_put : (f : Forest) (k p : ℕ) (before : Option ℕ) (q : ℕ) → IsForest f → CanPut p k f → is_attached f q ≡ true
+    → is_attached (put_in p before k f) q ≡ true
 attached_put f k p before q h can e = is_attached-put_in p before k f q h can ∙ ap (λ b. b || (is_within f k q && is_attached f p)) e
 
 pub stays_put : (k p index : ℕ) → Staying (put_step k p index)

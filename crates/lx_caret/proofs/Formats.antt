@@ -51,7 +51,8 @@ format_fits format w v fit e =
 
 stays_isolate : (p : Piece) → Staying (isolate_step p)
 unfolding isolate_step
-stays_isolate p w v fit e = stays_if (is_some (normal_at w.forest p.key)) (split_step p.key (edges w.forest p)) w v fit (λ a b f g. stays_split p.key (edges w.forest p) a b f g) e
+stays_isolate p w v fit e =
+    stays_if (is_some (normal_at w.forest p.key)) (split_step p.key (edges w.forest p)) w v fit (λ a b f g. stays_split p.key (edges w.forest p) a b f g) e
 
 isolated_fits : (ps : List Piece) (w : Working) (made : Isolated) → Fit w → isolated ps w ≡ Ok made → Fit made.draft
 unfolding isolated
@@ -91,4 +92,5 @@ unfolding format_text_step
 lies-format_text bit w v ready held short e =
     let first = after_tells (range_of w) (λ r. formatted bit (pieces w.forest (start_of w.forest r) (end_of w.forest r)) r.format w) v e in
     let is = range_lies w first.0 first.1.0 in
-    (formatted_fits bit (pieces w.forest (start_of w.forest first.0) (end_of w.forest first.0)) first.0.format w v (fit_of w first.0 ready held short is) first.1.1).lying
+    (formatted_fits bit (pieces w.forest (start_of w.forest first.0) (end_of w.forest first.0)) first.0.format w v (fit_of w first.0 ready held short is)
+    first.1.1).lying

@@ -16,7 +16,8 @@ use Rattle.std.proofs.lemmas.Bool.Decides.{eqb_tells}
 abbrev pub IsForth : (test : ℕ → Bool) (f : Forest) (at : Option (ℕ × ℕ)) (whole : Option ℕ) → Type 0
 IsForth test f at whole = IsAt f at × (find test (left_from f at) ≡ whole)
 
-next_left : (o : Option (ℕ × ℕ)) (f : Forest) (q : ℕ) → IfSome o (λ next. from f q ≡ q ∷ from f next.0) → IfNone o (from f q ≡ q ∷ []) → from f q ≡ q ∷ left_from f o
+next_left : (o : Option (ℕ × ℕ)) (f : Forest) (q : ℕ) → IfSome o (λ next. from f q ≡ q ∷ from f next.0) → IfNone o (from f q ≡ q ∷ [])
+    → from f q ≡ q ∷ left_from f o
 next_left None f q next last = last
 next_left (Some at) f q next last = next
 
@@ -30,13 +31,15 @@ find_on test q rest so = rw so refl
 find_here : (test : ℕ → Bool) (q : ℕ) (rest : List ℕ) → test q ≡ true → find test (q ∷ rest) ≡ Some q
 find_here test q rest so = rw so refl
 
-pub forth_on : (test : ℕ → Bool) (at o : Option (ℕ × ℕ)) (f : Forest) (q d : ℕ) (whole : Option ℕ) → IsForth test f at whole → IfSome o (λ next. from f q ≡ q ∷ from f next.0)
+pub forth_on : (test : ℕ → Bool) (at o : Option (ℕ × ℕ)) (f : Forest) (q d : ℕ) (whole : Option ℕ) → IsForth test f at whole
+    → IfSome o (λ next. from f q ≡ q ∷ from f next.0)
     → IfNone o (from f q ≡ q ∷ []) → IfSome o (λ next. depth f next.0 ≡ Some next.1) → test q ≡ false → at ≡ Some (q, d) → IsForth test f o whole
 forth_on test at o f q d whole way next last deep so is =
     let way_at : IsForth test f (Some (q, d)) whole = subst (λ x. IsForth test f x whole) is way in
     (next_at o f deep, sym (find_on test q (left_from f o) so) ∙ sym (ap (find test) (next_left o f q next last)) ∙ way_at.1)
 
-pub forth_found : (test : ℕ → Bool) (at o : Option (ℕ × ℕ)) (f : Forest) (q d : ℕ) (whole : Option ℕ) → IsForth test f at whole → IfSome o (λ next. from f q ≡ q ∷ from f next.0)
+pub forth_found : (test : ℕ → Bool) (at o : Option (ℕ × ℕ)) (f : Forest) (q d : ℕ) (whole : Option ℕ) → IsForth test f at whole
+    → IfSome o (λ next. from f q ≡ q ∷ from f next.0)
     → IfNone o (from f q ≡ q ∷ []) → test q ≡ true → at ≡ Some (q, d) → Some q ≡ whole
 forth_found test at o f q d whole way next last so is =
     let way_at : IsForth test f (Some (q, d)) whole = subst (λ x. IsForth test f x whole) is way in
@@ -52,7 +55,8 @@ forth_shorter at o f q d next last is =
     omega (arith, now, ap length (next_left o f q next last))
 
 -- what a walk comes to is attached
-pub forth_attached : (test : ℕ → Bool) (at : Option (ℕ × ℕ)) (f : Forest) (q d : ℕ) (whole : Option ℕ) → IsForth test f at whole → at ≡ Some (q, d) → is_attached f q ≡ true
+pub forth_attached : (test : ℕ → Bool) (at : Option (ℕ × ℕ)) (f : Forest) (q d : ℕ) (whole : Option ℕ) → IsForth test f at whole → at ≡ Some (q, d)
+    → is_attached f q ≡ true
 forth_attached test at f q d whole way is = attached_at f q d (subst (λ x. IsForth test f x whole) is way).0
 
 -- ---- without the node that it starts from
@@ -65,7 +69,8 @@ find_without test b [] = refl
 find_without test b (x ∷ xs) = grind (arith, find_without test b xs)
 
 -- what the test of a walk for a stop shows
-pub stop_told : (f : Forest) (block q : ℕ) (within : Option ℕ) (result told : Bool) → within ≡ frame_of f block → result ≡ (not (eqb q block) && is_stop f within q) → result ≡ told
+pub stop_told : (f : Forest) (block q : ℕ) (within : Option ℕ) (result told : Bool) → within ≡ frame_of f block
+    → result ≡ (not (eqb q block) && is_stop f within q) → result ≡ told
     → is_other (is_stop f (frame_of f block)) block q ≡ told
 stop_told f block q within result told frame tests tells = ap (λ o. not (eqb q block) && is_stop f o q) (sym frame) ∙ sym tests ∙ tells
 
@@ -75,12 +80,14 @@ named_is : (end : Option (ℕ × ℕ)) (q : ℕ) → is_named (key_of_step end) 
 named_is None q e = absurd (cc)
 named_is (Some step) q e = (step, refl, grind (arith, e, eqb_tells q step.0))
 
-ends_at : (end : Option (ℕ × ℕ)) (f : Forest) (b : ℕ) (step : ℕ × ℕ) → IfSome end (λ next. behind f b ≡ from f next.0) → end ≡ Some step → behind f b ≡ from f step.0
+ends_at : (end : Option (ℕ × ℕ)) (f : Forest) (b : ℕ) (step : ℕ × ℕ) → IfSome end (λ next. behind f b ≡ from f next.0) → end ≡ Some step
+    → behind f b ≡ from f step.0
 ends_at None f b step e is = absurd (cc)
 ends_at (Some at) f b step e is = let same : at ≡ step = cc in e ∙ ap (λ (x : ℕ × ℕ). from f x.0) same
 
 -- after the block's tree none is left
-pub leaf_passed : (end at : Option (ℕ × ℕ)) (f : Forest) (block q d : ℕ) (whole : Option ℕ) → Sound f → is_attached f block ≡ true → IfSome end (λ next. behind f block ≡ from f next.0)
+pub leaf_passed : (end at : Option (ℕ × ℕ)) (f : Forest) (block q d : ℕ) (whole : Option ℕ) → Sound f → is_attached f block ≡ true
+    → IfSome end (λ next. behind f block ≡ from f next.0)
     → IsForth (is_leaf_in f block) f at whole → is_named (key_of_step end) q ≡ true → at ≡ Some (q, d) → None ≡ whole
 leaf_passed end at f block q d whole s attached ends way here is =
     let way_at : IsForth (is_leaf_in f block) f (Some (q, d)) whole = subst (λ x. IsForth (is_leaf_in f block) f x whole) is way in

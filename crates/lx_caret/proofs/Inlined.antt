@@ -23,7 +23,8 @@ behind_next : (b : Bool) (so_far here next_far next : ℕ) → so_far ≤ here �
 behind_next true so_far here next_far next was more far = omega (arith, far)
 behind_next false so_far here next_far next was more far = omega (arith, was, more, far)
 
-pub passed_on : (f : Forest) (block : ℕ) (all left rest : List ℕ) (k so_far here next_far next : ℕ) → IsPassed f block all left so_far here → left ≡ k ∷ rest → is_within f k block ≡ false
+pub passed_on : (f : Forest) (block : ℕ) (all left rest : List ℕ) (k so_far here next_far next : ℕ) → IsPassed f block all left so_far here → left ≡ k ∷ rest
+    → is_within f k block ≡ false
     → next ≡ here + 1 → next_far ≡ cond (is_at is_inline f k) next so_far → IsPassed f block all rest next_far next
 passed_on f block all left rest k so_far here next_far next was is outside more far =
     record {
@@ -36,11 +37,13 @@ passed_on f block all left rest k so_far here next_far next was is outside more 
     }
 
 -- a parent has fewer children than offsets
-pub few_passed : (f : Forest) (line block : ℕ) (all left rest : List ℕ) (k so_far here : ℕ) → Sound f → all ≡ children_of f line → IsPassed f block all left so_far here → left ≡ k ∷ rest
+pub few_passed : (f : Forest) (line block : ℕ) (all left rest : List ℕ) (k so_far here : ℕ) → Sound f → all ≡ children_of f line
+    → IsPassed f block all left so_far here → left ≡ k ∷ rest
     → here + 1 < 2 ^ 32
 few_passed f line block all left rest k so_far here s children was is =
     omega (arith, was.counted, ap length is, ap length children, size_of-le f line, s.small)
 
 -- the place is one among the children
-pub place_within : (f : Forest) (line block : ℕ) (all left : List ℕ) (so_far here : ℕ) → all ≡ children_of f line → IsPassed f block all left so_far here → so_far ≤ length (children_of f line)
+pub place_within : (f : Forest) (line block : ℕ) (all left : List ℕ) (so_far here : ℕ) → all ≡ children_of f line → IsPassed f block all left so_far here
+    → so_far ≤ length (children_of f line)
 place_within f line block all left so_far here children was = omega (arith, was.behind, was.counted, ap length children)

@@ -22,14 +22,19 @@ none_ahead (Err cause) = refl
 
 pub one_ahead : (r : Result Isolated Cause) (k : ℕ) (keys : List ℕ) → after (after r (and_before k)) (and_ahead keys) ≡ after r (and_ahead (keys ++ k ∷ []))
 one_ahead (Ok made) k keys =
-    ap (λ (ts : List ℕ). let m : Isolated = record { draft = made.draft; texts = ts } in let r : Result Isolated Cause = Ok m in r) (sym (append_assoc keys (k ∷ []) made.texts))
+    ap (λ (ts : List ℕ). let m : Isolated = record { draft = made.draft; texts = ts } in let r : Result Isolated Cause = Ok m in r)
+    (sym (append_assoc keys (k ∷ []) made.texts))
 one_ahead (Err cause) k keys = refl
 
 -- ---- the key of a piece
 
 some_edge : (f : Forest) (p : Piece) → 0 < p.from → p.from < characters_at f p.key → (n : ℕ) × (length (edges f p) ≡ suc n)
 some_edge f p behind inside = by_first (nat_lt 0 p.from) (nat_lt p.from (characters_at f p.key)) (grind (arith, behind)) (grind (arith, inside)) where
-  by_first : (a b : Bool) → a ≡ true → b ≡ true → (n : ℕ) × (length (cond (a && b) (p.from ∷ filter (λ o. nat_lt 0 o && nat_lt o (characters_at f p.key)) (p.to ∷ [])) (filter (λ o. nat_lt 0 o && nat_lt o (characters_at f p.key)) (p.to ∷ []))) ≡ suc n)
+  by_first : (a b : Bool) → a ≡ true → b ≡ true
+      → (n : ℕ)
+      × (length
+      (cond (a && b) (p.from ∷ filter (λ o. nat_lt 0 o && nat_lt o (characters_at f p.key)) (p.to ∷ []))
+      (filter (λ o. nat_lt 0 o && nat_lt o (characters_at f p.key)) (p.to ∷ []))) ≡ suc n)
   by_first true true a b = (length (filter (λ o. nat_lt 0 o && nat_lt o (characters_at f p.key)) (p.to ∷ [])), refl)
   by_first true false a b = absurd (cc)
   by_first false b' a b = absurd (cc)
@@ -38,13 +43,15 @@ first_from : (next n m : ℕ) → m ≡ suc n → slice_get (keys_from next m) 0
 first_from next n m is = ap (λ m. slice_get (keys_from next m) 0) is
 
 -- the first new text begins where the piece does
-pub first_is_new : (f : Forest) (p : Piece) (next : ℕ) (keys : List ℕ) → keys ≡ keys_from next (length (edges f p)) → 0 < p.from → p.from < characters_at f p.key → slice_get keys 0 ≡ Some next
+pub first_is_new : (f : Forest) (p : Piece) (next : ℕ) (keys : List ℕ) → keys ≡ keys_from next (length (edges f p)) → 0 < p.from
+    → p.from < characters_at f p.key → slice_get keys 0 ≡ Some next
 first_is_new f p next keys are behind inside =
     let some = some_edge f p behind inside in
     ap (λ ks. slice_get ks 0) are ∙ first_from next some.0 (length (edges f p)) some.1
 
 -- a piece of a normal text has this key, after the text was split
-pub key_is : (w : Working) (p : Piece) (keys : List ℕ) (k : ℕ) → is_some (normal_at w.forest p.key) ≡ true → (0 < p.from → p.from < characters_at w.forest p.key)
+pub key_is : (w : Working) (p : Piece) (keys : List ℕ) (k : ℕ) → is_some (normal_at w.forest p.key) ≡ true
+    → (0 < p.from → p.from < characters_at w.forest p.key)
     → keys ≡ keys_from w.next_key (length (edges w.forest p)) → k ≡ cond (nat_lt 0 p.from) (unwrap_or (slice_get keys 0) p.key) p.key → k ≡ isolated_key p w
 key_is w p keys k normal inside are is =
     is ∙ by_start (cases_lt 0 p.from) ∙ sym (ap (λ b. cond (b && nat_lt 0 p.from) w.next_key p.key) normal) where

@@ -14,7 +14,9 @@ use Rattle.lx_blocks.specs.Blocks.{is_at, passes, block_of}
 pub link_there : (f : Forest) (k : ℕ) → is_at is_link f k ≡ true → has k f ≡ true
 link_there f k so = by_spot (spot f k) refl where
   by_spot : (s : Option (Spot Label)) → spot f k ≡ s → has k f ≡ true
-  by_spot None is = let no : false ≡ true = sym (ap (λ (x : Option (Spot Label)). passes is_link (option_map (λ (l : Label). l.kind) (option_map (λ (y : Spot Label). y.label) x))) is) ∙ so in absurd (cc)
+  by_spot None is = let no : false ≡ true =
+      sym (ap (λ (x : Option (Spot Label)). passes is_link (option_map (λ (l : Label). l.kind) (option_map (λ (y : Spot Label). y.label) x))) is) ∙ so in
+      absurd (cc)
   by_spot (Some s) is = sym (is_some-spot f k) ∙ ap is_some is
 
 pub link_below : (f : Forest) (k : ℕ) → is_at is_link f k ≡ true → kind_of f k ≢ Some Root
@@ -28,7 +30,8 @@ block_other kind so is = let P : Kind → Type 0 = λ x. is_text_block x ≡ tru
 
 -- ---- the block of a key is one
 
-found_by : (test : ℕ → Bool) (k b : ℕ) (rest : Option ℕ) (so : Bool) → test k ≡ so → (rest ≡ Some b → test b ≡ true) → cond so (Some k) rest ≡ Some b → test b ≡ true
+found_by : (test : ℕ → Bool) (k b : ℕ) (rest : Option ℕ) (so : Bool) → test k ≡ so → (rest ≡ Some b → test b ≡ true) → cond so (Some k) rest ≡ Some b
+    → test b ≡ true
 found_by test k b rest true so later found = let same : k ≡ b = cc in sym (ap test same) ∙ so
 found_by test k b rest false so later found = later found
 

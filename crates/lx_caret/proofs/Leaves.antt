@@ -58,7 +58,8 @@ pub last_fewer : (f : Forest) (q c : ℕ) → Sound f → f ≢ nil → last_chi
 last_fewer f q c s living e = total-alone-lt f c q (s.in_order living) (last_up f q c s e)
 
 -- the last below the last of these
-last_below : (f : Forest) (ks : List ℕ) (c z : ℕ) → last_of ks ≡ Some c → last_of (keys_within f c) ≡ Some z → last_of (named.preorder key_of (trees_of f ks)) ≡ Some z
+last_below : (f : Forest) (ks : List ℕ) (c z : ℕ) → last_of ks ≡ Some c → last_of (keys_within f c) ≡ Some z
+    → last_of (named.preorder key_of (trees_of f ks)) ≡ Some z
 last_below f [] c z e h = cc
 last_below f (k ∷ []) c z e h =
     let same : k ≡ c = cc in
@@ -67,7 +68,8 @@ last_below f (k ∷ j ∷ ks) c z e h =
     ap last_of (preorder-joined key_of (alone k f) (trees_of f (j ∷ ks)))
     ∙ last_behind None (keys_within f k) (named.preorder key_of (trees_of f (j ∷ ks))) z (last_below f (j ∷ ks) c z e h)
 
-last_down : (f : Forest) (q c z : ℕ) (o : Option (Spot Label)) → IsForest f → spot f q ≡ o → last_of (children_at o) ≡ Some c → last_of (keys_within f c) ≡ Some z → last_of (keys_within f q) ≡ Some z
+last_down : (f : Forest) (q c z : ℕ) (o : Option (Spot Label)) → IsForest f → spot f q ≡ o → last_of (children_at o) ≡ Some c
+    → last_of (keys_within f c) ≡ Some z → last_of (keys_within f q) ≡ Some z
 last_down f q c z None i at e h = cc
 last_down f q c z (Some s) i at e h =
     ap (λ t. last_of (named.preorder key_of t)) (alone-spot f q s i at)
@@ -86,14 +88,16 @@ attached_has f q e = elim (cases_Bool (has q f)) [
   | inr absent ↦ let no : false ≡ true = sym (not_within f 0 q absent) ∙ e in cc
 ]
 
-last_alone : (f : Forest) (q : ℕ) (o : Option (Spot Label)) → IsForest f → spot f q ≡ o → children_at o ≡ [] → is_some o ≡ true → last_of (keys_within f q) ≡ Some q
+last_alone : (f : Forest) (q : ℕ) (o : Option (Spot Label)) → IsForest f → spot f q ≡ o → children_at o ≡ [] → is_some o ≡ true
+    → last_of (keys_within f q) ≡ Some q
 last_alone f q None i at e there = cc
 last_alone f q (Some s) i at e there =
     ap (λ t. last_of (named.preorder key_of t)) (alone-spot f q s i at)
     ∙ ap (λ ks. last_of (s.label.key ∷ named.preorder key_of (trees_of f ks) ++ [])) e
     ∙ ap (λ k. Some k) (key-spot f q s at)
 
-pub last_found : (f : Forest) (q : ℕ) → Sound f → f ≢ nil → is_attached f q ≡ is_attached f 0 → last_child f q ≡ None → last_of (keys_within f q) ≡ last_of (keys_within f 0) → Some q ≡ last_of (keys_within f 0)
+pub last_found : (f : Forest) (q : ℕ) → Sound f → f ≢ nil → is_attached f q ≡ is_attached f 0 → last_child f q ≡ None
+    → last_of (keys_within f q) ≡ last_of (keys_within f 0) → Some q ≡ last_of (keys_within f 0)
 last_found f q s living same e way =
     let none : children_of f q ≡ [] = none_last (children_of f q) e in
     let there : is_some (spot f q) ≡ true = is_some-spot f q ∙ attached_has f q (attached_there f q s living same) in

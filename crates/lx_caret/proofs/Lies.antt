@@ -80,7 +80,8 @@ abbrev text_lies : ℕ → Option Label → Bool
 text_lies o l = fits_label point.Text l && is_place_in o (option_map (λ x. x.fields) l)
 
 -- a node that looks the same has the same points
-pub lies_same : (f g : Forest) (q o : ℕ) (kind : PointKind) → label_of g q ≡ label_of f q → size_of g q ≡ size_of f q → lies_in g (spot_point q o kind) ≡ lies_in f (spot_point q o kind)
+pub lies_same : (f g : Forest) (q o : ℕ) (kind : PointKind) → label_of g q ≡ label_of f q → size_of g q ≡ size_of f q
+    → lies_in g (spot_point q o kind) ≡ lies_in f (spot_point q o kind)
 lies_same f g q o point.Text label size = ap (text_lies o) label
 lies_same f g q o point.Element label size = ap₂ (λ l n. fits_label point.Element l && leb o n) label size
 
@@ -95,19 +96,24 @@ there f x e = by_spot (spot f x.key) refl where
 
 -- ---- new
 
-pub lies_new : (l : Label) (f : Forest) (q o : ℕ) (kind : PointKind) → IsForest f → has l.key f ≡ false → lies_in f (spot_point q o kind) ≡ true → lies_in (with_new l f) (spot_point q o kind) ≡ true
+pub lies_new : (l : Label) (f : Forest) (q o : ℕ) (kind : PointKind) → IsForest f → has l.key f ≡ false → lies_in f (spot_point q o kind) ≡ true
+    → lies_in (with_new l f) (spot_point q o kind) ≡ true
 lies_new l f q o kind h free e =
     let other : eqb q l.key ≡ false = grind (arith, free, there f (spot_point q o kind) e, eqb_tells q l.key) in
-    lies_same f (with_new l f) q o kind (label_of-with_new l f q h free ∙ ap (λ b. cond b (Some l) (label_of f q)) other) (ap length (children_of-with_new l f q h free)) ∙ e
+    lies_same f (with_new l f) q o kind (label_of-with_new l f q h free ∙ ap (λ b. cond b (Some l) (label_of f q)) other)
+    (ap length (children_of-with_new l f q h free)) ∙ e
 
 -- ---- fields
 
 -- a point in an element doesn't go by fields
-lies_element : (k : ℕ) (fields : Fields) (f : Forest) (q o : ℕ) → lies_in (with_fields k fields f) (spot_point q o point.Element) ≡ lies_in f (spot_point q o point.Element)
-lies_element k fields f q o = ap₂ (λ kind n. is_counted_in point.Element kind && leb o n) (kind_of-with_fields k fields f q) (ap length (children_of-with_fields k fields f q))
+lies_element : (k : ℕ) (fields : Fields) (f : Forest) (q o : ℕ)
+    → lies_in (with_fields k fields f) (spot_point q o point.Element) ≡ lies_in f (spot_point q o point.Element)
+lies_element k fields f q o =
+    ap₂ (λ kind n. is_counted_in point.Element kind && leb o n) (kind_of-with_fields k fields f q) (ap length (children_of-with_fields k fields f q))
 
 fields_still : (k : ℕ) (fields : Fields) (f : Forest) (q : ℕ) → eqb q k ≡ false → fields_of (with_fields k fields f) q ≡ fields_of f q
-fields_still k fields f q other = fields_of-with_fields k fields f q ∙ ap (λ b. option_map (λ old. cond b fields old) (fields_of f q)) other ∙ option_map_id (fields_of f q)
+fields_still k fields f q other =
+    fields_of-with_fields k fields f q ∙ ap (λ b. option_map (λ old. cond b fields old) (fields_of f q)) other ∙ option_map_id (fields_of f q)
 
 pub fields_now : (k : ℕ) (fields old : Fields) (f : Forest) → fields_of f k ≡ Some old → fields_of (with_fields k fields f) k ≡ Some fields
 fields_now k fields old f e =
@@ -115,8 +121,10 @@ fields_now k fields old f e =
     fields_of-with_fields k fields f k ∙ ap₂ (λ b o. option_map (λ x. cond b fields x) o) own e
 
 -- points elsewhere stay
-lies_elsewhere : (k : ℕ) (fields : Fields) (f : Forest) (q o : ℕ) (kind : PointKind) → eqb q k ≡ false → lies_in (with_fields k fields f) (spot_point q o kind) ≡ lies_in f (spot_point q o kind)
-lies_elsewhere k fields f q o point.Text other = ap₂ (λ kind x. is_counted_in point.Text kind && is_place_in o x) (kind_of-with_fields k fields f q) (fields_still k fields f q other)
+lies_elsewhere : (k : ℕ) (fields : Fields) (f : Forest) (q o : ℕ) (kind : PointKind) → eqb q k ≡ false
+    → lies_in (with_fields k fields f) (spot_point q o kind) ≡ lies_in f (spot_point q o kind)
+lies_elsewhere k fields f q o point.Text other =
+    ap₂ (λ kind x. is_counted_in point.Text kind && is_place_in o x) (kind_of-with_fields k fields f q) (fields_still k fields f q other)
 lies_elsewhere k fields f q o point.Element other = lies_element k fields f q o
 
 -- a text at a key
@@ -144,7 +152,8 @@ text_at f k t e = by_label (label_of f k) refl e where
       }
 
 -- no point counts children in it
-pub no_element : (f : Forest) (k : ℕ) (kind : Kind) (o : ℕ) → kind_of f k ≡ Some kind → is_element kind ≡ false → lies_in f (spot_point k o point.Element) ≡ true → ⊥
+pub no_element : (f : Forest) (k : ℕ) (kind : Kind) (o : ℕ) → kind_of f k ≡ Some kind → is_element kind ≡ false
+    → lies_in f (spot_point k o point.Element) ≡ true → ⊥
 no_element f k kind o is leaf e =
     let first : is_counted_in point.Element (kind_of f k) ≡ true = (both _ _ e).0 in
     let bad : false ≡ true = sym leaf ∙ sym (ap (is_counted_in point.Element) is) ∙ first in
@@ -191,7 +200,8 @@ lies_spliced f k from to new t q o kind is piece few e = by_key (eqb q k) refl k
       let same : q ≡ k = grind (arith, own, eqb_tells q k) in
       let at = point_in f k o (ap (λ n. lies_in f (spot_point n o point.Text)) (sym same) ∙ e) in
       let place : is_offset o t.text ≡ true = ap (λ x. is_offset o (text_of x)) (sym is.fields_are) ∙ at.place in
-      lies_now f k (record t { text = spliced_text from to new t.text }) (fields.Text t) q (spliced_offset from to (length_told new) o) same is.fields_are at.counted
+      lies_now f k (record t { text = spliced_text from to new t.text }) (fields.Text t) q (spliced_offset from to (length_told new) o) same is.fields_are
+      at.counted
       (spliced_place from to new t.text (piece_of from to t.text piece) few o place)
 
 -- ---- a text set
@@ -207,7 +217,8 @@ text_kinds kinds.Embed u e = refl
 text_kinds kind u e = let bad : false ≡ true = (both (is_possible kind) (fits_kind kind (fields.Text u)) e).1 in absurd (cc)
 
 -- a point in the forest is in it after the fields of a text were set
-pub lies_set : (f : Forest) (k : ℕ) (now : Kind) (old : Fields) (u : TextFields) (q o : ℕ) (kind : PointKind) → kind_of f k ≡ Some now → fields_of f k ≡ Some old → is_of_kind now (fields.Text u) ≡ true → lies_in f (spot_point q o kind) ≡ true
+pub lies_set : (f : Forest) (k : ℕ) (now : Kind) (old : Fields) (u : TextFields) (q o : ℕ) (kind : PointKind) → kind_of f k ≡ Some now
+    → fields_of f k ≡ Some old → is_of_kind now (fields.Text u) ≡ true → lies_in f (spot_point q o kind) ≡ true
     → lies_in (with_fields k (fields.Text u) f) (set_moves k u.text (spot_point q o kind)) ≡ true
 unfolding set_moves
 lies_set f k now old u q o kind is fields_is fit e = by_key (eqb q k) refl kind e where
@@ -231,8 +242,10 @@ fewer o i n h le = grind (arith, h, le)
 size_left : (f : Forest) (k p : ℕ) → IsForest f → parent_of f k ≡ Some p → size_of (take_out k f) p ≡ size_of f p - 1
 size_left f k p h up =
     let among : is_among k (children_of f p) ≡ true = is_among-children_of f k p h ∙ rw up (grind (arith, eqb_tells p p)) in
-    let counted : length (names_without k (children_of f p)) + cond (is_among k (children_of f p)) 1 0 ≡ size_of f p = length-names_without k (children_of f p) (NoRepeats-children_of f p h) in
-    let less : length (names_without k (children_of f p)) + 1 ≡ size_of f p = ap (λ b. length (names_without k (children_of f p)) + cond b 1 0) (sym among) ∙ counted in
+    let counted : length (names_without k (children_of f p)) + cond (is_among k (children_of f p)) 1 0 ≡ size_of f p =
+    length-names_without k (children_of f p) (NoRepeats-children_of f p h) in
+    let less : length (names_without k (children_of f p)) + 1 ≡ size_of f p =
+    ap (λ b. length (names_without k (children_of f p)) + cond b 1 0) (sym among) ∙ counted in
     ap length (children_of-take_out k f p h) ∙ omega (arith, less)
 
 size_still : (f : Forest) (k p q : ℕ) → IsForest f → parent_of f k ≡ Some p → eqb q p ≡ false → size_of (take_out k f) q ≡ size_of f q
@@ -244,30 +257,36 @@ pub index_within : (f : Forest) (k p i : ℕ) → parent_of f k ≡ Some p → i
 index_within f k p i up at = subst (λ o. i < length (children_below f o)) up (positions.index_in-lt (siblings f k) k i at)
 
 -- of the node itself
-fewer_at : (f : Forest) (k p i o : ℕ) (behind : Bool) → IsForest f → parent_of f k ≡ Some p → index_of f k ≡ Some i → ltb i o ≡ behind → lies_in f (spot_point p o point.Element) ≡ true
+fewer_at : (f : Forest) (k p i o : ℕ) (behind : Bool) → IsForest f → parent_of f k ≡ Some p → index_of f k ≡ Some i → ltb i o ≡ behind
+    → lies_in f (spot_point p o point.Element) ≡ true
     → lies_in (take_out k f) (cond behind (spot_point p (o - 1) point.Element) (spot_point p o point.Element)) ≡ true
 fewer_at f k p i o true h up at order e =
     let parts = both _ _ e in
-    let within : leb (o - 1) (size_of f p - 1) ≡ true = ap (λ b. leb (cond b (o - 1) o) (size_of f p - 1)) (sym order) ∙ fewer o i (size_of f p) (index_within f k p i up at) parts.1 in
+    let within : leb (o - 1) (size_of f p - 1) ≡ true =
+    ap (λ b. leb (cond b (o - 1) o) (size_of f p - 1)) (sym order) ∙ fewer o i (size_of f p) (index_within f k p i up at) parts.1 in
     ap₂ (λ l n. fits_label point.Element l && leb (o - 1) n) (label_of-take_out k f p h) (size_left f k p h up)
     ∙ ap₂ ◌&&◌ parts.0 within
 fewer_at f k p i o false h up at order e =
     let parts = both _ _ e in
-    let within : leb o (size_of f p - 1) ≡ true = ap (λ b. leb (cond b (o - 1) o) (size_of f p - 1)) (sym order) ∙ fewer o i (size_of f p) (index_within f k p i up at) parts.1 in
+    let within : leb o (size_of f p - 1) ≡ true =
+    ap (λ b. leb (cond b (o - 1) o) (size_of f p - 1)) (sym order) ∙ fewer o i (size_of f p) (index_within f k p i up at) parts.1 in
     ap₂ (λ l n. fits_label point.Element l && leb o n) (label_of-take_out k f p h) (size_left f k p h up)
     ∙ ap₂ ◌&&◌ parts.0 within
 
-at_element : (f : Forest) (k p i q o : ℕ) (same : Bool) → IsForest f → parent_of f k ≡ Some p → index_of f k ≡ Some i → eqb q p ≡ same → lies_in f (spot_point q o point.Element) ≡ true
+at_element : (f : Forest) (k p i q o : ℕ) (same : Bool) → IsForest f → parent_of f k ≡ Some p → index_of f k ≡ Some i → eqb q p ≡ same
+    → lies_in f (spot_point q o point.Element) ≡ true
     → lies_in (take_out k f) (cond (same && ltb i o) (spot_point q (o - 1) point.Element) (spot_point q o point.Element)) ≡ true
 at_element f k p i q o true h up at is e =
     let own : q ≡ p = grind (arith, is, eqb_tells q p) in
-    subst (λ n. lies_in f (spot_point n o point.Element) ≡ true → lies_in (take_out k f) (cond (ltb i o) (spot_point n (o - 1) point.Element) (spot_point n o point.Element)) ≡ true) (sym own)
+    subst (λ n. lies_in f (spot_point n o point.Element) ≡ true
+    → lies_in (take_out k f) (cond (ltb i o) (spot_point n (o - 1) point.Element) (spot_point n o point.Element)) ≡ true) (sym own)
     (fewer_at f k p i o (ltb i o) h up at refl) e
 at_element f k p i q o false h up at is e =
     ap₂ (λ l n. fits_label point.Element l && leb o n) (label_of-take_out k f q h) (size_still f k p q h up is) ∙ e
 
 -- a point in the forest is in it after a node was taken, as the point moves
-pub lies_taken : (f : Forest) (k p i q o : ℕ) (kind : PointKind) → IsForest f → parent_of f k ≡ Some p → index_of f k ≡ Some i → lies_in f (spot_point q o kind) ≡ true
+pub lies_taken : (f : Forest) (k p i q o : ℕ) (kind : PointKind) → IsForest f → parent_of f k ≡ Some p → index_of f k ≡ Some i
+    → lies_in f (spot_point q o kind) ≡ true
     → lies_in (take_out k f) (take_moves p i (spot_point q o kind)) ≡ true
 unfolding take_moves is_behind is_counting_children
 lies_taken f k p i q o point.Text h up at e = ap (text_lies o) (label_of-take_out k f q h) ∙ e
@@ -295,17 +314,20 @@ one_more_at : (f : Forest) (k p o : ℕ) (before : Option ℕ) (behind : Bool) �
 one_more_at f k p o before true h can e =
     let parts = both _ _ e in
     let within : leb (min (o + 1) 4294967295) (size_of f p + 1) ≡ true = grind (arith, parts.1) in
-    ap₂ (λ l n. fits_label point.Element l && leb (min (o + 1) 4294967295) n) (label_of-put_in p before k f p h can) (size_grown f k p before h can) ∙ ap₂ ◌&&◌ parts.0 within
+    ap₂ (λ l n. fits_label point.Element l && leb (min (o + 1) 4294967295) n) (label_of-put_in p before k f p h can) (size_grown f k p before h can)
+    ∙ ap₂ ◌&&◌ parts.0 within
 one_more_at f k p o before false h can e =
     let parts = both _ _ e in
     let within : leb o (size_of f p + 1) ≡ true = grind (arith, parts.1) in
     ap₂ (λ l n. fits_label point.Element l && leb o n) (label_of-put_in p before k f p h can) (size_grown f k p before h can) ∙ ap₂ ◌&&◌ parts.0 within
 
-put_element : (f : Forest) (k p i q o : ℕ) (before : Option ℕ) (same : Bool) → IsForest f → CanPut p k f → eqb q p ≡ same → lies_in f (spot_point q o point.Element) ≡ true
+put_element : (f : Forest) (k p i q o : ℕ) (before : Option ℕ) (same : Bool) → IsForest f → CanPut p k f → eqb q p ≡ same
+    → lies_in f (spot_point q o point.Element) ≡ true
     → lies_in (put_in p before k f) (cond (same && ltb i o) (spot_point q (min (o + 1) 4294967295) point.Element) (spot_point q o point.Element)) ≡ true
 put_element f k p i q o before true h can is e =
     let own : q ≡ p = grind (arith, is, eqb_tells q p) in
-    subst (λ n. lies_in f (spot_point n o point.Element) ≡ true → lies_in (put_in p before k f) (cond (ltb i o) (spot_point n (min (o + 1) 4294967295) point.Element) (spot_point n o point.Element)) ≡ true) (sym own)
+    subst (λ n. lies_in f (spot_point n o point.Element) ≡ true
+    → lies_in (put_in p before k f) (cond (ltb i o) (spot_point n (min (o + 1) 4294967295) point.Element) (spot_point n o point.Element)) ≡ true) (sym own)
     (one_more_at f k p o before (ltb i o) h can) e
 put_element f k p i q o before false h can is e =
     ap₂ (λ l n. fits_label point.Element l && leb o n) (label_of-put_in p before k f q h can) (size_kept f k p q before h can is) ∙ e
@@ -317,7 +339,8 @@ lies_put f k p i q o point.Text before h can e = ap (text_lies o) (label_of-put_
 lies_put f k p i q o point.Element before h can e = put_element f k p i q o before (eqb q p) h can refl e
 
 -- what is moved to a place in the root's tree leaves nothing out of it
-pub attached_moved : (f : Forest) (k p q : ℕ) (before : Option ℕ) → IsForest f → IsForest (take_out k f) → k ≢ 0 → has k f ≡ true → CanPut p k (take_out k f) → is_attached f p ≡ true → is_attached f q ≡ true
+pub attached_moved : (f : Forest) (k p q : ℕ) (before : Option ℕ) → IsForest f → IsForest (take_out k f) → k ≢ 0 → has k f ≡ true → CanPut p k (take_out k f)
+    → is_attached f p ≡ true → is_attached f q ≡ true
     → is_attached (put_in p before k (take_out k f)) q ≡ true
 attached_moved f k p q before h taken other there can place e =
     is_attached-put_in p before k (take_out k f) q taken can

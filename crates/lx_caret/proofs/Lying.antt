@@ -35,6 +35,7 @@ pub does_lie : {T Q : Type 0} (step : Result Working Cause) (new : Working) (r :
 does_lie step new (Ok t) leads so = leads so
 does_lie step new (Err e) leads so = tt
 
-pub gives_lying : {A T Q : Type 0} (step : Result A Cause) (made : T → A) (new : Working) (r : Result T Fault) → ((t : T) → step ≡ Ok (made t) → Q) → Gives step made new r → OnOk r Q
+pub gives_lying : {A T Q : Type 0} (step : Result A Cause) (made : T → A) (new : Working) (r : Result T Fault) → ((t : T) → step ≡ Ok (made t) → Q)
+    → Gives step made new r → OnOk r Q
 gives_lying step made new (Ok t) leads so = leads t so
 gives_lying step made new (Err e) leads so = tt

@@ -55,7 +55,8 @@ before-next_key : (k other : ℕ) (w v : Working) → put_before_step k other w 
 unfolding put_before_step
 before-next_key k other w v e = before_at-next_key k other (parent_of w.forest other) (index_of w.forest other) w v e
 
-either-next_key : (first : Bool) (k other : ℕ) (w v : Working) → cond first (put_before_step k other w) (put_behind_step k other w) ≡ Ok v → v.next_key ≡ w.next_key
+either-next_key : (first : Bool) (k other : ℕ) (w v : Working) → cond first (put_before_step k other w) (put_behind_step k other w) ≡ Ok v
+    → v.next_key ≡ w.next_key
 either-next_key true k other w v e = before-next_key k other w v e
 either-next_key false k other w v e = keyed.behind-next_key k other w v e
 

@@ -14,6 +14,7 @@ leading_within f [] = omega arith
 leading_within f (k ∷ ks) = grind (arith, leading_within f ks)
 
 -- their indices are far below 2 ^ 32
-pub few_moved : (w : Working) (f g : Forest) (line block index : ℕ) (keys : List ℕ) → IsWorking w → f ≡ w.forest → g ≡ w.forest → index ≤ size_of f line → keys ≡ leading g block → index + length keys < 2 ^ 32
+pub few_moved : (w : Working) (f g : Forest) (line block index : ℕ) (keys : List ℕ) → IsWorking w → f ≡ w.forest → g ≡ w.forest → index ≤ size_of f line
+    → keys ≡ leading g block → index + length keys < 2 ^ 32
 few_moved w f g line block index keys holds is also within told =
     omega (arith, within, ap length told, leading_within g (children_of g block), size_of-le f line, size_of-le g block, ap (λ (x : Forest). total x) is, ap (λ (x : Forest). total x) also, holds.few, holds.counted)

@@ -84,7 +84,8 @@ pub stays_behind : (k other : ℕ) → Staying (put_behind_step k other)
 unfolding put_behind_step
 stays_behind k other w v fit e = stays_behind_at k other (parent_of w.forest other) (index_of w.forest other) w v fit e
 
-before_in : (k other : ℕ) (p index : Option ℕ) (w v : Working) → Fit w → parent_of w.forest other ≡ p → is_attached w.forest other ≡ true → before_at k other p index w ≡ Ok v → IsBesideIn w v k
+before_in : (k other : ℕ) (p index : Option ℕ) (w v : Working) → Fit w → parent_of w.forest other ≡ p → is_attached w.forest other ≡ true
+    → before_at k other p index w ≡ Ok v → IsBesideIn w v k
 before_in k other (Some p) (Some index) w v fit up place e =
     let was = was_put k p index w v fit.ready.in_order e in
     record { parent = p; up = was.up; attached = was.attached (sym (is_attached-up w.forest other p fit.ready.in_order up) ∙ place); label = was.label }
@@ -95,7 +96,8 @@ pub put_before_in : (k other : ℕ) (w v : Working) → Fit w → is_attached w.
 unfolding put_before_step
 put_before_in k other w v fit place e = before_in k other (parent_of w.forest other) (index_of w.forest other) w v fit refl place e
 
-behind_in : (k other : ℕ) (p index : Option ℕ) (w v : Working) → Fit w → parent_of w.forest other ≡ p → is_attached w.forest other ≡ true → behind_at k other p index w ≡ Ok v → IsBesideIn w v k
+behind_in : (k other : ℕ) (p index : Option ℕ) (w v : Working) → Fit w → parent_of w.forest other ≡ p → is_attached w.forest other ≡ true
+    → behind_at k other p index w ≡ Ok v → IsBesideIn w v k
 behind_in k other (Some p) (Some index) w v fit up place e =
     let was = was_put k p (index + 1) w v fit.ready.in_order e in
     record { parent = p; up = was.up; attached = was.attached (sym (is_attached-up w.forest other p fit.ready.in_order up) ∙ place); label = was.label }
@@ -118,21 +120,25 @@ key_of_take p i x = by_test (is_behind p i x) where
 -- a node with a parent is at an index there
 pub stands : (f : Forest) (k p : ℕ) → IsForest f → parent_of f k ≡ Some p → (i : ℕ) × (index_of f k ≡ Some i)
 stands f k p h up =
-    let among : is_some (index_of f k) ≡ true = is_some-index_in (siblings f k) k ∙ ap (λ o. is_among k (children_below f o)) up ∙ is_among-children_of f k p h ∙ rw up (grind (arith, eqb_tells p p)) in
+    let among : is_some (index_of f k) ≡ true =
+    is_some-index_in (siblings f k) k ∙ ap (λ o. is_among k (children_below f o)) up ∙ is_among-children_of f k p h
+    ∙ rw up (grind (arith, eqb_tells p p)) in
     elim (cases_option (index_of f k)) [
       | inl none ↦ absurd (grind (arith, among, none))
       | inr (i, at) ↦ (i, at)
     ]
 
 -- what a point of the draft becomes
-moved_lies : (f : Forest) (k p0 i0 p i : ℕ) (before : Option ℕ) (x : Point) → IsForest f → k ≢ 0 → has k f ≡ true → parent_of f k ≡ Some p0 → index_of f k ≡ Some i0 → CanPut p k (take_out k f) → is_attached f p ≡ true
+moved_lies : (f : Forest) (k p0 i0 p i : ℕ) (before : Option ℕ) (x : Point) → IsForest f → k ≢ 0 → has k f ≡ true → parent_of f k ≡ Some p0
+    → index_of f k ≡ Some i0 → CanPut p k (take_out k f) → is_attached f p ≡ true
     → lies f x ≡ true → lies (put_in p before k (take_out k f)) (put_moves p i (take_moves p0 i0 x)) ≡ true
 moved_lies f k p0 i0 p i before x h other there up at can place e =
     let parts = both (is_attached f x.key) (lies_in f x) e in
     let gone : IsForest (take_out k f) = IsForest-take_out k f h in
     let y : Point = take_moves p0 i0 x in
     let key : (put_moves p i y).key ≡ x.key = key_of_put p i y ∙ key_of_take p0 i0 x in
-    let attached : is_attached (put_in p before k (take_out k f)) (put_moves p i y).key ≡ true = ap (is_attached (put_in p before k (take_out k f))) key ∙ attached_moved f k p x.key before h gone other there can place parts.0 in
+    let attached : is_attached (put_in p before k (take_out k f)) (put_moves p i y).key ≡ true =
+    ap (is_attached (put_in p before k (take_out k f))) key ∙ attached_moved f k p x.key before h gone other there can place parts.0 in
     ap₂ ◌&&◌ attached (lies_put (take_out k f) k p i y.key y.offset y.kind before gone can (lies_taken f k p0 i0 x.key x.offset x.kind h up at parts.1))
 
 -- a key that can be taken is there, below a parent
@@ -147,7 +153,8 @@ taken_below f k none =
 pub not_root : (f : Forest) (k p : ℕ) → IsForest f → parent_of f k ≡ Some p → k ≢ 0
 not_root f k p h up = λ same. absurd (grind (arith, up, same, parent_of-root f h))
 
-placed_after : (w v : Working) (k p index p0 i0 : ℕ) → Fit w → is_attached w.forest p ≡ true → has k w.forest ≡ true → parent_of w.forest k ≡ Some p0 → index_of w.forest k ≡ Some i0
+placed_after : (w v : Working) (k p index p0 i0 : ℕ) → Fit w → is_attached w.forest p ≡ true → has k w.forest ≡ true → parent_of w.forest k ≡ Some p0
+    → index_of w.forest k ≡ Some i0
     → AreCovered w (node_taken k w) → put_step k p index (node_taken k w) ≡ Ok v → Stays w v
 unfolding put_step
 placed_after w v k p index p0 i0 fit place there up at took e =
@@ -157,7 +164,10 @@ placed_after w v k p index p0 i0 fit place there up at took e =
     let is = puts (take_out k w.forest) k p index (both_none (put_fault k p index (take_out k w.forest)) (over_counts (node_taken k w)) told.0).0 in
     let before : Option ℕ = slice_get (children_of (take_out k w.forest) p) index in
     let g : Forest = put_in p before k (take_out k w.forest) in
-    let all = covered-then w (node_taken k w) (node_placed k p index (node_taken k w)) took (covered-put k p index (node_taken k w) (node_placed k p index (node_taken k w)) took.ready (ap (λ o. answer o (node_placed k p index (node_taken k w))) told.0)) in
+    let all =
+    covered-then w (node_taken k w) (node_placed k p index (node_taken k w)) took
+    (covered-put k p index (node_taken k w) (node_placed k p index (node_taken k w)) took.ready
+    (ap (λ o. answer o (node_placed k p index (node_taken k w))) told.0)) in
     let points : (node_taken k w).selection ≡ each_point (take_moves p0 i0) w.selection =
     ap₂ (λ a b. take_points a b w.selection) up at in
     let each : EachPoint (λ x. lies g x ≡ true) (each_point (put_moves p index) (each_point (take_moves p0 i0) w.selection)) =
@@ -168,7 +178,8 @@ placed_after w v k p index p0 i0 fit place there up at took e =
       fit = record {
         ready = all.ready;
         held = IsHeld-put_in may_hold (take_out k w.forest) gone (IsHeld-take_out may_hold w.forest h fit.held k) p before k is.may is.fits;
-        short = same-short w.forest g w.written (λ q. label_of-put_in p before k (take_out k w.forest) q gone is.may ∙ label_of-take_out k w.forest q h) fit.short;
+        short = same-short w.forest g w.written (λ q. label_of-put_in p before k (take_out k w.forest) q gone is.may ∙ label_of-take_out k w.forest q h)
+            fit.short;
         lying = subst (λ s. EachPoint (λ x. lies g x ≡ true) (each_point (put_moves p index) s)) (sym points) each;
       };
       attached = λ q so. attached_moved w.forest k p q before h gone (not_root w.forest k p0 h up) there is.may place so;
@@ -191,7 +202,8 @@ stays_moved parent k w v fit place e =
     stays_placed k parent (size_of first.0.forest parent) w first.0 v fit place first.1.0 first.1.1
 
 -- each of a list moved to the end of a node in the tree
-pub stays_each_moved : (parent : ℕ) (ks : List ℕ) (w v : Working) → Fit w → is_attached w.forest parent ≡ true → in_turn (moved_to_end parent) ks w ≡ Ok v → Stays w v
+pub stays_each_moved : (parent : ℕ) (ks : List ℕ) (w v : Working) → Fit w → is_attached w.forest parent ≡ true → in_turn (moved_to_end parent) ks w ≡ Ok v
+    → Stays w v
 unfolding in_turn
 stays_each_moved parent [] w v fit place e = stays_ok w w v (stays_self w fit) e
 stays_each_moved parent (k ∷ ks) w v fit place e =
@@ -199,33 +211,42 @@ stays_each_moved parent (k ∷ ks) w v fit place e =
     (λ u so a f. stays_each_moved parent ks u v a.fit (a.attached parent place) f) e
 
 -- what is moved into the tree is in it
-place_left : (f : Forest) (k p : ℕ) → IsForest f → k ≢ 0 → has k f ≡ true → is_within (take_out k f) k p ≡ false → is_attached f p ≡ true → is_attached (take_out k f) p ≡ true
-place_left f k p h other there outside place = grind (arith, is_attached-take_out k f p h other, is_within-take_out k f k p h, is_within-self f k, there, outside, place)
+place_left : (f : Forest) (k p : ℕ) → IsForest f → k ≢ 0 → has k f ≡ true → is_within (take_out k f) k p ≡ false → is_attached f p ≡ true
+    → is_attached (take_out k f) p ≡ true
+place_left f k p h other there outside place =
+    grind (arith, is_attached-take_out k f p h other, is_within-take_out k f k p h, is_within-self f k, there, outside, place)
 
-placed_attached : (k p index p0 : ℕ) (w v : Working) → Fit w → is_attached w.forest p ≡ true → has k w.forest ≡ true → parent_of w.forest k ≡ Some p0 → put_step k p index (node_taken k w) ≡ Ok v → is_attached v.forest k ≡ true
+placed_attached : (k p index p0 : ℕ) (w v : Working) → Fit w → is_attached w.forest p ≡ true → has k w.forest ≡ true → parent_of w.forest k ≡ Some p0
+    → put_step k p index (node_taken k w) ≡ Ok v → is_attached v.forest k ≡ true
 unfolding put_step
 placed_attached k p index p0 w v fit place there up e =
     let h = fit.ready.in_order in
     let told = answered (option_or (put_fault k p index (take_out k w.forest)) (over_counts (node_taken k w))) (node_placed k p index (node_taken k w)) v e in
     let is = puts (take_out k w.forest) k p index (both_none (put_fault k p index (take_out k w.forest)) (over_counts (node_taken k w)) told.0).0 in
-    (was_put k p index (node_taken k w) v (IsForest-take_out k w.forest h) e).attached (place_left w.forest k p h (not_root w.forest k p0 h up) there is.may.outside place)
+    (was_put k p index (node_taken k w) v (IsForest-take_out k w.forest h) e).attached
+    (place_left w.forest k p h (not_root w.forest k p0 h up) there is.may.outside place)
 
-pub moved_attached : (parent k : ℕ) (w v : Working) → Fit w → is_attached w.forest parent ≡ true → moved_to_end parent k w ≡ Ok v → is_attached v.forest k ≡ true
+pub moved_attached : (parent k : ℕ) (w v : Working) → Fit w → is_attached w.forest parent ≡ true → moved_to_end parent k w ≡ Ok v
+    → is_attached v.forest k ≡ true
 unfolding moved_to_end take_step
 moved_attached parent k w v fit place e =
-    let first = after_tells (answer (option_or (detach_fault k w.forest) (over_counts w)) (node_taken k w)) (λ u. put_step k parent (size_of u.forest parent) u) v e in
+    let first =
+    after_tells (answer (option_or (detach_fault k w.forest) (over_counts w)) (node_taken k w)) (λ u. put_step k parent (size_of u.forest parent) u) v e in
     let told = answered (option_or (detach_fault k w.forest) (over_counts w)) (node_taken k w) first.0 first.1.0 in
     let below = taken_below w.forest k (both_none (detach_fault k w.forest) (over_counts w) told.0).0 in
-    placed_attached k parent (size_of (take_out k w.forest) parent) below.1.0 w v fit place below.0 below.1.1 (ap (λ u. put_step k parent (size_of u.forest parent) u) told.1 ∙ first.1.1)
+    placed_attached k parent (size_of (take_out k w.forest) parent) below.1.0 w v fit place below.0 below.1.1
+    (ap (λ u. put_step k parent (size_of u.forest parent) u) told.1 ∙ first.1.1)
 
 -- each of a list moved to a place, one after the other
 pub record MovedIn (w v : Working) (p index : ℕ) : Type 0 where
   pub stays : Stays w v
   pub reach : index ≤ size_of v.forest p
 
-pub moved_in_stays : (p index : ℕ) (ks : List ℕ) (w v : Working) → Fit w → is_attached w.forest p ≡ true → index ≤ size_of w.forest p → moved_in p index ks w ≡ Ok v → MovedIn w v p index
+pub moved_in_stays : (p index : ℕ) (ks : List ℕ) (w v : Working) → Fit w → is_attached w.forest p ≡ true → index ≤ size_of w.forest p
+    → moved_in p index ks w ≡ Ok v → MovedIn w v p index
 unfolding moved_in
-moved_in_stays p index [] w v fit place within e = let is : w ≡ v = cc in subst (λ u. MovedIn w u p index) is (record { stays = stays_self w fit; reach = within })
+moved_in_stays p index [] w v fit place within e = let is : w ≡ v =
+    cc in subst (λ u. MovedIn w u p index) is (record { stays = stays_self w fit; reach = within })
 moved_in_stays p index (k ∷ ks) w v fit place within e =
     let first = after_tells (take_step k w) (λ u. after (put_step k p index u) (moved_in p (index + 1) ks)) v e in
     let second = after_tells (put_step k p index first.0) (moved_in p (index + 1) ks) v first.1.1 in

@@ -43,18 +43,24 @@ module _ (from to : ℕ) (new text : List ℕ) (piece : IsPiece from to text) (f
   -- the end of what is new
   pub new_end_place : IsPlace (offset_sum from (length_told new)) (spliced_text from to new text)
   unfolding offset_sum
-  new_end_place = summed from (length_told new) _ (ap (λ n. is_offset (from + n) (spliced_text from to new text)) told_new ∙ told.splice-between from to new text piece) refl
+  new_end_place =
+      summed from (length_told new) _ (ap (λ n. is_offset (from + n) (spliced_text from to new text)) told_new ∙ told.splice-between from to new text piece)
+      refl
 
   pub spliced_place : (o : ℕ) → is_offset o text ≡ true → IsPlace (spliced_offset from to (length_told new) o) (spliced_text from to new text)
   unfolding spliced_offset offset_sum
   spliced_place o e = by_first (leb o from) refl where
-    behind : (b : Bool) → leb to o ≡ b → IsPlace (cond b (min (o - (to - from) + length_told new) last_u32) (min (from + length_told new) last_u32)) (spliced_text from to new text)
+    behind : (b : Bool) → leb to o ≡ b
+        → IsPlace (cond b (min (o - (to - from) + length_told new) last_u32) (min (from + length_told new) last_u32)) (spliced_text from to new text)
     behind true is =
         let past : to ≤ o = grind (arith, nat_tests, is) in
-        summed (o - (to - from)) (length_told new) _ (ap (λ n. is_offset (o - (to - from) + n) (spliced_text from to new text)) told_new ∙ told.splice-behind from to new text o piece e past) refl
+        summed (o - (to - from)) (length_told new) _
+        (ap (λ n. is_offset (o - (to - from) + n) (spliced_text from to new text)) told_new ∙ told.splice-behind from to new text o piece e past) refl
     behind false is = new_end_place
 
-    by_first : (b : Bool) → leb o from ≡ b → IsPlace (cond b o (cond (leb to o) (min (o - (to - from) + length_told new) last_u32) (min (from + length_told new) last_u32))) (spliced_text from to new text)
+    by_first : (b : Bool) → leb o from ≡ b
+        → IsPlace (cond b o (cond (leb to o) (min (o - (to - from) + length_told new) last_u32) (min (from + length_told new) last_u32)))
+        (spliced_text from to new text)
     by_first true is =
         let first : o ≤ from = grind (arith, nat_tests, is) in
         place-few o (spliced_text from to new text) (told.splice-before from to new text o piece e first) few
@@ -73,4 +79,5 @@ pub tail_place : (o at to : ℕ) (text : List ℕ) → is_offset at text ≡ tru
 unfolding slice_of
 tail_place o at to text here e order inside small =
     let tail : is_offset (o - at) (rest_of at text) ≡ true = told.offset-further at o text here order ∙ e in
-    place_of (o - at) (front_of (to - at) (rest_of at text)) (told.offset-nearer (o - at) (to - at) (rest_of at text) tail (omega (arith, order, inside))) (omega (arith, small))
+    place_of (o - at) (front_of (to - at) (rest_of at text)) (told.offset-nearer (o - at) (to - at) (rest_of at text) tail (omega (arith, order, inside)))
+    (omega (arith, small))

@@ -45,14 +45,16 @@ module _ {D : Working → Type 0} {R : Working → Working → Type 0} (way : Is
   moved_in_path p index [] w v r e = stays way w v r e
   moved_in_path p index (k ∷ ks) w v r e =
       chained way (take_step k) (λ u x. after (put_step k p index x) (moved_in p (index + 1) ks)) (way.take k)
-      (λ u. chained way (put_step k p index) (λ x. moved_in p (index + 1) ks) (λ x y s f. way.put k p index x y tt s f) (λ x. moved_in_path p (index + 1) ks)) w v r e
+      (λ u. chained way (put_step k p index) (λ x. moved_in p (index + 1) ks) (λ x y s f. way.put k p index x y tt s f) (λ x. moved_in_path p (index + 1) ks)) w
+      v r e
 
   pub line_joined_path : (line block : ℕ) → Leads D R (line_joined line block)
   unfolding line_joined
   line_joined_path line block w v r e =
       let index : ℕ = inline_place w.forest line block in
       let there : Point → Point = moved_to block (element_point line index) in
-      then way w v (moved_in line index (leading w.forest block) w) (λ u. removed_empty block (pointed there u)) (λ u f. moved_in_path line index (leading w.forest block) w u r f)
+      then way w v (moved_in line index (leading w.forest block) w) (λ u. removed_empty block (pointed there u))
+      (λ u f. moved_in_path line index (leading w.forest block) w u r f)
       (λ u c f. from_ way u (pointed there u) v (removed_empty block) (points way there u (way.ready w u c)) (removed_empty_path way block) f) e
 
   pub joined_with_path : (kind : Option Kind) (found block : ℕ) → Leads D R (joined_with kind found block)
@@ -92,14 +94,16 @@ module _ {D : Working → Type 0} {R : Working → Working → Type 0} (way : Is
   deleted_in_path back reach p None w v r e = stays way w v r e
   deleted_in_path back reach p (Some block) w v r e =
       let leaf : Option ℕ = leaf_beside back w.forest block p in
-      either way (has_more back w.forest p p.kind) (erase_step back reach p.key p.offset) (leaf_or_line back reach block leaf) (erase_path back reach p.key p.offset) (leaf_or_line_path back reach block leaf) w v r e
+      either way (has_more back w.forest p p.kind) (erase_step back reach p.key p.offset) (leaf_or_line back reach block leaf)
+      (erase_path back reach p.key p.offset) (leaf_or_line_path back reach block leaf) w v r e
 
   pub delete_path : (back : Bool) (reach : Reach) → Leads D R (delete_step back reach)
   unfolding delete_step
   delete_path back reach w v d e =
       let deleted : Ranged → Working → Result Working Cause = λ r. deleted_in back reach r.anchor (block_of w.forest r.anchor.key) in
       by_read way w v (range_of w) (λ r u. cond (is_collapsed r) (deleted r u) (removed_in r u))
-      (λ r f. either way (is_collapsed r) (deleted r) (removed_in r) (deleted_in_path back reach r.anchor (block_of w.forest r.anchor.key)) (removed_in_path way r) w v d f) e
+      (λ r f. either way (is_collapsed r) (deleted r) (removed_in r) (deleted_in_path back reach r.anchor (block_of w.forest r.anchor.key))
+      (removed_in_path way r) w v d f) e
 
   pub delete_character_path : (back : Bool) → Leads D R (delete_character_step back)
   unfolding delete_character_step

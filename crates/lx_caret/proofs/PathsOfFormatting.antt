@@ -29,7 +29,8 @@ module _ {D : Working → Type 0} {R : Working → Working → Type 0} (way : Is
   isolated_path [] w a r e = ok_to way {A = Isolated} (λ x. x.draft) w (record { draft = w; texts = [] }) a (self way w r) e
   isolated_path (p ∷ ps) w a r e =
       let key : ℕ = isolated_key p w in
-      then_to way {A = Working} {B = Isolated} (λ u. u) (λ x. x.draft) w a (isolate_step p w) (λ u. after (isolated ps u) (and_before key)) (λ u f. isolate_path p w u r f)
+      then_to way {A = Working} {B = Isolated} (λ u. u) (λ x. x.draft) w a (isolate_step p w) (λ u. after (isolated ps u) (and_before key))
+      (λ u f. isolate_path p w u r f)
       (λ u s f. then_to way {A = Isolated} {B = Isolated} (λ x. x.draft) (λ x. x.draft) u a (isolated ps u) (and_before key) (λ x g. isolated_path ps u x s g)
       (λ x t g. ok_to way {A = Isolated} (λ y. y.draft) x.draft (record { draft = x.draft; texts = key ∷ x.texts }) a (self way x.draft t) g) f) e
 
@@ -51,13 +52,15 @@ module _ {D : Working → Type 0} {R : Working → Working → Type 0} (way : Is
   switched_all_path bit [] w v r e = stays way w v r e
   switched_all_path bit (k ∷ ks) w v r e =
       let on : Bool = not (has_bit bit (format_at w.forest k)) in
-      then way w v (in_turn (switch_step on bit) (k ∷ ks) w) (λ u. Ok (selection_format (format_at u.forest k) u)) (λ u f. every way (switch_step on bit) (k ∷ ks) (switch_path on bit) w u r f)
+      then way w v (in_turn (switch_step on bit) (k ∷ ks) w) (λ u. Ok (selection_format (format_at u.forest k) u))
+      (λ u f. every way (switch_step on bit) (k ∷ ks) (switch_path on bit) w u r f)
       (λ u c f. given (format_at u.forest k) u v (way.ready w u c) f) e
 
   pub formatted_path : (bit : ℕ) (ps : List Piece) (format : ℕ) → Leads D R (formatted bit ps format)
   formatted_path bit [] format w v r e = given (switched (not (has_bit bit format)) bit format) w v r e
   formatted_path bit (p ∷ ps) format w v r e =
-      then_to way {A = Isolated} {B = Working} (λ x. x.draft) (λ x. x) w v (isolated (p ∷ ps) w) (λ made. switched_all bit made.texts made.draft) (λ a f. isolated_path (p ∷ ps) w a r f)
+      then_to way {A = Isolated} {B = Working} (λ x. x.draft) (λ x. x) w v (isolated (p ∷ ps) w) (λ made. switched_all bit made.texts made.draft)
+      (λ a f. isolated_path (p ∷ ps) w a r f)
       (λ a s f. switched_all_path bit a.texts a.draft v s f) e
 
   pub format_text_path : (bit : ℕ) → Leads D R (format_text_step bit)

@@ -36,7 +36,8 @@ module _ {D : Working → Type 0} {R : Working → Working → Type 0} (way : Is
 
   -- the last of some children go into a node that is put after another
   gone_behind : (k new : ℕ) (ks : List ℕ) → Leads D R (λ w. after (put_behind_step new k w) (in_turn (moved_to_end new) ks))
-  gone_behind k new ks = chained way (put_behind_step new k) (λ u. in_turn (moved_to_end new) ks) (put_behind_path way new k tt) (λ u. all_moved_path way new ks)
+  gone_behind k new ks =
+      chained way (put_behind_step new k) (λ u. in_turn (moved_to_end new) ks) (put_behind_path way new k tt) (λ u. all_moved_path way new ks)
 
   pub parted_at_path : (k index : ℕ) → Leads D R (parted_at k index)
   unfolding parted_at
@@ -68,7 +69,8 @@ module _ {D : Working → Type 0} {R : Working → Working → Type 0} (way : Is
   moved_on_path block moved w v r e =
       let all : Working → Result Working Cause = in_turn (moved_to_end w.next_key) moved in
       let at_start : Working → Result Working Cause = λ u. Ok (caret_at (start_of_first u.forest w.next_key moved) u) in
-      chained way (new_next w.forest (label_of w.forest block) moved) (λ u made. after (put_behind_step w.next_key block made) (λ put. after (all put) at_start)) (new_next_path w.forest (label_of w.forest block) moved)
+      chained way (new_next w.forest (label_of w.forest block) moved)
+      (λ u made. after (put_behind_step w.next_key block made) (λ put. after (all put) at_start)) (new_next_path w.forest (label_of w.forest block) moved)
       (λ u. chained way (put_behind_step w.next_key block) (λ x put. after (all put) at_start) (put_behind_path way w.next_key block tt)
       (λ x. placed way all (λ y. start_of_first y.forest w.next_key moved) (all_moved_path way w.next_key moved))) w v r e
 
@@ -77,13 +79,15 @@ module _ {D : Working → Type 0} {R : Working → Working → Type 0} (way : Is
   block_cut_path block p w v r e =
       let on : Parted → Result Working Cause = λ parted. moved_on block (drop parted.index (children_of parted.draft.forest block)) parted.draft in
       then way w v (cut_open p w) (λ u. after (parted_up (holders_in u.forest block p) (before_point u.forest p p.kind) u) on) (λ u f. cut_open_path p w u r f)
-      (λ u c f. then_to way {A = Parted} {B = Working} (λ a. a.draft) (λ x. x) u v (parted_up (holders_in u.forest block p) (before_point u.forest p p.kind) u) on
+      (λ u c f. then_to way {A = Parted} {B = Working} (λ a. a.draft) (λ x. x) u v (parted_up (holders_in u.forest block p) (before_point u.forest p p.kind) u)
+      on
       (λ a g. parted_up_path (holders_in u.forest block p) (before_point u.forest p p.kind) u a (way.ready w u c) g)
       (λ a s g. moved_on_path block (drop a.index (children_of a.draft.forest block)) a.draft v s g) f) e
 
   pub paragraph_added_path : (p : Point) → Leads D R (paragraph_added p)
   unfolding paragraph_added
-  paragraph_added_path p w v r e = placed way (add_step p Paragraph plain_element) (λ u. element_point (newest u) 0) (add_path way p Paragraph plain_element) w v r e
+  paragraph_added_path p w v r e =
+      placed way (add_step p Paragraph plain_element) (λ u. element_point (newest u) 0) (add_path way p Paragraph plain_element) w v r e
 
   -- ---- the command
 
@@ -97,7 +101,8 @@ module _ {D : Working → Type 0} {R : Working → Working → Type 0} (way : Is
   paragraph_inserted w a r e =
       let at : Working → Point → ℕ → Working → Result Working Cause = λ u p format. paragraph_at (empty_item u) (block_of u.forest p.key) p in
       let left : Working → Working → Result Broken Cause = λ u x. Ok (record { draft = x; item = empty_item u }) in
-      then_to way {A = Working} {B = Broken} (λ u. u) (λ x. x.draft) w a (remove_text_step w) (λ u. after (at_anchor (at u) u) (left u)) (λ u f. remove_text_path way w u r f)
+      then_to way {A = Working} {B = Broken} (λ u. u) (λ x. x.draft) w a (remove_text_step w) (λ u. after (at_anchor (at u) u) (left u))
+      (λ u f. remove_text_path way w u r f)
       (λ u s f. then_to way {A = Working} {B = Broken} (λ x. x) (λ x. x.draft) u a (at_anchor (at u) u) (left u)
       (λ x g. anchored way (at u) (λ p format. paragraph_at_path (empty_item u) (block_of u.forest p.key) p) u x s g)
       (λ x t g. ok_to way {A = Broken} (λ b. b.draft) x (record { draft = x; item = empty_item u }) a (self way x t) g) f) e

@@ -70,7 +70,8 @@ module _ {D : Working → Type 0} {R : Working → Working → Type 0} (way : Is
       let gone : List ℕ = outermost w.forest (covered w.forest start end) in
       let merge : Working → Result Working Cause = merge_step (block_of w.forest start.key) (block_of w.forest end.key) in
       let ended : Working → Result Working Cause = λ removed. after (end_cut start end end.kind removed) merge in
-      from_ way w (caret_at start w) v (λ u. after (start_cut start end start.kind u) (λ cut. after (in_turn removed_below gone cut) ended)) (points way (λ p. start) w r)
+      from_ way w (caret_at start w) v (λ u. after (start_cut start end start.kind u) (λ cut. after (in_turn removed_below gone cut) ended))
+      (points way (λ p. start) w r)
       (chained way (start_cut start end start.kind) (λ u cut. after (in_turn removed_below gone cut) ended) (start_cut_path start end start.kind)
       (λ u. chained way (in_turn removed_below gone) (λ x. ended) (every way removed_below gone removed_below_path)
       (λ x. chained way (end_cut start end end.kind) (λ y. merge) (end_cut_path start end end.kind)
@@ -78,7 +79,8 @@ module _ {D : Working → Type 0} {R : Working → Working → Type 0} (way : Is
 
   pub removed_in_path : (r : Ranged) → Leads D R (removed_in r)
   removed_in_path r w v d e =
-      either way (is_collapsed r) (λ u. Ok u) (remove_between (start_of w.forest r) (end_of w.forest r)) (stays way) (between_path (start_of w.forest r) (end_of w.forest r)) w v d e
+      either way (is_collapsed r) (λ u. Ok u) (remove_between (start_of w.forest r) (end_of w.forest r)) (stays way)
+      (between_path (start_of w.forest r) (end_of w.forest r)) w v d e
 
   pub remove_text_path : Leads D R remove_text_step
   unfolding remove_text_step
@@ -89,7 +91,8 @@ module _ {D : Working → Type 0} {R : Working → Working → Type 0} (way : Is
   pub typed_into_path : (text : List ℕ) (p : Point) → Leads D R (typed_into text p)
   unfolding typed_into
   typed_into_path text p w v r e =
-      placed way (splice_step p.key p.offset p.offset text) (λ u. text_point p.key (offset_sum p.offset (length_told text))) (way.splice p.key p.offset p.offset text) w v r e
+      placed way (splice_step p.key p.offset p.offset text) (λ u. text_point p.key (offset_sum p.offset (length_told text)))
+      (way.splice p.key p.offset p.offset text) w v r e
 
   pub typed_new_path : (text : List ℕ) (format : ℕ) (p : Point) → Leads D R (typed_new text format p)
   unfolding typed_new
@@ -100,7 +103,8 @@ module _ {D : Working → Type 0} {R : Working → Working → Type 0} (way : Is
   pub typed_path : (text : List ℕ) (p : Point) (format : ℕ) → Leads D R (typed text p format)
   unfolding typed
   typed_path text p format w v r e =
-      either way (is_of_format format (normal_at w.forest p.key)) (typed_into text p) (typed_new text format p) (typed_into_path text p) (typed_new_path text format p) w v r e
+      either way (is_of_format format (normal_at w.forest p.key)) (typed_into text p) (typed_new text format p) (typed_into_path text p)
+      (typed_new_path text format p) w v r e
 
   pub insert_text_path : (text : List ℕ) → Leads D R (insert_text_step text)
   unfolding insert_text_step

@@ -107,10 +107,12 @@ abbrev pub IfBeside : (ℕ → Bool) → Forest → ℕ → Option Point → Typ
 IfBeside D f k None = Unit {0}
 IfBeside D f k (Some to) = IsBeside D f k to
 
-end_lies : (D : ℕ → Bool) (f : Forest) (k s : ℕ) (kind : Option Kind) → kind_of f s ≡ kind → is_attached f s ≡ true → is_within f k s ≡ false → Avoids D f s → IfBeside D f k (end_in f s kind)
+end_lies : (D : ℕ → Bool) (f : Forest) (k s : ℕ) (kind : Option Kind) → kind_of f s ≡ kind → is_attached f s ≡ true → is_within f k s ≡ false → Avoids D f s
+    → IfBeside D f k (end_in f s kind)
 end_lies D f k s None is there outside avoids = tt
 end_lies D f k s (Some kind) is there outside avoids = by_kind (has_characters kind) (is_element kind) refl refl where
-  by_kind : (t e : Bool) → has_characters kind ≡ t → is_element kind ≡ e → IfBeside D f k (cond t (Some (text_point s (length_of (fields_of f s)))) (cond e (Some (element_point s (size_of f s))) None))
+  by_kind : (t e : Bool) → has_characters kind ≡ t → is_element kind ≡ e
+      → IfBeside D f k (cond t (Some (text_point s (length_of (fields_of f s)))) (cond e (Some (element_point s (size_of f s))) None))
   by_kind true e text element = record {
     lies_there = ap₂ ◌&&◌ there (ap₂ ◌&&◌ (ap (is_counted_in point.Text) is ∙ text) (end_of_text (fields_of f s)));
     outside = outside;
@@ -123,10 +125,12 @@ end_lies D f k s (Some kind) is there outside avoids = by_kind (has_characters k
   }
   by_kind false false text element = tt
 
-start_lies : (D : ℕ → Bool) (f : Forest) (k s : ℕ) (kind : Option Kind) → kind_of f s ≡ kind → is_attached f s ≡ true → is_within f k s ≡ false → Avoids D f s → IfBeside D f k (start_in s kind)
+start_lies : (D : ℕ → Bool) (f : Forest) (k s : ℕ) (kind : Option Kind) → kind_of f s ≡ kind → is_attached f s ≡ true → is_within f k s ≡ false → Avoids D f s
+    → IfBeside D f k (start_in s kind)
 start_lies D f k s None is there outside avoids = tt
 start_lies D f k s (Some kind) is there outside avoids = by_kind (has_characters kind) (is_element kind) refl refl where
-  by_kind : (t e : Bool) → has_characters kind ≡ t → is_element kind ≡ e → IfBeside D f k (cond t (Some (text_point s 0)) (cond e (Some (element_point s 0)) None))
+  by_kind : (t e : Bool) → has_characters kind ≡ t → is_element kind ≡ e
+      → IfBeside D f k (cond t (Some (text_point s 0)) (cond e (Some (element_point s 0)) None))
   by_kind true e text element = record {
     lies_there = ap₂ ◌&&◌ there (ap₂ ◌&&◌ (ap (is_counted_in point.Text) is ∙ text) (start_of_text (fields_of f s)));
     outside = outside;
@@ -140,19 +144,23 @@ start_lies D f k s (Some kind) is there outside avoids = by_kind (has_characters
   by_kind false false text element = tt
 
 -- where points on a node are sent
-beside_lies : (D : ℕ → Bool) (f : Forest) (k p : ℕ) (previous next : Option ℕ) → IsForest f → parent_of f k ≡ Some p → is_attached f k ≡ true → ((a : ℕ) → D a ≡ true → is_within f a p ≡ false) → previous_of f k ≡ previous → next_of f k ≡ next
+beside_lies : (D : ℕ → Bool) (f : Forest) (k p : ℕ) (previous next : Option ℕ) → IsForest f → parent_of f k ≡ Some p → is_attached f k ≡ true
+    → ((a : ℕ) → D a ≡ true → is_within f a p ≡ false) → previous_of f k ≡ previous → next_of f k ≡ next
     → IfBeside D f k (beside f previous next)
 beside_lies D f k p (Some s) next h up there none before behind =
     let too = parent_of-previous f k s p h up before in
     let other : s ≢ k = previous_other f k s p h up before in
-    end_lies D f k s (kind_of f s) refl (is_attached-up f s p h too ∙ sym (is_attached-up f k p h up) ∙ there) (sibling_outside f k s p h up too other) (avoids_child D f s p h too none)
+    end_lies D f k s (kind_of f s) refl (is_attached-up f s p h too ∙ sym (is_attached-up f k p h up) ∙ there) (sibling_outside f k s p h up too other)
+    (avoids_child D f s p h too none)
 beside_lies D f k p None (Some s) h up there none before behind =
     let too = parent_of-next f k s p h up behind in
     let other : s ≢ k = λ same. absurd (grind (arith, same, next_other (siblings f k) k s (NoRepeats-siblings f k h) behind, eqb_tells s k)) in
-    start_lies D f k s (kind_of f s) refl (is_attached-up f s p h too ∙ sym (is_attached-up f k p h up) ∙ there) (sibling_outside f k s p h up too other) (avoids_child D f s p h too none)
+    start_lies D f k s (kind_of f s) refl (is_attached-up f s p h too ∙ sym (is_attached-up f k p h up) ∙ there) (sibling_outside f k s p h up too other)
+    (avoids_child D f s p h too none)
 beside_lies D f k p None None h up there none before behind = tt
 
-place_lies : (D : ℕ → Bool) (f : Forest) (k p index : ℕ) (there : Option Point) → IsForest f → IsHeld may_hold f → parent_of f k ≡ Some p → is_attached f k ≡ true → ((a : ℕ) → D a ≡ true → is_within f a p ≡ false) → index < size_of f p → IfBeside D f k there
+place_lies : (D : ℕ → Bool) (f : Forest) (k p index : ℕ) (there : Option Point) → IsForest f → IsHeld may_hold f → parent_of f k ≡ Some p
+    → is_attached f k ≡ true → ((a : ℕ) → D a ≡ true → is_within f a p ≡ false) → index < size_of f p → IfBeside D f k there
     → IsBeside D f k (place_for there p index)
 place_lies D f k p index (Some to) h held up attached none within fine = fine
 place_lies D f k p index None h held up attached none within fine = record {
@@ -184,12 +192,14 @@ sent_point : (D : ℕ → Bool) (f : Forest) (k : ℕ) (to x : Point) → (x.key
 unfolding moved_to
 sent_point D f k to x there apart = elim (eqb_tells x.key k) [
   | inl own ↦ rw own.0 (there own.1)
-  | inr other ↦ rw other.0 (record { lies_there = apart.so; outside = stays_outside f k x.key (is_within f k x.key) refl other.1 apart.clear; avoids = apart.avoids })
+  | inr other ↦
+      rw other.0 (record { lies_there = apart.so; outside = stays_outside f k x.key (is_within f k x.key) refl other.1 apart.clear; avoids = apart.avoids })
 ]
 
 -- ---- taken out
 
-taken_point : (D : ℕ → Bool) (f : Forest) (k p i : ℕ) (x : Point) → IsForest f → parent_of f k ≡ Some p → index_of f k ≡ Some i → IsBeside D f k x → LiesAvoiding D (take_out k f) (take_moves p i x)
+taken_point : (D : ℕ → Bool) (f : Forest) (k p i : ℕ) (x : Point) → IsForest f → parent_of f k ≡ Some p → index_of f k ≡ Some i → IsBeside D f k x
+    → LiesAvoiding D (take_out k f) (take_moves p i x)
 taken_point D f k p i x h up at beside =
     let parts = both (is_attached f x.key) (lies_in f x) beside.lies_there in (
       ap₂ ◌&&◌ (ap (is_attached (take_out k f)) (key_of_take p i x) ∙ attached_taken f k x.key h (not_root f k p h up) beside.outside parts.0)
@@ -197,19 +207,22 @@ taken_point D f k p i x h up at beside =
       subst (Avoids D (take_out k f)) (sym (key_of_take p i x)) (avoids_taken D f k x.key h beside.avoids),
     )
 
-one_taken : (D : ℕ → Bool) (f : Forest) (k p i : ℕ) (x : Point) → IsForest f → IsHeld may_hold f → parent_of f k ≡ Some p → index_of f k ≡ Some i → IsApart D f k x
+one_taken : (D : ℕ → Bool) (f : Forest) (k p i : ℕ) (x : Point) → IsForest f → IsHeld may_hold f → parent_of f k ≡ Some p → index_of f k ≡ Some i
+    → IsApart D f k x
     → LiesAvoiding D (take_out k f) (take_moves p i (moved_to k (place_for (beside f (previous_of f k) (next_of f k)) p i) x))
 one_taken D f k p i x h held up at apart =
     let to : Point = place_for (beside f (previous_of f k) (next_of f k)) p i in
     let there : x.key ≡ k → IsBeside D f k to = λ own.
     let attached : is_attached f k ≡ true = ap (is_attached f) (sym own) ∙ (both (is_attached f x.key) (lies_in f x) apart.so).0 in
     let none : (a : ℕ) → D a ≡ true → is_within f a p ≡ false = above_none D f k p h up (subst (Avoids D f) own apart.avoids) in
-    place_lies D f k p i (beside f (previous_of f k) (next_of f k)) h held up attached none (index_within f k p i up at) (beside_lies D f k p (previous_of f k) (next_of f k) h up attached none refl refl) in
+    place_lies D f k p i (beside f (previous_of f k) (next_of f k)) h held up attached none (index_within f k p i up at)
+    (beside_lies D f k p (previous_of f k) (next_of f k) h up attached none refl refl) in
     taken_point D f k p i (moved_to k to x) h up at (sent_point D f k to x there apart)
 
 each_apart : (D : ℕ → Bool) (k : ℕ) (w : Working) → IsLying w → IsClear k w → IsAvoiding D w → EachPoint (IsApart D w.forest k) w.selection
 each_apart D k w lying clear avoiding =
-    each_still (λ x. ((lies w.forest x ≡ true) × (is_within w.forest k x.key ≡ true → x.key ≡ k)) × Avoids D w.forest x.key) (IsApart D w.forest k) w.selection (λ x e. record { so = e.0.0; clear = e.0.1; avoids = e.1 })
+    each_still (λ x. ((lies w.forest x ≡ true) × (is_within w.forest k x.key ≡ true → x.key ≡ k)) × Avoids D w.forest x.key) (IsApart D w.forest k) w.selection
+    (λ x e. record { so = e.0.0; clear = e.0.1; avoids = e.1 })
     (each_both (λ x. (lies w.forest x ≡ true) × (is_within w.forest k x.key ≡ true → x.key ≡ k)) (λ x. Avoids D w.forest x.key) w.selection
     (each_both (λ x. lies w.forest x ≡ true) (λ x. is_within w.forest k x.key ≡ true → x.key ≡ k) w.selection lying clear) avoiding)
 
@@ -258,9 +271,12 @@ kept_taken D k w s fit same wrote all each =
         ready = all.ready;
         held = subst (IsHeld may_hold) g_is (IsHeld-take_out may_hold w.forest fit.ready.in_order fit.held k);
         short = subst (AreShort (take_out k s.forest)) (sym wrote) (subst (λ f. AreShort f w.written) g_is short);
-        lying = subst (λ f. EachPoint (λ x. lies f x ≡ true) (node_taken k s).selection) g_is (each_still (LiesAvoiding D g) (λ x. lies g x ≡ true) (node_taken k s).selection (λ x e. e.0) each);
+        lying = subst (λ f. EachPoint (λ x. lies f x ≡ true) (node_taken k s).selection) g_is
+            (each_still (LiesAvoiding D g) (λ x. lies g x ≡ true) (node_taken k s).selection (λ x e. e.0) each);
       };
-      avoiding = subst (λ f. EachPoint (λ x. Avoids D f x.key) (node_taken k s).selection) g_is (each_still (LiesAvoiding D g) (λ x. Avoids D g x.key) (node_taken k s).selection (λ x e. e.1) each);
+      avoiding =
+          subst (λ f. EachPoint (λ x. Avoids D f x.key) (node_taken k s).selection) g_is
+          (each_still (LiesAvoiding D g) (λ x. Avoids D g x.key) (node_taken k s).selection (λ x e. e.1) each);
       kinds = record { each = λ q kind e. all.kinds.each q kind (ap (λ f. kind_of f q) same ∙ e) };
     }
 
@@ -288,14 +304,17 @@ empty [] e = refl
 empty (x ∷ xs) e = absurd (omega (arith, e))
 
 pub clear_leaf : (k : ℕ) (w : Working) → Fit w → children_of w.forest k ≡ [] → IsClear k w
-clear_leaf k w fit none = each_all (λ x. is_within w.forest k x.key ≡ true → x.key ≡ k) w.selection (λ x inside. grind (arith, inside, is_within-leaf w.forest k x.key fit.ready.in_order none, eqb_tells x.key k))
+clear_leaf k w fit none =
+    each_all (λ x. is_within w.forest k x.key ≡ true → x.key ≡ k) w.selection
+    (λ x inside. grind (arith, inside, is_within-leaf w.forest k x.key fit.ready.in_order none, eqb_tells x.key k))
 
 pub clear_empty : (k : ℕ) (w : Working) → Fit w → size_of w.forest k ≡ 0 → IsClear k w
 clear_empty k w fit none = clear_leaf k w fit (empty (children_of w.forest k) none)
 
 -- and where a node is one that points avoid, none is strictly below it
 pub clear_avoided : (D : ℕ → Bool) (k : ℕ) (w : Working) → IsAvoiding D w → D k ≡ true → IsClear k w
-clear_avoided D k w avoiding so = each_still (λ x. Avoids D w.forest x.key) (λ x. is_within w.forest k x.key ≡ true → x.key ≡ k) w.selection (λ x avoids inside. avoids k so inside) avoiding
+clear_avoided D k w avoiding so =
+    each_still (λ x. Avoids D w.forest x.key) (λ x. is_within w.forest k x.key ≡ true → x.key ≡ k) w.selection (λ x avoids inside. avoids k so inside) avoiding
 
 -- a node that goes too has no children
 goes_empty : (inner : Option Kind) (f : Forest) (p : ℕ) → goes_too inner f p ≡ true → size_of f p ≡ 0
@@ -316,7 +335,8 @@ removed_keeps D k (p ∷ above) w v fit avoiding clear e =
     let first = after_tells (take_step k (sent_away k w)) (λ u. cond (goes_too (kind_of w.forest k) u.forest p) (removed p above u) (Ok u)) v e in
     let kept = take_keeps D k w first.0 fit avoiding clear first.1.0 in
     kept_then D w first.0 v kept
-    (goes_on D p above (kind_of w.forest k) first.0 v (goes_too (kind_of w.forest k) first.0.forest p) (removed_keeps D p above) refl kept.fit kept.avoiding first.1.1)
+    (goes_on D p above (kind_of w.forest k) first.0 v (goes_too (kind_of w.forest k) first.0.forest p) (removed_keeps D p above) refl kept.fit kept.avoiding
+    first.1.1)
 
 pub remove_keeps : (D : ℕ → Bool) (k : ℕ) (w v : Working) → Fit w → IsAvoiding D w → IsClear k w → remove_step k w ≡ Ok v → Kept D w v
 unfolding remove_step

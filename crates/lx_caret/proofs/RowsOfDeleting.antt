@@ -103,7 +103,8 @@ sublist = element 6 (ListKind Bullet) (element 7 Item (text 8 (codes "c") nil) n
 
 -- an item joins the one before, but for its list
 item_joined :
-    shown (delete_character_step true (started (items (element 2 Item (text 3 (codes "a") nil) (element 4 Item (text 5 (codes "b") sublist) nil))) (caret 5 0) 9))
+    shown (delete_character_step true
+    (started (items (element 2 Item (text 3 (codes "a") nil) (element 4 Item (text 5 (codes "b") sublist) nil))) (caret 5 0) 9))
     ≡ seen (items (element 2 Item (text 3 (codes "a") (text 5 (codes "b") nil)) (element 4 Item sublist nil))) (caret 5 0)
 unfolding commands
 item_joined = refl

@@ -27,7 +27,8 @@ bold_and_plain = document (paragraph 1 (text_of_format 2 1 (codes "ab") nil) (pa
 -- where the first of the selected parts is bold, none is any more
 bold_cleared :
     shown (format_text_step 1 (started bold_and_plain (between 2 1 4 1) 5))
-    ≡ seen (document (paragraph 1 (text_of_format 2 1 (codes "a") (text 5 (codes "b") nil)) (paragraph 3 (text 4 (codes "c") (text 6 (codes "d") nil)) nil)) nil)
+    ≡ seen (document (paragraph 1 (text_of_format 2 1 (codes "a") (text 5 (codes "b") nil)) (paragraph 3 (text 4 (codes "c") (text 6 (codes "d") nil)) nil))
+    nil)
     (between 2 1 4 1)
 unfolding commands
 bold_cleared = refl

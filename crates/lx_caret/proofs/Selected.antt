@@ -60,7 +60,8 @@ module _ (f : Forest) (h : IsForest f) (held : IsHeld may_hold f) where
   start_lies : (o : Option ℕ) → ((k : ℕ) → o ≡ Some k → is_attached f k ≡ true) → lies f (start_at f o) ≡ true
   start_lies None place = root_place
   start_lies (Some k) place = by_kind (is_at is_text f k) (is_at is_element f k) refl refl where
-    by_kind : (t e : Bool) → is_at is_text f k ≡ t → is_at is_element f k ≡ e → lies f (cond t (text_point k 0) (cond e (element_point k 0) (place_at 0 k (parent_of f k) (index_of f k)))) ≡ true
+    by_kind : (t e : Bool) → is_at is_text f k ≡ t → is_at is_element f k ≡ e
+        → lies f (cond t (text_point k 0) (cond e (element_point k 0) (place_at 0 k (parent_of f k) (index_of f k)))) ≡ true
     by_kind true e text element = ap₂ ◌&&◌ (place k refl) (ap₂ ◌&&◌ (text_counts (kind_of f k) text) (start_in (fields_of f k)))
     by_kind false true text element = ap₂ ◌&&◌ (place k refl) (ap₂ ◌&&◌ (element_counts (kind_of f k) element) (least (size_of f k)))
     by_kind false false text element = leaf_place k 0 (omega arith) (place k refl) element
@@ -68,7 +69,8 @@ module _ (f : Forest) (h : IsForest f) (held : IsHeld may_hold f) where
   end_lies : (o : Option ℕ) → ((k : ℕ) → o ≡ Some k → is_attached f k ≡ true) → lies f (end_at f o) ≡ true
   end_lies None place = root_place
   end_lies (Some k) place = by_kind (is_at is_text f k) (is_at is_element f k) refl refl where
-    by_kind : (t e : Bool) → is_at is_text f k ≡ t → is_at is_element f k ≡ e → lies f (cond t (text_point k (characters_at f k)) (cond e (element_point k 0) (place_at 1 k (parent_of f k) (index_of f k)))) ≡ true
+    by_kind : (t e : Bool) → is_at is_text f k ≡ t → is_at is_element f k ≡ e
+        → lies f (cond t (text_point k (characters_at f k)) (cond e (element_point k 0) (place_at 1 k (parent_of f k) (index_of f k)))) ≡ true
     by_kind true e text element = ap₂ ◌&&◌ (place k refl) (ap₂ ◌&&◌ (text_counts (kind_of f k) text) (end_in (fields_of f k)))
     by_kind false true text element = ap₂ ◌&&◌ (place k refl) (ap₂ ◌&&◌ (element_counts (kind_of f k) element) (least (size_of f k)))
     by_kind false false text element = leaf_place k 1 (omega arith) (place k refl) element
@@ -86,4 +88,5 @@ lies-select_all w v ready held short e =
     let a : Point = start_at f (first_leaf f 0) in
     let b : Point = end_at f (last_leaf f 0) in
     let told = answered (select_fault (Range a b 0) f) (record w { selection = Range a b 0 }) v e in
-    subst IsLying told.1 (start_lies f ready.in_order held (first_leaf f 0) (first_attached f ready.in_order held), end_lies f ready.in_order held (last_leaf f 0) (last_attached f ready.in_order held))
+    subst IsLying told.1
+    (start_lies f ready.in_order held (first_leaf f 0) (first_attached f ready.in_order held), end_lies f ready.in_order held (last_leaf f 0) (last_attached f ready.in_order held))

@@ -59,9 +59,11 @@ record Halfway (n k : ℕ) (w b : Working) : Type 0 where
 
 -- ---- the tail
 
-tail_point : (f : Forest) (n k offset : ℕ) (t : TextFields) (q o : ℕ) (kind : PointKind) → IsForest f → has n f ≡ false → IsText f k t → slice_fault t.text offset (length_told t.text) ≡ None
+tail_point : (f : Forest) (n k offset : ℕ) (t : TextFields) (q o : ℕ) (kind : PointKind) → IsForest f → has n f ≡ false → IsText f k t
+    → slice_fault t.text offset (length_told t.text) ≡ None
     → lies f (spot_point q o kind) ≡ true
-    → HalfLies (with_new (record { key = n; kind = kinds.Text; fields = text_replaced t (slice_of offset (length_told t.text) t.text) }) f) n k (split_moves k offset n (spot_point q o kind))
+    → HalfLies (with_new (record { key = n; kind = kinds.Text; fields = text_replaced t (slice_of offset (length_told t.text) t.text) }) f) n k
+    (split_moves k offset n (spot_point q o kind))
 unfolding split_moves has_characters is_element
 tail_point f n k offset t q o kind h free is piece e = by_place (eqb q k) refl (ltb offset o) refl kind parts where
   parts : (is_attached f q ≡ true) × (lies_in f (spot_point q o kind) ≡ true)
@@ -99,14 +101,16 @@ tail_point f n k offset t q o kind h free is piece e = by_place (eqb q k) refl (
       let attached_k : is_attached g k ≡ true = is_attached-with_new l f k h free ∙ ap (is_attached f) (sym same) ∙ parts.0 in
       let near : IsNear g n k n = grind (arith, self, attached_k) in (
         ap (λ y. is_counted_in point.Text (option_map (λ z. z.kind) y) && is_place_in (o - offset) (option_map (λ z. z.fields) y)) label
-            ∙ place_in (o - offset) (slice_of offset (length_told t.text) t.text) (tail_place o offset (length_told t.text) t.text first old behind within (place_small o (fields_of f k) at.within)),
+            ∙ place_in (o - offset) (slice_of offset (length_told t.text) t.text) (tail_place o offset (length_told t.text) t.text first old behind within
+            (place_small o (fields_of f k) at.within)),
         near,
       )
 
 half_ok : (n k : ℕ) (w u v : Working) → Halfway n k w u → ◌≡◌ {A = Result Working Cause} (Ok u) (Ok v) → Halfway n k w v
 half_ok n k w u v a e = let is : u ≡ v = cc in subst (Halfway n k w) is a
 
-tail_done : (k offset : ℕ) (w a b : Working) → Fit w → splice_fault k offset (length_at w.forest k) w.forest ≡ None → new_step kinds.Text (tail_of w.forest k offset) w ≡ Ok a
+tail_done : (k offset : ℕ) (w a b : Working) → Fit w → splice_fault k offset (length_at w.forest k) w.forest ≡ None
+    → new_step kinds.Text (tail_of w.forest k offset) w ≡ Ok a
     → ◌≡◌ {A = Result Working Cause} (Ok (pointed (split_moves k offset w.next_key) a)) (Ok b) → Halfway w.next_key k w b
 unfolding new_step
 tail_done k offset w a b fit none first second =
@@ -139,7 +143,8 @@ half_tail : (k offset : ℕ) (w b : Working) → Fit w → tail_made k offset w 
 unfolding tail_made
 half_tail k offset w b fit e = by_fault (splice_fault k offset (length_at w.forest k) w.forest) refl e where
   by_fault : (o : Option Cause) → splice_fault k offset (length_at w.forest k) w.forest ≡ o
-      → after (answer o w) (λ v. after (new_step kinds.Text (tail_of v.forest k offset) v) (λ made. Ok (pointed (split_moves k offset v.next_key) made))) ≡ Ok b → Halfway w.next_key k w b
+      → after (answer o w) (λ v. after (new_step kinds.Text (tail_of v.forest k offset) v) (λ made. Ok (pointed (split_moves k offset v.next_key) made))) ≡ Ok b
+      → Halfway w.next_key k w b
   by_fault (Some c) is e = absurd (cc)
   by_fault None is e =
       let first = after_tells (new_step kinds.Text (tail_of w.forest k offset) w) (λ made. Ok (pointed (split_moves k offset w.next_key) made)) b e in
@@ -167,8 +172,10 @@ half_splice n k from to new w b c half e =
       short = splice_written k from to new b s x same half.short;
       half = each_moved (HalfLies f n k) (HalfLies g n k) moved b.selection
           (λ p so. (
-            ap (λ y. lies_in (with_fields k y f) (moved p)) same ∙ lies_spliced f k from to new s.text p.key p.offset p.kind (text_at f k s.text s.text_is) s.piece (spliced_few k from to new b s half.short none.1) so.0,
-            ap (λ q. is_attached g q || (eqb q n && is_attached g k)) (key_of_splice k from to (length_told new) p) ∙ ap₂ (λ y z. y || (eqb p.key n && z)) (still p.key) (still k) ∙ so.1,
+            ap (λ y. lies_in (with_fields k y f) (moved p)) same ∙ lies_spliced f k from to new s.text p.key p.offset p.kind (text_at f k s.text
+                s.text_is) s.piece (spliced_few k from to new b s half.short none.1) so.0,
+            ap (λ q. is_attached g q || (eqb q n && is_attached g k)) (key_of_splice k from to (length_told new) p) ∙ ap₂ (λ y z. y
+                || (eqb p.key n && z)) (still p.key) (still k) ∙ so.1,
           )) half.half;
       attached = λ q so. still q ∙ half.attached q so;
       kept = record { each = λ q kind so. all.kinds.each q kind (half.kept.each q kind so) };
@@ -176,10 +183,12 @@ half_splice n k from to new w b c half e =
 
 -- ---- put right after
 
-near_put : (f : Forest) (n k p : ℕ) (before : Option ℕ) (q : ℕ) → IsForest f → CanPut p n f → parent_of f k ≡ Some p → IsNear f n k q → is_attached (put_in p before n f) q ≡ true
+near_put : (f : Forest) (n k p : ℕ) (before : Option ℕ) (q : ℕ) → IsForest f → CanPut p n f → parent_of f k ≡ Some p → IsNear f n k q
+    → is_attached (put_in p before n f) q ≡ true
 near_put f n k p before q h can up near =
     is_attached-put_in p before n f q h can ∙ by_key (eqb q n) refl near where
-      by_key : (same : Bool) → eqb q n ≡ same → (is_attached f q || (same && is_attached f k)) ≡ true → (is_attached f q || (is_within f n q && is_attached f p)) ≡ true
+      by_key : (same : Bool) → eqb q n ≡ same → (is_attached f q || (same && is_attached f k)) ≡ true
+          → (is_attached f q || (is_within f n q && is_attached f p)) ≡ true
       by_key true own near =
           let is : q ≡ n = grind (arith, own, eqb_tells q n) in
           let inside : is_within f n q ≡ true = ap (is_within f n) is ∙ is_within-self f n ∙ can.there in
@@ -225,7 +234,8 @@ unfolding cut_in_two
 stays_cut k offset w v fit e =
     let first = after_tells (tail_made k offset w) (λ made. after (splice_step k offset (length_at w.forest k) [] made) (put_behind_step w.next_key k)) v e in
     let second = after_tells (splice_step k offset (length_at w.forest k) [] first.0) (put_behind_step w.next_key k) v first.1.1 in
-    half_behind w.next_key k w second.0 v (half_splice w.next_key k offset (length_at w.forest k) [] w first.0 second.0 (half_tail k offset w first.0 fit first.1.0) second.1.0) second.1.1
+    half_behind w.next_key k w second.0 v
+    (half_splice w.next_key k offset (length_at w.forest k) [] w first.0 second.0 (half_tail k offset w first.0 fit first.1.0) second.1.0) second.1.1
 
 stays_cuts : (piece start : ℕ) (offsets : List ℕ) → Staying (cut_at piece start offsets)
 stays_cuts piece start [] w v fit e = stays_ok w w v (stays_self w fit) e

@@ -59,7 +59,8 @@ pub AreCutOff-append : (a b c : SinkSeen) (xs ys : List ℕ) → AreWritten xs a
 AreCutOff-append a b c xs ys p q = record {
   appends = Appends-append a.taken b.taken c.taken xs ys p.appends q.appends;
   faults = subst (λ (f : ℕ). HasRisen f c.faults) p.faults q.faults;
-  writes = IsCounted-through a.writes b.writes c.writes (length xs) (length ys + 1) (length (xs ++ ys) + 1) (omega (arith, length-append xs ys)) p.writes q.writes;
+  writes =
+      IsCounted-through a.writes b.writes c.writes (length xs) (length ys + 1) (length (xs ++ ys) + 1) (omega (arith, length-append xs ys)) p.writes q.writes;
 }
 
 pub AreRead-none : (source : SourceSeen) → AreRead [] source source

@@ -47,8 +47,10 @@ unfolding Ends
 ends_along A B goes Done run p = record { taken = p.taken; at_end = p.at_end; short = p.short; follows = goes _ _ p.follows; faultless = p.faultless }
 ends_along A B goes Usage run p = p
 ends_along A B goes ReadFault run p = record { taken = p.taken; short = p.short; follows = goes _ _ p.follows; source = p.source; sink = p.sink }
-ends_along A B goes WriteFault run p = record { taken = p.taken; lines = p.lines; may = p.may; front = front_along A B goes p.lines run.written p.front; source = p.source; sink = p.sink }
-ends_along A B goes Memory run p = record { taken = p.taken; lines = p.lines; may = p.may; front = front_along A B goes p.lines run.written p.front; faultless = p.faultless }
+ends_along A B goes WriteFault run p =
+    record { taken = p.taken; lines = p.lines; may = p.may; front = front_along A B goes p.lines run.written p.front; source = p.source; sink = p.sink }
+ends_along A B goes Memory run p =
+    record { taken = p.taken; lines = p.lines; may = p.may; front = front_along A B goes p.lines run.written p.front; faultless = p.faultless }
 ends_along A B goes InputTooLong run p = record { taken = p.taken; long = p.long; follows = goes _ _ p.follows; faultless = p.faultless }
 
 -- where these bytes are replies to lines, those are too

@@ -97,7 +97,8 @@ module _ (words : List (List ℕ)) (is_taken : are_taken words ≡ true) where
   Ran status read q r s t = (written : List ℕ) × IsServedRun status (worded words read written q r s t)
 
   -- what is taken in a run from its begin
-  taken_new : (a b : Session) (s t : SinkSeen) (bytes : List ℕ) → IsNew (asked_for words) a → AreTaken bytes a b s t → AreAnswered (ended bytes) (served_with words) b.served s t
+  taken_new : (a b : Session) (s t : SinkSeen) (bytes : List ℕ) → IsNew (asked_for words) a → AreTaken bytes a b s t
+      → AreAnswered (ended bytes) (served_with words) b.served s t
   taken_new a b s t bytes new p =
       subst (λ (served : Served). AreAnswered (ended bytes) served b.served s t) new.served
       (subst (λ (waits : List ℕ). AreAnswered (ended (waits ++ bytes)) a.served b.served s t) new.pending p.answered)
@@ -122,7 +123,8 @@ module _ (words : List (List ℕ)) (is_taken : are_taken words ≡ true) where
             taken = is_taken;
             at_end = p.source.at_end;
             short = p.within;
-            follows = (end, FollowsInTo-append (served_with words) b.session.served end (ended read) (last_line (unended read)) lines.written last.written lines.follows last.follows);
+            follows =
+                (end, FollowsInTo-append (served_with words) b.session.served end (ended read) (last_line (unended read)) lines.written last.written lines.follows last.follows);
             faultless = record { source = p.source.faults; sink = sink.faults };
           };
           consumes = p.source.consumes;
@@ -243,17 +245,20 @@ module _ (words : List (List ℕ)) (is_taken : are_taken words ≡ true) where
   stopped stop.TooLong a b new early p = let run = Ran-too_long a b p.bytes new p.stops in (p.bytes, run.0, run.1)
 
   -- where no more was read before the end
-  pub HasRun-stopped : (r : Status) (why : Stop) (a b : Moment) → r ≡ stop_status why → IsNew (asked_for words) a.session → why ≢ stop.End → HasStopped why input_limit a b
+  pub HasRun-stopped : (r : Status) (why : Stop) (a b : Moment) → r ≡ stop_status why → IsNew (asked_for words) a.session → why ≢ stop.End
+      → HasStopped why input_limit a b
       → (read written : List ℕ) × IsServedRun r (worded words read written a.source b.source a.sink b.sink)
   HasRun-stopped r why a b is new early p =
-      subst (λ (r : Status). (read written : List ℕ) × IsServedRun r (worded words read written a.source b.source a.sink b.sink)) (sym is) (stopped why a b new early p)
+      subst (λ (r : Status). (read written : List ℕ) × IsServedRun r (worded words read written a.source b.source a.sink b.sink)) (sym is)
+      (stopped why a b new early p)
 
   pub HasRun-done : (a b : Moment) (end : Served) (t : SinkSeen) → IsNew (asked_for words) a.session → HasStopped stop.End input_limit a b
       → AreAnswered (last_line b.session.pending.items) b.session.served end b.sink t
       → (read written : List ℕ) × IsServedRun Done (worded words read written a.source b.source a.sink t)
   HasRun-done a b end t new p q = let run = Ran-done a b end t p.bytes new p.stops q in (p.bytes, run.0, run.1)
 
-  pub HasRun-last_unanswered : (r : Status) (why : Unanswered) (a b : Moment) (t : SinkSeen) → r ≡ unanswered_status why → IsNew (asked_for words) a.session → HasStopped stop.End input_limit a b
+  pub HasRun-last_unanswered : (r : Status) (why : Unanswered) (a b : Moment) (t : SinkSeen) → r ≡ unanswered_status why → IsNew (asked_for words) a.session
+      → HasStopped stop.End input_limit a b
       → AreUnanswered why (last_line b.session.pending.items) b.session.served b.sink t
       → (read written : List ℕ) × IsServedRun r (worded words read written a.source b.source a.sink t)
   HasRun-last_unanswered r why a b t is new p q =

@@ -15,7 +15,8 @@ HasRisen-none : (old new : ℕ) → old ≡ 0 → new ≡ 0 → HasRisen old new
 HasRisen-none old new before after risen = elim risen [ inl p ↦ omega arith | inr p ↦ omega arith ]
 
 -- they don't end with a read fault
-IsAnsweredRun-sure : (AreReplies : List (List ℕ) → List ℕ → Type 0) (status : Status) (run : Seen) → IsAnsweredRun AreReplies status run → run.source_before.faults ≡ 0 → run.source_after.faults ≡ 0 → status ≢ ReadFault
+IsAnsweredRun-sure : (AreReplies : List (List ℕ) → List ℕ → Type 0) (status : Status) (run : Seen) → IsAnsweredRun AreReplies status run
+    → run.source_before.faults ≡ 0 → run.source_after.faults ≡ 0 → status ≢ ReadFault
 unfolding Ends
 IsAnsweredRun-sure AreReplies status run p before after is =
     let end : Ends AreReplies ReadFault run = subst (λ (status : Status). Ends AreReplies status run) is p.ends in

@@ -45,7 +45,8 @@ pub covers-joined : (e : Extent) (a b : Forest) → covers e (joined a b) ≡ jo
 unfolding covers
 covers-joined e nil b = refl
 covers-joined e (tree l below rest) b =
-    ap (joined (cover e l.fields l (covers e below))) (covers-joined e rest b) ∙ sym (joined_assoc (cover e l.fields l (covers e below)) (covers e rest) (covers e b))
+    ap (joined (cover e l.fields l (covers e below))) (covers-joined e rest b)
+    ∙ sym (joined_assoc (cover e l.fields l (covers e below)) (covers e rest) (covers e b))
 
 and_assoc : (a b c : Bool) → ((a && b) && c) ≡ (a && (b && c))
 and_assoc true b c = refl
@@ -53,7 +54,8 @@ and_assoc false b c = refl
 
 pub inline-joined : (a b : Forest) → are_inline (joined a b) ≡ (are_inline a && are_inline b)
 inline-joined nil b = refl
-inline-joined (tree l below rest) b = ap (λ x. is_inline l.kind && x) (inline-joined rest b) ∙ sym (and_assoc (is_inline l.kind) (are_inline rest) (are_inline b))
+inline-joined (tree l below rest) b =
+    ap (λ x. is_inline l.kind && x) (inline-joined rest b) ∙ sym (and_assoc (is_inline l.kind) (are_inline rest) (are_inline b))
 
 -- ---- the same nodes between, in another order
 
@@ -76,24 +78,28 @@ joined_nil : (f : Forest) → joined f nil ≡ f
 joined_nil nil = refl
 joined_nil (tree l below rest) = ap (tree l below) (joined_nil rest)
 
-pub cover_read : (e : Extent) (f : Forest) (key : ℕ) (n : Node) → IsRead f key n → covers e (alone key f) ≡ cover e n.fields (label_for key n) (covers e (trees_of f (children_of f key)))
+pub cover_read : (e : Extent) (f : Forest) (key : ℕ) (n : Node) → IsRead f key n
+    → covers e (alone key f) ≡ cover e n.fields (label_for key n) (covers e (trees_of f (children_of f key)))
 unfolding covers
 cover_read e f key n read = ap (covers e) read.tree_is ∙ joined_nil (cover e n.fields (label_for key n) (covers e (trees_of f (children_of f key))))
 
-pub text_read : (e : Extent) (f : Forest) (key : ℕ) (n : Node) (text : TextFields) → IsRead f key n → n.fields ≡ fields.Text text → covers e (alone key f) ≡ text_cover e text (label_for key n)
+pub text_read : (e : Extent) (f : Forest) (key : ℕ) (n : Node) (text : TextFields) → IsRead f key n → n.fields ≡ fields.Text text
+    → covers e (alone key f) ≡ text_cover e text (label_for key n)
 text_read e f key n text read is = cover_read e f key n read ∙ ap (λ x. cover e x (label_for key n) (covers e (trees_of f (children_of f key)))) is
 
 pub element_read : (e : Extent) (f : Forest) (key : ℕ) (n : Node) (element : ElementFields) → IsRead f key n → n.fields ≡ fields.Element element
     → covers e (alone key f) ≡ element_cover e (label_for key n) (covers e (trees_of f (children_of f key)))
 element_read e f key n element read is = cover_read e f key n read ∙ ap (λ x. cover e x (label_for key n) (covers e (trees_of f (children_of f key)))) is
 
-leaf_of : (e : Extent) (x : Fields) (l : Label) (below : Forest) → ((text : TextFields) → x ≡ fields.Text text → ⊥) → ((element : ElementFields) → x ≡ fields.Element element → ⊥) → cover e x l below ≡ leaf_cover e l
+leaf_of : (e : Extent) (x : Fields) (l : Label) (below : Forest) → ((text : TextFields) → x ≡ fields.Text text → ⊥)
+    → ((element : ElementFields) → x ≡ fields.Element element → ⊥) → cover e x l below ≡ leaf_cover e l
 leaf_of e (fields.Text text) l below no_text no_element = absurd (no_text text refl)
 leaf_of e (fields.Element element) l below no_text no_element = absurd (no_element element refl)
 leaf_of e (fields.Embed source) l below no_text no_element = refl
 leaf_of e fields.Bare l below no_text no_element = refl
 
-pub leaf_read : (e : Extent) (f : Forest) (key : ℕ) (n : Node) → IsRead f key n → ((text : TextFields) → n.fields ≡ fields.Text text → ⊥) → ((element : ElementFields) → n.fields ≡ fields.Element element → ⊥)
+pub leaf_read : (e : Extent) (f : Forest) (key : ℕ) (n : Node) → IsRead f key n → ((text : TextFields) → n.fields ≡ fields.Text text → ⊥)
+    → ((element : ElementFields) → n.fields ≡ fields.Element element → ⊥)
     → covers e (alone key f) ≡ leaf_cover e (label_for key n)
 leaf_read e f key n read no_text no_element =
     cover_read e f key n read ∙ leaf_of e n.fields (label_for key n) (covers e (trees_of f (children_of f key))) no_text no_element
@@ -128,15 +134,17 @@ cover_kind e (fields.Embed source) l below = if_kind (is_among l.key e.between) 
 cover_kind e fields.Bare l below = if_kind (is_among l.key e.between) l.kind (tree l nil nil) (refl, refl)
 
 pub kind_read : (e : Extent) (f : Forest) (key : ℕ) (n : Node) → IsRead f key n → HasKind n.kind (covers e (alone key f))
-kind_read e f key n read = subst (HasKind n.kind) (sym (cover_read e f key n read)) (cover_kind e n.fields (label_for key n) (covers e (trees_of f (children_of f key))))
+kind_read e f key n read =
+    subst (HasKind n.kind) (sym (cover_read e f key n read)) (cover_kind e n.fields (label_for key n) (covers e (trees_of f (children_of f key))))
 
 inline_of : (kind : Kind) (c : Forest) (d : Data) → HasKind kind c → trees_data c ≡ item d no_items → are_inline c ≡ is_inline kind
 unfolding trees_data
 inline_of kind nil d of is = absurd (cc)
-inline_of kind (tree l below rest) d of is = ap (λ k. is_inline k && are_inline rest) of.0 ∙ ap (λ f. is_inline kind && are_inline f) of.1 ∙ and_true (is_inline kind) where
-  and_true : (b : Bool) → (b && true) ≡ b
-  and_true true = refl
-  and_true false = refl
+inline_of kind (tree l below rest) d of is =
+    ap (λ k. is_inline k && are_inline rest) of.0 ∙ ap (λ f. is_inline kind && are_inline f) of.1 ∙ and_true (is_inline kind) where
+      and_true : (b : Bool) → (b && true) ≡ b
+      and_true true = refl
+      and_true false = refl
 
 -- ---- an element
 
@@ -146,14 +154,16 @@ not_both false true e = refl
 not_both a false e = absurd (cc)
 
 -- it has something below it, or lies between
-pub is_kept : (e : Extent) (l : Label) (f : Forest) (d : Data) → (is_nil f && not (is_among l.key e.between)) ≡ false → d ≡ node_data l.kind l.fields (trees_data f) → trees_data (element_cover e l f) ≡ item d no_items
+pub is_kept : (e : Extent) (l : Label) (f : Forest) (d : Data) → (is_nil f && not (is_among l.key e.between)) ≡ false
+    → d ≡ node_data l.kind l.fields (trees_data f) → trees_data (element_cover e l f) ≡ item d no_items
 unfolding trees_data
 is_kept e l f d kept is = ap (λ b. trees_data (cond b nil (tree l f nil))) kept ∙ ap (λ d. item d no_items) (sym is)
 
 pub lies_between : (e : Extent) (l : Label) (f : Forest) → is_among l.key e.between ≡ true → (is_nil f && not (is_among l.key e.between)) ≡ false
 lies_between e l f between = not_both (is_nil f) (is_among l.key e.between) between
 
-pub has_some : (e : Extent) (l : Label) (f : Forest) (vs : List Value) (n : ℕ) → n ≡ length vs → items_view vs ≡ trees_data f → (n == 0) ≡ false → (is_nil f && not (is_among l.key e.between)) ≡ false
+pub has_some : (e : Extent) (l : Label) (f : Forest) (vs : List Value) (n : ℕ) → n ≡ length vs → items_view vs ≡ trees_data f → (n == 0) ≡ false
+    → (is_nil f && not (is_among l.key e.between)) ≡ false
 unfolding trees_data
 has_some e l f [] n count same some = let bad : true ≡ false = ap (λ k. k == 0) (sym count) ∙ some in absurd (cc)
 has_some e l nil (v ∷ vs) n count same some = absurd (cc)
@@ -164,22 +174,26 @@ has_some e l (tree m below rest) (v ∷ vs) n count same some = refl
 -- the node that is read of a key has the kind of the key
 pub is_kind : (test : Kind → Bool) (f : Forest) (key : ℕ) (n : Node) → Some n ≡ option_map node_of (record_at f key) → is_at test f key ≡ test n.kind
 is_kind test f key n read = by_spot (spot f key) refl read where
-  by_spot : (o : Option (Spot Label)) → spot f key ≡ o → Some n ≡ option_map node_of (option_map (linked (siblings f key) key) o) → is_at test f key ≡ test n.kind
+  by_spot : (o : Option (Spot Label)) → spot f key ≡ o → Some n ≡ option_map node_of (option_map (linked (siblings f key) key) o)
+      → is_at test f key ≡ test n.kind
   by_spot None at e = absurd (cc)
   by_spot (Some x) at e =
       let same : n ≡ node_of (linked (siblings f key) key x) = same_Some n (node_of (linked (siblings f key) key x)) e in
       ap (λ o. passes test (option_map (λ (l : Label). l.kind) (option_map (λ (s : Spot Label). s.label) o))) at ∙ sym (ap (λ (m : Node). test m.kind) same)
 
-pub as_written : {E : Type 0} (r : Result (Option Value) E) (c d : Forest) → c ≡ d → IfOk r (λ v. trees_data d ≡ item_if (option_map view v)) → IfOk r (λ v. trees_data c ≡ item_if (option_map view v))
+pub as_written : {E : Type 0} (r : Result (Option Value) E) (c d : Forest) → c ≡ d → IfOk r (λ v. trees_data d ≡ item_if (option_map view v))
+    → IfOk r (λ v. trees_data c ≡ item_if (option_map view v))
 as_written (Ok v) c d same written = ap trees_data same ∙ written
 as_written (Err e) c d same written = tt
 
 pub as_element : {E : Type 0} (r : Result (Option Value) E) (e : Extent) (l : Label) (vs : List Value) (below : Forest) → items_view vs ≡ trees_data below
-    → IfOk r (λ v. (f : Forest) → items_view vs ≡ trees_data f → trees_data (element_cover e l f) ≡ item_if (option_map view v)) → IfOk r (λ v. trees_data (element_cover e l below) ≡ item_if (option_map view v))
+    → IfOk r (λ v. (f : Forest) → items_view vs ≡ trees_data f → trees_data (element_cover e l f) ≡ item_if (option_map view v))
+    → IfOk r (λ v. trees_data (element_cover e l below) ≡ item_if (option_map view v))
 as_element (Ok v) e l vs below same written = written below same
 as_element (Err x) e l vs below same written = tt
 
-pub as_inline : {E : Type 0} (r : Result (Option Value) E) (kind : Kind) (c : Forest) (b : Bool) → HasKind kind c → b ≡ is_inline kind → IfOk r (λ v. trees_data c ≡ item_if (option_map view v))
+pub as_inline : {E : Type 0} (r : Result (Option Value) E) (kind : Kind) (c : Forest) (b : Bool) → HasKind kind c → b ≡ is_inline kind
+    → IfOk r (λ v. trees_data c ≡ item_if (option_map view v))
     → IfOk r (λ v. IfSome v (λ x. are_inline c ≡ b))
 as_inline (Ok (Some x)) kind c b of is written = inline_of kind c (view x) of written ∙ sym is
 as_inline (Ok None) kind c b of is written = tt
@@ -212,10 +226,12 @@ pub record IsCoveredUpTo (e : Extent) (f : Forest) (all left : List ℕ) (values
   pub alike : (inline && are_inline (covers e (trees_of f left))) ≡ are_inline (covers e (trees_of f all))
 
 -- the covers of the first of those that are left, and of the rest
-parted : (e : Extent) (f : Forest) (left rest : List ℕ) (k : ℕ) → left ≡ k ∷ rest → covers e (trees_of f left) ≡ joined (covers e (alone k f)) (covers e (trees_of f rest))
+parted : (e : Extent) (f : Forest) (left rest : List ℕ) (k : ℕ) → left ≡ k ∷ rest
+    → covers e (trees_of f left) ≡ joined (covers e (alone k f)) (covers e (trees_of f rest))
 parted e f left rest k first = ap (λ ks. covers e (trees_of f ks)) first ∙ covers-joined e (alone k f) (trees_of f rest)
 
-left_part : (all left rest : List ℕ) (k q : ℕ) → ((q : ℕ) → is_among q left ≡ true → is_among q all ≡ true) → left ≡ k ∷ rest → is_among q rest ≡ true → is_among q all ≡ true
+left_part : (all left rest : List ℕ) (k q : ℕ) → ((q : ℕ) → is_among q left ≡ true → is_among q all ≡ true) → left ≡ k ∷ rest → is_among q rest ≡ true
+    → is_among q all ≡ true
 left_part all left rest k q part first among = part q (ap (is_among q) first ∙ grind (arith, among))
 
 nothing_is_inline : (f : Forest) → trees_data f ≡ no_items → are_inline f ≡ true
@@ -224,13 +240,15 @@ nothing_is_inline nil e = refl
 nothing_is_inline (tree l below rest) e = absurd (cc)
 
 -- nothing of a child is covered
-pub covered_past : (e : Extent) (f : Forest) (all left rest : List ℕ) (k : ℕ) (values : List Value) (inline : Bool) → IsCoveredUpTo e f all left values inline → left ≡ k ∷ rest → trees_data (covers e (alone k f)) ≡ no_items
+pub covered_past : (e : Extent) (f : Forest) (all left rest : List ℕ) (k : ℕ) (values : List Value) (inline : Bool) → IsCoveredUpTo e f all left values inline
+    → left ≡ k ∷ rest → trees_data (covers e (alone k f)) ≡ no_items
     → IsCoveredUpTo e f all rest values inline
 covered_past e f all left rest k values inline m first none = record {
   part = λ q among. left_part all left rest k q m.part first among;
   objects =
       ap (λ ds. map view values ++ (ds ++ written (covers e (trees_of f rest)))) (sym (one_written (covers e (alone k f)) None none))
-      ∙ ap (λ ds. map view values ++ ds) (sym (written-joined (covers e (alone k f)) (covers e (trees_of f rest))) ∙ ap written (sym (parted e f left rest k first)))
+      ∙ ap (λ ds. map view values ++ ds)
+      (sym (written-joined (covers e (alone k f)) (covers e (trees_of f rest))) ∙ ap written (sym (parted e f left rest k first)))
       ∙ m.objects;
   alike =
       ap (λ b. inline && (b && are_inline (covers e (trees_of f rest)))) (sym (nothing_is_inline (covers e (alone k f)) none))
@@ -239,8 +257,10 @@ covered_past e f all left rest k values inline m first none = record {
 }
 
 -- one child more
-pub covered_more : (e : Extent) (f : Forest) (all left rest : List ℕ) (k : ℕ) (values new : List Value) (inline then : Bool) (v : Value) → IsCoveredUpTo e f all left values inline → left ≡ k ∷ rest → new ≡ values ++ v ∷ []
-    → then ≡ (inline && is_at is_inline f k) → trees_data (covers e (alone k f)) ≡ item (view v) no_items → are_inline (covers e (alone k f)) ≡ is_at is_inline f k → IsCoveredUpTo e f all rest new then
+pub covered_more : (e : Extent) (f : Forest) (all left rest : List ℕ) (k : ℕ) (values new : List Value) (inline then : Bool) (v : Value)
+    → IsCoveredUpTo e f all left values inline → left ≡ k ∷ rest → new ≡ values ++ v ∷ []
+    → then ≡ (inline && is_at is_inline f k) → trees_data (covers e (alone k f)) ≡ item (view v) no_items
+    → are_inline (covers e (alone k f)) ≡ is_at is_inline f k → IsCoveredUpTo e f all rest new then
 covered_more e f all left rest k values new inline then v m first is then_is own kind = record {
   part = λ q among. left_part all left rest k q m.part first among;
   objects =
@@ -248,7 +268,8 @@ covered_more e f all left rest k values new inline then v m first is then_is own
       ∙ ap (λ ds. ds ++ written (covers e (trees_of f rest))) (map_more values v)
       ∙ append_assoc (map view values) (view v ∷ []) (written (covers e (trees_of f rest)))
       ∙ ap (λ ds. map view values ++ (ds ++ written (covers e (trees_of f rest)))) (sym (one_written (covers e (alone k f)) (Some (view v)) own))
-      ∙ ap (λ ds. map view values ++ ds) (sym (written-joined (covers e (alone k f)) (covers e (trees_of f rest))) ∙ ap written (sym (parted e f left rest k first)))
+      ∙ ap (λ ds. map view values ++ ds)
+      (sym (written-joined (covers e (alone k f)) (covers e (trees_of f rest))) ∙ ap written (sym (parted e f left rest k first)))
       ∙ m.objects;
   alike =
       ap (λ b. b && are_inline (covers e (trees_of f rest))) (then_is ∙ ap (λ b. inline && b) (sym kind))
@@ -262,7 +283,8 @@ pub record IsChildLeft (f : Forest) (key child : ℕ) : Type 0 where
   pub there : has child f ≡ true
   pub smaller : total (alone child f) < total (alone key f)
 
-pub child_left : (e : Extent) (f : Forest) (key child : ℕ) (all left rest : List ℕ) (values : List Value) (inline : Bool) → Sound f → all ≡ children_of f key → IsCoveredUpTo e f all left values inline → left ≡ child ∷ rest → IsChildLeft f key child
+pub child_left : (e : Extent) (f : Forest) (key child : ℕ) (all left rest : List ℕ) (values : List Value) (inline : Bool) → Sound f → all ≡ children_of f key
+    → IsCoveredUpTo e f all left values inline → left ≡ child ∷ rest → IsChildLeft f key child
 child_left e f key child all left rest values inline s is m first =
     let among : is_among child left ≡ true = ap (is_among child) first ∙ grind (arith, eqb_tells child child) in
     let up : parent_of f child ≡ Some key = parent_of-child f child key s (sym (ap (is_among child) is) ∙ m.part child among) in
@@ -270,14 +292,18 @@ child_left e f key child all left rest values inline s is m first =
     record { there = there; smaller = total-alone-lt f child key (in_order_at f child s there) up }
 
 -- all children
-pub all_covered : (e : Extent) (f : Forest) (key : ℕ) (all left : List ℕ) (values : List Value) (inline : Bool) → all ≡ children_of f key → left ≡ [] → IsCoveredUpTo e f all left values inline
+pub all_covered : (e : Extent) (f : Forest) (key : ℕ) (all left : List ℕ) (values : List Value) (inline : Bool) → all ≡ children_of f key → left ≡ []
+    → IsCoveredUpTo e f all left values inline
     → items_view values ≡ trees_data (covers e (trees_of f (children_of f key)))
 unfolding covers
 all_covered e f key all left values inline is none m =
-    ap items_of (sym (append-nil (map view values)) ∙ sym (ap (λ ks. map view values ++ written (covers e (trees_of f ks))) none) ∙ m.objects ∙ ap (λ ks. written (covers e (trees_of f ks))) is)
+    ap items_of
+    (sym (append-nil (map view values)) ∙ sym (ap (λ ks. map view values ++ written (covers e (trees_of f ks))) none) ∙ m.objects
+    ∙ ap (λ ks. written (covers e (trees_of f ks))) is)
     ∙ items_of-written (covers e (trees_of f (children_of f key)))
 
-pub all_inline : (e : Extent) (f : Forest) (key : ℕ) (all left : List ℕ) (values : List Value) (inline : Bool) → all ≡ children_of f key → left ≡ [] → IsCoveredUpTo e f all left values inline
+pub all_inline : (e : Extent) (f : Forest) (key : ℕ) (all left : List ℕ) (values : List Value) (inline : Bool) → all ≡ children_of f key → left ≡ []
+    → IsCoveredUpTo e f all left values inline
     → inline ≡ are_inline (covers e (trees_of f (children_of f key)))
 unfolding covers
 all_inline e f key all left values inline is none m =

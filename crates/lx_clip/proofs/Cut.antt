@@ -25,7 +25,8 @@ use Rattle.lx_json.specs.Exporting.{trees_data}
 use Rattle.lx_clip.specs.Covers.{Extent, from_in, to_in, is_met, is_covered_text, cut_to, part_cover, text_cover, label_for}
 
 -- another text is all that changes
-pub piece_suits : (kind : Kind) (f : Fields) (text : TextFields) (piece : List ℕ) → IsOfKind kind f → if_normal (text_fields kind f) ≡ Some text → IsOfKind kind (text_replaced text piece)
+pub piece_suits : (kind : Kind) (f : Fields) (text : TextFields) (piece : List ℕ) → IsOfKind kind f → if_normal (text_fields kind f) ≡ Some text
+    → IsOfKind kind (text_replaced text piece)
 unfolding is_of_kind fits_kind is_text_of are_text_fields is_possible
 piece_suits Text (fields.Text old) text piece suits is = by_mode (is_normal old.mode) is where
   by_mode : (b : Bool) → cond b (Some old) None ≡ Some text → IsOfKind Text (text_replaced text piece)
@@ -40,18 +41,22 @@ abbrev pub left_of : Fields → Option TextFields → ℕ → ℕ → Fields
 left_of old None from to = old
 left_of old (Some text) from to = text_replaced text (slice_of from to text.text)
 
-piece_data : (o : Option TextFields) (from to : ℕ) (l : Label) (ds : Items) → node_data (cut_to o from to l).kind (cut_to o from to l).fields ds ≡ node_data l.kind (left_of l.fields o from to) ds
+piece_data : (o : Option TextFields) (from to : ℕ) (l : Label) (ds : Items)
+    → node_data (cut_to o from to l).kind (cut_to o from to l).fields ds ≡ node_data l.kind (left_of l.fields o from to) ds
 piece_data None from to l ds = refl
 piece_data (Some text) from to l ds = refl
 
-pub piece_written : {E : Type 0} (r : Result Value E) (from to : ℕ) (n : Node) (o : Option TextFields) (now : Fields) (below : List Value) → o ≡ if_normal (text_fields n.kind n.fields) → now ≡ left_of n.fields o from to → below ≡ []
-    → IfOk r (λ v. view v ≡ node_data n.kind now (items_view below)) → IfOk r (λ v. (key : ℕ) → trees_data (part_cover from to (label_for key n)) ≡ item (view v) no_items)
+pub piece_written : {E : Type 0} (r : Result Value E) (from to : ℕ) (n : Node) (o : Option TextFields) (now : Fields) (below : List Value)
+    → o ≡ if_normal (text_fields n.kind n.fields) → now ≡ left_of n.fields o from to → below ≡ []
+    → IfOk r (λ v. view v ≡ node_data n.kind now (items_view below))
+    → IfOk r (λ v. (key : ℕ) → trees_data (part_cover from to (label_for key n)) ≡ item (view v) no_items)
 unfolding trees_data
 piece_written (Err e) from to n o now below is left none written = tt
 piece_written (Ok v) from to n o now below is left none written = λ key.
     ap (λ (x : Option TextFields). trees_data (tree (cut_to x from to (label_for key n)) nil nil)) (sym is)
     ∙ ap (λ d. item d no_items)
-    (piece_data o from to (label_for key n) no_items ∙ ap (λ x. node_data n.kind x no_items) (sym left) ∙ ap (λ vs. node_data n.kind now (items_view vs)) (sym none) ∙ sym written)
+    (piece_data o from to (label_for key n) no_items ∙ ap (λ x. node_data n.kind x no_items) (sym left)
+    ∙ ap (λ vs. node_data n.kind now (items_view vs)) (sym none) ∙ sym written)
 
 -- ---- when there is none
 
@@ -62,7 +67,8 @@ second_false : (a b : Bool) → b ≡ false → (a && b) ≡ false
 second_false true b off = off
 second_false false b off = refl
 
-pub uncovered : (e : Extent) (text : TextFields) (l : Label) (met : Bool) (from to : ℕ) → met ≡ is_met e l.key → from ≡ from_in e l.key → to ≡ to_in e l.key (length_told text.text) → ((met ≡ true) × (to ≤ from)) ⊎ (met ≡ false)
+pub uncovered : (e : Extent) (text : TextFields) (l : Label) (met : Bool) (from to : ℕ) → met ≡ is_met e l.key → from ≡ from_in e l.key
+    → to ≡ to_in e l.key (length_told text.text) → ((met ≡ true) × (to ≤ from)) ⊎ (met ≡ false)
     → trees_data (text_cover e text l) ≡ no_items
 unfolding trees_data
 uncovered e text l met from to is start end out =

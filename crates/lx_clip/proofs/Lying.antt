@@ -32,7 +32,8 @@ fits_ok u v fit e = let is : u ≡ v = cc in subst Fit is fit
 
 -- ---- nodes at a point
 
-nodes_put : (p : Point) (k : ℕ) (ks : List ℕ) (w v : Working) → Fit w → is_attached w.forest p.key ≡ true → after (opened p w) (λ split. after (put_all_by p (k ∷ ks) split) (λ put. Ok (caret_after (k ∷ ks) put))) ≡ Ok v → Fit v
+nodes_put : (p : Point) (k : ℕ) (ks : List ℕ) (w v : Working) → Fit w → is_attached w.forest p.key ≡ true
+    → after (opened p w) (λ split. after (put_all_by p (k ∷ ks) split) (λ put. Ok (caret_after (k ∷ ks) put))) ≡ Ok v → Fit v
 nodes_put p k ks w v fit place e =
     let at_end : Working → Result Working Cause = λ put. Ok (caret_after (k ∷ ks) put) in
     let one = after_tells (opened p w) (λ split. after (put_all_by p (k ∷ ks) split) at_end) v e in
@@ -41,12 +42,14 @@ nodes_put p k ks w v fit place e =
     let split = stays_opened p w one.0 fit one.1.0 in
     let put = put_by_tells k p p.kind one.0 first.0 split.fit (split.attached p.key place) first.1.0 in
     let row = row_in k ks first.0 two.0 (sound_of first.0 put.stays.fit) put.beside.attached first.1.1 in
-    fits_ok (caret_after (k ∷ ks) two.0) v (after_fits k ks two.0 row.stays.sound (with_one k ks two.0 (row.stays.attached k put.beside.attached) row.place)) two.1.1
+    fits_ok (caret_after (k ∷ ks) two.0) v (after_fits k ks two.0 row.stays.sound (with_one k ks two.0 (row.stays.attached k put.beside.attached) row.place))
+    two.1.1
 
 nodes_added_fits : (p : Point) (k : ℕ) (ks : List ℕ) (w v : Working) → Fit w → is_attached w.forest p.key ≡ true → nodes_added p (k ∷ ks) w ≡ Ok v → Fit v
 unfolding nodes_added
 nodes_added_fits p k ks w v fit place e = by_fault (no_room_for w.forest (k ∷ ks) (kind_around w.forest p.key p.kind)) e where
-  by_fault : (o : Option Cause) → after (answer o w) (λ u. after (opened p u) (λ split. after (put_all_by p (k ∷ ks) split) (λ put. Ok (caret_after (k ∷ ks) put)))) ≡ Ok v → Fit v
+  by_fault : (o : Option Cause)
+      → after (answer o w) (λ u. after (opened p u) (λ split. after (put_all_by p (k ∷ ks) split) (λ put. Ok (caret_after (k ∷ ks) put)))) ≡ Ok v → Fit v
   by_fault None e = nodes_put p k ks w v fit place e
   by_fault (Some cause) e = absurd (cc)
 
@@ -57,12 +60,15 @@ tail_stays (Some new) (Some last) w v s e = sound_behind new last w v s e
 tail_stays (Some new) None w v s e = sound_ok w v s e
 tail_stays None last w v s e = sound_ok w v s e
 
-around_fits : (block k : ℕ) (ks moved : List ℕ) (w v : Working) → Fit w → is_attached w.forest block ≡ true → ((q : ℕ) → is_among q moved ≡ true → parent_of w.forest q ≡ Some block) → put_around block (k ∷ ks) moved w ≡ Ok v → Fit v
+around_fits : (block k : ℕ) (ks moved : List ℕ) (w v : Working) → Fit w → is_attached w.forest block ≡ true
+    → ((q : ℕ) → is_among q moved ≡ true → parent_of w.forest q ≡ Some block) → put_around block (k ∷ ks) moved w ≡ Ok v → Fit v
 unfolding put_around
 around_fits block k ks moved w v fit place up e =
     let keys : List ℕ = k ∷ ks in
     let close : Working → Result Working Cause = λ x. removed_empty block (caret_after keys x) in
-    let one = after_tells {A = Tailed} {B = Working} (tail_made block moved w) (λ t. after (put_behind_each block keys t.draft) (λ put. after (tail_put t.key (last_of keys) put) close)) v e in
+    let one =
+    after_tells {A = Tailed} {B = Working} (tail_made block moved w)
+    (λ t. after (put_behind_each block keys t.draft) (λ put. after (tail_put t.key (last_of keys) put) close)) v e in
     let two = after_tells (put_behind_each block keys one.0.draft) (λ put. after (tail_put one.0.key (last_of keys) put) close) v one.1.1 in
     let three = after_tells (tail_put one.0.key (last_of keys) two.0) close v two.1.1 in
     let tail = tailed block moved w one.0 fit place up one.1.0 in
@@ -70,7 +76,8 @@ around_fits block k ks moved w v fit place up e =
     let put = tail_stays one.0.key (last_of keys) two.0 three.0 row.stays.sound three.1.0 in
     empty_fits block (caret_after keys three.0) v (after_fits k ks three.0 put.sound (λ q among. put.attached q (row.place q among))) three.1.1
 
-opened_fits : (block k : ℕ) (p : Point) (ks : List ℕ) (w v : Working) → Fit w → is_attached w.forest p.key ≡ true → is_attached w.forest block ≡ true → block_opened block p (k ∷ ks) w ≡ Ok v → Fit v
+opened_fits : (block k : ℕ) (p : Point) (ks : List ℕ) (w v : Working) → Fit w → is_attached w.forest p.key ≡ true → is_attached w.forest block ≡ true
+    → block_opened block p (k ∷ ks) w ≡ Ok v → Fit v
 unfolding block_opened
 opened_fits block k p ks w v fit place block_in e =
     let on : Parted → Result Working Cause = λ parted. put_around block (k ∷ ks) (drop parted.index (children_of parted.draft.forest block)) parted.draft in
@@ -79,7 +86,8 @@ opened_fits block k p ks w v fit place block_in e =
     let two = after_tells {A = Parted} {B = Working} (parted_up (holders_in u.forest block p) (before_point u.forest p p.kind) u) on v one.1.1 in
     let cut = stays_open p w u fit one.1.0 in
     let parted = stays_parted_up (holders_in u.forest block p) (before_point u.forest p p.kind) u two.0 cut.fit
-    (λ q among. holder_place u.forest p p.kind q cut.fit.ready.in_order (cut.attached p.key place) (among_until (Some block) (holders u.forest p p.kind) q among)) two.1.0 in
+    (λ q among. holder_place u.forest p p.kind q cut.fit.ready.in_order (cut.attached p.key place)
+    (among_until (Some block) (holders u.forest p p.kind) q among)) two.1.0 in
     let x : Working = two.0.draft in
     around_fits block k ks (drop two.0.index (children_of x.forest block)) x v parted.fit (parted.attached block (cut.attached block block_in))
     (λ q among. named_up x.forest q block parted.fit.ready.in_order (among_drop two.0.index (children_of x.forest block) q among)) two.1.1
@@ -97,7 +105,8 @@ outer_place f k h place = by_found (find (stands_among_blocks f) (k ∷ ancestor
   by_found None is = place
   by_found (Some a) is = above_there f k a h (attached_known f k h place) place (found_among (stands_among_blocks f) (k ∷ ancestors f k) a is)
 
-blocks_added_fits : (block : Option ℕ) (p : Point) (k : ℕ) (ks : List ℕ) (w v : Working) → block_of w.forest p.key ≡ block → Fit w → is_attached w.forest p.key ≡ true → blocks_added block p (k ∷ ks) w ≡ Ok v → Fit v
+blocks_added_fits : (block : Option ℕ) (p : Point) (k : ℕ) (ks : List ℕ) (w v : Working) → block_of w.forest p.key ≡ block → Fit w
+    → is_attached w.forest p.key ≡ true → blocks_added block p (k ∷ ks) w ≡ Ok v → Fit v
 blocks_added_fits None p k ks w v is fit place e = nodes_added_fits p k ks w v fit place e
 blocks_added_fits (Some block) p k ks w v is fit place e = by_test (eqb outer block) e where
   outer : ℕ
@@ -122,7 +131,8 @@ making_stays = record {
   put = λ k p index w v fit e. stays_put k p index w v fit e;
 }
 
-placed_at_fits : (inline : Bool) (k : ℕ) (ks : List ℕ) (p : Point) (format : ℕ) (w v : Working) → Fit w → is_attached w.forest p.key ≡ true → placed_at inline (k ∷ ks) p format w ≡ Ok v → Fit v
+placed_at_fits : (inline : Bool) (k : ℕ) (ks : List ℕ) (p : Point) (format : ℕ) (w v : Working) → Fit w → is_attached w.forest p.key ≡ true
+    → placed_at inline (k ∷ ks) p format w ≡ Ok v → Fit v
 placed_at_fits true k ks p format w v fit place e = nodes_added_fits p k ks w v fit place e
 placed_at_fits false k ks p format w v fit place e = blocks_added_fits (block_of w.forest p.key) p k ks w v refl fit place e
 

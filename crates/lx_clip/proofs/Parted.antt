@@ -56,10 +56,12 @@ left_then block u v w a b = record { sound = b.sound; place = b.place; apart = �
 
 -- ---- the new block
 
-new_outside : (l : Label) (f : Forest) (block q : ℕ) → has l.key f ≡ false → has block f ≡ true → is_within f q block ≡ false → is_within (with_new l f) q block ≡ false
+new_outside : (l : Label) (f : Forest) (block q : ℕ) → has l.key f ≡ false → has block f ≡ true → is_within f q block ≡ false
+    → is_within (with_new l f) q block ≡ false
 new_outside l f block q free known out = is_within-with_new l f q block free ∙ grind (arith, out, free, known, eqb_tells block l.key)
 
-new_apart : (block : ℕ) (kind : Kind) (fields : Fields) (w v : Working) (q : ℕ) → IsSound w → is_attached w.forest block ≡ true → new_step kind fields w ≡ Ok v → is_within w.forest q block ≡ false → is_within v.forest q block ≡ false
+new_apart : (block : ℕ) (kind : Kind) (fields : Fields) (w v : Working) (q : ℕ) → IsSound w → is_attached w.forest block ≡ true → new_step kind fields w ≡ Ok v
+    → is_within w.forest q block ≡ false → is_within v.forest q block ≡ false
 unfolding new_step
 new_apart block kind fields w v q s place e out =
     let l : Label = record { key = w.next_key; kind = kind; fields = fields } in
@@ -68,13 +70,15 @@ new_apart block kind fields w v q s place e out =
     let told = answered (over_limits (characters_of fields) w) (made kind fields w) v e in
     subst (λ u. is_within u.forest q block ≡ false) told.1 (new_outside l w.forest block q free known out)
 
-like_apart : (block : ℕ) (l : Option Label) (w v : Working) (q : ℕ) → IsSound w → is_attached w.forest block ≡ true → new_like l w ≡ Ok v → is_within w.forest q block ≡ false → is_within v.forest q block ≡ false
+like_apart : (block : ℕ) (l : Option Label) (w v : Working) (q : ℕ) → IsSound w → is_attached w.forest block ≡ true → new_like l w ≡ Ok v
+    → is_within w.forest q block ≡ false → is_within v.forest q block ≡ false
 like_apart block None w v q s place e out = let is : w ≡ v = cc in subst (λ u. is_within u.forest q block ≡ false) is out
 like_apart block (Some l) w v q s place e out = new_apart block l.kind l.fields w v q s place e out
 
 -- ---- children moved
 
-left_taken : (block k : ℕ) (w v : Working) → IsSound w → is_attached w.forest block ≡ true → is_within w.forest k block ≡ false → take_step k w ≡ Ok v → IsLeft block w v
+left_taken : (block k : ℕ) (w v : Working) → IsSound w → is_attached w.forest block ≡ true → is_within w.forest k block ≡ false → take_step k w ≡ Ok v
+    → IsLeft block w v
 unfolding take_step
 left_taken block k w v s place out e =
     let h = s.ready.in_order in
@@ -87,7 +91,8 @@ left_taken block k w v s place out e =
       apart = λ q free. subst (λ f. is_within f q block ≡ false) same (grind (arith, free, is_within-take_out k w.forest q block h));
     }
 
-left_put : (block k p index : ℕ) (w v : Working) → IsSound w → is_attached w.forest block ≡ true → is_within w.forest k block ≡ false → put_step k p index w ≡ Ok v → IsLeft block w v
+left_put : (block k p index : ℕ) (w v : Working) → IsSound w → is_attached w.forest block ≡ true → is_within w.forest k block ≡ false
+    → put_step k p index w ≡ Ok v → IsLeft block w v
 unfolding put_step
 left_put block k p index w v s place out e =
     let h = s.ready.in_order in
@@ -102,14 +107,16 @@ left_put block k p index w v s place out e =
       apart = λ q free. subst (λ f. is_within f q block ≡ false) same (is_within-put_in p before k w.forest q block h may ∙ grind (arith, free, out));
     }
 
-left_moved : (block parent k : ℕ) (w v : Working) → IsSound w → is_attached w.forest block ≡ true → is_within w.forest k block ≡ false → moved_to_end parent k w ≡ Ok v → IsLeft block w v
+left_moved : (block parent k : ℕ) (w v : Working) → IsSound w → is_attached w.forest block ≡ true → is_within w.forest k block ≡ false
+    → moved_to_end parent k w ≡ Ok v → IsLeft block w v
 unfolding moved_to_end
 left_moved block parent k w v s place out e =
     let first = after_tells (take_step k w) (λ u. put_step k parent (size_of u.forest parent) u) v e in
     let taken = left_taken block k w first.0 s place out first.1.0 in
     left_then block w first.0 v taken (left_put block k parent (size_of first.0.forest parent) first.0 v taken.sound taken.place (taken.apart k out) first.1.1)
 
-left_each : (block parent : ℕ) (ks : List ℕ) (w v : Working) → IsSound w → is_attached w.forest block ≡ true → ((k : ℕ) → is_among k ks ≡ true → is_within w.forest k block ≡ false) → in_turn (moved_to_end parent) ks w ≡ Ok v → IsLeft block w v
+left_each : (block parent : ℕ) (ks : List ℕ) (w v : Working) → IsSound w → is_attached w.forest block ≡ true
+    → ((k : ℕ) → is_among k ks ≡ true → is_within w.forest k block ≡ false) → in_turn (moved_to_end parent) ks w ≡ Ok v → IsLeft block w v
 unfolding in_turn
 left_each block parent [] w v s place out e = left_self block w v s place e
 left_each block parent (k ∷ ks) w v s place out e =
@@ -123,7 +130,8 @@ pub record IsTailed (block : ℕ) (v : Working) : Type 0 where
   pub sound : IsSound v
   pub place : is_attached v.forest block ≡ true
 
-pub tailed : (block : ℕ) (moved : List ℕ) (w : Working) (t : Tailed) → Fit w → is_attached w.forest block ≡ true → ((k : ℕ) → is_among k moved ≡ true → parent_of w.forest k ≡ Some block) → tail_made block moved w ≡ Ok t → IsTailed block t.draft
+pub tailed : (block : ℕ) (moved : List ℕ) (w : Working) (t : Tailed) → Fit w → is_attached w.forest block ≡ true
+    → ((k : ℕ) → is_among k moved ≡ true → parent_of w.forest k ≡ Some block) → tail_made block moved w ≡ Ok t → IsTailed block t.draft
 tailed block [] w t fit place up e = let is : w ≡ t.draft = cc in subst (IsTailed block) is (record { sound = sound_of w fit; place = place })
 tailed block (k ∷ ks) w t fit place up e =
     let left : Working → Result Tailed Cause = λ v. Ok (record { draft = v; key = Some w.next_key }) in

@@ -51,7 +51,8 @@ module _ {D : Working → Type 0} {R : Working → Working → Type 0} (making :
   then_to one two w b (Ok a) next first second e = let x = first a refl in making.composed w (one a) (two b) x (second a (making.ready w (one a) x) e)
   then_to one two w b (Err cause) next first second e = absurd (cc)
 
-  then : (w v : Working) (r : Result Working Cause) (next : Working → Result Working Cause) → ((u : Working) → r ≡ Ok u → R w u) → ((u : Working) → D u → next u ≡ Ok v → R u v) → after r next ≡ Ok v → R w v
+  then : (w v : Working) (r : Result Working Cause) (next : Working → Result Working Cause) → ((u : Working) → r ≡ Ok u → R w u)
+      → ((u : Working) → D u → next u ≡ Ok v → R u v) → after r next ≡ Ok v → R w v
   then w v r next first second e = then_to {A = Working} {B = Working} (λ u. u) (λ x. x) w v r next first second e
 
   made_ok : (w : Working) (a b : Made) → R w a.draft → ◌≡◌ {A = Result Made Cause} (Ok a) (Ok b) → R w b.draft
@@ -63,14 +64,17 @@ module _ {D : Working → Type 0} {R : Working → Working → Type 0} (making :
 
   node_new_path : (piece : Piece) (parent : Option ℕ) → Leads D R (node_new piece parent)
   node_new_path piece parent w v r e =
-      then w v (new_step piece.kind piece.fields w) (put_below parent w.next_key) (λ u f. making.new piece.kind piece.fields w u r f) (λ u s f. put_below_path parent w.next_key u v s f) e
+      then w v (new_step piece.kind piece.fields w) (put_below parent w.next_key) (λ u f. making.new piece.kind piece.fields w u r f)
+      (λ u s f. put_below_path parent w.next_key u v s f) e
 
-  made_with_path : (piece : Piece) (parent : Option ℕ) (children : Working → Result Working Cause) → Leads D R children → Leads D R (made_with piece parent children)
+  made_with_path : (piece : Piece) (parent : Option ℕ) (children : Working → Result Working Cause) → Leads D R children
+      → Leads D R (made_with piece parent children)
   made_with_path piece parent children leads w v r e =
       then w v (node_new piece parent w) (λ made. cond (is_element piece.kind) (children made) (Ok made)) (λ u f. node_new_path piece parent w u r f)
       (λ u s f. either (is_element piece.kind) children (λ y. Ok y) leads stays u v s f) e
 
-  by_piece : (w v : Working) (r : Result Piece Cause) (next : Piece → Result Working Cause) → ((piece : Piece) → next piece ≡ Ok v → R w v) → and_then r next ≡ Ok v → R w v
+  by_piece : (w v : Working) (r : Result Piece Cause) (next : Piece → Result Working Cause) → ((piece : Piece) → next piece ≡ Ok v → R w v)
+      → and_then r next ≡ Ok v → R w v
   by_piece w v (Ok piece) next each e = each piece e
   by_piece w v (Err cause) next each e = absurd (cc)
 
@@ -90,7 +94,8 @@ module _ {D : Working → Type 0} {R : Working → Working → Type 0} (making :
     children_made_path : (ms : Members) (kind : Kind) (parent : ℕ) → Leads D R (children_made ms kind parent)
     children_made_path no_members kind parent w v r e = stays w v r e
     children_made_path (member name d rest) kind parent w v r e =
-        either (bytes_eq (codes "children") name) (list_made d kind parent) (children_made rest kind parent) (list_made_path d kind parent) (children_made_path rest kind parent) w v r e
+        either (bytes_eq (codes "children") name) (list_made d kind parent) (children_made rest kind parent) (list_made_path d kind parent)
+        (children_made_path rest kind parent) w v r e
 
     list_made_path : (d : Data) (kind : Kind) (parent : ℕ) → Leads D R (list_made d kind parent)
     list_made_path (array ds) kind parent w v r e = items_made_path ds 0 kind parent w v r e
@@ -111,7 +116,8 @@ module _ {D : Working → Type 0} {R : Working → Working → Type 0} (making :
   unfolding nodes_made
   nodes_made_path no_items i kind w a r e = made_ok w (record { draft = w; keys = [] }) a (making.same w r) e
   nodes_made_path (item d ds) i kind w a r e =
-      then_to {A = Working} {B = Made} (λ u. u) (λ x. x.draft) w a (told_under (index_place i) (node_made d kind None w)) (λ u. after (nodes_made ds (i + 1) kind u) (with_first w.next_key))
+      then_to {A = Working} {B = Made} (λ u. u) (λ x. x.draft) w a (told_under (index_place i) (node_made d kind None w))
+      (λ u. after (nodes_made ds (i + 1) kind u) (with_first w.next_key))
       (λ u f. node_made_path d kind None w u r (told_ok (index_place i) (node_made d kind None w) u f))
       (λ u s f. then_to {A = Made} {B = Made} (λ x. x.draft) (λ x. x.draft) u a (nodes_made ds (i + 1) kind u) (with_first w.next_key)
       (λ b g. nodes_made_path ds (i + 1) kind u b s g)

@@ -45,7 +45,8 @@ module _ {D : Working → Type 0} {R : Working → Working → Type 0} (way : Is
 
   put_all_by_path : (p : Point) (ks : List ℕ) → Leads D R (put_all_by p ks)
   put_all_by_path p [] w v r e = stays way w v r e
-  put_all_by_path p (k ∷ ks) w v r e = chained way (put_by k p p.kind) (λ u. put_behind_each k ks) (put_by_path way k p p.kind) (λ u. behind_each_path k ks) w v r e
+  put_all_by_path p (k ∷ ks) w v r e =
+      chained way (put_by k p p.kind) (λ u. put_behind_each k ks) (put_by_path way k p p.kind) (λ u. behind_each_path k ks) w v r e
 
   nodes_added_path : (p : Point) (ks : List ℕ) → Leads D R (nodes_added p ks)
   unfolding nodes_added
@@ -82,7 +83,8 @@ module _ {D : Working → Type 0} {R : Working → Working → Type 0} (way : Is
   unfolding put_around
   put_around_path block ks moved w v r e =
       let close : Working → Result Working Cause = λ x. removed_empty block (caret_after ks x) in
-      then_to way {A = Tailed} {B = Working} (λ t. t.draft) (λ x. x) w v (tail_made block moved w) (λ t. after (put_behind_each block ks t.draft) (λ put. after (tail_put t.key (last_of ks) put) close))
+      then_to way {A = Tailed} {B = Working} (λ t. t.draft) (λ x. x) w v (tail_made block moved w)
+      (λ t. after (put_behind_each block ks t.draft) (λ put. after (tail_put t.key (last_of ks) put) close))
       (λ t f. tail_made_path block moved w t r f)
       (λ t s f. chained way (put_behind_each block ks) (λ u put. after (tail_put t.key (last_of ks) put) close) (behind_each_path block ks)
       (λ u. chained way (tail_put t.key (last_of ks)) (λ x. close) (tail_put_path t.key (last_of ks)) (λ x. closed block ks)) t.draft v s f) e
@@ -91,8 +93,10 @@ module _ {D : Working → Type 0} {R : Working → Working → Type 0} (way : Is
   unfolding block_opened
   block_opened_path block p ks w v r e =
       let on : Parted → Result Working Cause = λ parted. put_around block ks (drop parted.index (children_of parted.draft.forest block)) parted.draft in
-      then way w v (cut_open p w) (λ u. after (parted_up (holders_in u.forest block p) (before_point u.forest p p.kind) u) on) (λ u f. cut_open_path way p w u r f)
-      (λ u c f. then_to way {A = Parted} {B = Working} (λ a. a.draft) (λ x. x) u v (parted_up (holders_in u.forest block p) (before_point u.forest p p.kind) u) on
+      then way w v (cut_open p w) (λ u. after (parted_up (holders_in u.forest block p) (before_point u.forest p p.kind) u) on)
+      (λ u f. cut_open_path way p w u r f)
+      (λ u c f. then_to way {A = Parted} {B = Working} (λ a. a.draft) (λ x. x) u v (parted_up (holders_in u.forest block p) (before_point u.forest p p.kind) u)
+      on
       (λ a g. parted_up_path way (holders_in u.forest block p) (before_point u.forest p p.kind) u a (way.ready w u c) g)
       (λ a s g. put_around_path block ks (drop a.index (children_of a.draft.forest block)) a.draft v s g) f) e
 

@@ -105,7 +105,8 @@ unfolding put_behind_step
 sound_behind k other w v s e = sound_behind_at k other (parent_of w.forest other) (index_of w.forest other) w v s e
 
 -- it is in the tree where the other one is
-comes_in_at : (k other : ℕ) (p index : Option ℕ) (w v : Working) → IsSound w → parent_of w.forest other ≡ p → is_attached w.forest other ≡ true → behind_at k other p index w ≡ Ok v → is_attached v.forest k ≡ true
+comes_in_at : (k other : ℕ) (p index : Option ℕ) (w v : Working) → IsSound w → parent_of w.forest other ≡ p → is_attached w.forest other ≡ true
+    → behind_at k other p index w ≡ Ok v → is_attached v.forest k ≡ true
 comes_in_at k other (Some p) (Some index) w v s up place e =
     let h = s.ready.in_order in (was_put k p (index + 1) w v h e).attached (sym (is_attached-up w.forest other p h up) ∙ place)
 comes_in_at k other None index w v s up place e = absurd (cc)
@@ -155,14 +156,18 @@ last_in f k h place = by_last (last_of (keys_within f k)) refl where
 no_root : (f : Forest) (k : ℕ) (kind : Kind) → IsForest f → kind_of f k ≡ Some kind → is_element kind ≡ false → k ≢ 0
 unfolding is_element
 no_root f k kind h is leaf = λ same.
-    let bad : true ≡ false = sym (ap (is_counted_in point.Element) h.root) ∙ ap (is_counted_in point.Element) (sym (ap (kind_of f) same) ∙ is) ∙ leaf in absurd (cc)
+    let bad : true ≡ false =
+    sym (ap (is_counted_in point.Element) h.root) ∙ ap (is_counted_in point.Element) (sym (ap (kind_of f) same) ∙ is) ∙ leaf in absurd (cc)
 
 leaf_end : (f : Forest) (k : ℕ) → IsForest f → IsHeld may_hold f → is_attached f k ≡ true → lies f (end_at_leaf f k) ≡ true
 leaf_end f k h held place =
     let known = kind_known f k (attached_known f k h place) in
-    ap (λ o. lies f (unwrap_or (end_in f k o) (place_behind f k))) known.1 ∙ by_kind known.0 known.1 (has_characters known.0) (is_element known.0) refl refl where
+    ap (λ o. lies f (unwrap_or (end_in f k o) (place_behind f k))) known.1
+    ∙ by_kind known.0 known.1 (has_characters known.0) (is_element known.0) refl refl where
       by_kind : (kind : Kind) → kind_of f k ≡ Some kind → (t e : Bool) → has_characters kind ≡ t → is_element kind ≡ e
-          → lies f (unwrap_or (cond t (Some (text_point k (length_of (fields_of f k)))) (cond e (Some (element_point k (size_of f k))) None)) (place_behind f k)) ≡ true
+          → lies f
+          (unwrap_or (cond t (Some (text_point k (length_of (fields_of f k)))) (cond e (Some (element_point k (size_of f k))) None)) (place_behind f k))
+          ≡ true
       by_kind kind is true e text element = ap₂ ◌&&◌ place (ap₂ ◌&&◌ (ap (is_counted_in point.Text) is ∙ text) (end_of_text (fields_of f k)))
       by_kind kind is false true text element = ap₂ ◌&&◌ place (ap₂ ◌&&◌ (ap (is_counted_in point.Element) is ∙ element) (full (size_of f k)))
       by_kind kind is false false text element =

@@ -38,7 +38,8 @@ pub within_put : (a p : ℕ) (before : Option ℕ) (k : ℕ) (f : Forest) → Is
 within_put a p before k f h can = is_within-put_in p before k f a p h can ∙ grind (arith, can.outside)
 
 -- a tree that doesn't hold the parent stays
-pub alone_put : (a p : ℕ) (before : Option ℕ) (k : ℕ) (f : Forest) → IsForest f → CanPut p k f → is_within f a p ≡ false → alone a (put_in p before k f) ≡ alone a f
+pub alone_put : (a p : ℕ) (before : Option ℕ) (k : ℕ) (f : Forest) → IsForest f → CanPut p k f → is_within f a p ≡ false
+    → alone a (put_in p before k f) ≡ alone a f
 alone_put a p before k f h can out = elim (cases_Bool (is_within f k a)) [
   | inl inside ↦ alone-put_in_inside a p before k f h can inside
   | inr outside ↦
@@ -63,7 +64,8 @@ pub record Came (p : ℕ) (before keys behind : List ℕ) (w v : Working) : Type
 
 -- ---- one
 
-pub put_came : (k p index : ℕ) (before behind : List ℕ) (w v : Working) → IsReady w → children_of w.forest p ≡ before ++ behind → length before ≡ index → put_step k p index w ≡ Ok v → Came p before (k ∷ []) behind w v
+pub put_came : (k p index : ℕ) (before behind : List ℕ) (w v : Working) → IsReady w → children_of w.forest p ≡ before ++ behind → length before ≡ index
+    → put_step k p index w ≡ Ok v → Came p before (k ∷ []) behind w v
 unfolding put_step
 put_came k p index before behind w v ready was many e =
     let told = answered (option_or (put_fault k p index w.forest) (over_counts w)) (node_placed k p index w) v e in
@@ -96,7 +98,8 @@ came_none : (p : ℕ) (before behind : List ℕ) (w : Working) → IsReady w →
 came_none p before behind w ready was =
     record { was = was; now = was; others = λ q other. refl; labels = λ q. refl; trees = λ a out. refl; within = λ a. refl; outside = λ k among. absurd (cc); covered = covered-self w ready }
 
-pub came_then : (p : ℕ) (before keys more behind : List ℕ) (w u v : Working) → Came p before keys behind w u → Came p (before ++ keys) more behind u v → Came p before (keys ++ more) behind w v
+pub came_then : (p : ℕ) (before keys more behind : List ℕ) (w u v : Working) → Came p before keys behind w u → Came p (before ++ keys) more behind u v
+    → Came p before (keys ++ more) behind w v
 came_then p before keys more behind w u v a b = record {
   was = a.was;
   now = b.now ∙ append_assoc before keys (more ++ behind) ∙ ap (λ xs. before ++ xs) (sym (append_assoc keys more behind));
@@ -116,28 +119,33 @@ pub record IsChild (f : Forest) (p other i : ℕ) : Type 0 where
   pub up : parent_of f other ≡ Some p
   pub at : index_of f other ≡ Some i
 
-pub is_child : (f : Forest) (p other : ℕ) (before behind : List ℕ) → IsForest f → children_of f p ≡ before ++ (other ∷ behind) → IsChild f p other (length before)
+pub is_child : (f : Forest) (p other : ℕ) (before behind : List ℕ) → IsForest f → children_of f p ≡ before ++ (other ∷ behind)
+    → IsChild f p other (length before)
 is_child f p other before behind h are =
     let up : parent_of f other ≡ Some p = named_up f other p h (rw are (among_between before behind other)) in
     let once = NoRepeats-children_of f p h in
     record { up = up; at = ap (λ o. index_in (children_below f o) other) up ∙ rw are (index_between before behind other (rw are at once)) }
 
-pub put_behind_came : (k p other : ℕ) (before behind : List ℕ) (w v : Working) → IsReady w → children_of w.forest p ≡ before ++ (other ∷ behind) → put_behind_step k other w ≡ Ok v → Came p (before ++ (other ∷ [])) (k ∷ []) behind w v
+pub put_behind_came : (k p other : ℕ) (before behind : List ℕ) (w v : Working) → IsReady w → children_of w.forest p ≡ before ++ (other ∷ behind)
+    → put_behind_step k other w ≡ Ok v → Came p (before ++ (other ∷ [])) (k ∷ []) behind w v
 unfolding put_behind_step
 put_behind_came k p other before behind w v ready are e =
     let child = is_child w.forest p other before behind ready.in_order are in
     let step : put_step k p (length before + 1) w ≡ Ok v = rw (child.at, child.up) at e in
-    put_came k p (length before + 1) (before ++ (other ∷ [])) behind w v ready (are ∙ sym (append_assoc before (other ∷ []) behind)) (one_longer before other) step
+    put_came k p (length before + 1) (before ++ (other ∷ [])) behind w v ready (are ∙ sym (append_assoc before (other ∷ []) behind)) (one_longer before other)
+    step
   where
     one_longer : (xs : List ℕ) (x : ℕ) → length (xs ++ (x ∷ [])) ≡ length xs + 1
     one_longer [] x = refl
     one_longer (y ∷ xs) x = omega (arith, one_longer xs x)
 
-pub behind_each_came : (keys : List ℕ) (p other : ℕ) (before behind : List ℕ) (w v : Working) → IsReady w → children_of w.forest p ≡ before ++ (other ∷ behind) → put_behind_each other keys w ≡ Ok v
+pub behind_each_came : (keys : List ℕ) (p other : ℕ) (before behind : List ℕ) (w v : Working) → IsReady w → children_of w.forest p ≡ before ++ (other ∷ behind)
+    → put_behind_each other keys w ≡ Ok v
     → Came p (before ++ (other ∷ [])) keys behind w v
 unfolding put_behind_each
 behind_each_came [] p other before behind w v ready are e =
-    ok (Came p (before ++ (other ∷ [])) [] behind) w w v (came_none p (before ++ (other ∷ [])) behind w ready (are ∙ sym (append_assoc before (other ∷ []) behind))) e
+    ok (Came p (before ++ (other ∷ [])) [] behind) w w v
+    (came_none p (before ++ (other ∷ [])) behind w ready (are ∙ sym (append_assoc before (other ∷ []) behind))) e
 behind_each_came (k ∷ ks) p other before behind w v ready are e =
     let one = first_part (put_behind_step k other w) (put_behind_each k ks) v e in
     let a = put_behind_came k p other before behind w one.0 ready are one.1 in
@@ -161,7 +169,8 @@ stands_in f other p i up at =
     record { parent = p; before = a.before; behind = a.behind; are = a.all; up = up; at = at ∙ ap Some (sym a.so_many) }
 
 -- where it is asked what a child's parent and index are
-stands : (f : Forest) (other : ℕ) (place : Option ℕ → Option ℕ → Result Working Cause) (v : Working) → ((i : Option ℕ) → place None i ≡ Ok v → ⊥) → ((p : ℕ) → place (Some p) None ≡ Ok v → ⊥) → place (parent_of f other) (index_of f other) ≡ Ok v
+stands : (f : Forest) (other : ℕ) (place : Option ℕ → Option ℕ → Result Working Cause) (v : Working) → ((i : Option ℕ) → place None i ≡ Ok v → ⊥)
+    → ((p : ℕ) → place (Some p) None ≡ Ok v → ⊥) → place (parent_of f other) (index_of f other) ≡ Ok v
     → StandsIn f other
 stands f other place v no_parent no_index e = by_place (parent_of f other) (index_of f other) refl refl e where
   by_place : (p i : Option ℕ) → parent_of f other ≡ p → index_of f other ≡ i → place p i ≡ Ok v → StandsIn f other
@@ -178,7 +187,8 @@ pub before_stands : (k other : ℕ) (w v : Working) → put_before_step k other 
 unfolding put_before_step
 before_stands k other w v e = stands w.forest other (λ p i. before_at k other p i w) v (λ i e. cc) (λ p e. cc) e
 
-pub put_before_came : (k other : ℕ) (w v : Working) (s : StandsIn w.forest other) → IsReady w → put_before_step k other w ≡ Ok v → Came s.parent s.before (k ∷ []) (other ∷ s.behind) w v
+pub put_before_came : (k other : ℕ) (w v : Working) (s : StandsIn w.forest other) → IsReady w → put_before_step k other w ≡ Ok v
+    → Came s.parent s.before (k ∷ []) (other ∷ s.behind) w v
 unfolding put_before_step
 put_before_came k other w v s ready e =
     let step : put_step k s.parent (length s.before) w ≡ Ok v = rw (s.at, s.up) at e in

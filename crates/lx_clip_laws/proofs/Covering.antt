@@ -55,7 +55,8 @@ normal_is kinds.Text (fields.Text old) text e = grind (arith, e)
 normal_is kind f text e = absurd (cc)
 
 -- another text of scalar values
-stored_piece : (l : Label) (text : TextFields) (new : List ℕ) → l.fields ≡ fields.Text text → IsStored l → all_scalars new ≡ true → IsStored (record l { fields = text_replaced text new })
+stored_piece : (l : Label) (text : TextFields) (new : List ℕ) → l.fields ≡ fields.Text text → IsStored l → all_scalars new ≡ true
+    → IsStored (record l { fields = text_replaced text new })
 stored_piece l text new is stored scalar =
     let own : IsTextStorable text = subst IsStorable is stored.storable in
     record { storable = record { text = chars-encodes new scalar; format = own.format; style = own.style }; scalar = scalar }
@@ -86,14 +87,16 @@ good_else : (b : Bool) (parent : Kind) (f : Forest) → AreGood parent f → Are
 good_else true parent f good = tt
 good_else false parent f good = good
 
-good_cover : (e : Extent) (parent : Kind) (x : Fields) (l : Label) (below : Forest) → may_hold parent l.kind ≡ true → IsGood l → AreGood l.kind below → AreGood parent (cover e x l below)
+good_cover : (e : Extent) (parent : Kind) (x : Fields) (l : Label) (below : Forest) → may_hold parent l.kind ≡ true → IsGood l → AreGood l.kind below
+    → AreGood parent (cover e x l below)
 good_cover e parent (fields.Text text) l below held good inner =
     let length : ℕ = length_told text.text in
     let from : ℕ = from_in e l.key in
     let to : ℕ = to_in e l.key length in
     good_if (is_covered_text e l.key length) parent (part_cover from to l)
     (ap (may_hold parent) (cut_kind (if_normal (text_in (Some l))) from to l) ∙ held, good_cut from to l good, tt, tt)
-good_cover e parent (fields.Element element) l below held good inner = good_else (is_nil below && not (is_among l.key e.between)) parent (tree l below nil) (held, good, inner, tt)
+good_cover e parent (fields.Element element) l below held good inner =
+    good_else (is_nil below && not (is_among l.key e.between)) parent (tree l below nil) (held, good, inner, tt)
 good_cover e parent (fields.Embed source) l below held good inner = good_if (is_among l.key e.between) parent (tree l nil nil) (held, good, tt, tt)
 good_cover e parent fields.Bare l below held good inner = good_if (is_among l.key e.between) parent (tree l nil nil) (held, good, tt, tt)
 
@@ -105,7 +108,8 @@ good_covers : (e : Extent) (parent : Kind) (f : Forest) → AreGood parent f →
 unfolding covers
 good_covers e parent nil good = tt
 good_covers e parent (tree l below rest) good =
-    good_joined parent (cover e l.fields l (covers e below)) (covers e rest) (good_cover e parent l.fields l (covers e below) good.0 good.1 (good_covers e l.kind below good.2)) (good_covers e parent rest good.3)
+    good_joined parent (cover e l.fields l (covers e below)) (covers e rest)
+    (good_cover e parent l.fields l (covers e below) good.0 good.1 (good_covers e l.kind below good.2)) (good_covers e parent rest good.3)
 
 -- ---- what holds them where they are read
 

@@ -21,7 +21,8 @@ pub record AtName (xs : List ℕ) (x i : ℕ) : Type 0 where
 pub at_name : (xs : List ℕ) (x i : ℕ) → slice_get xs i ≡ Some x → AtName xs x i
 at_name [] x i e = absurd (grind (arith, e))
 at_name (y ∷ xs) x zero e = record { before = []; behind = xs; all = cc; so_many = refl }
-at_name (y ∷ xs) x (suc i) e = let r = at_name xs x i e in record { before = y ∷ r.before; behind = r.behind; all = ap (λ zs. y ∷ zs) r.all; so_many = ap suc r.so_many }
+at_name (y ∷ xs) x (suc i) e = let r =
+    at_name xs x i e in record { before = y ∷ r.before; behind = r.behind; all = ap (λ zs. y ∷ zs) r.all; so_many = ap suc r.so_many }
 
 -- the name between others, and its index
 got_between : (a b : List ℕ) (x : ℕ) → slice_get (a ++ (x ∷ b)) (length a) ≡ Some x

@@ -57,7 +57,8 @@ abbrev pub Makes : {A : Type 0} → (A → Type 0) → Result A Cause → Type 0
 Makes P (Ok a) = P a
 Makes P (Err cause) = is_limit cause ≡ true
 
-pub makes_after : {A B : Type 0} (P : A → Type 0) (Q : B → Type 0) (r : Result A Cause) (next : A → Result B Cause) → Makes P r → ((a : A) → P a → Makes Q (next a)) → Makes Q (after r next)
+pub makes_after : {A B : Type 0} (P : A → Type 0) (Q : B → Type 0) (r : Result A Cause) (next : A → Result B Cause) → Makes P r
+    → ((a : A) → P a → Makes Q (next a)) → Makes Q (after r next)
 makes_after P Q (Ok a) next m so = so a m
 makes_after P Q (Err cause) next m so = m
 
@@ -73,7 +74,8 @@ makes_under P place (Err _) m = m
 counts_limit : (w : Working) (cause : Cause) → over_counts w ≡ Some cause → is_limit cause ≡ true
 counts_limit w cause e = grind (arith, e)
 
-makes_answer : {A : Type 0} (P : A → Type 0) (o : Option Cause) (a : A) → ((cause : Cause) → o ≡ Some cause → is_limit cause ≡ true) → (o ≡ None → P a) → Makes P (answer o a)
+makes_answer : {A : Type 0} (P : A → Type 0) (o : Option Cause) (a : A) → ((cause : Cause) → o ≡ Some cause → is_limit cause ≡ true) → (o ≡ None → P a)
+    → Makes P (answer o a)
 makes_answer P None a limits so = so refl
 makes_answer P (Some cause) a limits so = limits cause refl
 
@@ -162,13 +164,15 @@ record IsPut (p : ℕ) (piece : Piece) (w v : Working) : Type 0 where
   grows : Grows p (tree piece nil nil) w v
   kind_is : kind_of v.forest w.next_key ≡ Some piece.kind
 
-put_made : (p : ℕ) (above : Kind) (piece : Piece) (w u : Working) → HasParent p above w → may_hold above piece.kind ≡ true → IsNew piece w u → Makes (IsPut p piece w) (put_step w.next_key p (size_of u.forest p) u)
+put_made : (p : ℕ) (above : Kind) (piece : Piece) (w u : Working) → HasParent p above w → may_hold above piece.kind ≡ true → IsNew piece w u
+    → Makes (IsPut p piece w) (put_step w.next_key p (size_of u.forest p) u)
 unfolding put_step
 put_made p above piece w u parent held new =
     let l : Label = label_for w.next_key piece in
     let v : Working = node_placed w.next_key p (size_of u.forest p) u in
     let none = no_fault p above piece w u parent held new in
-    let faults : option_or (put_fault w.next_key p (size_of u.forest p) u.forest) (over_counts u) ≡ over_counts u = ap (λ o. option_or o (over_counts u)) none in
+    let faults : option_or (put_fault w.next_key p (size_of u.forest p) u.forest) (over_counts u) ≡ over_counts u =
+    ap (λ o. option_or o (over_counts u)) none in
     subst (λ o. Makes (IsPut p piece w) (answer o v)) (sym faults)
     (makes_answer (IsPut p piece w) (over_counts u) v (λ cause e. counts_limit u cause e) (λ few.
     let came = covered-put w.next_key p (size_of u.forest p) u v new.covered.ready (ap (λ o. answer o v) (faults ∙ few)) in
@@ -184,9 +188,11 @@ put_made p above piece w u parent held new =
       kind_is = came.kinds.each w.next_key piece.kind (kind_new piece w u parent.ready new);
     }))
 
-node_new_made : (p : ℕ) (above : Kind) (piece : Piece) (w : Working) → HasParent p above w → may_hold above piece.kind ≡ true → Makes (IsPut p piece w) (node_new piece (Some p) w)
+node_new_made : (p : ℕ) (above : Kind) (piece : Piece) (w : Working) → HasParent p above w → may_hold above piece.kind ≡ true
+    → Makes (IsPut p piece w) (node_new piece (Some p) w)
 node_new_made p above piece w parent held =
-    makes_after (IsNew piece w) (IsPut p piece w) (new_step piece.kind piece.fields w) (λ u. put_below (Some p) w.next_key u) (new_made piece w parent.ready) (λ u new. put_made p above piece w u parent held new)
+    makes_after (IsNew piece w) (IsPut p piece w) (new_step piece.kind piece.fields w) (λ u. put_below (Some p) w.next_key u) (new_made piece w parent.ready)
+    (λ u new. put_made p above piece w u parent held new)
 
 -- ---- one after another
 
@@ -201,7 +207,8 @@ one_more : (n m : ℕ) → n + (1 + m + 0) ≡ n + 1 + m
 one_more n m = omega arith
 
 -- a node, and then what is below it
-grows_below : (p : ℕ) (piece : Piece) (below : Trees Piece) (w u v : Working) → IsReady w → p < w.next_key → Grows p (tree piece nil nil) w u → Grows w.next_key below u v → Grows p (tree piece below nil) w v
+grows_below : (p : ℕ) (piece : Piece) (below : Trees Piece) (w u v : Working) → IsReady w → p < w.next_key → Grows p (tree piece nil nil) w u
+    → Grows w.next_key below u v → Grows p (tree piece below nil) w v
 grows_below p piece below w u v ready low a b =
     let l : Label = label_for w.next_key piece in
     let next : u.next_key ≡ w.next_key + 1 = omega (arith, a.next) in
@@ -214,7 +221,8 @@ grows_below p piece below w u v ready low a b =
     }
 
 -- a tree, and then others after it
-grows_then : (p : ℕ) (piece : Piece) (below rest : Trees Piece) (w u v : Working) → p < w.next_key → Grows p (tree piece below nil) w u → Grows p rest u v → Grows p (tree piece below rest) w v
+grows_then : (p : ℕ) (piece : Piece) (below rest : Trees Piece) (w u v : Working) → p < w.next_key → Grows p (tree piece below nil) w u → Grows p rest u v
+    → Grows p (tree piece below rest) w v
 grows_then p piece below rest w u v low a b =
     let next : u.next_key ≡ w.next_key + 1 + total below = a.next ∙ one_more w.next_key (total below) in
     record {
@@ -239,10 +247,12 @@ abbrev pub piece_in : Label → Piece
 piece_in l = record { kind = l.kind; fields = l.fields }
 
 -- what gives the first of trees is of its piece
-piece_told : (place : List ℕ) (r : Result Piece Cause) (told : Piece → Result (Trees Piece) Cause) (x : Piece) (t : Trees Piece) → with_rest (told_under place (and_then r (λ p. with_tree p (told p)))) (Ok nil) ≡ Ok (tree x t nil) → r ≡ Ok x
+piece_told : (place : List ℕ) (r : Result Piece Cause) (told : Piece → Result (Trees Piece) Cause) (x : Piece) (t : Trees Piece)
+    → with_rest (told_under place (and_then r (λ p. with_tree p (told p)))) (Ok nil) ≡ Ok (tree x t nil) → r ≡ Ok x
 piece_told place (Err cause) told x t e = absurd (cc)
 piece_told place (Ok p) told x t e = by_told (told p) e where
-  by_told : (r : Result (Trees Piece) Cause) → with_rest (told_under place (with_tree p r)) (Ok nil) ≡ Ok (tree x t nil) → ◌≡◌ {A = Result Piece Cause} (Ok p) (Ok x)
+  by_told : (r : Result (Trees Piece) Cause) → with_rest (told_under place (with_tree p r)) (Ok nil) ≡ Ok (tree x t nil)
+      → ◌≡◌ {A = Result Piece Cause} (Ok p) (Ok x)
   by_told (Ok below) e = cc
   by_told (Err cause) e = absurd (cc)
 
@@ -268,33 +278,40 @@ piece_written kind l below good =
     let one : Forest = tree l below nil in
     let d : Data = data_of l below in
     piece_told (child_place 0) (piece_of (Some kind) d) (λ p. children_told p.kind d) (piece_in l) (pieces_of below)
-    (sym (ap (λ r. with_rest (told_under (child_place 0) r) (Ok nil)) (tree_of-node d kind)) ∙ trees-back kind 0 one (given_back kind one good) (held kind one good))
+    (sym (ap (λ r. with_rest (told_under (child_place 0) r) (Ok nil)) (tree_of-node d kind))
+    ∙ trees-back kind 0 one (given_back kind one good) (held kind one good))
 
 -- what makes trees below a node, of what is written for them
 abbrev pub MakesBelow : Forest → Kind → ℕ → Type 0
 MakesBelow below kind n = (u : Working) → HasParent n kind u → Makes (Grows n (pieces_of below) u) (items_made (trees_data below) 0 kind n u)
 
-below_made : (kind : Kind) (l : Label) (below : Forest) (n : ℕ) (u : Working) → AreGood kind (tree l below nil) → HasParent n l.kind u → MakesBelow below l.kind n → Makes (Grows n (pieces_of below) u) (children_given l.kind n (data_of l below) u)
+below_made : (kind : Kind) (l : Label) (below : Forest) (n : ℕ) (u : Working) → AreGood kind (tree l below nil) → HasParent n l.kind u
+    → MakesBelow below l.kind n → Makes (Grows n (pieces_of below) u) (children_given l.kind n (data_of l below) u)
 unfolding trees_data
 below_made kind l below n u good parent make = elim (cases_Bool (is_element l.kind)) [
   | inl element ↦
       let of = good.1.of_kind in
-      rw (given-list l.kind n (data_of l below) (trees_data below) u refl element (ap (option_and_then as_array) (children-there l.kind l.fields (trees_data below) element of))) (make u parent)
+      rw (given-list l.kind n (data_of l below) (trees_data below) u refl element
+      (ap (option_and_then as_array) (children-there l.kind l.fields (trees_data below) element of))) (make u parent)
   | inr leaf ↦
       let none : below ≡ nil = leaf_below l.kind below (held l.kind below good.2) leaf in
       rw (given-leaf l.kind n (data_of l below) u refl leaf) (subst (λ f. Grows n (pieces_of f) u u) (sym none) (grows_none n u parent.ready))
 ]
 
 -- a node that is made, and then what is below it
-pub node_makes : (P Q : Working → Type 0) (parent : Option ℕ) (kind : Kind) (l : Label) (below : Forest) (w : Working) → AreGood kind (tree l below nil) → MakesBelow below l.kind w.next_key → Makes P (node_new (piece_in l) parent w)
-    → ((u : Working) → P u → HasParent w.next_key l.kind u) → ((u v : Working) → P u → Grows w.next_key (pieces_of below) u v → Q v) → Makes Q (node_made (data_of l below) kind parent w)
+pub node_makes : (P Q : Working → Type 0) (parent : Option ℕ) (kind : Kind) (l : Label) (below : Forest) (w : Working) → AreGood kind (tree l below nil)
+    → MakesBelow below l.kind w.next_key → Makes P (node_new (piece_in l) parent w)
+    → ((u : Working) → P u → HasParent w.next_key l.kind u) → ((u v : Working) → P u → Grows w.next_key (pieces_of below) u v → Q v)
+    → Makes Q (node_made (data_of l below) kind parent w)
 node_makes P Q parent kind l below w good make new holds all =
     let d : Data = data_of l below in
     rw (node_made-node d kind parent w, piece_written kind l below good)
     (makes_after P Q (node_new (piece_in l) parent w) (children_given l.kind w.next_key d) new (λ u a.
-    makes_as (Grows w.next_key (pieces_of below) u) Q (children_given l.kind w.next_key d u) (below_made kind l below w.next_key u good (holds u a) make) (λ v b. all u v a b)))
+    makes_as (Grows w.next_key (pieces_of below) u) Q (children_given l.kind w.next_key d u) (below_made kind l below w.next_key u good (holds u a) make)
+    (λ v b. all u v a b)))
 
-pub trees_make : (c : Forest) (i : ℕ) (kind : Kind) (n : ℕ) (u : Working) → AreGood kind c → HasParent n kind u → Makes (Grows n (pieces_of c) u) (items_made (trees_data c) i kind n u)
+pub trees_make : (c : Forest) (i : ℕ) (kind : Kind) (n : ℕ) (u : Working) → AreGood kind c → HasParent n kind u
+    → Makes (Grows n (pieces_of c) u) (items_made (trees_data c) i kind n u)
 unfolding items_made trees_data
 trees_make nil i kind n u good parent = grows_none n u parent.ready
 trees_make (tree l below rest) i kind n u good parent =
@@ -304,10 +321,13 @@ trees_make (tree l below rest) i kind n u good parent =
     let low : n < u.next_key = parent_low n kind u parent in
     makes_after (Grows n one u) (Grows n all u) (told_under (child_place i) (node_made d kind (Some n) u)) (items_made (trees_data rest) (i + 1) kind n)
     (makes_under (Grows n one u) (child_place i) (node_made d kind (Some n) u)
-    (node_makes (IsPut n (piece_in l) u) (Grows n one u) (Some n) kind l below u (good.0, good.1, good.2, tt) (λ x holds. trees_make below 0 l.kind u.next_key x good.2 holds) (node_new_made n kind (piece_in l) u parent good.0)
-    (λ x a. record { ready = a.grows.covered.ready; kind_is = a.kind_is }) (λ x v a b. grows_below n (piece_in l) (pieces_of below) u x v parent.ready low a.grows b))) (λ v a.
+    (node_makes (IsPut n (piece_in l) u) (Grows n one u) (Some n) kind l below u (good.0, good.1, good.2, tt)
+    (λ x holds. trees_make below 0 l.kind u.next_key x good.2 holds) (node_new_made n kind (piece_in l) u parent good.0)
+    (λ x a. record { ready = a.grows.covered.ready; kind_is = a.kind_is })
+    (λ x v a b. grows_below n (piece_in l) (pieces_of below) u x v parent.ready low a.grows b))) (λ v a.
     makes_as (Grows n (pieces_of rest) v) (Grows n all u) (items_made (trees_data rest) (i + 1) kind n v)
-    (trees_make rest (i + 1) kind n v good.3 (parent_after n kind u v parent a.covered)) (λ x b. grows_then n (piece_in l) (pieces_of below) (pieces_of rest) u v x low a b))
+    (trees_make rest (i + 1) kind n v good.3 (parent_after n kind u v parent a.covered))
+    (λ x b. grows_then n (piece_in l) (pieces_of below) (pieces_of rest) u v x low a b))
 
 -- ---- a tree among the first ones, below nothing
 
@@ -327,7 +347,8 @@ record Comes (trees : Trees Piece) (w v : Working) : Type 0 where
   next : v.next_key ≡ w.next_key + total trees
   covered : AreCovered w v
 
-comes_below : (piece : Piece) (below : Trees Piece) (w u v : Working) → IsReady w → IsNew piece w u → Grows w.next_key below u v → Comes (tree piece below nil) w v
+comes_below : (piece : Piece) (below : Trees Piece) (w u v : Working) → IsReady w → IsNew piece w u → Grows w.next_key below u v
+    → Comes (tree piece below nil) w v
 comes_below piece below w u v ready a b =
     let l : Label = label_for w.next_key piece in
     let free : count w.next_key w.forest ≡ 0 = grind (arith, nat_tests, next_free w ready) in
@@ -339,10 +360,12 @@ comes_below piece below w u v ready a b =
       covered = covered-then w u v a.covered b.covered;
     }
 
-node_comes : (kind : Kind) (l : Label) (below : Forest) (w : Working) → AreGood kind (tree l below nil) → IsReady w → Makes (Comes (pieces_of (tree l below nil)) w) (node_made (data_of l below) kind None w)
+node_comes : (kind : Kind) (l : Label) (below : Forest) (w : Working) → AreGood kind (tree l below nil) → IsReady w
+    → Makes (Comes (pieces_of (tree l below nil)) w) (node_made (data_of l below) kind None w)
 node_comes kind l below w good ready =
     let piece : Piece = piece_in l in
-    node_makes (IsNew piece w) (Comes (pieces_of (tree l below nil)) w) None kind l below w good (λ x holds. trees_make below 0 l.kind w.next_key x good.2 holds)
+    node_makes (IsNew piece w) (Comes (pieces_of (tree l below nil)) w) None kind l below w good
+    (λ x holds. trees_make below 0 l.kind w.next_key x good.2 holds)
     (makes_after (IsNew piece w) (IsNew piece w) (new_step l.kind l.fields w) (λ u. put_where None w.next_key u) (new_made piece w ready) (λ u new. new))
     (λ u a. record { ready = a.covered.ready; kind_is = kind_new piece w u ready a }) (λ u v a b. comes_below piece (pieces_of below) w u v ready a b)
 
@@ -362,7 +385,8 @@ pub record AreMade (trees : Trees Piece) (w : Working) (made : Made) : Type 0 wh
   pub tops : (k : ℕ) → is_among k made.keys ≡ true → IsTop k made.draft.forest
   pub covered : AreCovered w made.draft
 
-comes-own : (piece : Piece) (below : Trees Piece) (w v : Working) → IsReady w → Comes (tree piece below nil) w v → alone w.next_key v.forest ≡ keyed w.next_key (tree piece below nil)
+comes-own : (piece : Piece) (below : Trees Piece) (w v : Working) → IsReady w → Comes (tree piece below nil) w v
+    → alone w.next_key v.forest ≡ keyed w.next_key (tree piece below nil)
 comes-own piece below w v ready a =
     let n : ℕ = w.next_key in
     let free : count n w.forest ≡ 0 = grind (arith, nat_tests, next_free w ready) in
@@ -413,7 +437,8 @@ made_then piece below rest w v made ready a b =
     first =
         let low : w.next_key < v.next_key = omega (arith, a.next) in
         record {
-          there = sym (is_within-self made.draft.forest w.next_key) ∙ ap (has w.next_key) (b.stays w.next_key low ∙ comes-own piece below w v ready a) ∙ first_there w.next_key piece (keyed (w.next_key + 1) below);
+          there = sym (is_within-self made.draft.forest w.next_key) ∙ ap (has w.next_key) (b.stays w.next_key low ∙ comes-own piece below w v ready a)
+              ∙ first_there w.next_key piece (keyed (w.next_key + 1) below);
           top = b.parents w.next_key low ∙ comes-top piece below w v ready a;
         }
 
@@ -421,7 +446,8 @@ made_then piece below rest w v made ready a b =
     top k true is among = let same : w.next_key ≡ k = grind (arith, is, eqb_tells w.next_key k) in subst (λ q. IsTop q made.draft.forest) same first
     top k false is among = b.tops k (ap (λ t. t || is_among k made.keys) (sym is) ∙ among)
 
-pub nodes_make : (c : Forest) (i : ℕ) (kind : Kind) (w : Working) → AreGood kind c → IsReady w → Makes (AreMade (pieces_of c) w) (nodes_made (trees_data c) i kind w)
+pub nodes_make : (c : Forest) (i : ℕ) (kind : Kind) (w : Working) → AreGood kind c → IsReady w
+    → Makes (AreMade (pieces_of c) w) (nodes_made (trees_data c) i kind w)
 unfolding nodes_made trees_data
 nodes_make nil i kind w good ready =
     record { are = refl; next = omega arith; stays = λ q low. refl; parents = λ q low. refl; tops = λ k among. absurd (cc); covered = covered-self w ready }
@@ -431,5 +457,6 @@ nodes_make (tree l below rest) i kind w good ready =
     let r : Result Working Cause = node_made (data_of l below) kind None w in
     makes_after (Comes one w) (AreMade all w) (told_under (index_place i) r) (λ v. after (nodes_made (trees_data rest) (i + 1) kind v) (with_first w.next_key))
     (makes_under (Comes one w) (index_place i) r (node_comes kind l below w (good.0, good.1, good.2, tt) ready)) (λ v a.
-    makes_after (AreMade (pieces_of rest) v) (AreMade all w) (nodes_made (trees_data rest) (i + 1) kind v) (with_first w.next_key) (nodes_make rest (i + 1) kind v good.3 a.covered.ready)
+    makes_after (AreMade (pieces_of rest) v) (AreMade all w) (nodes_made (trees_data rest) (i + 1) kind v) (with_first w.next_key)
+    (nodes_make rest (i + 1) kind v good.3 a.covered.ready)
     (λ made b. made_then (piece_in l) (pieces_of below) (pieces_of rest) w v made ready a b))

@@ -41,16 +41,21 @@ record IsFit (kinds : ℕ → Option Kind) (s : Spot Label) : Type 0 where
   held : (p : ℕ) → s.parent ≡ Some p → holds may_hold (kinds p) (Some s.label.kind) ≡ true
   good : IsGood s.label
 
-below_at : (r : Option ℕ) (l : Label) (below rest : Forest) (q : ℕ) (s : Spot Label) → IsDistinct key_of (tree l below rest) → spot_below key_of (Some l.key) below q ≡ Some s → spot_below key_of r (tree l below rest) q ≡ Some s
+below_at : (r : Option ℕ) (l : Label) (below rest : Forest) (q : ℕ) (s : Spot Label) → IsDistinct key_of (tree l below rest)
+    → spot_below key_of (Some l.key) below q ≡ Some s → spot_below key_of r (tree l below rest) q ≡ Some s
 below_at r l below rest q s once e = grind (arith, e, once q, eqb_tells l.key q, spot_below-absent key_of (Some l.key) below q)
 
-rest_at : (r : Option ℕ) (l : Label) (below rest : Forest) (q : ℕ) (s : Spot Label) → IsDistinct key_of (tree l below rest) → spot_below key_of r rest q ≡ Some s → spot_below key_of r (tree l below rest) q ≡ Some s
-rest_at r l below rest q s once e = grind (arith, e, once q, eqb_tells l.key q, spot_below-absent key_of (Some l.key) below q, spot_below-absent key_of r rest q)
+rest_at : (r : Option ℕ) (l : Label) (below rest : Forest) (q : ℕ) (s : Spot Label) → IsDistinct key_of (tree l below rest)
+    → spot_below key_of r rest q ≡ Some s → spot_below key_of r (tree l below rest) q ≡ Some s
+rest_at r l below rest q s once e =
+    grind (arith, e, once q, eqb_tells l.key q, spot_below-absent key_of (Some l.key) below q, spot_below-absent key_of r rest q)
 
-first_at : (r : Option ℕ) (l : Label) (below rest : Forest) → spot_below key_of r (tree l below rest) l.key ≡ Some (record { label = l; parent = r; children = named.names key_of below })
+first_at : (r : Option ℕ) (l : Label) (below rest : Forest)
+    → spot_below key_of r (tree l below rest) l.key ≡ Some (record { label = l; parent = r; children = named.names key_of below })
 first_at r l below rest = grind (arith, eqb_tells l.key l.key)
 
-are_good : (kinds : ℕ → Option Kind) (p : ℕ) (parent : Kind) (t : Forest) → IsDistinct key_of t → kinds p ≡ Some parent → ((q : ℕ) (s : Spot Label) → spot_below key_of (Some p) t q ≡ Some s → IsFit kinds s) → AreGood parent t
+are_good : (kinds : ℕ → Option Kind) (p : ℕ) (parent : Kind) (t : Forest) → IsDistinct key_of t → kinds p ≡ Some parent
+    → ((q : ℕ) (s : Spot Label) → spot_below key_of (Some p) t q ≡ Some s → IsFit kinds s) → AreGood parent t
 are_good kinds p parent nil once up fit = tt
 are_good kinds p parent (tree l below rest) once up fit =
     let own = fit l.key (record { label = l; parent = Some p; children = named.names key_of below }) (first_at (Some p) l below rest) in (
@@ -60,7 +65,8 @@ are_good kinds p parent (tree l below rest) once up fit =
       are_good kinds p parent rest (λ q. omega (arith, once q)) up (λ q s e. fit q s (rest_at (Some p) l below rest q s once e)),
     )
 
-are_sound : (kinds : ℕ → Option Kind) (t : Forest) → IsDistinct key_of t → ((q : ℕ) (s : Spot Label) → spot_below key_of None t q ≡ Some s → IsFit kinds s) → AreSound t
+are_sound : (kinds : ℕ → Option Kind) (t : Forest) → IsDistinct key_of t → ((q : ℕ) (s : Spot Label) → spot_below key_of None t q ≡ Some s → IsFit kinds s)
+    → AreSound t
 are_sound kinds nil once fit = tt
 are_sound kinds (tree l below rest) once fit =
     let own = fit l.key (record { label = l; parent = None; children = named.names key_of below }) (first_at None l below rest) in (
@@ -110,7 +116,8 @@ sound_alone k (tree l below rest) sound =
 -- the children of a node of this kind
 pub kept_below : (f : Forest) (p : ℕ) (kind : Kind) → IsKept f → kind_of f p ≡ Some kind → AreGood kind (trees_of f (children_of f p))
 kept_below f p kind kept is = by_spot (spot f p) refl is where
-  by_spot : (o : Option (Spot Label)) → spot f p ≡ o → option_map (λ (l : Label). l.kind) (option_map (λ (s : Spot Label). s.label) o) ≡ Some kind → AreGood kind (trees_of f (children_at o))
+  by_spot : (o : Option (Spot Label)) → spot f p ≡ o → option_map (λ (l : Label). l.kind) (option_map (λ (s : Spot Label). s.label) o) ≡ Some kind
+      → AreGood kind (trees_of f (children_at o))
   by_spot None at e = absurd (cc)
   by_spot (Some s) at e =
       let same : s.label.kind ≡ kind = cc in
@@ -120,6 +127,7 @@ kept_below f p kind kept is = by_spot (spot f p) refl is where
 -- a node that isn't there has none
 pub none_below : (f : Forest) (p : ℕ) → kind_of f p ≡ None → trees_of f (children_of f p) ≡ nil
 none_below f p none = by_spot (spot f p) none where
-  by_spot : (o : Option (Spot Label)) → option_map (λ (l : Label). l.kind) (option_map (λ (s : Spot Label). s.label) o) ≡ None → trees_of f (children_at o) ≡ nil
+  by_spot : (o : Option (Spot Label)) → option_map (λ (l : Label). l.kind) (option_map (λ (s : Spot Label). s.label) o) ≡ None
+      → trees_of f (children_at o) ≡ nil
   by_spot None e = refl
   by_spot (Some s) e = absurd (cc)

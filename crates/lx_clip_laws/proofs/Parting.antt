@@ -72,7 +72,9 @@ top_splice : (a k from to : ℕ) (new : List ℕ) (w v : Working) → IsReady w 
 unfolding splice_step
 top_splice a k from to new w v ready e =
     let x : Fields = label_with_piece (label_of w.forest k) from to new in
-    let told = answered (option_or (splice_fault k from to w.forest) (over_limits (length new) w)) (fields_written k x (length new) (splice_points k from to new) w) v e in
+    let told =
+    answered (option_or (splice_fault k from to w.forest) (over_limits (length new) w)) (fields_written k x (length new) (splice_points k from to new) w) v
+    e in
     top_same a w v (covered-splice k from to new w v ready e).ready (rw (← told.1) (parent_of-with_fields k x w.forest a))
 
 top_take : (a k : ℕ) (w v : Working) → IsReady w → take_step k w ≡ Ok v → StaysTop a w v
@@ -88,7 +90,9 @@ top_put a k p index w v other ready e =
     let can = can_put w.forest k p index (both_none (put_fault k p index w.forest) (over_counts w) told.0).0 in
     let apart : eqb a k ≡ false = grind (arith, other, eqb_tells a k) in
     top_same a w v (covered-put k p index w v ready e).ready
-    (rw (← told.1) (parent_of-put_in p (slice_get (children_of w.forest p) index) k w.forest a ready.in_order can ∙ ap (λ b. cond b (Some p) (parent_of w.forest a)) apart))
+    (rw (← told.1)
+    (parent_of-put_in p (slice_get (children_of w.forest p) index) k w.forest a ready.in_order can
+    ∙ ap (λ b. cond b (Some p) (parent_of w.forest a)) apart))
 
 pub top_path : (a : ℕ) → IsPath IsReady (StaysTop a) (λ k. k ≢ a)
 top_path a = record {
@@ -129,7 +133,9 @@ apart a k w loose out = record { ready = loose.ready; there = loose.there; out =
 
 -- the next key is another
 new_other : (a : ℕ) (w : Working) → IsLoose a w → w.next_key ≢ a
-new_other a w loose same = absurd (let free : has w.next_key w.forest ≡ false = loose.ready.free w.next_key (omega arith) in let two : true ≡ false = sym loose.there ∙ ap (λ q. has q w.forest) (sym same) ∙ free in cc)
+new_other a w loose same =
+    absurd (let free : has w.next_key w.forest ≡ false = loose.ready.free w.next_key (omega arith) in let two : true ≡ false = sym loose.there
+    ∙ ap (λ q. has q w.forest) (sym same) ∙ free in cc)
 
 -- ---- the text is split
 
@@ -149,7 +155,8 @@ pub record IsChildOutside (a m : ℕ) (w : Working) : Type 0 where
   pub other : m ≢ a
   pub out : is_within w.forest a m ≡ false
 
-pub child_outside : (a k index m : ℕ) (w : Working) → IsLoose a w → is_within w.forest a k ≡ false → is_among m (drop index (children_of w.forest k)) ≡ true → IsChildOutside a m w
+pub child_outside : (a k index m : ℕ) (w : Working) → IsLoose a w → is_within w.forest a k ≡ false → is_among m (drop index (children_of w.forest k)) ≡ true
+    → IsChildOutside a m w
 child_outside a k index m w loose out among =
     let up : parent_of w.forest m ≡ Some k = named_up w.forest m k loose.ready.in_order (among_drop index (children_of w.forest k) m among) in
     let other : m ≢ a = λ same. absurd (let two : Some k ≡ None = sym up ∙ ap (parent_of w.forest) same ∙ loose.top in cc) in
@@ -174,7 +181,8 @@ parted_leaves a k index w v loose out e =
     (λ m among. ap (has m) same ∙ (child_outside a k index m w loose out among).out) two.2 in
     let s = like_top a l w one.0 loose.ready one.1 in
     let t = put_behind_path (top_path a) n k (new_other a w loose) one.0 two.0 s.ready two.1 in
-    let u = turns (top_path a) (moved_to_end n) moved (λ m among. moved_to_end_path (top_path a) n m (child_outside a k index m w loose out among).other) two.0 v t.ready two.2 in
+    let u = turns (top_path a) (moved_to_end n) moved (λ m among. moved_to_end_path (top_path a) n m (child_outside a k index m w loose out among).other) two.0
+    v t.ready two.2 in
     record {
       same = z.same ∙ same;
       loose = record { ready = z.apart.ready; there = z.apart.there; top = u.top (t.top (s.top loose.top)) };
@@ -183,9 +191,11 @@ parted_leaves a k index w v loose out e =
 link_leaves : (a k index : ℕ) (w v : Working) → IsLoose a w → is_within w.forest a k ≡ false → link_parted k index w ≡ Ok v → Leaves a w v
 unfolding link_parted
 link_leaves a k index w v loose out e =
-    if_taken (Leaves a) (is_at is_link w.forest k && (ltb 0 index && ltb index (size_of w.forest k))) (parted_at k index w) w v (leaves_none a w loose) (λ e. parted_leaves a k index w v loose out e) e
+    if_taken (Leaves a) (is_at is_link w.forest k && (ltb 0 index && ltb index (size_of w.forest k))) (parted_at k index w) w v (leaves_none a w loose)
+    (λ e. parted_leaves a k index w v loose out e) e
 
-pub up_leaves : (ks : List ℕ) (a index : ℕ) (w : Working) (made : Parted) → IsLoose a w → ((q : ℕ) → is_among q ks ≡ true → is_within w.forest a q ≡ false) → parted_up ks index w ≡ Ok made → Leaves a w made.draft
+pub up_leaves : (ks : List ℕ) (a index : ℕ) (w : Working) (made : Parted) → IsLoose a w → ((q : ℕ) → is_among q ks ≡ true → is_within w.forest a q ≡ false)
+    → parted_up ks index w ≡ Ok made → Leaves a w made.draft
 unfolding parted_up
 up_leaves [] a index w made loose out e = let is : w ≡ made.draft = cc in subst (Leaves a w) is (leaves_none a w loose)
 up_leaves (k ∷ ks) a index w made loose out e =
@@ -197,7 +207,8 @@ up_leaves (k ∷ ks) a index w made loose out e =
 -- ---- a block is parted at a point
 
 -- what holds a point outside a tree is outside it
-holder_out : (a q : ℕ) (p : Point) (kind : PointKind) (f : Forest) → IsForest f → has p.key f ≡ true → is_within f a p.key ≡ false → is_among q (holders f p kind) ≡ true → is_within f a q ≡ false
+holder_out : (a q : ℕ) (p : Point) (kind : PointKind) (f : Forest) → IsForest f → has p.key f ≡ true → is_within f a p.key ≡ false
+    → is_among q (holders f p kind) ≡ true → is_within f a q ≡ false
 holder_out a q p point.Text f h there out among = above_out a q p.key f h there out (later q p.key (ancestors f p.key) among) where
   later : (a x : ℕ) (xs : List ℕ) → is_among a xs ≡ true → is_among a (x ∷ xs) ≡ true
   later a x xs among = grind (arith, among)
@@ -225,12 +236,14 @@ parts_leave a block p w u parted there is cut e =
     (up_leaves (holders_in u.forest block p) a (before_point u.forest p p.kind) u parted x.loose
     (λ q among. holder_out a q p p.kind u.forest x.loose.ready.in_order known out (among_until (Some block) (holders u.forest p p.kind) q among)) e)
 
-outside_of : (a block index : ℕ) (p : Point) (w v : Working) → IsUnplaced a block p w → Leaves a w v → IsOutside a block (drop index (children_of v.forest block)) v.forest
+outside_of : (a block index : ℕ) (p : Point) (w v : Working) → IsUnplaced a block p w → Leaves a w v
+    → IsOutside a block (drop index (children_of v.forest block)) v.forest
 outside_of a block index p w v is x =
     let out : is_within v.forest a block ≡ false = ap (has block) x.same ∙ is.not_block in
     record { there = x.loose.there; not_block = out; not_moved = λ m among. (child_outside a block index m v x.loose out among).out }
 
-pub opened_trees : (block : ℕ) (p : Point) (keys : List ℕ) (w v : Working) → has p.key w.forest ≡ true → ((k : ℕ) → is_among k keys ≡ true → IsUnplaced k block p w) → block_opened block p keys w ≡ Ok v
+pub opened_trees : (block : ℕ) (p : Point) (keys : List ℕ) (w v : Working) → has p.key w.forest ≡ true
+    → ((k : ℕ) → is_among k keys ≡ true → IsUnplaced k block p w) → block_opened block p keys w ≡ Ok v
     → (k : ℕ) → is_among k keys ≡ true → alone k v.forest ≡ alone k w.forest
 unfolding block_opened
 opened_trees block p keys w v there unplaced e k among =
@@ -241,4 +254,5 @@ opened_trees block p keys w v there unplaced e k among =
     let x : Working = two.0.draft in
     let each : (q : ℕ) → is_among q keys ≡ true → Leaves q w x = λ q own. parts_leave q block p w u two.0 there (unplaced q own) one.1.0 two.1.0 in
     let last = each k among in
-    around_trees block keys (drop two.0.index (children_of x.forest block)) x v last.loose.ready (λ q own. outside_of q block two.0.index p w x (unplaced q own) (each q own)) two.1.1 k among ∙ last.same
+    around_trees block keys (drop two.0.index (children_of x.forest block)) x v last.loose.ready
+    (λ q own. outside_of q block two.0.index p w x (unplaced q own) (each q own)) two.1.1 k among ∙ last.same

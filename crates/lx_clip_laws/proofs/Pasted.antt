@@ -81,7 +81,8 @@ came_by k p point.Text w v ready e = elim (cases_Bool (eqb p.offset 0)) [
 ]
 
 -- the other nodes after the first
-added_came : (p : Point) (k : ℕ) (ks : List ℕ) (w u v : Working) (c : CameBy p p.kind k w u) → put_behind_each k ks u ≡ Ok v → Came c.parent c.before (k ∷ ks) c.rest w v
+added_came : (p : Point) (k : ℕ) (ks : List ℕ) (w u v : Working) (c : CameBy p p.kind k w u) → put_behind_each k ks u ≡ Ok v
+    → Came c.parent c.before (k ∷ ks) c.rest w v
 added_came p k ks w u v c e =
     came_then c.parent c.before (k ∷ []) ks c.rest w u v c.came (behind_each_came ks c.parent k c.before c.rest u v c.came.covered.ready c.came.now e)
 
@@ -91,7 +92,9 @@ inlines_between p [] w v ready some e = absurd (some refl)
 inlines_between p (k ∷ ks) w v ready some e =
     let keys : List ℕ = k ∷ ks in
     let put : Working → Result Working Cause = λ split. after (put_all_by p keys split) (λ put. Ok (caret_after keys put)) in
-    let one = allowed (λ w v. (u : Working) × ((opened p w ≡ Ok u) × (put u ≡ Ok v))) w v (no_room_for w.forest keys (kind_around w.forest p.key p.kind)) (λ u. after (opened p u) put) (λ e. after_tells (opened p w) put v e) e in
+    let one =
+    allowed (λ w v. (u : Working) × ((opened p w ≡ Ok u) × (put u ≡ Ok v))) w v (no_room_for w.forest keys (kind_around w.forest p.key p.kind))
+    (λ u. after (opened p u) put) (λ e. after_tells (opened p w) put v e) e in
     let split : Working = one.0 in
     let two = after_tells (put_all_by p keys split) (λ put. Ok (caret_after keys put)) v one.1.1 in
     let first = after_tells (put_by k p p.kind split) (put_behind_each k ks) two.0 two.1.0 in
@@ -125,7 +128,8 @@ came_behind outer k ks w v ready e =
     record { parent = s.parent; before = s.before; rest = s.behind; came = behind_each_came (k ∷ ks) s.parent outer s.before s.behind w v ready s.are e }
 
 beyond : (outer : ℕ) (keys : List ℕ) (w u v : Working) → CameBehind outer keys w u → v.forest ≡ u.forest → AreBeyond outer keys w v
-beyond outer keys w u v c same = record { parent = c.parent; before = c.before; rest = c.rest; between = stand c.parent (c.before ++ (outer ∷ [])) keys c.rest w u v c.came same }
+beyond outer keys w u v c same =
+    record { parent = c.parent; before = c.before; rest = c.rest; between = stand c.parent (c.before ++ (outer ∷ [])) keys c.rest w u v c.came same }
 
 pub beyond_between : (outer : ℕ) (keys : List ℕ) (w v : Working) → IsReady w → keys ≢ [] → put_beyond outer keys w ≡ Ok v → AreBeyond outer keys w v
 unfolding put_beyond
@@ -149,7 +153,8 @@ has_last x (y ∷ ys) =
     record { front = x ∷ l.front; end = l.end; all = ap (λ zs. x ∷ zs) l.all; is = l.is }
 
 -- the new block after the last of the nodes
-tail_came : (outer k : ℕ) (ks : List ℕ) (tail : Option ℕ) (w u v : Working) → CameBehind outer (k ∷ ks) w u → tail_put tail (last_of (k ∷ ks)) u ≡ Ok v → CameBehind outer ((k ∷ ks) ++ key_if tail) w v
+tail_came : (outer k : ℕ) (ks : List ℕ) (tail : Option ℕ) (w u v : Working) → CameBehind outer (k ∷ ks) w u → tail_put tail (last_of (k ∷ ks)) u ≡ Ok v
+    → CameBehind outer ((k ∷ ks) ++ key_if tail) w v
 tail_came outer k ks None w u v c e =
     ok (CameBehind outer ((k ∷ ks) ++ [])) w u v (subst (λ xs. CameBehind outer xs w u) (sym (append-nil (k ∷ ks))) c) e
 tail_came outer k ks (Some new) w u v c e =
@@ -158,8 +163,10 @@ tail_came outer k ks (Some new) w u v c e =
     let step : put_behind_step new l.end u ≡ Ok v = sym (ap (λ o. tail_put (Some new) o u) l.is) ∙ e in
     let start : List ℕ = c.before ++ (outer ∷ []) in
     let are : children_of u.forest c.parent ≡ (start ++ l.front) ++ (l.end ∷ c.rest) =
-    c.came.now ∙ ap (λ xs. start ++ (xs ++ c.rest)) l.all ∙ ap (λ xs. start ++ xs) (append_assoc l.front (l.end ∷ []) c.rest) ∙ sym (append_assoc start l.front (l.end ∷ c.rest)) in
-    let last : Came c.parent ((start ++ l.front) ++ (l.end ∷ [])) (new ∷ []) c.rest u v = put_behind_came new c.parent l.end (start ++ l.front) c.rest u v c.came.covered.ready are step in
+    c.came.now ∙ ap (λ xs. start ++ (xs ++ c.rest)) l.all ∙ ap (λ xs. start ++ xs) (append_assoc l.front (l.end ∷ []) c.rest)
+    ∙ sym (append_assoc start l.front (l.end ∷ c.rest)) in
+    let last : Came c.parent ((start ++ l.front) ++ (l.end ∷ [])) (new ∷ []) c.rest u v =
+    put_behind_came new c.parent l.end (start ++ l.front) c.rest u v c.came.covered.ready are step in
     let place : (start ++ l.front) ++ (l.end ∷ []) ≡ start ++ keys = append_assoc start l.front (l.end ∷ []) ∙ ap (λ xs. start ++ xs) (sym l.all) in
     record {
       parent = c.parent;
@@ -186,13 +193,15 @@ pub record IsAround (block : ℕ) (keys moved : List ℕ) (w v : Working) : Type
   pub said : AreAround block keys moved w v
   pub order : IsForest (said.put).forest
 
-pub around_between : (block : ℕ) (keys moved : List ℕ) (w v : Working) → IsReady w → keys ≢ [] → put_around block keys moved w ≡ Ok v → IsAround block keys moved w v
+pub around_between : (block : ℕ) (keys moved : List ℕ) (w v : Working) → IsReady w → keys ≢ [] → put_around block keys moved w ≡ Ok v
+    → IsAround block keys moved w v
 unfolding put_around
 around_between block [] moved w v ready some e = absurd (some refl)
 around_between block (k ∷ ks) moved w v ready some e =
     let keys : List ℕ = k ∷ ks in
     let close : Working → Result Working Cause = λ x. removed_empty block (caret_after keys x) in
-    let one = after_tells (tail_made block moved w) (λ t. after (put_behind_each block keys t.draft) (λ put. after (tail_put t.key (last_of keys) put) close)) v e in
+    let one =
+    after_tells (tail_made block moved w) (λ t. after (put_behind_each block keys t.draft) (λ put. after (tail_put t.key (last_of keys) put) close)) v e in
     let t : Tailed = one.0 in
     let two = after_tells (put_behind_each block keys t.draft) (λ put. after (tail_put t.key (last_of keys) put) close) v one.1.1 in
     let three = after_tells (tail_put t.key (last_of keys) two.0) close v two.1.1 in

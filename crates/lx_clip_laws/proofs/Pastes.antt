@@ -52,7 +52,8 @@ use Rattle.lx_caret.proofs.Selected.{found_among}
 
 -- ---- read back
 
-pub slice_makes : (f : Forest) (s : Selection) (c : Forest) (w : Working) → IsKept f → sliced f s ≡ Some c → IsReady w → Makes (AreMade (pieces_of c) w) (slice_read c w)
+pub slice_makes : (f : Forest) (s : Selection) (c : Forest) (w : Working) → IsKept f → sliced f s ≡ Some c → IsReady w
+    → Makes (AreMade (pieces_of c) w) (slice_read c w)
 unfolding nodes_read
 slice_makes f s c w kept is ready =
     let r = slice_readable f s c kept is in
@@ -73,13 +74,15 @@ read_back c w made ready m = record {
   stays = λ q there. m.stays q (key_low q w ready there);
 }
 
-pub inserts : (c : Forest) (w : Working) → insert_step (slice_data c) w ≡ after (slice_read c w) (λ made. placed (begins_inline (trees_data c)) made.keys made.draft)
+pub inserts : (c : Forest) (w : Working)
+    → insert_step (slice_data c) w ≡ after (slice_read c w) (λ made. placed (begins_inline (trees_data c)) made.keys made.draft)
 unfolding insert_step
 inserts c w = refl
 
 pub slices_are_read_back : SlicesAreReadBack
 slices_are_read_back = record {
-  back = λ f s c w made kept is ready e. read_back c w made ready (made_by (AreMade (pieces_of c) w) (slice_read c w) made e (slice_makes f s c w kept is ready));
+  back = λ f s c w made kept is ready e. read_back c w made ready
+      (made_by (AreMade (pieces_of c) w) (slice_read c w) made e (slice_makes f s c w kept is ready));
   refused = λ f s c w cause kept is ready e. refused_by (AreMade (pieces_of c) w) (slice_read c w) cause e (slice_makes f s c w kept is ready);
   inserted = inserts;
 }
@@ -105,7 +108,10 @@ unfolding put_step
 known_put f k p index w v e =
     let told = answered (option_or (put_fault k p index w.forest) (over_counts w)) (node_placed k p index w) v e in
     subst (StaysKnown f w) told.1
-    (record { points = λ known. each_moved (IsKnown f) (IsKnown f) (put_moves p index) w.selection (λ x is. ap (λ q. has q f) (key_of_put p index x) ∙ is) known })
+    (record {
+      points = λ known. each_moved (IsKnown f) (IsKnown f) (put_moves p index) w.selection (λ x is. ap (λ q. has q f) (key_of_put p index x) ∙ is)
+          known;
+    })
 
 pub known_making : (f : Forest) → IsMaking (λ w. Unit {0}) (StaysKnown f)
 known_making f = record {
@@ -131,10 +137,12 @@ in_none g (x ∷ ks) k q among none = elim (cases_Bool (eqb x k)) [
 ]
 
 pub copied_made : (c : Forest) (w : Working) (made : Made) → IsCopied c w made → AreMade (pieces_of c) w made
-copied_made c w made copied = made_by (AreMade (pieces_of c) w) (slice_read c w) made copied.read (slice_makes copied.tree copied.selection c w copied.kept copied.covered copied.ready)
+copied_made c w made copied =
+    made_by (AreMade (pieces_of c) w) (slice_read c w) made copied.read (slice_makes copied.tree copied.selection c w copied.kept copied.covered copied.ready)
 
 -- the new trees hold no node that was there before
-pub old_outside : (c : Forest) (w : Working) (made : Made) (k q : ℕ) → AreMade (pieces_of c) w made → q < w.next_key → is_among k made.keys ≡ true → is_within made.draft.forest k q ≡ false
+pub old_outside : (c : Forest) (w : Working) (made : Made) (k q : ℕ) → AreMade (pieces_of c) w made → q < w.next_key → is_among k made.keys ≡ true
+    → is_within made.draft.forest k q ≡ false
 old_outside c w made k q m low among =
     let none : count q (trees_of made.draft.forest made.keys) ≡ 0 = ap (count q) m.are ∙ keyed-low w.next_key q (pieces_of c) low in
     ap (λ n. ltb 0 n) (in_none made.draft.forest made.keys k q among none)
@@ -144,11 +152,13 @@ abbrev AreSame : List ℕ → Working → Working → Type 0
 AreSame keys w v = (k : ℕ) → is_among k keys ≡ true → alone k v.forest ≡ alone k w.forest
 
 -- whatever leaves each of the trees leaves what was read
-still_same : (c : Forest) (w : Working) (made : Made) (v : Working) → IsCopied c w made → AreSame made.keys made.draft v → pieces_of (trees_of v.forest made.keys) ≡ pieces_of c
+still_same : (c : Forest) (w : Working) (made : Made) (v : Working) → IsCopied c w made → AreSame made.keys made.draft v
+    → pieces_of (trees_of v.forest made.keys) ≡ pieces_of c
 still_same c w made v copied same =
     ap pieces_of (trees_same v.forest made.draft.forest made.keys same) ∙ (read_back c w made copied.ready (copied_made c w made copied)).same
 
-pub added_same : (keys : List ℕ) (p : Point) (w v : Working) → IsReady w → ((k : ℕ) → is_among k keys ≡ true → (has k w.forest ≡ true) × (is_within w.forest k p.key ≡ false)) → nodes_added p keys w ≡ Ok v → AreSame keys w v
+pub added_same : (keys : List ℕ) (p : Point) (w v : Working) → IsReady w
+    → ((k : ℕ) → is_among k keys ≡ true → (has k w.forest ≡ true) × (is_within w.forest k p.key ≡ false)) → nodes_added p keys w ≡ Ok v → AreSame keys w v
 added_same [] p w v ready apart e k among = absurd (cc)
 added_same (x ∷ xs) p w v ready apart e k among =
     let a = inlines_between p (x ∷ xs) w v ready (λ none. absurd (cc)) e in
@@ -160,18 +170,23 @@ beyond_same [] outer w v ready e k among = absurd (cc)
 beyond_same (x ∷ xs) outer w v ready e k among = (beyond_between outer (x ∷ xs) w v ready (λ none. absurd (cc)) e).between.trees k among
 
 -- what was there before is there, with what was read
-pub old_there : (c : Forest) (w : Working) (made : Made) (q : ℕ) → AreMade (pieces_of c) w made → IsReady w → has q w.forest ≡ true → has q made.draft.forest ≡ true
-old_there c w made q m ready there = sym (is_within-self made.draft.forest q) ∙ ap (has q) (m.stays q (key_low q w ready there)) ∙ is_within-self w.forest q ∙ there
+pub old_there : (c : Forest) (w : Working) (made : Made) (q : ℕ) → AreMade (pieces_of c) w made → IsReady w → has q w.forest ≡ true
+    → has q made.draft.forest ≡ true
+old_there c w made q m ready there =
+    sym (is_within-self made.draft.forest q) ∙ ap (has q) (m.stays q (key_low q w ready there)) ∙ is_within-self w.forest q ∙ there
 
 -- ---- at a point of a node that was there
 
-inlines_same : (c : Forest) (w : Working) (made : Made) (p : Point) (v : Working) → AreMade (pieces_of c) w made → IsReady w → IsKnown w.forest p → nodes_added p made.keys made.draft ≡ Ok v → AreSame made.keys made.draft v
+inlines_same : (c : Forest) (w : Working) (made : Made) (p : Point) (v : Working) → AreMade (pieces_of c) w made → IsReady w → IsKnown w.forest p
+    → nodes_added p made.keys made.draft ≡ Ok v → AreSame made.keys made.draft v
 inlines_same c w made p v m ready known e =
-    added_same made.keys p made.draft v m.covered.ready (λ k among. ((m.tops k among).there, old_outside c w made k p.key m (key_low p.key w ready known) among)) e
+    added_same made.keys p made.draft v m.covered.ready
+    (λ k among. ((m.tops k among).there, old_outside c w made k p.key m (key_low p.key w ready known) among)) e
 
 -- between the parts of a block that no tree holds
 around_same : (c : Forest) (w : Working) (made : Made) (block : ℕ) (p : Point) (v : Working) → AreMade (pieces_of c) w made → IsReady w → IsKnown w.forest p
-    → ((k : ℕ) → is_among k made.keys ≡ true → is_within made.draft.forest k block ≡ false) → block_opened block p made.keys made.draft ≡ Ok v → AreSame made.keys made.draft v
+    → ((k : ℕ) → is_among k made.keys ≡ true → is_within made.draft.forest k block ≡ false) → block_opened block p made.keys made.draft ≡ Ok v
+    → AreSame made.keys made.draft v
 around_same c w made block p v m ready known off e =
     opened_trees block p made.keys made.draft v (old_there c w made p.key m ready known) (λ k among. record {
       loose = record { ready = m.covered.ready; there = (m.tops k among).there; top = (m.tops k among).top };
@@ -179,7 +194,8 @@ around_same c w made block p v m ready known off e =
       not_point = old_outside c w made k p.key m (key_low p.key w ready known) among;
     }) e
 
-blocks_same : (c : Forest) (w : Working) (made : Made) (p : Point) (v : Working) (block : Option ℕ) → AreMade (pieces_of c) w made → IsReady w → IsKnown w.forest p → block_of made.draft.forest p.key ≡ block
+blocks_same : (c : Forest) (w : Working) (made : Made) (p : Point) (v : Working) (block : Option ℕ) → AreMade (pieces_of c) w made → IsReady w
+    → IsKnown w.forest p → block_of made.draft.forest p.key ≡ block
     → blocks_added block p made.keys made.draft ≡ Ok v → AreSame made.keys made.draft v
 blocks_same c w made p v None m ready known is e = inlines_same c w made p v m ready known e
 blocks_same c w made p v (Some block) m ready known is e = by_test (eqb (outer_block f block) block) e where
@@ -191,24 +207,29 @@ blocks_same c w made p v (Some block) m ready known is e = by_test (eqb (outer_b
 
   off : (k : ℕ) → is_among k made.keys ≡ true → is_within f k block ≡ false
   off k among =
-      above_out k block p.key f m.covered.ready.in_order (old_there c w made p.key m ready known) (old_outside c w made k p.key m (key_low p.key w ready known) among) above
+      above_out k block p.key f m.covered.ready.in_order (old_there c w made p.key m ready known)
+      (old_outside c w made k p.key m (key_low p.key w ready known) among) above
 
-  by_test : (b : Bool) → cond b (block_opened block p made.keys made.draft) (put_beyond (outer_block f block) made.keys made.draft) ≡ Ok v → AreSame made.keys made.draft v
+  by_test : (b : Bool) → cond b (block_opened block p made.keys made.draft) (put_beyond (outer_block f block) made.keys made.draft) ≡ Ok v
+      → AreSame made.keys made.draft v
   by_test true e = around_same c w made block p v m ready known off e
   by_test false e = beyond_same made.keys (outer_block f block) made.draft v m.covered.ready e
 
-point_same : (c : Forest) (w : Working) (made : Made) (inline : Bool) (p : Point) (format : ℕ) (v : Working) → AreMade (pieces_of c) w made → IsReady w → IsKnown w.forest p → placed_at inline made.keys p format made.draft ≡ Ok v → AreSame made.keys made.draft v
+point_same : (c : Forest) (w : Working) (made : Made) (inline : Bool) (p : Point) (format : ℕ) (v : Working) → AreMade (pieces_of c) w made → IsReady w
+    → IsKnown w.forest p → placed_at inline made.keys p format made.draft ≡ Ok v → AreSame made.keys made.draft v
 point_same c w made true p format v m ready known e = inlines_same c w made p v m ready known e
 point_same c w made false p format v m ready known e = blocks_same c w made p v (block_of made.draft.forest p.key) m ready known refl e
 
 -- ---- at the caret
 
-anchor_same : (c : Forest) (w : Working) (made : Made) (inline : Bool) (s : Selection) (v : Working) → AreMade (pieces_of c) w made → IsReady w → EachPoint (IsKnown w.forest) s → at_anchor_of s (placed_at inline made.keys) made.draft ≡ Ok v
+anchor_same : (c : Forest) (w : Working) (made : Made) (inline : Bool) (s : Selection) (v : Working) → AreMade (pieces_of c) w made → IsReady w
+    → EachPoint (IsKnown w.forest) s → at_anchor_of s (placed_at inline made.keys) made.draft ≡ Ok v
     → AreSame made.keys made.draft v
 anchor_same c w made inline (Range a b format) v m ready known e = point_same c w made inline a format v m ready known.0 e
 anchor_same c w made inline _ v m ready known e = absurd (cc)
 
-placed_same : (c : Forest) (w : Working) (made : Made) (inline : Bool) (v : Working) (keys : List ℕ) → AreMade (pieces_of c) w made → IsReady w → EachPoint (IsKnown w.forest) made.draft.selection → made.keys ≡ keys → placed inline keys made.draft ≡ Ok v
+placed_same : (c : Forest) (w : Working) (made : Made) (inline : Bool) (v : Working) (keys : List ℕ) → AreMade (pieces_of c) w made → IsReady w
+    → EachPoint (IsKnown w.forest) made.draft.selection → made.keys ≡ keys → placed inline keys made.draft ≡ Ok v
     → AreSame made.keys made.draft v
 placed_same c w made inline v [] m ready known is e = λ k among. absurd (let none : is_among k [] ≡ true = sym (ap (is_among k) is) ∙ among in cc)
 placed_same c w made inline v (k ∷ ks) m ready known is e =
@@ -216,7 +237,8 @@ placed_same c w made inline v (k ∷ ks) m ready known is e =
 
 -- ---- the whole
 
-insert_pasted : (f : Forest) (s : Selection) (c : Forest) (w v : Working) → IsKept f → sliced f s ≡ Some c → IsReady w → EachPoint (IsKnown w.forest) w.selection → insert_step (slice_data c) w ≡ Ok v → IsInserted c w v
+insert_pasted : (f : Forest) (s : Selection) (c : Forest) (w v : Working) → IsKept f → sliced f s ≡ Some c → IsReady w
+    → EachPoint (IsKnown w.forest) w.selection → insert_step (slice_data c) w ≡ Ok v → IsInserted c w v
 insert_pasted f s c w v kept is ready known e =
     let inline : Bool = begins_inline (trees_data c) in
     let first = after_tells {A = Made} {B = Working} (slice_read c w) (λ made. placed inline made.keys made.draft) v (sym (inserts c w) ∙ e) in
@@ -228,14 +250,16 @@ insert_pasted f s c w v kept is ready known e =
 lying_known : (f : Forest) (p : Point) → IsForest f → lies f p ≡ true → IsKnown f p
 lying_known f p h lying = attached_known f p.key h (both (is_attached f p.key) (lies_in f p) lying).0
 
-paste_pasted : (f : Forest) (s : Selection) (c : Forest) (text : List ℕ) (w v : Working) → IsKept f → sliced f s ≡ Some c → json_of text ≡ Ok (slice_data c) → IsReady w → IsHeld may_hold w.forest → TextsAreShort w → paste_step text w ≡ Ok v
+paste_pasted : (f : Forest) (s : Selection) (c : Forest) (text : List ℕ) (w v : Working) → IsKept f → sliced f s ≡ Some c → json_of text ≡ Ok (slice_data c)
+    → IsReady w → IsHeld may_hold w.forest → TextsAreShort w → paste_step text w ≡ Ok v
     → IsPasted c w v
 unfolding paste_step
 paste_pasted f s c text w v kept is json ready held short e =
     let first = after_tells (remove_text_step w) (λ u. after (json_of text) (λ d. insert_step d u)) v e in
     let u : Working = first.0 in
     let fit = remove_text_fits w u ready held short first.1.0 in
-    let known = each_still (λ p. lies u.forest p ≡ true) (IsKnown u.forest) u.selection (λ p lying. lying_known u.forest p fit.ready.in_order lying) fit.lying in
+    let known =
+    each_still (λ p. lies u.forest p ≡ true) (IsKnown u.forest) u.selection (λ p lying. lying_known u.forest p fit.ready.in_order lying) fit.lying in
     let step : insert_step (slice_data c) u ≡ Ok v = sym (ap (λ (r : Result Data Cause). after r (λ d. insert_step d u)) json) ∙ first.1.1 in
     record { removed = u; first = first.1.0; inserted = insert_pasted f s c u v kept is fit.ready known step }
 
@@ -244,7 +268,8 @@ copies_are_pasted = record {
   inlines = λ c w made p v copied there e. still_same c w made v copied (inlines_same c w made p v (copied_made c w made copied) copied.ready there e);
   around = λ c w made block p v copied block_there there e.
       let m = copied_made c w made copied in
-      let off : (k : ℕ) → is_among k made.keys ≡ true → is_within made.draft.forest k block ≡ false = λ k among. old_outside c w made k block m (key_low block w copied.ready block_there) among in
+      let off : (k : ℕ) → is_among k made.keys ≡ true → is_within made.draft.forest k block ≡ false =
+      λ k among. old_outside c w made k block m (key_low block w copied.ready block_there) among in
       still_same c w made v copied (around_same c w made block p v m copied.ready there off e);
   beyond = λ c w made outer v copied e. still_same c w made v copied (beyond_same made.keys outer made.draft v (copied_made c w made copied).covered.ready e);
   inserted = insert_pasted;

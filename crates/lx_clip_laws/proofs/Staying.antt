@@ -79,18 +79,22 @@ unfolding new_step
 keeps_new a k kind x w v apart e =
     let told = answered (over_limits (characters_of x) w) (made kind x w) v e in
     let free : has w.next_key w.forest ≡ false = apart.ready.free w.next_key (omega arith) in
-    keeps a k w v apart (covered-new kind x w v apart.ready e).ready (rw (← told.1) (alone-with_new (record { key = w.next_key; kind = kind; fields = x }) w.forest a (other_key w.forest a w.next_key apart.there free)))
+    keeps a k w v apart (covered-new kind x w v apart.ready e).ready
+    (rw (← told.1) (alone-with_new (record { key = w.next_key; kind = kind; fields = x }) w.forest a (other_key w.forest a w.next_key apart.there free)))
 
 unwritten : (k : ℕ) (x : Fields) (t : Forest) → count k t ≡ 0 → with_fields k x t ≡ t
 unfolding with_fields
 unwritten k x nil none = refl
-unwritten k x (tree l below rest) none = grind (arith, none, eqb_tells l.key k, unwritten k x below (omega (arith, none)), unwritten k x rest (omega (arith, none)))
+unwritten k x (tree l below rest) none =
+    grind (arith, none, eqb_tells l.key k, unwritten k x below (omega (arith, none)), unwritten k x rest (omega (arith, none)))
 
 keeps_splice : (a k from to : ℕ) (new : List ℕ) (w v : Working) → IsApart a k w → splice_step k from to new w ≡ Ok v → Keeps a k w v
 unfolding splice_step
 keeps_splice a k from to new w v apart e =
     let x : Fields = label_with_piece (label_of w.forest k) from to new in
-    let told = answered (option_or (splice_fault k from to w.forest) (over_limits (length new) w)) (fields_written k x (length new) (splice_points k from to new) w) v e in
+    let told =
+    answered (option_or (splice_fault k from to w.forest) (over_limits (length new) w)) (fields_written k x (length new) (splice_points k from to new) w) v
+    e in
     keeps a k w v apart (covered-splice k from to new w v apart.ready e).ready
     (rw (← told.1) (alone-with_fields k x w.forest a ∙ unwritten k x (alone a w.forest) (none_of k (alone a w.forest) apart.out)))
 
@@ -98,20 +102,24 @@ pub keeps_behind : (a k n : ℕ) (w v : Working) → IsApart a k w → put_behin
 keeps_behind a k n w v apart e =
     let s = behind_stands n k w v e in
     let came = put_behind_came n s.parent k s.before s.behind w v apart.ready s.are e in
-    let other : k ≢ a = λ same. absurd (let two : true ≡ false = sym (is_within-self w.forest a ∙ apart.there) ∙ ap (is_within w.forest a) (sym same) ∙ apart.out in cc) in
+    let other : k ≢ a =
+    λ same. absurd (let two : true ≡ false = sym (is_within-self w.forest a ∙ apart.there) ∙ ap (is_within w.forest a) (sym same) ∙ apart.out in cc) in
     let above : is_within w.forest a s.parent ≡ false = sym (is_within-up w.forest a k s.parent apart.ready.in_order s.up other) ∙ apart.out in
     keeps a k w v apart came.covered.ready (came.trees a above)
 
 -- ---- a text is split
 
-keeps_pointed : (a k : ℕ) (moved : Point → Point) (w u v : Working) → Keeps a k w u → ◌≡◌ {A = Result Working Cause} (Ok (pointed moved u)) (Ok v) → Keeps a k w v
+keeps_pointed : (a k : ℕ) (moved : Point → Point) (w u v : Working) → Keeps a k w u → ◌≡◌ {A = Result Working Cause} (Ok (pointed moved u)) (Ok v)
+    → Keeps a k w v
 keeps_pointed a k moved w u v x e =
-    ok (Keeps a k) w (pointed moved u) v (record { same = x.same; apart = record { ready = record { in_order = x.apart.ready.in_order; free = x.apart.ready.free }; there = x.apart.there; out = x.apart.out } }) e
+    ok (Keeps a k) w (pointed moved u) v
+    (record { same = x.same; apart = record { ready = record { in_order = x.apart.ready.in_order; free = x.apart.ready.free }; there = x.apart.there; out = x.apart.out } }) e
 
 keeps_tail : (a k offset : ℕ) (w v : Working) → IsApart a k w → tail_made k offset w ≡ Ok v → Keeps a k w v
 unfolding tail_made
 keeps_tail a k offset w v apart e =
-    allowed (Keeps a k) w v (splice_fault k offset (length_at w.forest k) w.forest) (λ u. after (new_step Text (tail_of u.forest k offset) u) (λ made. Ok (pointed (split_moves k offset u.next_key) made))) (λ e.
+    allowed (Keeps a k) w v (splice_fault k offset (length_at w.forest k) w.forest)
+    (λ u. after (new_step Text (tail_of u.forest k offset) u) (λ made. Ok (pointed (split_moves k offset u.next_key) made))) (λ e.
     let one = first_part (new_step Text (tail_of w.forest k offset) w) (λ made. Ok (pointed (split_moves k offset w.next_key) made)) v e in
     keeps_pointed a k (split_moves k offset w.next_key) w one.0 v (keeps_new a k Text (tail_of w.forest k offset) w one.0 apart one.1) one.2) e
 
@@ -134,14 +142,16 @@ keeps_split a k offset w v apart e =
     ok (Keeps a k) w one.0 v (keeps_cut a k (offset - 0) w one.0 apart one.1) one.2) e
 
 -- what is done only in one case, and else leaves the draft
-pub if_taken : (R : Working → Working → Type 0) (b : Bool) (r : Result Working Cause) (w v : Working) → R w w → (r ≡ Ok v → R w v) → cond b r (Ok w) ≡ Ok v → R w v
+pub if_taken : (R : Working → Working → Type 0) (b : Bool) (r : Result Working Cause) (w v : Working) → R w w → (r ≡ Ok v → R w v) → cond b r (Ok w) ≡ Ok v
+    → R w v
 if_taken R true r w v same taken e = taken e
 if_taken R false r w v same taken e = ok R w w v same e
 
 -- a tree that doesn't hold the node of the point
 pub opened_stays : (a : ℕ) (p : Point) (w v : Working) → IsApart a p.key w → opened p w ≡ Ok v → alone a v.forest ≡ alone a w.forest
 opened_stays a p w v apart e =
-    if_taken (λ w v. alone a v.forest ≡ alone a w.forest) (is_inside w.forest p p.kind && is_some (normal_at w.forest p.key)) (split_step p.key (p.offset ∷ []) w) w v refl (λ e. (keeps_split a p.key p.offset w v apart e).same) e
+    if_taken (λ w v. alone a v.forest ≡ alone a w.forest) (is_inside w.forest p p.kind && is_some (normal_at w.forest p.key))
+    (split_step p.key (p.offset ∷ []) w) w v refl (λ e. (keeps_split a p.key p.offset w v apart e).same) e
 
 -- ---- taken out, and put at an end
 
@@ -168,7 +178,8 @@ keeps_moved a n m w v apart out e =
     let x = keeps_take a n m w one.0 apart out one.1 in
     keeps_then a n w one.0 v x (keeps_end a n m (size_of (one.0).forest n) one.0 v x.apart one.2)
 
-pub keeps_all : (ms : List ℕ) (a n : ℕ) (w v : Working) → IsApart a n w → ((m : ℕ) → is_among m ms ≡ true → is_within w.forest a m ≡ false) → in_turn (moved_to_end n) ms w ≡ Ok v → Keeps a n w v
+pub keeps_all : (ms : List ℕ) (a n : ℕ) (w v : Working) → IsApart a n w → ((m : ℕ) → is_among m ms ≡ true → is_within w.forest a m ≡ false)
+    → in_turn (moved_to_end n) ms w ≡ Ok v → Keeps a n w v
 unfolding in_turn
 keeps_all [] a n w v apart out e = ok (Keeps a n) w w v (record { same = refl; apart = apart }) e
 keeps_all (m ∷ ms) a n w v apart out e =
@@ -188,7 +199,8 @@ pub keeps_like : (a : ℕ) (l : Option Label) (w v : Working) → IsApart a w.ne
 keeps_like a None w v apart e = ok (Keeps a w.next_key) w w v (record { same = refl; apart = apart }) e
 keeps_like a (Some l) w v apart e = keeps_new a w.next_key l.kind l.fields w v apart e
 
-tail_keeps : (a block : ℕ) (moved : List ℕ) (w : Working) (t : Tailed) → IsReady w → has a w.forest ≡ true → ((m : ℕ) → is_among m moved ≡ true → is_within w.forest a m ≡ false) → block_tail block moved w ≡ Ok t
+tail_keeps : (a block : ℕ) (moved : List ℕ) (w : Working) (t : Tailed) → IsReady w → has a w.forest ≡ true
+    → ((m : ℕ) → is_among m moved ≡ true → is_within w.forest a m ≡ false) → block_tail block moved w ≡ Ok t
     → alone a (t.draft).forest ≡ alone a w.forest
 tail_keeps a block [] w t ready there out e = cc
 tail_keeps a block (k ∷ ks) w t ready there out e =
@@ -206,26 +218,31 @@ tail_keeps a block (k ∷ ks) w t ready there out e =
 
 -- ---- the old block goes
 
-removed_keeps : (above : List ℕ) (a x : ℕ) (w v : Working) → IsForest w.forest → ((q : ℕ) → is_among q (x ∷ above) ≡ true → is_within w.forest a q ≡ false) → removed x above w ≡ Ok v → alone a v.forest ≡ alone a w.forest
+removed_keeps : (above : List ℕ) (a x : ℕ) (w v : Working) → IsForest w.forest → ((q : ℕ) → is_among q (x ∷ above) ≡ true → is_within w.forest a q ≡ false)
+    → removed x above w ≡ Ok v → alone a v.forest ≡ alone a w.forest
 removed_keeps [] a x w v h out e =
-    ap (alone a) (taken-forest x (sent_away x w) v e ∙ ap (take_out x) (sent_away-forest x w)) ∙ taken_apart a x w.forest h (out x (grind (arith, eqb_tells x x)))
+    ap (alone a) (taken-forest x (sent_away x w) v e ∙ ap (take_out x) (sent_away-forest x w))
+    ∙ taken_apart a x w.forest h (out x (grind (arith, eqb_tells x x)))
 removed_keeps (p ∷ above) a x w v h out e =
     let next : Working → Result Working Cause = λ u. cond (goes_too (kind_of w.forest x) u.forest p) (removed p above u) (Ok u) in
     let one = first_part (take_step x (sent_away x w)) next v e in
     let forest : (one.0).forest ≡ take_out x w.forest = taken-forest x (sent_away x w) one.0 one.1 ∙ ap (take_out x) (sent_away-forest x w) in
     let same : alone a (one.0).forest ≡ alone a w.forest = ap (alone a) forest ∙ taken_apart a x w.forest h (out x (grind (arith, eqb_tells x x))) in
     if_taken (λ w v. alone a v.forest ≡ alone a w.forest) (goes_too (kind_of w.forest x) (one.0).forest p) (removed p above one.0) one.0 v refl
-    (removed_keeps above a p one.0 v (subst IsForest (sym forest) (IsForest-take_out x w.forest h)) (λ q among. ap (has q) same ∙ out q (grind (arith, among)))) one.2
+    (removed_keeps above a p one.0 v (subst IsForest (sym forest) (IsForest-take_out x w.forest h)) (λ q among. ap (has q) same ∙ out q (grind (arith, among))))
+    one.2
     ∙ same
 
 -- what is above a node outside a tree is outside it too
-pub above_out : (a q k : ℕ) (f : Forest) → IsForest f → has k f ≡ true → is_within f a k ≡ false → is_among q (k ∷ ancestors f k) ≡ true → is_within f a q ≡ false
+pub above_out : (a q k : ℕ) (f : Forest) → IsForest f → has k f ≡ true → is_within f a k ≡ false → is_among q (k ∷ ancestors f k) ≡ true
+    → is_within f a q ≡ false
 above_out a q k f h there out among = elim (cases_Bool (is_within f a q)) [
   | inl is ↦ absurd (let two : true ≡ false = sym (is_within-trans f a q k h is (is_within-ancestors f q k h there ∙ among)) ∙ out in cc)
   | inr is ↦ is
 ]
 
-empty_keeps : (a block : ℕ) (w v : Working) → IsForest w.forest → has block w.forest ≡ true → is_within w.forest a block ≡ false → removed_empty block w ≡ Ok v → alone a v.forest ≡ alone a w.forest
+empty_keeps : (a block : ℕ) (w v : Working) → IsForest w.forest → has block w.forest ≡ true → is_within w.forest a block ≡ false → removed_empty block w ≡ Ok v
+    → alone a v.forest ≡ alone a w.forest
 unfolding removed_empty remove_step
 empty_keeps a block w v h there out e =
     if_taken (λ w v. alone a v.forest ≡ alone a w.forest) (eqb (size_of w.forest block) 0) (removed block (ancestors w.forest block) w) w v refl
@@ -233,7 +250,8 @@ empty_keeps a block w v h there out e =
 
 -- ---- all of it
 
-pub around_trees : (block : ℕ) (keys moved : List ℕ) (w v : Working) → IsReady w → ((k : ℕ) → is_among k keys ≡ true → IsOutside k block moved w.forest) → put_around block keys moved w ≡ Ok v
+pub around_trees : (block : ℕ) (keys moved : List ℕ) (w v : Working) → IsReady w → ((k : ℕ) → is_among k keys ≡ true → IsOutside k block moved w.forest)
+    → put_around block keys moved w ≡ Ok v
     → (k : ℕ) → is_among k keys ≡ true → alone k v.forest ≡ alone k w.forest
 around_trees block [] moved w v ready outside e k among = absurd (cc)
 around_trees block (x ∷ xs) moved w v ready outside e k among =
@@ -243,9 +261,13 @@ around_trees block (x ∷ xs) moved w v ready outside e k among =
     let b = a.beyond in
     let own = outside k among in
     let first : alone k (a.tailed.draft).forest ≡ alone k w.forest = tail_keeps k block moved w a.tailed ready own.there own.not_moved a.parted in
-    let second : alone k (a.put).forest ≡ alone k (a.tailed.draft).forest = b.between.trees k (is_among-append k keys (key_if a.tailed.key) ∙ ap (λ t. t || is_among k (key_if a.tailed.key)) among) in
-    let child = is_child (a.put).forest b.parent block b.before ((keys ++ key_if a.tailed.key) ++ b.rest) known.order (b.between.now ∙ append_assoc b.before (block ∷ []) ((keys ++ key_if a.tailed.key) ++ b.rest)) in
-    empty_keeps k block a.put v known.order (has-child (a.put).forest block b.parent child.up) (ap (has block) (second ∙ first) ∙ own.not_block) a.last ∙ second ∙ first
+    let second : alone k (a.put).forest ≡ alone k (a.tailed.draft).forest =
+    b.between.trees k (is_among-append k keys (key_if a.tailed.key) ∙ ap (λ t. t || is_among k (key_if a.tailed.key)) among) in
+    let child =
+    is_child (a.put).forest b.parent block b.before ((keys ++ key_if a.tailed.key) ++ b.rest) known.order
+    (b.between.now ∙ append_assoc b.before (block ∷ []) ((keys ++ key_if a.tailed.key) ++ b.rest)) in
+    empty_keeps k block a.put v known.order (has-child (a.put).forest block b.parent child.up) (ap (has block) (second ∙ first) ∙ own.not_block) a.last ∙ second
+    ∙ first
 
 pub pasted_stand_between : PastedStandBetween
 pasted_stand_between = record {

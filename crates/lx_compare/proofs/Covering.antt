@@ -38,10 +38,12 @@ first_child_is xs k once among none =
     grind (arith, is_named_tells (first_of xs) k, sym (is_none-previous_in xs k once among) ∙ ap is_none none)
 
 first_has_none : (xs : List ℕ) (k : ℕ) → NoRepeats xs → first_of xs ≡ Some k → previous_in xs k ≡ None
-first_has_none xs k once first = is_nothing (previous_in xs k) (is_none-previous_in xs k once (first_of-among xs k first) ∙ ap (λ o. is_named o k) first ∙ grind (arith, eqb_tells k k)) where
-  is_nothing : (o : Option ℕ) → is_none o ≡ true → o ≡ None
-  is_nothing None e = refl
-  is_nothing (Some x) e = absurd (cc)
+first_has_none xs k once first =
+    is_nothing (previous_in xs k) (is_none-previous_in xs k once (first_of-among xs k first) ∙ ap (λ o. is_named o k) first ∙ grind (arith, eqb_tells k k))
+  where
+    is_nothing : (o : Option ℕ) → is_none o ≡ true → o ≡ None
+    is_nothing None e = refl
+    is_nothing (Some x) e = absurd (cc)
 
 nothing_first : (xs : List ℕ) → first_of xs ≡ None → xs ≡ []
 nothing_first [] e = refl
@@ -54,7 +56,8 @@ next_below : (f : Forest) (q p : ℕ) → parent_of f q ≡ Some p → next_of f
 next_below f q p up = ap (λ o. next_in (children_below f o) q) up
 
 -- Where each child in the one tree is one in the other, with the same neighbours, they are the same children.
-module _ (old new : Forest) (old_order : IsForest old) (new_order : IsForest new) (p : ℕ) (before : (x : ℕ) → parent_of old x ≡ Some p → IsUnchanged old new x) (after : (x : ℕ) → parent_of new x ≡ Some p → IsUnchanged old new x) where
+module _ (old new : Forest) (old_order : IsForest old) (new_order : IsForest new) (p : ℕ) (before : (x : ℕ) → parent_of old x ≡ Some p → IsUnchanged old new x)
+    (after : (x : ℕ) → parent_of new x ≡ Some p → IsUnchanged old new x) where
   firsts : first_of (children_of old p) ≡ first_of (children_of new p)
   firsts = elim (cases_option (first_of (children_of old p))) [
     | inr (x, first) ↦
@@ -62,7 +65,8 @@ module _ (old new : Forest) (old_order : IsForest old) (new_order : IsForest new
         let same : IsUnchanged old new x = before x up in
         let up_new : parent_of new x ≡ Some p = sym same.parent ∙ up in
         let alone : previous_in (children_of new p) x ≡ None =
-        sym (previous_below new x p up_new) ∙ sym same.previous ∙ previous_below old x p up ∙ first_has_none (children_of old p) x (NoRepeats-children_of old p old_order) first in
+        sym (previous_below new x p up_new) ∙ sym same.previous ∙ previous_below old x p up
+        ∙ first_has_none (children_of old p) x (NoRepeats-children_of old p old_order) first in
         first ∙ sym (first_child_is (children_of new p) x (NoRepeats-children_of new p new_order) (child_among new x p new_order up_new) alone)
     | inl none ↦ elim (cases_option (first_of (children_of new p))) [
       | inl none_new ↦ none ∙ sym none_new
@@ -80,11 +84,13 @@ module _ (old new : Forest) (old_order : IsForest old) (new_order : IsForest new
       sym (next_below old x p up) ∙ same.next ∙ next_below new x p (sym same.parent ∙ up)
 
   pub children_alike : children_of old p ≡ children_of new p
-  children_alike = same_names (children_of old p) (children_of new p) (NoRepeats-children_of old p old_order) (NoRepeats-children_of new p new_order) firsts nexts
+  children_alike =
+      same_names (children_of old p) (children_of new p) (NoRepeats-children_of old p old_order) (NoRepeats-children_of new p new_order) firsts nexts
 
 -- ---- the two trees
 
-module _ (old new : Forest) (m : Marked) (old_order : IsForest old) (new_order : IsForest new) (founded : AreFounded old new m) (settled : (q : ℕ) → IsSettled old new m q) where
+module _ (old new : Forest) (m : Marked) (old_order : IsForest old) (new_order : IsForest new) (founded : AreFounded old new m)
+    (settled : (q : ℕ) → IsSettled old new m q) where
   changed : (q : ℕ) → has q new ≡ true → IsUnchanged old new q ⊎ IsTold old new m q
   changed q there = elim (settled q) [
     | inl absent ↦ absurd (let h : true ≡ false = sym there ∙ absent.1 in cc)

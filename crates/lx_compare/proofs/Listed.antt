@@ -49,7 +49,8 @@ pub record AreBelow (f : Forest) (start keys all left : List ℕ) : Type 0 where
   pub each : (c q : ℕ) → is_among c all ≡ true → is_within f c q ≡ true → (is_among c left ≡ true) ⊎ (is_among q keys ≡ true)
 
 -- a child of those that are left is one
-pub left_child : (f : Forest) (start keys all left rest : List ℕ) (p k : ℕ) → Sound f → all ≡ children_of f p → AreBelow f start keys all left → left ≡ k ∷ rest → parent_of f k ≡ Some p
+pub left_child : (f : Forest) (start keys all left rest : List ℕ) (p k : ℕ) → Sound f → all ≡ children_of f p → AreBelow f start keys all left → left ≡ k ∷ rest
+    → parent_of f k ≡ Some p
 left_child f start keys all left rest p k sound is below at =
     parent_of-child f k p sound (sym (ap (is_among k) is) ∙ below.within k (ap (is_among k) at ∙ grind (arith, eqb_tells k k)))
 
@@ -84,7 +85,8 @@ pub record WentWith (old new : Forest) (touched : ℕ → Bool) (q : ℕ) : Type
   pub out : has top new ≡ false
   pub inside : is_within old top q ≡ true
 
-module _ (old new : Forest) (m : Marked) (before : IsForest old) (after : IsForest new) (one : roots old ≡ 0 ∷ []) (covered : AreCovered old new (record { touched = is_touched m; noted = is_noted m })) where
+module _ (old new : Forest) (m : Marked) (before : IsForest old) (after : IsForest new) (one : roots old ≡ 0 ∷ [])
+    (covered : AreCovered old new (record { touched = is_touched m; noted = is_noted m })) where
   -- by the number of nodes above it
   went_by : (fuel q : ℕ) → length (ancestors old q) < fuel → has q old ≡ true → has q new ≡ false → WentWith old new (is_touched m) q
   went_by zero q few was out = absurd (omega (arith, few))
@@ -138,9 +140,11 @@ apart_before before after q kept apart = elim (cases_Bool (is_among q before)) [
 -- keys that stand at the end of others are among these
 pub ended_apart : (known keys : List ℕ) (r : Bool) → r ≡ ends_with eqb known keys → r ≡ true → (q : ℕ) → is_among q known ≡ false → is_among q keys ≡ false
 ended_apart known keys r is ends q apart =
-    apart_before keys known q (λ k among. ap (is_among k) ((ends_is Decides-eqb known keys r is).0 ends) ∙ among_back k (take (length known - length keys) known) keys among) apart
+    apart_before keys known q
+    (λ k among. ap (is_among k) ((ends_is Decides-eqb known keys r is).0 ends) ∙ among_back k (take (length known - length keys) known) keys among) apart
 
 -- places that told so much before tell it still
-pub outside_told : (told : Bool) (before after : List ℕ) (q : ℕ) → AreKept before after → IsOutside (if told then None else Some after) q → IsOutside (if told then None else Some before) q × (is_among q after ≡ false)
+pub outside_told : (told : Bool) (before after : List ℕ) (q : ℕ) → AreKept before after → IsOutside (if told then None else Some after) q
+    → IsOutside (if told then None else Some before) q × (is_among q after ≡ false)
 outside_told true before after q kept out = absurd out
 outside_told false before after q kept out = (apart_before before after q kept out, out)

@@ -86,7 +86,8 @@ or_false true c = refl
 or_false false true = refl
 or_false false false = refl
 
-pub rising_more : (f : Forest) (start m n : Marked) (at p : ℕ) → IsRising f start m at → parent_of f at ≡ Some p → n ≡ with_marked p false m → IsRising f start n p
+pub rising_more : (f : Forest) (start m n : Marked) (at p : ℕ) → IsRising f start m at → parent_of f at ≡ Some p → n ≡ with_marked p false m
+    → IsRising f start n p
 rising_more f start m n at p up above is = record {
   raised = λ q r noted other e. elim (or_either (is_noted m q) q p (sym (more q) ∙ noted)) [
     | inr same ↦ absurd (other same)
@@ -119,7 +120,8 @@ affected_there old new _ (itself q differs) = differs.there
 affected_there old new _ (parent_before q p differs up) = in_either old new p (inl (has-parent_of old q p up))
 affected_there old new _ (parent_after q p differs up) = in_either old new p (inr (has-parent_of new q p up))
 
-module _ (old new : Forest) (k : ℕ) (m mid n : Marked) (affected : IsAffected old new k) (founded : AreFounded old new m) (adds : Adds k m mid) (touched : (q : ℕ) → is_touched n q ≡ is_touched mid q)
+module _ (old new : Forest) (k : ℕ) (m mid n : Marked) (affected : IsAffected old new k) (founded : AreFounded old new m) (adds : Adds k m mid)
+    (touched : (q : ℕ) → is_touched n q ≡ is_touched mid q)
     (noted : (q : ℕ) → is_noted n q ≡ true → (is_noted mid q ≡ true) ⊎ (has q new ≡ true)) where
   pub founded_more : IsRaised new n → AreFounded old new n
   founded_more raised = record {

@@ -39,7 +39,8 @@ absent_at f q none = sym (is_some-record_at f q) ∙ sym (is_some-map node_of (r
 settled_same : (old new : Forest) (m : Marked) (q : ℕ) (o : Option Node) → node_at old q ≡ o → node_at new q ≡ o → IsSettled old new m q
 settled_same old new m q None was is = inl (absent_at old q was, absent_at new q is)
 settled_same old new m q (Some n) was is =
-    inr (inl (unchanged_by old new q n n (seen old q n (sym was)) (seen new q n (sym is)) (record { fields = refl; parent = refl; previous = refl; next = refl })))
+    inr (inl
+    (unchanged_by old new q n n (seen old q n (sym was)) (seen new q n (sym is)) (record { fields = refl; parent = refl; previous = refl; next = refl })))
 
 -- ---- key by key
 
@@ -48,7 +49,8 @@ pub record IsCompared (old new : Forest) (m : Marked) (from : ℕ) : Type 0 wher
   pub founded : AreFounded old new m
   pub settled : (q : ℕ) → q < from → IsSettled old new m q
 
-pub compared_more : (old new : Forest) (m n : Marked) (from key : ℕ) → IsCompared old new m from → AreSameTo (node_at old) (node_at new) from (Some key) → AreFounded old new n → Grows m n → IsSettled old new n key
+pub compared_more : (old new : Forest) (m n : Marked) (from key : ℕ) → IsCompared old new m from → AreSameTo (node_at old) (node_at new) from (Some key)
+    → AreFounded old new n → Grows m n → IsSettled old new n key
     → IsCompared old new n (key + 1)
 compared_more old new m n from key so_far same founded grows own = record { founded = founded; settled = settled } where
   settled : (q : ℕ) → q < key + 1 → IsSettled old new n q
@@ -60,7 +62,8 @@ compared_more old new m n from key so_far same founded grows own = record { foun
     ]
   ] refl
 
-pub compared_all : (old new : Forest) (m : Marked) (from : ℕ) → IsCompared old new m from → AreSameTo (node_at old) (node_at new) from None → (q : ℕ) → IsSettled old new m q
+pub compared_all : (old new : Forest) (m : Marked) (from : ℕ) → IsCompared old new m from → AreSameTo (node_at old) (node_at new) from None → (q : ℕ)
+    → IsSettled old new m q
 compared_all old new m from so_far same q = elim (nat_lt q from) as (λ b. nat_lt q from ≡ b → IsSettled old new m q) [
   | true ↦ λ e. so_far.settled q (grind (arith, e))
   | false ↦ λ e. settled_same old new m q (node_at new q) (same q (grind (arith, e))) refl
@@ -73,7 +76,8 @@ living f alone none = let h : [] ≡ 0 ∷ [] = ap roots (sym none) ∙ alone in
 -- ---- at keys that are told
 
 -- one key more of those that are looked at is settled
-pub among_more : (old new : Forest) (m n : Marked) (keys front : List ℕ) (k : ℕ) → keys ≡ front ++ k ∷ [] → ((q : ℕ) → is_among q front ≡ true → IsSettled old new m q) → Grows m n → IsSettled old new n k
+pub among_more : (old new : Forest) (m n : Marked) (keys front : List ℕ) (k : ℕ) → keys ≡ front ++ k ∷ []
+    → ((q : ℕ) → is_among q front ≡ true → IsSettled old new m q) → Grows m n → IsSettled old new n k
     → (q : ℕ) → is_among q keys ≡ true → IsSettled old new n q
 among_more old new m n keys front k is so_far grows own q among =
     elim (either_of (is_among q front) (is_among q (k ∷ [])) (sym (ap (is_among q) is ∙ is_among-append q front (k ∷ [])) ∙ among)) [
@@ -90,7 +94,8 @@ among_more old new m n keys front k is so_far grows own q among =
 -- each key is among the first, or among those since, or is as before
 pub all_among : (old new : Forest) (m n : Marked) (places since : Option (List ℕ)) (first later : List ℕ) → places ≡ Some first → since ≡ Some later
     → ((q : ℕ) → IsOutside places q → IsOutside since q → IsAsBefore old new q)
-    → ((q : ℕ) → is_among q first ≡ true → IsSettled old new m q) → Grows m n → ((q : ℕ) → is_among q later ≡ true → IsSettled old new n q) → (q : ℕ) → IsSettled old new n q
+    → ((q : ℕ) → is_among q first ≡ true → IsSettled old new m q) → Grows m n → ((q : ℕ) → is_among q later ≡ true → IsSettled old new n q) → (q : ℕ)
+    → IsSettled old new n q
 all_among old new m n places since first later is_first is_later told before grows after q = elim (cases_Bool (is_among q first)) [
   | inl here ↦ settled_still old new m n q grows (before q here)
   | inr apart ↦ elim (cases_Bool (is_among q later)) [

@@ -40,7 +40,8 @@ use Rattle.lx_draft.proofs.Same.{written_again}
 
 fields_found : (f : Forest) (k : ℕ) (s : Spot Label) (fields : Fields) → spot f k ≡ Some s → fields_of f k ≡ Some fields → s.label.fields ≡ fields
 fields_found f k s fields is own =
-    let found : Some s.label.fields ≡ Some fields = sym (ap (λ (o : Option (Spot Label)). option_map (λ (l : Label). l.fields) (option_map (λ (t : Spot Label). t.label) o)) is) ∙ own in
+    let found : Some s.label.fields ≡ Some fields =
+    sym (ap (λ (o : Option (Spot Label)). option_map (λ (l : Label). l.fields) (option_map (λ (t : Spot Label). t.label) o)) is) ∙ own in
     cc
 
 suited_at : (f : Forest) (k : ℕ) (s : Spot Label) → IsSuited f → spot f k ≡ Some s → is_of_kind s.label.kind s.label.fields ≡ true
@@ -52,7 +53,8 @@ own_fine k fields f h own = by_spot (spot f k) refl where
   by_spot None is = absurd (grind (arith, is, own))
   by_spot (Some s) is =
       let there : has k f ≡ true = sym (is_some-spot f k) ∙ ap is_some is in
-      let of_kind : is_of_kind s.label.kind fields ≡ true = subst (λ x. is_of_kind s.label.kind x ≡ true) (fields_found f k s fields is own) (suited_at f k s h is) in
+      let of_kind : is_of_kind s.label.kind fields ≡ true =
+      subst (λ x. is_of_kind s.label.kind x ≡ true) (fields_found f k s fields is own) (suited_at f k s h is) in
       ap (λ b. option_or (if b then None else Some (UnknownNode (Key k))) (wrong_fields (kind_of f k) fields)) there
       ∙ ap (λ (o : Option (Spot Label)). wrong_fields (option_map (λ (l : Label). l.kind) (option_map (λ (t : Spot Label). t.label) o)) fields) is
       ∙ ap (λ b. if b then None else Some (WrongKind s.label.kind)) of_kind
@@ -139,7 +141,8 @@ there_told f k fields own gone = by_spot (spot f k) refl where
   by_spot (Some s) is = grind (arith, is, gone, is_some-spot f k)
 
 -- or they aren't
-pub refuses_again : (cause : Cause) (k : ℕ) (n : Node) (f : Forest) (w : Working) → f ≡ w.forest → w.forest ≢ nil → IsSuited f → Some n ≡ option_map node_of (record_at f k)
+pub refuses_again : (cause : Cause) (k : ℕ) (n : Node) (f : Forest) (w : Working) → f ≡ w.forest → w.forest ≢ nil → IsSuited f
+    → Some n ≡ option_map node_of (record_at f k)
     → over_limits (characters_of n.fields) w ≡ Some cause → RefusesAgain cause k w
 refuses_again cause k n f w same lives suited told refused =
     let own : fields_of w.forest k ≡ Some n.fields = ap (λ g. fields_of g k) (sym same) ∙ fields_told f k n told in
@@ -165,7 +168,8 @@ again_told more k w u v fields may noted kept own =
     ∙ ap (λ n. Ok (record (wrote n w) { selection = set_points k fields w.selection })) (sym admitted.same)
     ∙ ap Ok (sym (made own))
 
-pub refused_told : (e : Fault) (k : ℕ) (w : Working) (fields : Fields) → StopsAgain e k w → fields_of w.forest k ≡ Some fields → TellsStep e (set_step k fields w)
+pub refused_told : (e : Fault) (k : ℕ) (w : Working) (fields : Fields) → StopsAgain e k w → fields_of w.forest k ≡ Some fields
+    → TellsStep e (set_step k fields w)
 unfolding set_step
 refused_told (fault.Cause cause) k w fields h own =
     ap (λ o. answer o (fields_written k fields (characters_of fields) (set_points k fields) w)) (h.there fields own)
@@ -174,5 +178,6 @@ refused_told fault.Memory k w fields h own = tt
 pub gone_told : (e : Fault) (k : ℕ) (w : Working) (fields : Fields) → StopsAgain e k w → has k w.forest ≡ false → TellsStep e (set_step k fields w)
 unfolding set_step
 gone_told (fault.Cause cause) k w fields h gone =
-    ap (λ o. answer (option_or (option_or o (wrong_fields (kind_of w.forest k) fields)) (over_limits (characters_of fields) w)) (fields_written k fields (characters_of fields) (set_points k fields) w)) (h.gone gone)
+    ap (λ o. answer (option_or (option_or o (wrong_fields (kind_of w.forest k) fields)) (over_limits (characters_of fields) w))
+    (fields_written k fields (characters_of fields) (set_points k fields) w)) (h.gone gone)
 gone_told fault.Memory k w fields h gone = tt

@@ -31,5 +31,6 @@ admitted_capped n more characters w e h =
     let same : more ≡ characters = e ∙ capped_within w.written characters told in
     subst (λ m. IsAdmitted n m w) same h
 
-pub refused_capped : (more characters : ℕ) (cause : Cause) (w : Working) → more ≡ capped characters → over_limits more w ≡ Some cause → over_limits characters w ≡ Some cause
+pub refused_capped : (more characters : ℕ) (cause : Cause) (w : Working) → more ≡ capped characters → over_limits more w ≡ Some cause
+    → over_limits characters w ≡ Some cause
 refused_capped more characters cause w e h = sym (ap (λ m. over_limits m w) e ∙ over_limits-capped characters w) ∙ h

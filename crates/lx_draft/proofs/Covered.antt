@@ -20,7 +20,8 @@ up_by true b c d e was new = was refl
 up_by false b c d e was new = grind (arith, e, new)
 
 -- They still do where these nodes are marked, if each parent of a marked node was marked too, or the node is one of them.
-pub noted_up : (g : Forest) (ks : List ℕ) (m : Marked) → IsForest g → ((q p : ℕ) → is_noted m q ≡ true → parent_of g q ≡ Some p → (is_noted m p ≡ true) ⊎ (is_among q ks ≡ true)) → IsNotedUp g (mark_nodes g ks m)
+pub noted_up : (g : Forest) (ks : List ℕ) (m : Marked) → IsForest g
+    → ((q p : ℕ) → is_noted m q ≡ true → parent_of g q ≡ Some p → (is_noted m p ≡ true) ⊎ (is_among q ks ≡ true)) → IsNotedUp g (mark_nodes g ks m)
 noted_up g ks m h kept = λ q p e up.
     noted-nodes g ks m p h
     ∙ up_by (is_noted m q) (is_over g q ks) (is_noted m p) (is_over g p ks) (sym (noted-nodes g ks m q h) ∙ e)
@@ -63,7 +64,8 @@ new_then u v w a b = record {
   each = λ q e. elim (b.each q e) [ inl before ↦ a.each q before | inr new ↦ inr (omega (arith, a.next, new)) ];
 }
 
-pub covered : (w v : Working) (marked : Forest) (ks : List ℕ) → IsForest marked → IsTold w.forest v.forest marked ks → KindsStay w.forest v.forest → KindsStay marked v.forest
+pub covered : (w v : Working) (marked : Forest) (ks : List ℕ) → IsForest marked → IsTold w.forest v.forest marked ks → KindsStay w.forest v.forest
+    → KindsStay marked v.forest
     → v.marks ≡ mark_nodes marked ks w.marks → v.fresh ≡ mark_nodes marked ks w.fresh → IsReady v → AreNew w v → AreCovered w v
 covered w v marked ks h t kinds now marks fresh ready keys = record {
   marks = subst (λ n. Covers w.forest w.marks v.forest n) (sym marks) (covers w.forest v.forest marked ks w.marks h t);
@@ -74,7 +76,9 @@ covered w v marked ks h t kinds now marks fresh ready keys = record {
       (ap (λ n. is_noted n q) marks ∙ noted-nodes marked ks w.marks q h) (ap (λ n. is_noted n q) fresh ∙ noted-nodes marked ks w.fresh q h) e;
   same = λ e. marks ∙ ap (mark_nodes marked ks) e ∙ sym fresh;
   kinds = kinds;
-  elements = λ a. subst (AreElements v.forest) (sym fresh) (sorted-nodes v.forest marked ks w.fresh (sorted_stays w.forest v.forest w.fresh kinds a) (λ k e. element_stays marked v.forest k now e));
+  elements =
+      λ a. subst (AreElements v.forest) (sym fresh)
+      (sorted-nodes v.forest marked ks w.fresh (sorted_stays w.forest v.forest w.fresh kinds a) (λ k e. element_stays marked v.forest k now e));
   keys = keys;
   ready = ready;
 }
@@ -90,7 +94,8 @@ kinds_at f g e = record { each = λ q kind is. ap (λ x. kind_of x q) e ∙ is }
 -- a change that leaves forest, keys and marks
 pub covered-same : (w v : Working) → IsReady w → v.forest ≡ w.forest → v.marks ≡ w.marks → v.fresh ≡ w.fresh → v.next_key ≡ w.next_key → AreCovered w v
 covered-same w v r forest marks fresh next =
-    covered w v w.forest [] r.in_order (subst (λ g. IsTold w.forest g w.forest []) (sym forest) (told_same w.forest)) (kinds_at w.forest v.forest forest) (kinds_at w.forest v.forest forest) marks fresh (record {
+    covered w v w.forest [] r.in_order (subst (λ g. IsTold w.forest g w.forest []) (sym forest) (told_same w.forest)) (kinds_at w.forest v.forest forest)
+    (kinds_at w.forest v.forest forest) marks fresh (record {
       in_order = subst IsForest (sym forest) r.in_order;
       free = λ q e. ap (has q) forest ∙ r.free q (subst (λ n. n ≤ q) next e);
     })

@@ -59,14 +59,16 @@ told_new l f h free = record {
     | inl own ↦ inr (grind (arith, own.0, own.1, count-with_new q l f, eqb_tells l.key q))
     | inr other ↦ inl (rw (spot-with_new l f q h free, other.0), record_at-with_new l f q h free ∙ ap (λ b. cond b (Some (lone l)) (record_at f q)) other.0)
   ];
-  above = λ m up. noted_up (with_new l f) (l.key ∷ []) m (IsForest-with_new l f h free) (λ q p e above. inl (up q p e (sym (parent_of-with_new l f q h free) ∙ above)));
+  above = λ m up. noted_up (with_new l f) (l.key ∷ []) m (IsForest-with_new l f h free)
+      (λ q p e above. inl (up q p e (sym (parent_of-with_new l f q h free) ∙ above)));
 }
 
 -- ---- set
 
 same_spot : (k : ℕ) (fields : Fields) (q : ℕ) (s : Spot Label) → cond (eqb q k) fields s.label.fields ≡ s.label.fields → reset k fields q s ≡ s
 same_spot k fields q s e =
-    ap (λ x. let t : Spot Label = record { label = record { key = s.label.key; kind = s.label.kind; fields = x }; parent = s.parent; children = s.children } in t) e
+    ap (λ x. let t : Spot Label = record { label = record { key = s.label.key; kind = s.label.kind; fields = x }; parent = s.parent; children = s.children } in
+    t) e
 
 same_record : (k : ℕ) (fields : Fields) (q : ℕ) (r : Record) → cond (eqb q k) fields r.label.fields ≡ r.label.fields → refielded k fields q r ≡ r
 same_record k fields q r e =
@@ -76,8 +78,10 @@ same_record k fields q r e =
 same_fielded : (k : ℕ) (fields : Fields) (f : Forest) (q : ℕ) → ((l : Label) → label_of f q ≡ Some l → cond (eqb q k) fields l.fields ≡ l.fields)
     → (spot (with_fields k fields f) q ≡ spot f q) × (record_at (with_fields k fields f) q ≡ record_at f q)
 same_fielded k fields f q same = (
-  spot-with_fields k fields f q ∙ unchanged (reset k fields q) (spot f q) (λ s at. same_spot k fields q s (same s.label (ap (option_map (λ (t : Spot Label). t.label)) at))),
-  record_at-with_fields k fields f q ∙ unchanged (refielded k fields q) (record_at f q) (λ r at. same_record k fields q r (same r.label ((IsRecordOf-record_at f q r at).label))),
+  spot-with_fields k fields f q ∙ unchanged (reset k fields q) (spot f q) (λ s at. same_spot k fields q s
+      (same s.label (ap (option_map (λ (t : Spot Label). t.label)) at))),
+  record_at-with_fields k fields f q ∙ unchanged (refielded k fields q) (record_at f q) (λ r at. same_record k fields q r
+      (same r.label ((IsRecordOf-record_at f q r at).label))),
 )
 
 other_fields : (q k : ℕ) (fields : Fields) (l : Label) → eqb q k ≡ false → cond (eqb q k) fields l.fields ≡ l.fields
@@ -96,7 +100,8 @@ told_set k fields f h known = record {
 equal_fields : (a b : Fields) → not (same_fields a b) ≡ false → b ≡ a
 equal_fields a b e = sym ((same_fields-Decides a b).0 (grind (arith, e)))
 
-equal_at : (f : Forest) (k : ℕ) (fields : Fields) (q : ℕ) (l : Label) → differ (fields_of f k) fields ≡ false → label_of f q ≡ Some l → q ≡ k → fields ≡ l.fields
+equal_at : (f : Forest) (k : ℕ) (fields : Fields) (q : ℕ) (l : Label) → differ (fields_of f k) fields ≡ false → label_of f q ≡ Some l → q ≡ k
+    → fields ≡ l.fields
 equal_at f k fields q l none at own =
     let found : fields_of f k ≡ Some l.fields = ap (fields_of f) (sym own) ∙ ap (option_map (λ (x : Label). x.fields)) at in
     equal_fields l.fields fields (sym (ap (λ o. differ o fields) found) ∙ none)
@@ -124,7 +129,8 @@ record IsApart (f : Forest) (k q : ℕ) : Type 0 where
   pub previous : is_named (previous_of f k) q ≡ false
   pub next : is_named (next_of f k) q ≡ false
 
-near_tells : (f : Forest) (k q : ℕ) → is_among q (near f k) ≡ (eqb k q || (is_named (parent_of f k) q || (is_named (previous_of f k) q || (is_named (next_of f k) q || false))))
+near_tells : (f : Forest) (k q : ℕ)
+    → is_among q (near f k) ≡ (eqb k q || (is_named (parent_of f k) q || (is_named (previous_of f k) q || (is_named (next_of f k) q || false))))
 near_tells f k q =
     ap (λ b. eqb k q || b)
     (is_among-with_key (parent_of f k) (with_key (previous_of f k) (with_key (next_of f k) [])) q
@@ -158,7 +164,8 @@ apart_from f k q e =
       other_test a b d = grind (arith, d, eqb_tells a b, eqb_tells b a)
 
 -- a node is among these, or apart from them, or it isn't there at all
-near_or_not : (f g marked : Forest) (k q : ℕ) → has q f ≡ has q marked → has q g ≡ has q marked → (IsApart marked k q → (spot g q ≡ spot f q) × (record_at g q ≡ record_at f q))
+near_or_not : (f g marked : Forest) (k q : ℕ) → has q f ≡ has q marked → has q g ≡ has q marked
+    → (IsApart marked k q → (spot g q ≡ spot f q) × (record_at g q ≡ record_at f q))
     → ((spot g q ≡ spot f q) × (record_at g q ≡ record_at f q)) ⊎ ((is_among q (near marked k) && has q marked) ≡ true)
 near_or_not f g marked k q before now apart =
     elim (cases_Bool (has q marked)) [
@@ -175,10 +182,12 @@ near_or_not f g marked k q before now apart =
 
 same_taken : (k : ℕ) (f : Forest) (q : ℕ) (s : Spot Label) → IsForest f → IsApart f k q → spot f q ≡ Some s → taken k q s ≡ s
 same_taken k f q s h a at =
-    let kids : names_without k s.children ≡ s.children = names_without-absent_list k s.children (ap (is_among k) (sym (ap children_at at)) ∙ is_among-children_of f k q h ∙ a.parent) in
+    let kids : names_without k s.children ≡ s.children =
+    names_without-absent_list k s.children (ap (is_among k) (sym (ap children_at at)) ∙ is_among-children_of f k q h ∙ a.parent) in
     rw (a.own, kids) refl
 
-same_unlinked : (k : ℕ) (n : Record) (q : ℕ) (r : Record) → eqb q k ≡ false → is_named n.parent q ≡ false → is_named n.prev q ≡ false → is_named n.next q ≡ false → unlinked k n q r ≡ r
+same_unlinked : (k : ℕ) (n : Record) (q : ℕ) (r : Record) → eqb q k ≡ false → is_named n.parent q ≡ false → is_named n.prev q ≡ false
+    → is_named n.next q ≡ false → unlinked k n q r ≡ r
 same_unlinked k n q r own parent prev next = rw (own, parent, prev, next) refl
 
 take_apart : (k : ℕ) (f : Forest) (q : ℕ) → IsForest f → has k f ≡ true → IsApart f k q
@@ -189,7 +198,8 @@ take_apart k f q h known a =
       spot-take_out k f q h ∙ unchanged (taken k q) (spot f q) (λ s at. same_taken k f q s h a at),
       record_at-take_out k f n.0 q h n.1
           ∙ unchanged (unlinked k n.0 q) (record_at f q) (λ r at. same_unlinked k n.0 q r a.own
-          (ap (λ o. is_named o q) (sym parts.parent) ∙ a.parent) (ap (λ o. is_named o q) (sym parts.prev) ∙ a.previous) (ap (λ o. is_named o q) (sym parts.next) ∙ a.next)),
+          (ap (λ o. is_named o q) (sym parts.parent) ∙ a.parent) (ap (λ o. is_named o q) (sym parts.prev) ∙ a.previous) (ap (λ o. is_named o q) (sym parts.next)
+          ∙ a.next)),
     )
 
 taken_parent : (k : ℕ) (f : Forest) (q p : ℕ) → IsForest f → parent_of (take_out k f) q ≡ Some p → parent_of f q ≡ Some p
@@ -213,7 +223,9 @@ record StandsIn (f : Forest) (p : ℕ) (before : Option ℕ) (k : ℕ) : Type 0 
   pub previous : previous_of (put_in p before k f) k ≡ place_behind before (children_of f p)
   pub next : next_of (put_in p before k f) k ≡ before
 
-own_links : (p : ℕ) (behind before : Option ℕ) (k : ℕ) (r : Record) → ((linked_in p behind before k k r).parent ≡ Some p) × ((linked_in p behind before k k r).prev ≡ behind) × ((linked_in p behind before k k r).next ≡ before)
+own_links : (p : ℕ) (behind before : Option ℕ) (k : ℕ) (r : Record)
+    → ((linked_in p behind before k k r).parent ≡ Some p) × ((linked_in p behind before k k r).prev ≡ behind)
+    × ((linked_in p behind before k k r).next ≡ before)
 own_links p behind before k r =
     let own : eqb k k ≡ true = grind (arith, eqb_tells k k) in
     (ap (λ b. cond b (Some p) r.parent) own, ap (λ b. cond b behind (cond (is_named before k) (Some k) r.prev)) own, ap (λ b. cond b before (cond (is_named behind k) (Some k) r.next)) own)
@@ -230,22 +242,26 @@ stands_in p before k f h c place =
 same_placed : (p : ℕ) (before : Option ℕ) (k q : ℕ) (s : Spot Label) → eqb q k ≡ false → eqb q p ≡ false → placed p before k q s ≡ s
 same_placed p before k q s own parent = rw (own, parent) refl
 
-same_linked : (p : ℕ) (behind before : Option ℕ) (k q : ℕ) (r : Record) → eqb q k ≡ false → eqb q p ≡ false → is_named behind q ≡ false → is_named before q ≡ false → linked_in p behind before k q r ≡ r
+same_linked : (p : ℕ) (behind before : Option ℕ) (k q : ℕ) (r : Record) → eqb q k ≡ false → eqb q p ≡ false → is_named behind q ≡ false
+    → is_named before q ≡ false → linked_in p behind before k q r ≡ r
 same_linked p behind before k q r own parent prev next = rw (own, parent, prev, next) refl
 
-put_apart : (p : ℕ) (before : Option ℕ) (k : ℕ) (f : Forest) (q : ℕ) → IsForest f → CanPut p k f → is_place before (children_of f p) ≡ true → IsApart (put_in p before k f) k q
+put_apart : (p : ℕ) (before : Option ℕ) (k : ℕ) (f : Forest) (q : ℕ) → IsForest f → CanPut p k f → is_place before (children_of f p) ≡ true
+    → IsApart (put_in p before k f) k q
     → (spot (put_in p before k f) q ≡ spot f q) × (record_at (put_in p before k f) q ≡ record_at f q)
 put_apart p before k f q h c place a =
     let s = stands_in p before k f h c place in
     let parent : eqb q p ≡ false = ap (λ o. is_named o q) (sym s.parent) ∙ a.parent in (
       spot-put_in p before k f q h c ∙ unchanged (placed p before k q) (spot f q) (λ t at. same_placed p before k q t a.own parent),
       record_at-put_in p before k f q h c place
-          ∙ unchanged (linked_in p (place_behind before (children_of f p)) before k q) (record_at f q) (λ r at. same_linked p (place_behind before (children_of f p)) before k q r a.own parent
+          ∙ unchanged (linked_in p (place_behind before (children_of f p)) before k q) (record_at f q)
+          (λ r at. same_linked p (place_behind before (children_of f p)) before k q r a.own parent
           (ap (λ o. is_named o q) (sym s.previous) ∙ a.previous) (ap (λ o. is_named o q) (sym s.next) ∙ a.next)),
     )
 
 -- a key is below the one that it was below, or it is the one that is put
-put_above : (p : ℕ) (before : Option ℕ) (k : ℕ) (f : Forest) (q r : ℕ) → IsForest f → CanPut p k f → parent_of (put_in p before k f) q ≡ Some r → (parent_of f q ≡ Some r) ⊎ (is_among q (near (put_in p before k f) k) ≡ true)
+put_above : (p : ℕ) (before : Option ℕ) (k : ℕ) (f : Forest) (q r : ℕ) → IsForest f → CanPut p k f → parent_of (put_in p before k f) q ≡ Some r
+    → (parent_of f q ≡ Some r) ⊎ (is_among q (near (put_in p before k f) k) ≡ true)
 put_above p before k f q r h c e =
     elim (eqb_tells q k) [
       | inl own ↦ inr (near_tells (put_in p before k f) k q ∙ grind (arith, own.1, eqb_tells k q))
@@ -255,7 +271,8 @@ put_above p before k f q r h c e =
 pub told_put : (p : ℕ) (before : Option ℕ) (k : ℕ) (f : Forest) → IsForest f → CanPut p k f → is_place before (children_of f p) ≡ true
     → IsTold f (put_in p before k f) (put_in p before k f) (near (put_in p before k f) k)
 told_put p before k f h c place = record {
-  seen = λ q. near_or_not f (put_in p before k f) (put_in p before k f) k q (sym (same_count f (put_in p before k f) q (count-put_in q p before k f h c.parent c.outside))) refl (λ a. put_apart p before k f q h c place a);
+  seen = λ q. near_or_not f (put_in p before k f) (put_in p before k f) k q
+      (sym (same_count f (put_in p before k f) q (count-put_in q p before k f h c.parent c.outside))) refl (λ a. put_apart p before k f q h c place a);
   above = λ m up. noted_up (put_in p before k f) (near (put_in p before k f) k) m (IsForest-put_in p before k f h c) (λ q r was over.
       elim (put_above p before k f q r h c over) [ inl above ↦ inl (up q r was above) | inr among ↦ inr among ]);
 }

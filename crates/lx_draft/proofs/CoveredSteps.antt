@@ -59,9 +59,12 @@ told_mark k f h = record {
   above = λ m up. noted_up f (k ∷ []) m h (λ q p was over. inl (up q p was over));
 }
 
-covered-marked : (w u : Working) (k : ℕ) → IsReady w → u.forest ≡ w.forest → u.next_key ≡ w.next_key → u.marks ≡ w.marks → u.fresh ≡ w.fresh → AreCovered w (marked_in w.forest (k ∷ []) u)
+covered-marked : (w u : Working) (k : ℕ) → IsReady w → u.forest ≡ w.forest → u.next_key ≡ w.next_key → u.marks ≡ w.marks → u.fresh ≡ w.fresh
+    → AreCovered w (marked_in w.forest (k ∷ []) u)
 covered-marked w u k r forest next marks fresh =
-    covered w (marked_in w.forest (k ∷ []) u) w.forest (k ∷ []) r.in_order (subst (λ g. IsTold w.forest g w.forest (k ∷ [])) (sym forest) (told_mark k w.forest r.in_order)) (kinds_at w.forest u.forest forest) (kinds_at w.forest u.forest forest)
+    covered w (marked_in w.forest (k ∷ []) u) w.forest (k ∷ []) r.in_order
+    (subst (λ g. IsTold w.forest g w.forest (k ∷ [])) (sym forest) (told_mark k w.forest r.in_order)) (kinds_at w.forest u.forest forest)
+    (kinds_at w.forest u.forest forest)
     (ap (λ m. mark_nodes w.forest (k ∷ []) m) marks) (ap (λ m. mark_nodes w.forest (k ∷ []) m) fresh) (record {
       in_order = subst IsForest (sym forest) r.in_order;
       free = λ q e. ap (has q) forest ∙ r.free q (subst (λ n. n ≤ q) next e);
@@ -71,7 +74,8 @@ covered-marked w u k r forest next marks fresh =
 pub covered-mark : (k : ℕ) → IsCovering (mark_step k)
 unfolding mark_step
 covered-mark k w v r e =
-    covered-answer w v (marked_in w.forest (k ∷ []) (edited w)) (option_or (unknown w.forest k) (over_counts w)) e (λ none. covered-marked w (edited w) k r refl refl refl refl)
+    covered-answer w v (marked_in w.forest (k ∷ []) (edited w)) (option_or (unknown w.forest k) (over_counts w)) e
+    (λ none. covered-marked w (edited w) k r refl refl refl refl)
 
 pub covered-mark_uncounted : (k : ℕ) → IsCovering (mark_uncounted_step k)
 unfolding mark_uncounted_step
@@ -103,7 +107,8 @@ covered-made : (kind : Kind) (fields : Fields) (w : Working) → IsReady w → A
 covered-made kind fields w r =
     let l : Label = record { key = w.next_key; kind = kind; fields = fields } in
     let free : has l.key w.forest ≡ false = r.free w.next_key (omega arith) in
-    covered w (made kind fields w) (with_new l w.forest) (w.next_key ∷ []) (IsForest-with_new l w.forest r.in_order free) (told_new l w.forest r.in_order free) (kinds_new l w.forest r.in_order free) (kinds_at (with_new l w.forest) (with_new l w.forest) refl) refl refl (record {
+    covered w (made kind fields w) (with_new l w.forest) (w.next_key ∷ []) (IsForest-with_new l w.forest r.in_order free) (told_new l w.forest r.in_order free)
+    (kinds_new l w.forest r.in_order free) (kinds_at (with_new l w.forest) (with_new l w.forest) refl) refl refl (record {
       in_order = IsForest-with_new l w.forest r.in_order free;
       free = λ q e. new_free w l q r refl e;
     })
@@ -125,31 +130,38 @@ set_ready k fields w v r forest next = record {
 kinds_set : (k : ℕ) (fields : Fields) (f : Forest) → KindsStay f (with_fields k fields f)
 kinds_set k fields f = record { each = λ q kind e. kind_of-with_fields k fields f q ∙ e }
 
-covered-refielded_if : (differs : Bool) (k : ℕ) (fields : Fields) (more : ℕ) (selection : Selection) (w : Working) → IsReady w → has k w.forest ≡ true → differ (fields_of w.forest k) fields ≡ differs
+covered-refielded_if : (differs : Bool) (k : ℕ) (fields : Fields) (more : ℕ) (selection : Selection) (w : Working) → IsReady w → has k w.forest ≡ true
+    → differ (fields_of w.forest k) fields ≡ differs
     → AreCovered w (record (marked_if differs w.forest k (wrote more w)) { forest = with_fields k fields w.forest; selection = selection })
 covered-refielded_if true k fields more selection w r there e =
     let v : Working = record (marked_in w.forest (k ∷ []) (wrote more w)) { forest = with_fields k fields w.forest; selection = selection } in
-    covered w v w.forest (k ∷ []) r.in_order (told_set k fields w.forest r.in_order there) (kinds_set k fields w.forest) (kinds_set k fields w.forest) refl refl (set_ready k fields w v r refl refl) (same_keys w v refl (λ q. ap (λ n. ltb 0 n) (count-with_fields q k fields w.forest)))
+    covered w v w.forest (k ∷ []) r.in_order (told_set k fields w.forest r.in_order there) (kinds_set k fields w.forest) (kinds_set k fields w.forest) refl refl
+    (set_ready k fields w v r refl refl) (same_keys w v refl (λ q. ap (λ n. ltb 0 n) (count-with_fields q k fields w.forest)))
 covered-refielded_if false k fields more selection w r there e =
     let v : Working = record (wrote more w) { forest = with_fields k fields w.forest; selection = selection } in
-    covered w v w.forest [] r.in_order (told_equal k fields w.forest e) (kinds_set k fields w.forest) (kinds_set k fields w.forest) refl refl (set_ready k fields w v r refl refl) (same_keys w v refl (λ q. ap (λ n. ltb 0 n) (count-with_fields q k fields w.forest)))
+    covered w v w.forest [] r.in_order (told_equal k fields w.forest e) (kinds_set k fields w.forest) (kinds_set k fields w.forest) refl refl
+    (set_ready k fields w v r refl refl) (same_keys w v refl (λ q. ap (λ n. ltb 0 n) (count-with_fields q k fields w.forest)))
 
-covered-refielded : (k : ℕ) (fields : Fields) (more : ℕ) (moved : Selection → Selection) (w : Working) → IsReady w → has k w.forest ≡ true → AreCovered w (fields_written k fields more moved w)
+covered-refielded : (k : ℕ) (fields : Fields) (more : ℕ) (moved : Selection → Selection) (w : Working) → IsReady w → has k w.forest ≡ true
+    → AreCovered w (fields_written k fields more moved w)
 covered-refielded k fields more moved w r there =
     covered-refielded_if (differ (fields_of w.forest k) fields) k fields more (moved w.selection) w r there refl
 
 pub covered-set : (k : ℕ) (fields : Fields) → IsCovering (set_step k fields)
 unfolding set_step
 covered-set k fields w v r e =
-    covered-answer w v (fields_written k fields (characters_of fields) (set_points k fields) w) (option_or (set_fault k fields w.forest) (over_limits (characters_of fields) w)) e (λ none.
+    covered-answer w v (fields_written k fields (characters_of fields) (set_points k fields) w)
+    (option_or (set_fault k fields w.forest) (over_limits (characters_of fields) w)) e (λ none.
     covered-refielded k fields (characters_of fields) (set_points k fields) w r
-    (known_first w.forest k (wrong_fields (kind_of w.forest k) fields) ((both_none (set_fault k fields w.forest) (over_limits (characters_of fields) w) none).0)))
+    (known_first w.forest k (wrong_fields (kind_of w.forest k) fields)
+    ((both_none (set_fault k fields w.forest) (over_limits (characters_of fields) w) none).0)))
 
 pub covered-splice : (k from to : ℕ) (new : List ℕ) → IsCovering (splice_step k from to new)
 unfolding splice_step
 covered-splice k from to new w v r e =
     let fields : Fields = label_with_piece (label_of w.forest k) from to new in
-    covered-answer w v (fields_written k fields (length new) (splice_points k from to new) w) (option_or (splice_fault k from to w.forest) (over_limits (length new) w)) e (λ none.
+    covered-answer w v (fields_written k fields (length new) (splice_points k from to new) w)
+    (option_or (splice_fault k from to w.forest) (over_limits (length new) w)) e (λ none.
     covered-refielded k fields (length new) (splice_points k from to new) w r
     (known_first w.forest k (label_fault (label_of w.forest k) from to) ((both_none (splice_fault k from to w.forest) (over_limits (length new) w) none).0)))
 
@@ -160,7 +172,8 @@ kinds_take k f h = record { each = λ q kind e. kind_of-take_out k f q h ∙ e }
 
 covered-taken : (k : ℕ) (w : Working) → IsReady w → has k w.forest ≡ true → AreCovered w (node_taken k w)
 covered-taken k w r there =
-    covered w (node_taken k w) w.forest (near w.forest k) r.in_order (told_take k w.forest r.in_order there) (kinds_take k w.forest r.in_order) (kinds_take k w.forest r.in_order) refl refl (record {
+    covered w (node_taken k w) w.forest (near w.forest k) r.in_order (told_take k w.forest r.in_order there) (kinds_take k w.forest r.in_order)
+    (kinds_take k w.forest r.in_order) refl refl (record {
       in_order = IsForest-take_out k w.forest r.in_order;
       free = λ q e. free_still w (take_out k w.forest) q r e (count-take_out q k w.forest);
     })
@@ -177,7 +190,9 @@ covered-placed k p index w r none =
     let before : Option ℕ = slice_get (children_of w.forest p) index in
     let can = can_put w.forest k p index none in
     covered w (node_placed k p index w) (put_in p before k w.forest) (near (put_in p before k w.forest) k) (IsForest-put_in p before k w.forest r.in_order can)
-    (told_put p before k w.forest r.in_order can (index_place (children_of w.forest p) before index refl)) (record { each = λ q kind e. kind_of-put_in p before k w.forest q r.in_order can ∙ e }) (kinds_at (put_in p before k w.forest) (put_in p before k w.forest) refl) refl refl (record {
+    (told_put p before k w.forest r.in_order can (index_place (children_of w.forest p) before index refl))
+    (record { each = λ q kind e. kind_of-put_in p before k w.forest q r.in_order can ∙ e })
+    (kinds_at (put_in p before k w.forest) (put_in p before k w.forest) refl) refl refl (record {
       in_order = IsForest-put_in p before k w.forest r.in_order can;
       free = λ q e. free_still w (put_in p before k w.forest) q r e (count-put_in q p before k w.forest r.in_order can.parent can.outside);
     })

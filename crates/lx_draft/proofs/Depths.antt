@@ -40,23 +40,28 @@ in_one-append : (f : Forest) (xs ys : List ℕ) (q : ℕ) → is_in_one f (xs ++
 in_one-append f [] ys q = refl
 in_one-append f (x ∷ xs) ys q = grind (arith, in_one-append f xs ys q)
 
-one_more : (f : Forest) (ks : List ℕ) (i k q : ℕ) → i < length ks → k ≡ get_or ks i k → is_in_one f (take (i + 1) ks) q ≡ (is_in_one f (take i ks) q || (is_within f k q || false))
+one_more : (f : Forest) (ks : List ℕ) (i k q : ℕ) → i < length ks → k ≡ get_or ks i k
+    → is_in_one f (take (i + 1) ks) q ≡ (is_in_one f (take i ks) q || (is_within f k q || false))
 one_more f ks i k q few at =
-    ap (λ xs. is_in_one f xs q) (take_more ks i k few) ∙ in_one-append f (take i ks) (get_or ks i k ∷ []) q ∙ ap (λ x. is_in_one f (take i ks) q || (is_within f x q || false)) (sym at)
+    ap (λ xs. is_in_one f xs q) (take_more ks i k few) ∙ in_one-append f (take i ks) (get_or ks i k ∷ []) q
+    ∙ ap (λ x. is_in_one f (take i ks) q || (is_within f x q || false)) (sym at)
 
-more_of : (f : Forest) (ks : List ℕ) (i k : ℕ) → i < length ks → k ≡ get_or ks i k → AreShallow f (take i ks) → ((q d : ℕ) → depth f q ≡ Some d → is_within f k q ≡ true → d ≤ most_depth) → AreShallow f (take (i + 1) ks)
+more_of : (f : Forest) (ks : List ℕ) (i k : ℕ) → i < length ks → k ≡ get_or ks i k → AreShallow f (take i ks)
+    → ((q d : ℕ) → depth f q ≡ Some d → is_within f k q ≡ true → d ≤ most_depth) → AreShallow f (take (i + 1) ks)
 more_of f ks i k few at m own q d deep inside = elim (cases_Bool (is_within f k q)) [
   | inl here ↦ own q d deep here
   | inr apart ↦ m q d deep (grind (arith, inside, apart, one_more f ks i k q few at))
 ]
 
 -- a tree that goes down so far from where it is
-pub shallow_tree : (f : Forest) (ks : List ℕ) (i k n : ℕ) (o : Option ℕ) → Sound f → i < length ks → k ≡ get_or ks i k → o ≡ depth f k → o ≡ Some n → n ≤ most_depth → AreWithin (most_depth - n) f k → AreShallow f (take i ks) → AreShallow f (take (i + 1) ks)
+pub shallow_tree : (f : Forest) (ks : List ℕ) (i k n : ℕ) (o : Option ℕ) → Sound f → i < length ks → k ≡ get_or ks i k → o ≡ depth f k → o ≡ Some n
+    → n ≤ most_depth → AreWithin (most_depth - n) f k → AreShallow f (take i ks) → AreShallow f (take (i + 1) ks)
 shallow_tree f ks i k n o s few at is some small within m = more_of f ks i k few at m (λ q d deep inside.
     omega (arith, steps_of f q d deep, within q inside, steps_of f k n (sym is ∙ some), small))
 
 -- one that isn't attached
-pub shallow_away : (f : Forest) (ks : List ℕ) (i k : ℕ) (o : Option ℕ) → Sound f → i < length ks → k ≡ get_or ks i k → o ≡ depth f k → o ≡ None → AreShallow f (take i ks) → AreShallow f (take (i + 1) ks)
+pub shallow_away : (f : Forest) (ks : List ℕ) (i k : ℕ) (o : Option ℕ) → Sound f → i < length ks → k ≡ get_or ks i k → o ≡ depth f k → o ≡ None
+    → AreShallow f (take i ks) → AreShallow f (take (i + 1) ks)
 shallow_away f ks i k o s few at is none m = more_of f ks i k few at m (λ q d deep inside.
     absurd (grind (arith, attached_above f k q (in_order_deep f q d s deep) (attached_at f q d deep) inside, sym is ∙ none)))
 

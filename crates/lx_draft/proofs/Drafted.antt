@@ -46,7 +46,8 @@ moved_nil ks = record {
 }
 
 pub drafted_nil : (w : Working) (old new : List ℕ) → IsDrafted w old → IsDrafted (record w { forest = nil }) new
-drafted_nil w old new i = record { working = working_nil w i.working; moved = moved_nil new; raised = λ q p noted at. absurd (grind (arith, at)); raised_fresh = λ q p noted at. absurd (grind (arith, at)) }
+drafted_nil w old new i =
+    record { working = working_nil w i.working; moved = moved_nil new; raised = λ q p noted at. absurd (grind (arith, at)); raised_fresh = λ q p noted at. absurd (grind (arith, at)) }
 
 pub drafted_new : (w : Working) (g : Forest) (l : Label) (old new : Marked) → IsForest w.forest → IsDrafted w old.leaves → HasRoom w → l.key ≡ w.next_key
     → new ≡ with_leaf l.key old → g ≡ with_new l w.forest → IsDrafted (record w { forest = g; next_key = w.next_key + 1 }) new.leaves
@@ -54,12 +55,14 @@ drafted_new w g l old new h i room key noted made =
     let free : has l.key w.forest ≡ false = ap (λ k. has k w.forest) key ∙ i.working.free w.next_key (omega arith) in
     record {
       working = working_new w g l h i.working room key made;
-      moved = subst (λ f. AreMoved most_depth f new.leaves) (sym made) (moved-with_new most_depth l w.forest new.leaves h free (leaf_noted l.key old new noted) (moved_leaf w.forest l.key old new noted i.moved));
+      moved = subst (λ f. AreMoved most_depth f new.leaves) (sym made)
+          (moved-with_new most_depth l w.forest new.leaves h free (leaf_noted l.key old new noted) (moved_leaf w.forest l.key old new noted i.moved));
       raised = subst (λ f. IsRaised f w.marks) (sym made) (raised-with_new l w.forest w.marks h free i.raised);
       raised_fresh = subst (λ f. IsRaised f w.fresh) (sym made) (raised-with_new l w.forest w.fresh h free i.raised_fresh);
     }
 
-pub drafted_set : (w : Working) (ks : List ℕ) (k : ℕ) (fields : Fields) → IsForest w.forest → IsDrafted w ks → IsDrafted (record w { forest = with_fields k fields w.forest }) ks
+pub drafted_set : (w : Working) (ks : List ℕ) (k : ℕ) (fields : Fields) → IsForest w.forest → IsDrafted w ks
+    → IsDrafted (record w { forest = with_fields k fields w.forest }) ks
 drafted_set w ks k fields h i = record {
   working = working_set w k fields i.working;
   moved = moved-with_fields most_depth k fields w.forest ks h i.moved;
@@ -71,18 +74,22 @@ drafted_set w ks k fields h i = record {
 not_root : (f : Forest) (k : ℕ) → IsForest f → detach_fault k f ≡ None → k ≢ 0
 not_root f k h none same = grind (arith, none, same, parent_of-root f h)
 
-pub drafted_take : (w : Working) (old new : Marked) (k : ℕ) → IsForest w.forest → detach_fault k w.forest ≡ None → new ≡ with_leaf k old → IsDrafted w old.leaves → IsDrafted (record w { forest = take_out k w.forest }) new.leaves
+pub drafted_take : (w : Working) (old new : Marked) (k : ℕ) → IsForest w.forest → detach_fault k w.forest ≡ None → new ≡ with_leaf k old
+    → IsDrafted w old.leaves → IsDrafted (record w { forest = take_out k w.forest }) new.leaves
 drafted_take w old new k h none noted i = record {
   working = working_take w k h i.working;
-  moved = moved-take_out most_depth k w.forest new.leaves h (not_root w.forest k h none) (leaf_noted k old new noted) (moved_leaf w.forest k old new noted i.moved);
+  moved = moved-take_out most_depth k w.forest new.leaves h (not_root w.forest k h none) (leaf_noted k old new noted)
+      (moved_leaf w.forest k old new noted i.moved);
   raised = raised-take_out k w.forest w.marks h i.raised;
   raised_fresh = raised-take_out k w.forest w.fresh h i.raised_fresh;
 }
 
 working_marked : (w : Working) (marks fresh : Marked) → IsWorking w → IsWorking (record w { marks = marks; fresh = fresh })
-working_marked w marks fresh i = record { counted = i.counted; edits = i.edits; written = i.written; first = i.first; next = i.next; free = i.free; few = i.few }
+working_marked w marks fresh i =
+    record { counted = i.counted; edits = i.edits; written = i.written; first = i.first; next = i.next; free = i.free; few = i.few }
 
-pub drafted_put : (w : Working) (ks : List ℕ) (p : ℕ) (before : Option ℕ) (k : ℕ) (marks fresh : Marked) → IsForest w.forest → CanPut p k w.forest → IsRaised (put_in p before k w.forest) marks → IsRaised (put_in p before k w.forest) fresh → IsDrafted w ks
+pub drafted_put : (w : Working) (ks : List ℕ) (p : ℕ) (before : Option ℕ) (k : ℕ) (marks fresh : Marked) → IsForest w.forest → CanPut p k w.forest
+    → IsRaised (put_in p before k w.forest) marks → IsRaised (put_in p before k w.forest) fresh → IsDrafted w ks
     → IsDrafted (record w { forest = put_in p before k w.forest; marks = marks; fresh = fresh }) ks
 drafted_put w ks p before k marks fresh h c up up_fresh i = record {
   working = working_marked (record w { forest = put_in p before k w.forest }) marks fresh (working_put w p before k h c i.working);
@@ -91,29 +98,37 @@ drafted_put w ks p before k marks fresh h c up up_fresh i = record {
   raised_fresh = up_fresh;
 }
 
-pub drafted_marked : (w : Working) (ks : List ℕ) (marks fresh : Marked) → IsRaised w.forest marks → IsRaised w.forest fresh → IsDrafted w ks → IsDrafted (record w { marks = marks; fresh = fresh }) ks
-drafted_marked w ks marks fresh up up_fresh i = record { working = working_marked w marks fresh i.working; moved = i.moved; raised = up; raised_fresh = up_fresh }
+pub drafted_marked : (w : Working) (ks : List ℕ) (marks fresh : Marked) → IsRaised w.forest marks → IsRaised w.forest fresh → IsDrafted w ks
+    → IsDrafted (record w { marks = marks; fresh = fresh }) ks
+drafted_marked w ks marks fresh up up_fresh i =
+    record { working = working_marked w marks fresh i.working; moved = i.moved; raised = up; raised_fresh = up_fresh }
 
-pub drafted_lost : (w : Working) (old new : List ℕ) (f : Forest) (marks fresh : Marked) → f ≡ nil → IsDrafted w old → IsDrafted (record w { forest = f; marks = marks; fresh = fresh }) new
+pub drafted_lost : (w : Working) (old new : List ℕ) (f : Forest) (marks fresh : Marked) → f ≡ nil → IsDrafted w old
+    → IsDrafted (record w { forest = f; marks = marks; fresh = fresh }) new
 drafted_lost w old new f marks fresh e i =
     subst (λ g. IsDrafted (record w { forest = g; marks = marks; fresh = fresh }) new) (sym e)
     (record { working = working_marked (record w { forest = nil }) marks fresh (working_nil w i.working); moved = moved_nil new; raised = λ q p noted at. absurd (grind (arith, at)); raised_fresh = λ q p noted at. absurd (grind (arith, at)) })
 
 -- after nodes were marked twice, or memory ran out
-pub drafted_both : {E : Type 0} (r : Result Unit E) (w : Working) (ks : List ℕ) (f : Forest) (marks fresh a b : Marked) → OnOk r (f ≡ w.forest) → OnOk r ((marks ≡ a) × IsRaised w.forest marks) → OnOk r ((fresh ≡ b) × IsRaised w.forest fresh) → OnErr r (f ≡ nil)
+pub drafted_both : {E : Type 0} (r : Result Unit E) (w : Working) (ks : List ℕ) (f : Forest) (marks fresh a b : Marked) → OnOk r (f ≡ w.forest)
+    → OnOk r ((marks ≡ a) × IsRaised w.forest marks) → OnOk r ((fresh ≡ b) × IsRaised w.forest fresh) → OnErr r (f ≡ nil)
     → IsDrafted w ks → IsDrafted (record w { forest = f; marks = marks; fresh = fresh }) ks
-drafted_both (Ok u) w ks f marks fresh a b same up up_fresh lost i = subst (λ g. IsDrafted (record w { forest = g; marks = marks; fresh = fresh }) ks) (sym same) (drafted_marked w ks marks fresh up.1 up_fresh.1 i)
+drafted_both (Ok u) w ks f marks fresh a b same up up_fresh lost i =
+    subst (λ g. IsDrafted (record w { forest = g; marks = marks; fresh = fresh }) ks) (sym same) (drafted_marked w ks marks fresh up.1 up_fresh.1 i)
 drafted_both (Err e) w ks f marks fresh a b same up up_fresh lost i = drafted_lost w ks ks f marks fresh lost i
 
 -- the same after a put
-pub drafted_put_both : {E : Type 0} (r : Result Unit E) (w : Working) (ks : List ℕ) (p : ℕ) (before : Option ℕ) (k : ℕ) (mid f : Forest) (marks fresh a b : Marked) → IsForest w.forest → CanPut p k w.forest → mid ≡ put_in p before k w.forest
-    → OnOk r (f ≡ mid) → OnOk r ((marks ≡ a) × IsRaised mid marks) → OnOk r ((fresh ≡ b) × IsRaised mid fresh) → OnErr r (f ≡ nil) → IsDrafted w ks → IsDrafted (record w { forest = f; marks = marks; fresh = fresh }) ks
+pub drafted_put_both : {E : Type 0} (r : Result Unit E) (w : Working) (ks : List ℕ) (p : ℕ) (before : Option ℕ) (k : ℕ) (mid f : Forest)
+    (marks fresh a b : Marked) → IsForest w.forest → CanPut p k w.forest → mid ≡ put_in p before k w.forest
+    → OnOk r (f ≡ mid) → OnOk r ((marks ≡ a) × IsRaised mid marks) → OnOk r ((fresh ≡ b) × IsRaised mid fresh) → OnErr r (f ≡ nil) → IsDrafted w ks
+    → IsDrafted (record w { forest = f; marks = marks; fresh = fresh }) ks
 drafted_put_both (Ok u) w ks p before k mid f marks fresh a b h c made same up up_fresh lost i =
     subst (λ g. IsDrafted (record w { forest = g; marks = marks; fresh = fresh }) ks) (sym (same ∙ made))
     (drafted_put w ks p before k marks fresh h c (subst (λ g. IsRaised g marks) made up.1) (subst (λ g. IsRaised g fresh) made up_fresh.1) i)
 drafted_put_both (Err e) w ks p before k mid f marks fresh a b h c made same up up_fresh lost i = drafted_lost w ks ks f marks fresh lost i
 
-pub put_raised : (w : Working) (ks : List ℕ) (p : ℕ) (before : Option ℕ) (k : ℕ) (mid : Forest) → IsForest w.forest → CanPut p k w.forest → mid ≡ put_in p before k w.forest → IsDrafted w ks → IsRaisedBut mid k w.marks × IsRaisedBut mid k w.fresh
+pub put_raised : (w : Working) (ks : List ℕ) (p : ℕ) (before : Option ℕ) (k : ℕ) (mid : Forest) → IsForest w.forest → CanPut p k w.forest
+    → mid ≡ put_in p before k w.forest → IsDrafted w ks → IsRaisedBut mid k w.marks × IsRaisedBut mid k w.fresh
 put_raised w ks p before k mid h c made i = (
   subst (λ g. IsRaisedBut g k w.marks) (sym made) (raised-put_in p before k w.forest w.marks h c i.raised),
   subst (λ g. IsRaisedBut g k w.fresh) (sym made) (raised-put_in p before k w.forest w.fresh h c i.raised_fresh),
@@ -123,6 +138,7 @@ pub failed_told : {E : Type 0} (r s : Result Unit E) (v u : Working) → r ≡ s
 failed_told r s v u e g h = rw (e, g) h
 
 -- where leaves are handled, what is left still goes up
-pub drafted_round : (w : Working) (ks : List ℕ) (fresh : Marked) → fresh ≡ record w.fresh { leaves = [] } → IsDrafted w ks → IsDrafted (record w { fresh = fresh }) ks
+pub drafted_round : (w : Working) (ks : List ℕ) (fresh : Marked) → fresh ≡ record w.fresh { leaves = [] } → IsDrafted w ks
+    → IsDrafted (record w { fresh = fresh }) ks
 drafted_round w ks fresh e i =
     drafted_marked w ks w.marks fresh i.raised (subst (IsRaised w.forest) (sym e) (λ q p noted at. i.raised_fresh q p (grind (arith, noted)) at)) i

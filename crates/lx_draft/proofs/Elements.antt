@@ -11,7 +11,8 @@ use Rattle.lx_forest.specs.Lookups.{kind_of, ancestors}
 use Rattle.lx_draft.specs.Marking.{mark_above, mark_itself, mark_node, mark_nodes}
 use Rattle.lx_draft.specs.Covering.{is_element_in, KindsStay, AreElements}
 
-flag-element : (k : ℕ) (flag : Bool) (m : Marked) (q : ℕ) → is_true_flag (flag_in (with_marked k flag m).elements q) ≡ (is_true_flag (flag_in m.elements q) || (eqb q k && flag))
+flag-element : (k : ℕ) (flag : Bool) (m : Marked) (q : ℕ)
+    → is_true_flag (flag_in (with_marked k flag m).elements q) ≡ (is_true_flag (flag_in m.elements q) || (eqb q k && flag))
 unfolding with_marked
 flag-element k flag m q =
     grind (arith, flag_in-flagged k flag m.elements q, true_flag-either (flag_in m.elements q) (Some flag))
@@ -26,20 +27,24 @@ flag-above (k ∷ ks) m q = flag-above ks (with_marked k false m) q ∙ flag-ele
   none : (a b : Bool) → (a || (b && false)) ≡ a
   none a b = grind arith
 
-flag-itself : (o : Option Kind) (k : ℕ) (m : Marked) (q : ℕ) → is_true_flag (flag_in (mark_itself o k m).elements q) ≡ (is_true_flag (flag_in m.elements q) || (eqb q k && is_element_in o))
+flag-itself : (o : Option Kind) (k : ℕ) (m : Marked) (q : ℕ)
+    → is_true_flag (flag_in (mark_itself o k m).elements q) ≡ (is_true_flag (flag_in m.elements q) || (eqb q k && is_element_in o))
 flag-itself None k m q = none (is_true_flag (flag_in m.elements q)) (eqb q k) where
   none : (a b : Bool) → a ≡ (a || (b && false))
   none a b = grind arith
 flag-itself (Some kind) k m q = by_kind (is_element kind) where
-  by_kind : (b : Bool) → is_true_flag (flag_in (cond b (with_marked k true m) (with_leaf k m)).elements q) ≡ (is_true_flag (flag_in m.elements q) || (eqb q k && b))
+  by_kind : (b : Bool)
+      → is_true_flag (flag_in (cond b (with_marked k true m) (with_leaf k m)).elements q) ≡ (is_true_flag (flag_in m.elements q) || (eqb q k && b))
   by_kind true = flag-element k true m q
   by_kind false = flag-leaf k m q ∙ grind arith
 
-flag-node : (f : Forest) (k : ℕ) (m : Marked) (q : ℕ) → is_true_flag (flag_in (mark_node f k m).elements q) ≡ (is_true_flag (flag_in m.elements q) || (eqb q k && is_element_in (kind_of f k)))
+flag-node : (f : Forest) (k : ℕ) (m : Marked) (q : ℕ)
+    → is_true_flag (flag_in (mark_node f k m).elements q) ≡ (is_true_flag (flag_in m.elements q) || (eqb q k && is_element_in (kind_of f k)))
 unfolding mark_node
 flag-node f k m q = flag-above (ancestors f k) (mark_itself (kind_of f k) k m) q ∙ flag-itself (kind_of f k) k m q
 
-sorted_by : (g : Forest) (k q : ℕ) (flag own : Bool) → (flag ≡ true → is_element_in (kind_of g q) ≡ true) → (own ≡ true → is_element_in (kind_of g k) ≡ true) → (flag || (eqb q k && own)) ≡ true → is_element_in (kind_of g q) ≡ true
+sorted_by : (g : Forest) (k q : ℕ) (flag own : Bool) → (flag ≡ true → is_element_in (kind_of g q) ≡ true) → (own ≡ true → is_element_in (kind_of g k) ≡ true)
+    → (flag || (eqb q k && own)) ≡ true → is_element_in (kind_of g q) ≡ true
 sorted_by g k q true own was is e = was refl
 sorted_by g k q false own was is e =
     elim (eqb_tells q k) [
@@ -47,12 +52,14 @@ sorted_by g k q false own was is e =
       | inr other ↦ absurd (grind (arith, e, other.0))
     ]
 
-sorted-node : (g f : Forest) (k : ℕ) (m : Marked) → AreElements g m → (is_element_in (kind_of f k) ≡ true → is_element_in (kind_of g k) ≡ true) → AreElements g (mark_node f k m)
+sorted-node : (g f : Forest) (k : ℕ) (m : Marked) → AreElements g m → (is_element_in (kind_of f k) ≡ true → is_element_in (kind_of g k) ≡ true)
+    → AreElements g (mark_node f k m)
 sorted-node g f k m s same = record {
   each = λ q e. sorted_by g k q (is_true_flag (flag_in m.elements q)) (is_element_in (kind_of f k)) (s.each q) same (sym (flag-node f k m q) ∙ e);
 }
 
-pub sorted-nodes : (g f : Forest) (ks : List ℕ) (m : Marked) → AreElements g m → ((k : ℕ) → is_element_in (kind_of f k) ≡ true → is_element_in (kind_of g k) ≡ true) → AreElements g (mark_nodes f ks m)
+pub sorted-nodes : (g f : Forest) (ks : List ℕ) (m : Marked) → AreElements g m
+    → ((k : ℕ) → is_element_in (kind_of f k) ≡ true → is_element_in (kind_of g k) ≡ true) → AreElements g (mark_nodes f ks m)
 sorted-nodes g f [] m s same = s
 sorted-nodes g f (k ∷ ks) m s same = sorted-nodes g f ks (mark_node f k m) (sorted-node g f k m s (same k)) same
 

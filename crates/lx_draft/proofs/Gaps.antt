@@ -99,7 +99,8 @@ within_same f p i j h k = grind (arith, h, k)
 pub same_fault : (f : Forest) (k p i j : ℕ) → i ≤ size_of f p → j ≤ size_of f p → put_fault k p i f ≡ put_fault k p j f
 same_fault f k p i j h l = rw (within_same f p i j h l) refl
 
-pub gap_refused : (f : Forest) (k p : ℕ) (before : Option ℕ) → is_place before (children_of f p) ≡ true → put_fault k p 0 f ≡ put_fault k p (gap_index before (children_of f p)) f
+pub gap_refused : (f : Forest) (k p : ℕ) (before : Option ℕ) → is_place before (children_of f p) ≡ true
+    → put_fault k p 0 f ≡ put_fault k p (gap_index before (children_of f p)) f
 gap_refused f k p before e = same_fault f k p 0 (gap_index before (children_of f p)) (omega arith) (gap_within before (children_of f p) e)
 
 -- ---- put
@@ -108,7 +109,8 @@ gap_refused f k p before e = same_fault f k p 0 (gap_index before (children_of f
 pub gap_put : (f : Forest) (k p index : ℕ) → IsForest f → put_fault k p index f ≡ None → gap_index (slice_get (children_of f p) index) (children_of f p) ≡ index
 gap_put f k p index h e = gap_of (children_of f p) index (NoRepeats-children_of f p h) (put_within f k p index e)
 
-pub before_is : (w : Working) (k p other : ℕ) → IsForest w.forest → parent_of w.forest other ≡ Some p → put_step k p (gap_index (Some other) (children_of w.forest p)) w ≡ put_before_step k other w
+pub before_is : (w : Working) (k p other : ℕ) → IsForest w.forest → parent_of w.forest other ≡ Some p
+    → put_step k p (gap_index (Some other) (children_of w.forest p)) w ≡ put_before_step k other w
 unfolding put_before_step
 before_is w k p other h up =
     sym (ap (λ o. before_at k other o (index_of w.forest other) w) up ∙ ap (λ o. before_at k other (Some p) o w) (index_here w.forest p other h up))
@@ -117,7 +119,9 @@ pub behind_is : (w : Working) (k p other : ℕ) (next : Option ℕ) → next ≡
     → put_step k p (gap_index next (children_of w.forest p)) w ≡ put_behind_step k other w
 unfolding put_behind_step
 behind_is w k p other next e h up =
-    ap (λ i. put_step k p i w) (ap (λ o. gap_index o (children_of w.forest p)) (e ∙ next_here w.forest p other up) ∙ gap_behind (children_of w.forest p) other (NoRepeats-children_of w.forest p h) (child_of w.forest p other h up))
+    ap (λ i. put_step k p i w)
+    (ap (λ o. gap_index o (children_of w.forest p)) (e ∙ next_here w.forest p other up)
+    ∙ gap_behind (children_of w.forest p) other (NoRepeats-children_of w.forest p h) (child_of w.forest p other h up))
     ∙ sym (ap (λ o. behind_at k other o (index_of w.forest other) w) up ∙ ap (λ o. behind_at k other (Some p) o w) (index_here w.forest p other h up))
 
 -- a node that is below nothing has no place beside it

@@ -17,7 +17,8 @@ use Rattle.lx_node.specs.Limits.{most_nodes}
 use Rattle.lx_draft.specs.Working.{Working, IsWorking, HasRoom}
 
 -- a call of links after which a cause can't be, as there was none before
-pub after_call : (r : Result Unit Fault) (old new made : Forest) (first : Option Cause) → first ≡ None → OnOk r ((first ≡ None) × (new ≡ made)) → IfErr r (RefusesEdit old first new) → (new ≡ made) ⊎ (new ≡ nil)
+pub after_call : (r : Result Unit Fault) (old new made : Forest) (first : Option Cause) → first ≡ None → OnOk r ((first ≡ None) × (new ≡ made))
+    → IfErr r (RefusesEdit old first new) → (new ≡ made) ⊎ (new ≡ nil)
 after_call (Ok u) old new made first none ok err = inl ok.1
 after_call (Err (fault.Cause cause)) old new made first none ok err = absurd (grind (arith, none, err.1))
 after_call (Err fault.Memory) old new made first none ok err = inr err.1
@@ -34,7 +35,8 @@ working_nil w h = record {
 }
 
 -- the forest of another with the same keys and as many nodes
-pub working_with : (w : Working) (g : Forest) → IsWorking w → ((q : ℕ) → count q g ≡ count q w.forest) → total g ≡ total w.forest → IsWorking (record w { forest = g })
+pub working_with : (w : Working) (g : Forest) → IsWorking w → ((q : ℕ) → count q g ≡ count q w.forest) → total g ≡ total w.forest
+    → IsWorking (record w { forest = g })
 working_with w g h same few = record {
   counted = h.counted;
   edits = h.edits;
@@ -49,9 +51,11 @@ pub working_take : (w : Working) (k : ℕ) → IsForest w.forest → IsWorking w
 working_take w k i h =
     working_with w (take_out k w.forest) h (λ q. count-take_out q k w.forest) (total-take_out k w.forest)
 
-pub working_put : (w : Working) (p : ℕ) (before : Option ℕ) (k : ℕ) → IsForest w.forest → CanPut p k w.forest → IsWorking w → IsWorking (record w { forest = put_in p before k w.forest })
+pub working_put : (w : Working) (p : ℕ) (before : Option ℕ) (k : ℕ) → IsForest w.forest → CanPut p k w.forest → IsWorking w
+    → IsWorking (record w { forest = put_in p before k w.forest })
 working_put w p before k i c h =
-    working_with w (put_in p before k w.forest) h (λ q. count-put_in q p before k w.forest i c.parent c.outside) (total-put_in p before k w.forest i c.parent c.outside)
+    working_with w (put_in p before k w.forest) h (λ q. count-put_in q p before k w.forest i c.parent c.outside)
+    (total-put_in p before k w.forest i c.parent c.outside)
 
 pub working_set : (w : Working) (k : ℕ) (fields : Fields) → IsWorking w → IsWorking (record w { forest = with_fields k fields w.forest })
 working_set w k fields h =
@@ -72,6 +76,7 @@ working_new w g l i h room key made = record {
   written = h.written;
   first = omega arith;
   next = omega (arith, room.next);
-  free = λ q e. ap (λ f. has q f) made ∙ ap (λ n. ltb 0 n) (count-with_new q l w.forest) ∙ grind (arith, key, e, h.free q (omega (arith, e)), eqb_tells l.key q);
+  free = λ q e. ap (λ f. has q f) made ∙ ap (λ n. ltb 0 n) (count-with_new q l w.forest)
+      ∙ grind (arith, key, e, h.free q (omega (arith, e)), eqb_tells l.key q);
   few = omega (arith, ap total made, total-with_new l w.forest, room.few);
 }

@@ -23,7 +23,8 @@ pub record IsMeasured (f : Forest) (deepest : ℕ) (at : Option (ℕ × ℕ)) (w
 -- ---- one key more
 
 -- the keys from one on are that one and those from the next one on
-left-step : (o : Option (ℕ × ℕ)) (f : Forest) (q : ℕ) → IfSome o (λ next. from f q ≡ q ∷ from f next.0) → IfNone o (from f q ≡ q ∷ []) → from f q ≡ q ∷ left_from f o
+left-step : (o : Option (ℕ × ℕ)) (f : Forest) (q : ℕ) → IfSome o (λ next. from f q ≡ q ∷ from f next.0) → IfNone o (from f q ≡ q ∷ [])
+    → from f q ≡ q ∷ left_from f o
 left-step None f q next last = last
 left-step (Some at) f q next last = next
 
@@ -34,7 +35,8 @@ at_next (Some at) f h = h
 max_more : (deepest d newest rest whole : ℕ) → newest ≡ max deepest d → max deepest (max d rest) ≡ whole → max newest rest ≡ whole
 max_more deepest d newest rest whole e h = omega (arith, e, h)
 
-measured_step : (o : Option (ℕ × ℕ)) (f : Forest) (deepest q d newest : ℕ) (whole : List ℕ) → IsMeasured f deepest (Some (q, d)) whole → newest ≡ max deepest d →
+measured_step : (o : Option (ℕ × ℕ)) (f : Forest) (deepest q d newest : ℕ) (whole : List ℕ) → IsMeasured f deepest (Some (q, d)) whole → newest ≡ max deepest d
+    →
     from f q ≡ q ∷ left_from f o → IfSome o (λ next. depth f next.0 ≡ Some next.1) → IsMeasured f newest o whole
 measured_step o f deepest q d newest whole m deeper step deep =
     record {
@@ -50,7 +52,8 @@ pub max_is : (a b : ℕ) → ord_max nat_cmp a b ≡ max a b
 max_is a b = search rules
 
 pub measured_more : (at o : Option (ℕ × ℕ)) (f : Forest) (deepest q d newest : ℕ) (whole : List ℕ) → IsMeasured f deepest at whole → newest ≡ max deepest d →
-    IfSome o (λ next. from f q ≡ q ∷ from f next.0) → IfNone o (from f q ≡ q ∷ []) → IfSome o (λ next. depth f next.0 ≡ Some next.1) → at ≡ Some (q, d) → IsMeasured f newest o whole
+    IfSome o (λ next. from f q ≡ q ∷ from f next.0) → IfNone o (from f q ≡ q ∷ []) → IfSome o (λ next. depth f next.0 ≡ Some next.1) → at ≡ Some (q, d)
+    → IsMeasured f newest o whole
 measured_more at o f deepest q d newest whole m deeper next last deep is =
     measured_step o f deepest q d newest whole (rw is at m) deeper (left-step o f q next last) deep
 

@@ -26,6 +26,7 @@ take_moves-apart parent index (Nodes keys) h = refl
 take_moves-apart parent index (Cells table a b) h = refl
 
 -- where no point counts the parent's children, taking one of them moves none
-pub no_points_taken : (above index : Option ℕ) (parent : ℕ) (s : Selection) → above ≡ Some parent → steps.has_point_counting parent s ≡ false → steps.take_points above index s ≡ s
+pub no_points_taken : (above index : Option ℕ) (parent : ℕ) (s : Selection) → above ≡ Some parent → steps.has_point_counting parent s ≡ false
+    → steps.take_points above index s ≡ s
 no_points_taken above None parent s e h = rw e refl
 no_points_taken above (Some index) parent s e h = rw e (take_moves-apart parent index s h)

@@ -29,7 +29,8 @@ record NoneOf (f : Forest) (k p index : ℕ) : Type 0 where
 
 none_of : (f : Forest) (k p index : ℕ) → put_fault k p index f ≡ None → NoneOf f k p index
 none_of f k p index e =
-    let a = both_none (unknown f k) (option_or (unknown f p) (option_or (bound_to f p k) (option_or (misfit (kind_of f p) (kind_of f k)) (beyond f p index)))) e in
+    let a = both_none (unknown f k) (option_or (unknown f p) (option_or (bound_to f p k) (option_or (misfit (kind_of f p) (kind_of f k)) (beyond f p index))))
+    e in
     let b = both_none (unknown f p) (option_or (bound_to f p k) (option_or (misfit (kind_of f p) (kind_of f k)) (beyond f p index))) a.1 in
     let c = both_none (bound_to f p k) (option_or (misfit (kind_of f p) (kind_of f k)) (beyond f p index)) b.1 in
     let d = both_none (misfit (kind_of f p) (kind_of f k)) (beyond f p index) c.1 in
@@ -53,7 +54,8 @@ put_within f k p index e = grind (arith, (none_of f k p index e).within)
 child_there : (f : Forest) (p b : ℕ) → IsForest f → is_among b (children_of f p) ≡ true → has b f ≡ true
 child_there f p b h among = grind (arith, among, is_among-children_of f b p h, is_named_tells (parent_of f b) p, no_parent f b)
 
-before_fits : (f : Forest) (p : ℕ) (before : Option ℕ) → IsForest f → ((b : ℕ) → before ≡ Some b → is_among b (children_of f p) ≡ true) → (unknown_before f before ≡ None) × (no_child f p before ≡ None)
+before_fits : (f : Forest) (p : ℕ) (before : Option ℕ) → IsForest f → ((b : ℕ) → before ≡ Some b → is_among b (children_of f p) ≡ true)
+    → (unknown_before f before ≡ None) × (no_child f p before ≡ None)
 before_fits f p None h child = (refl, refl)
 before_fits f p (Some b) h child = (grind (arith, child_there f p b h (child b refl)), grind (arith, child b refl))
 

@@ -52,7 +52,8 @@ listed_noted m q e = grind (arith, e)
 
 -- ---- up
 
-above-again : (n : ℕ) (f : Forest) (q : ℕ) (m : Marked) → IsForest f → IsRaised f m → is_noted m q ≡ true → length (ancestors f q) < n → mark_above (ancestors f q) m ≡ m
+above-again : (n : ℕ) (f : Forest) (q : ℕ) (m : Marked) → IsForest f → IsRaised f m → is_noted m q ≡ true → length (ancestors f q) < n
+    → mark_above (ancestors f q) m ≡ m
 above-again zero f q m h up noted short = absurd (omega (arith, short))
 above-again (suc n) f q m h up noted short = elim (cases_option (parent_of f q)) [
   | inl none ↦ ap (λ ks. mark_above ks m) (ancestors-top f q none)
@@ -64,7 +65,8 @@ above-again (suc n) f q m h up noted short = elim (cases_option (parent_of f q))
 ]
 
 -- the walk up may end where the parent is there
-pub above-met : (f : Forest) (q p : ℕ) (m : Marked) → Sound f → IsRaisedBut f q m → parent_of f q ≡ Some p → is_element_listed m p ≡ true → (mark_above (ancestors f q) m ≡ m) × IsRaised f m
+pub above-met : (f : Forest) (q p : ℕ) (m : Marked) → Sound f → IsRaisedBut f q m → parent_of f q ≡ Some p → is_element_listed m p ≡ true
+    → (mark_above (ancestors f q) m ≡ m) × IsRaised f m
 above-met f q p m s up some listed =
     let h : IsForest f = in_order f q p s some in
     let all : IsRaised f m = λ x y noted at. elim (cases_eq x q) [
@@ -99,14 +101,17 @@ above-more f q p m n up some e = subst (IsRaisedBut f p) (sym e) (λ x y noted o
 
 -- a node that is marked itself needs its parent there
 pub raised_itself : (f : Forest) (o : Option Kind) (k : ℕ) (m n : Marked) → IsRaisedBut f k m → n ≡ mark_itself o k m → IsRaisedBut f k n
-raised_itself f o k m n up e = subst (IsRaisedBut f k) (sym e) (λ x y noted other at. still o k m y (up x y (grind (arith, noted, noted-itself o k m x, eqb_tells x k, other)) other at)) where
-  still_by : (element : Bool) (k : ℕ) (m : Marked) (y : ℕ) → is_element_listed m y ≡ true → is_element_listed (cond element (with_marked k true m) (with_leaf k m)) y ≡ true
-  still_by true k m y e = listed-element k true m y ∙ grind (arith, e)
-  still_by false k m y e = listed_leaf k m y ∙ e
+raised_itself f o k m n up e =
+    subst (IsRaisedBut f k) (sym e) (λ x y noted other at. still o k m y (up x y (grind (arith, noted, noted-itself o k m x, eqb_tells x k, other)) other at))
+  where
+    still_by : (element : Bool) (k : ℕ) (m : Marked) (y : ℕ) → is_element_listed m y ≡ true
+        → is_element_listed (cond element (with_marked k true m) (with_leaf k m)) y ≡ true
+    still_by true k m y e = listed-element k true m y ∙ grind (arith, e)
+    still_by false k m y e = listed_leaf k m y ∙ e
 
-  still : (o : Option Kind) (k : ℕ) (m : Marked) (y : ℕ) → is_element_listed m y ≡ true → is_element_listed (mark_itself o k m) y ≡ true
-  still None k m y e = e
-  still (Some kind) k m y e = still_by (is_element kind) k m y e
+    still : (o : Option Kind) (k : ℕ) (m : Marked) (y : ℕ) → is_element_listed m y ≡ true → is_element_listed (mark_itself o k m) y ≡ true
+    still None k m y e = e
+    still (Some kind) k m y e = still_by (is_element kind) k m y e
 
 -- ---- after each edit of the forest
 
@@ -124,10 +129,13 @@ pub raised-take_out : (k : ℕ) (f : Forest) (m : Marked) → IsForest f → IsR
 raised-take_out k f m h up = λ x y noted at. up x y noted (some_else (eqb x k) (parent_of f x) y (sym (parent_of-take_out k f x h) ∙ at))
 
 -- a put key may be marked already, and its parent not
-pub raised-put_in : (p : ℕ) (before : Option ℕ) (k : ℕ) (f : Forest) (m : Marked) → IsForest f → CanPut p k f → IsRaised f m → IsRaisedBut (put_in p before k f) k m
-raised-put_in p before k f m h c up = λ x y noted other at. up x y noted (ap (λ b. cond b (Some p) (parent_of f x)) (sym (elsewhere x other)) ∙ sym (parent_of-put_in p before k f x h c) ∙ at) where
-  elsewhere : (x : ℕ) → x ≢ k → eqb x k ≡ false
-  elsewhere x other = grind (arith, eqb_tells x k, other)
+pub raised-put_in : (p : ℕ) (before : Option ℕ) (k : ℕ) (f : Forest) (m : Marked) → IsForest f → CanPut p k f → IsRaised f m
+    → IsRaisedBut (put_in p before k f) k m
+raised-put_in p before k f m h c up =
+    λ x y noted other at. up x y noted (ap (λ b. cond b (Some p) (parent_of f x)) (sym (elsewhere x other)) ∙ sym (parent_of-put_in p before k f x h c) ∙ at)
+  where
+    elsewhere : (x : ℕ) → x ≢ k → eqb x k ≡ false
+    elsewhere x other = grind (arith, eqb_tells x k, other)
 
 some_where : (b : Bool) (o : Option ℕ) (y : ℕ) → cond b o None ≡ Some y → o ≡ Some y
 some_where true o y e = e

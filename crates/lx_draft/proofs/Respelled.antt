@@ -28,7 +28,8 @@ parts_of_text : (k : Kind) (x : Fields) (t : TextFields) → text_fields k x ≡
 parts_of_text kind.Text (fields.Text u) t e = (refl, cc)
 parts_of_text k x t e = (cc, cc)
 
-text_told : (o : Option Label) (t : TextFields) → text_in o ≡ Some t → (option_map (λ l. l.kind) o ≡ Some kind.Text) × (option_map (λ l. l.fields) o ≡ Some (fields.Text t))
+text_told : (o : Option Label) (t : TextFields) → text_in o ≡ Some t
+    → (option_map (λ l. l.kind) o ≡ Some kind.Text) × (option_map (λ l. l.fields) o ≡ Some (fields.Text t))
 text_told None t e = (cc, cc)
 text_told (Some l) t e = parts_of_text l.kind l.fields t e
 
@@ -42,7 +43,8 @@ pub placed_cut : (k : ℕ) (piece : Piece) (f : Forest) (t : TextFields) → IsP
     → Cuts piece.front piece.bytes (front_of piece.from t.text) (slice_of piece.from piece.to t.text) (rest_of piece.to t.text) t.text
 placed_cut k piece f t h e =
     let same : h.text ≡ t = some_same (sym h.text_is ∙ e) in
-    subst (λ (u : TextFields). Cuts piece.front piece.bytes (front_of piece.from u.text) (slice_of piece.from piece.to u.text) (rest_of piece.to u.text) u.text) same h.cut where
+    subst (λ (u : TextFields). Cuts piece.front piece.bytes (front_of piece.from u.text) (slice_of piece.from piece.to u.text) (rest_of piece.to u.text) u.text)
+    same h.cut where
       some_same : {a b : TextFields} → Some a ≡ Some b → a ≡ b
       some_same e = cc
 
@@ -56,12 +58,15 @@ replaced : (k : ℕ) (piece : Piece) (new : List ℕ) (f g : Forest) → IsPlace
     → g ≡ with_fields k (label_with_piece (label_of f k) piece.from piece.to new) f
 unfolding spliced_text
 replaced k piece new f g h made =
-    made h.text (front_of piece.from h.text.text) (slice_of piece.from piece.to h.text.text) (rest_of piece.to h.text.text) ((text_told (label_of f k) h.text h.text_is).1) h.cut
+    made h.text (front_of piece.from h.text.text) (slice_of piece.from piece.to h.text.text) (rest_of piece.to h.text.text)
+    ((text_told (label_of f k) h.text h.text_is).1) h.cut
     ∙ ap (λ x. with_fields k x f) (sym (ap (λ o. with_piece o piece.from piece.to new) h.text_is))
 
 pub replaced_ok : {T E : Type 0} (r : Result T E) (k : ℕ) (piece : Piece) (new : List ℕ) (w : Working) (g : Forest) → IsPlaced k piece w.forest
     → OnOk r (IsSpliced k piece new w.forest g)
-    → OnOk r (◌≡◌ {A = Working} (record w { forest = g }) (record w { forest = with_fields k (label_with_piece (label_of w.forest k) piece.from piece.to new) w.forest }))
+    → OnOk r
+    (◌≡◌ {A = Working} (record w { forest = g })
+    (record w { forest = with_fields k (label_with_piece (label_of w.forest k) piece.from piece.to new) w.forest }))
 replaced_ok (Ok x) k piece new w g h made = ap (λ f. record w { forest = f }) (replaced k piece new w.forest g h made)
 replaced_ok (Err e) k piece new w g h made = tt
 
@@ -94,4 +99,5 @@ unfolding spliced_text
 differ_by_piece k piece new f t h e =
     ap (λ o. differ o (label_with_piece (label_of f k) piece.from piece.to new)) ((text_told (label_of f k) t e).1)
     ∙ ap (λ o. not (same_fields (fields.Text t) (with_piece o piece.from piece.to new))) e
-    ∙ ap not (same_piece t (front_of piece.from t.text) (slice_of piece.from piece.to t.text) (rest_of piece.to t.text) new ((placed_cut k piece f t h e).whole))
+    ∙ ap not
+    (same_piece t (front_of piece.from t.text) (slice_of piece.from piece.to t.text) (rest_of piece.to t.text) new ((placed_cut k piece f t h e).whole))

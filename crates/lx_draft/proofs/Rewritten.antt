@@ -16,4 +16,5 @@ rewritten-none w =
 
 pub rewritten-more : (nodes characters n m : ℕ) (w : Working) → rewritten n m (rewritten nodes characters w) ≡ rewritten (nodes + n) (characters + m) w
 rewritten-more nodes characters n m w =
-    same_counts w (w.counted + nodes + n) (w.edits + nodes + n) (w.written + characters + m) (w.counted + (nodes + n)) (w.edits + (nodes + n)) (w.written + (characters + m)) (omega arith) (omega arith) (omega arith)
+    same_counts w (w.counted + nodes + n) (w.edits + nodes + n) (w.written + characters + m) (w.counted + (nodes + n)) (w.edits + (nodes + n))
+    (w.written + (characters + m)) (omega arith) (omega arith) (omega arith)

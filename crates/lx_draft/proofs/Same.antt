@@ -49,12 +49,15 @@ by_not true e = refl
 by_not false e = absurd (cc)
 
 -- a write of equal fields takes its count, and what it writes, and nothing else
-pub written_again : (k : ℕ) (fields : Fields) (more : ℕ) (w : Working) → IsForest w.forest → set_fault k fields w.forest ≡ None → differ (fields_of w.forest k) fields ≡ false
+pub written_again : (k : ℕ) (fields : Fields) (more : ℕ) (w : Working) → IsForest w.forest → set_fault k fields w.forest ≡ None
+    → differ (fields_of w.forest k) fields ≡ false
     → fields_written k fields more (λ s. s) w ≡ wrote more w
 written_again k fields more w h fine e = by_spot (spot w.forest k) refl where
   by_spot : (o : Option (Spot Label)) → spot w.forest k ≡ o → fields_written k fields more (λ s. s) w ≡ wrote more w
   by_spot None is = absurd (grind (arith, is, is_some-spot w.forest k, not_gone k fields w.forest fine))
   by_spot (Some s) is =
-      let found : fields_of w.forest k ≡ Some s.label.fields = ap (λ (o : Option (Spot Label)). option_map (λ (l : Label). l.fields) (option_map (λ (t : Spot Label). t.label) o)) is in
-      let same : s.label.fields ≡ fields = (same_fields-Decides s.label.fields fields).0 (by_not (same_fields s.label.fields fields) (ap (λ o. differ o fields) (sym found) ∙ e)) in
+      let found : fields_of w.forest k ≡ Some s.label.fields =
+      ap (λ (o : Option (Spot Label)). option_map (λ (l : Label). l.fields) (option_map (λ (t : Spot Label). t.label) o)) is in
+      let same : s.label.fields ≡ fields =
+      (same_fields-Decides s.label.fields fields).0 (by_not (same_fields s.label.fields fields) (ap (λ o. differ o fields) (sym found) ∙ e)) in
       let stays : with_fields k fields w.forest ≡ w.forest = with_fields-same k fields w.forest h (found ∙ ap Some same) in cc

@@ -30,7 +30,8 @@ unknown_without f k e from to = go (spot f k) refl e where
   go (Some s) here e = absurd (grind (arith, here, e))
 
 -- where it isn't a text, its kind is the wrong one
-pub no_text : (f : Forest) (k : ℕ) (n : Node) → option_map node_of (record_at f k) ≡ Some n → text_fields n.kind n.fields ≡ None → (from to : ℕ) → splice_fault k from to f ≡ Some (WrongKind n.kind)
+pub no_text : (f : Forest) (k : ℕ) (n : Node) → option_map node_of (record_at f k) ≡ Some n → text_fields n.kind n.fields ≡ None → (from to : ℕ)
+    → splice_fault k from to f ≡ Some (WrongKind n.kind)
 no_text f k n e none from to = go (spot f k) refl e where
   go : (o : Option (Spot Label)) → spot f k ≡ o → option_map node_of (record_at f k) ≡ Some n → splice_fault k from to f ≡ Some (WrongKind n.kind)
   go None here e = absurd (grind (arith, here, e))
@@ -44,15 +45,18 @@ known_with_label f k l e = grind (arith, e, is_some-spot f k)
 
 -- ---- by the label
 
-fault_by : (f : Forest) (k : ℕ) (o : Option Label) (t : TextFields) (from to : ℕ) → label_of f k ≡ o → text_in o ≡ Some t → splice_fault k from to f ≡ slice_fault t.text from to
+fault_by : (f : Forest) (k : ℕ) (o : Option Label) (t : TextFields) (from to : ℕ) → label_of f k ≡ o → text_in o ≡ Some t
+    → splice_fault k from to f ≡ slice_fault t.text from to
 fault_by f k None t from to e here = absurd (grind (arith, here))
 fault_by f k (Some l) t from to e here = rw (known_with_label f k l e, e, here) refl
 
 -- of a text only the piece can be refused
-pub fault_of_text : (f : Forest) (k : ℕ) (t : TextFields) (from to : ℕ) → text_in (label_of f k) ≡ Some t → splice_fault k from to f ≡ slice_fault t.text from to
+pub fault_of_text : (f : Forest) (k : ℕ) (t : TextFields) (from to : ℕ) → text_in (label_of f k) ≡ Some t
+    → splice_fault k from to f ≡ slice_fault t.text from to
 fault_of_text f k t from to here = fault_by f k (label_of f k) t from to refl here
 
 -- what an error of the text's own call says
-pub piece_refused : (f : Forest) (k : ℕ) (t : TextFields) (from to : ℕ) (fault : Fault) → text_in (label_of f k) ≡ Some t → TellsFirst (slice_fault t.text from to) fault → TellsFault fault (splice_fault k from to f)
+pub piece_refused : (f : Forest) (k : ℕ) (t : TextFields) (from to : ℕ) (fault : Fault) → text_in (label_of f k) ≡ Some t
+    → TellsFirst (slice_fault t.text from to) fault → TellsFault fault (splice_fault k from to f)
 piece_refused f k t from to (the_fault.Cause cause) here told = fault_of_text f k t from to here ∙ told
 piece_refused f k t from to the_fault.Memory here told = tt

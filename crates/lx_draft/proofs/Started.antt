@@ -44,7 +44,8 @@ drafted_start f s next_key h m = record {
   moved = moved-none most_depth f h m.whole (λ q d at deep. absurd (omega (arith, m.shallow q d at, deep)));
 }
 
-pub drafted_as : (old f : Forest) (s : Selection) (next_key : ℕ) (marks fresh loose : Marked) → f ≡ old → old ≢ nil → Sound old → MayStart old next_key → marks ≡ unmarked → fresh ≡ unmarked → loose ≡ unmarked
+pub drafted_as : (old f : Forest) (s : Selection) (next_key : ℕ) (marks fresh loose : Marked) → f ≡ old → old ≢ nil → Sound old → MayStart old next_key
+    → marks ≡ unmarked → fresh ≡ unmarked → loose ≡ unmarked
     → IsDrafted (record { forest = f; selection = s; next_key = next_key; marks = marks; fresh = fresh; counted = 0; edits = 0; written = 0 }) loose.leaves
 drafted_as old f s next_key marks fresh loose same living sound may a b c =
     rw (same, a, b, c) (drafted_start old s next_key (sound.in_order living) may)

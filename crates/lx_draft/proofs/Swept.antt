@@ -46,19 +46,23 @@ working_swept w h i =
       few = omega (arith, i.few, total-drop_detached-le w.forest);
     }
 
-pub drafted_swept : (v w : Working) (ks : List ℕ) (f : Forest) → w ≡ v → Sound v.forest → v.forest ≢ nil → IsDrafted w ks → f ≡ drop_detached w.forest → IsDrafted (record w { forest = f }) ks
+pub drafted_swept : (v w : Working) (ks : List ℕ) (f : Forest) → w ≡ v → Sound v.forest → v.forest ≢ nil → IsDrafted w ks → f ≡ drop_detached w.forest
+    → IsDrafted (record w { forest = f }) ks
 drafted_swept v w ks f same sound living i e =
     let in_order : IsForest w.forest = subst (λ (u : Working). IsForest u.forest) (sym same) (sound.in_order living) in
-    subst (λ g. IsDrafted (record w { forest = g }) ks) (sym e) (record { working = working_swept w in_order i.working; moved = moved-drop_detached most_depth w.forest ks in_order i.moved; raised = raised-drop_detached w.forest w.marks in_order i.raised; raised_fresh = raised-drop_detached w.forest w.fresh in_order i.raised_fresh })
+    subst (λ g. IsDrafted (record w { forest = g }) ks) (sym e)
+    (record { working = working_swept w in_order i.working; moved = moved-drop_detached most_depth w.forest ks in_order i.moved; raised = raised-drop_detached w.forest w.marks in_order i.raised; raised_fresh = raised-drop_detached w.forest w.fresh in_order i.raised_fresh })
 
 -- what is left of the forest after a sweep
-pub swept_whole : {E : Type 0} (r : Result Unit E) (v w new : Working) (f : Forest) → Sound v.forest → v.forest ≢ nil → f ≡ drop_detached v.forest → w.forest ≡ f → OnOk r (new ≡ w) → OnOk r (drop_detached new.forest ≡ new.forest)
+pub swept_whole : {E : Type 0} (r : Result Unit E) (v w new : Working) (f : Forest) → Sound v.forest → v.forest ≢ nil → f ≡ drop_detached v.forest
+    → w.forest ≡ f → OnOk r (new ≡ w) → OnOk r (drop_detached new.forest ≡ new.forest)
 swept_whole (Err e) v w new f sound living dropped same kept = tt
 swept_whole (Ok u) v w new f sound living dropped same kept =
     let all : new.forest ≡ drop_detached v.forest = ap (λ (x : Working). x.forest) kept ∙ same ∙ dropped in
     subst (λ x. drop_detached x ≡ x) (sym all) (drop_detached-twice v.forest (sound.in_order living))
 
-pub swept_in_order : {E : Type 0} (r : Result Unit E) (v w new : Working) (f : Forest) → Sound v.forest → v.forest ≢ nil → f ≡ drop_detached v.forest → w.forest ≡ f → OnOk r (new ≡ w) → OnOk r (IsForest new.forest)
+pub swept_in_order : {E : Type 0} (r : Result Unit E) (v w new : Working) (f : Forest) → Sound v.forest → v.forest ≢ nil → f ≡ drop_detached v.forest
+    → w.forest ≡ f → OnOk r (new ≡ w) → OnOk r (IsForest new.forest)
 swept_in_order (Err e) v w new f sound living dropped same kept = tt
 swept_in_order (Ok u) v w new f sound living dropped same kept =
     subst IsForest (sym (ap (λ (x : Working). x.forest) kept ∙ same ∙ dropped)) (IsForest-drop_detached v.forest (sound.in_order living))
@@ -89,5 +93,7 @@ may_start w i h same none =
       free = i.free;
       few = within Nodes most_nodes (total w.forest) (omega arith) (none_first (over Nodes most_nodes (total w.forest)) _ wide);
       whole = λ q there. whole_of w.forest q h same there;
-      shallow = λ q d at. omega (arith, le-tree_depth w.forest q d at, within Depth most_depth (tree_depth w.forest) (omega arith) (none_first (over Depth most_depth (tree_depth w.forest)) _ limits));
+      shallow =
+          λ q d at. omega
+          (arith, le-tree_depth w.forest q d at, within Depth most_depth (tree_depth w.forest) (omega arith) (none_first (over Depth most_depth (tree_depth w.forest)) _ limits));
     }

@@ -24,7 +24,8 @@ answered None a v e = cc
 answered (Some cause) a v e = cc
 
 -- the two parts of a step after another
-pub first_part : (r : Result Working Cause) (next : Working → Result Working Cause) (v : Working) → after r next ≡ Ok v → (mid : Working) × (r ≡ Ok mid) × (next mid ≡ Ok v)
+pub first_part : (r : Result Working Cause) (next : Working → Result Working Cause) (v : Working) → after r next ≡ Ok v
+    → (mid : Working) × (r ≡ Ok mid) × (next mid ≡ Ok v)
 first_part (Ok mid) next v e = (mid, refl, e)
 first_part (Err cause) next v e = absurd (cc)
 
@@ -78,7 +79,8 @@ removed_from None w = Ok w
 removed_from (Some k) w = remove_step k w
 
 -- above the parent, nothing changes as a node is taken
-above_same : (k p : ℕ) (w v : Working) → IsForest w.forest → parent_of w.forest k ≡ Some p → take_step k (sent_away k w) ≡ Ok v → ancestors v.forest p ≡ ancestors w.forest p
+above_same : (k p : ℕ) (w v : Working) → IsForest w.forest → parent_of w.forest k ≡ Some p → take_step k (sent_away k w) ≡ Ok v
+    → ancestors v.forest p ≡ ancestors w.forest p
 above_same k p w v order below taken =
     ap (λ f. ancestors f p) (taken-forest k (sent_away k w) v taken ∙ ap (take_out k) (sent_away-forest k w))
     ∙ ancestors-take_out_outside k w.forest p order (is_within-parent w.forest k p order below)
@@ -104,7 +106,8 @@ unfolding remove_step
 step_top k w v top taken = sym (ap (λ above. removed k above w) (ancestors-top w.forest k top) ∙ taken)
 
 -- a node was taken out: the rest is what its parent asks for
-pub climbed : (k : ℕ) (w v : Working) (next : Option ℕ) → IsForest w.forest → take_step k (sent_away k w) ≡ Ok v → next ≡ goes_next (kind_of w.forest k) v.forest (parent_of w.forest k)
+pub climbed : (k : ℕ) (w v : Working) (next : Option ℕ) → IsForest w.forest → take_step k (sent_away k w) ≡ Ok v
+    → next ≡ goes_next (kind_of w.forest k) v.forest (parent_of w.forest k)
     → removed_from next v ≡ remove_step k w
 climbed k w v next order taken is =
     ap (λ n. removed_from n v) is
@@ -123,5 +126,6 @@ unfolding remove_step
 climb_refused k w cause e = climb_refused_by k (ancestors w.forest k) w cause e
 
 -- ... and so is all of it
-pub climb_told : (k : ℕ) (w : Working) {fault : Fault} {new : Working} (all : Result Working Cause) → remove_step k w ≡ all → Refuses (take_step k (sent_away k w)) fault new → Refuses all fault new
+pub climb_told : (k : ℕ) (w : Working) {fault : Fault} {new : Working} (all : Result Working Cause) → remove_step k w ≡ all
+    → Refuses (take_step k (sent_away k w)) fault new → Refuses all fault new
 climb_told k w all same refused = refuses_all (λ cause told. sym same ∙ climb_refused k w cause told) refused

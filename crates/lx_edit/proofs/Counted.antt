@@ -30,7 +30,8 @@ marked-counted : (b : Bool) (f : Forest) (k : ℕ) (w : Working) → (marked_if 
 marked-counted true f k w = refl
 marked-counted false f k w = refl
 
-refielded-counted : (k : ℕ) (fields : Fields) (more : ℕ) (moved : Selection → Selection) (w : Working) → (fields_written k fields more moved w).counted ≡ w.counted + 1
+refielded-counted : (k : ℕ) (fields : Fields) (more : ℕ) (moved : Selection → Selection) (w : Working)
+    → (fields_written k fields more moved w).counted ≡ w.counted + 1
 refielded-counted k fields more moved w = marked-counted (differ (fields_of w.forest k) fields) w.forest k _
 
 set-counted : (k : ℕ) (fields : Fields) (w v : Working) → set_step k fields w ≡ Ok v → v.counted ≡ w.counted + 1

@@ -46,7 +46,8 @@ under_of : (f : Forest) (rs : List ℕ) (k q : ℕ) → is_among k rs ≡ true �
 under_of f [] k q among e = absurd (cc)
 under_of f (r ∷ rs) k q among e = grind (arith, e, among, eqb_tells r k, under_of f rs k q)
 
-under-with_new : (l : Label) (f : Forest) (rs : List ℕ) (q : ℕ) → has l.key f ≡ false → is_under (with_new l f) rs q ≡ true → (is_under f rs q || eqb q l.key) ≡ true
+under-with_new : (l : Label) (f : Forest) (rs : List ℕ) (q : ℕ) → has l.key f ≡ false → is_under (with_new l f) rs q ≡ true
+    → (is_under f rs q || eqb q l.key) ≡ true
 under-with_new l f [] q free e = absurd (cc)
 under-with_new l f (r ∷ rs) q free e = grind (arith, e, is_within-with_new l f r q free, under-with_new l f rs q free)
 
@@ -58,7 +59,8 @@ under-take_out : (k : ℕ) (f : Forest) (rs : List ℕ) (q : ℕ) → IsForest f
 under-take_out k f [] q h e = e
 under-take_out k f (r ∷ rs) q h e = grind (arith, e, is_within-take_out k f r q h, under-take_out k f rs q h)
 
-under-put_in : (p : ℕ) (before : Option ℕ) (k : ℕ) (f : Forest) (rs : List ℕ) (q : ℕ) → IsForest f → CanPut p k f → is_under (put_in p before k f) rs q ≡ true → (is_under f rs q || is_within f k q) ≡ true
+under-put_in : (p : ℕ) (before : Option ℕ) (k : ℕ) (f : Forest) (rs : List ℕ) (q : ℕ) → IsForest f → CanPut p k f → is_under (put_in p before k f) rs q ≡ true
+    → (is_under f rs q || is_within f k q) ≡ true
 under-put_in p before k f [] q h c e = absurd (cc)
 under-put_in p before k f (r ∷ rs) q h c e = grind (arith, e, is_within-put_in p before k f r q h c, under-put_in p before k f rs q h c)
 
@@ -67,7 +69,8 @@ under-put_in p before k f (r ∷ rs) q h c e = grind (arith, e, is_within-put_in
 homed_selected : (rs : List ℕ) (w : Working) (s : Selection) → IsReady w → IsHomed rs w (record w { selection = s })
 homed_selected rs w s r = record { covered = covered-pointed w s r; home = λ q e. inl e }
 
-new_home : (l : Label) (f : Forest) (under : Bool) (old new : Marked) (q : ℕ) → is_touched new q ≡ (is_touched old q || (is_among q (l.key ∷ []) && has q (with_new l f))) → (under || eqb q l.key) ≡ true
+new_home : (l : Label) (f : Forest) (under : Bool) (old new : Marked) (q : ℕ)
+    → is_touched new q ≡ (is_touched old q || (is_among q (l.key ∷ []) && has q (with_new l f))) → (under || eqb q l.key) ≡ true
     → (under ≡ true) ⊎ (is_touched new q ≡ true)
 new_home l f under old new q told e =
     elim (eqb_tells q l.key) [
@@ -83,11 +86,13 @@ homed_made rs kind fields w v r c is =
     let fresh : v.fresh ≡ mark_nodes f (w.next_key ∷ []) w.fresh = ap (λ (x : Working). x.fresh) (sym is) in
     record {
       covered = c;
-      home = λ q e. new_home l w.forest (is_under w.forest rs q) w.fresh v.fresh q (ap (λ n. is_touched n q) fresh ∙ touched-nodes f (w.next_key ∷ []) w.fresh q)
+      home = λ q e. new_home l w.forest (is_under w.forest rs q) w.fresh v.fresh q
+          (ap (λ n. is_touched n q) fresh ∙ touched-nodes f (w.next_key ∷ []) w.fresh q)
           (under-with_new l w.forest rs q free (ap (λ (x : Working). is_under x.forest rs q) is ∙ e));
     }
 
-homed_refielded : (rs : List ℕ) (k : ℕ) (fields : Fields) (more : ℕ) (moved : Selection → Selection) (w v : Working) → AreCovered w v → fields_written k fields more moved w ≡ v → IsHomed rs w v
+homed_refielded : (rs : List ℕ) (k : ℕ) (fields : Fields) (more : ℕ) (moved : Selection → Selection) (w v : Working) → AreCovered w v
+    → fields_written k fields more moved w ≡ v → IsHomed rs w v
 homed_refielded rs k fields more moved w v c is = record {
   covered = c;
   home = λ q e. inl (sym (under-with_fields k fields w.forest rs q) ∙ ap (λ (x : Working). is_under x.forest rs q) is ∙ e);
@@ -99,13 +104,16 @@ homed_taken rs k w v r c is = record {
   home = λ q e. inl (under-take_out k w.forest rs q r.in_order (ap (λ (x : Working). is_under x.forest rs q) is ∙ e));
 }
 
-homed_placed : (rs : List ℕ) (k p index : ℕ) (w v : Working) → is_among k rs ≡ true → IsReady w → AreCovered w v → put_fault k p index w.forest ≡ None → node_placed k p index w ≡ v → IsHomed rs w v
+homed_placed : (rs : List ℕ) (k p index : ℕ) (w v : Working) → is_among k rs ≡ true → IsReady w → AreCovered w v → put_fault k p index w.forest ≡ None
+    → node_placed k p index w ≡ v → IsHomed rs w v
 homed_placed rs k p index w v among r c none is =
     let before : Option ℕ = slice_get (children_of w.forest p) index in
     let can = can_put w.forest k p index none in
     record {
       covered = c;
-      home = λ q e. inl (or_within (is_under w.forest rs q) (is_within w.forest k q) (under_of w.forest rs k q among) (under-put_in p before k w.forest rs q r.in_order can (ap (λ (x : Working). is_under x.forest rs q) is ∙ e)));
+      home = λ q e. inl
+          (or_within (is_under w.forest rs q) (is_within w.forest k q) (under_of w.forest rs k q among)
+          (under-put_in p before k w.forest rs q r.in_order can (ap (λ (x : Working). is_under x.forest rs q) is ∙ e)));
     } where
       or_within : (a b : Bool) → (b ≡ true → a ≡ true) → (a || b) ≡ true → a ≡ true
       or_within true b f e = refl
@@ -119,14 +127,16 @@ step_set : (rs : List ℕ) (k : ℕ) (fields : Fields) (w v : Working) → IsRea
 unfolding set_step
 step_set rs k fields w v r c e =
     homed_refielded rs k fields (characters_of fields) (set_points k fields) w v c
-    ((answered (option_or (set_fault k fields w.forest) (over_limits (characters_of fields) w)) (fields_written k fields (characters_of fields) (set_points k fields) w) v e).1)
+    ((answered (option_or (set_fault k fields w.forest) (over_limits (characters_of fields) w))
+    (fields_written k fields (characters_of fields) (set_points k fields) w) v e).1)
 
 step_splice : (rs : List ℕ) (k from to : ℕ) (new : List ℕ) (w v : Working) → IsReady w → AreCovered w v → splice_step k from to new w ≡ Ok v → IsHomed rs w v
 unfolding splice_step
 step_splice rs k from to new w v r c e =
     let fields : Fields = label_with_piece (label_of w.forest k) from to new in
     homed_refielded rs k fields (length new) (splice_points k from to new) w v c
-    ((answered (option_or (splice_fault k from to w.forest) (over_limits (length new) w)) (fields_written k fields (length new) (splice_points k from to new) w) v e).1)
+    ((answered (option_or (splice_fault k from to w.forest) (over_limits (length new) w)) (fields_written k fields (length new) (splice_points k from to new) w)
+    v e).1)
 
 step_take : (rs : List ℕ) (k : ℕ) (w v : Working) → IsReady w → AreCovered w v → take_step k w ≡ Ok v → IsHomed rs w v
 unfolding take_step
@@ -169,7 +179,8 @@ under-append f [] ks q = refl
 under-append f (r ∷ rs) ks q = grind (arith, under-append f rs ks q)
 
 -- keys whose trees were in those of others say no more than these
-pub homed_fewer : (rs ks : List ℕ) (w v : Working) → ((q : ℕ) → is_under w.forest ks q ≡ true → is_under w.forest rs q ≡ true) → IsHomed (rs ++ ks) w v → IsHomed rs w v
+pub homed_fewer : (rs ks : List ℕ) (w v : Working) → ((q : ℕ) → is_under w.forest ks q ≡ true → is_under w.forest rs q ≡ true) → IsHomed (rs ++ ks) w v
+    → IsHomed rs w v
 homed_fewer rs ks w v inside a = record {
   covered = a.covered;
   home = λ q e. elim (a.home q (under-append v.forest rs ks q ∙ grind (arith, e))) [
@@ -186,7 +197,8 @@ under-trans : (f : Forest) (rs : List ℕ) (k q : ℕ) → IsForest f → is_und
 under-trans f [] k q h e within = absurd (cc)
 under-trans f (r ∷ rs) k q h e within = grind (arith, e, within, is_within-trans f r k q h, under-trans f rs k q h)
 
-pub under_all : (f : Forest) (rs ks : List ℕ) (q : ℕ) → IsForest f → ((k : ℕ) → is_among k ks ≡ true → is_under f rs k ≡ true) → is_under f ks q ≡ true → is_under f rs q ≡ true
+pub under_all : (f : Forest) (rs ks : List ℕ) (q : ℕ) → IsForest f → ((k : ℕ) → is_among k ks ≡ true → is_under f rs k ≡ true) → is_under f ks q ≡ true
+    → is_under f rs q ≡ true
 under_all f rs [] q h all e = absurd (cc)
 under_all f rs (k ∷ ks) q h all e =
     elim (cases_Bool (is_within f k q)) [

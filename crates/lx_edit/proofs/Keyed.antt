@@ -46,10 +46,12 @@ behind-next_key k other w v e = behind_at-next_key k other (parent_of w.forest o
 tail-next_key : (k offset : ℕ) (w v : Working) → tail_made k offset w ≡ Ok v → v.next_key ≡ w.next_key + 1
 unfolding tail_made
 tail-next_key k offset w v e =
-    let a = first_part (answer (splice_fault k offset (length_at w.forest k) w.forest) w) (λ x. after (new_step Text (tail_of x.forest k offset) x) (λ made. Ok (pointed (split_moves k offset x.next_key) made))) v e in
+    let a = first_part (answer (splice_fault k offset (length_at w.forest k) w.forest) w)
+    (λ x. after (new_step Text (tail_of x.forest k offset) x) (λ made. Ok (pointed (split_moves k offset x.next_key) made))) v e in
     let b = first_part (new_step Text (tail_of a.0.forest k offset) a.0) (λ made. Ok (pointed (split_moves k offset a.0.next_key) made)) v a.2 in
     let same : a.0 ≡ w = answered (splice_fault k offset (length_at w.forest k) w.forest) w a.0 a.1 in
-    let made : pointed (split_moves k offset a.0.next_key) b.0 ≡ v = let f : ◌≡◌ {A = Result Working Cause} (Ok (pointed (split_moves k offset a.0.next_key) b.0)) (Ok v) = b.2 in cc in
+    let made : pointed (split_moves k offset a.0.next_key) b.0 ≡ v =
+    let f : ◌≡◌ {A = Result Working Cause} (Ok (pointed (split_moves k offset a.0.next_key) b.0)) (Ok v) = b.2 in cc in
     ap (λ (x : Working). x.next_key) (sym made) ∙ new-next_key Text (tail_of a.0.forest k offset) a.0 b.0 b.1 ∙ ap (λ (x : Working). x.next_key + 1) same
 
 pub cut-next_key : (k offset : ℕ) (w v : Working) → cut_in_two k offset w ≡ Ok v → v.next_key ≡ w.next_key + 1

@@ -33,7 +33,8 @@ tail_fault f k t offset found =
     fault_of_text f k t offset (length_at f k) found ∙ ap (λ o. slice_fault t.text offset (length_in o)) found
 
 -- and an error of the text's own call says that
-pub tail_refused : (f : Forest) (k : ℕ) (t : TextFields) (offset : ℕ) (fault : Fault) → text_in (label_of f k) ≡ Some t → TellsFirst (slice_fault t.text offset (length_told t.text)) fault
+pub tail_refused : (f : Forest) (k : ℕ) (t : TextFields) (offset : ℕ) (fault : Fault) → text_in (label_of f k) ≡ Some t
+    → TellsFirst (slice_fault t.text offset (length_told t.text)) fault
     → TellsFault fault (splice_fault k offset (length_at f k) f)
 tail_refused f k t offset fault found told =
     subst (λ n. TellsFault fault (splice_fault k offset n f)) (sym (ap length_in found)) (piece_refused f k t offset (length_told t.text) fault found told)

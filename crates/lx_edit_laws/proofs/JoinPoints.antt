@@ -60,7 +60,8 @@ module _ (first second : ℕ) (w v : Working) (h : IsForest w.forest) (j : AreJo
   unfolding moved
   on_first x own within =
       let end : ℕ = length_at w.forest first in
-      ap (λ y. take_moves j.place.parent j.place.index (join_moves first end second y)) (splice_moves-front first end end (length_told (text_at w.forest second)) x (subst (λ k. x.offset ≤ length_at w.forest k) own within))
+      ap (λ y. take_moves j.place.parent j.place.index (join_moves first end second y))
+      (splice_moves-front first end end (length_told (text_at w.forest second)) x (subst (λ k. x.offset ≤ length_at w.forest k) own within))
       ∙ ap (take_moves j.place.parent j.place.index) (join_stays first end second x (λ same. j.place.apart (sym own ∙ same)))
       ∙ take_stays j.place.parent j.place.index x (inr (λ same. apart_parent (sym own ∙ same)))
 
@@ -68,7 +69,8 @@ module _ (first second : ℕ) (w v : Working) (h : IsForest w.forest) (j : AreJo
   unfolding moved
   on_second x own =
       let end : ℕ = length_at w.forest first in
-      ap (λ y. take_moves j.place.parent j.place.index (join_moves first end second y)) (splice_moves-other first end end (length_told (text_at w.forest second)) x (λ same. j.place.apart (sym same ∙ own)))
+      ap (λ y. take_moves j.place.parent j.place.index (join_moves first end second y))
+      (splice_moves-other first end end (length_told (text_at w.forest second)) x (λ same. j.place.apart (sym same ∙ own)))
       ∙ ap (take_moves j.place.parent j.place.index) (join_brings first end second x own)
       ∙ take_stays j.place.parent j.place.index (record x { key = first; offset = offset_sum end x.offset }) (inr apart_parent)
 
@@ -77,17 +79,20 @@ module _ (first second : ℕ) (w v : Working) (h : IsForest w.forest) (j : AreJo
   on_others x text outside =
       let end : ℕ = length_at w.forest first in
       let far = neither x.key first second (λ among. absurd (grind (arith, among, outside))) in
-      ap (λ y. take_moves j.place.parent j.place.index (join_moves first end second y)) (splice_moves-other first end end (length_told (text_at w.forest second)) x far.0)
+      ap (λ y. take_moves j.place.parent j.place.index (join_moves first end second y))
+      (splice_moves-other first end end (length_told (text_at w.forest second)) x far.0)
       ∙ ap (take_moves j.place.parent j.place.index) (join_stays first end second x far.1)
       ∙ take_stays j.place.parent j.place.index x (inl text)
 
   -- the place in the second, after all of the first
-  place_second : (o : ℕ) → text_length (text_at w.forest first ++ text_at w.forest second) ≤ last_u32 → o ≤ length_at w.forest second → offset_sum (length_at w.forest first) o ≡ length_at w.forest first + o
+  place_second : (o : ℕ) → text_length (text_at w.forest first ++ text_at w.forest second) ≤ last_u32 → o ≤ length_at w.forest second
+      → offset_sum (length_at w.forest first) o ≡ length_at w.forest first + o
   unfolding offset_sum
   place_second o fits within =
       omega (arith, fits, within, length-append (text_at w.forest first) (text_at w.forest second), length_within (text_in (label_of w.forest first)), length_within (text_in (label_of w.forest second)))
 
-  keeps_place : text_length (text_at w.forest first ++ text_at w.forest second) ≤ last_u32 → (x : Point) → is_among x.key (first ∷ second ∷ []) ≡ true → x.offset ≤ length_at w.forest x.key
+  keeps_place : text_length (text_at w.forest first ++ text_at w.forest second) ≤ last_u32 → (x : Point) → is_among x.key (first ∷ second ∷ []) ≡ true
+      → x.offset ≤ length_at w.forest x.key
       → (is_among (moved x).key (first ∷ []) ≡ true) × (place_among v.forest (first ∷ []) (moved x) ≡ place_among w.forest (first ∷ second ∷ []) x)
   keeps_place fits x among within = elim (eqb_tells x.key first) [
     | inl own ↦

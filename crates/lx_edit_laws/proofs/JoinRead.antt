@@ -21,7 +21,8 @@ use Rattle.std.proofs.lemmas.Bool.Decides.{eqb_tells}
 use Rattle.lx_node.specs.declared.kind.Kind.TheVariants as kinds
 
 -- two that come next to each other are read as the one that has both texts
-reads_joined : (f g : Forest) (first second : ℕ) (ks : List ℕ) → NoRepeats ks → next_in ks first ≡ Some second → read_below g first ≡ read_below f first ++ read_below f second
+reads_joined : (f g : Forest) (first second : ℕ) (ks : List ℕ) → NoRepeats ks → next_in ks first ≡ Some second
+    → read_below g first ≡ read_below f first ++ read_below f second
     → ((q : ℕ) → is_among q ks ≡ true → q ≢ first → q ≢ second → read_below g q ≡ read_below f q) → reads_of g (names_without second ks) ≡ reads_of f ks
 reads_joined f g first second [] once next both others = absurd (cc)
 reads_joined f g first second (x ∷ []) once next both others = absurd (grind (arith, next))
@@ -32,7 +33,9 @@ reads_joined f g first second (x ∷ y ∷ rest) once next both others = elim (e
       let gone : eqb y second ≡ true = grind (arith, is, eqb_tells y second) in
       let left : names_without second rest ≡ rest = names_without-absent_list second rest (ap (λ k. is_among k rest) (sym is) ∙ once.1.0) in
       let tail : reads_of g rest ≡ reads_of f rest =
-      reads-same f g rest (λ q among. others q (grind (arith, among)) (λ e. absurd (grind (arith, among, e, own, once.0))) (λ e. absurd (grind (arith, among, e, is, once.1.0)))) in
+      reads-same f g rest
+      (λ q among. others q (grind (arith, among)) (λ e. absurd (grind (arith, among, e, own, once.0)))
+      (λ e. absurd (grind (arith, among, e, is, once.1.0)))) in
       let now : read_below g x ≡ read_below f x ++ read_below f y =
       ap (read_below g) own.1 ∙ both ∙ ap₂ (λ a b. read_below f a ++ read_below f b) (sym own.1) (sym is) in
       rw (apart, gone, left) (ap₂ (λ a b. a ++ b) now tail ∙ append_assoc (read_below f x) (read_below f y) (reads_of f rest))
@@ -41,7 +44,8 @@ reads_joined f g first second (x ∷ y ∷ rest) once next both others = elim (e
       let there : is_among second (y ∷ rest) ≡ true = next_in-among (y ∷ rest) first second later in
       let apart : x ≢ second = λ e. absurd (grind (arith, e, there, once.0)) in
       let off : eqb x second ≡ false = grind (arith, apart, eqb_tells x second) in
-      rw off (ap₂ (λ a b. a ++ b) (others x (grind (arith, eqb_tells x x)) other.1 apart) (reads_joined f g first second (y ∷ rest) once.1 later both (λ q among a b. others q (grind (arith, among)) a b)))
+      rw off (ap₂ (λ a b. a ++ b) (others x (grind (arith, eqb_tells x x)) other.1 apart)
+      (reads_joined f g first second (y ∷ rest) once.1 later both (λ q among a b. others q (grind (arith, among)) a b)))
 ]
 
 -- ---- after a join
@@ -51,7 +55,8 @@ module _ (first second : ℕ) (w v : Working) (h : IsForest w.forest) (held : Is
   order_after : IsForest v.forest
   order_after =
       subst IsForest (sym j.forest)
-      (IsForest-take_out second (with_fields first (with_behind j.own (text_at w.forest second)) w.forest) (IsForest-with_fields first (with_behind j.own (text_at w.forest second)) w.forest h))
+      (IsForest-take_out second (with_fields first (with_behind j.own (text_at w.forest second)) w.forest)
+      (IsForest-with_fields first (with_behind j.own (text_at w.forest second)) w.forest h))
 
   leaf : (k : ℕ) → kind_of w.forest k ≡ Some kinds.Text → children_of w.forest k ≡ []
   leaf k text = childless_text w.forest k h held text

@@ -57,7 +57,8 @@ module _ (first second : ℕ) (w v : Working) (h : IsForest w.forest) (j : AreJo
       ∙ ap (λ o. text_or_none o ++ text_at w.forest second) (sym j.own_is)
 
   -- .. and is as it was but for that
-  pub label_like : (text : TextFields) → text_in (label_of w.forest first) ≡ Some text → label_of v.forest first ≡ Some (record { key = first; kind = kinds.Text; fields = text_replaced text (text_at v.forest first) })
+  pub label_like : (text : TextFields) → text_in (label_of w.forest first) ≡ Some text
+      → label_of v.forest first ≡ Some (record { key = first; kind = kinds.Text; fields = text_replaced text (text_at v.forest first) })
   label_like text is =
       let was : Some j.own ≡ Some text = sym j.own_is ∙ is in
       let same : j.own ≡ text = cc in

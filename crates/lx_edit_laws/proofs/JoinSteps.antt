@@ -111,7 +111,8 @@ pub record AreJoined (first second : ℕ) (w v : Working) : Type 0 where
   pub first_text : kind_of w.forest first ≡ Some kinds.Text
   pub second_text : kind_of w.forest second ≡ Some kinds.Text
   pub forest : v.forest ≡ take_out second (with_fields first (with_behind own (text_at w.forest second)) w.forest)
-  pub selection : v.selection ≡ each_point (joined_point first second (length_at w.forest first) (length_told (text_at w.forest second)) place.parent place.index) w.selection
+  pub selection : v.selection
+      ≡ each_point (joined_point first second (length_at w.forest first) (length_told (text_at w.forest second)) place.parent place.index) w.selection
 
 -- what these causes say where they aren't there
 next_is : (o : Option ℕ) (k : ℕ) → cond (is_key o k) None (Some (BadPlace k)) ≡ None → o ≡ Some k
@@ -125,10 +126,13 @@ like_text f k there e = kind_by (kind_of f k) (is_some-kind_of f k ∙ there) e
 record IsSpliced (first second : ℕ) (w s : Working) : Type 0 where
   own : TextFields
   own_is : text_in (label_of w.forest first) ≡ Some own
-  forest : s.forest ≡ with_fields first (label_with_piece (label_of w.forest first) (length_at w.forest first) (length_at w.forest first) (text_at w.forest second)) w.forest
-  selection : s.selection ≡ each_point (splice_moves first (length_at w.forest first) (length_at w.forest first) (length_told (text_at w.forest second))) w.selection
+  forest : s.forest
+      ≡ with_fields first (label_with_piece (label_of w.forest first) (length_at w.forest first) (length_at w.forest first) (text_at w.forest second)) w.forest
+  selection : s.selection
+      ≡ each_point (splice_moves first (length_at w.forest first) (length_at w.forest first) (length_told (text_at w.forest second))) w.selection
 
-spliced_of : (first second : ℕ) (w s : Working) → splice_step first (length_at w.forest first) (length_at w.forest first) (text_at w.forest second) w ≡ Ok s → IsSpliced first second w s
+spliced_of : (first second : ℕ) (w s : Working) → splice_step first (length_at w.forest first) (length_at w.forest first) (text_at w.forest second) w ≡ Ok s
+    → IsSpliced first second w s
 unfolding splice_step
 spliced_of first second w s e =
     let end : ℕ = length_at w.forest first in
@@ -153,7 +157,8 @@ spliced_fields f k t more is fits =
 index_of-with_fields : (k : ℕ) (fields : Fields) (f : Forest) (q : ℕ) → index_of (with_fields k fields f) q ≡ index_of f q
 index_of-with_fields k fields f q = ap (λ xs. index_in xs q) (siblings-with_fields k fields f q)
 
-joined_of : (first second : ℕ) (w s v : Working) → IsForest w.forest → join_fault first second w.forest ≡ None → text_length (text_at w.forest first ++ text_at w.forest second) ≤ last_u32
+joined_of : (first second : ℕ) (w s v : Working) → IsForest w.forest → join_fault first second w.forest ≡ None
+    → text_length (text_at w.forest first ++ text_at w.forest second) ≤ last_u32
     → IsSpliced first second w s → take_step second (pointed (join_moves first (length_at w.forest first) second) s) ≡ Ok v → AreJoined first second w v
 unfolding take_step
 joined_of first second w s v h none fits spliced e =
@@ -165,8 +170,10 @@ joined_of first second w s v h none fits spliced e =
     let room : text_length (spliced.own.text ++ text) ≤ last_u32 = subst (λ xs. text_length (xs ++ text) ≤ last_u32) same fits in
     let place = beside w.forest first second h (next_is (next_of w.forest first) second (grind (arith, none))) in
     let piece : Fields = label_with_piece (label_of w.forest first) end end text in
-    let up : parent_of s.forest second ≡ Some place.parent = ap (λ f. parent_of f second) spliced.forest ∙ parent_of-with_fields first piece w.forest second ∙ place.below in
-    let at : index_of s.forest second ≡ Some place.index = ap (λ f. index_of f second) spliced.forest ∙ index_of-with_fields first piece w.forest second ∙ place.at in
+    let up : parent_of s.forest second ≡ Some place.parent =
+    ap (λ f. parent_of f second) spliced.forest ∙ parent_of-with_fields first piece w.forest second ∙ place.below in
+    let at : index_of s.forest second ≡ Some place.index =
+    ap (λ f. index_of f second) spliced.forest ∙ index_of-with_fields first piece w.forest second ∙ place.at in
     record {
       own = spliced.own;
       own_is = spliced.own_is;
@@ -174,17 +181,21 @@ joined_of first second w s v h none fits spliced e =
       first_text = like_text w.forest first (grind (arith, none)) (grind (arith, none));
       second_text = like_text w.forest second (grind (arith, none)) (grind (arith, none));
       forest =
-          ap (λ (x : Working). x.forest) (sym taken) ∙ ap (take_out second) (spliced.forest ∙ ap (λ x. with_fields first x w.forest) (spliced_fields w.forest first spliced.own text spliced.own_is room));
+          ap (λ (x : Working). x.forest) (sym taken)
+          ∙ ap (take_out second)
+          (spliced.forest ∙ ap (λ x. with_fields first x w.forest) (spliced_fields w.forest first spliced.own text spliced.own_is room));
       selection =
           ap (λ (x : Working). x.selection) (sym taken)
           ∙ ap₂ (λ p i. take_points p i u.selection) up at
           ∙ ap (λ x. each_point (take_moves place.parent place.index) (each_point (join_moves first end second) x)) spliced.selection
-          ∙ ap (each_point (take_moves place.parent place.index)) (each_twice (splice_moves first end end (length_told text)) (join_moves first end second) w.selection)
+          ∙ ap (each_point (take_moves place.parent place.index))
+          (each_twice (splice_moves first end end (length_told text)) (join_moves first end second) w.selection)
           ∙ each_twice (λ x. join_moves first end second (splice_moves first end end (length_told text) x)) (take_moves place.parent place.index) w.selection;
     }
 
 -- what a join did that wasn't refused, where offsets can say every place of both texts
-pub are_joined : (first second : ℕ) (w v : Working) → IsForest w.forest → text_length (text_at w.forest first ++ text_at w.forest second) ≤ last_u32 → join_step first second w ≡ Ok v → AreJoined first second w v
+pub are_joined : (first second : ℕ) (w v : Working) → IsForest w.forest → text_length (text_at w.forest first ++ text_at w.forest second) ≤ last_u32
+    → join_step first second w ≡ Ok v → AreJoined first second w v
 unfolding join_step
 are_joined first second w v h fits e =
     let allowed = was_allowed (join_fault first second w.forest) w v (texts_joined first second) e in

@@ -57,14 +57,16 @@ unjoined k v = record {
 }
 
 -- the texts of other keys stay, and those of the first two are one
-texts_left : (f g : Forest) (k n : ℕ) (rest : List ℕ) → is_among k rest ≡ false → text_at g k ≡ text_at f k ++ text_at f n → ((q : ℕ) → q ≢ k → label_of g q ≡ label_of f q) → texts_of g (k ∷ rest) ≡ texts_of f (k ∷ n ∷ rest)
+texts_left : (f g : Forest) (k n : ℕ) (rest : List ℕ) → is_among k rest ≡ false → text_at g k ≡ text_at f k ++ text_at f n
+    → ((q : ℕ) → q ≢ k → label_of g q ≡ label_of f q) → texts_of g (k ∷ rest) ≡ texts_of f (k ∷ n ∷ rest)
 texts_left f g k n rest apart both others =
     ap₂ (λ a b. a ++ b) both (spread-texts g rest ∙ spread-same (text_at g) (text_at f) rest (λ q among.
     ap (λ l. text_or_none (text_in l)) (others q (λ same. absurd (grind (arith, same, among, apart))))) ∙ sym (spread-texts f rest))
     ∙ append_assoc (text_at f k) (text_at f n) (texts_of f rest)
 
 -- one join, and then the others
-rejoined_then : (k n : ℕ) (rest : List ℕ) (v w u : Working) → IsForest v.forest → is_among k rest ≡ false → AreJoined k n v w → IsRejoined k rest w u → IsRejoined k (n ∷ rest) v u
+rejoined_then : (k n : ℕ) (rest : List ℕ) (v w u : Working) → IsForest v.forest → is_among k rest ≡ false → AreJoined k n v w → IsRejoined k rest w u
+    → IsRejoined k (n ∷ rest) v u
 rejoined_then k n rest v w u h apart j more = record {
   text = more.text ∙ texts_left v.forest w.forest k n rest apart (text_first k n v w h j) (λ q other. label_other k n v w h j q other);
   alike = λ t is. more.alike (record t { text = text_at w.forest k }) (ap text_in (label_like k n v w h j t is));
@@ -75,7 +77,8 @@ rejoined_then k n rest v w u h apart j more = record {
 }
 
 -- all of them, where offsets can say every place of the whole
-rejoined : (k : ℕ) (new : List ℕ) (v u : Working) → IsReady v → is_among k new ≡ false → text_length (texts_of v.forest (k ∷ new)) ≤ last_u32 → in_turn (join_step k) new v ≡ Ok u → IsRejoined k new v u
+rejoined : (k : ℕ) (new : List ℕ) (v u : Working) → IsReady v → is_among k new ≡ false → text_length (texts_of v.forest (k ∷ new)) ≤ last_u32
+    → in_turn (join_step k) new v ≡ Ok u → IsRejoined k new v u
 unfolding in_turn
 rejoined k [] v u r apart fits e = subst (IsRejoined k [] v) (was_same v u e) (unjoined k v)
 rejoined k (n ∷ rest) v u r apart fits e =
@@ -159,12 +162,14 @@ text_within None offset rest e = absurd (no_offset offset rest e)
 text_within (Some t) offset rest e = (t, refl)
 
 -- split nowhere, and joined with nothing
-nothing_done : (k : ℕ) (new : List ℕ) (w v u : Working) (q : ℕ) → new ≡ [] → cut_at k 0 [] w ≡ Ok v → in_turn (join_step k) new v ≡ Ok u → spot u.forest q ≡ spot w.forest q
+nothing_done : (k : ℕ) (new : List ℕ) (w v u : Working) (q : ℕ) → new ≡ [] → cut_at k 0 [] w ≡ Ok v → in_turn (join_step k) new v ≡ Ok u
+    → spot u.forest q ≡ spot w.forest q
 unfolding in_turn
 nothing_done k [] w v u q none cuts e = ap (λ (x : Working). spot x.forest q) (sym (was_same w v cuts ∙ was_same v u e))
 nothing_done k (n ∷ new) w v u q none cuts e = absurd (cc)
 
-pub joined_again : (k : ℕ) (offsets new : List ℕ) (w v u : Working) (q : ℕ) → IsSplit k offsets (k ∷ new) w v → in_turn (join_step k) new v ≡ Ok u → has q w.forest ≡ true → spot u.forest q ≡ spot w.forest q
+pub joined_again : (k : ℕ) (offsets new : List ℕ) (w v u : Working) (q : ℕ) → IsSplit k offsets (k ∷ new) w v → in_turn (join_step k) new v ≡ Ok u
+    → has q w.forest ≡ true → spot u.forest q ≡ spot w.forest q
 joined_again k [] new w v u q s e old = nothing_done k new w v u q (cc s.pieces_are) (cut_up k [] w v s.split).cut e
 joined_again k (o ∷ rest) new w v u q s e old =
     let of = cut_up k (o ∷ rest) w v s.split in

@@ -138,16 +138,19 @@ pub record ReadsOn (f g : Forest) (b : ℕ) : Type 0 where
   pub below : reads_of g (children_of g b) ≡ reads_of f (children_of f b)
 
 -- The same is read below each node but for some, where it is below its children taken together, since it is below what they hold.
-pub reads_by : (f g : Forest) (skip : ℕ → Bool) → IsForest f → IsForest g → ((b : ℕ) → skip b ≡ false → IsKnown f g skip b → ReadsOn f g b) → (b : ℕ) → skip b ≡ false → read_below g b ≡ read_below f b
+pub reads_by : (f g : Forest) (skip : ℕ → Bool) → IsForest f → IsForest g → ((b : ℕ) → skip b ≡ false → IsKnown f g skip b → ReadsOn f g b) → (b : ℕ)
+    → skip b ≡ false → read_below g b ≡ read_below f b
 reads_by f g skip h j level b clear = (down f h (ReadSo f g skip) (λ b each.
-    let known : IsKnown f g skip b = record { child = λ c up clear. (each c up).here clear; grandchild = λ c d up below clear. (each c up).child d below clear } in
+    let known : IsKnown f g skip b =
+    record { child = λ c up clear. (each c up).here clear; grandchild = λ c d up below clear. (each c up).child d below clear } in
     record {
       here = λ clear. let on = level b clear known in read-level g b j ∙ ap₂ (λ x y. x ++ y) on.text on.below ∙ sym (read-level f b h);
       child = known.child;
     }) b).here clear
 
 -- the children of a node, none of which is skipped, read the same
-pub reads_known : (f g : Forest) (skip : ℕ → Bool) (b : ℕ) → IsForest f → IsKnown f g skip b → ((c : ℕ) → parent_of f c ≡ Some b → skip c ≡ false) → reads_of g (children_of f b) ≡ reads_of f (children_of f b)
+pub reads_known : (f g : Forest) (skip : ℕ → Bool) (b : ℕ) → IsForest f → IsKnown f g skip b → ((c : ℕ) → parent_of f c ≡ Some b → skip c ≡ false)
+    → reads_of g (children_of f b) ≡ reads_of f (children_of f b)
 reads_known f g skip b h k none = reads-same f g (children_of f b) (λ c among. let up = parent_here f b c h among in k.child c up (none c up))
 
 -- others are in the place of one of a list, and the same is read
@@ -157,7 +160,8 @@ reads-in_place f g k new [] once same each = refl
 reads-in_place f g k new (x ∷ xs) once same each =
     elim (eqb_tells x k) [
       | inl own ↦
-          let rest : reads_of g xs ≡ reads_of f xs = reads-same f g xs (λ q among. each q (grind (arith, among)) (λ is. absurd (grind (arith, is, own, among, once)))) in
+          let rest : reads_of g xs ≡ reads_of f xs =
+          reads-same f g xs (λ q among. each q (grind (arith, among)) (λ is. absurd (grind (arith, is, own, among, once)))) in
           rw own.0 (reads_of-append g new xs ∙ ap₂ (λ a b. a ++ b) (same ∙ ap (read_below f) (sym own.1)) rest)
       | inr other ↦
           let first : read_below g x ≡ read_below f x = each x (grind (arith, eqb_tells x x)) (λ is. absurd (grind (arith, other, is, eqb_tells x k))) in
@@ -180,7 +184,8 @@ reads-instead f g k new xs once among same each =
 
 -- ---- a tree in which nothing is read goes
 
-reads-without : (f g : Forest) (k : ℕ) (xs : List ℕ) → read_below f k ≡ [] → ((q : ℕ) → is_among q xs ≡ true → read_below g q ≡ read_below f q) → reads_of g (names_without k xs) ≡ reads_of f xs
+reads-without : (f g : Forest) (k : ℕ) (xs : List ℕ) → read_below f k ≡ [] → ((q : ℕ) → is_among q xs ≡ true → read_below g q ≡ read_below f q)
+    → reads_of g (names_without k xs) ≡ reads_of f xs
 reads-without f g k [] silent each = refl
 reads-without f g k (x ∷ xs) silent each =
     let rest : reads_of g (names_without k xs) ≡ reads_of f xs = reads-without f g k xs silent (λ q among. each q (grind (arith, among))) in

@@ -23,11 +23,13 @@ behind_index n k zero (x ∷ xs) once at = grind (arith, at, once, eqb_tells x k
 behind_index n k (suc i) (x ∷ xs) once at =
     grind (arith, at, once, behind_index n k i xs once.1, is_named_tells (slice_get xs (suc i)) x, is_among-slice_get xs x (suc i))
 
-pub names_with-behind : (n k i : ℕ) (ks : List ℕ) → NoRepeats ks → index_in ks k ≡ Some i → names_with (slice_get ks (i + 1)) (n ∷ []) ks ≡ in_place_of k (k ∷ n ∷ []) ks
+pub names_with-behind : (n k i : ℕ) (ks : List ℕ) → NoRepeats ks → index_in ks k ≡ Some i
+    → names_with (slice_get ks (i + 1)) (n ∷ []) ks ≡ in_place_of k (k ∷ n ∷ []) ks
 names_with-behind n k i ks once at = ap (λ j. names_with (slice_get ks j) (n ∷ []) ks) (add-one i) ∙ behind_index n k i ks once at
 
 -- what is in the place of a name that came in the place of another
-pub in_place_of-twice : (k n : ℕ) (new ks : List ℕ) → k ≢ n → is_among n ks ≡ false → in_place_of n new (in_place_of k (k ∷ n ∷ []) ks) ≡ in_place_of k (k ∷ new) ks
+pub in_place_of-twice : (k n : ℕ) (new ks : List ℕ) → k ≢ n → is_among n ks ≡ false
+    → in_place_of n new (in_place_of k (k ∷ n ∷ []) ks) ≡ in_place_of k (k ∷ new) ks
 in_place_of-twice k n new [] other absent = refl
 in_place_of-twice k n new (x ∷ xs) other absent =
     grind (arith, other, absent, eqb_tells x k, eqb_tells k n, eqb_tells n n, eqb_tells x n, in_place_of-twice k n new xs other)

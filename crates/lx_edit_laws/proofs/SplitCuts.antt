@@ -64,7 +64,9 @@ tail_is : (k offset : ℕ) (w b : Working) → tail_made k offset w ≡ Ok b →
 unfolding tail_made new_step
 tail_is k offset w b e =
     let x : Fields = tail_of w.forest k offset in
-    let allowed = was_allowed (splice_fault k offset (length_at w.forest k) w.forest) w b (λ v. after (new_step kinds.Text (tail_of v.forest k offset) v) (λ made. Ok (pointed (split_moves k offset v.next_key) made))) e in
+    let allowed =
+    was_allowed (splice_fault k offset (length_at w.forest k) w.forest) w b
+    (λ v. after (new_step kinds.Text (tail_of v.forest k offset) v) (λ made. Ok (pointed (split_moves k offset v.next_key) made))) e in
     let part = first_part (new_step kinds.Text x w) (λ made. Ok (pointed (split_moves k offset w.next_key) made)) b allowed.1 in
     let told = answered (over_limits (characters_of x) w) (made kinds.Text x w) part.0 part.1 in
     record { piece = allowed.0; is = ap (pointed (split_moves k offset w.next_key)) told.1 ∙ was_same (pointed (split_moves k offset w.next_key) part.0) b part.2 }
@@ -73,7 +75,8 @@ splice_is : (k from to : ℕ) (new : List ℕ) (b c : Working) → splice_step k
     → fields_written k (label_with_piece (label_of b.forest k) from to new) (length new) (splice_points k from to new) b ≡ c
 unfolding splice_step
 splice_is k from to new b c e =
-    (answered (option_or (splice_fault k from to b.forest) (over_limits (length new) b)) (fields_written k (label_with_piece (label_of b.forest k) from to new) (length new) (splice_points k from to new) b) c e).1
+    (answered (option_or (splice_fault k from to b.forest) (over_limits (length new) b))
+    (fields_written k (label_with_piece (label_of b.forest k) from to new) (length new) (splice_points k from to new) b) c e).1
 
 -- what a put after a node leaves
 record IsBehind (n k : ℕ) (c d : Working) : Type 0 where
@@ -135,22 +138,26 @@ tail_leaves k offset t w b text tail =
     ap (λ x. pointed (split_moves k offset w.next_key) (made kinds.Text x w)) (sym (ap (λ o. tail_in o offset) text)) ∙ tail.is
 
 -- the old text still has its fields when the new one is there
-text_still : (k offset : ℕ) (t : TextFields) (w : Working) → IsReady w → text_in (label_of w.forest k) ≡ Some t → text_in (label_of (tail_left k offset t w).forest k) ≡ Some t
+text_still : (k offset : ℕ) (t : TextFields) (w : Working) → IsReady w → text_in (label_of w.forest k) ≡ Some t
+    → text_in (label_of (tail_left k offset t w).forest k) ≡ Some t
 unfolding tail_left
 text_still k offset t w ready text =
     let free : has w.next_key w.forest ≡ false = ready.free w.next_key (omega arith) in
     let apart : k ≢ w.next_key = λ same. absurd (grind (arith, same, free, there w.forest k t text)) in
     ap text_in (label_of-with_new (cut_off w.next_key offset t) w.forest k ready.in_order free ∙ grind (arith, apart, eqb_tells k w.next_key)) ∙ text
 
-front_leaves : (k offset len : ℕ) (t : TextFields) (w c : Working) → IsReady w → text_in (label_of w.forest k) ≡ Some t → len ≡ length_told t.text → splice_step k offset len [] (tail_left k offset t w) ≡ Ok c → front_left k offset t w ≡ c
+front_leaves : (k offset len : ℕ) (t : TextFields) (w c : Working) → IsReady w → text_in (label_of w.forest k) ≡ Some t → len ≡ length_told t.text
+    → splice_step k offset len [] (tail_left k offset t w) ≡ Ok c → front_left k offset t w ≡ c
 unfolding front_left
 front_leaves k offset len t w c ready text same e =
     let b : Working = tail_left k offset t w in
-    ap (λ y. fields_written k y 0 (splice_points k offset (length_told t.text) []) b) (sym (ap (λ o. with_piece o offset (length_told t.text) []) (text_still k offset t w ready text)))
+    ap (λ y. fields_written k y 0 (splice_points k offset (length_told t.text) []) b)
+    (sym (ap (λ o. with_piece o offset (length_told t.text) []) (text_still k offset t w ready text)))
     ∙ ap (λ m. fields_written k (label_with_piece (label_of b.forest k) offset m []) 0 (splice_points k offset m []) b) (sym same)
     ∙ splice_is k offset len [] b c e
 
-behind_leaves : (k offset : ℕ) (t : TextFields) (w v : Working) → IsReady w → text_in (label_of w.forest k) ≡ Some t → IsReady v → v.next_key ≡ w.next_key + 1 → IsBehind w.next_key k (front_left k offset t w) v → IsCut k offset t w v
+behind_leaves : (k offset : ℕ) (t : TextFields) (w v : Working) → IsReady w → text_in (label_of w.forest k) ≡ Some t → IsReady v → v.next_key ≡ w.next_key + 1
+    → IsBehind w.next_key k (front_left k offset t w) v → IsCut k offset t w v
 unfolding tail_left front_left
 behind_leaves k offset t w v ready text later next put =
     let f : Forest = w.forest in
@@ -171,7 +178,8 @@ behind_leaves k offset t w v ready text later next put =
       selection = ap (λ u. u.selection) (sym put.is);
     }
 
-pub cut_tells : (k offset : ℕ) (t : TextFields) (w v : Working) → IsReady w → text_in (label_of w.forest k) ≡ Some t → cut_in_two k offset w ≡ Ok v → IsCut k offset t w v
+pub cut_tells : (k offset : ℕ) (t : TextFields) (w v : Working) → IsReady w → text_in (label_of w.forest k) ≡ Some t → cut_in_two k offset w ≡ Ok v
+    → IsCut k offset t w v
 unfolding cut_in_two
 cut_tells k offset t w v ready text e =
     let n : ℕ = w.next_key in

@@ -67,8 +67,10 @@ pub record IsLeft (k : ℕ) (list new : List ℕ) (w v : Working) : Type 0 where
       label_of v.forest q ≡ Some (record { key = q; kind = kinds.Text; fields = text_replaced text (text_at v.forest q) })
   pub points : PointsGo k new w v
 
-left_by_cuts : (k : ℕ) (list : List ℕ) (t : TextFields) (w v : Working) → kind_of w.forest k ≡ Some kinds.Text → text_in (label_of w.forest k) ≡ Some t → text_length t.text ≤ last_u32
-    → IsParted k 0 list (keys_from w.next_key (length list)) t.text t w v → PointsGo k (keys_from w.next_key (length list)) w v → IsLeft k list (keys_from w.next_key (length list)) w v
+left_by_cuts : (k : ℕ) (list : List ℕ) (t : TextFields) (w v : Working) → kind_of w.forest k ≡ Some kinds.Text → text_in (label_of w.forest k) ≡ Some t
+    → text_length t.text ≤ last_u32
+    → IsParted k 0 list (keys_from w.next_key (length list)) t.text t w v → PointsGo k (keys_from w.next_key (length list)) w v
+    → IsLeft k list (keys_from w.next_key (length list)) w v
 left_by_cuts k list t w v kind here few r go =
     let own : t.text ≡ text_at w.forest k = sym (ap text_or_none here) in
     record {
@@ -99,9 +101,11 @@ left_same k w ready kind none =
       points = none_go k w;
     }
 
-left_by : (k : ℕ) (list : List ℕ) (w v : Working) → IsReady w → text_length (text_at w.forest k) ≤ last_u32 → IsCutUp k list w v → IsLeft k list (keys_from w.next_key (length list)) w v
+left_by : (k : ℕ) (list : List ℕ) (w v : Working) → IsReady w → text_length (text_at w.forest k) ≤ last_u32 → IsCutUp k list w v
+    → IsLeft k list (keys_from w.next_key (length list)) w v
 left_by k list w v ready few c = by_text (text_in (label_of w.forest k)) refl list c.allowed c.cut where
-  by_text : (o : Option TextFields) → text_in (label_of w.forest k) ≡ o → (list : List ℕ) → bad_offset 0 (text_at w.forest k) list ≡ None → cut_at k 0 list w ≡ Ok v → IsLeft k list (keys_from w.next_key (length list)) w v
+  by_text : (o : Option TextFields) → text_in (label_of w.forest k) ≡ o → (list : List ℕ) → bad_offset 0 (text_at w.forest k) list ≡ None
+      → cut_at k 0 list w ≡ Ok v → IsLeft k list (keys_from w.next_key (length list)) w v
   by_text (Some t) here list allowed cut =
       let short : text_length t.text ≤ last_u32 = subst (λ s. text_length (text_or_none s) ≤ last_u32) here few in
       let good : bad_offset 0 t.text list ≡ None = ap (λ s. bad_offset 0 s list) (sym (ap text_or_none here)) ∙ allowed in
@@ -172,6 +176,9 @@ told-splits = record {
   others = λ k list pieces w v q s so other above.
       let stay = (left k list pieces w v s).stay in
       same_spot_by (spot v.forest q) (spot w.forest q) (stay.labels q so other) (stay.parents q so) (stay.children q so above);
-  points = λ k list pieces w v s. subst (λ ks. PlacesAreKept (k ∷ []) ks w v) (sym s.pieces_are) (places k (keys_from w.next_key (length list)) w v (left k list pieces w v s).points);
-  read = λ k list pieces w v b s held so other. same_read k list (keys_from w.next_key (length list)) w v s.ready.in_order held (left k list pieces w v s) b other so;
+  points =
+      λ k list pieces w v s. subst (λ ks. PlacesAreKept (k ∷ []) ks w v) (sym s.pieces_are)
+      (places k (keys_from w.next_key (length list)) w v (left k list pieces w v s).points);
+  read = λ k list pieces w v b s held so other. same_read k list (keys_from w.next_key (length list)) w v s.ready.in_order held (left k list pieces w v s) b
+      other so;
 }

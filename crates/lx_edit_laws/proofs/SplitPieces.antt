@@ -50,7 +50,8 @@ pub record IsParted (k start : ℕ) (offsets new text : List ℕ) (t : TextField
   pub stay : AllStay k new w v
   pub pieces : map (text_at v.forest) (k ∷ new) ≡ cut_from start offsets text
   pub whole : texts_of v.forest (k ∷ new) ≡ slice_of start (length_told text) text
-  pub alike : (q : ℕ) → is_among q (k ∷ new) ≡ true → label_of v.forest q ≡ Some (record { key = q; kind = kinds.Text; fields = text_replaced t (text_at v.forest q) })
+  pub alike : (q : ℕ) → is_among q (k ∷ new) ≡ true
+      → label_of v.forest q ≡ Some (record { key = q; kind = kinds.Text; fields = text_replaced t (text_at v.forest q) })
 
 -- ---- labels of texts
 
@@ -60,12 +61,14 @@ label_with q t text = record { key = q; kind = kinds.Text; fields = text_replace
 text_told : (f : Forest) (q : ℕ) (t : TextFields) (text : List ℕ) → label_of f q ≡ Some (label_with q t text) → text_at f q ≡ text
 text_told f q t text e = ap (λ l. text_or_none (text_in l)) e
 
-with_own : (f : Forest) (q : ℕ) (t : TextFields) (text : List ℕ) → label_of f q ≡ Some (label_with q t text) → label_of f q ≡ Some (label_with q t (text_at f q))
+with_own : (f : Forest) (q : ℕ) (t : TextFields) (text : List ℕ) → label_of f q ≡ Some (label_with q t text)
+    → label_of f q ≡ Some (label_with q t (text_at f q))
 with_own f q t text e = e ∙ ap (λ s. Some (label_with q t s)) (sym (text_told f q t text e))
 
 -- ---- nothing is cut
 
-pub not_cut : (k start : ℕ) (text : List ℕ) (t : TextFields) (w : Working) → IsReady w → text_in (label_of w.forest k) ≡ Some t → t.text ≡ slice_of start (length_told text) text → IsParted k start [] [] text t w w
+pub not_cut : (k start : ℕ) (text : List ℕ) (t : TextFields) (w : Working) → IsReady w → text_in (label_of w.forest k) ≡ Some t
+    → t.text ≡ slice_of start (length_told text) text → IsParted k start [] [] text t w w
 not_cut k start text t w ready here is =
     let own : text_at w.forest k ≡ slice_of start (length_told text) text = ap text_or_none here ∙ is in
     let label : label_of w.forest k ≡ Some (label_with k t (text_at w.forest k)) = with_own w.forest k t t.text (label_is w.forest k t here) in
@@ -83,7 +86,8 @@ not_cut k start text t w ready here is =
 abbrev pub cut_text : ℕ → TextFields → TextFields
 cut_text offset t = record t { text = slice_of offset (length_told t.text) t.text }
 
-module _ (k start o : ℕ) (rest new text : List ℕ) (t : TextFields) (w u v : Working) (ready : IsReady w) (here : text_in (label_of w.forest k) ≡ Some t) (is : t.text ≡ slice_of start (length_told text) text)
+module _ (k start o : ℕ) (rest new text : List ℕ) (t : TextFields) (w u v : Working) (ready : IsReady w) (here : text_in (label_of w.forest k) ≡ Some t)
+    (is : t.text ≡ slice_of start (length_told text) text)
     (place : IsCutAt start o text) (c : IsCut k (o - start) t w u) (r : IsParted w.next_key o rest new text (cut_text (o - start) t) u v) where
   abbrev n : ℕ
   n = w.next_key
@@ -107,8 +111,10 @@ module _ (k start o : ℕ) (rest new text : List ℕ) (t : TextFields) (w u v : 
   ordered p up =
       let same : c.parent ≡ p = sym (above_old ready c p up) in
       let above : parent_of u.forest n ≡ Some p = c.cuts_to.up ∙ ap (λ x. Some x) same in
-      let cut : children_of u.forest p ≡ in_place_of k (k ∷ n ∷ []) (children_of w.forest p) = subst (λ x. children_of u.forest x ≡ in_place_of k (k ∷ n ∷ []) (children_of w.forest x)) same c.cuts_to.order in
-      let nobodys : is_among n (children_of w.forest p) ≡ false = is_among-children_of w.forest n p ready.in_order ∙ ap (λ y. is_named y p) (no_parent w.forest n (new_free ready c)) in
+      let cut : children_of u.forest p ≡ in_place_of k (k ∷ n ∷ []) (children_of w.forest p) =
+      subst (λ x. children_of u.forest x ≡ in_place_of k (k ∷ n ∷ []) (children_of w.forest x)) same c.cuts_to.order in
+      let nobodys : is_among n (children_of w.forest p) ≡ false =
+      is_among-children_of w.forest n p ready.in_order ∙ ap (λ y. is_named y p) (no_parent w.forest n (new_free ready c)) in
       r.stay.order p above ∙ ap (in_place_of n (n ∷ new)) cut ∙ in_place_of-twice k n (n ∷ new) (children_of w.forest p) c.other nobodys
 
   all_stay : AllStay k (n ∷ new) w v
@@ -135,7 +141,8 @@ module _ (k start o : ℕ) (rest new text : List ℕ) (t : TextFields) (w u v : 
     pieces = ap₂ (λ s ss. s ∷ ss) first_text r.pieces;
     whole = ap₂ (λ s ss. s ++ ss) first_text r.whole ∙ piece-parts start o text place;
     alike = λ q among. elim (eqb_tells k q) [
-      | inl own ↦ subst (λ x. label_of v.forest x ≡ Some (label_with x t (text_at v.forest x))) own.1 (with_own v.forest k t (slice_of start o text) first_label)
+      | inl own ↦
+          subst (λ x. label_of v.forest x ≡ Some (label_with x t (text_at v.forest x))) own.1 (with_own v.forest k t (slice_of start o text) first_label)
       | inr other ↦ r.alike q (grind (arith, among, other))
     ];
   }
@@ -143,7 +150,8 @@ module _ (k start o : ℕ) (rest new text : List ℕ) (t : TextFields) (w u v : 
 -- ---- offsets
 
 -- a place that offsets are looked for after
-pub cut_place : (start o : ℕ) (rest text : List ℕ) → is_offset start text ≡ true → text_length text ≤ last_u32 → bad_offset start text (o ∷ rest) ≡ None → IsCutAt start o text
+pub cut_place : (start o : ℕ) (rest text : List ℕ) → is_offset start text ≡ true → text_length text ≤ last_u32 → bad_offset start text (o ∷ rest) ≡ None
+    → IsCutAt start o text
 cut_place start o rest text begin few none =
     let a = offsets start o text rest none in
     record { order = omega (arith, a.above); first = begin; second = a.place; few = few }

@@ -42,7 +42,8 @@ each_twice f g other = refl
 -- a child that comes moves no point that counts characters, or that is on another node
 pub put_moves-still : (p i : ℕ) (x : Point) → (x.kind ≡ point.Text) ⊎ (x.key ≢ p) → put_moves p i x ≡ x
 unfolding put_moves is_behind is_counting_children
-put_moves-still p i x (inl text) = ap (λ kind. cond (is_counting_children kind && (eqb x.key p && ltb i x.offset)) (record x { offset = offset_sum x.offset 1 }) x) text
+put_moves-still p i x (inl text) =
+    ap (λ kind. cond (is_counting_children kind && (eqb x.key p && ltb i x.offset)) (record x { offset = offset_sum x.offset 1 }) x) text
 put_moves-still p i x (inr other) = grind (arith, other, eqb_tells x.key p)
 
 -- where one cut sends a point
@@ -72,7 +73,8 @@ split_moves-front k offset n x within = grind (arith, within, nat_tests)
 pub splice_moves-front : (k from to len : ℕ) (x : Point) → x.offset ≤ from → splice_moves k from to len x ≡ x
 unfolding splice_moves spliced_offset
 splice_moves-front k from to len x within =
-    let front : leb x.offset from ≡ true = grind (arith, within, nat_tests) in rw front (elim (cases_Bool (eqb x.key k)) [ inl same ↦ rw same refl | inr other ↦ rw other refl ])
+    let front : leb x.offset from ≡ true =
+    grind (arith, within, nat_tests) in rw front (elim (cases_Bool (eqb x.key k)) [ inl same ↦ rw same refl | inr other ↦ rw other refl ])
 
 split_moves-back : (k offset n : ℕ) (x : Point) → x.key ≡ k → offset < x.offset → split_moves k offset n x ≡ record x { key = n; offset = x.offset - offset }
 unfolding split_moves
@@ -96,7 +98,8 @@ module _ (k n offset len p index : ℕ) where
       ∙ ap (put_moves p (index + 1)) (splice_moves-front k offset len (length_told []) x within)
       ∙ put_moves-still p (index + 1) x (inr apart)
 
-  pub cut_moves-back : (x : Point) → x.key ≡ k → offset < x.offset → n ≢ k → n ≢ p → cut_moves k n offset len p index x ≡ record x { key = n; offset = x.offset - offset }
+  pub cut_moves-back : (x : Point) → x.key ≡ k → offset < x.offset → n ≢ k → n ≢ p
+      → cut_moves k n offset len p index x ≡ record x { key = n; offset = x.offset - offset }
   unfolding cut_moves
   cut_moves-back x own behind other apart =
       let y : Point = record x { key = n; offset = x.offset - offset } in
@@ -128,11 +131,13 @@ below_keys q k zero less = refl
 below_keys q k (suc count) less = grind (arith, less, eqb_tells k q, below_keys q (k + 1) count (omega (arith, less)))
 
 -- a point of a key that isn't the first of these is after what the first has
-behind_first : (f : Forest) (k : ℕ) (new : List ℕ) (x : Point) → is_among k new ≡ false → is_among x.key new ≡ true → place_among f (k ∷ new) x ≡ length_at f k + place_among f new x
+behind_first : (f : Forest) (k : ℕ) (new : List ℕ) (x : Point) → is_among k new ≡ false → is_among x.key new ≡ true
+    → place_among f (k ∷ new) x ≡ length_at f k + place_among f new x
 behind_first f k new x absent among =
     grind (arith, absent, among, eqb_tells x.key k)
 
-module _ (k start o : ℕ) (rest new text : List ℕ) (t : TextFields) (w u v : Working) (ready : IsReady w) (here : text_in (label_of w.forest k) ≡ Some t) (is : t.text ≡ slice_of start (length_told text) text)
+module _ (k start o : ℕ) (rest new text : List ℕ) (t : TextFields) (w u v : Working) (ready : IsReady w) (here : text_in (label_of w.forest k) ≡ Some t)
+    (is : t.text ≡ slice_of start (length_told text) text)
     (place : IsCutAt start o text) (c : IsCut k (o - start) t w u) (r : IsParted w.next_key o rest new text (cut_text (o - start) t) u v)
     (absent : is_among k (w.next_key ∷ new) ≡ false) (go : PointsGo w.next_key new u v) where
   abbrev n : ℕ
@@ -168,9 +173,11 @@ module _ (k start o : ℕ) (rest new text : List ℕ) (t : TextFields) (w u v : 
   behind : (x : Point) → x.key ≡ k → o - start < x.offset → one x ≡ pushed x
   unfolding pushed
   behind x own later =
-      cut_moves-back k n (o - start) (length_told t.text) c.parent c.index x own later (λ same. c.other (sym same)) (λ same. not_new ready c c.parent (parent_there ready c) (sym same))
+      cut_moves-back k n (o - start) (length_told t.text) c.parent c.index x own later (λ same. c.other (sym same))
+      (λ same. not_new ready c c.parent (parent_there ready c) (sym same))
 
-  on_pieces : (x : Point) → x.key ≡ k → x.offset ≤ length_at w.forest k → (is_among (go.moved (one x)).key (k ∷ n ∷ new) ≡ true) × (place_among v.forest (k ∷ n ∷ new) (go.moved (one x)) ≡ x.offset)
+  on_pieces : (x : Point) → x.key ≡ k → x.offset ≤ length_at w.forest k
+      → (is_among (go.moved (one x)).key (k ∷ n ∷ new) ≡ true) × (place_among v.forest (k ∷ n ∷ new) (go.moved (one x)) ≡ x.offset)
   unfolding pushed
   on_pieces x own within = elim (cases_lt (o - start) x.offset) [
     | inl later ↦
@@ -200,7 +207,8 @@ module _ (k start o : ℕ) (rest new text : List ℕ) (t : TextFields) (w u v : 
     on_it = on_pieces;
     still = λ x so other side.
         let mine : (x.kind ≡ point.Text) ⊎ (x.key ≢ c.parent) = elim side [ inl text ↦ inl text | inr far ↦ inr (far_from ready c x.key far) ] in
-        let later : (x.kind ≡ point.Text) ⊎ (parent_of u.forest n ≢ Some x.key) = elim mine [ inl text ↦ inl text | inr far ↦ inr (far_from_new ready c x.key far) ] in
+        let later : (x.kind ≡ point.Text) ⊎ (parent_of u.forest n ≢ Some x.key) =
+        elim mine [ inl text ↦ inl text | inr far ↦ inr (far_from_new ready c x.key far) ] in
         ap go.moved (cut_moves-other k n (o - start) (length_told t.text) c.parent c.index x other mine)
         ∙ go.still x (stays_there ready c x.key so) (not_new ready c x.key so) later;
   }
@@ -222,7 +230,9 @@ parted k start (o ∷ rest) text t w v ready here is begin few none e =
     let u : Working = part.0 in
     let c : IsCut k (o - start) t w u = cut_tells k (o - start) t w u ready here part.1 in
     let place : IsCutAt start o text = cut_place start o rest text begin few none in
-    let further = parted n o rest text cut u v c.ready (ap text_in c.cuts_to.new) (piece-back start o text t.text place is) place.second few (offsets start o text rest none).others part.2 in
+    let further =
+    parted n o rest text cut u v c.ready (ap text_in c.cuts_to.new) (piece-back start o text t.text place is) place.second few
+    (offsets start o text rest none).others part.2 in
     let both = subst (λ m. IsParted n o rest (keys_from m (length rest)) text cut u v × PointsGo n (keys_from m (length rest)) u v) c.next further in
     let new : List ℕ = keys_from (n + 1) (length rest) in
     let absent : is_among k (n ∷ new) ≡ false = below_keys k n (suc (length rest)) (less_than_next k w ready (text_there ready c)) in (

@@ -9,7 +9,8 @@ use Rattle.lx_edit_laws.proofs.WrapBack.{was_wrapped, outer_children, outer_plac
 use Rattle.lx_edit_laws.proofs.WrapTold.{went_all, replaced_behind, read_unwrapped, unwrapped_in_place}
 
 -- the parent is the one that is asked about
-place_told : (k outer : ℕ) (w v : Working) (p : ℕ) → IsWrapped k outer w v → parent_of w.forest k ≡ Some p → children_of v.forest p ≡ in_place_of k (outer ∷ []) (children_of w.forest p)
+place_told : (k outer : ℕ) (w v : Working) (p : ℕ) → IsWrapped k outer w v → parent_of w.forest k ≡ Some p
+    → children_of v.forest p ≡ in_place_of k (outer ∷ []) (children_of w.forest p)
 place_told k outer w v p e up =
     let s = was_wrapped k outer w v e in
     let same : s.0 ≡ p = same_Some s.0 p (sym s.1.may.up ∙ up) in

@@ -109,7 +109,8 @@ module _ (f g : Forest) (p k outer : ℕ) (s : HasWrapped f g p k outer) where
           (append-nil (read_below g outer) ∙ read-level g outer wrapped_order
           ∙ ap₂ (λ t ks. t ++ reads_of g ks) (texts outer ∙ s.silent) outer_children ∙ append-nil (read_below g k)
           ∙ known.child k (s.may.up ∙ ap (λ x. Some x) (sym here.1)) (different k outer (apart f p k outer s.may)))
-          (λ q there not_k. let up : parent_of f q ≡ Some p = parent_here f p q h there in known.child q (up ∙ ap (λ x. Some x) (sym here.1)) (not_outer q p up))
+          (λ q there not_k. let up : parent_of f q
+          ≡ Some p = parent_here f p q h there in known.child q (up ∙ ap (λ x. Some x) (sym here.1)) (not_outer q p up))
           )
       | inr not_p ↦
           ap (reads_of g) (other_children b not_p.1 (λ e. absurd (grind (arith, e, clear, eqb_tells b outer))))
@@ -139,7 +140,9 @@ unwrapped_again f p k outer v u s e =
     let m = was_moved_before outer k p v x.mid order up (λ y. other (sym y)) (one_turn (moved_before outer) k v x.mid each) in
     let came = came_before p outer (k ∷ []) v x.mid order up below each in
     let beside : is_among k (children_of x.last.forest p) ≡ true =
-    ap (λ y. is_among k (children_of y p)) x.same ∙ ap (is_among k) came.there ∙ is_among-names_with (Some outer) (k ∷ []) (children_of g p) k ∙ grind (arith, eqb_tells k k) in
+    ap (λ y. is_among k (children_of y p)) x.same ∙ ap (is_among k) came.there ∙ is_among-names_with (Some outer) (k ∷ []) (children_of g p) k
+    ∙ grind (arith, eqb_tells k k) in
     removed_alone outer p k x.last u (subst IsForest (sym x.same) came.in_order) (ap (λ y. parent_of y outer) x.same ∙ came.up) beside other x.gone
     ∙ ap (take_out outer) x.same
-    ∙ stood_aside f p k outer s.may x.mid.forest (moved_twice (put f g p k outer s) g outer k None (put_order f g p k outer s) s.moved x.mid.forest p (Some outer) m)
+    ∙ stood_aside f p k outer s.may x.mid.forest
+    (moved_twice (put f g p k outer s) g outer k None (put_order f g p k outer s) s.moved x.mid.forest p (Some outer) m)

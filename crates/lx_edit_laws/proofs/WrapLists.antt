@@ -33,7 +33,8 @@ filter-without k ks (x ∷ xs) = grind (arith, filter-without k ks xs, eqb_tells
 -- ---- names before another
 
 -- of names that come before one in two parts, the second part comes after the first
-pub names_with-twice : (k c : ℕ) (new xs : List ℕ) → eqb c k ≡ false → names_with (Some k) new (names_with (Some k) (c ∷ []) xs) ≡ names_with (Some k) (c ∷ new) xs
+pub names_with-twice : (k c : ℕ) (new xs : List ℕ) → eqb c k ≡ false
+    → names_with (Some k) new (names_with (Some k) (c ∷ []) xs) ≡ names_with (Some k) (c ∷ new) xs
 names_with-twice k c new [] other = grind (arith, other)
 names_with-twice k c new (x ∷ xs) other = grind (arith, other, eqb_tells x k, names_with-twice k c new xs other)
 
@@ -48,7 +49,8 @@ names_with-end c [] = refl
 names_with-end c (x ∷ xs) = ap (λ ys. x ∷ ys) (names_with-end c xs)
 
 -- where the name itself leaves, those before it are in its place
-pub in_its_place : (k : ℕ) (new xs : List ℕ) → NoRepeats xs → is_among k xs ≡ true → is_among k new ≡ false → names_without k (names_with (Some k) new xs) ≡ in_place_of k new xs
+pub in_its_place : (k : ℕ) (new xs : List ℕ) → NoRepeats xs → is_among k xs ≡ true → is_among k new ≡ false
+    → names_without k (names_with (Some k) new xs) ≡ in_place_of k new xs
 in_its_place k new [] u among other = absurd (cc)
 in_its_place k new (x ∷ xs) u among other =
     elim (eqb_tells x k) [

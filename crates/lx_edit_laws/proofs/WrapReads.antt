@@ -38,7 +38,8 @@ module _ (f g : Forest) (p k c : ℕ) (cs : List ℕ) (s : HasFirst f p k c cs) 
 
   -- it left the children of the node ..
   pub left_behind : children_of g k ≡ cs
-  left_behind = grind (arith, children_of-moved f g p c (Some k) h m k, s.below, rest_once.0, apart, eqb_tells c c, eqb_tells k p, names_without-absent_list c cs)
+  left_behind =
+      grind (arith, children_of-moved f g p c (Some k) h m k, s.below, rest_once.0, apart, eqb_tells c c, eqb_tells k p, names_without-absent_list c cs)
 
   absent_from : (q : ℕ) → k ≢ q → names_without c (children_of f q) ≡ children_of f q
   absent_from q other = names_without-absent_list c (children_of f q) (not_child f c k q h (first_up f p k c cs s) other)

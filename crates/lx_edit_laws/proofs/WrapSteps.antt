@@ -56,13 +56,15 @@ was_taken k w v e =
     let none = both_none (unknown w.forest k) (not_below w.forest k) (both_none (detach_fault k w.forest) (over_counts w) told.0).0 in
     (sym (ap (λ (x : Working). x.forest) told.1), has_above w.forest k none.1)
 
-pub was_put : (k p index : ℕ) (w v : Working) → put_step k p index w ≡ Ok v → CanPut p k w.forest × (v.forest ≡ put_in p (slice_get (children_of w.forest p) index) k w.forest)
+pub was_put : (k p index : ℕ) (w v : Working) → put_step k p index w ≡ Ok v
+    → CanPut p k w.forest × (v.forest ≡ put_in p (slice_get (children_of w.forest p) index) k w.forest)
 unfolding put_step
 was_put k p index w v e =
     let told = answered (option_or (put_fault k p index w.forest) (over_counts w)) (node_placed k p index w) v e in
     (can_put w.forest k p index (both_none (put_fault k p index w.forest) (over_counts w) told.0).0, sym (ap (λ (x : Working). x.forest) told.1))
 
-pub was_put_before : (k other p : ℕ) (w v : Working) → IsForest w.forest → parent_of w.forest other ≡ Some p → put_before_step k other w ≡ Ok v → CanPut p k w.forest × (v.forest ≡ put_in p (Some other) k w.forest)
+pub was_put_before : (k other p : ℕ) (w v : Working) → IsForest w.forest → parent_of w.forest other ≡ Some p → put_before_step k other w ≡ Ok v
+    → CanPut p k w.forest × (v.forest ≡ put_in p (Some other) k w.forest)
 was_put_before k other p w v h up e =
     let xs : List ℕ = children_of w.forest p in
     let put = was_put k p (gap_index (Some other) xs) w v (before_is w k p other h up ∙ e) in
@@ -79,12 +81,15 @@ before_below k other w v e =
 -- ---- a node that is moved
 
 -- a node that was taken, and put elsewhere
-pub was_moved : (k p : ℕ) (before : Option ℕ) (w u v : Working) → take_step k w ≡ Ok u → CanPut p k u.forest → v.forest ≡ put_in p before k u.forest → WasMoved w.forest v.forest p k before
+pub was_moved : (k p : ℕ) (before : Option ℕ) (w u v : Working) → take_step k w ≡ Ok u → CanPut p k u.forest → v.forest ≡ put_in p before k u.forest
+    → WasMoved w.forest v.forest p k before
 was_moved k p before w u v e can put =
-    let taken = was_taken k w u e in record { above = taken.1.0; up = taken.1.1; can = subst (CanPut p k) taken.0 can; is = put ∙ ap (put_in p before k) taken.0 }
+    let taken =
+    was_taken k w u e in record { above = taken.1.0; up = taken.1.1; can = subst (CanPut p k) taken.0 can; is = put ∙ ap (put_in p before k) taken.0 }
 
 -- where the others are once it was taken
-pub still_there : (k other p : ℕ) (w v : Working) → IsForest w.forest → parent_of w.forest other ≡ Some p → other ≢ k → take_step k w ≡ Ok v → IsForest v.forest × (parent_of v.forest other ≡ Some p)
+pub still_there : (k other p : ℕ) (w v : Working) → IsForest w.forest → parent_of w.forest other ≡ Some p → other ≢ k → take_step k w ≡ Ok v
+    → IsForest v.forest × (parent_of v.forest other ≡ Some p)
 still_there k other p w v h up apart e =
     let taken = was_taken k w v e in
     (subst IsForest (sym taken.0) (IsForest-take_out k w.forest h), ap (λ f. parent_of f other) taken.0 ∙ parent_of-take_out k w.forest other h ∙ grind (arith, up, apart, eqb_tells other k))
@@ -97,7 +102,8 @@ was_moved_to_end to k w v e =
     was_moved k to None w a.0 v a.1 put.0
     (put.1 ∙ ap (λ o. put_in to o k a.0.forest) (slice_get_past (children_of a.0.forest to) (size_of a.0.forest to) (omega arith)))
 
-pub was_moved_before : (other k p : ℕ) (w v : Working) → IsForest w.forest → parent_of w.forest other ≡ Some p → other ≢ k → moved_before other k w ≡ Ok v → WasMoved w.forest v.forest p k (Some other)
+pub was_moved_before : (other k p : ℕ) (w v : Working) → IsForest w.forest → parent_of w.forest other ≡ Some p → other ≢ k → moved_before other k w ≡ Ok v
+    → WasMoved w.forest v.forest p k (Some other)
 unfolding moved_before
 was_moved_before other k p w v h up apart e =
     let a = first_part (take_step k w) (put_before_step k other) v e in

@@ -43,7 +43,8 @@ went_all from to w v h two e =
     let a = first_part (in_turn (moved_to_end to) ks w) (λ u. Ok (brought from to (size_of f to) (ends_of w.selection) u)) v allowed.1 in
     let same : a.0.forest ≡ v.forest = ap (λ (x : Working). x.forest) (was_same (brought from to (size_of f to) (ends_of w.selection) a.0) v a.2) in
     let over : WentOver f v.forest from to ks =
-    subst (λ g. WentOver f g from to ks) same (went_over from to ks w a.0 h two (NoRepeats-children_of f from h) (λ c among. parent_here f from c h among) a.1) in
+    subst (λ g. WentOver f g from to ks) same
+    (went_over from to ks w a.0 h two (NoRepeats-children_of f from h) (λ c among. parent_here f from c h among) a.1) in
     record {
       over = over;
       none = over.left ∙ filter-gone (λ q. not (is_among q ks)) ks (λ q among. ap not among);
@@ -116,14 +117,16 @@ module _ (k with : ℕ) (w v : Working) (r : WasReplaced k with w v) where
   gone_alone : v.forest ≡ take_out k r.last.forest
   gone_alone =
       let order : IsForest r.last.forest = subst IsForest (sym r.same) went.in_order in
-      removed_alone k r.parent with r.last v order (stays_put k put_up) (child_of r.last.forest r.parent with order (stays_put with put_up_with)) (λ e. apart w.forest r.parent k with r.may (sym e)) r.gone
+      removed_alone k r.parent with r.last v order (stays_put k put_up) (child_of r.last.forest r.parent with order (stays_put with put_up_with))
+      (λ e. apart w.forest r.parent k with r.may (sym e)) r.gone
 
   left_with : children_of v.forest with ≡ children_of r.moved.forest with
   left_with =
       let up : parent_of r.moved.forest k ≡ Some r.parent = ap (λ f. parent_of f k) (sym r.same) ∙ stays_put k put_up in
       ap (λ f. children_of f with) (gone_alone ∙ ap (take_out k) r.same)
       ∙ children_of-take_out k r.moved.forest with went.in_order
-      ∙ names_without-absent_list k (children_of r.moved.forest with) (not_child r.moved.forest k r.parent with went.in_order up (not_new w.forest r.parent k with r.may))
+      ∙ names_without-absent_list k (children_of r.moved.forest with)
+      (not_child r.moved.forest k r.parent with went.in_order up (not_new w.forest r.parent k with r.may))
 
   children_kept : children_of v.forest with ≡ children_of w.forest with ++ children_of w.forest k
   children_kept =
@@ -131,7 +134,8 @@ module _ (k with : ℕ) (w v : Working) (r : WasReplaced k with w v) where
       λ q other. ap (λ f. children_of f q) r.put ∙ beside-elsewhere w.forest r.parent k with r.may q (λ e. other (sym e)) in
       left_with ∙ went.there ∙ ap₂ ◌++◌ (before with (not_new w.forest r.parent k with r.may)) (before k (not_self w.forest r.parent k with r.may))
 
-pub replaced_behind : (k with : ℕ) (w v : Working) → IsForest w.forest → replace_step k with true w ≡ Ok v → children_of v.forest with ≡ children_of w.forest with ++ children_of w.forest k
+pub replaced_behind : (k with : ℕ) (w v : Working) → IsForest w.forest → replace_step k with true w ≡ Ok v
+    → children_of v.forest with ≡ children_of w.forest with ++ children_of w.forest k
 replaced_behind k with w v h e = children_kept k with w v (was_replaced k with w v h e)
 
 -- ---- unwrapped
@@ -157,7 +161,8 @@ was_unwrapped k w v e =
     let f : Forest = w.forest in
     let allowed = was_allowed (unwrap_fault k f) w v (unwrapped k) e in
     let below = has_above f k (grind (arith, allowed.0)) in
-    let a = first_part (in_turn (moved_before k) (children_of f k) w) (λ u. remove_step k (brought_up k (parent_of f k) (index_of f k) (ends_of w.selection) u)) v allowed.1 in
+    let a = first_part (in_turn (moved_before k) (children_of f k) w) (λ u. remove_step k (brought_up k (parent_of f k) (index_of f k) (ends_of w.selection) u))
+    v allowed.1 in
     record {
       parent = below.0;
       up = below.1;
@@ -183,7 +188,8 @@ read_unwrapped k w v b h e other =
     ∙ came.read u.silent b other
 
 -- where there are children, they are in the place of the node
-in_place : (k p c : ℕ) (cs : List ℕ) (w v : Working) → IsForest w.forest → WasUnwrapped k w v → parent_of w.forest k ≡ Some p → children_of w.forest k ≡ c ∷ cs → children_of v.forest p ≡ in_place_of k (c ∷ cs) (children_of w.forest p)
+in_place : (k p c : ℕ) (cs : List ℕ) (w v : Working) → IsForest w.forest → WasUnwrapped k w v → parent_of w.forest k ≡ Some p → children_of w.forest k ≡ c ∷ cs
+    → children_of v.forest p ≡ in_place_of k (c ∷ cs) (children_of w.forest p)
 in_place k p c cs w v h u up below =
     let f : Forest = w.forest in
     let g : Forest = u.last.forest in
@@ -194,7 +200,8 @@ in_place k p c cs w v h u up below =
     let not_self : p ≢ k = λ x. absurd (grind (arith, x, up, parent_of-self f k h, eqb_tells p k)) in
     let not_own : is_among k ks ≡ false = ap (is_among k) (sym below) ∙ not_child f k p k h up not_self in
     let other : c ≢ k = λ x. absurd (grind (arith, x, not_own, eqb_tells c k)) in
-    let beside : is_among c (children_of g p) ≡ true = ap (is_among c) there ∙ is_among-names_with (Some k) ks (children_of f p) c ∙ grind (arith, eqb_tells c c) in
+    let beside : is_among c (children_of g p) ≡ true =
+    ap (is_among c) there ∙ is_among-names_with (Some k) ks (children_of f p) c ∙ grind (arith, eqb_tells c c) in
     let gone : v.forest ≡ take_out k g = removed_alone k p c u.last v order (ap (λ x. parent_of x k) u.same ∙ came.up) beside other u.gone in
     ap (λ x. children_of x p) gone
     ∙ children_of-take_out k g p order

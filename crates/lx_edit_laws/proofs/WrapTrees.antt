@@ -78,7 +78,8 @@ module _ (f g : Forest) (p k : ℕ) (before : Option ℕ) (h : IsForest f) (m : 
       ap (λ x. parent_of x q) m.is
       ∙ grind (arith, parent_of-put_in p before k (take_out k f) q out_order m.can, parent_of-take_out k f q h, eqb_tells q k)
 
-  pub children_of-moved : (q : ℕ) → children_of g q ≡ cond (eqb q p) (names_with before (k ∷ []) (names_without k (children_of f q))) (names_without k (children_of f q))
+  pub children_of-moved : (q : ℕ)
+      → children_of g q ≡ cond (eqb q p) (names_with before (k ∷ []) (names_without k (children_of f q))) (names_without k (children_of f q))
   children_of-moved q =
       ap (λ x. children_of x q) m.is ∙ children_of-put_in p before k (take_out k f) q out_order m.can
       ∙ ap (λ xs. cond (eqb q p) (names_with before (k ∷ []) xs) xs) (children_of-take_out k f q h)

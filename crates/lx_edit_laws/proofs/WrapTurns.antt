@@ -132,7 +132,8 @@ pub left_alone : (k p s : ℕ) (w v : Working) → IsForest w.forest → parent_
 unfolding remove_step
 left_alone k p s w v h up among other e =
     let above : removed k (p ∷ ancestors w.forest p) w ≡ Ok v = ap (λ ks. removed k ks w) (sym (ancestors-step w.forest k p h up)) ∙ e in
-    let a = first_part (take_step k (sent_away k w)) (λ u. cond (goes_too (kind_of w.forest k) u.forest p) (removed p (ancestors w.forest p) u) (Ok u)) v above in
+    let a = first_part (take_step k (sent_away k w)) (λ u. cond (goes_too (kind_of w.forest k) u.forest p) (removed p (ancestors w.forest p) u) (Ok u)) v
+    above in
     let left : is_among s (children_of a.0.forest p) ≡ true =
     ap (λ f. is_among s (children_of f p)) (taken_alone k w a.0 a.1) ∙ ap (is_among s) (children_of-take_out k w.forest p h)
     ∙ is_among-names_without k s (children_of w.forest p) ∙ grind (arith, among, other, eqb_tells s k) in
@@ -145,7 +146,8 @@ removed_alone k p s w v h up among other e = taken_alone k w v (left_alone k p s
 
 -- what goes too has no children and no text
 goes_silent : (inner : Option Kind) (f : Forest) (p : ℕ) → IsForest f → goes_too inner f p ≡ true → read_below f p ≡ []
-goes_silent inner f p h e = read-leaf f p h (nil_from_length (children_of f p) (grind (arith, e, eqb_tells (length (children_of f p)) 0))) ∙ silent_gone f p inner (grind (arith, e))
+goes_silent inner f p h e =
+    read-leaf f p h (nil_from_length (children_of f p) (grind (arith, e, eqb_tells (length (children_of f p)) 0))) ∙ silent_gone f p inner (grind (arith, e))
 
 -- what holds of a forest and itself, of one change after another, and where a tree is taken out in which nothing is read
 pub record HoldsAsSilentGo (P : Forest → Forest → Type 0) : Type 0 where

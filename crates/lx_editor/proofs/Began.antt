@@ -52,7 +52,9 @@ alone_other : (f : Forest) (q : ℕ) → IsForest f → has q f ≡ false → ha
 alone_other f q order out = by_test (has q root_alone) refl where
   by_test : (there : Bool) → has q root_alone ≡ there → has q root_alone ≡ false
   by_test false is = is
-  by_test true is = absurd (let root : has 0 f ≡ true = has-root f order in let same : q ≡ 0 = alone_is q is in let here : has q f ≡ true = ap (λ k. has k f) same ∙ root in cc)
+  by_test true is =
+      absurd (let root : has 0 f ≡ true = has-root f order in let same : q ≡ 0 = alone_is q is in let here : has q f ≡ true = ap (λ k. has k f) same
+      ∙ root in cc)
 
 alone_attached : (q : ℕ) → has q root_alone ≡ true → is_attached root_alone q ≡ true
 alone_attached q there = subst (λ k. is_attached root_alone k ≡ true) (sym (alone_is q there)) refl
@@ -71,7 +73,8 @@ module _ (next : ℕ) (w : Working) (im : IsImported next w) where
 
   seen : (q : ℕ) → ((spot w.forest q ≡ spot root_alone q) × (record_at w.forest q ≡ record_at root_alone q)) ⊎ (is_touched w.marks q ≡ true)
   seen q = by_test (has q w.forest) refl where
-    by_test : (there : Bool) → has q w.forest ≡ there → ((spot w.forest q ≡ spot root_alone q) × (record_at w.forest q ≡ record_at root_alone q)) ⊎ (is_touched w.marks q ≡ true)
+    by_test : (there : Bool) → has q w.forest ≡ there
+        → ((spot w.forest q ≡ spot root_alone q) × (record_at w.forest q ≡ record_at root_alone q)) ⊎ (is_touched w.marks q ≡ true)
     by_test true there = inr (ap (λ m. is_touched m q) same_marks ∙ im.all_marked q there)
     by_test false out =
         let before : has q root_alone ≡ false = alone_other w.forest q im.order out in

@@ -52,31 +52,39 @@ uncommitted_moment old new (Some moment) is =
     uncommitted_of old (record old { moment = moment }) new is (record { commits = refl; tree = refl; selection = refl; view = refl; last = refl })
 
 -- with a rule more, or without
-pub uncommitted_rule : (refused : Bool) (old new : Editor) (rule : Rule) → new ≡ (if refused then unless_full old else with_one_more rule (unless_full old)) → IsUncommitted old new
+pub uncommitted_rule : (refused : Bool) (old new : Editor) (rule : Rule) → new ≡ (if refused then unless_full old else with_one_more rule (unless_full old))
+    → IsUncommitted old new
 uncommitted_rule true old new rule is =
     uncommitted_of old (unless_full old) new is (record { commits = refl; tree = refl; selection = refl; view = refl; last = refl })
 uncommitted_rule false old new rule is =
     uncommitted_of old (with_one_more rule (unless_full old)) new is (record { commits = refl; tree = refl; selection = refl; view = refl; last = refl })
 
-gathered_uncommitted : (r : Result Working (Cause × Option ℕ)) (old : Editor) (tags : Tags) (outcome : Outcome) (new : Editor) → IsGatheredOf r old tags outcome new → IsUncommitted old new
+gathered_uncommitted : (r : Result Working (Cause × Option ℕ)) (old : Editor) (tags : Tags) (outcome : Outcome) (new : Editor)
+    → IsGatheredOf r old tags outcome new → IsUncommitted old new
 gathered_uncommitted (Err refused) old tags outcome new g = uncommitted_pending old new g.1
-gathered_uncommitted (Ok w) old tags outcome new g = uncommitted_of old _ new g.1 (record { commits = refl; tree = refl; selection = refl; view = refl; last = refl })
+gathered_uncommitted (Ok w) old tags outcome new g =
+    uncommitted_of old _ new g.1 (record { commits = refl; tree = refl; selection = refl; view = refl; last = refl })
 
 -- an update that waits commits nothing
-pub uncommitted_deferred : (old : Editor) (steps : List Step) (tags : Tags) (bytes : List ℕ) (new : Editor) → IsReplyOfDefer old steps tags bytes new → IsUncommitted old new
+pub uncommitted_deferred : (old : Editor) (steps : List Step) (tags : Tags) (bytes : List ℕ) (new : Editor) → IsReplyOfDefer old steps tags bytes new
+    → IsUncommitted old new
 unfolding IsDeferred
 uncommitted_deferred old steps tags bytes new (outcome, deferred, text) = gathered_uncommitted (gathered_by old steps) old tags outcome new deferred
 
-listening_uncommitted : (old : Editor) (listener : Listener) (answer : Result ℕ Cause) (new : Editor) → IsListening old listener answer new → IsUncommitted old new
-listening_uncommitted old listener (Ok number) new l = uncommitted_of old _ new l.2 (record { commits = refl; tree = refl; selection = refl; view = refl; last = refl })
+listening_uncommitted : (old : Editor) (listener : Listener) (answer : Result ℕ Cause) (new : Editor) → IsListening old listener answer new
+    → IsUncommitted old new
+listening_uncommitted old listener (Ok number) new l =
+    uncommitted_of old _ new l.2 (record { commits = refl; tree = refl; selection = refl; view = refl; last = refl })
 listening_uncommitted old listener (Err cause) new l = uncommitted_same old new l.2
 
 -- nor does a listener
-pub uncommitted_listener : (old : Editor) (listener : Listener) (bytes : List ℕ) (new : Editor) → IsReplyOfListener old listener bytes new → IsUncommitted old new
+pub uncommitted_listener : (old : Editor) (listener : Listener) (bytes : List ℕ) (new : Editor) → IsReplyOfListener old listener bytes new
+    → IsUncommitted old new
 uncommitted_listener old listener bytes new (answer, listening, text) = listening_uncommitted old listener answer new listening
 
 -- then no change is answered
-pub none_told : (asked : Bool) (old : Editor) (change : Option Change) (new : Editor) → change ≡ None → IsUncommitted old new → IsToldChange asked old change new
+pub none_told : (asked : Bool) (old : Editor) (change : Option Change) (new : Editor) → change ≡ None → IsUncommitted old new
+    → IsToldChange asked old change new
 unfolding IsToldChange
 none_told true old change new none same = subst (λ o. IsChange old o new) (sym none) same
 none_told false old change new none same = tt
@@ -100,7 +108,8 @@ change_from old mid (Some change) new u c = record {
   covered = subst (λ f. AreCovered f new.tree (marking change.marks)) u.tree c.covered;
 }
 
-pub told_from : (asked : Bool) (old mid : Editor) (change : Option Change) (new : Editor) → IsUncommitted old mid → IsToldChange asked mid change new → IsToldChange asked old change new
+pub told_from : (asked : Bool) (old mid : Editor) (change : Option Change) (new : Editor) → IsUncommitted old mid → IsToldChange asked mid change new
+    → IsToldChange asked old change new
 unfolding IsToldChange
 told_from true old mid change new u c = change_from old mid change new u c
 told_from false old mid change new u c = tt
@@ -117,7 +126,8 @@ unfolding IsNoted
 unasked true ops before marks change not = absurd (cc)
 unasked false ops before marks change not = tt
 
-pub noted_as : (asked : Bool) (ops : List Op) (before : State) (marks : Marked) (change : Option Change) (made : Change) → change ≡ Some made → made.ops.items ≡ ops → made.before ≡ before → made.marks ≡ marks
+pub noted_as : (asked : Bool) (ops : List Op) (before : State) (marks : Marked) (change : Option Change) (made : Change) → change ≡ Some made
+    → made.ops.items ≡ ops → made.before ≡ before → made.marks ≡ marks
     → IsNoted asked ops before marks change
 unfolding IsNoted
 noted_as true ops before marks (Some change) made is same state covers =
@@ -130,8 +140,10 @@ noted_as true ops before marks None made is same state covers = absurd (cc)
 noted_as false ops before marks change made is same state covers = tt
 
 -- what is noted of a commit is what it changed
-noted_told : (asked : Bool) (old new : Editor) (ops : List Op) (marks : Marked) (change : Option Change) → new.commits ≡ old.commits + 1 → option_map (λ (told : Told). told.ops) new.last ≡ Some ops
-    → Leads old.view ops new.view → AreCovered old.tree new.tree (marking marks) → IsNoted asked ops (state_of old) marks change → IsToldChange asked old change new
+noted_told : (asked : Bool) (old new : Editor) (ops : List Op) (marks : Marked) (change : Option Change) → new.commits ≡ old.commits + 1
+    → option_map (λ (told : Told). told.ops) new.last ≡ Some ops
+    → Leads old.view ops new.view → AreCovered old.tree new.tree (marking marks) → IsNoted asked ops (state_of old) marks change
+    → IsToldChange asked old change new
 unfolding IsToldChange IsNoted
 noted_told true old new ops marks (Some change) number last leads covered noted = record {
   number = number;
@@ -143,15 +155,20 @@ noted_told true old new ops marks (Some change) number last leads covered noted 
 noted_told true old new ops marks None number last leads covered noted = absurd noted
 noted_told false old new ops marks change number last leads covered noted = tt
 
-pub committed_told : (asked : Bool) (old : Editor) (how : Recording) (left : Left) (number : ℕ) (ops : List Op) (new : Editor) (marks : Marked) (change : Option Change) → IsCommitted old how left number ops new
+pub committed_told : (asked : Bool) (old : Editor) (how : Recording) (left : Left) (number : ℕ) (ops : List Op) (new : Editor) (marks : Marked)
+    (change : Option Change) → IsCommitted old how left number ops new
     → IsCoveredBy old left.tree marks → IsNoted asked ops (state_of old) marks change → IsToldChange asked old change new
 committed_told asked old how left number ops new marks change done covered noted =
-    noted_told asked old new ops marks change (ap (λ (e : Editor). e.commits) done.made) (ap (λ (e : Editor). option_map (λ (told : Told). told.ops) e.last) done.made) done.allowed.leads
+    noted_told asked old new ops marks change (ap (λ (e : Editor). e.commits) done.made)
+    (ap (λ (e : Editor). option_map (λ (told : Told). told.ops) e.last) done.made) done.allowed.leads
     (subst (λ f. AreCovered old.tree f (marking marks)) (sym (ap (λ (e : Editor). e.tree) done.made)) covered) noted
 
-pub turned_told : (asked : Bool) (turn : Turn) (moment : ℕ) (old : Editor) (state : State) (number : ℕ) (ops : List Op) (new : Editor) (marks : Marked) (change : Option Change)
-    → entry_of turn old.history ≡ Some state → IsTurned turn moment old number ops new → IsCoveredBy old state.links marks → IsNoted asked ops (state_of old) marks change → IsToldChange asked old change new
+pub turned_told : (asked : Bool) (turn : Turn) (moment : ℕ) (old : Editor) (state : State) (number : ℕ) (ops : List Op) (new : Editor) (marks : Marked)
+    (change : Option Change)
+    → entry_of turn old.history ≡ Some state → IsTurned turn moment old number ops new → IsCoveredBy old state.links marks
+    → IsNoted asked ops (state_of old) marks change → IsToldChange asked old change new
 turned_told asked turn moment old state number ops new marks change next done covered noted =
     let tree : new.tree ≡ state.links = ap (λ (e : Editor). e.tree) done.made ∙ ap (λ (s : State). s.links) (ap (state_or state) (sym done.next ∙ next)) in
-    noted_told asked old new ops marks change (ap (λ (e : Editor). e.commits) done.made) (ap (λ (e : Editor). option_map (λ (told : Told). told.ops) e.last) done.made) done.allowed.leads
+    noted_told asked old new ops marks change (ap (λ (e : Editor). e.commits) done.made)
+    (ap (λ (e : Editor). option_map (λ (told : Told). told.ops) e.last) done.made) done.allowed.leads
     (subst (λ f. AreCovered old.tree f (marking marks)) (sym tree) covered) noted

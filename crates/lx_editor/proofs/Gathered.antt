@@ -19,7 +19,8 @@ pub record IsGathered (row : TypeRow) (f : Forest) (keys : List ℕ) (at : Optio
 pub gathered_none : (row : TypeRow) (f : Forest) → IsForest f → IsGathered row f [] (Some (0, 0))
 gathered_none row f order = record { all = ap (filter (is_there row f)) (from-root f order); here = depth-root f order }
 
-step_left : (o : Option (ℕ × ℕ)) (f : Forest) (q : ℕ) → IfSome o (λ next. from f q ≡ q ∷ from f next.0) → IfNone o (from f q ≡ q ∷ []) → from f q ≡ q ∷ left_from f o
+step_left : (o : Option (ℕ × ℕ)) (f : Forest) (q : ℕ) → IfSome o (λ next. from f q ≡ q ∷ from f next.0) → IfNone o (from f q ≡ q ∷ [])
+    → from f q ≡ q ∷ left_from f o
 step_left None f q next last = last
 step_left (Some at) f q next last = next
 
@@ -32,8 +33,10 @@ one_more : (b : Bool) (keys rest : List ℕ) (q : ℕ) → (if b then keys ++ q 
 one_more true keys rest q = append_assoc keys (q ∷ []) rest
 one_more false keys rest q = refl
 
-pub gathered_more : (row : TypeRow) (f : Forest) (b : Bool) (at o : Option (ℕ × ℕ)) (keys more : List ℕ) (q d : ℕ) → IsGathered row f keys at → at ≡ Some (q, d) → b ≡ is_there row f q
-    → more ≡ (if b then keys ++ q ∷ [] else keys) → IfSome o (λ next. from f q ≡ q ∷ from f next.0) → IfNone o (from f q ≡ q ∷ []) → IfSome o (λ next. depth f next.0 ≡ Some next.1) → IsGathered row f more o
+pub gathered_more : (row : TypeRow) (f : Forest) (b : Bool) (at o : Option (ℕ × ℕ)) (keys more : List ℕ) (q d : ℕ) → IsGathered row f keys at → at ≡ Some (q, d)
+    → b ≡ is_there row f q
+    → more ≡ (if b then keys ++ q ∷ [] else keys) → IfSome o (λ next. from f q ≡ q ∷ from f next.0) → IfNone o (from f q ≡ q ∷ [])
+    → IfSome o (λ next. depth f next.0 ≡ Some next.1) → IsGathered row f more o
 gathered_more row f b at o keys more q d g is test made next last deep = record {
   all =
       ap (λ ks. ks ++ filter (is_there row f) (left_from f o)) made

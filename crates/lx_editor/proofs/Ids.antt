@@ -31,16 +31,19 @@ ok_same a b e = cc
 within : (n : ℕ) → n ≤ last_u32 → over_at Hosts last_u32 n ≡ None
 within n h = grind (arith, nat_tests, h)
 
-pub ids_suffice : (old new : Forest) (view : HostTree) (next : ℕ) → next ≡ view.next → total new ≤ most_nodes → next + 16384 ≤ 4294967295 → None ≡ hosts_fault old new view
+pub ids_suffice : (old new : Forest) (view : HostTree) (next : ℕ) → next ≡ view.next → total new ≤ most_nodes → next + 16384 ≤ 4294967295
+    → None ≡ hosts_fault old new view
 ids_suffice old new view next at few room =
     let n : ℕ = view.next + unkept old None new in
     let enough : n ≤ last_u32 = omega (arith, at, few, room, unkept-total old None new) in
     sym (ap (over_at Hosts last_u32) (sym (capped_small n (omega (arith, enough)))) ∙ within n enough)
 
-pub room_enough : (old new : Forest) (view : HostTree) (next : ℕ) → next ≡ view.next → total new ≤ most_nodes → next + 16384 ≤ 4294967295 → view.next + unkept old None new ≤ last_u32
+pub room_enough : (old new : Forest) (view : HostTree) (next : ℕ) → next ≡ view.next → total new ≤ most_nodes → next + 16384 ≤ 4294967295
+    → view.next + unkept old None new ≤ last_u32
 room_enough old new view next at few room = omega (arith, at, few, room, unkept-total old None new)
 
-pub ids_counted : (old new : Forest) (view : HostTree) (next more : ℕ) → next ≡ view.next → next < 4294967296 → total new ≤ most_nodes → more ≡ unkept old None new → over_at Hosts last_u32 (next + more) ≡ hosts_fault old new view
+pub ids_counted : (old new : Forest) (view : HostTree) (next more : ℕ) → next ≡ view.next → next < 4294967296 → total new ≤ most_nodes
+    → more ≡ unkept old None new → over_at Hosts last_u32 (next + more) ≡ hosts_fault old new view
 ids_counted old new view next more at range few count =
     let n : ℕ = view.next + unkept old None new in
     let same : next + more ≡ n = omega (arith, at, count) in
@@ -49,5 +52,6 @@ ids_counted old new view next more at range few count =
 none_over : (n : ℕ) → over_at Hosts last_u32 n ≡ None → n ≤ last_u32
 none_over n e = grind (arith, nat_tests, e)
 
-pub room_counted : (old new : Forest) (view : HostTree) (next more : ℕ) → next ≡ view.next → more ≡ unkept old None new → over_at Hosts last_u32 (next + more) ≡ None → view.next + unkept old None new ≤ last_u32
+pub room_counted : (old new : Forest) (view : HostTree) (next more : ℕ) → next ≡ view.next → more ≡ unkept old None new
+    → over_at Hosts last_u32 (next + more) ≡ None → view.next + unkept old None new ≤ last_u32
 room_counted old new view next more at count none = omega (arith, at, count, none_over (next + more) none)

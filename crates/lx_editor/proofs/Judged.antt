@@ -45,14 +45,17 @@ may_conclude_turn turn e Idle judged = tt
 may_conclude_turn turn e (Commit frozen batch shown) judged = absurd judged
 may_conclude_turn turn e (Turned way state batch marks) judged = (subst (λ t. MayTurn e t state.value batch) (sym judged.0) judged.1, judged.2)
 
-pub may_conclude_answer : (r : Result Ending (Cause × Option ℕ)) (e : Editor) (verdict : Verdict) (handled : Bool) → IsAnswerJudged r e verdict handled → MayConclude e verdict
+pub may_conclude_answer : (r : Result Ending (Cause × Option ℕ)) (e : Editor) (verdict : Verdict) (handled : Bool) → IsAnswerJudged r e verdict handled
+    → MayConclude e verdict
 may_conclude_answer (Err refused) e verdict handled judged = subst (MayConclude e) (sym judged.0) tt
 may_conclude_answer (Ok (ending.Left w was_handled)) e verdict handled judged = may_conclude (rested_by e.rules w) e verdict judged.0
 may_conclude_answer (Ok (ending.Turned turn)) e verdict handled judged = may_conclude_turn turn e verdict judged.0
 
 -- a dispatch that is refused is judged so, and wasn't handled
-pub answer_refused : (gathering : Bool) (run : Result Ended (Cause × Option ℕ)) (e : Refusal) (editor : Editor) (verdict : Verdict) → TellsRefusal e run → IsForCause e
-    → ((left : Result Settled (Cause × Option ℕ)) (d : Editor) → TellsRefusal e left → IsJudged left d verdict) → IsAnswerJudged (unless_gathering gathering (answer_drafted run)) editor verdict false
+pub answer_refused : (gathering : Bool) (run : Result Ended (Cause × Option ℕ)) (e : Refusal) (editor : Editor) (verdict : Verdict) → TellsRefusal e run
+    → IsForCause e
+    → ((left : Result Settled (Cause × Option ℕ)) (d : Editor) → TellsRefusal e left → IsJudged left d verdict)
+    → IsAnswerJudged (unless_gathering gathering (answer_drafted run)) editor verdict false
 answer_refused gathering run (refusal.Cause cause step) editor verdict told for_cause judged =
     subst (λ r. IsAnswerJudged (unless_gathering gathering (answer_drafted r)) editor verdict false) (sym told) (judged (Err (cause, step)) editor refl, refl)
 answer_refused gathering run refusal.Memory editor verdict told for_cause judged = absurd for_cause
@@ -64,7 +67,8 @@ same_rules : (e : Editor) (rules : List AnyRule) → rules ≡ e.rules → e ≡
 same_rules e rules is = ap (λ rs. record e { rules = rs }) (sym is)
 
 module _ (how : Recording) where
-  taken : (left : Left) (e : Editor) (verdict : Verdict) (outcome : Outcome) (new : Editor) → IsWeighed e left verdict → IsConcluded e how verdict outcome new → IsTaken e how left outcome new
+  taken : (left : Left) (e : Editor) (verdict : Verdict) (outcome : Outcome) (new : Editor) → IsWeighed e left verdict → IsConcluded e how verdict outcome new
+      → IsTaken e how left outcome new
   taken left e (Commit frozen batch shown) (made.Committed number ops) new weighed done = subst (λ l. IsCommitted e how l number ops new) weighed.0 done
   taken left e (Commit frozen batch shown) (made.Refused cause step) new weighed done = absurd done
   taken left e (Commit frozen batch shown) made.Idle new weighed done = absurd done
@@ -75,26 +79,31 @@ module _ (how : Recording) where
   taken left e Idle outcome new weighed (is, same) = subst (λ o. IsTaken e how left o new) (sym is) (weighed.1, same ∙ same_rules e left.rules weighed.0)
 
   -- what is concluded is what was judged
-  pub concluded : (r : Result Settled (Cause × Option ℕ)) (e : Editor) (verdict : Verdict) (outcome : Outcome) (new : Editor) → IsJudged r e verdict → IsConcluded e how verdict outcome new → IsMadeOf r e how outcome new
+  pub concluded : (r : Result Settled (Cause × Option ℕ)) (e : Editor) (verdict : Verdict) (outcome : Outcome) (new : Editor) → IsJudged r e verdict
+      → IsConcluded e how verdict outcome new → IsMadeOf r e how outcome new
   concluded (Ok settled) e verdict outcome new judged done = (judged.0, taken settled.left e verdict outcome new judged.1 done)
   concluded (Err refused) e verdict outcome new judged done =
       let refusal : IsConcluded e how (Refused refused.0 refused.1) outcome new = subst (λ v. IsConcluded e how v outcome new) judged done in refusal
 
   -- ---- an undo or a redo
 
-  pub turn_concluded : (turn : Turn) (e : Editor) (verdict : Verdict) (outcome : Outcome) (new : Editor) → IsTurnJudged turn e verdict → IsConcluded e how verdict outcome new → IsTurnedBy turn how.moment e outcome new
+  pub turn_concluded : (turn : Turn) (e : Editor) (verdict : Verdict) (outcome : Outcome) (new : Editor) → IsTurnJudged turn e verdict
+      → IsConcluded e how verdict outcome new → IsTurnedBy turn how.moment e outcome new
   turn_concluded turn e (Commit frozen batch shown) outcome new judged done = absurd judged
-  turn_concluded turn e (Turned way state batch marks) (made.Committed number ops) new judged done = subst (λ t. IsTurned t how.moment e number ops new) judged.0 done
+  turn_concluded turn e (Turned way state batch marks) (made.Committed number ops) new judged done =
+      subst (λ t. IsTurned t how.moment e number ops new) judged.0 done
   turn_concluded turn e (Turned way state batch marks) (made.Refused cause step) new judged done = absurd done
   turn_concluded turn e (Turned way state batch marks) made.Idle new judged done = absurd done
   turn_concluded turn e (Turned way state batch marks) (made.Gathered count) new judged done = absurd done
   turn_concluded turn e (Refused cause step) outcome new judged (is, same) =
-      subst (λ o. IsTurnedBy turn how.moment e o new) (sym is) (record { entry = judged.entry; next = judged.next; fault = judged.fault; no_step = judged.no_step; same = same })
+      subst (λ o. IsTurnedBy turn how.moment e o new) (sym is)
+      (record { entry = judged.entry; next = judged.next; fault = judged.fault; no_step = judged.no_step; same = same })
   turn_concluded turn e Idle outcome new judged (is, same) = subst (λ o. IsTurnedBy turn how.moment e o new) (sym is) (judged, same)
 
   -- ---- a dispatch
 
-  pub answer_concluded : (r : Result Ending (Cause × Option ℕ)) (e : Editor) (verdict : Verdict) (handled : Bool) (outcome : Outcome) (new : Editor) → IsAnswerJudged r e verdict handled → IsConcluded e how verdict outcome new
+  pub answer_concluded : (r : Result Ending (Cause × Option ℕ)) (e : Editor) (verdict : Verdict) (handled : Bool) (outcome : Outcome) (new : Editor)
+      → IsAnswerJudged r e verdict handled → IsConcluded e how verdict outcome new
       → IsMadeOfAnswer r e how outcome (unless_refused outcome handled) new
   answer_concluded (Ok (ending.Left w was_handled)) e verdict handled outcome new judged done =
       (concluded (rested_by e.rules w) e verdict outcome new judged.0 done, ap (unless_refused outcome) judged.1)
@@ -121,7 +130,8 @@ module _ (how : Recording) (old : Editor) (rule : Rule) where
   as_mid left n = record { none_marked = n.none_marked; selected = n.selected }
 
   -- a commit doesn't look at the rules that there were
-  committed_before : (left : Left) (number : ℕ) (ops : List Op) (new : Editor) → IsCommitted mid how left number ops new → IsCommitted old how left number ops new
+  committed_before : (left : Left) (number : ℕ) (ops : List Op) (new : Editor) → IsCommitted mid how left number ops new
+      → IsCommitted old how left number ops new
   committed_before left number ops new c = record {
     anew = λ n. c.anew (as_mid left n);
     ids = c.ids;
@@ -134,32 +144,40 @@ module _ (how : Recording) (old : Editor) (rule : Rule) where
     made = c.made;
   }
 
-  rule_taken : (left : Left) (verdict : Verdict) (outcome : Outcome) (new : Editor) → IsWeighed mid left verdict → IsConcluded (with_unless_refused rule old verdict) how verdict outcome new → IsTaken old how left outcome new
-  rule_taken left (Commit frozen batch shown) (made.Committed number ops) new weighed done = committed_before left number ops new (subst (λ l. IsCommitted mid how l number ops new) weighed.0 done)
+  rule_taken : (left : Left) (verdict : Verdict) (outcome : Outcome) (new : Editor) → IsWeighed mid left verdict
+      → IsConcluded (with_unless_refused rule old verdict) how verdict outcome new → IsTaken old how left outcome new
+  rule_taken left (Commit frozen batch shown) (made.Committed number ops) new weighed done =
+      committed_before left number ops new (subst (λ l. IsCommitted mid how l number ops new) weighed.0 done)
   rule_taken left (Commit frozen batch shown) (made.Refused cause step) new weighed done = absurd done
   rule_taken left (Commit frozen batch shown) made.Idle new weighed done = absurd done
   rule_taken left (Commit frozen batch shown) (made.Gathered count) new weighed done = absurd done
   rule_taken left (Turned turn state batch marks) outcome new weighed done = absurd weighed
   rule_taken left (Refused cause step) outcome new weighed (is, same) =
-      subst (λ o. IsTaken old how left o new) (sym is) (record { anew = λ n. weighed.anew (as_mid left n); fault = weighed.fault; no_step = weighed.no_step; same = same })
+      subst (λ o. IsTaken old how left o new) (sym is)
+      (record { anew = λ n. weighed.anew (as_mid left n); fault = weighed.fault; no_step = weighed.no_step; same = same })
   rule_taken left Idle outcome new weighed (is, same) =
       subst (λ o. IsTaken old how left o new) (sym is) (nothing_new left weighed.1, same ∙ ap (λ rs. record old { rules = rs }) (sym weighed.0))
 
-  rule_judged : (r : Result Settled (Cause × Option ℕ)) (verdict : Verdict) (outcome : Outcome) (new : Editor) → IsJudged r mid verdict → IsConcluded (with_unless_refused rule old verdict) how verdict outcome new → IsMadeOf r old how outcome new
+  rule_judged : (r : Result Settled (Cause × Option ℕ)) (verdict : Verdict) (outcome : Outcome) (new : Editor) → IsJudged r mid verdict
+      → IsConcluded (with_unless_refused rule old verdict) how verdict outcome new → IsMadeOf r old how outcome new
   rule_judged (Ok settled) verdict outcome new judged done = (judged.0, rule_taken settled.left verdict outcome new judged.1 done)
   rule_judged (Err refused) verdict outcome new judged done =
-      let refusal : IsConcluded old how (Refused refused.0 refused.1) outcome new = subst (λ v. IsConcluded (with_unless_refused rule old v) how v outcome new) judged done in refusal
+      let refusal : IsConcluded old how (Refused refused.0 refused.1) outcome new =
+      subst (λ v. IsConcluded (with_unless_refused rule old v) how v outcome new) judged done in refusal
 
   -- what is concluded of a rule is what was judged
-  pub rule_concluded : (r : Result Settled (Cause × Option ℕ)) (verdict : Verdict) (e : Editor) (outcome : Outcome) (new : Editor) → IsJudged r mid verdict → e ≡ with_unless_refused rule old verdict
+  pub rule_concluded : (r : Result Settled (Cause × Option ℕ)) (verdict : Verdict) (e : Editor) (outcome : Outcome) (new : Editor) → IsJudged r mid verdict
+      → e ≡ with_unless_refused rule old verdict
       → IsConcluded e how verdict outcome new → IsMadeOf r old how outcome new
   rule_concluded r verdict e outcome new judged is done = rule_judged r verdict outcome new judged (subst (λ x. IsConcluded x how verdict outcome new) is done)
 
 -- ---- what a line takes in
 
 -- What is concluded of a draft that was pending, or of one of what is committed, is what the line makes of the editor.
-pub taken_in : (r : Editor → Working → Result Settled (Cause × Option ℕ)) (old mid : Editor) (draft : Working) (how all : Recording) (verdict : Verdict) (outcome : Outcome) (new : Editor)
-    → mid ≡ with_nothing_pending old → draft ≡ begun old → all ≡ recording_all old how → IsJudged (r mid draft) mid verdict → IsConcluded mid all verdict outcome new
+pub taken_in : (r : Editor → Working → Result Settled (Cause × Option ℕ)) (old mid : Editor) (draft : Working) (how all : Recording) (verdict : Verdict)
+    (outcome : Outcome) (new : Editor)
+    → mid ≡ with_nothing_pending old → draft ≡ begun old → all ≡ recording_all old how → IsJudged (r mid draft) mid verdict
+    → IsConcluded mid all verdict outcome new
     → IsMadeOf (r (with_nothing_pending old) (begun old)) (with_nothing_pending old) (recording_all old how) outcome new
 taken_in r old mid draft how all verdict outcome new taken is recorded judged done =
     let now : Editor = with_nothing_pending old in
@@ -169,7 +187,8 @@ taken_in r old mid draft how all verdict outcome new taken is recorded judged do
     (subst (λ (e : Editor). IsConcluded e all verdict outcome new) taken done))
 
 -- so it is of a dispatch
-pub answer_taken_in : (command : Command) (old mid : Editor) (draft : Working) (how all : Recording) (gathering : Bool) (verdict : Verdict) (handled : Bool) (outcome : Outcome) (new : Editor)
+pub answer_taken_in : (command : Command) (old mid : Editor) (draft : Working) (how all : Recording) (gathering : Bool) (verdict : Verdict) (handled : Bool)
+    (outcome : Outcome) (new : Editor)
     → mid ≡ with_nothing_pending old → draft ≡ begun old → all ≡ recording_all old how → gathering ≡ is_gathering old
     → IsAnswerJudged (answer_by gathering mid.listeners command draft) mid verdict handled → IsConcluded mid all verdict outcome new
     → IsMadeOfAnswer (answer_to command old) (with_nothing_pending old) (recording_all old how) outcome (unless_refused outcome handled) new
@@ -185,7 +204,8 @@ answer_taken_in command old mid draft how all gathering verdict handled outcome 
 -- ---- a dispatch
 
 -- a reply says of a refusal nothing of whether the command was handled
-pub handled_told : (outcome : Outcome) (html : Option (List ℕ)) (handled : Bool) → reply_of (Some handled) html outcome ≡ reply_of (Some (unless_refused outcome handled)) html outcome
+pub handled_told : (outcome : Outcome) (html : Option (List ℕ)) (handled : Bool)
+    → reply_of (Some handled) html outcome ≡ reply_of (Some (unless_refused outcome handled)) html outcome
 handled_told (made.Committed number ops) html handled = refl
 handled_told (made.Refused cause step) html handled = refl
 handled_told made.Idle html handled = refl
@@ -194,11 +214,13 @@ handled_told (made.Gathered count) html handled = refl
 -- ---- replies
 
 -- the view in the reply to a commit is that of what was left
-pub committed_view : (old : Editor) (how : Recording) (left : Left) (commit : ℕ) (ops : List Op) (new : Editor) → IsCommitted old how left commit ops new → view_told new ≡ html_told old.tells_view left.tree
+pub committed_view : (old : Editor) (how : Recording) (left : Left) (commit : ℕ) (ops : List Op) (new : Editor) → IsCommitted old how left commit ops new
+    → view_told new ≡ html_told old.tells_view left.tree
 committed_view old how left commit ops new c = ap view_told c.made
 
 -- that of an undo or a redo is the entry's
-pub turned_view : (turn : Turn) (moment : ℕ) (old : Editor) (state : State) (commit : ℕ) (ops : List Op) (new : Editor) → entry_of turn old.history ≡ Some state → IsTurned turn moment old commit ops new
+pub turned_view : (turn : Turn) (moment : ℕ) (old : Editor) (state : State) (commit : ℕ) (ops : List Op) (new : Editor) → entry_of turn old.history ≡ Some state
+    → IsTurned turn moment old commit ops new
     → view_told new ≡ html_told old.tells_view state.links
 turned_view turn moment old state commit ops new next t =
     ap view_told t.made ∙ ap (λ (s : State). html_told old.tells_view s.links) (ap (state_or state) (sym t.next ∙ next))
@@ -206,7 +228,8 @@ turned_view turn moment old state commit ops new next t =
 -- ---- a load
 
 -- what isn't judged as idle isn't concluded as that
-pub never_idle : (how : Recording) (e : Editor) (verdict : Verdict) (outcome : Outcome) (new : Editor) → is_idle verdict ≡ false → IsConcluded e how verdict outcome new → outcome ≢ made.Idle
+pub never_idle : (how : Recording) (e : Editor) (verdict : Verdict) (outcome : Outcome) (new : Editor) → is_idle verdict ≡ false
+    → IsConcluded e how verdict outcome new → outcome ≢ made.Idle
 never_idle how e (Commit frozen batch shown) (made.Committed number ops) new anew done is = cc
 never_idle how e (Commit frozen batch shown) (made.Refused cause step) new anew done is = absurd done
 never_idle how e (Commit frozen batch shown) made.Idle new anew done is = absurd done

@@ -58,12 +58,14 @@ module _ (P : State → Type 0) where
   all_with (Some s) xs h all = All-cons P s xs h all
 
   recorded_each : (action : Action) (after : State) (h : History) → P after → EachEntry P h → EachEntry P (recorded action after h)
-  recorded_each Push after h p e = record { undo = all_take most_entries (with_entry h.current h.undo) (all_with h.current h.undo e.current e.undo); redo = All-nil P; current = p }
+  recorded_each Push after h p e =
+      record { undo = all_take most_entries (with_entry h.current h.undo) (all_with h.current h.undo e.current e.undo); redo = All-nil P; current = p }
   recorded_each Merge after h p e = record { undo = e.undo; redo = e.redo; current = p }
   recorded_each Discard after h p e = e
 
   -- what holds of the new state and of each entry holds of each entry after
-  noted_each : (before after : State) (marks : Marked) (tags : Tags) (moment : ℕ) (h : History) → P after → EachEntry P h → EachEntry P (noted before after marks tags moment h)
+  noted_each : (before after : State) (marks : Marked) (tags : Tags) (moment : ℕ) (h : History) → P after → EachEntry P h
+      → EachEntry P (noted before after marks tags moment h)
   unfolding noted
   noted_each before after marks tags moment h p e =
       let r = recorded_each (action_of h before after marks tags moment) after h p e in record { undo = r.undo; redo = r.redo; current = r.current }
@@ -71,12 +73,14 @@ module _ (P : State → Type 0) where
   undone_each : (moment : ℕ) (xs : List State) (h g : History) → All P xs → EachEntry P h → undone_to moment xs h ≡ Some g → EachEntry P g
   undone_each moment [] h g all e is = absurd (cc)
   undone_each moment (s ∷ xs) h g all e is =
-      subst (EachEntry P) (ap (told_or g) is) (record { undo = All-tail P s xs all; redo = all_with h.current h.redo e.current e.redo; current = All-head P s xs all })
+      subst (EachEntry P) (ap (told_or g) is)
+      (record { undo = All-tail P s xs all; redo = all_with h.current h.redo e.current e.redo; current = All-head P s xs all })
 
   redone_each : (moment : ℕ) (xs : List State) (h g : History) → All P xs → EachEntry P h → redone_to moment xs h ≡ Some g → EachEntry P g
   redone_each moment [] h g all e is = absurd (cc)
   redone_each moment (s ∷ xs) h g all e is =
-      subst (EachEntry P) (ap (told_or g) is) (record { undo = all_with h.current h.undo e.current e.undo; redo = All-tail P s xs all; current = All-head P s xs all })
+      subst (EachEntry P) (ap (told_or g) is)
+      (record { undo = all_with h.current h.undo e.current e.undo; redo = All-tail P s xs all; current = All-head P s xs all })
 
   -- so it does where the history turns
   pub turned_each : (turn : Turn) (moment : ℕ) (h g : History) → EachEntry P h → turned turn moment h ≡ Some g → EachEntry P g
@@ -127,7 +131,8 @@ key_below f next q free there = elim (cases_Bool (ltb q next)) [
 
 -- ---- a commit
 
-module _ (e : Editor) (left : Left) (stands : IsState e.tree e.selection e.next_key) (kept : IsKept e) (state : IsState left.tree left.selection left.next_key) (grown : HasGrown e.tree e.next_key left) where
+module _ (e : Editor) (left : Left) (stands : IsState e.tree e.selection e.next_key) (kept : IsKept e) (state : IsState left.tree left.selection left.next_key)
+    (grown : HasGrown e.tree e.next_key left) where
   abbrev pub kinds : ℕ → Kind
   kinds = kinds_with kept.kinds e.next_key left.tree
 
@@ -143,11 +148,14 @@ module _ (e : Editor) (left : Left) (stands : IsState e.tree e.selection e.next_
     not_below above = grind (arith, above)
 
   rises : (s : State) → IsEntry e.next_key s × HasKinds kept.kinds s.links → IsEntry left.next_key s × HasKinds kinds s.links
-  rises s (st, have) = (state_rises s.links left.tree s.selection left.selection e.next_key left.next_key st state grown.next_key, still_kinds s.links st.start.free have)
+  rises s (st, have) =
+      (state_rises s.links left.tree s.selection left.selection e.next_key left.next_key st state grown.next_key, still_kinds s.links st.start.free have)
 
   -- with what is left, however it is recorded, each state is kept
   pub entries_kept : (how : Recording) → EachEntry (λ s. IsEntry left.next_key s × HasKinds kinds s.links) (recorded_after e how left)
   entries_kept how =
-      noted_each (λ s. IsEntry left.next_key s × HasKinds kinds s.links) (state_with e.tree e.selection) (state_with left.tree left.selection) left.marks how.tags how.moment e.history
+      noted_each (λ s. IsEntry left.next_key s × HasKinds kinds s.links) (state_with e.tree e.selection) (state_with left.tree left.selection) left.marks
+      how.tags how.moment e.history
       (state, new_kinds)
-      (entries_each (λ s. IsEntry e.next_key s × HasKinds kept.kinds s.links) (λ s. IsEntry left.next_key s × HasKinds kinds s.links) rises e.history kept.entries)
+      (entries_each (λ s. IsEntry e.next_key s × HasKinds kept.kinds s.links) (λ s. IsEntry left.next_key s × HasKinds kinds s.links) rises e.history
+      kept.entries)

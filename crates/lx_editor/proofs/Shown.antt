@@ -25,7 +25,8 @@ own_count l b t = grind (arith, eqb_tells l.key l.key)
 pub same_children : (noted other : ℕ → Bool) (f : Forest) → ((q : ℕ) → 0 < count q f → noted q ≡ other q) → marked_children noted f ≡ marked_children other f
 same_children noted other nil same = refl
 same_children noted other (tree l b t) same =
-    let own : cond (noted l.key) (length (roots b)) 0 ≡ cond (other l.key) (length (roots b)) 0 = ap (λ x. cond x (length (roots b)) 0) (same l.key (own_count l b t)) in
+    let own : cond (noted l.key) (length (roots b)) 0 ≡ cond (other l.key) (length (roots b)) 0 =
+    ap (λ x. cond x (length (roots b)) 0) (same l.key (own_count l b t)) in
     omega (
       arith,
       own,
@@ -47,7 +48,8 @@ module _ (old : Forest) (left : Left) (shown : Marked) (s : IsShownBy old left s
   ]
   may_change v _ (of_child id key parent among up stays e) = of_child id key parent among up stays (sym (s.touched parent stays) ∙ e)
 
-  all_due : (v : HostTree) (ops : List Op) → AllByRecursion (IsDue old left.tree (is_touched shown) v) ops → AllByRecursion (IsDue old left.tree (is_touched left.marks) v) ops
+  all_due : (v : HostTree) (ops : List Op) → AllByRecursion (IsDue old left.tree (is_touched shown) v) ops
+      → AllByRecursion (IsDue old left.tree (is_touched left.marks) v) ops
   all_due v [] all = tt
   all_due v (op ∷ ops) all = (record { subject = may_change v (subject_of op) all.0.subject; place = all.0.place; drop = all.0.drop }, all_due v ops all.1)
 
@@ -85,8 +87,10 @@ pub is_anew : (e : Editor) (left : Left) → is_touched left.marks 0 ≡ true �
 is_anew e left touched nothing = no_marks left.marks nothing.none_marked touched
 
 -- it may be committed with the operations for these marks
-pub may_commit : (e : Editor) (left : Left) (shown : Marked) (batch : Told) → IsLeft left → is_touched left.marks 0 ≡ true → IsShownBy e.tree left shown → hosts_fault e.tree left.tree e.view ≡ None
-    → HasGrown e.tree e.next_key left → IsAllowed e.tree left.tree (marking shown) e.view batch.ops → batch.reads ≤ most_reads e.tree left.tree (is_noted shown) → MayCommit e left batch
+pub may_commit : (e : Editor) (left : Left) (shown : Marked) (batch : Told) → IsLeft left → is_touched left.marks 0 ≡ true → IsShownBy e.tree left shown
+    → hosts_fault e.tree left.tree e.view ≡ None
+    → HasGrown e.tree e.next_key left → IsAllowed e.tree left.tree (marking shown) e.view batch.ops → batch.reads ≤ most_reads e.tree left.tree (is_noted shown)
+    → MayCommit e left batch
 may_commit e left shown batch stands touched s ids grown allowed few = record {
   stands = stands;
   grown = grown;

@@ -54,7 +54,8 @@ module _ (old new : Forest) (marks : Marked) (known : AreKnown old new marks) wh
   may_change v _ (of_touched id key among e) = of_touched id key among (known.touched key e)
   may_change v _ (of_child id key parent among up stays e) = of_child id key parent among up stays (known.touched parent e)
 
-  known_due : (v : HostTree) (ops : List Op) → AllByRecursion (IsDue old new (is_touched marks) v) ops → AllByRecursion (IsDue old new (is_in_either old new) v) ops
+  known_due : (v : HostTree) (ops : List Op) → AllByRecursion (IsDue old new (is_touched marks) v) ops
+      → AllByRecursion (IsDue old new (is_in_either old new) v) ops
   known_due v [] due = tt
   known_due v (op ∷ ops) due = (record { subject = may_change v (subject_of op) due.0.subject; place = due.0.place; drop = due.0.drop }, known_due v ops due.1)
 
@@ -68,7 +69,8 @@ module _ (old new : Forest) (marks : Marked) (known : AreKnown old new marks) wh
       omega (
         arith,
         few,
-        more_children (staying (is_noted marks) new) (staying (is_in_either old new) new) old (λ q. more_stay (is_noted marks q) (is_in_either old new q) (has q new) (known.noted q)),
+        more_children (staying (is_noted marks) new) (staying (is_in_either old new) new) old (λ q. more_stay (is_noted marks q) (is_in_either old new q)
+            (has q new) (known.noted q)),
         more_children (is_noted marks) (is_in_either old new) new known.noted,
       )
 
@@ -79,7 +81,8 @@ current_in None = None
 current_in (Some h) = h.current
 
 -- the history comes to the entry that is next
-pub comes_to : (turn : Turn) (moment : ℕ) (h g : History) (state : State) → entry_of turn h ≡ Some state → turned turn moment h ≡ Some g → g.current ≡ Some state
+pub comes_to : (turn : Turn) (moment : ℕ) (h g : History) (state : State) → entry_of turn h ≡ Some state → turned turn moment h ≡ Some g
+    → g.current ≡ Some state
 unfolding undone redone
 comes_to Undo moment h g state next turns = back h.undo next turns where
   back : (xs : List State) → first xs ≡ Some state → undone_to moment xs h ≡ Some g → g.current ≡ Some state
@@ -91,7 +94,8 @@ comes_to Redo moment h g state next turns = forth h.redo next turns where
   forth (s ∷ xs) one is = sym (ap (λ o. current_in o) is) ∙ one
 
 -- the entry is one that may be committed, and its nodes have the kinds of their keys
-pub entry_kept : (e : Editor) (valid : IsValid e) (turn : Turn) (state : State) → entry_of turn e.history ≡ Some state → IsEntry e.next_key state × HasKinds valid.kept.kinds state.links
+pub entry_kept : (e : Editor) (valid : IsValid e) (turn : Turn) (state : State) → entry_of turn e.history ≡ Some state
+    → IsEntry e.next_key state × HasKinds valid.kept.kinds state.links
 entry_kept e valid turn state next = entry_each (λ s. IsEntry e.next_key s × HasKinds valid.kept.kinds s.links) turn e.history state valid.kept.entries next
 
 -- a copy of a state is that state
@@ -99,7 +103,8 @@ state_same : (a b : State) → a.links ≡ b.links → a.selection ≡ b.selecti
 state_same a b links selection = ap (λ l. state_with l a.selection) links ∙ ap (λ s. state_with b.links s) selection
 
 -- so a copy of the entry that the history gives is its next one
-pub next_copied : (turn : Turn) (h : History) (told : Option State) (entry state : State) → told ≡ entry_of turn h → told ≡ Some entry → state.links ≡ entry.links → state.selection ≡ entry.selection
+pub next_copied : (turn : Turn) (h : History) (told : Option State) (entry state : State) → told ≡ entry_of turn h → told ≡ Some entry
+    → state.links ≡ entry.links → state.selection ≡ entry.selection
     → entry_of turn h ≡ Some state
 next_copied turn h told entry state tells is links selection = sym tells ∙ is ∙ ap (λ s. Some s) (sym (state_same state entry links selection))
 
@@ -118,16 +123,19 @@ never_still Redo moment h state next none = forth h.redo next none where
 pub has_turned : (b : Bool) (turn : Turn) (moment : ℕ) (h mid g : History) (state : State) → entry_of turn h ≡ Some state → mid ≡ h
     → MatchBool b (turned turn moment mid ≡ Some g) ((turned turn moment mid ≡ None) × (g ≡ mid)) → turned turn moment h ≡ Some g
 has_turned true turn moment h mid g state next same did = subst (λ k. turned turn moment k ≡ Some g) same did
-has_turned false turn moment h mid g state next same (none, still) = absurd (never_still turn moment h state next (subst (λ k. turned turn moment k ≡ None) same none))
+has_turned false turn moment h mid g state next same (none, still) =
+    absurd (never_still turn moment h state next (subst (λ k. turned turn moment k ≡ None) same none))
 
-module _ (e : Editor) (turn : Turn) (moment : ℕ) (state : State) (batch : Told) (may : MayTurn e turn state batch) (valid : IsValid e) (view : HostTree) (leads : Leads e.view batch.ops view)
+module _ (e : Editor) (turn : Turn) (moment : ℕ) (state : State) (batch : Told) (may : MayTurn e turn state batch) (valid : IsValid e) (view : HostTree)
+    (leads : Leads e.view batch.ops view)
     (history : History) (turns : turned turn moment e.history ≡ Some history) where
   kept : IsEntry e.next_key state × HasKinds valid.kept.kinds state.links
   kept = entry_kept e valid turn state may.next
 
   reached : AreAllowed e.tree state.links (is_in_either e.tree state.links) e.view batch.ops view
   reached =
-      subst (λ w. AreAllowed e.tree state.links (is_in_either e.tree state.links) e.view batch.ops w) (same_end e.view may.allowed.0 view batch.ops may.allowed.1.leads leads) may.allowed.1
+      subst (λ w. AreAllowed e.tree state.links (is_in_either e.tree state.links) e.view batch.ops w)
+      (same_end e.view may.allowed.0 view batch.ops may.allowed.1.leads leads) may.allowed.1
 
   abbrev pub made : Editor
   made = record {
@@ -192,7 +200,8 @@ as_between mid old new q (inr was) (inr is) = inr (record {
 })
 
 -- where the committed tree and an entry's differ from the current one only at these places, they differ from each other only there
-pub told_between : (current : Option State) (places since : Option (List ℕ)) (old new : Forest) → IsSomeAnd current (λ c. DifferAt places c.links new) → IsAway current since old
+pub told_between : (current : Option State) (places since : Option (List ℕ)) (old new : Forest) → IsSomeAnd current (λ c. DifferAt places c.links new)
+    → IsAway current since old
     → (q : ℕ) → IsOutside places q → IsOutside since q → IsAsBefore old new q
 told_between None places since old new told away q first later = absurd told
 told_between (Some c) places since old new told away q first later = as_between c.links old new q (away q later) (told q first)
@@ -205,7 +214,9 @@ as_itself f q = elim (cases_Bool (has q f)) [
 
 -- where the history has turned, the current state is what is committed
 pub turned_away : (b : Bool) (turn : Turn) (moment : ℕ) (h mid g : History) (state : State) (strays : Option (List ℕ)) → entry_of turn h ≡ Some state → mid ≡ h
-    → MatchBool b (turned turn moment mid ≡ Some g) ((turned turn moment mid ≡ None) × (g ≡ mid)) → (IsTrue b → strays ≡ Some []) → g.current ≡ Some state → IsAway g.current strays state.links
+    → MatchBool b (turned turn moment mid ≡ Some g) ((turned turn moment mid ≡ None) × (g ≡ mid)) → (IsTrue b → strays ≡ Some []) → g.current ≡ Some state
+    → IsAway g.current strays state.links
 turned_away true turn moment h mid g state strays next same did none is =
     subst (λ o. IsAway o strays state.links) (sym is) (subst (λ p. DifferAt p state.links state.links) (sym (none refl)) (λ q out. as_itself state.links q))
-turned_away false turn moment h mid g state strays next same (none, still) told is = absurd (never_still turn moment h state next (subst (λ k. turned turn moment k ≡ None) same none))
+turned_away false turn moment h mid g state strays next same (none, still) told is =
+    absurd (never_still turn moment h state next (subst (λ k. turned turn moment k ≡ None) same none))

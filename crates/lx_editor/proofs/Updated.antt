@@ -74,12 +74,14 @@ use Rattle.lx_editor.proofs.Loaded.{all_touched, only_root, new_or_root, shown_b
 -- ---- what the steps left
 
 -- steps that ran leave what the draft does that they left
-pub are_left : (rules : List AnyRule) (listeners : List Listener) (steps : List Step) (w draft : Working) → drafted (steps_run listeners steps w) ≡ Ok draft → left_by rules listeners steps w ≡ rested_by rules draft
+pub are_left : (rules : List AnyRule) (listeners : List Listener) (steps : List Step) (w draft : Working) → drafted (steps_run listeners steps w) ≡ Ok draft
+    → left_by rules listeners steps w ≡ rested_by rules draft
 unfolding left_by
 are_left rules listeners steps w draft ran = ap (λ r. and_then r (rested_by rules)) ran
 
 -- where they are refused nothing is left
-pub steps_refused : (rules : List AnyRule) (listeners : List Listener) (steps : List Step) (w : Working) (e : Refusal) → TellsRefusal e (steps_run listeners steps w) → TellsRefusal e (left_by rules listeners steps w)
+pub steps_refused : (rules : List AnyRule) (listeners : List Listener) (steps : List Step) (w : Working) (e : Refusal)
+    → TellsRefusal e (steps_run listeners steps w) → TellsRefusal e (left_by rules listeners steps w)
 unfolding left_by
 steps_refused rules listeners steps w (refusal.Cause cause step) told = ap (λ r. and_then (drafted r) (rested_by rules)) told
 steps_refused rules listeners steps w refusal.Memory told = tt
@@ -105,7 +107,8 @@ pub still_covered : (start w end : Working) → drafts.AreCovered start w → (I
 still_covered start w end begun goes = covered-then start w end begun (goes begun.ready)
 
 -- what is frozen is within the limits, and has what is selected
-nothing_against : (w : Working) (f : Forest) (selection : Selection) (marks : Marked) (next_key : ℕ) → Freezes w f selection marks next_key → (selection_lost selection f ≡ None) × (limits_fault f next_key ≡ None)
+nothing_against : (w : Working) (f : Forest) (selection : Selection) (marks : Marked) (next_key : ℕ) → Freezes w f selection marks next_key
+    → (selection_lost selection f ≡ None) × (limits_fault f next_key ≡ None)
 unfolding freeze_step
 nothing_against w f selection marks next_key frozen =
     let left : Working = record (swept w) { forest = f; selection = selection; marks = marks; next_key = next_key } in
@@ -119,18 +122,22 @@ kept_frozen : (w : Working) (f : Forest) (s : Selection) (marks : Marked) (next_
 unfolding freeze_step swept
 kept_frozen w f s marks next_key frozen =
     let left : Working = record (swept w) { forest = f; selection = s; marks = marks; next_key = next_key } in
-    subst (λ (v : Working). kept_selection v.forest v.selection ≡ v.selection) (answered (freeze_fault (swept w)) (swept w) left frozen).1 (kept_again (drop_detached w.forest) w.selection)
+    subst (λ (v : Working). kept_selection v.forest v.selection ≡ v.selection) (answered (freeze_fault (swept w)) (swept w) left frozen).1
+    (kept_again (drop_detached w.forest) w.selection)
 
 -- what the draft leaves that came to rest, and whose items got their numbers
-numbered_left : (rules : List AnyRule) (w v x : Working) (f : Forest) (selection : Selection) (marks : Marked) (next_key : ℕ) → settle_step (answers_of rules) w ≡ Ok v → number_step v ≡ Ok x
+numbered_left : (rules : List AnyRule) (w v x : Working) (f : Forest) (selection : Selection) (marks : Marked) (next_key : ℕ)
+    → settle_step (answers_of rules) w ≡ Ok v → number_step v ≡ Ok x
     → Freezes x f selection marks next_key
     → rested_by rules w ≡ Ok (record { left = record { tree = f; selection = selection; marks = marks; next_key = next_key; rules = rules }; marks = v.marks })
 numbered_left rules w v x f selection marks next_key settled numbered frozen =
     ap (numbered_by rules) settled ∙ ap (λ r. at_commit rules v.marks (after r freeze_step)) numbered ∙ ap (at_commit rules v.marks) frozen
 
-pub rest_left : (rules : List AnyRule) (w v x : Working) (f : Forest) (selection : Selection) (marks : Marked) (next_key : ℕ) → settle_step (answers_of rules) w ≡ Ok v → number_step v ≡ Ok x
+pub rest_left : (rules : List AnyRule) (w v x : Working) (f : Forest) (selection : Selection) (marks : Marked) (next_key : ℕ)
+    → settle_step (answers_of rules) w ≡ Ok v → number_step v ≡ Ok x
     → Freezes x f selection marks next_key → LeavesAtRest w (record { tree = f; selection = selection; marks = marks; next_key = next_key; rules = rules })
-rest_left rules w v x f selection marks next_key settled numbered frozen = (v.marks, numbered_left rules w v x f selection marks next_key settled numbered frozen)
+rest_left rules w v x f selection marks next_key settled numbered frozen =
+    (v.marks, numbered_left rules w v x f selection marks next_key settled numbered frozen)
 
 settled_is : (r : Result Settled (Cause × Option ℕ)) (a b : Settled) → r ≡ Ok a → r ≡ Ok b → a ≡ b
 settled_is r a b e g = ok_is (sym e ∙ g) where
@@ -138,7 +145,8 @@ settled_is r a b e g = ok_is (sym e ∙ g) where
   ok_is h = cc
 
 -- it is at rest
-rest_settled : (rules : List AnyRule) (w v x : Working) (f : Forest) (selection : Selection) (marks : Marked) (next_key : ℕ) → settle_step (answers_of rules) w ≡ Ok v → number_step v ≡ Ok x
+rest_settled : (rules : List AnyRule) (w v x : Working) (f : Forest) (selection : Selection) (marks : Marked) (next_key : ℕ)
+    → settle_step (answers_of rules) w ≡ Ok v → number_step v ≡ Ok x
     → Freezes x f selection marks next_key → IsForest x.forest → IsRenumbered v.forest x.forest → IsRested (answers_of rules) v.forest v.marks
     → IsSettledOf w (record { tree = f; selection = selection; marks = marks; next_key = next_key; rules = rules })
 rest_settled rules w v x f selection marks next_key settled numbered frozen order renumbered rested left is =
@@ -150,7 +158,8 @@ rest_settled rules w v x f selection marks next_key settled numbered frozen orde
     subst IsAtRest (settled_is (rested_by rules w) own left (numbered_left rules w v x f selection marks next_key settled numbered frozen) is) at_rest
 
 -- its marks cover the trees before and after
-left_covered : (u v : Working) (f : Forest) (selection : Selection) (marks : Marked) (next_key : ℕ) → u.marks ≡ unmarked → AreMarked u v → Freezes v f selection marks next_key → AreCovered u.forest f (marking marks)
+left_covered : (u v : Working) (f : Forest) (selection : Selection) (marks : Marked) (next_key : ℕ) → u.marks ≡ unmarked → AreMarked u v
+    → Freezes v f selection marks next_key → AreCovered u.forest f (marking marks)
 left_covered u v f selection marks next_key none m frozen =
     let parts = frozen_parts v f selection marks next_key frozen in
     let covers : Covers u.forest unmarked v.forest marks =
@@ -176,8 +185,10 @@ unfolding drop_detached
 has-swept f q there = attached_there f q there
 
 -- What is joined and numbered, and is frozen, may be left.
-left_frozen : (rules : List AnyRule) (v : Working) (f : Forest) (selection : Selection) (marks : Marked) (next_key : ℕ) → IsForest v.forest → IsJoined v.forest → IsNumbered v.forest
-    → Freezes v f selection marks next_key → MayStart f next_key → IsLeft (record { tree = f; selection = selection; marks = marks; next_key = next_key; rules = rules })
+left_frozen : (rules : List AnyRule) (v : Working) (f : Forest) (selection : Selection) (marks : Marked) (next_key : ℕ) → IsForest v.forest → IsJoined v.forest
+    → IsNumbered v.forest
+    → Freezes v f selection marks next_key → MayStart f next_key
+    → IsLeft (record { tree = f; selection = selection; marks = marks; next_key = next_key; rules = rules })
 left_frozen rules v f selection marks next_key order joined numbered frozen start =
     let parts = frozen_parts v f selection marks next_key frozen in
     let against = nothing_against v f selection marks next_key frozen in
@@ -195,7 +206,8 @@ left_frozen rules v f selection marks next_key order joined numbered frozen star
     }
 
 -- what is left has grown from the tree that the draft began with
-left_grown : (rules : List AnyRule) (u v : Working) (f : Forest) (selection : Selection) (marks : Marked) (next_key : ℕ) → AreMarked u v → AreCovered u.forest f (marking marks) → Freezes v f selection marks next_key
+left_grown : (rules : List AnyRule) (u v : Working) (f : Forest) (selection : Selection) (marks : Marked) (next_key : ℕ) → AreMarked u v
+    → AreCovered u.forest f (marking marks) → Freezes v f selection marks next_key
     → HasGrown u.forest u.next_key (record { tree = f; selection = selection; marks = marks; next_key = next_key; rules = rules })
 left_grown rules u v f selection marks next_key m covers frozen = record {
   next_key = omega (arith, m.keys.next, next_frozen v f selection marks next_key frozen);
@@ -204,7 +216,8 @@ left_grown rules u v f selection marks next_key m covers frozen = record {
 }
 
 -- What came to rest of a draft, with its items numbered, and is frozen may be left, its marks cover it, and it has grown.
-pub left_stands : (rules : List AnyRule) (u w v x : Working) (f : Forest) (selection : Selection) (marks : Marked) (next_key : ℕ) → IsFresh u → drafts.AreCovered u w → settle_step (answers_of rules) w ≡ Ok v
+pub left_stands : (rules : List AnyRule) (u w v x : Working) (f : Forest) (selection : Selection) (marks : Marked) (next_key : ℕ) → IsFresh u
+    → drafts.AreCovered u w → settle_step (answers_of rules) w ≡ Ok v
     → number_step v ≡ Ok x → IsRenumbered v.forest x.forest → Freezes x f selection marks next_key → MayStart f next_key
     → IsLeft (record { tree = f; selection = selection; marks = marks; next_key = next_key; rules = rules }) × AreCovered u.forest f (marking marks)
     × HasGrown u.forest u.next_key (record { tree = f; selection = selection; marks = marks; next_key = next_key; rules = rules })
@@ -224,7 +237,8 @@ left_stands rules u w v x f selection marks next_key fresh c settled numbered re
     )
 
 -- What came to rest of an import, with its items numbered, and is frozen may be left, and is shown where a tree gave way to it.
-pub import_stands : (rules : List AnyRule) (w v x : Working) (f : Forest) (selection : Selection) (marks : Marked) (next_key : ℕ) → settle_step (answers_of rules) w ≡ Ok v → number_step v ≡ Ok x
+pub import_stands : (rules : List AnyRule) (w v x : Working) (f : Forest) (selection : Selection) (marks : Marked) (next_key : ℕ)
+    → settle_step (answers_of rules) w ≡ Ok v → number_step v ≡ Ok x
     → IsRenumbered v.forest x.forest → Freezes x f selection marks next_key → MayStart f next_key
     → IsLeftOfImport w (record { tree = f; selection = selection; marks = marks; next_key = next_key; rules = rules })
 import_stands rules w v x f selection marks next_key settled numbered renumbered frozen start next im =
@@ -234,12 +248,14 @@ import_stands rules w v x f selection marks next_key settled numbered renumbered
     let before : AreMarked w v = settling_ends.covers answers w w v (covered-self w im.covered.ready) settled in
     let m : AreMarked w x = marked_on w v x before (covered-lists.number v x before.ready numbered) in
     let order : IsForest x.forest = m.ready.in_order in
-    let joined : IsJoined v.forest = settling_ends.joins_marked answers u w v refl im.covered (λ q there. im.all_marked q (attached_there w.forest q there)) settled in
+    let joined : IsJoined v.forest =
+    settling_ends.joins_marked answers u w v refl im.covered (λ q there. im.all_marked q (attached_there w.forest q there)) settled in
     let rested : IsRested answers v.forest v.marks = settling_ends.rests answers u w v refl im.covered settled in
     let parts = frozen_parts x f selection marks next_key frozen in
     let tree_order : IsForest f = subst IsForest parts.0 (IsForest-drop_detached x.forest order) in
     let still : (q : ℕ) → has q f ≡ true → has q x.forest ≡ true = λ q there. has-swept x.forest q (ap (has q) parts.0 ∙ there) in
-    let touched : (q : ℕ) → has q f ≡ true → is_touched marks q ≡ true = λ q there. ap (λ n. is_touched n q) (sym parts.1) ∙ all_touched w x next im m q (still q there) in (
+    let touched : (q : ℕ) → has q f ≡ true → is_touched marks q ≡ true =
+    λ q there. ap (λ n. is_touched n q) (sym parts.1) ∙ all_touched w x next im m q (still q there) in (
       left_frozen rules x f selection marks next_key order (joined_on v.forest x.forest renumbered joined) renumbered.numbered frozen start,
       touched 0 (has-root f tree_order),
       rest_settled rules w v x f selection marks next_key settled numbered frozen order renumbered rested,
@@ -271,7 +287,8 @@ pub allowed_fit : (old new : Forest) (marks : Marked) (v : HostTree) (ops : List
 allowed_fit old new marks v ops (w, allowed) = leads_fit v w ops allowed.leads
 
 -- what is recorded of an equal state is recorded
-pub recorded_same : (before after entry : State) (marks : Marked) (how : Recording) (h mid g : History) → entry.links ≡ after.links → entry.selection ≡ after.selection → mid ≡ h
+pub recorded_same : (before after entry : State) (marks : Marked) (how : Recording) (h mid g : History) → entry.links ≡ after.links
+    → entry.selection ≡ after.selection → mid ≡ h
     → g ≡ noted before entry marks how.tags how.moment mid → g ≡ noted before after marks how.tags how.moment h
 recorded_same before after entry marks how h mid g links selection same is =
     is
@@ -279,7 +296,8 @@ recorded_same before after entry marks how h mid g links selection same is =
     ∙ ap (λ s. noted before (state_with after.links s) marks how.tags how.moment mid) selection
     ∙ ap (λ k. noted before after marks how.tags how.moment k) same
 
-module _ (e : Editor) (how : Recording) (left : Left) (view : HostTree) (history : History) (is_recorded : history ≡ recorded e how left) (ops : List Op) (allowed : IsAllowed e.tree left.tree (marking left.marks) e.view ops) (leads : Leads e.view ops view) where
+module _ (e : Editor) (how : Recording) (left : Left) (view : HostTree) (history : History) (is_recorded : history ≡ recorded e how left) (ops : List Op)
+    (allowed : IsAllowed e.tree left.tree (marking left.marks) e.view ops) (leads : Leads e.view ops view) where
   -- what is between the trees and the view that it has come to
   reached : AreAllowed e.tree left.tree (is_touched left.marks) e.view ops view
   reached = subst (λ w. AreAllowed e.tree left.tree (is_touched left.marks) e.view ops w) (same_end e.view allowed.0 view ops allowed.1.leads leads) allowed.1
@@ -316,7 +334,8 @@ module _ (e : Editor) (how : Recording) (left : Left) (view : HostTree) (history
     pending = tt;
   }
 
-  pub committed : (reads : ℕ) → IsJoined left.tree → IsNumbered left.tree → (IsNothingNew e left → ⊥) → hosts_fault e.tree left.tree e.view ≡ None → reads ≤ most_reads e.tree left.tree (is_noted left.marks) → IsCommitted e how left (e.commits + 1) ops (made reads)
+  pub committed : (reads : ℕ) → IsJoined left.tree → IsNumbered left.tree → (IsNothingNew e left → ⊥) → hosts_fault e.tree left.tree e.view ≡ None
+      → reads ≤ most_reads e.tree left.tree (is_noted left.marks) → IsCommitted e how left (e.commits + 1) ops (made reads)
   committed reads joined numbered anew ids few = record {
     anew = anew;
     ids = ids;
@@ -341,7 +360,8 @@ pub printed : (e : Editor) → IsValid e → html_of (first_tree (shape_of e.vie
 printed e valid = ap (λ s. html_of (first_tree s)) valid.shown ∙ ap html_of (first_whole e.tree valid.state.alone)
 
 -- so is what is printed of any view that shows one tree
-pub told_view : (f : Forest) (view : HostTree) → IsForest f → roots f ≡ 0 ∷ [] → Shows view (alone 0 f) → html_of (first_tree (shape_of view.hosts)) ≡ html_of (render f)
+pub told_view : (f : Forest) (view : HostTree) → IsForest f → roots f ≡ 0 ∷ [] → Shows view (alone 0 f)
+    → html_of (first_tree (shape_of view.hosts)) ≡ html_of (render f)
 told_view f view order only shows =
     ap (λ s. html_of (first_tree s)) (shows ∙ ap render (one_tree f order only)) ∙ ap html_of (first_whole f only)
 
@@ -389,8 +409,10 @@ root_in_order = record { once = λ q. once_at q; rising = refl; root = refl }
 root_kinds : HasKinds (λ q. Root) root_alone
 root_kinds q there = grind (arith, there, eqb_tells 0 q, eqb_tells q 0)
 
-pub new_valid : (f : Forest) (selection : Selection) (view : HostTree) (history : History) (delay : ℕ) (rules : List AnyRule) (listeners : List Listener) (tells_view : Bool) → f ≡ root_alone → selection ≡ Nothing → view ≡ new_tree → history ≡ new_history delay → MayStart f 1
-    → IsValid (record { tree = f; selection = selection; next_key = 1; pending = None; commits = 0; view = view; last = None; history = history; moment = 0; rules = rules; listeners = listeners; tells_view = tells_view })
+pub new_valid : (f : Forest) (selection : Selection) (view : HostTree) (history : History) (delay : ℕ) (rules : List AnyRule) (listeners : List Listener)
+    (tells_view : Bool) → f ≡ root_alone → selection ≡ Nothing → view ≡ new_tree → history ≡ new_history delay → MayStart f 1
+    → IsValid
+    (record { tree = f; selection = selection; next_key = 1; pending = None; commits = 0; view = view; last = None; history = history; moment = 0; rules = rules; listeners = listeners; tells_view = tells_view })
 unfolding is_text_block capped characters_of characters_of_element characters_of_extra
 new_valid f selection view history delay rules listeners tells_view alone none shown nothing start = record {
   state = record {
@@ -409,7 +431,9 @@ new_valid f selection view history delay rules listeners tells_view alone none s
   kept = record {
     kinds = λ q. Root;
     now = subst (HasKinds (λ q. Root)) (sym alone) root_kinds;
-    entries = subst (EachEntry (λ s. IsEntry 1 s × HasKinds (λ q. Root) s.links)) (sym nothing) (record { undo = All-nil (λ s. IsEntry 1 s × HasKinds (λ q. Root) s.links); redo = All-nil (λ s. IsEntry 1 s × HasKinds (λ q. Root) s.links); current = tt });
+    entries =
+        subst (EachEntry (λ s. IsEntry 1 s × HasKinds (λ q. Root) s.links)) (sym nothing)
+        (record { undo = All-nil (λ s. IsEntry 1 s × HasKinds (λ q. Root) s.links); redo = All-nil (λ s. IsEntry 1 s × HasKinds (λ q. Root) s.links); current = tt });
   };
   pending = tt;
 }

@@ -41,8 +41,10 @@ pub rules_fit : (old : Editor) (n : ℕ) → n ≡ length old.rules → n < 258 
 rules_fit old n is less = let fits : nat_lt n 258 ≡ true = grind (arith, nat_tests) in subst (λ m. nat_lt m 258 ≡ true) is fits
 
 -- the rule is judged with what is pending
-pub rule_judged_in : (old mid : Editor) (rule : Rule) (draft : Working) (verdict : Verdict) → nat_lt (length old.rules) most_rules ≡ true → mid ≡ with_nothing_pending old → draft ≡ begun old
-    → IsJudged (left_for (with_rule mid.rules rule) rule.on draft) (with_one_more rule mid) verdict → IsJudged (left_by_rule old rule) (with_one_more rule (unless_full old)) verdict
+pub rule_judged_in : (old mid : Editor) (rule : Rule) (draft : Working) (verdict : Verdict) → nat_lt (length old.rules) most_rules ≡ true
+    → mid ≡ with_nothing_pending old → draft ≡ begun old
+    → IsJudged (left_for (with_rule mid.rules rule) rule.on draft) (with_one_more rule mid) verdict
+    → IsJudged (left_by_rule old rule) (with_one_more rule (unless_full old)) verdict
 rule_judged_in old mid rule draft verdict fits taken is judged =
     let left = left_for (with_rule old.rules rule) rule.on in
     let by_rule : left_by_rule old rule ≡ left (begun old) = ap (λ b. if b then left (begun old) else Err (TooManyRules, None)) fits in
@@ -70,15 +72,20 @@ same_unless true e one other is same = same
 same_unless false e one other is same = absurd (cc)
 
 -- where it was new it is the last rule
-pub last_rule : (e mid one other : Editor) (verdict : Verdict) (told : Bool) → told ≡ is_refused verdict → not told ≡ true → mid ≡ (if is_refused verdict then one else other) → e ≡ mid → e ≡ other
-last_rule e mid one other verdict told is new same unchanged = unchanged ∙ kept_unless (is_refused verdict) mid one other (new_unless told (is_refused verdict) is new) same
+pub last_rule : (e mid one other : Editor) (verdict : Verdict) (told : Bool) → told ≡ is_refused verdict → not told ≡ true
+    → mid ≡ (if is_refused verdict then one else other) → e ≡ mid → e ≡ other
+last_rule e mid one other verdict told is new same unchanged =
+    unchanged ∙ kept_unless (is_refused verdict) mid one other (new_unless told (is_refused verdict) is new) same
 
 -- and else there was none
-pub no_rule : (e mid one other : Editor) (verdict : Verdict) (told : Bool) → told ≡ is_refused verdict → not told ≡ false → mid ≡ (if is_refused verdict then one else other) → e ≡ mid → e ≡ one
-no_rule e mid one other verdict told is old same unchanged = unchanged ∙ same_unless (is_refused verdict) mid one other (old_unless told (is_refused verdict) is old) same
+pub no_rule : (e mid one other : Editor) (verdict : Verdict) (told : Bool) → told ≡ is_refused verdict → not told ≡ false
+    → mid ≡ (if is_refused verdict then one else other) → e ≡ mid → e ≡ one
+no_rule e mid one other verdict told is old same unchanged =
+    unchanged ∙ same_unless (is_refused verdict) mid one other (old_unless told (is_refused verdict) is old) same
 
 -- it is given up, and so the editor is as it was, but for what is pending
-pub rule_given_up : (old mid behind new : Editor) (rule : Rule) (verdict : Verdict) (told : Bool) → told ≡ is_refused verdict → mid ≡ (if is_refused verdict then unless_full old else with_one_more rule (unless_full old)) → behind ≡ mid
+pub rule_given_up : (old mid behind new : Editor) (rule : Rule) (verdict : Verdict) (told : Bool) → told ≡ is_refused verdict
+    → mid ≡ (if is_refused verdict then unless_full old else with_one_more rule (unless_full old)) → behind ≡ mid
     → (told ≡ false → (e : Editor) (r : Rule) → behind ≡ with_one_more r e → new ≡ e) → (told ≡ true → new ≡ behind) → new ≡ unless_full old
 rule_given_up old mid behind new rule verdict true is same unchanged gone kept =
     kept refl ∙ no_rule behind mid (unless_full old) (with_one_more rule (unless_full old)) verdict true is refl same unchanged
@@ -111,22 +118,28 @@ pending_valid e p valid goes = record {
 -- ---- an update that waits
 
 -- and where they are refused nothing is gathered
-pub gathered_refused : (old mid : Editor) (steps : List Step) (draft : Working) (e : Refusal) → mid ≡ with_nothing_pending old → draft ≡ begun old → TellsRefusal e (deferred_run mid.listeners steps draft)
+pub gathered_refused : (old mid : Editor) (steps : List Step) (draft : Working) (e : Refusal) → mid ≡ with_nothing_pending old → draft ≡ begun old
+    → TellsRefusal e (deferred_run mid.listeners steps draft)
     → TellsRefusal e (gathered_by old steps)
 gathered_refused old mid steps draft (refusal.Cause cause step) taken is told =
-    ap drafted (subst (λ w. deferred_run old.listeners steps w ≡ Err (cause, step)) is (subst (λ (e : Editor). deferred_run e.listeners steps draft ≡ Err (cause, step)) taken told))
+    ap drafted
+    (subst (λ w. deferred_run old.listeners steps w ≡ Err (cause, step)) is
+    (subst (λ (e : Editor). deferred_run e.listeners steps draft ≡ Err (cause, step)) taken told))
 gathered_refused old mid steps draft refusal.Memory taken is told = tt
 
 -- what is kept then is what such an update makes of the editor
-pub deferred_kept : (old mid new : Editor) (steps : List Step) (tags : Tags) (p : Pending) → mid ≡ with_nothing_pending old → gathered_by old steps ≡ Ok p.draft → p ≡ with_line tags (pending_of old) p.draft
+pub deferred_kept : (old mid new : Editor) (steps : List Step) (tags : Tags) (p : Pending) → mid ≡ with_nothing_pending old → gathered_by old steps ≡ Ok p.draft
+    → p ≡ with_line tags (pending_of old) p.draft
     → new ≡ with_pending mid p → IsDeferred old steps tags (made.Gathered p.lines) new
 unfolding IsDeferred
 deferred_kept old mid new steps tags p taken gathered line kept =
     let count : p.lines ≡ (pending_of old).lines + 1 = ap (λ (q : Pending). q.lines) line in
-    let is : new ≡ with_pending old (with_line tags (pending_of old) p.draft) = kept ∙ ap (λ (e : Editor). with_pending e p) taken ∙ ap (λ (q : Pending). with_pending old q) line in
+    let is : new ≡ with_pending old (with_line tags (pending_of old) p.draft) =
+    kept ∙ ap (λ (e : Editor). with_pending e p) taken ∙ ap (λ (q : Pending). with_pending old q) line in
     subst (λ r. IsGatheredOf r old tags (made.Gathered p.lines) new) (sym gathered) (ap (λ n. made.Gathered n) count, is)
 
-pub deferred_refused : (old new : Editor) (steps : List Step) (tags : Tags) (cause : Cause) (step : Option ℕ) → TellsRefusal (refusal.Cause cause step) (gathered_by old steps) → new ≡ with_nothing_pending old
+pub deferred_refused : (old new : Editor) (steps : List Step) (tags : Tags) (cause : Cause) (step : Option ℕ)
+    → TellsRefusal (refusal.Cause cause step) (gathered_by old steps) → new ≡ with_nothing_pending old
     → IsDeferred old steps tags (made.Refused cause step) new
 unfolding IsDeferred
 deferred_refused old new steps tags cause step told dropped = subst (λ r. IsGatheredOf r old tags (made.Refused cause step) new) (sym told) (refl, dropped)
@@ -138,7 +151,8 @@ still_pending old mid p taken goes = subst (λ (e : Editor). IsPending (started_
 -- ---- the time
 
 -- an editor whose time a line carried, and is set back
-pub moment_back : (old mid new : Editor) (at : Option ℕ) → IsLeftWithout (at_moment at old) mid → new ≡ record mid { moment = old.moment } → IsLeftWithout old new
+pub moment_back : (old mid new : Editor) (at : Option ℕ) → IsLeftWithout (at_moment at old) mid → new ≡ record mid { moment = old.moment }
+    → IsLeftWithout old new
 moment_back old mid new None (inl same) is = inl (is ∙ ap (λ (e : Editor). record e { moment = old.moment }) same)
 moment_back old mid new None (inr same) is = inr (is ∙ ap (λ (e : Editor). record e { moment = old.moment }) same)
 moment_back old mid new (Some moment) (inl same) is = inl (is ∙ ap (λ (e : Editor). record e { moment = old.moment }) same)

@@ -35,7 +35,8 @@ pub record Gives (kind : Kind) (known : Name) (o : Option Data) (old new : Field
 
 -- an element with these fields
 abbrev pub made : Direction → Align → ℕ → ℕ → List ℕ → Extra → Fields
-made d a indent format style extra = fields.Element (record { direction = d; format = a; indent = indent; text_format = format; text_style = style; extra = extra })
+made d a indent format style extra =
+    fields.Element (record { direction = d; format = a; indent = indent; text_format = format; text_style = style; extra = extra })
 
 -- a text with these fields
 abbrev pub told : List ℕ → ℕ → ℕ → Mode → List ℕ → Fields
@@ -70,7 +71,8 @@ unfolding given_by with_given settable has with_member element_with_member
 indent_given i element range = record { same = rw (short i range, element) refl }
 
 -- a member that may be left out gives what it says, where that is so by default
-kept_given : {kind : Kind} {known : Name} {old new : Fields} (default : Bool) (d : Data) → given_by kind known (Some d) old ≡ Some new → (default ≡ true → old ≡ new)
+kept_given : {kind : Kind} {known : Name} {old new : Fields} (default : Bool) (d : Data) → given_by kind known (Some d) old ≡ Some new
+    → (default ≡ true → old ≡ new)
     → Gives kind known (option_or (kept kind default d) None) old new
 unfolding given_by
 kept_given {kind = kind.Paragraph} default d is none = record { same = is }
@@ -95,7 +97,8 @@ text_style_given {d = d} {a = a} {i = i} {t = t} {x = x} s element scalar =
 
 -- ---- what headings, lists and items include
 
-pub tag_given : {old : Fields} (level : ℕ) → IsTrue (leb 1 level && leb level 6) → Gives (kind.Heading level) name.Tag (Some (string (level_word level))) old old
+pub tag_given : {old : Fields} (level : ℕ) → IsTrue (leb 1 level && leb level 6)
+    → Gives (kind.Heading level) name.Tag (Some (string (level_word level))) old old
 unfolding given_by with_given
 tag_given {old = old} level is = record { same = ap (option_map (λ level. old)) (level_read level is) }
 
@@ -122,19 +125,23 @@ value_given n range = record { same = rw (up_to n 1200000 range) refl }
 -- ---- what links include
 
 pub rel_given : {d : Direction} {a : Align} {i t : ℕ} {s : List ℕ} {target title : Option (List ℕ)} {url : List ℕ} (rel : Option (List ℕ)) → IsTextIfAny rel
-    → Gives kind.Link name.Rel (Some (or_null text_data rel)) (made d a i t s (extra.Link None target title url)) (made d a i t s (extra.Link rel target title url))
+    → Gives kind.Link name.Rel (Some (or_null text_data rel)) (made d a i t s (extra.Link None target title url))
+    (made d a i t s (extra.Link rel target title url))
 unfolding is_link given_by with_given settable has with_member element_with_member with_extra
 rel_given None scalar = record { same = refl }
 rel_given (Some rel) scalar = record { same = rw scalar refl }
 
-pub target_given : {d : Direction} {a : Align} {i t : ℕ} {s : List ℕ} {rel title : Option (List ℕ)} {url : List ℕ} (target : Option (List ℕ)) → IsTextIfAny target
-    → Gives kind.Link name.Target (Some (or_null text_data target)) (made d a i t s (extra.Link rel None title url)) (made d a i t s (extra.Link rel target title url))
+pub target_given : {d : Direction} {a : Align} {i t : ℕ} {s : List ℕ} {rel title : Option (List ℕ)} {url : List ℕ} (target : Option (List ℕ))
+    → IsTextIfAny target
+    → Gives kind.Link name.Target (Some (or_null text_data target)) (made d a i t s (extra.Link rel None title url))
+    (made d a i t s (extra.Link rel target title url))
 unfolding is_link given_by with_given settable has with_member element_with_member with_extra
 target_given None scalar = record { same = refl }
 target_given (Some target) scalar = record { same = rw scalar refl }
 
 pub title_given : {d : Direction} {a : Align} {i t : ℕ} {s : List ℕ} {rel target : Option (List ℕ)} {url : List ℕ} (title : Option (List ℕ)) → IsTextIfAny title
-    → Gives kind.Link name.Title (Some (or_null text_data title)) (made d a i t s (extra.Link rel target None url)) (made d a i t s (extra.Link rel target title url))
+    → Gives kind.Link name.Title (Some (or_null text_data title)) (made d a i t s (extra.Link rel target None url))
+    (made d a i t s (extra.Link rel target title url))
 unfolding is_link given_by with_given settable has with_member element_with_member with_extra
 title_given None scalar = record { same = refl }
 title_given (Some title) scalar = record { same = rw scalar refl }
@@ -147,23 +154,27 @@ url_given url scalar = record { same = rw scalar refl }
 -- ---- what cells include
 
 pub background_given : {d : Direction} {a : Align} {i t : ℕ} {s : List ℕ} {header rows columns : ℕ} (background : Option (List ℕ)) → IsTextIfAny background
-    → Gives kind.Cell name.Background (Some (or_null text_data background)) (made d a i t s (extra.Cell header rows columns None)) (made d a i t s (extra.Cell header rows columns background))
+    → Gives kind.Cell name.Background (Some (or_null text_data background)) (made d a i t s (extra.Cell header rows columns None))
+    (made d a i t s (extra.Cell header rows columns background))
 unfolding is_cell given_by with_given settable has with_member element_with_member with_extra
 background_given None scalar = record { same = refl }
 background_given (Some background) scalar = record { same = rw scalar refl }
 
 pub columns_given : {d : Direction} {a : Align} {i t : ℕ} {s : List ℕ} {header rows old : ℕ} {background : Option (List ℕ)} (n : ℕ) → IsTrue (is_span n)
-    → Gives kind.Cell name.ColSpan (Some (natural n)) (made d a i t s (extra.Cell header rows old background)) (made d a i t s (extra.Cell header rows n background))
+    → Gives kind.Cell name.ColSpan (Some (natural n)) (made d a i t s (extra.Cell header rows old background))
+    (made d a i t s (extra.Cell header rows n background))
 unfolding is_cell given_by with_given settable has with_member element_with_member with_extra is_span
 columns_given n range = record { same = rw range refl }
 
 pub header_given : {d : Direction} {a : Align} {i t : ℕ} {s : List ℕ} {old rows columns : ℕ} {background : Option (List ℕ)} (n : ℕ) → IsTrue (leb n 3)
-    → Gives kind.Cell name.HeaderState (Some (natural n)) (made d a i t s (extra.Cell old rows columns background)) (made d a i t s (extra.Cell n rows columns background))
+    → Gives kind.Cell name.HeaderState (Some (natural n)) (made d a i t s (extra.Cell old rows columns background))
+    (made d a i t s (extra.Cell n rows columns background))
 unfolding is_cell given_by with_given settable has with_member element_with_member with_extra
 header_given n range = record { same = rw (up_to n 3 range) refl }
 
 pub rows_given : {d : Direction} {a : Align} {i t : ℕ} {s : List ℕ} {header old columns : ℕ} {background : Option (List ℕ)} (n : ℕ) → IsTrue (is_span n)
-    → Gives kind.Cell name.RowSpan (Some (natural n)) (made d a i t s (extra.Cell header old columns background)) (made d a i t s (extra.Cell header n columns background))
+    → Gives kind.Cell name.RowSpan (Some (natural n)) (made d a i t s (extra.Cell header old columns background))
+    (made d a i t s (extra.Cell header n columns background))
 unfolding is_cell given_by with_given settable has with_member element_with_member with_extra is_span
 rows_given n range = record { same = rw range refl }
 
@@ -195,6 +206,7 @@ pub text_given : {old style : List ℕ} {format detail : ℕ} {m : Mode} (text :
 unfolding is_text given_by with_given settable has with_member text_with_member
 text_given text scalar = record { same = rw scalar refl }
 
-pub source_given : {old : List ℕ} (source : List ℕ) → IsText source → Gives kind.Embed name.Src (Some (text_data source)) (fields.Embed old) (fields.Embed source)
+pub source_given : {old : List ℕ} (source : List ℕ) → IsText source
+    → Gives kind.Embed name.Src (Some (text_data source)) (fields.Embed old) (fields.Embed source)
 unfolding is_embed given_by with_given settable has with_member with_source
 source_given source scalar = record { same = rw scalar refl }

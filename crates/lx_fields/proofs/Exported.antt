@@ -59,7 +59,8 @@ children_by kind (fields.Element e) below of = told_of (codes "children") kind (
 children_by kind _ below of = absurd (cc)
 
 -- an element includes its children
-pub children-there : (kind : Kind) (f : Fields) (below : Items) → is_element kind ≡ true → IsOfKind kind f → get (codes "children") (node_data kind f below) ≡ Some (array below)
+pub children-there : (kind : Kind) (f : Fields) (below : Items) → is_element kind ≡ true → IsOfKind kind f
+    → get (codes "children") (node_data kind f below) ≡ Some (array below)
 unfolding is_of_kind
 children-there kind f below element of = children_by kind f below (by_kind kind f element (second_true (is_possible kind) (fits_kind kind f) of))
 
@@ -83,7 +84,8 @@ list_type_read list_type.Bullet = refl
 list_type_read _ = refl
 
 -- a node says its kind
-pub kind-back : (kind : Kind) (f : Fields) (below : Items) → IsOfKind kind f → option_map (λ base. kind_told base (node_data kind f below)) (kind_of_type (type_name kind)) ≡ Some kind
+pub kind-back : (kind : Kind) (f : Fields) (below : Items) → IsOfKind kind f
+    → option_map (λ base. kind_told base (node_data kind f below)) (kind_of_type (type_name kind)) ≡ Some kind
 unfolding kind_told type_name is_of_kind is_possible
 kind-back (kind.Heading level) f below of =
     ap (λ tag. Some (told_by (λ level. kind.Heading level) (kind.Heading 1) levels tag)) (told_of (codes "tag") (kind.Heading level) f below)
@@ -138,5 +140,6 @@ pub no-float : (kind : Kind) (f : Fields) (below : Items) → items_have_float b
 unfolding node_data
 no-float kind f below is =
     members_have_float-onto no_members (field_members kind f ++ kind_members kind ++ node_members kind f below) refl
-    (are_whole-both (field_members kind f ++ kind_members kind) (node_members kind f below) (are_whole-both (field_members kind f) (kind_members kind) (whole-fields kind f) (whole-kind kind))
+    (are_whole-both (field_members kind f ++ kind_members kind) (node_members kind f below)
+    (are_whole-both (field_members kind f) (kind_members kind) (whole-fields kind f) (whole-kind kind))
     (whole-node kind f below is))

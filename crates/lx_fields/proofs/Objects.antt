@@ -6,7 +6,8 @@ use Rattle.serde_json.specs.Find.{as_object}
 use Rattle.serde_json.specs.View.{view, members_view}
 use Rattle.lx_fields.specs.Values.{has_only, only_member, present, word_in}
 
-pub has_only-object : (names : List (List ℕ)) (d : Data) (es : List Entry) → Some (members_view es) ≡ as_object d → has_only names d ≡ (length es == present names d)
+pub has_only-object : (names : List (List ℕ)) (d : Data) (es : List Entry) → Some (members_view es) ≡ as_object d
+    → has_only names d ≡ (length es == present names d)
 has_only-object names (object ms) es is = let same : members_view es ≡ ms = cc in rw (← same, members_len-members_view es) refl
 has_only-object names _ es is = absurd (cc)
 
@@ -16,7 +17,8 @@ only_member-members rows [] other = refl
 only_member-members rows (e ∷ []) other = absurd (other refl)
 only_member-members rows (e ∷ f ∷ es) other = refl
 
-pub only_member-others : {A : Type 0} (rows : List (List ℕ × A)) (d : Data) (es : List Entry) → Some (members_view es) ≡ as_object d → (length es ≡ 1 → ⊥) → None ≡ only_member rows d
+pub only_member-others : {A : Type 0} (rows : List (List ℕ × A)) (d : Data) (es : List Entry) → Some (members_view es) ≡ as_object d → (length es ≡ 1 → ⊥)
+    → None ≡ only_member rows d
 only_member-others rows (object ms) es is other = let same : members_view es ≡ ms = cc in rw (← same) (only_member-members rows es other)
 only_member-others rows _ es is other = refl
 

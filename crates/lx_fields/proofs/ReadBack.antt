@@ -46,7 +46,9 @@ reads_alike kind find other same [] old = refl
 reads_alike kind find other same (row ∷ rows) old =
     let go_on = fields_with kind rows find in
     let rest = taken kind rows in
-    elim (takes kind row.1) as (λ has. (if has then or_bad row.0 go_on (given_by kind row.1 (find row.0) old) else go_on old) ≡ read_in kind other (if has then row ∷ rest else rest) old) [
+    elim (takes kind row.1) as
+    (λ has. (if has then or_bad row.0 go_on (given_by kind row.1 (find row.0) old) else go_on old)
+    ≡ read_in kind other (if has then row ∷ rest else rest) old) [
       | true ↦ ap (λ o. or_bad row.0 go_on (given_by kind row.1 o old)) (same row.0)
           ∙ or_bad_alike row.0 go_on (read_in kind other rest) (reads_alike kind find other same rows) (given_by kind row.1 (other row.0) old)
       | false ↦ reads_alike kind find other same rows old
@@ -82,7 +84,8 @@ never is = absurd (cc)
 element_back : (kind : Kind) (e : ElementFields) (x : Extra) (below : Items) → IsTrue (is_possible kind) → is_element kind ≡ true
     → IsTrue (is_extra_of kind x) → IsElementStorable (record e { extra = x })
     → ReadsBack kind (fields.Element (record e { extra = x })) below
-unfolding takes is_element is_text is_heading is_list is_item is_link is_cell is_embed has_characters default_fields default_extra is_possible is_extra_of is_plain is_list_extra is_item_extra is_link_extra is_cell_extra
+unfolding takes is_element is_text is_heading is_list is_item is_link is_cell is_embed has_characters default_fields default_extra is_possible is_extra_of
+    is_plain is_list_extra is_item_extra is_link_extra is_cell_extra
 element_back kind.Text e x below possible element of stored = never element
 element_back kind.Tab e x below possible element of stored = never element
 element_back kind.Break e x below possible element of stored = never element
@@ -154,7 +157,8 @@ tab_back t below of stored =
 -- ---- all kinds
 
 fitting_back : (kind : Kind) (f : Fields) (below : Items) → IsTrue (is_possible kind) → IsTrue (fits_kind kind f) → IsStorable f → ReadsBack kind f below
-unfolding fits_kind is_element_of is_text_of are_text_fields are_embed_fields are_bare is_element takes is_text is_heading is_list is_item is_link is_cell is_embed has_characters default_fields
+unfolding fits_kind is_element_of is_text_of are_text_fields are_embed_fields are_bare is_element takes is_text is_heading is_list is_item is_link is_cell
+    is_embed has_characters default_fields
 fitting_back kind.Text (fields.Text t) below possible of stored = text_back t below of stored
 fitting_back kind.Text f below possible of stored = absurd (cc)
 fitting_back kind.Tab (fields.Text t) below possible of stored = tab_back t below of stored
@@ -173,8 +177,10 @@ pub reads_back : (kind : Kind) (f : Fields) (below : Items) → IsOfKind kind f 
 unfolding document_fields is_of_kind
 reads_back kind f below of stored =
     let read = fitting_back kind f below (first_true (is_possible kind) (fits_kind kind f) of) (second_true (is_possible kind) (fits_kind kind f) of) stored in
-    reads_alike kind (λ name. get name (node_data kind f below)) (named_in kind f below) (λ name. told_of name kind f below) names (default_fields kind) ∙ read.same
+    reads_alike kind (λ name. get name (node_data kind f below)) (named_in kind f below) (λ name. told_of name kind f below) names (default_fields kind)
+    ∙ read.same
 
 -- the same of any data that is what is written
-pub reads_back_from : (kind : Kind) (f : Fields) (below : Items) (d : Data) → d ≡ node_data kind f below → IsOfKind kind f → IsStorable f → document_fields kind d ≡ Ok f
+pub reads_back_from : (kind : Kind) (f : Fields) (below : Items) (d : Data) → d ≡ node_data kind f below → IsOfKind kind f → IsStorable f
+    → document_fields kind d ≡ Ok f
 reads_back_from kind f below d is of stored = ap (document_fields kind) is ∙ reads_back kind f below of stored

@@ -32,11 +32,13 @@ pub mapped : {A B : Type 0} (P : B → Type 0) (f : A → B) (o : Option A) → 
 mapped P f None holds b is = absurd (cc)
 mapped P f (Some a) holds b is = let same : f a ≡ b = cc in subst P same (holds a refl)
 
-pub either : {B : Type 0} (P : B → Type 0) (o p : Option B) → ((b : B) → o ≡ Some b → P b) → ((b : B) → p ≡ Some b → P b) → (b : B) → option_or o p ≡ Some b → P b
+pub either : {B : Type 0} (P : B → Type 0) (o p : Option B) → ((b : B) → o ≡ Some b → P b) → ((b : B) → p ≡ Some b → P b) → (b : B) → option_or o p ≡ Some b
+    → P b
 either P None p holds_o holds_p b is = holds_p b is
 either P (Some a) p holds_o holds_p b is = holds_o b is
 
-pub chained : {A B : Type 0} (P : B → Type 0) (f : A → Option B) (o : Option A) → ((a : A) → o ≡ Some a → (b : B) → f a ≡ Some b → P b) → (b : B) → option_and_then f o ≡ Some b → P b
+pub chained : {A B : Type 0} (P : B → Type 0) (f : A → Option B) (o : Option A) → ((a : A) → o ≡ Some a → (b : B) → f a ≡ Some b → P b) → (b : B)
+    → option_and_then f o ≡ Some b → P b
 chained P f None holds b is = absurd (cc)
 chained P f (Some a) holds b is = holds a refl b is
 
@@ -104,7 +106,8 @@ told_by_holds P make kind rows (Some d) each was = kept_holds P make kind (named
 
 -- ---- numbers within bounds
 
-within : (least most : ℕ) (o : Option ℕ) (n : ℕ) → option_and_then (λ n. if leb least n && leb n most then Some n else None) o ≡ Some n → IsTrue (leb least n && leb n most)
+within : (least most : ℕ) (o : Option ℕ) (n : ℕ) → option_and_then (λ n. if leb least n && leb n most then Some n else None) o ≡ Some n
+    → IsTrue (leb least n && leb n most)
 within least most None n is = absurd (cc)
 within least most (Some m) n is =
     let parts = cond_some (leb least m && leb m most) m n is in
@@ -147,13 +150,15 @@ member_keeps kind (Some m) old new ranged is of =
     let parts = cond_some (has kind m) (with_member m old) new is in
     subst (IsOfKind kind) parts.1 (keeps_kind_with kind m old (ranged m refl) parts.0 of)
 
-extra_keeps : (kind : Kind) (value : ℕ) (old : Extra) → IsTrue (leb value 1200000) → IsTrue (is_extra_of kind old) → IsTrue (is_extra_of kind (extra_with_value value old))
+extra_keeps : (kind : Kind) (value : ℕ) (old : Extra) → IsTrue (leb value 1200000) → IsTrue (is_extra_of kind old)
+    → IsTrue (is_extra_of kind (extra_with_value value old))
 unfolding is_extra_of is_plain is_list_extra is_item_extra is_link_extra is_cell_extra
 extra_keeps kind.Item value (extra.Item old checked) ranged of = ranged
 extra_keeps _ value (extra.Item old checked) ranged of = absurd (cc)
 extra_keeps kind value _ ranged of = of
 
-fitting : (kind : Kind) (value : ℕ) (old : Fields) → IsTrue (leb value 1200000) → IsTrue (fits_kind kind old) → IsTrue (fits_kind kind (item_with_value value old))
+fitting : (kind : Kind) (value : ℕ) (old : Fields) → IsTrue (leb value 1200000) → IsTrue (fits_kind kind old)
+    → IsTrue (fits_kind kind (item_with_value value old))
 unfolding fits_kind is_element_of is_text_of are_embed_fields are_bare item_with_value
 fitting kind.Text value (fields.Element old) ranged of = absurd (cc)
 fitting kind.Tab value (fields.Element old) ranged of = absurd (cc)
@@ -166,17 +171,20 @@ fitting kind value _ ranged of = of
 value_keeps : (kind : Kind) (value : ℕ) (old : Fields) → IsTrue (leb value 1200000) → IsOfKind kind old → IsOfKind kind (item_with_value value old)
 unfolding is_of_kind
 value_keeps kind value old ranged of =
-    and (is_possible kind) _ (left (is_possible kind) (fits_kind kind old) of) (fitting kind value old ranged (right (is_possible kind) (fits_kind kind old) of))
+    and (is_possible kind) _ (left (is_possible kind) (fits_kind kind old) of)
+    (fitting kind value old ranged (right (is_possible kind) (fits_kind kind old) of))
 
 given_keeps : (kind : Kind) (known : Name) (d : Data) (old new : Fields) → with_given kind known d old ≡ Some new → IsOfKind kind old → IsOfKind kind new
 unfolding with_given
 given_keeps kind name.Tag d old new is of = mapped (IsOfKind kind) (λ level. old) (named levels d) (λ level at. of) new is
 given_keeps kind name.ListType d old new is of = mapped (IsOfKind kind) (λ type. old) (named list_types d) (λ type at. of) new is
 given_keeps kind name.Value d old new is of =
-    mapped (IsOfKind kind) (λ value. item_with_value value old) (number_within 0 1200000 d) (λ value at. value_keeps kind value old (up_to 1200000 d value at) of) new is
+    mapped (IsOfKind kind) (λ value. item_with_value value old) (number_within 0 1200000 d)
+    (λ value at. value_keeps kind value old (up_to 1200000 d value at) of) new is
 given_keeps kind known d old new is of = member_keeps kind (settable known d) old new (settable-ranged known d) is of
 
-given_by_keeps : (kind : Kind) (known : Name) (o : Option Data) (old new : Fields) → given_by kind known o old ≡ Some new → IsOfKind kind old → IsOfKind kind new
+given_by_keeps : (kind : Kind) (known : Name) (o : Option Data) (old new : Fields) → given_by kind known o old ≡ Some new → IsOfKind kind old
+    → IsOfKind kind new
 unfolding given_by
 given_by_keeps kind known None old new is of = let same : old ≡ new = cc in subst (IsOfKind kind) same of
 given_by_keeps kind known (Some d) old new is of = null_keeps (is_some (as_null d)) is
@@ -185,7 +193,8 @@ given_by_keeps kind known (Some d) old new is of = null_keeps (is_some (as_null 
     null_keeps true is = let same : old ≡ new = cc in subst (IsOfKind kind) same of
     null_keeps false is = given_keeps kind known d old new is of
 
-after : (kind : Kind) (text : List ℕ) (go_on : Fields → Result Fields (List ℕ)) (new : Fields) → ((mid : Fields) → go_on mid ≡ Ok new → IsOfKind kind mid → IsOfKind kind new)
+after : (kind : Kind) (text : List ℕ) (go_on : Fields → Result Fields (List ℕ)) (new : Fields)
+    → ((mid : Fields) → go_on mid ≡ Ok new → IsOfKind kind mid → IsOfKind kind new)
     → (o : Option Fields) → ((mid : Fields) → o ≡ Some mid → IsOfKind kind mid) → or_bad text go_on o ≡ Ok new → IsOfKind kind new
 after kind text go_on new keeps None of is = absurd (cc)
 after kind text go_on new keeps (Some mid) of is = keeps mid is (of mid refl)
@@ -197,12 +206,15 @@ fields_keep kind (row ∷ rows) find old new is of =
     let go_on = fields_with kind rows find in
     let P : Bool → Type 0 = λ test. (if test then or_bad row.0 go_on (given_by kind row.1 (find row.0) old) else go_on old) ≡ Ok new → IsOfKind kind new in
     elim (takes kind row.1) as P [
-      | true ↦ λ is. after kind row.0 go_on new (λ mid. fields_keep kind rows find mid new) (given_by kind row.1 (find row.0) old) (λ mid at. given_by_keeps kind row.1 (find row.0) old mid at of) is
+      | true ↦
+          λ is. after kind row.0 go_on new (λ mid. fields_keep kind rows find mid new) (given_by kind row.1 (find row.0) old)
+          (λ mid at. given_by_keeps kind row.1 (find row.0) old mid at of) is
       | false ↦ λ is. fields_keep kind rows find old new is of
     ] is
 
 pub default_of_kind : (kind : Kind) → IsTrue (is_possible kind) → IsOfKind kind (default_fields kind)
-unfolding is_of_kind fits_kind is_element_of is_text_of are_text_fields are_tab_fields are_embed_fields are_bare is_tab_text is_normal is_extra_of is_plain is_list_extra is_item_extra is_link_extra is_cell_extra is_span default_fields default_extra
+unfolding is_of_kind fits_kind is_element_of is_text_of are_text_fields are_tab_fields are_embed_fields are_bare is_tab_text is_normal is_extra_of is_plain
+    is_list_extra is_item_extra is_link_extra is_cell_extra is_span default_fields default_extra
 default_of_kind of possible = and (is_possible of) _ possible (fit of)
   where
     fit : (of : Kind) → IsTrue (fits_kind of (default_fields of))

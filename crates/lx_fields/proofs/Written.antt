@@ -70,19 +70,23 @@ neither : (a b : Bool) → (a || b) ≡ false → (a ≡ false) × (b ≡ false)
 neither true b is = cc
 neither false b is = (refl, is)
 
-either_way : (order : Ordering) (less equal greater : Members) → members_have_float less ≡ false → members_have_float equal ≡ false → members_have_float greater ≡ false
+either_way : (order : Ordering) (less equal greater : Members) → members_have_float less ≡ false → members_have_float equal ≡ false
+    → members_have_float greater ≡ false
     → members_have_float (match_ordering order less equal greater) ≡ false
 either_way Less less equal greater of_less of_equal of_greater = of_less
 either_way Equal less equal greater of_less of_equal of_greater = of_equal
 either_way Greater less equal greater of_less of_equal of_greater = of_greater
 
-pub members_have_float-put : (name : List ℕ) (d : Data) (found : Members) → has_float d ≡ false → members_have_float found ≡ false → members_have_float (put name d found) ≡ false
+pub members_have_float-put : (name : List ℕ) (d : Data) (found : Members) → has_float d ≡ false → members_have_float found ≡ false
+    → members_have_float (put name d found) ≡ false
 members_have_float-put name d no_members of_d of_found = rw of_d refl
 members_have_float-put name d (member other e rest) of_d of_found =
     let parts = neither (has_float e) (members_have_float rest) of_found in
-    either_way (slice_cmp nat_cmp name other) _ _ _ (rw of_d of_found) (rw (of_d, parts.1) refl) (rw (parts.0, members_have_float-put name d rest of_d parts.1) refl)
+    either_way (slice_cmp nat_cmp name other) _ _ _ (rw of_d of_found) (rw (of_d, parts.1) refl)
+    (rw (parts.0, members_have_float-put name d rest of_d parts.1) refl)
 
-pub has_float-or_null : {A : Type 0} (data_of : A → Data) → ((a : A) → has_float (data_of a) ≡ false) → (option : Option A) → has_float (or_null data_of option) ≡ false
+pub has_float-or_null : {A : Type 0} (data_of : A → Data) → ((a : A) → has_float (data_of a) ≡ false) → (option : Option A)
+    → has_float (or_null data_of option) ≡ false
 has_float-or_null data_of of_some None = refl
 has_float-or_null data_of of_some (Some a) = of_some a
 
@@ -106,11 +110,13 @@ not_true : (b : Bool) → not b ≡ true → b ≡ false
 not_true true is = absurd (cc)
 not_true false is = refl
 
-whole-put : (name : List ℕ) (o : Option Data) (of : Members) → members_have_float of ≡ false → is_whole o ≡ true → members_have_float (put_any name o of) ≡ false
+whole-put : (name : List ℕ) (o : Option Data) (of : Members) → members_have_float of ≡ false → is_whole o ≡ true
+    → members_have_float (put_any name o of) ≡ false
 whole-put name None of none is = none
 whole-put name (Some d) of none is = members_have_float-put name d of (not_true (has_float d) is) none
 
-pub members_have_float-onto : (of : Members) (ms : Written) → members_have_float of ≡ false → are_whole ms ≡ true → members_have_float (written_onto of ms) ≡ false
+pub members_have_float-onto : (of : Members) (ms : Written) → members_have_float of ≡ false → are_whole ms ≡ true
+    → members_have_float (written_onto of ms) ≡ false
 members_have_float-onto of [] none is = none
 members_have_float-onto of (m ∷ ms) none is =
     members_have_float-onto (put_any m.0 m.1 of) ms (whole-put m.0 m.1 of none (first_true (is_whole m.1) (are_whole ms) is))

@@ -10,7 +10,8 @@ pub put_in-with_new : (p : ℕ) (l : Label) (f : Forest) → has l.key f ≡ fal
 unfolding put_in with_new
 put_in-with_new p l f free = rootedBuilding.put_in-with_new key_of p l f free
 
-pub last_below-within : (p : ℕ) (l : Label) (s f : Forest) → has l.key f ≡ false → p ≢ l.key → last_below l.key s (last_below p (tree l nil nil) f) ≡ last_below p (tree l s nil) f
+pub last_below-within : (p : ℕ) (l : Label) (s f : Forest) → has l.key f ≡ false → p ≢ l.key
+    → last_below l.key s (last_below p (tree l nil nil) f) ≡ last_below p (tree l s nil) f
 last_below-within p l s f free other = rootedBuilding.last_below-within key_of p l s f free other
 
 pub last_below-twice : (p : ℕ) (new more f : Forest) → has p new ≡ false → last_below p more (last_below p new f) ≡ last_below p (joined new more) f

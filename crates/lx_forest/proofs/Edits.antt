@@ -45,7 +45,8 @@ count-take_out q k f = rootedEdits.count-take_out key_of q k f
 pub outside_once : (p k : ℕ) (f : Forest) → IsForest f → has p f ≡ true → is_within f k p ≡ false → count p (without k f) ≡ 1
 outside_once p k f h1 h2 h3 = rootedEdits.outside_once key_of p k f (ordered h1) h2 h3
 
-pub count-put_in : (q p : ℕ) (before : Option ℕ) (k : ℕ) (f : Forest) → IsForest f → has p f ≡ true → is_within f k p ≡ false → count q (put_in p before k f) ≡ count q f
+pub count-put_in : (q p : ℕ) (before : Option ℕ) (k : ℕ) (f : Forest) → IsForest f → has p f ≡ true → is_within f k p ≡ false
+    → count q (put_in p before k f) ≡ count q f
 unfolding put_in
 count-put_in q p before k f h1 h2 h3 = rootedEdits.count-put_in key_of q p before k f (ordered h1) h2 h3
 
@@ -67,7 +68,8 @@ pub total-take_out : (k : ℕ) (f : Forest) → total (take_out k f) ≡ total f
 unfolding take_out
 total-take_out k f = rootedEdits.total-take_out key_of k f
 
-pub total-put_in : (p : ℕ) (before : Option ℕ) (k : ℕ) (f : Forest) → IsForest f → has p f ≡ true → is_within f k p ≡ false → total (put_in p before k f) ≡ total f
+pub total-put_in : (p : ℕ) (before : Option ℕ) (k : ℕ) (f : Forest) → IsForest f → has p f ≡ true → is_within f k p ≡ false
+    → total (put_in p before k f) ≡ total f
 unfolding put_in
 total-put_in p before k f h1 h2 h3 = rootedEdits.total-put_in key_of p before k f (ordered h1) h2 h3
 
@@ -83,7 +85,8 @@ key-spot f q s h1 = rootedEdits.key-spot key_of f q s h1
 pub is_some-spot : (f : Forest) (q : ℕ) → is_some (spot f q) ≡ has q f
 is_some-spot f q = rootedEdits.is_some-spot key_of f q
 
-pub spot-with_new : (l : Label) (f : Forest) (q : ℕ) → IsForest f → has l.key f ≡ false → spot (with_new l f) q ≡ cond (eqb q l.key) (Some (record { label = l; parent = None; children = [] })) (spot f q)
+pub spot-with_new : (l : Label) (f : Forest) (q : ℕ) → IsForest f → has l.key f ≡ false
+    → spot (with_new l f) q ≡ cond (eqb q l.key) (Some (record { label = l; parent = None; children = [] })) (spot f q)
 unfolding with_new
 spot-with_new l f q h1 h2 = rootedEdits.spot-with_new key_of l f q (ordered h1) h2
 
@@ -101,7 +104,8 @@ spot-take_out k f q h1 = rootedEdits.spot-take_out key_of k f q (ordered h1)
 pub nobodys_child : (f : Forest) (q k : ℕ) (s : Spot Label) → IsForest f → parent_of f k ≡ None → spot f q ≡ Some s → names_without k s.children ≡ s.children
 nobodys_child f q k s h1 h2 h3 = rootedEdits.nobodys_child key_of f q k s (ordered h1) h2 h3
 
-pub spot-put_in : (p : ℕ) (before : Option ℕ) (k : ℕ) (f : Forest) (q : ℕ) → IsForest f → CanPut p k f → spot (put_in p before k f) q ≡ option_map (placed p before k q) (spot f q)
+pub spot-put_in : (p : ℕ) (before : Option ℕ) (k : ℕ) (f : Forest) (q : ℕ) → IsForest f → CanPut p k f
+    → spot (put_in p before k f) q ≡ option_map (placed p before k q) (spot f q)
 unfolding put_in
 spot-put_in p before k f q h1 h2 = rootedEdits.spot-put_in key_of p before k f q (ordered h1) h2
 
@@ -111,7 +115,8 @@ has-root f h1 = rootedEdits.has-root key_of f (ordered h1)
 pub parent_of-root : (f : Forest) → IsForest f → parent_of f 0 ≡ None
 parent_of-root f h1 = rootedEdits.parent_of-root key_of f (ordered h1)
 
-pub same_spot : (s : Spot Label) (parent : Option ℕ) (children : List ℕ) → parent ≡ s.parent → children ≡ s.children → record { label = s.label; parent = parent; children = children } ≡ s
+pub same_spot : (s : Spot Label) (parent : Option ℕ) (children : List ℕ) → parent ≡ s.parent → children ≡ s.children
+    → record { label = s.label; parent = parent; children = children } ≡ s
 same_spot s parent children h1 h2 = rootedEdits.same_spot key_of s parent children h1 h2
 
 pub spot-drop_detached : (f : Forest) (q : ℕ) → IsForest f → spot (drop_detached f) q ≡ cond (is_attached f q) (spot f q) None

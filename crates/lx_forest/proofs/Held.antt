@@ -32,7 +32,8 @@ module _ (may_hold : Kind → Kind → Bool) (f : Forest) (h : IsForest f) (held
         rw (kind_of-take_out k f q h, kind_of-take_out k f p h) (held.each q p up');
   }
 
-  pub IsHeld-put_in : (p : ℕ) (before : Option ℕ) (k : ℕ) → CanPut p k f → holds may_hold (kind_of f p) (kind_of f k) ≡ true → IsHeld may_hold (put_in p before k f)
+  pub IsHeld-put_in : (p : ℕ) (before : Option ℕ) (k : ℕ) → CanPut p k f → holds may_hold (kind_of f p) (kind_of f k) ≡ true
+      → IsHeld may_hold (put_in p before k f)
   IsHeld-put_in p before k c fits = record {
     each = λ q r up.
         rw (kind_of-put_in p before k f q h c, kind_of-put_in p before k f r h c)

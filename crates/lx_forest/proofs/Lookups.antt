@@ -58,10 +58,12 @@ length-keys f ks h1 h2 h3 = rootedLookups.length-keys key_of f ks (ordered h1) h
 
 -- ---- after new
 
-pub label_of-with_new : (l : Label) (f : Forest) (q : ℕ) → IsForest f → has l.key f ≡ false → label_of (with_new l f) q ≡ cond (eqb q l.key) (Some l) (label_of f q)
+pub label_of-with_new : (l : Label) (f : Forest) (q : ℕ) → IsForest f → has l.key f ≡ false
+    → label_of (with_new l f) q ≡ cond (eqb q l.key) (Some l) (label_of f q)
 label_of-with_new l f q h free = grind (arith, spot-with_new l f q h free)
 
-pub kind_of-with_new : (l : Label) (f : Forest) (q : ℕ) → IsForest f → has l.key f ≡ false → kind_of (with_new l f) q ≡ cond (eqb q l.key) (Some l.kind) (kind_of f q)
+pub kind_of-with_new : (l : Label) (f : Forest) (q : ℕ) → IsForest f → has l.key f ≡ false
+    → kind_of (with_new l f) q ≡ cond (eqb q l.key) (Some l.kind) (kind_of f q)
 kind_of-with_new l f q h free = grind (arith, spot-with_new l f q h free)
 
 pub parent_of-with_new : (l : Label) (f : Forest) (q : ℕ) → IsForest f → has l.key f ≡ false → parent_of (with_new l f) q ≡ parent_of f q
@@ -78,13 +80,15 @@ pub label_of-with_fields : (k : ℕ) (fields : Fields) (f : Forest) (q : ℕ) �
 label_of-with_fields k fields f q =
     ap (option_map (λ (s : Spot Label). s.label)) (spot-with_fields k fields f q)
     ∙ option_map-map (λ (s : Spot Label). s.label) (reset k fields q) (spot f q)
-    ∙ option_map-agree (λ (s : Spot Label). (reset k fields q s).label) (λ (s : Spot Label). fields_at k fields s.label) (spot f q) (λ s e. rw (key-spot f q s e))
+    ∙ option_map-agree (λ (s : Spot Label). (reset k fields q s).label) (λ (s : Spot Label). fields_at k fields s.label) (spot f q)
+    (λ s e. rw (key-spot f q s e))
     ∙ sym (option_map-map (fields_at k fields) (λ (s : Spot Label). s.label) (spot f q))
 
 pub kind_of-with_fields : (k : ℕ) (fields : Fields) (f : Forest) (q : ℕ) → kind_of (with_fields k fields f) q ≡ kind_of f q
 kind_of-with_fields k fields f q = grind (arith, spot-with_fields k fields f q)
 
-pub fields_of-with_fields : (k : ℕ) (fields : Fields) (f : Forest) (q : ℕ) → fields_of (with_fields k fields f) q ≡ option_map (λ old. cond (eqb q k) fields old) (fields_of f q)
+pub fields_of-with_fields : (k : ℕ) (fields : Fields) (f : Forest) (q : ℕ)
+    → fields_of (with_fields k fields f) q ≡ option_map (λ old. cond (eqb q k) fields old) (fields_of f q)
 fields_of-with_fields k fields f q = grind (arith, spot-with_fields k fields f q)
 
 pub parent_of-with_fields : (k : ℕ) (fields : Fields) (f : Forest) (q : ℕ) → parent_of (with_fields k fields f) q ≡ parent_of f q
@@ -117,11 +121,13 @@ label_of-put_in p before k f q h c = grind (arith, spot-put_in p before k f q h 
 pub kind_of-put_in : (p : ℕ) (before : Option ℕ) (k : ℕ) (f : Forest) (q : ℕ) → IsForest f → CanPut p k f → kind_of (put_in p before k f) q ≡ kind_of f q
 kind_of-put_in p before k f q h c = grind (arith, spot-put_in p before k f q h c)
 
-pub parent_of-put_in : (p : ℕ) (before : Option ℕ) (k : ℕ) (f : Forest) (q : ℕ) → IsForest f → CanPut p k f → parent_of (put_in p before k f) q ≡ cond (eqb q k) (Some p) (parent_of f q)
+pub parent_of-put_in : (p : ℕ) (before : Option ℕ) (k : ℕ) (f : Forest) (q : ℕ) → IsForest f → CanPut p k f
+    → parent_of (put_in p before k f) q ≡ cond (eqb q k) (Some p) (parent_of f q)
 unfolding put_in
 parent_of-put_in p before k f q h1 h2 = rootedLookups.parent_of-put_in key_of p before k f q (ordered h1) h2
 
-pub children_of-put_in : (p : ℕ) (before : Option ℕ) (k : ℕ) (f : Forest) (q : ℕ) → IsForest f → CanPut p k f → children_of (put_in p before k f) q ≡ cond (eqb q p) (names_with before (k ∷ []) (children_of f q)) (children_of f q)
+pub children_of-put_in : (p : ℕ) (before : Option ℕ) (k : ℕ) (f : Forest) (q : ℕ) → IsForest f → CanPut p k f
+    → children_of (put_in p before k f) q ≡ cond (eqb q p) (names_with before (k ∷ []) (children_of f q)) (children_of f q)
 unfolding put_in
 children_of-put_in p before k f q h1 h2 = rootedLookups.children_of-put_in key_of p before k f q (ordered h1) h2
 

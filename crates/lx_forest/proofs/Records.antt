@@ -28,7 +28,8 @@ not_beside_top f q k h none =
       )
     ]
 
-not_beside_other : (f : Forest) (q k p : ℕ) → IsForest f → parent_of f q ≡ Some p → parent_of f k ≢ Some p → (is_named (previous_of f k) q ≡ false) × (is_named (next_of f k) q ≡ false)
+not_beside_other : (f : Forest) (q k p : ℕ) → IsForest f → parent_of f q ≡ Some p → parent_of f k ≢ Some p
+    → (is_named (previous_of f k) q ≡ false) × (is_named (next_of f k) q ≡ false)
 not_beside_other f q k p h some other =
     elim (cases_option (parent_of f k)) [
       | inl top ↦ (rw top, rw top)
@@ -61,24 +62,28 @@ IsRecordOf-record_at f q r h1 = rootedRecords.IsRecordOf-record_at key_of f q r 
 
 -- ---- new and set
 
-pub record_at-with_new : (l : Label) (f : Forest) (q : ℕ) → IsForest f → has l.key f ≡ false → record_at (with_new l f) q ≡ cond (eqb q l.key) (Some (lone l)) (record_at f q)
+pub record_at-with_new : (l : Label) (f : Forest) (q : ℕ) → IsForest f → has l.key f ≡ false
+    → record_at (with_new l f) q ≡ cond (eqb q l.key) (Some (lone l)) (record_at f q)
 unfolding with_new
 record_at-with_new l f q h1 h2 = rootedRecords.record_at-with_new key_of l f q (ordered h1) h2
 
-pub record_at-with_fields : (k : ℕ) (fields : Fields) (f : Forest) (q : ℕ) → record_at (with_fields k fields f) q ≡ option_map (refielded k fields q) (record_at f q)
+pub record_at-with_fields : (k : ℕ) (fields : Fields) (f : Forest) (q : ℕ)
+    → record_at (with_fields k fields f) q ≡ option_map (refielded k fields q) (record_at f q)
 record_at-with_fields k fields f q =
     rw (siblings-with_fields k fields f q, spot-with_fields k fields f q)
     (option_map-map (linked (siblings f q) q) (reset k fields q) (spot f q) ∙ sym (option_map-map (refielded k fields q) (linked (siblings f q) q) (spot f q)))
 
 -- ---- take
 
-pub record_at-take_out : (k : ℕ) (f : Forest) (n : Record) (q : ℕ) → IsForest f → record_at f k ≡ Some n → record_at (take_out k f) q ≡ option_map (unlinked k n q) (record_at f q)
+pub record_at-take_out : (k : ℕ) (f : Forest) (n : Record) (q : ℕ) → IsForest f → record_at f k ≡ Some n
+    → record_at (take_out k f) q ≡ option_map (unlinked k n q) (record_at f q)
 unfolding take_out
 record_at-take_out k f n q h1 h2 = rootedRecords.record_at-take_out key_of k f n q (ordered h1) h2
 
 -- ---- put
 
-pub record_at-put_in : (p : ℕ) (before : Option ℕ) (k : ℕ) (f : Forest) (q : ℕ) → IsForest f → CanPut p k f → is_place before (children_of f p) ≡ true → record_at (put_in p before k f) q ≡ option_map (linked_in p (place_behind before (children_of f p)) before k q) (record_at f q)
+pub record_at-put_in : (p : ℕ) (before : Option ℕ) (k : ℕ) (f : Forest) (q : ℕ) → IsForest f → CanPut p k f → is_place before (children_of f p) ≡ true
+    → record_at (put_in p before k f) q ≡ option_map (linked_in p (place_behind before (children_of f p)) before k q) (record_at f q)
 unfolding put_in
 record_at-put_in p before k f q h1 h2 h3 = rootedRecords.record_at-put_in key_of p before k f q (ordered h1) h2 h3
 

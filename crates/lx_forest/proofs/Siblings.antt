@@ -23,7 +23,8 @@ parent_of-previous f q n p h1 h2 h3 = rootedSiblings.parent_of-previous key_of f
 pub NoRepeats-siblings : (f : Forest) (q : ℕ) → IsForest f → NoRepeats (siblings f q)
 NoRepeats-siblings f q h1 = rootedSiblings.NoRepeats-siblings key_of f q (ordered h1)
 
-pub siblings-agree : (f g : Forest) (q : ℕ) → parent_of g q ≡ parent_of f q → ((p : ℕ) → parent_of f q ≡ Some p → children_of g p ≡ children_of f p) → siblings g q ≡ siblings f q
+pub siblings-agree : (f g : Forest) (q : ℕ) → parent_of g q ≡ parent_of f q → ((p : ℕ) → parent_of f q ≡ Some p → children_of g p ≡ children_of f p)
+    → siblings g q ≡ siblings f q
 siblings-agree f g q h1 h2 = rootedSiblings.siblings-agree key_of f g q h1 h2
 
 -- the name after which one comes that comes before a child
@@ -37,7 +38,8 @@ unfolding with_new
 siblings-with_new l f q h1 h2 = rootedSiblings.siblings-with_new key_of l f q (ordered h1) h2
 
 pub siblings-with_fields : (k : ℕ) (fields : Fields) (f : Forest) (q : ℕ) → siblings (with_fields k fields f) q ≡ siblings f q
-siblings-with_fields k fields f q = siblings-agree f (with_fields k fields f) q (parent_of-with_fields k fields f q) (λ p up. children_of-with_fields k fields f p)
+siblings-with_fields k fields f q =
+    siblings-agree f (with_fields k fields f) q (parent_of-with_fields k fields f q) (λ p up. children_of-with_fields k fields f p)
 
 pub siblings-take_out : (k : ℕ) (f : Forest) (q : ℕ) → IsForest f → eqb q k ≡ false → siblings (take_out k f) q ≡ names_without k (siblings f q)
 unfolding take_out
@@ -47,14 +49,17 @@ pub siblings-take_out_self : (k : ℕ) (f : Forest) → IsForest f → siblings 
 unfolding take_out
 siblings-take_out_self k f h1 = rootedSiblings.siblings-take_out_self key_of k f (ordered h1)
 
-pub siblings-put_in_self : (p : ℕ) (before : Option ℕ) (k : ℕ) (f : Forest) → IsForest f → CanPut p k f → siblings (put_in p before k f) k ≡ names_with before (k ∷ []) (children_of f p)
+pub siblings-put_in_self : (p : ℕ) (before : Option ℕ) (k : ℕ) (f : Forest) → IsForest f → CanPut p k f
+    → siblings (put_in p before k f) k ≡ names_with before (k ∷ []) (children_of f p)
 unfolding put_in
 siblings-put_in_self p before k f h1 h2 = rootedSiblings.siblings-put_in_self key_of p before k f (ordered h1) h2
 
-pub siblings-put_in : (p : ℕ) (before : Option ℕ) (k : ℕ) (f : Forest) (q : ℕ) → IsForest f → CanPut p k f → eqb q k ≡ false → siblings (put_in p before k f) q ≡ cond (is_named (parent_of f q) p) (names_with before (k ∷ []) (siblings f q)) (siblings f q)
+pub siblings-put_in : (p : ℕ) (before : Option ℕ) (k : ℕ) (f : Forest) (q : ℕ) → IsForest f → CanPut p k f → eqb q k ≡ false
+    → siblings (put_in p before k f) q ≡ cond (is_named (parent_of f q) p) (names_with before (k ∷ []) (siblings f q)) (siblings f q)
 unfolding put_in
 siblings-put_in p before k f q h1 h2 h3 = rootedSiblings.siblings-put_in key_of p before k f q (ordered h1) h2 h3
 
 pub siblings-drop_detached : (f : Forest) (q : ℕ) → IsForest f → is_attached f q ≡ true → siblings (drop_detached f) q ≡ siblings f q
 siblings-drop_detached f q h attached =
-    siblings-agree f (drop_detached f) q (parent_of-drop_detached f q h ∙ rw attached) (λ p up. children_of-drop_detached f p h ∙ rw (sym (is_attached-up f q p h up) ∙ attached))
+    siblings-agree f (drop_detached f) q (parent_of-drop_detached f q h ∙ rw attached)
+    (λ p up. children_of-drop_detached f p h ∙ rw (sym (is_attached-up f q p h up) ∙ attached))

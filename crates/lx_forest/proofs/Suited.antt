@@ -55,14 +55,16 @@ IsSuited-drop_detached f i h = record {
 
 -- ---- other fields, which are of the kind of the node that gets them
 
-fields_suited : (k : ℕ) (fields : Fields) (l : Label) → IsOfKind l.kind l.fields → (l.key ≡ k → IsOfKind l.kind fields) → is_suited (Some (fields_at k fields l)) ≡ true
+fields_suited : (k : ℕ) (fields : Fields) (l : Label) → IsOfKind l.kind l.fields → (l.key ≡ k → IsOfKind l.kind fields)
+    → is_suited (Some (fields_at k fields l)) ≡ true
 fields_suited k fields l own other =
     elim (eqb_tells l.key k) [
       | inl same ↦ subst (λ f. IsOfKind l.kind f) (sym (ap (λ t. cond t fields l.fields) same.0)) (other same.1)
       | inr apart ↦ subst (λ f. IsOfKind l.kind f) (sym (ap (λ t. cond t fields l.fields) apart.0)) own
     ]
 
-pub IsSuited-with_fields : (f : Forest) (k : ℕ) (fields : Fields) → ((l : Label) → label_of f k ≡ Some l → IsOfKind l.kind fields) → IsSuited f → IsSuited (with_fields k fields f)
+pub IsSuited-with_fields : (f : Forest) (k : ℕ) (fields : Fields) → ((l : Label) → label_of f k ≡ Some l → IsOfKind l.kind fields) → IsSuited f
+    → IsSuited (with_fields k fields f)
 IsSuited-with_fields f k fields of_kind h = record { each = each } where
   each : (q : ℕ) → is_suited (label_of (with_fields k fields f) q) ≡ true
   each q =

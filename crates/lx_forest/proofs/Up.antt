@@ -16,7 +16,8 @@ use Rattle.lx_trees.proofs.Up as rootedUp
 use Rattle.lx_forest.proofs.Ordered.{ordered}
 
 -- where the parents are the same from q on, so are the ancestors
-pub ancestors-agree : (f g : Forest) (q : ℕ) → IsForest f → IsForest g → ((x : ℕ) → is_among x (q ∷ ancestors f q) ≡ true → parent_of g x ≡ parent_of f x) → ancestors g q ≡ ancestors f q
+pub ancestors-agree : (f g : Forest) (q : ℕ) → IsForest f → IsForest g → ((x : ℕ) → is_among x (q ∷ ancestors f q) ≡ true → parent_of g x ≡ parent_of f x)
+    → ancestors g q ≡ ancestors f q
 ancestors-agree f g q h i same = rootedUp.ancestors-agree key_of f g q (ordered h) (ordered i) same
 
 -- ---- new and set change no ancestors
@@ -26,7 +27,8 @@ unfolding with_new
 ancestors-with_new l f q h free = rootedUp.ancestors-with_new key_of l f q (ordered h) free
 
 pub ancestors-with_fields : (k : ℕ) (fields : Fields) (f : Forest) (q : ℕ) → IsForest f → ancestors (with_fields k fields f) q ≡ ancestors f q
-ancestors-with_fields k fields f q h = ancestors-agree f (with_fields k fields f) q h (IsForest-with_fields k fields f h) (λ x among. parent_of-with_fields k fields f x)
+ancestors-with_fields k fields f q h =
+    ancestors-agree f (with_fields k fields f) q h (IsForest-with_fields k fields f h) (λ x among. parent_of-with_fields k fields f x)
 
 -- ---- take and put
 
@@ -35,12 +37,14 @@ pub ancestors-take_out_outside : (k : ℕ) (f : Forest) (q : ℕ) → IsForest f
 unfolding take_out
 ancestors-take_out_outside k f q h outside = rootedUp.ancestors-take_out_outside key_of k f q (ordered h) outside
 
-pub ancestors-put_in_outside : (p : ℕ) (before : Option ℕ) (k : ℕ) (f : Forest) (q : ℕ) → IsForest f → CanPut p k f → is_within f k q ≡ false → ancestors (put_in p before k f) q ≡ ancestors f q
+pub ancestors-put_in_outside : (p : ℕ) (before : Option ℕ) (k : ℕ) (f : Forest) (q : ℕ) → IsForest f → CanPut p k f → is_within f k q ≡ false
+    → ancestors (put_in p before k f) q ≡ ancestors f q
 unfolding put_in
 ancestors-put_in_outside p before k f q h c outside = rootedUp.ancestors-put_in_outside key_of p before k f q (ordered h) c outside
 
 -- inside it, the place and its ancestors come on top
-pub ancestors-put_in_inside : (p : ℕ) (before : Option ℕ) (k : ℕ) (f : Forest) (q : ℕ) → IsForest f → CanPut p k f → is_within f k q ≡ true → ancestors (put_in p before k f) q ≡ ancestors f q ++ p ∷ ancestors f p
+pub ancestors-put_in_inside : (p : ℕ) (before : Option ℕ) (k : ℕ) (f : Forest) (q : ℕ) → IsForest f → CanPut p k f → is_within f k q ≡ true
+    → ancestors (put_in p before k f) q ≡ ancestors f q ++ p ∷ ancestors f p
 unfolding put_in
 ancestors-put_in_inside p before k f q h c inside = rootedUp.ancestors-put_in_inside key_of p before k f q (ordered h) c inside
 
@@ -53,7 +57,8 @@ pub ancestors-take_out : (k : ℕ) (f : Forest) (q : ℕ) → IsForest f → anc
 unfolding take_out
 ancestors-take_out k f q h = rootedUp.ancestors-take_out key_of k f q (ordered h)
 
-pub ancestors-put_in : (p : ℕ) (before : Option ℕ) (k : ℕ) (f : Forest) (q : ℕ) → IsForest f → CanPut p k f → ancestors (put_in p before k f) q ≡ ancestors f q ++ cond (is_within f k q) (p ∷ ancestors f p) []
+pub ancestors-put_in : (p : ℕ) (before : Option ℕ) (k : ℕ) (f : Forest) (q : ℕ) → IsForest f → CanPut p k f
+    → ancestors (put_in p before k f) q ≡ ancestors f q ++ cond (is_within f k q) (p ∷ ancestors f p) []
 unfolding put_in
 ancestors-put_in p before k f q h c = rootedUp.ancestors-put_in key_of p before k f q (ordered h) c
 
@@ -68,7 +73,9 @@ ancestors-drop_detached f q h =
     elim (cases_Bool (is_attached f q)) [
       | inl attached ↦
           let there : has q f ≡ true = grind (arith, attached, count-alone-le key_of q 0 f) in
-          rw attached (ancestors-agree f (drop_detached f) q h (IsForest-drop_detached f h) (λ x among. parent_of-drop_detached f x h ∙ rw (attached_above f x q h attached (is_within-ancestors f x q h there ∙ among)) refl))
+          rw attached
+          (ancestors-agree f (drop_detached f) q h (IsForest-drop_detached f h)
+          (λ x among. parent_of-drop_detached f x h ∙ rw (attached_above f x q h attached (is_within-ancestors f x q h there ∙ among)) refl))
       | inr detached ↦ rw detached (ancestors-top (drop_detached f) q (parent_of-drop_detached f q h ∙ rw detached refl))
     ]
 
@@ -89,7 +96,8 @@ depth-take_out k f q h other = rootedUp.depth-take_out key_of k f q (ordered h) 
 pub detached_inside : (f : Forest) (k q : ℕ) → IsForest f → k ≢ 0 → parent_of f k ≡ None → is_within f k q ≡ true → is_attached f q ≡ false
 detached_inside f k q h other detached inside = rootedUp.detached_inside key_of f k q (ordered h) other detached inside
 
-pub depth-put_in : (p : ℕ) (before : Option ℕ) (k : ℕ) (f : Forest) (q : ℕ) → IsForest f → CanPut p k f → depth (put_in p before k f) q ≡ cond (is_within f k q) (option_map (λ d. length (ancestors f q) + 1 + d) (depth f p)) (depth f q)
+pub depth-put_in : (p : ℕ) (before : Option ℕ) (k : ℕ) (f : Forest) (q : ℕ) → IsForest f → CanPut p k f
+    → depth (put_in p before k f) q ≡ cond (is_within f k q) (option_map (λ d. length (ancestors f q) + 1 + d) (depth f p)) (depth f q)
 unfolding put_in
 depth-put_in p before k f q h c = rootedUp.depth-put_in key_of p before k f q (ordered h) c
 

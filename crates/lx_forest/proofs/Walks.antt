@@ -106,7 +106,8 @@ behind-root f h = walks.behind-top key_of (alone 0 f) 0 (tree_distinct f h) (rw 
 
 -- ---- which comes first
 
-order_before : (xs : List ℕ) (x y : ℕ) → ComesBefore xs x y → (order_between (index_in xs x) (index_in xs y) ≡ Some Less) × (order_between (index_in xs y) (index_in xs x) ≡ Some Greater)
+order_before : (xs : List ℕ) (x y : ℕ) → ComesBefore xs x y
+    → (order_between (index_in xs x) (index_in xs y) ≡ Some Less) × (order_between (index_in xs y) (index_in xs x) ≡ Some Greater)
 order_before xs x y c =
     (rw (c.first_is, c.second_is) (grind (arith, c.before, nat_tests)), rw (c.first_is, c.second_is) (grind (arith, c.before, nat_tests)))
 
@@ -130,17 +131,24 @@ child_attached f p x i h attached e =
     is_attached-up f x p h up ∙ attached
 
 -- an attached key comes before all below it
-pub order_of-below : (f : Forest) (k q : ℕ) → IsForest f → is_attached f k ≡ true → is_within f k q ≡ true → q ≢ k → (order_of f k q ≡ Some Less) × (order_of f q k ≡ Some Greater)
+pub order_of-below : (f : Forest) (k q : ℕ) → IsForest f → is_attached f k ≡ true → is_within f k q ≡ true → q ≢ k
+    → (order_of f k q ≡ Some Less) × (order_of f q k ≡ Some Greater)
 order_of-below f k q h attached inside other =
     order_before (preorder f) k q (walks.ComesBefore-below key_of (alone 0 f) k q (tree_distinct f h) (inside_root f k q h attached inside) other)
 
 -- what is in the tree of a child comes before what is in the tree of a later child
-pub order_of-children : (f : Forest) (p x y q s : ℕ) → IsForest f → is_attached f p ≡ true → ComesBefore (children_of f p) x y → is_within f x q ≡ true → is_within f y s ≡ true → (order_of f q s ≡ Some Less) × (order_of f s q ≡ Some Greater)
+pub order_of-children : (f : Forest) (p x y q s : ℕ) → IsForest f → is_attached f p ≡ true → ComesBefore (children_of f p) x y → is_within f x q ≡ true
+    → is_within f y s ≡ true → (order_of f q s ≡ Some Less) × (order_of f s q ≡ Some Greater)
 order_of-children f p x y q s h attached c u v =
-    order_before (preorder f) q s (walks.ComesBefore-children key_of (alone 0 f) p x y q s (tree_distinct f h) (rw (spot_in_tree f p h, attached) c) (inside_root f x q h (child_attached f p x c.first h attached c.first_is) u) (inside_root f y s h (child_attached f p y c.second h attached c.second_is) v))
+    order_before (preorder f) q s
+    (walks.ComesBefore-children key_of (alone 0 f) p x y q s (tree_distinct f h) (rw (spot_in_tree f p h, attached) c)
+    (inside_root f x q h (child_attached f p x c.first h attached c.first_is) u)
+    (inside_root f y s h (child_attached f p y c.second h attached c.second_is) v))
 
 pub order_of-self : (f : Forest) (q : ℕ) → IsForest f → is_attached f q ≡ true → order_of f q q ≡ Some Equal
 order_of-self f q h attached = same_place (index_in (preorder f) q) (is_some-index_in (preorder f) q ∙ is_among-preorder_of f q ∙ attached)
 
 pub order_of-detached : (f : Forest) (a b : ℕ) → IsForest f → (is_attached f a && is_attached f b) ≡ false → order_of f a b ≡ None
-order_of-detached f a b h detached = no_place (index_in (preorder f) a) (index_in (preorder f) b) (rw (is_some-index_in (preorder f) a, is_some-index_in (preorder f) b, is_among-preorder_of f a, is_among-preorder_of f b) detached)
+order_of-detached f a b h detached =
+    no_place (index_in (preorder f) a) (index_in (preorder f) b)
+    (rw (is_some-index_in (preorder f) a, is_some-index_in (preorder f) b, is_among-preorder_of f a, is_among-preorder_of f b) detached)

@@ -41,7 +41,8 @@ module _ (of : Label → ℕ) where
   weight-inserted before new nil = omega arith
   weight-inserted before new (tree l below rest) = grind (arith, weight-inserted before new rest, weight-joined new (tree l below rest))
 
-  pub weight-put_below : (p : ℕ) (before : Option ℕ) (new t : Forest) → count p t ≡ 1 → weight of (put_below key_of p before new t) ≡ weight of new + weight of t
+  pub weight-put_below : (p : ℕ) (before : Option ℕ) (new t : Forest) → count p t ≡ 1
+      → weight of (put_below key_of p before new t) ≡ weight of new + weight of t
   weight-put_below p before new nil once = absurd (omega arith)
   weight-put_below p before new (tree l below rest) once =
       grind (arith, weight-put_below p before new below, weight-put_below p before new rest, weight-inserted before new below, put_below-absent key_of p before new below, put_below-absent key_of p before new rest)
@@ -56,7 +57,8 @@ module _ (of : Label → ℕ) where
   unfolding take_out rooted.take_out
   weight-take_out k f = omega (arith, weight-among_roots k (alone k f) (without k f), weight-without-alone k f)
 
-  pub weight-put_in : (p : ℕ) (before : Option ℕ) (k : ℕ) (f : Forest) → IsForest f → has p f ≡ true → is_within f k p ≡ false → weight of (put_in p before k f) ≡ weight of f
+  pub weight-put_in : (p : ℕ) (before : Option ℕ) (k : ℕ) (f : Forest) → IsForest f → has p f ≡ true → is_within f k p ≡ false
+      → weight of (put_in p before k f) ≡ weight of f
   unfolding put_in rooted.put_in
   weight-put_in p before k f h there outside =
       omega (arith, weight-put_below p before (alone k f) (without k f) (outside_once p k f h there outside), weight-without-alone k f)
@@ -82,7 +84,8 @@ module _ (of : Label → ℕ) where
             grind (arith, other, once, e, spot_below-absent key_of (Some l.key) below k, spot_below-absent key_of r rest k, weight-absent k fields below, weight-absent k fields rest, weight-mapped (Some l.key) k fields below s, weight-mapped r k fields rest s)
       ]
 
-  pub weight-with_fields : (k : ℕ) (fields : Fields) (f : Forest) (s : Spot Label) → IsForest f → spot f k ≡ Some s → weight of (with_fields k fields f) + of s.label ≡ weight of f + of (fields_at k fields s.label)
+  pub weight-with_fields : (k : ℕ) (fields : Fields) (f : Forest) (s : Spot Label) → IsForest f → spot f k ≡ Some s
+      → weight of (with_fields k fields f) + of s.label ≡ weight of f + of (fields_at k fields s.label)
   unfolding with_fields
   weight-with_fields k fields f s h e = weight-mapped None k fields f s (h.once k) e
 
@@ -99,16 +102,22 @@ module _ (of : Label → ℕ) where
   pub weight-roots : (f : Forest) → IsForest f → sum_by (weight_at of f) (roots f) ≡ weight of f
   weight-roots f h = sym (weight-trees_of f (roots f)) ∙ ap (weight of) (trees_of-roots f h)
 
-  weight-below : (g : ℕ → ℕ) (r : Option ℕ) (t : Forest) → ((q : ℕ) → count q t < 2) → ((q : ℕ) (s : Spot Label) → spot_below key_of r t q ≡ Some s → g q ≡ of s.label) → sum_by g (named.preorder key_of t) ≡ weight of t
+  weight-below : (g : ℕ → ℕ) (r : Option ℕ) (t : Forest) → ((q : ℕ) → count q t < 2)
+      → ((q : ℕ) (s : Spot Label) → spot_below key_of r t q ≡ Some s → g q ≡ of s.label) → sum_by g (named.preorder key_of t) ≡ weight of t
   weight-below g r nil once told = refl
   weight-below g r (tree l below rest) once told =
       let own : g l.key ≡ of l = told l.key (record { label = l; parent = r; children = named.names key_of below }) (grind (arith, eqb_tells l.key l.key)) in
-      let inner = weight-below g (Some l.key) below (λ q. omega (arith, once q)) (λ q s e. told q s (grind (arith, e, once q, eqb_tells l.key q, spot_below-absent key_of (Some l.key) below q))) in
-      let outer = weight-below g r rest (λ q. omega (arith, once q)) (λ q s e. told q s (grind (arith, e, once q, eqb_tells l.key q, spot_below-absent key_of (Some l.key) below q, spot_below-absent key_of r rest q))) in
+      let inner =
+      weight-below g (Some l.key) below (λ q. omega (arith, once q))
+      (λ q s e. told q s (grind (arith, e, once q, eqb_tells l.key q, spot_below-absent key_of (Some l.key) below q))) in
+      let outer =
+      weight-below g r rest (λ q. omega (arith, once q))
+      (λ q s e. told q s (grind (arith, e, once q, eqb_tells l.key q, spot_below-absent key_of (Some l.key) below q, spot_below-absent key_of r rest q))) in
       omega (arith, own, inner, outer, sum_by-cons g l.key (named.preorder key_of below ++ named.preorder key_of rest), sum_by-append g (named.preorder key_of below) (named.preorder key_of rest))
 
   -- the attached keys weigh what is left when the others are dropped
-  pub weight-preorder : (g : ℕ → ℕ) (f : Forest) → IsForest f → ((q : ℕ) (s : Spot Label) → spot f q ≡ Some s → g q ≡ of s.label) → sum_by g (preorder f) ≡ weight of (drop_detached f)
+  pub weight-preorder : (g : ℕ → ℕ) (f : Forest) → IsForest f → ((q : ℕ) (s : Spot Label) → spot f q ≡ Some s → g q ≡ of s.label)
+      → sum_by g (preorder f) ≡ weight of (drop_detached f)
   unfolding drop_detached
   weight-preorder g f h told =
       weight-below g None (alone 0 f) (tree_distinct f h) (λ q s e. told q s (grind (arith, sym (spot_in_tree f q h) ∙ e)))
@@ -120,7 +129,8 @@ same_sum g [] (y ∷ ys) u v same = absurd (grind (arith, same y, eqb_tells y y)
 same_sum g (x ∷ xs) ys u v same =
     let there : is_among x ys ≡ true = grind (arith, same x, eqb_tells x x) in
     let rest : sum_by g xs ≡ sum_by g (names_without x ys) =
-    same_sum g xs (names_without x ys) u.1 (NoRepeats-names_without x ys v) (λ q. grind (arith, u.0, same q, is_among-names_without x q ys, eqb_tells x q, eqb_tells q x)) in
+    same_sum g xs (names_without x ys) u.1 (NoRepeats-names_without x ys v)
+    (λ q. grind (arith, u.0, same q, is_among-names_without x q ys, eqb_tells x q, eqb_tells q x)) in
     sum_by-cons g x xs ∙ ap (λ n. g x + n) rest ∙ without_one g x ys v there where
       without_one : (g : ℕ → ℕ) (x : ℕ) (ys : List ℕ) → NoRepeats ys → is_among x ys ≡ true → g x + sum_by g (names_without x ys) ≡ sum_by g ys
       without_one g x [] v e = absurd (grind (arith, e))

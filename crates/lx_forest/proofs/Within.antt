@@ -44,11 +44,13 @@ pub alone-take_out_outside : (a k : ℕ) (f : Forest) → is_within f k a ≡ fa
 unfolding take_out
 alone-take_out_outside a k f h1 = rootedWithin.alone-take_out_outside key_of a k f h1
 
-pub alone-put_in_inside : (a p : ℕ) (before : Option ℕ) (k : ℕ) (f : Forest) → IsForest f → CanPut p k f → is_within f k a ≡ true → alone a (put_in p before k f) ≡ alone a f
+pub alone-put_in_inside : (a p : ℕ) (before : Option ℕ) (k : ℕ) (f : Forest) → IsForest f → CanPut p k f → is_within f k a ≡ true
+    → alone a (put_in p before k f) ≡ alone a f
 unfolding put_in
 alone-put_in_inside a p before k f h1 h2 h3 = rootedWithin.alone-put_in_inside key_of a p before k f (ordered h1) h2 h3
 
-pub alone-put_in_outside : (a p : ℕ) (before : Option ℕ) (k : ℕ) (f : Forest) → IsForest f → CanPut p k f → is_within f k a ≡ false → alone a (put_in p before k f) ≡ put_below key_of p before (alone k f) (without k (alone a f))
+pub alone-put_in_outside : (a p : ℕ) (before : Option ℕ) (k : ℕ) (f : Forest) → IsForest f → CanPut p k f → is_within f k a ≡ false
+    → alone a (put_in p before k f) ≡ put_below key_of p before (alone k f) (without k (alone a f))
 unfolding put_in
 alone-put_in_outside a p before k f h1 h2 h3 = rootedWithin.alone-put_in_outside key_of a p before k f (ordered h1) h2 h3
 
@@ -87,19 +89,23 @@ is_within-apart f a k q h1 h2 h3 = rootedWithin.is_within-apart key_of f a k q (
 
 -- ---- within, after edits
 
-pub is_within-with_new : (l : Label) (f : Forest) (a q : ℕ) → has l.key f ≡ false → is_within (with_new l f) a q ≡ (is_within f a q || (eqb a l.key && eqb q l.key))
+pub is_within-with_new : (l : Label) (f : Forest) (a q : ℕ) → has l.key f ≡ false
+    → is_within (with_new l f) a q ≡ (is_within f a q || (eqb a l.key && eqb q l.key))
 unfolding with_new
 is_within-with_new l f a q h1 = rootedWithin.is_within-with_new key_of l f a q h1
 
 pub is_within-with_fields : (k : ℕ) (fields : Fields) (f : Forest) (a q : ℕ) → is_within (with_fields k fields f) a q ≡ is_within f a q
 unfolding with_fields
-is_within-with_fields k fields f a q = rw (alone-mapped key_of (fields_at k fields) (λ l. refl) a f, count-mapped key_of (fields_at k fields) (λ l. refl) q (alone a f))
+is_within-with_fields k fields f a q =
+    rw (alone-mapped key_of (fields_at k fields) (λ l. refl) a f, count-mapped key_of (fields_at k fields) (λ l. refl) q (alone a f))
 
-pub is_within-take_out : (k : ℕ) (f : Forest) (a q : ℕ) → IsForest f → is_within (take_out k f) a q ≡ (is_within f a q && (is_within f k a || not (is_within f k q)))
+pub is_within-take_out : (k : ℕ) (f : Forest) (a q : ℕ) → IsForest f
+    → is_within (take_out k f) a q ≡ (is_within f a q && (is_within f k a || not (is_within f k q)))
 unfolding take_out
 is_within-take_out k f a q h1 = rootedWithin.is_within-take_out key_of k f a q (ordered h1)
 
-pub is_within-put_in : (p : ℕ) (before : Option ℕ) (k : ℕ) (f : Forest) (a q : ℕ) → IsForest f → CanPut p k f → is_within (put_in p before k f) a q ≡ (is_within f a q || (is_within f k q && is_within f a p))
+pub is_within-put_in : (p : ℕ) (before : Option ℕ) (k : ℕ) (f : Forest) (a q : ℕ) → IsForest f → CanPut p k f
+    → is_within (put_in p before k f) a q ≡ (is_within f a q || (is_within f k q && is_within f a p))
 unfolding put_in
 is_within-put_in p before k f a q h1 h2 = rootedWithin.is_within-put_in key_of p before k f a q (ordered h1) h2
 
@@ -118,7 +124,8 @@ pub is_attached-take_out : (k : ℕ) (f : Forest) (q : ℕ) → IsForest f → k
 unfolding take_out
 is_attached-take_out k f q h1 h2 = rootedWithin.is_attached-take_out key_of k f q (ordered h1) h2
 
-pub is_attached-put_in : (p : ℕ) (before : Option ℕ) (k : ℕ) (f : Forest) (q : ℕ) → IsForest f → CanPut p k f → is_attached (put_in p before k f) q ≡ (is_attached f q || (is_within f k q && is_attached f p))
+pub is_attached-put_in : (p : ℕ) (before : Option ℕ) (k : ℕ) (f : Forest) (q : ℕ) → IsForest f → CanPut p k f
+    → is_attached (put_in p before k f) q ≡ (is_attached f q || (is_within f k q && is_attached f p))
 unfolding put_in
 is_attached-put_in p before k f q h1 h2 = rootedWithin.is_attached-put_in key_of p before k f q (ordered h1) h2
 

@@ -17,7 +17,8 @@ told_take (suc n) beside (e ∷ es) told = (told.0, told_take n e.state.links es
 
 -- what is pushed tells of the tree after it
 pub told_pushed : (current : Option State) (places : Option (List ℕ)) (undo redo : List Entry) (after : Forest) → IsAway current places after
-    → IfSome current (λ c. AreTold c.links undo × AreTold c.links redo) → (current ≡ None → (states undo ≡ []) × (states redo ≡ [])) → AreTold after (with_told current places undo)
+    → IfSome current (λ c. AreTold c.links undo × AreTold c.links redo) → (current ≡ None → (states undo ≡ []) × (states redo ≡ []))
+    → AreTold after (with_told current places undo)
 told_pushed None places [] redo after away told none = tt
 told_pushed None places (e ∷ es) redo after away told none = let nothing : e.state ∷ states es ≡ [] = (none refl).0 in absurd (cc)
 told_pushed (Some c) places undo redo after away told none = (away, told.0)

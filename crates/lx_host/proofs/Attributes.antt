@@ -54,29 +54,35 @@ later a b e = order.antisymm b a ∙ ap ordering_reverse e
 -- ---- with an attribute given or taken away
 
 -- a comes before what is given or taken away
-rise_given : (name : Name) (value : Option (List ℕ)) (a : Name × List ℕ) (xs : List (Name × List ℕ)) → name_order a.0 name ≡ Less → names_rise (a ∷ xs) ≡ true → ((v : List ℕ) → names_rise ((name, v) ∷ xs) ≡ true) → names_rise (a ∷ before_others name value xs) ≡ true
+rise_given : (name : Name) (value : Option (List ℕ)) (a : Name × List ℕ) (xs : List (Name × List ℕ)) → name_order a.0 name ≡ Less → names_rise (a ∷ xs) ≡ true
+    → ((v : List ℕ) → names_rise ((name, v) ∷ xs) ≡ true) → names_rise (a ∷ before_others name value xs) ≡ true
 rise_given name None a xs e f g = f
 rise_given name (Some v) a xs e f g = rise_more a (name, v) xs e (g v)
 
 -- o is the order of the name and of the first one after a
-rise_behind_by : (name : Name) (value : Option (List ℕ)) (a b : Name × List ℕ) (xs : List (Name × List ℕ)) (o : Ordering) → name_order name b.0 ≡ o → name_order a.0 name ≡ Less → name_order a.0 b.0 ≡ Less → names_rise (b ∷ xs) ≡ true
+rise_behind_by : (name : Name) (value : Option (List ℕ)) (a b : Name × List ℕ) (xs : List (Name × List ℕ)) (o : Ordering) → name_order name b.0 ≡ o
+    → name_order a.0 name ≡ Less → name_order a.0 b.0 ≡ Less → names_rise (b ∷ xs) ≡ true
     → (name_order b.0 name ≡ Less → names_rise (b ∷ with_attribute name value xs) ≡ true)
     → names_rise (a ∷ match_ordering o (before_others name value (b ∷ xs)) (before_others name value xs) (b ∷ with_attribute name value xs)) ≡ true
 rise_behind_by name value a b xs Less is e f g more = rise_given name value a (b ∷ xs) e (rise_more a b xs f g) (λ v. rise_more (name, v) b xs is g)
 rise_behind_by name value a b xs Equal is e f g more = rise_given name value a xs e (rise_past a b xs f g) (λ v. rise_same (name, v) b xs is g)
 rise_behind_by name value a b xs Greater is e f g more = rise_more a b _ f (more (later name b.0 is))
 
-rise_behind : (name : Name) (value : Option (List ℕ)) (a : Name × List ℕ) (xs : List (Name × List ℕ)) → name_order a.0 name ≡ Less → names_rise (a ∷ xs) ≡ true → names_rise (a ∷ with_attribute name value xs) ≡ true
+rise_behind : (name : Name) (value : Option (List ℕ)) (a : Name × List ℕ) (xs : List (Name × List ℕ)) → name_order a.0 name ≡ Less → names_rise (a ∷ xs) ≡ true
+    → names_rise (a ∷ with_attribute name value xs) ≡ true
 rise_behind name value a [] e f = rise_given name value a [] e f (λ v. refl)
 rise_behind name value a (b ∷ xs) e f =
     let p = both (is_lt (name_order a.0 b.0)) _ f in
     rise_behind_by name value a b xs (name_order name b.0) refl e (is_less _ p.0) p.1 (λ g. rise_behind name value b xs g p.1)
 
-rise_first : (name : Name) (value : Option (List ℕ)) (xs : List (Name × List ℕ)) → names_rise xs ≡ true → ((v : List ℕ) → names_rise ((name, v) ∷ xs) ≡ true) → names_rise (before_others name value xs) ≡ true
+rise_first : (name : Name) (value : Option (List ℕ)) (xs : List (Name × List ℕ)) → names_rise xs ≡ true → ((v : List ℕ) → names_rise ((name, v) ∷ xs) ≡ true)
+    → names_rise (before_others name value xs) ≡ true
 rise_first name None xs e f = e
 rise_first name (Some v) xs e f = f v
 
-rise_by : (name : Name) (value : Option (List ℕ)) (a : Name × List ℕ) (xs : List (Name × List ℕ)) (o : Ordering) → name_order name a.0 ≡ o → names_rise (a ∷ xs) ≡ true → names_rise (match_ordering o (before_others name value (a ∷ xs)) (before_others name value xs) (a ∷ with_attribute name value xs)) ≡ true
+rise_by : (name : Name) (value : Option (List ℕ)) (a : Name × List ℕ) (xs : List (Name × List ℕ)) (o : Ordering) → name_order name a.0 ≡ o
+    → names_rise (a ∷ xs) ≡ true
+    → names_rise (match_ordering o (before_others name value (a ∷ xs)) (before_others name value xs) (a ∷ with_attribute name value xs)) ≡ true
 rise_by name value a xs Less is e = rise_first name value (a ∷ xs) e (λ v. rise_more (name, v) a xs is e)
 rise_by name value a xs Equal is e = rise_first name value xs (rise_rest a xs e) (λ v. rise_same (name, v) a xs is e)
 rise_by name value a xs Greater is e = rise_behind name value a xs (later name a.0 is) e
@@ -88,7 +94,8 @@ rise_with name value (a ∷ xs) e = rise_by name value a xs (name_order name a.0
 -- ---- how many there are: each name has a place, and the places rise with the names
 
 abbrev names : List Name
-names = AriaChecked ∷ Class ∷ ColSpan ∷ DataAlign ∷ DataBg ∷ DataIndent ∷ DataLexicalDecorator ∷ DataLexicalText ∷ DataSrc ∷ Dir ∷ Href ∷ Rel ∷ Role ∷ RowSpan ∷ Start ∷ Style ∷ Target ∷ Title ∷ Value ∷ []
+names = AriaChecked ∷ Class ∷ ColSpan ∷ DataAlign ∷ DataBg ∷ DataIndent ∷ DataLexicalDecorator ∷ DataLexicalText ∷ DataSrc ∷ Dir ∷ Href ∷ Rel ∷ Role ∷ RowSpan
+    ∷ Start ∷ Style ∷ Target ∷ Title ∷ Value ∷ []
 
 abbrev place : Name → ℕ
 place AriaChecked = 0
@@ -148,7 +155,8 @@ place_lt : (a b : Name) → name_order a b ≡ Less → place a < place b
 place_lt a b e =
     let p = all_at (λ x. list_all (places_rise x) names) names (place a) AriaChecked (has_place a).1 all_rise in
     let q = all_at (places_rise (get_or names (place a) AriaChecked)) names (place b) AriaChecked (has_place b).1 p in
-    let r : places_rise a b ≡ true = sym (ap (λ x. places_rise x (get_or names (place b) AriaChecked)) (has_place a).0 ∙ ap (places_rise a) (has_place b).0) ∙ q in
+    let r : places_rise a b ≡ true =
+    sym (ap (λ x. places_rise x (get_or names (place b) AriaChecked)) (has_place a).0 ∙ ap (places_rise a) (has_place b).0) ∙ q in
     ltb-true (place a) (place b) (ap (λ o. not (is_lt o) || ltb (place a) (place b)) (sym e) ∙ r)
 
 few_from : (a : Name × List ℕ) (xs : List (Name × List ℕ)) → names_rise (a ∷ xs) ≡ true → place a.0 + length xs < 19
@@ -175,27 +183,32 @@ pub record IsPassed (name : Name) (xs : List (Name × List ℕ)) (i : ℕ) : Typ
 pub passed_none : (name : Name) (xs : List (Name × List ℕ)) → IsPassed name xs 0
 passed_none name xs = record { is = λ value. refl }
 
-module _ (name : Name) (xs : List (Name × List ℕ)) (i : ℕ) (x : Name × List ℕ) (within : i < length xs) (item : x ≡ get_or xs i x) (passed : IsPassed name xs i) where
-  met : drop i xs ≡ x ∷ drop (i + 1) xs
-  met = drop_more xs i x within ∙ ap (λ y. y ∷ drop (i + 1) xs) (sym item)
+module _ (name : Name) (xs : List (Name × List ℕ)) (i : ℕ) (x : Name × List ℕ) (within : i < length xs) (item : x ≡ get_or xs i x) (passed : IsPassed name xs i)
+  where
+    met : drop i xs ≡ x ∷ drop (i + 1) xs
+    met = drop_more xs i x within ∙ ap (λ y. y ∷ drop (i + 1) xs) (sym item)
 
-  -- o is the order of the name and of the one here
-  by_order : (o : Ordering) → name_order name x.0 ≡ o → (value : Option (List ℕ)) → with_attribute name value xs ≡ take i xs ++ match_ordering o (before_others name value (x ∷ drop (i + 1) xs)) (before_others name value (drop (i + 1) xs)) (x ∷ with_attribute name value (drop (i + 1) xs))
-  by_order o e value = passed.is value ∙ ap (λ l. take i xs ++ with_attribute name value l) met ∙ rw e refl
+    -- o is the order of the name and of the one here
+    by_order : (o : Ordering) → name_order name x.0 ≡ o → (value : Option (List ℕ))
+        → with_attribute name value xs
+        ≡ take i xs
+        ++ match_ordering o (before_others name value (x ∷ drop (i + 1) xs)) (before_others name value (drop (i + 1) xs))
+        (x ∷ with_attribute name value (drop (i + 1) xs))
+    by_order o e value = passed.is value ∙ ap (λ l. take i xs ++ with_attribute name value l) met ∙ rw e refl
 
-  pub passed_more : name_order name x.0 ≡ Greater → IsPassed name xs (i + 1)
-  passed_more e = record {
-    is = λ value.
-        by_order Greater e value
-        ∙ sym (append_assoc (take i xs) (x ∷ []) (with_attribute name value (drop (i + 1) xs)))
-        ∙ ap (λ l. l ++ with_attribute name value (drop (i + 1) xs)) (sym (take_more xs i x within ∙ ap (λ y. take i xs ++ y ∷ []) (sym item)));
-  }
+    pub passed_more : name_order name x.0 ≡ Greater → IsPassed name xs (i + 1)
+    passed_more e = record {
+      is = λ value.
+          by_order Greater e value
+          ∙ sym (append_assoc (take i xs) (x ∷ []) (with_attribute name value (drop (i + 1) xs)))
+          ∙ ap (λ l. l ++ with_attribute name value (drop (i + 1) xs)) (sym (take_more xs i x within ∙ ap (λ y. take i xs ++ y ∷ []) (sym item)));
+    }
 
-  pub stands_here : name_order name x.0 ≡ Equal → IsWrittenAt name xs i (i + 1)
-  stands_here e = record { within = omega (arith, within); is = λ value. by_order Equal e value }
+    pub stands_here : name_order name x.0 ≡ Equal → IsWrittenAt name xs i (i + 1)
+    stands_here e = record { within = omega (arith, within); is = λ value. by_order Equal e value }
 
-  pub belongs_here : name_order name x.0 ≡ Less → IsWrittenAt name xs i i
-  belongs_here e = record { within = omega (arith, within); is = λ value. by_order Less e value ∙ ap (λ l. take i xs ++ before_others name value l) (sym met) }
+    pub belongs_here : name_order name x.0 ≡ Less → IsWrittenAt name xs i i
+    belongs_here e = record { within = omega (arith, within); is = λ value. by_order Less e value ∙ ap (λ l. take i xs ++ before_others name value l) (sym met) }
 
 pub belongs_behind : (name : Name) (xs : List (Name × List ℕ)) (i n : ℕ) → length xs ≤ i → n ≡ length xs → IsPassed name xs i → IsWrittenAt name xs n n
 belongs_behind name xs i n end is passed = record {
@@ -216,10 +229,13 @@ few_before name xs i v are is =
 
 -- ---- writing it there
 
-pub written_set : (name : Name) (xs : List (Name × List ℕ)) (i : ℕ) (v : List ℕ) → IsWrittenAt name xs i (i + 1) → set xs i (name, v) ≡ with_attribute name (Some v) xs
-written_set name xs i v is = set_split xs i (name, v) (omega (arith, is.within)) ∙ ap (λ k. take i xs ++ (name, v) ∷ drop k xs) (sym (add-one i)) ∙ sym (is.is (Some v))
+pub written_set : (name : Name) (xs : List (Name × List ℕ)) (i : ℕ) (v : List ℕ) → IsWrittenAt name xs i (i + 1)
+    → set xs i (name, v) ≡ with_attribute name (Some v) xs
+written_set name xs i v is =
+    set_split xs i (name, v) (omega (arith, is.within)) ∙ ap (λ k. take i xs ++ (name, v) ∷ drop k xs) (sym (add-one i)) ∙ sym (is.is (Some v))
 
-pub written_insert : (name : Name) (xs : List (Name × List ℕ)) (i : ℕ) (v : List ℕ) → IsWrittenAt name xs i i → insert xs i (name, v) ≡ with_attribute name (Some v) xs
+pub written_insert : (name : Name) (xs : List (Name × List ℕ)) (i : ℕ) (v : List ℕ) → IsWrittenAt name xs i i
+    → insert xs i (name, v) ≡ with_attribute name (Some v) xs
 written_insert name xs i v is = sym (is.is (Some v))
 
 pub written_remove : (name : Name) (xs : List (Name × List ℕ)) (i : ℕ) → IsWrittenAt name xs i (i + 1) → remove xs i ≡ with_attribute name None xs

@@ -73,7 +73,8 @@ next_child q p (tree host below rest) once e =
 next_none : (q : ℕ) (t : Trees Host) → ((x : ℕ) → count x t < 2) → ((p : ℕ) → is_among q (children_of p t) ≡ false) → next_sibling q t ≡ None
 next_none q nil once none = refl
 next_none q (tree host below rest) once none =
-    let at : (p : ℕ) → (is_among q (cond (eqb host.id p) (ids_of below) (children_of p below)) || is_among q (children_of p rest)) ≡ false = λ p. sym (is_among-append q (cond (eqb host.id p) (ids_of below) (children_of p below)) (children_of p rest)) ∙ none p in
+    let at : (p : ℕ) → (is_among q (cond (eqb host.id p) (ids_of below) (children_of p below)) || is_among q (children_of p rest)) ≡ false =
+    λ p. sym (is_among-append q (cond (eqb host.id p) (ids_of below) (children_of p below)) (children_of p rest)) ∙ none p in
     let first : is_among q (ids_of below) ≡ false = grind (arith, at host.id, eqb_tells host.id host.id) in
     let deep : (p : ℕ) → is_among q (children_of p below) ≡ false = λ p. grind (arith, at p, eqb_tells host.id p, once p, children_of-absent id_of p below) in
     let far : (p : ℕ) → is_among q (children_of p rest) ≡ false = λ p. grind (arith, at p) in
@@ -82,8 +83,11 @@ next_none q (tree host below rest) once none =
 pub next_same : (f : Trees Host) (q : ℕ) → IsOrdered id_of f → next_sibling q f ≡ lookups.next_of id_of f q
 next_same f q h =
     elim (cases_option (lookups.parent_of id_of f q)) [
-      | inl top ↦ next_none q f h.once (λ p. ap (is_among q) (sym (children-same f p h)) ∙ is_among-children_of id_of f q p h ∙ ap (λ o. is_named o p) top) ∙ sym (ap (λ o. next_in (lookups.children_below id_of f o) q) top)
+      | inl top ↦
+          next_none q f h.once (λ p. ap (is_among q) (sym (children-same f p h)) ∙ is_among-children_of id_of f q p h ∙ ap (λ o. is_named o p) top)
+          ∙ sym (ap (λ o. next_in (lookups.children_below id_of f o) q) top)
       | inr (p, up) ↦
-          let among : is_among q (children_of p f) ≡ true = ap (is_among q) (sym (children-same f p h)) ∙ is_among-children_of id_of f q p h ∙ ap (λ o. is_named o p) up ∙ grind (arith, eqb_tells p p) in
+          let among : is_among q (children_of p f) ≡ true =
+          ap (is_among q) (sym (children-same f p h)) ∙ is_among-children_of id_of f q p h ∙ ap (λ o. is_named o p) up ∙ grind (arith, eqb_tells p p) in
           next_child q p f h.once among ∙ ap (λ ks. next_in ks q) (sym (children-same f p h)) ∙ sym (ap (λ o. next_in (lookups.children_below id_of f o) q) up)
     ]

@@ -51,11 +51,13 @@ lone_host face =
       size = 0;
     }
 
-last_new : (id : ℕ) (face : Face) (f : Trees Host) → ((q : ℕ) → id < q + 1 → count q f ≡ 0) → with_new id_of (record { id = id; face = face }) f ≡ joined f (one_host id face)
+last_new : (id : ℕ) (face : Face) (f : Trees Host) → ((q : ℕ) → id < q + 1 → count q f ≡ 0)
+    → with_new id_of (record { id = id; face = face }) f ≡ joined f (one_host id face)
 unfolding with_new
 last_new id face f above = among_roots-last id_of id (one_host id face) f above
 
-inserted_record : (id q : ℕ) (face : Face) (o : Option Linked) (r : Option (Record Host)) → option_map (record_of q) o ≡ r → option_map (record_of q) (cond (nat_eq id q) (Some (lone_host face)) o) ≡ cond (eqb q id) (Some (lone (record { id = id; face = face }))) r
+inserted_record : (id q : ℕ) (face : Face) (o : Option Linked) (r : Option (Record Host)) → option_map (record_of q) o ≡ r
+    → option_map (record_of q) (cond (nat_eq id q) (Some (lone_host face)) o) ≡ cond (eqb q id) (Some (lone (record { id = id; face = face }))) r
 inserted_record id q face o r e = elim (eqb_tells q id) [
   | inl here ↦ grind (arith, here, eqb_tells id q)
   | inr other ↦ grind (arith, other, e, eqb_tells id q)
@@ -72,7 +74,8 @@ is_some-map g (Some x) = refl
 pub is_some_in : (o : Option (Bor Linked)) (f : Trees Host) (q : ℕ) → option_copied o ≡ option_map linked_of (record_at id_of f q) → is_some o ≡ has q f
 is_some_in o f q e = sym (is_some-copied o) ∙ ap is_some e ∙ is_some-map linked_of (record_at id_of f q) ∙ is_some-record_at id_of f q
 
-gone_record : (k q : ℕ) (f : Trees Host) (o : Option Linked) → IsOrdered id_of f → children_of id_of f k ≡ [] → option_map (record_of q) o ≡ record_at id_of f q → option_map (record_of q) (cond (nat_eq k q) None o) ≡ cond (is_within id_of f k q) None (record_at id_of f q)
+gone_record : (k q : ℕ) (f : Trees Host) (o : Option Linked) → IsOrdered id_of f → children_of id_of f k ≡ [] → option_map (record_of q) o ≡ record_at id_of f q
+    → option_map (record_of q) (cond (nat_eq k q) None o) ≡ cond (is_within id_of f k q) None (record_at id_of f q)
 gone_record k q f o h leaf e = elim (eqb_tells q k) [
   | inl here ↦ grind (arith, here, eqb_tells k q, is_within-leaf id_of f k q h leaf, is_some-record_at id_of f q, absent (record_at id_of f q))
   | inr other ↦ grind (arith, other, e, eqb_tells k q, is_within-leaf id_of f k q h leaf)
@@ -83,26 +86,31 @@ gone_record k q f o h leaf e = elim (eqb_tells q k) [
     absent (Some x) z = cc
 
 module _ {S : Type 0} where
-  pub created_stands : (old new : HashMap ℕ Linked S) (f : Trees Host) (id : ℕ) (face : Face) → Stands old f → ((q : ℕ) → id < q + 1 → count q f ≡ 0) → id < last_u32 → ((q : ℕ) → get nat_eq new q ≡ cond (nat_eq id q) (Some (lone_host face)) (get nat_eq old q)) → Stands new (joined f (one_host id face))
+  pub created_stands : (old new : HashMap ℕ Linked S) (f : Trees Host) (id : ℕ) (face : Face) → Stands old f → ((q : ℕ) → id < q + 1 → count q f ≡ 0)
+      → id < last_u32 → ((q : ℕ) → get nat_eq new q ≡ cond (nat_eq id q) (Some (lone_host face)) (get nat_eq old q)) → Stands new (joined f (one_host id face))
   created_stands old new f id face s above below put =
       let l : Host = record { id = id; face = face } in
       let free : has id f ≡ false = grind (arith, above id) in
       let made : Stands new (with_new id_of l f) = record {
         in_order = IsOrdered-with_new id_of l f s.in_order free;
-        same = λ q. ap (option_map (record_of q)) (put q) ∙ inserted_record id q face (get nat_eq old q) (record_at id_of f q) (s.same q) ∙ sym (record_at-with_new id_of l f q s.in_order free);
+        same = λ q. ap (option_map (record_of q)) (put q) ∙ inserted_record id q face (get nat_eq old q) (record_at id_of f q) (s.same q)
+            ∙ sym (record_at-with_new id_of l f q s.in_order free);
         small = omega (arith, total-with_new id_of l f, total-numbered id_of id f s.in_order above, below);
       } in
       subst (Stands new) (last_new id face f above) made
 
-  pub gone_stands : (old new : HashMap ℕ Linked S) (f : Trees Host) (k : ℕ) → Stands old f → k ≢ 0 → parent_of id_of f k ≡ None → children_of id_of f k ≡ [] → ((q : ℕ) → get nat_eq new q ≡ cond (nat_eq k q) None (get nat_eq old q)) → Stands new (without k f)
+  pub gone_stands : (old new : HashMap ℕ Linked S) (f : Trees Host) (k : ℕ) → Stands old f → k ≢ 0 → parent_of id_of f k ≡ None → children_of id_of f k ≡ []
+      → ((q : ℕ) → get nat_eq new q ≡ cond (nat_eq k q) None (get nat_eq old q)) → Stands new (without k f)
   gone_stands old new f k s other top leaf gone = record {
     in_order = IsOrdered-without id_of k f s.in_order other;
-    same = λ q. ap (option_map (record_of q)) (gone q) ∙ gone_record k q f (get nat_eq old q) s.in_order leaf (s.same q) ∙ sym (record_at-without id_of k f q s.in_order top);
+    same = λ q. ap (option_map (record_of q)) (gone q) ∙ gone_record k q f (get nat_eq old q) s.in_order leaf (s.same q)
+        ∙ sym (record_at-without id_of k f q s.in_order top);
     small = omega (arith, total-without-alone id_of k f, s.small);
   }
 
   pub same_stands : (old new : HashMap ℕ Linked S) (f : Trees Host) → Stands old f → new.entries ≡ old.entries → Stands new f
-  same_stands old new f s e = record { in_order = s.in_order; same = λ q. ap (λ es. option_map (record_of q) (lookup (nat_eq q) es)) e ∙ s.same q; small = s.small }
+  same_stands old new f s e =
+      record { in_order = s.in_order; same = λ q. ap (λ es. option_map (record_of q) (lookup (nat_eq q) es)) e ∙ s.same q; small = s.small }
 
 -- ---- a leaf that is taken out
 
@@ -120,11 +128,13 @@ child_up f q c h e = grind (arith, first_of-among (children_of id_of f q) c e, i
 pub child_smaller : (f : Trees Host) (q c : ℕ) → IsOrdered id_of f → first_child id_of f q ≡ Some c → total (alone c f) < total (alone q f)
 child_smaller f q c h e = total-alone_child-lt id_of f c q h.once (child_up f q c h e)
 
-pub child_within : (f : Trees Host) (k q c : ℕ) → IsOrdered id_of f → is_within id_of f k q ≡ true → first_child id_of f q ≡ Some c → is_within id_of f k c ≡ true
+pub child_within : (f : Trees Host) (k q c : ℕ) → IsOrdered id_of f → is_within id_of f k q ≡ true → first_child id_of f q ≡ Some c
+    → is_within id_of f k c ≡ true
 child_within f k q c h inside e =
     let up : parent_of id_of f c ≡ Some q = child_up f q c h e in
     elim (eqb_tells c k) [
-      | inl own ↦ grind (arith, own, is_within-self id_of f k, inside, count-alone-le id_of q k f, above_there f c q up, count-alone_self id_of k f, is_within-parent id_of f c q h up)
+      | inl own ↦
+          grind (arith, own, is_within-self id_of f k, inside, count-alone-le id_of q k f, above_there f c q up, count-alone_self id_of k f, is_within-parent id_of f c q h up)
       | inr other ↦ is_within-up id_of f k c q h up other.1 ∙ inside
     ]
   where
@@ -155,7 +165,8 @@ apart_from f k a h inside other =
       | inr none ↦ grind (arith, none)
     ]
 
-pub parent_stays : (f : Trees Host) (k a p : ℕ) → IsOrdered id_of f → is_within id_of f k a ≡ true → a ≢ k → parent_of id_of f a ≡ Some p → is_within id_of (without a f) k p ≡ true
+pub parent_stays : (f : Trees Host) (k a p : ℕ) → IsOrdered id_of f → is_within id_of f k a ≡ true → a ≢ k → parent_of id_of f a ≡ Some p
+    → is_within id_of (without a f) k p ≡ true
 parent_stays f k a p h inside other up =
     let above : is_within id_of f k p ≡ true = sym (is_within-up id_of f k a p h up other) ∙ inside in
     let gone : count a (without k f) ≡ 0 = grind (arith, inside, h.once a, count-without-alone id_of a k f) in
@@ -185,7 +196,8 @@ pub none_within : (f : Trees Host) (k q : ℕ) → IsOrdered id_of f → is_with
 none_within f k q h inside other top = grind (arith, inside, not_top f k q h other top)
 
 -- host 0 alone
-root_record : (q : ℕ) (o : Option Linked) → o ≡ None → option_map (record_of q) (cond (nat_eq 0 q) (Some (lone_host root_face)) o) ≡ record_at id_of (one_host 0 root_face) q
+root_record : (q : ℕ) (o : Option Linked) → o ≡ None
+    → option_map (record_of q) (cond (nat_eq 0 q) (Some (lone_host root_face)) o) ≡ record_at id_of (one_host 0 root_face) q
 root_record q o none = rw none (by (eqb 0 q) refl) where
   by : (b : Bool) → eqb 0 q ≡ b → option_map (record_of q) (cond (nat_eq 0 q) (Some (lone_host root_face)) None) ≡ record_at id_of (one_host 0 root_face) q
   by true e =
@@ -194,7 +206,8 @@ root_record q o none = rw none (by (eqb 0 q) refl) where
       subst P own refl
   by false e = rw e refl
 
-root_stands : {S : Type 0} (new : HashMap ℕ Linked S) (n : Linked) → n ≡ lone_host root_face → ((q : ℕ) → get nat_eq new q ≡ cond (nat_eq 0 q) (Some n) None) → Stands new (one_host 0 root_face)
+root_stands : {S : Type 0} (new : HashMap ℕ Linked S) (n : Linked) → n ≡ lone_host root_face → ((q : ℕ) → get nat_eq new q ≡ cond (nat_eq 0 q) (Some n) None)
+    → Stands new (one_host 0 root_face)
 root_stands new n is put = record {
   in_order = record { once = λ q. grind (arith, eqb_tells 0 q); rising = refl };
   same = λ q. ap (option_map (record_of q)) (put q ∙ ap (λ m. cond (nat_eq 0 q) (Some m) None) is) ∙ root_record q None refl;
@@ -208,8 +221,10 @@ ok_was (Err z) x e p = cc
 none_in : {S : Type 0} (m : HashMap ℕ Linked S) (q : ℕ) → m.entries ≡ [] → get nat_eq m q ≡ None
 none_in m q e = ap (λ es. lookup (nat_eq q) es) e
 
-pub root_linked : (key : ℕ) (attrs items : List (Name × List ℕ)) → key ≡ 0 → attrs ≡ items → items ≡ [] → ◌≡◌ {A = Linked} (lone_host (record root_face { key = key; attrs = attrs })) (lone_host root_face)
+pub root_linked : (key : ℕ) (attrs items : List (Name × List ℕ)) → key ≡ 0 → attrs ≡ items → items ≡ []
+    → ◌≡◌ {A = Linked} (lone_host (record root_face { key = key; attrs = attrs })) (lone_host root_face)
 root_linked key attrs items k a i = let e : attrs ≡ [] = a ∙ i in rw (k, e) refl
 
-pub made_root : {S : Type 0} (old new : HashMap ℕ Linked S) (n : Linked) → n ≡ lone_host root_face → old.entries ≡ [] → ((q : ℕ) → get nat_eq new q ≡ cond (nat_eq 0 q) (Some n) (get nat_eq old q)) → Stands new (one_host 0 root_face)
+pub made_root : {S : Type 0} (old new : HashMap ℕ Linked S) (n : Linked) → n ≡ lone_host root_face → old.entries ≡ []
+    → ((q : ℕ) → get nat_eq new q ≡ cond (nat_eq 0 q) (Some n) (get nat_eq old q)) → Stands new (one_host 0 root_face)
 made_root old new n is empty put = root_stands new n is (λ q. put q ∙ ap (λ o. cond (nat_eq 0 q) (Some n) o) (none_in old q empty))

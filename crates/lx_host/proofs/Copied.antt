@@ -32,7 +32,8 @@ module _ {X : Type 0} where
   AreFree [] es = Unit {0}
   AreFree (x ∷ xs) es = IsFree x.0 es × AreFree xs es
 
-  other_keys : (k : ℕ) (xs : List (ℕ × X)) (e : ℕ × X) (es : List (ℕ × X)) → e.0 ≡ k → AllByRecursion (λ y. eqb k y ≡ false) (keys_of xs) → AreFree xs es → AreFree xs (es ++ e ∷ [])
+  other_keys : (k : ℕ) (xs : List (ℕ × X)) (e : ℕ × X) (es : List (ℕ × X)) → e.0 ≡ k → AllByRecursion (λ y. eqb k y ≡ false) (keys_of xs) → AreFree xs es
+      → AreFree xs (es ++ e ∷ [])
   other_keys k [] e es is apart free = tt
   other_keys k (x ∷ xs) e es is apart free =
       (free_behind x.0 e es free.0 (grind (arith, apart.0, is, eqb_tells k x.0, eqb_tells x.0 e.0)), other_keys k xs e es is apart.1 free.1)
@@ -41,7 +42,8 @@ module _ {X : Type 0} where
   inserted [] es distinct free = sym (append-nil es)
   inserted (x ∷ xs) es distinct free =
       ap (λ l. insert_all eqb l xs) (insert_new x.0 x.1 es free.0)
-      ∙ inserted xs (es ++ x ∷ []) (IsDistinct-tail eqb x.0 (keys_of xs) distinct) (other_keys x.0 xs x es refl (IsDistinct-head eqb x.0 (keys_of xs) distinct) free.1)
+      ∙ inserted xs (es ++ x ∷ []) (IsDistinct-tail eqb x.0 (keys_of xs) distinct)
+      (other_keys x.0 xs x es refl (IsDistinct-head eqb x.0 (keys_of xs) distinct) free.1)
       ∙ append_assoc es (x ∷ []) xs
 
   none_free : (xs : List (ℕ × X)) → AreFree xs []

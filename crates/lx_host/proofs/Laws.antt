@@ -16,7 +16,8 @@ without-joined = trees.without-joined id_of
 pub alone-joined : (id : ℕ) (s t : Trees Host) → alone id (joined s t) ≡ joined (alone id s) (alone id t)
 alone-joined = trees.alone-joined id_of
 
-pub put_below-joined : (id : ℕ) (before : Option ℕ) (new s t : Trees Host) → put_below id before new (joined s t) ≡ joined (put_below id before new s) (put_below id before new t)
+pub put_below-joined : (id : ℕ) (before : Option ℕ) (new s t : Trees Host)
+    → put_below id before new (joined s t) ≡ joined (put_below id before new s) (put_below id before new t)
 put_below-joined = trees.put_below-joined id_of
 
 pub children_of-joined : (id : ℕ) (s t : Trees Host) → children_of id (joined s t) ≡ children_of id s ++ children_of id t

@@ -53,18 +53,21 @@ split_test false c t = refl
 pub least_any : (test : ℕ → Bool) (ids : List ℕ) → IsLeast (λ q. is_among q ids && test q) (least_in test ids)
 least_any test [] = λ q. refl
 least_any test (id ∷ ids) =
-    least_either (λ q. eqb id q && test q) (λ q. is_among q ids && test q) (λ q. is_among q (id ∷ ids) && test q) (passing test (Some id)) (least_in test ids) (one test id) (least_any test ids) (λ q. split_test (eqb id q) (is_among q ids) (test q))
+    least_either (λ q. eqb id q && test q) (λ q. is_among q ids && test q) (λ q. is_among q (id ∷ ids) && test q) (passing test (Some id)) (least_in test ids)
+    (one test id) (least_any test ids) (λ q. split_test (eqb id q) (is_among q ids) (test q))
 
 drop_nil : (i : ℕ) → drop {A = ℕ} i [] ≡ []
 drop_nil zero = refl
 drop_nil (suc i) = refl
 
-pub least_step : (test : ℕ → Bool) (i : ℕ) (ids : List ℕ) (o : Option ℕ) → lesser (lesser o (passing test (slice_get ids i))) (least_in test (drop (i + 1) ids)) ≡ lesser o (least_in test (drop i ids))
+pub least_step : (test : ℕ → Bool) (i : ℕ) (ids : List ℕ) (o : Option ℕ)
+    → lesser (lesser o (passing test (slice_get ids i))) (least_in test (drop (i + 1) ids)) ≡ lesser o (least_in test (drop i ids))
 least_step test i ids o = lesser-assoc o (passing test (slice_get ids i)) (least_in test (drop (i + 1) ids)) ∙ ap (lesser o) (here i ids) where
   here : (i : ℕ) (ids : List ℕ) → lesser (passing test (slice_get ids i)) (least_in test (drop (i + 1) ids)) ≡ least_in test (drop i ids)
   here i [] = rw (drop_nil (i + 1), drop_nil i) refl
   here zero (id ∷ ids) = refl
-  here (suc i) (id ∷ ids) = let s : suc (i + 1) ≡ suc i + 1 = omega arith in let P : ℕ → Type 0 = λ n. lesser (passing test (slice_get ids i)) (least_in test (drop n (id ∷ ids))) ≡ least_in test (drop i ids) in subst P s (here i ids)
+  here (suc i) (id ∷ ids) = let s : suc (i + 1) ≡ suc i + 1 = omega arith in let P : ℕ → Type 0 =
+      λ n. lesser (passing test (slice_get ids i)) (least_in test (drop n (id ∷ ids))) ≡ least_in test (drop i ids) in subst P s (here i ids)
 
 -- ---- of a key
 
@@ -83,18 +86,22 @@ shown_spot key q f h = by (spot id_of f q) refl where
     whole = alone-spot id_of f q s h at
 
     few : weighed (shows_at key q) (gathered id_of f s.children) ≡ 0
-    few = grind (arith, key-spot id_of f q s at, eqb_tells q q, ap (count q) whole, count-alone-le id_of q q f, h.once q, shown_counted key q (gathered id_of f s.children))
+    few = grind
+        (arith, key-spot id_of f q s at, eqb_tells q q, ap (count q) whole, count-alone-le id_of q q f, h.once q, shown_counted key q (gathered id_of f s.children))
 
     own : weighed (shows_at key q) (alone q f) ≡ cond (eqb key s.label.face.key) 1 0
-    own = ap (weighed (shows_at key q)) whole ∙ grind (arith, few, key-spot id_of f q s at, eqb_tells q q, eqb_tells key s.label.face.key, eqb_tells s.label.face.key key)
+    own = ap (weighed (shows_at key q)) whole
+        ∙ grind (arith, few, key-spot id_of f q s at, eqb_tells q q, eqb_tells key s.label.face.key, eqb_tells s.label.face.key key)
 
 is_shown-attached : (key q : ℕ) (f : Trees Host) → IsOrdered id_of f → is_shown key (alone 0 f) q ≡ shows_attached key f q
 is_shown-attached key q f h =
-    let all : weighed (shows_at key q) (without 0 f) + weighed (shows_at key q) (alone 0 f) ≡ weighed (shows_at key q) f = weighed-without-alone (shows_at key q) id_of 0 f in
+    let all : weighed (shows_at key q) (without 0 f) + weighed (shows_at key q) (alone 0 f) ≡ weighed (shows_at key q) f =
+    weighed-without-alone (shows_at key q) id_of 0 f in
     let at = shown_spot key q f h in
     elim (cases_Bool (is_attached id_of f q)) [
       | inl inside ↦
-          let gone : weighed (shows_at key q) (without 0 f) ≡ 0 = grind (arith, inside, shown_counted key q (without 0 f), count-without-alone id_of q 0 f, h.once q) in
+          let gone : weighed (shows_at key q) (without 0 f) ≡ 0 =
+          grind (arith, inside, shown_counted key q (without 0 f), count-without-alone id_of q 0 f, h.once q) in
           rw (inside) (by (is_named (key_at f q) key) (omega (arith, all, at, gone)))
       | inr outside ↦
           let none : weighed (shows_at key q) (alone 0 f) ≡ 0 = grind (arith, outside, shown_counted key q (alone 0 f)) in
@@ -113,9 +120,11 @@ has_attached : (key q : ℕ) (f : Trees Host) → shows_attached key f q ≡ tru
 has_attached key q f e = grind (arith, e, count-alone-le id_of q 0 f, cases_Bool (is_named (key_at f q) key))
 
 -- the least id of all that are attached and show the key is the host of the key
-pub least_host : (key : ℕ) (f : Trees Host) (ids : List ℕ) → IsOrdered id_of f → ((q : ℕ) → is_among q ids ≡ has q f) → least_in (shows_attached key f) ids ≡ host_of key (first_tree f)
+pub least_host : (key : ℕ) (f : Trees Host) (ids : List ℕ) → IsOrdered id_of f → ((q : ℕ) → is_among q ids ≡ has q f)
+    → least_in (shows_attached key f) ids ≡ host_of key (first_tree f)
 least_host key f ids h all =
-    least_unique (is_shown key (alone 0 f)) _ _ (least_like _ _ same (least_in (shows_attached key f) ids) (least_any (shows_attached key f) ids)) (least_host_of key (alone 0 f))
+    least_unique (is_shown key (alone 0 f)) _ _ (least_like _ _ same (least_in (shows_attached key f) ids) (least_any (shows_attached key f) ids))
+    (least_host_of key (alone 0 f))
     ∙ sym (ap (host_of key) (first_alone f h))
   where
     both : (b c : Bool) → (c ≡ true → b ≡ true) → (b && c) ≡ c

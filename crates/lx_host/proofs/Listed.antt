@@ -42,7 +42,8 @@ first_is_child : (f : Trees Host) (q : ℕ) (at : Option ℕ) → IsOrdered id_o
 first_is_child f q None h e = tt
 first_is_child f q (Some c) h e = child_up f q c h (sym e)
 
-pub listing_starts : (f : Trees Host) (q : ℕ) (at : Option ℕ) (page : List ℕ) → IsOrdered id_of f → at ≡ first_child id_of f q → IsListing f q at page (page ++ html_of (shape_of (below_of f q)))
+pub listing_starts : (f : Trees Host) (q : ℕ) (at : Option ℕ) (page : List ℕ) → IsOrdered id_of f → at ≡ first_child id_of f q
+    → IsListing f q at page (page ++ html_of (shape_of (below_of f q)))
 listing_starts f q at page h e = record {
   ordered = h;
   child = first_is_child f q at h e;
@@ -61,7 +62,8 @@ next_is_child : (f : Trees Host) (q c : ℕ) (next : Option ℕ) → IsOrdered i
 next_is_child f q c None h up e = tt
 next_is_child f q c (Some n) h up e = parent_of-next id_of f c n q h up (sym e)
 
-pub passed : {f : Trees Host} {q c : ℕ} {at next : Option ℕ} {page all : List ℕ} → IsListing f q at page all → at ≡ Some c → next ≡ next_of id_of f c → IsPassed f q c at next
+pub passed : {f : Trees Host} {q c : ℕ} {at next : Option ℕ} {page all : List ℕ} → IsListing f q at page all → at ≡ Some c → next ≡ next_of id_of f c
+    → IsPassed f q c at next
 passed {f = f} {q = q} {c = c} {at = at} {next = next} listing is e =
     let h = listing.ordered in
     let up : parent_of id_of f c ≡ Some q = subst (IsChild f q) is listing.child in
@@ -80,11 +82,14 @@ passed {f = f} {q = q} {c = c} {at = at} {next = next} listing is e =
       left = ap (λ ks. html_of (shape_of (gathered id_of f ks))) step ∙ html_of-joined (alone c f) (gathered id_of f (from_name next (children_of id_of f q)));
     }
 
-pub listing_goes_on : {f : Trees Host} {q c : ℕ} {at next : Option ℕ} {page all : List ℕ} (new : List ℕ) → IsListing f q at page all → IsPassed f q c at next → new ≡ page ++ html_of (shape_of (alone c f)) → IsListing f q next new all
+pub listing_goes_on : {f : Trees Host} {q c : ℕ} {at next : Option ℕ} {page all : List ℕ} (new : List ℕ) → IsListing f q at page all → IsPassed f q c at next
+    → new ≡ page ++ html_of (shape_of (alone c f)) → IsListing f q next new all
 listing_goes_on {f = f} {q = q} {c = c} {next = next} {page = page} new listing step more = record {
   ordered = listing.ordered;
   child = step.child;
-  written = ap (λ xs. xs ++ left_from f q next) more ∙ append_assoc page (html_of (shape_of (alone c f))) (left_from f q next) ∙ ap (λ xs. page ++ xs) (sym step.left) ∙ listing.written;
+  written =
+      ap (λ xs. xs ++ left_from f q next) more ∙ append_assoc page (html_of (shape_of (alone c f))) (left_from f q next) ∙ ap (λ xs. page ++ xs) (sym step.left)
+      ∙ listing.written;
 }
 
 pub listing_ends : {f : Trees Host} {q : ℕ} {at : Option ℕ} {page all : List ℕ} → IsListing f q at page all → at ≡ None → page ≡ all
@@ -94,17 +99,23 @@ listing_ends {f = f} {q = q} {page = page} listing is = sym (append-nil page) �
 -- ---- a host by its record
 
 -- what the host of a record shows, over what is below it
-shape_found : (f : Trees Host) (q : ℕ) (n : Linked) → IsOrdered id_of f → Some n ≡ option_map linked_of (record_at id_of f q) → shape_of (alone q f) ≡ tree (record { key = n.key; tag = n.tag; attrs = n.attrs; text = n.text; ending = n.ending }) (shape_of (below_of f q)) nil
+shape_found : (f : Trees Host) (q : ℕ) (n : Linked) → IsOrdered id_of f → Some n ≡ option_map linked_of (record_at id_of f q)
+    → shape_of (alone q f) ≡ tree (record { key = n.key; tag = n.tag; attrs = n.attrs; text = n.text; ending = n.ending }) (shape_of (below_of f q)) nil
 shape_found f q n h e = by (spot id_of f q) refl where
-  by : (o : Option (Spot Host)) → spot id_of f q ≡ o → shape_of (alone q f) ≡ tree (record { key = n.key; tag = n.tag; attrs = n.attrs; text = n.text; ending = n.ending }) (shape_of (below_of f q)) nil
+  by : (o : Option (Spot Host)) → spot id_of f q ≡ o
+      → shape_of (alone q f) ≡ tree (record { key = n.key; tag = n.tag; attrs = n.attrs; text = n.text; ending = n.ending }) (shape_of (below_of f q)) nil
   by None at = let none : Some n ≡ None = e ∙ ap (λ o. option_map linked_of (option_map (linked (siblings id_of f q) q) o)) at in absurd (cc)
   by (Some s) at =
-      let same : Some n ≡ Some (linked_of (linked (siblings id_of f q) q s)) = e ∙ ap (λ o. option_map linked_of (option_map (linked (siblings id_of f q) q) o)) at in
+      let same : Some n ≡ Some (linked_of (linked (siblings id_of f q) q s)) =
+      e ∙ ap (λ o. option_map linked_of (option_map (linked (siblings id_of f q) q) o)) at in
       let is : n ≡ linked_of (linked (siblings id_of f q) q s) = same_Some _ _ same in
       ap shape_of (alone-spot id_of f q s h at)
       ∙ ap (λ ks. tree s.label.face (shape_of (gathered id_of f ks)) nil) (sym (ap children_at at))
-      ∙ sym (ap (λ (m : Linked). tree (record { key = m.key; tag = m.tag; attrs = m.attrs; text = m.text; ending = m.ending }) (shape_of (below_of f q)) nil) is)
+      ∙ sym (ap (λ (m : Linked). tree (record { key = m.key; tag = m.tag; attrs = m.attrs; text = m.text; ending = m.ending }) (shape_of (below_of f q)) nil)
+      is)
 
 -- the host that was found under an id
-pub one_found : {f : Trees Host} {o : Option (Bor Linked)} {n : Bor Linked} (q : ℕ) → IsOrdered id_of f → option_copied o ≡ option_map linked_of (record_at id_of f q) → o ≡ Some n → IsOne (record { key = n.now.key; tag = n.now.tag; attrs = n.now.attrs; text = n.now.text; ending = n.now.ending }) (below_of f q) (alone q f)
+pub one_found : {f : Trees Host} {o : Option (Bor Linked)} {n : Bor Linked} (q : ℕ) → IsOrdered id_of f
+    → option_copied o ≡ option_map linked_of (record_at id_of f q) → o ≡ Some n
+    → IsOne (record { key = n.now.key; tag = n.now.tag; attrs = n.now.attrs; text = n.now.text; ending = n.now.ending }) (below_of f q) (alone q f)
 one_found {f = f} {n = n} q h found is = record { shape = shape_found f q n.now h (sym (ap option_copied is) ∙ found) }

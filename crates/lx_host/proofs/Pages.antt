@@ -109,7 +109,8 @@ chars-tag_word Td = refl
 chars-tag_word Br = refl
 chars-tag_word Hr = refl
 
-pub opening_one : (tag : Tag) (attributes : List (Name × List ℕ)) → ((outer : Option Outer) (inner : Inner) → tag ≡ Inline outer inner → ⊥) → start_tag (chars (tag_word tag)) attributes ≡ opening tag attributes
+pub opening_one : (tag : Tag) (attributes : List (Name × List ℕ)) → ((outer : Option Outer) (inner : Inner) → tag ≡ Inline outer inner → ⊥)
+    → start_tag (chars (tag_word tag)) attributes ≡ opening tag attributes
 unfolding opening
 opening_one (Inline outer inner) attributes one = absurd (one outer inner refl)
 opening_one Div attributes one = ap (λ w. start_tag w attributes) (chars-tag_word Div)

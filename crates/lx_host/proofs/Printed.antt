@@ -46,7 +46,8 @@ void_html Td attributes inside void = cc
 nested : (a b inside c d : List ℕ) → a ++ b ++ inside ++ (c ++ d) ≡ a ++ (b ++ inside ++ c) ++ d
 nested a b inside c d = simp append_assoc
 
-full_html : (tag : Tag) (attributes : List (Name × List ℕ)) (inside : List ℕ) → is_void tag ≡ false → opening tag attributes ++ inside ++ closing tag ≡ host_html tag attributes inside
+full_html : (tag : Tag) (attributes : List (Name × List ℕ)) (inside : List ℕ) → is_void tag ≡ false
+    → opening tag attributes ++ inside ++ closing tag ≡ host_html tag attributes inside
 unfolding opening closing host_html tag_word
 full_html Br attributes inside full = cc
 full_html Hr attributes inside full = cc
@@ -73,7 +74,8 @@ full_html Td attributes inside full = refl
 
 -- ---- one host
 
-html_of_one : (face : Face) (inside : Trees Face) → host_html face.tag face.attrs (inside_html face.text (html_of inside) ++ ending_html face.ending) ≡ html_of (tree face inside nil)
+html_of_one : (face : Face) (inside : Trees Face)
+    → host_html face.tag face.attrs (inside_html face.text (html_of inside) ++ ending_html face.ending) ≡ html_of (tree face inside nil)
 unfolding html_of
 html_of_one face inside =
     sym (append-nil (host_html face.tag face.attrs (inside_html face.text (html_of inside) ++ ending_html face.ending)))
@@ -84,7 +86,8 @@ pub record IsOne (face : Face) (below t : Trees Host) : Type 0 where
 
 -- the HTML of one host, however what is inside was found
 module _ (page : List ℕ) {face : Face} {below t : Trees Host} (one : IsOne face below t) where
-  printed : (html : List ℕ) → html ≡ host_html face.tag face.attrs (inside_html face.text (html_of (shape_of below)) ++ ending_html face.ending) → page ++ html ≡ page ++ html_of (shape_of t)
+  printed : (html : List ℕ) → html ≡ host_html face.tag face.attrs (inside_html face.text (html_of (shape_of below)) ++ ending_html face.ending)
+      → page ++ html ≡ page ++ html_of (shape_of t)
   printed html e = ap (λ end. page ++ end) (e ∙ html_of_one face (shape_of below) ∙ sym (ap html_of one.shape))
 
   -- a start alone
@@ -100,4 +103,5 @@ module _ (page : List ℕ) {face : Face} {below t : Trees Host} (one : IsOne fac
       let I = inside_html face.text (html_of (shape_of below)) in
       let E = ending_html face.ending in
       let C = closing face.tag in
-      behind page (A ++ (I ++ E)) C (behind page A (I ++ E) start (behind _ I E inside ending)) end ∙ printed (A ++ (I ++ E) ++ C) (full_html face.tag face.attrs (I ++ E) full)
+      behind page (A ++ (I ++ E)) C (behind page A (I ++ E) start (behind _ I E inside ending)) end
+      ∙ printed (A ++ (I ++ E) ++ C) (full_html face.tag face.attrs (I ++ E) full)

@@ -17,7 +17,8 @@ use Rattle.lx_host.specs.Weights.{weighed, shows, id_shown, shown, ids_shown, en
 use Rattle.lx_host.proofs.Weights.{weighed-without-alone}
 
 -- a leaf's weight goes
-leaf_weight : (w : Host → ℕ) (f : Trees Host) (k : ℕ) (s : Spot Host) → IsOrdered id_of f → children_of id_of f k ≡ [] → spot id_of f k ≡ Some s → weighed w (without k f) + w s.label ≡ weighed w f
+leaf_weight : (w : Host → ℕ) (f : Trees Host) (k : ℕ) (s : Spot Host) → IsOrdered id_of f → children_of id_of f k ≡ [] → spot id_of f k ≡ Some s
+    → weighed w (without k f) + w s.label ≡ weighed w f
 leaf_weight w f k s h leaf at =
     let kids : s.children ≡ [] = sym (ap children_at at) ∙ leaf in
     let whole : alone k f ≡ tree s.label nil nil = alone-spot id_of f k s h at ∙ ap (λ ks. tree s.label (gathered id_of f ks) nil) kids in
@@ -44,22 +45,28 @@ none_at f k (Some s) at e = cc
 pub keyed_absent : {S : Type 0} (keys : HashMap ℕ Shown S) (f g : Trees Host) (k : ℕ) → g ≡ without k f → AreKeyed keys f → None ≡ key_at f k → AreKeyed keys g
 keyed_absent keys f g k e keyed none = subst (AreKeyed keys) (sym (e ∙ without-absent id_of k f (none_at f k (spot id_of f k) refl none))) keyed
 
-pub keyed_gone : {S : Type 0} (old new : HashMap ℕ Shown S) (f g : Trees Host) (key k : ℕ) → g ≡ without k f → IsOrdered id_of f → children_of id_of f k ≡ [] → AreKeyed old f → Some key ≡ key_at f k → ((x : ℕ) → get nat_eq new x ≡ cond (nat_eq key x) (without_one k (get nat_eq old key)) (get nat_eq old x)) → AreKeyed new g
+pub keyed_gone : {S : Type 0} (old new : HashMap ℕ Shown S) (f g : Trees Host) (key k : ℕ) → g ≡ without k f → IsOrdered id_of f → children_of id_of f k ≡ []
+    → AreKeyed old f → Some key ≡ key_at f k → ((x : ℕ) → get nat_eq new x ≡ cond (nat_eq key x) (without_one k (get nat_eq old key)) (get nat_eq old x))
+    → AreKeyed new g
 keyed_gone old new f g key k e h leaf keyed shows_it each = subst (AreKeyed new) (sym e) (by (spot id_of f k) refl shows_it) where
-  at : (s : Spot Host) → spot id_of f k ≡ Some s → s.label.face.key ≡ key → (x : ℕ) (b : Bool) → eqb key x ≡ b → cond (nat_eq key x) (without_one k (get nat_eq old key)) (get nat_eq old x) ≡ entry_of x (without k f)
+  at : (s : Spot Host) → spot id_of f k ≡ Some s → s.label.face.key ≡ key → (x : ℕ) (b : Bool) → eqb key x ≡ b
+      → cond (nat_eq key x) (without_one k (get nat_eq old key)) (get nat_eq old x) ≡ entry_of x (without k f)
   at s is same x true t =
       let own : key ≡ x = grind (arith, t, eqb_tells key x) in
       let it : eqb s.label.face.key x ≡ true = ap (λ y. eqb y x) same ∙ t in
       let id : id_of s.label ≡ k = key-spot id_of f k s is in
       let n : shown x f ≡ shown x (without k f) + 1 = sym (leaf_weight (shows x) f k s h leaf is) ∙ ap (λ b. shown x (without k f) + cond b 1 0) it in
-      let m : ids_shown x f ≡ ids_shown x (without k f) + k = sym (leaf_weight (id_shown x) f k s h leaf is) ∙ ap (λ b. ids_shown x (without k f) + cond b (id_of s.label) 0) it ∙ ap (λ y. ids_shown x (without k f) + y) id in
+      let m : ids_shown x f ≡ ids_shown x (without k f) + k =
+      sym (leaf_weight (id_shown x) f k s h leaf is) ∙ ap (λ b. ids_shown x (without k f) + cond b (id_of s.label) 0) it
+      ∙ ap (λ y. ids_shown x (without k f) + y) id in
       ap (λ b. cond b (without_one k (get nat_eq old key)) (get nat_eq old x)) t
       ∙ ap (without_one k) (ap (get nat_eq old) own ∙ keyed.each x ∙ both (shown x f) _ (ids_shown x f) _ n m)
       ∙ entry_fewer (shown x (without k f)) (ids_shown x (without k f)) k
   at s is same x false t =
       let it : eqb s.label.face.key x ≡ false = ap (λ y. eqb y x) same ∙ t in
       let n : shown x f ≡ shown x (without k f) = sym (leaf_weight (shows x) f k s h leaf is) ∙ ap (λ b. shown x (without k f) + cond b 1 0) it ∙ omega arith in
-      let m : ids_shown x f ≡ ids_shown x (without k f) = sym (leaf_weight (id_shown x) f k s h leaf is) ∙ ap (λ b. ids_shown x (without k f) + cond b (id_of s.label) 0) it ∙ omega arith in
+      let m : ids_shown x f ≡ ids_shown x (without k f) =
+      sym (leaf_weight (id_shown x) f k s h leaf is) ∙ ap (λ b. ids_shown x (without k f) + cond b (id_of s.label) 0) it ∙ omega arith in
       ap (λ b. cond b (without_one k (get nat_eq old key)) (get nat_eq old x)) t
       ∙ keyed.each x ∙ both (shown x f) _ (ids_shown x f) _ n m
 

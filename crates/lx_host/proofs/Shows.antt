@@ -17,7 +17,9 @@ use Rattle.lx_host.proofs.Stood.{records_after}
 use Rattle.lx_trees.specs.Siblings.{is_named}
 
 -- a table with these changes stands for the hosts with what one of them shows changed
-pub shown_stands : {S : Type 0} (old new : HashMap ℕ Linked S) (f : Trees Host) (id : ℕ) (face : Face → Face) (change : ℕ → Linked → Linked) → ((q : ℕ) (n : Linked) → record_of q (change q n) ≡ relabelled (changed_at id face) (record_of q n)) → Stands old f → Differs change old new → Stands new (changed id face f)
+pub shown_stands : {S : Type 0} (old new : HashMap ℕ Linked S) (f : Trees Host) (id : ℕ) (face : Face → Face) (change : ℕ → Linked → Linked)
+    → ((q : ℕ) (n : Linked) → record_of q (change q n) ≡ relabelled (changed_at id face) (record_of q n)) → Stands old f → Differs change old new
+    → Stands new (changed id face f)
 shown_stands old new f id face change same s d = record {
   in_order = IsOrdered-mapped id_of (changed_at id face) (λ a. refl) f s.in_order;
   same = λ q. records_after old new f change (λ q. relabelled (changed_at id face)) q s d (same q)
@@ -25,13 +27,16 @@ shown_stands old new f id face change same s d = record {
   small = omega (arith, total-mapped (changed_at id face) f, s.small);
 }
 
-same_text : (id : ℕ) (text : List ℕ) (q : ℕ) (n : Linked) → record_of q (turned (Text text) (eqb q id) n) ≡ relabelled (changed_at id (with_text text)) (record_of q n)
+same_text : (id : ℕ) (text : List ℕ) (q : ℕ) (n : Linked)
+    → record_of q (turned (Text text) (eqb q id) n) ≡ relabelled (changed_at id (with_text text)) (record_of q n)
 same_text id text q n = elim (eqb_tells q id) [ inl here ↦ rw here.0 refl | inr other ↦ rw other.0 refl ]
 
-same_ending : (id : ℕ) (ending : Bool) (q : ℕ) (n : Linked) → record_of q (turned (Break ending) (eqb q id) n) ≡ relabelled (changed_at id (with_ending ending)) (record_of q n)
+same_ending : (id : ℕ) (ending : Bool) (q : ℕ) (n : Linked)
+    → record_of q (turned (Break ending) (eqb q id) n) ≡ relabelled (changed_at id (with_ending ending)) (record_of q n)
 same_ending id ending q n = elim (eqb_tells q id) [ inl here ↦ rw here.0 refl | inr other ↦ rw other.0 refl ]
 
-same_attribute : (id : ℕ) (name : Name) (value : Option (List ℕ)) (q : ℕ) (n : Linked) → record_of q (attributed name value (eqb q id) n) ≡ relabelled (changed_at id (with_value name value)) (record_of q n)
+same_attribute : (id : ℕ) (name : Name) (value : Option (List ℕ)) (q : ℕ) (n : Linked)
+    → record_of q (attributed name value (eqb q id) n) ≡ relabelled (changed_at id (with_value name value)) (record_of q n)
 same_attribute id name value q n = elim (eqb_tells q id) [ inl here ↦ rw here.0 refl | inr other ↦ rw other.0 refl ]
 
 module _ {S : Type 0} (old new : HashMap ℕ Linked S) (f : Trees Host) (id : ℕ) (s : Stands old f) where
@@ -41,5 +46,6 @@ module _ {S : Type 0} (old new : HashMap ℕ Linked S) (f : Trees Host) (id : �
   pub ending_stands : (ending : Bool) → Differs (λ q. turned (Break ending) (is_named (Some id) q)) old new → Stands new (changed id (with_ending ending) f)
   ending_stands ending d = shown_stands old new f id (with_ending ending) (λ q. turned (Break ending) (is_named (Some id) q)) (same_ending id ending) s d
 
-  pub attribute_stands : (name : Name) (value : Option (List ℕ)) → Differs (λ q. attributed name value (eqb q id)) old new → Stands new (changed id (with_value name value) f)
+  pub attribute_stands : (name : Name) (value : Option (List ℕ)) → Differs (λ q. attributed name value (eqb q id)) old new
+      → Stands new (changed id (with_value name value) f)
   attribute_stands name value d = shown_stands old new f id (with_value name value) (λ q. attributed name value (eqb q id)) (same_attribute id name value) s d

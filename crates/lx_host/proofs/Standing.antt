@@ -56,12 +56,14 @@ fits_how (Attr id name value) w e = tt
 fits_how (Break id ending) w e = tt
 
 -- what an operation that fits the host tree as it is seen says of its fields
-pub fits_now : (op : Op) {w : HostTree} {room : Room} {held : Held} → ◌≡◌ {A = Held} (record { tree = w; room = room }) held → IsTrue (fits op held.tree) → FitsHow op w
+pub fits_now : (op : Op) {w : HostTree} {room : Room} {held : Held} → ◌≡◌ {A = Held} (record { tree = w; room = room }) held → IsTrue (fits op held.tree)
+    → FitsHow op w
 fits_now op is e = fits_how op _ (subst (λ (h : Held). IsTrue (fits op h.tree)) (sym is) e)
 
 -- ---- what the operations make
 
-pub effect_place : (parent child : ℕ) (before : Option ℕ) (w : HostTree) → record { hosts = put_below parent before (alone child w.hosts) (without child w.hosts); next = w.next } ≡ effect (Place parent child before) w
+pub effect_place : (parent child : ℕ) (before : Option ℕ) (w : HostTree)
+    → record { hosts = put_below parent before (alone child w.hosts) (without child w.hosts); next = w.next } ≡ effect (Place parent child before) w
 unfolding effect
 effect_place parent child before w = refl
 
@@ -73,10 +75,12 @@ pub effect_text : (id : ℕ) (text : _) (w : HostTree) → record { hosts = chan
 unfolding effect
 effect_text id text w = refl
 
-pub effect_attr : (id : ℕ) (name : Name) (value : _) (w : HostTree) → record { hosts = changed id (with_value name value) w.hosts; next = w.next } ≡ effect (Attr id name value) w
+pub effect_attr : (id : ℕ) (name : Name) (value : _) (w : HostTree)
+    → record { hosts = changed id (with_value name value) w.hosts; next = w.next } ≡ effect (Attr id name value) w
 unfolding effect
 effect_attr id name value w = refl
 
-pub effect_break : (id : ℕ) (ending : Bool) (w : HostTree) → record { hosts = changed id (with_ending ending) w.hosts; next = w.next } ≡ effect (Break id ending) w
+pub effect_break : (id : ℕ) (ending : Bool) (w : HostTree)
+    → record { hosts = changed id (with_ending ending) w.hosts; next = w.next } ≡ effect (Break id ending) w
 unfolding effect
 effect_break id ending w = refl

@@ -37,7 +37,8 @@ module _ {A : Type 0} (w : A → ℕ) where
     put_nowhere p before new nil e = refl
     put_nowhere p before new (tree a below rest) e = grind (arith, eqb_tells (name a) p, put_nowhere p before new below, put_nowhere p before new rest)
 
-    pub weighed-put_below : (p : ℕ) (before : Option ℕ) (new t : Trees A) → named.count name p t ≡ 1 → weighed w (named.put_below name p before new t) ≡ weighed w new + weighed w t
+    pub weighed-put_below : (p : ℕ) (before : Option ℕ) (new t : Trees A) → named.count name p t ≡ 1
+        → weighed w (named.put_below name p before new t) ≡ weighed w new + weighed w t
     weighed-put_below p before new nil e = cc
     weighed-put_below p before new (tree a below rest) e =
         grind (arith, eqb_tells (name a) p, weighed-inserted before new below, weighed-put_below p before new below, weighed-put_below p before new rest, put_nowhere p before new below, put_nowhere p before new rest)
@@ -68,9 +69,11 @@ one_least key host = by (eqb host.face.key key) refl where
 pub least_host_of : (key : ℕ) (t : Trees Host) → IsLeast (is_shown key t) (host_of key t)
 least_host_of key nil = λ q. refl
 least_host_of key (tree host below rest) =
-    least_either (λ q. ltb 0 (shows_at key q host)) (λ q. is_shown key below q || is_shown key rest q) (is_shown key (tree host below rest)) _ (lesser (host_of key below) (host_of key rest))
+    least_either (λ q. ltb 0 (shows_at key q host)) (λ q. is_shown key below q || is_shown key rest q) (is_shown key (tree host below rest)) _
+    (lesser (host_of key below) (host_of key rest))
     (one_least key host)
-    (least_either (is_shown key below) (is_shown key rest) (λ q. is_shown key below q || is_shown key rest q) (host_of key below) (host_of key rest) (least_host_of key below) (least_host_of key rest) (λ q. refl))
+    (least_either (is_shown key below) (is_shown key rest) (λ q. is_shown key below q || is_shown key rest q) (host_of key below) (host_of key rest)
+    (least_host_of key below) (least_host_of key rest) (λ q. refl))
     (λ q. grind (arith, nat_tests))
 
 -- ---- a key that one host shows
@@ -99,32 +102,41 @@ pub first_shape : (f : Trees Host) → first_tree (shape_of f) ≡ shape_of (fir
 first_shape nil = refl
 first_shape (tree host below rest) = refl
 
-in_first : (key n : ℕ) (f : Trees Host) → IsOrdered id_of f → shown key (alone 0 f) ≡ 1 → ids_shown key (alone 0 f) ≡ n → IsLeast (is_shown key (alone 0 f)) (cond (is_attached id_of f n) (Some n) None)
+in_first : (key n : ℕ) (f : Trees Host) → IsOrdered id_of f → shown key (alone 0 f) ≡ 1 → ids_shown key (alone 0 f) ≡ n
+    → IsLeast (is_shown key (alone 0 f)) (cond (is_attached id_of f n) (Some n) None)
 in_first key n f h one ids =
     let there : weighed (shows_at key n) (alone 0 f) ≡ 1 = one_shown key n (alone 0 f) one ∙ grind (arith, ids, eqb_tells n (ids_shown key (alone 0 f))) in
     let attached : is_attached id_of f n ≡ true = grind (arith, there, shown_counted key n (alone 0 f)) in
     rw attached (grind (arith, there), λ q t. grind (arith, t, ids, one_shown key q (alone 0 f) one, eqb_tells q (ids_shown key (alone 0 f))))
 
-out_of_first : (key n : ℕ) (f : Trees Host) → IsOrdered id_of f → shown key (alone 0 f) ≡ 0 → shown key (without 0 f) ≡ 1 → ids_shown key (without 0 f) ≡ n → IsLeast (is_shown key (alone 0 f)) (cond (is_attached id_of f n) (Some n) None)
+out_of_first : (key n : ℕ) (f : Trees Host) → IsOrdered id_of f → shown key (alone 0 f) ≡ 0 → shown key (without 0 f) ≡ 1 → ids_shown key (without 0 f) ≡ n
+    → IsLeast (is_shown key (alone 0 f)) (cond (is_attached id_of f n) (Some n) None)
 out_of_first key n f h none one ids =
-    let there : weighed (shows_at key n) (without 0 f) ≡ 1 = one_shown key n (without 0 f) one ∙ grind (arith, ids, eqb_tells n (ids_shown key (without 0 f))) in
+    let there : weighed (shows_at key n) (without 0 f) ≡ 1 =
+    one_shown key n (without 0 f) one ∙ grind (arith, ids, eqb_tells n (ids_shown key (without 0 f))) in
     let away : is_attached id_of f n ≡ false = grind (arith, there, shown_counted key n (without 0 f), count-without-alone id_of n 0 f, h.once n) in
     rw away (λ q. grind (arith, none_shown key q (alone 0 f) none))
 
 -- where one host shows the key, it is the one of the sum of the ids
-pub only_host : (key n : ℕ) (f : Trees Host) → IsOrdered id_of f → shown key f ≡ 1 → ids_shown key f ≡ n → host_of key (first_tree f) ≡ cond (is_attached id_of f n) (Some n) None
+pub only_host : (key n : ℕ) (f : Trees Host) → IsOrdered id_of f → shown key f ≡ 1 → ids_shown key f ≡ n
+    → host_of key (first_tree f) ≡ cond (is_attached id_of f n) (Some n) None
 only_host key n f h one ids =
     let split : shown key (without 0 f) + shown key (alone 0 f) ≡ shown key f = weighed-without-alone (shows key) id_of 0 f in
     let sums : ids_shown key (without 0 f) + ids_shown key (alone 0 f) ≡ ids_shown key f = weighed-without-alone (id_shown key) id_of 0 f in
     ap (host_of key) (first_alone f h)
     ∙ least_unique (is_shown key (alone 0 f)) _ _ (least_host_of key (alone 0 f))
     (elim (cases_lt 0 (shown key (alone 0 f))) [
-      | inl inside ↦ in_first key n f h (omega (arith, split, one, inside)) (omega (arith, sums, ids, (none_shown key 0 (without 0 f) (omega (arith, split, one, inside))).1))
-      | inr outside ↦ out_of_first key n f h (omega (arith, outside)) (omega (arith, split, one, outside)) (omega (arith, sums, ids, (none_shown key 0 (alone 0 f) (omega (arith, outside))).1))
+      | inl inside ↦
+          in_first key n f h (omega (arith, split, one, inside))
+          (omega (arith, sums, ids, (none_shown key 0 (without 0 f) (omega (arith, split, one, inside))).1))
+      | inr outside ↦
+          out_of_first key n f h (omega (arith, outside)) (omega (arith, split, one, outside))
+          (omega (arith, sums, ids, (none_shown key 0 (alone 0 f) (omega (arith, outside))).1))
     ])
 
 -- where none shows it, there is none
 pub no_host : (key : ℕ) (f : Trees Host) → IsOrdered id_of f → shown key f ≡ 0 → host_of key (first_tree f) ≡ None
 no_host key f h none =
     ap (host_of key) (first_alone f h)
-    ∙ least_unique (is_shown key (alone 0 f)) _ None (least_host_of key (alone 0 f)) (λ q. grind (arith, none_shown key q (alone 0 f), weighed-without-alone (shows key) id_of 0 f, none))
+    ∙ least_unique (is_shown key (alone 0 f)) _ None (least_host_of key (alone 0 f))
+    (λ q. grind (arith, none_shown key q (alone 0 f), weighed-without-alone (shows key) id_of 0 f, none))

@@ -92,7 +92,8 @@ all_left P n (v ∷ vs) all =
 apart_left : (n : ℕ) (vs : List View) → AreApart vs → AreApart (without_view n vs)
 apart_left n [] apart = tt
 apart_left n (v ∷ vs) apart =
-    elim (is_numbered n v) as (λ b. AreApart (cond b vs (v ∷ without_view n vs))) [ true ↦ apart.1 | false ↦ (all_left (HasOther v.number) n vs apart.0, apart_left n vs apart.1) ]
+    elim (is_numbered n v) as (λ b. AreApart (cond b vs (v ∷ without_view n vs)))
+    [ true ↦ apart.1 | false ↦ (all_left (HasOther v.number) n vs apart.0, apart_left n vs apart.1) ]
 
 known_detached : (n : ℕ) (es : List Event) → Known es → Known (detach n ∷ es)
 known_detached n es k = record {
@@ -110,7 +111,10 @@ known_detached n es k = record {
 at_full : (es : List Event) (v : View) → is_full (hub_after es) ≡ true → IsAt es v → IsAt (attach ∷ es) v
 at_full es v full is = record {
   within = is.within;
-  reached = is.reached ∙ sym (ap (λ b. cond (is_view v.number (cond b attached_as.Full (attached_as.View ((hub_after es).made + 1)))) (hub_after es).commits (come_to v.number es)) full);
+  reached =
+      is.reached
+      ∙ sym (ap
+      (λ b. cond (is_view v.number (cond b attached_as.Full (attached_as.View ((hub_after es).made + 1)))) (hub_after es).commits (come_to v.number es)) full);
   tree = is.tree;
 }
 
@@ -120,7 +124,9 @@ at_attached es v room below is =
     record {
       within = is.within;
       reached = is.reached
-          ∙ sym (ap (λ b. cond (is_view v.number (cond b attached_as.Full (attached_as.View ((hub_after es).made + 1)))) (hub_after es).commits (come_to v.number es)) room
+          ∙ sym (ap
+          (λ b. cond (is_view v.number (cond b attached_as.Full (attached_as.View ((hub_after es).made + 1)))) (hub_after es).commits (come_to v.number es))
+          room
           ∙ ap (λ b. cond b (hub_after es).commits (come_to v.number es)) other);
       tree = is.tree;
     }
@@ -130,7 +136,9 @@ new_at es room k =
     let own : eqb ((hub_after es).made + 1) ((hub_after es).made + 1) ≡ true = grind (arith, eqb_tells ((hub_after es).made + 1) ((hub_after es).made + 1)) in
     record {
       within = omega (arith, k.commits);
-      reached = sym (ap (λ b. cond (is_view ((hub_after es).made + 1) (cond b attached_as.Full (attached_as.View ((hub_after es).made + 1)))) (hub_after es).commits (come_to ((hub_after es).made + 1) es)) room
+      reached =
+          sym (ap (λ b. cond (is_view ((hub_after es).made + 1) (cond b attached_as.Full (attached_as.View ((hub_after es).made + 1)))) (hub_after es).commits
+          (come_to ((hub_after es).made + 1) es)) room
           ∙ ap (λ b. cond b (hub_after es).commits (come_to ((hub_after es).made + 1) es)) own);
       tree = k.tip ∙ sym (last_tree (batches es)) ∙ ap (λ r. all_effects (drop (length (batches es) - r) (batches es)) new_tree) (sym k.commits);
     }
@@ -150,31 +158,39 @@ known_attached es k = go (is_full (hub_after es)) refl
   where
     go : (b : Bool) → is_full (hub_after es) ≡ b → Known (attach ∷ es)
     go true full =
-        let same : cond (is_full (hub_after es)) (hub_after es) (record (hub_after es) { views = (hub_after es).views ++ next_view (hub_after es) ∷ []; made = (hub_after es).made + 1 }) ≡ hub_after es =
-        ap (λ b. cond b (hub_after es) (record (hub_after es) { views = (hub_after es).views ++ next_view (hub_after es) ∷ []; made = (hub_after es).made + 1 })) full in
+        let same : cond (is_full (hub_after es)) (hub_after es)
+        (record (hub_after es) { views = (hub_after es).views ++ next_view (hub_after es) ∷ []; made = (hub_after es).made + 1 }) ≡ hub_after es =
+        ap (λ b. cond b (hub_after es)
+        (record (hub_after es) { views = (hub_after es).views ++ next_view (hub_after es) ∷ []; made = (hub_after es).made + 1 })) full in
         record {
           commits = ap (λ (g : Hub). g.commits) same ∙ k.commits;
           tip = ap (λ (g : Hub). g.tip) same ∙ k.tip;
           kept = ap (λ (g : Hub). g.kept) same ∙ k.kept;
-          views = subst (λ (g : Hub). AllByRecursion (IsAt (attach ∷ es)) g.views) (sym same) (all_map (IsAt es) (IsAt (attach ∷ es)) (hub_after es).views (λ v. at_full es v full) k.views);
+          views = subst (λ (g : Hub). AllByRecursion (IsAt (attach ∷ es)) g.views) (sym same)
+              (all_map (IsAt es) (IsAt (attach ∷ es)) (hub_after es).views (λ v. at_full es v full) k.views);
           below = subst (λ (g : Hub). AllByRecursion (IsBelow g.made) g.views) (sym same) k.below;
           apart = subst (λ (g : Hub). AreApart g.views) (sym same) k.apart;
         }
     go false room =
-        let same : cond (is_full (hub_after es)) (hub_after es) (record (hub_after es) { views = (hub_after es).views ++ next_view (hub_after es) ∷ []; made = (hub_after es).made + 1 })
+        let same : cond (is_full (hub_after es)) (hub_after es)
+        (record (hub_after es) { views = (hub_after es).views ++ next_view (hub_after es) ∷ []; made = (hub_after es).made + 1 })
         ≡ record (hub_after es) { views = (hub_after es).views ++ next_view (hub_after es) ∷ []; made = (hub_after es).made + 1 } =
-        ap (λ b. cond b (hub_after es) (record (hub_after es) { views = (hub_after es).views ++ next_view (hub_after es) ∷ []; made = (hub_after es).made + 1 })) room in
+        ap (λ b. cond b (hub_after es)
+        (record (hub_after es) { views = (hub_after es).views ++ next_view (hub_after es) ∷ []; made = (hub_after es).made + 1 })) room in
         record {
           commits = ap (λ (g : Hub). g.commits) same ∙ k.commits;
           tip = ap (λ (g : Hub). g.tip) same ∙ k.tip;
           kept = ap (λ (g : Hub). g.kept) same ∙ k.kept;
           views = subst (λ (g : Hub). AllByRecursion (IsAt (attach ∷ es)) g.views) (sym same)
               (all_behind (IsAt (attach ∷ es)) (hub_after es).views (next_view (hub_after es))
-              (all_both (IsBelow (hub_after es).made) (IsAt es) (IsAt (attach ∷ es)) (hub_after es).views (λ v. at_attached es v room) k.below k.views) (new_at es room k));
+              (all_both (IsBelow (hub_after es).made) (IsAt es) (IsAt (attach ∷ es)) (hub_after es).views (λ v. at_attached es v room) k.below k.views)
+              (new_at es room k));
           below = subst (λ (g : Hub). AllByRecursion (IsBelow g.made) g.views) (sym same)
               (all_behind (IsBelow ((hub_after es).made + 1)) (hub_after es).views (next_view (hub_after es))
-              (all_map (IsBelow (hub_after es).made) (IsBelow ((hub_after es).made + 1)) (hub_after es).views (λ v below. omega (arith, below)) k.below) (omega arith));
-          apart = subst (λ (g : Hub). AreApart g.views) (sym same) (apart_behind (hub_after es).views (hub_after es).made (next_view (hub_after es)) refl k.below k.apart);
+              (all_map (IsBelow (hub_after es).made) (IsBelow ((hub_after es).made + 1)) (hub_after es).views (λ v below. omega (arith, below)) k.below)
+              (omega arith));
+          apart = subst (λ (g : Hub). AreApart g.views) (sym same)
+              (apart_behind (hub_after es).views (hub_after es).made (next_view (hub_after es)) refl k.below k.apart);
         }
 
 -- ---- deliveries
@@ -200,7 +216,8 @@ left_at m answer es v none is =
     let no : (eqb m v.number && is_applied answer) ≡ false = grind (arith, none) in
     record { within = is.within; reached = is.reached ∙ sym (ap (λ b. cond b (come_to v.number es + 1) (come_to v.number es)) no); tree = is.tree }
 
-taken_at : (m : ℕ) (answer : Delivery) (es : List Event) (v : View) (ops : List Op) → eqb v.number m ≡ true → is_applied answer ≡ true → v.reached < length (batches es)
+taken_at : (m : ℕ) (answer : Delivery) (es : List Event) (v : View) (ops : List Op) → eqb v.number m ≡ true → is_applied answer ≡ true
+    → v.reached < length (batches es)
     → slice_get (batches es) (length (batches es) - v.reached - 1) ≡ Some ops → IsAt es v → IsAtBy m answer es (taken ops v)
 taken_at m answer es v ops meant applied less read is =
     let yes : (eqb m v.number && is_applied answer) ≡ true = grind (arith, applied, meant, eqb_tells m v.number, eqb_tells v.number m) in
@@ -211,7 +228,8 @@ taken_at m answer es v ops meant applied less read is =
       within = omega (arith, less);
       reached = ap (λ n. n + 1) is.reached ∙ sym (ap (λ b. cond b (come_to v.number es + 1) (come_to v.number es)) yes);
       tree = ap (effects ops) (is.tree ∙ ap (λ k. all_effects (drop k (batches es)) new_tree) (sym two))
-          ∙ sym (ap (λ k. all_effects (drop k (batches es)) new_tree) one ∙ ap (λ l. all_effects l new_tree) (drop_read (batches es) (length (batches es) - v.reached - 1) ops read));
+          ∙ sym (ap (λ k. all_effects (drop k (batches es)) new_tree) one
+          ∙ ap (λ l. all_effects l new_tree) (drop_read (batches es) (length (batches es) - v.reached - 1) ops read));
     }
 
 -- the answers to a delivery, from the two tests
@@ -221,12 +239,15 @@ answer_by level kept r first = if level then Level r else (if kept then Applied 
 abbrev advanced_by : Bool → Option (List Op) → View → View
 advanced_by level next v = taken_if (if level then None else next) v
 
-meant_at : (m : ℕ) (es : List Event) (v : View) → eqb v.number m ≡ true → Known es → IsAt es v → IsAtBy m (delivery_to (hub_after es) v) es (advanced (hub_after es) v)
+meant_at : (m : ℕ) (es : List Event) (v : View) → eqb v.number m ≡ true → Known es → IsAt es v
+    → IsAtBy m (delivery_to (hub_after es) v) es (advanced (hub_after es) v)
 meant_at m es v meant k is = go (eqb v.reached (hub_after es).commits) refl (is_kept (hub_after es) (v.reached + 1)) refl
   where
-    go : (level : Bool) → eqb v.reached (hub_after es).commits ≡ level → (kept : Bool) → is_kept (hub_after es) (v.reached + 1) ≡ kept → IsAtBy m (delivery_to (hub_after es) v) es (advanced (hub_after es) v)
+    go : (level : Bool) → eqb v.reached (hub_after es).commits ≡ level → (kept : Bool) → is_kept (hub_after es) (v.reached + 1) ≡ kept
+        → IsAtBy m (delivery_to (hub_after es) v) es (advanced (hub_after es) v)
     go true level kept is_it =
-        subst (λ b. IsAtBy m (answer_by b (is_kept (hub_after es) (v.reached + 1)) v.reached (oldest (hub_after es))) es (advanced_by b (slice_get (hub_after es).kept ((hub_after es).commits - v.reached - 1)) v)) (sym level)
+        subst (λ b. IsAtBy m (answer_by b (is_kept (hub_after es) (v.reached + 1)) v.reached (oldest (hub_after es))) es
+        (advanced_by b (slice_get (hub_after es).kept ((hub_after es).commits - v.reached - 1)) v)) (sym level)
         (left_at m (Level v.reached) es v refl is)
     go false behind true is_it =
         let less : v.reached < length (batches es) = grind (arith, is.within, k.commits, behind, eqb_tells v.reached (hub_after es).commits) in
@@ -236,18 +257,24 @@ meant_at m es v meant k is = go (eqb v.reached (hub_after es).commits) refl (is_
         let read : slice_get (hub_after es).kept ((hub_after es).commits - v.reached - 1) ≡ Some next.0 =
         ap (λ l. slice_get l ((hub_after es).commits - v.reached - 1)) k.kept ∙ take_get (batches es) 100 ((hub_after es).commits - v.reached - 1) few
         ∙ ap (λ n. slice_get (batches es) (n - v.reached - 1)) k.commits ∙ next.1 in
-        subst (λ b. IsAtBy m (answer_by b (is_kept (hub_after es) (v.reached + 1)) v.reached (oldest (hub_after es))) es (advanced_by b (slice_get (hub_after es).kept ((hub_after es).commits - v.reached - 1)) v)) (sym behind)
-        (subst (λ b. IsAtBy m (answer_by false b v.reached (oldest (hub_after es))) es (taken_if (slice_get (hub_after es).kept ((hub_after es).commits - v.reached - 1)) v)) (sym is_it)
-        (subst (λ o. IsAtBy m (Applied (v.reached + 1)) es (taken_if o v)) (sym read) (taken_at m (Applied (v.reached + 1)) es v next.0 meant refl less next.1 is)))
+        subst (λ b. IsAtBy m (answer_by b (is_kept (hub_after es) (v.reached + 1)) v.reached (oldest (hub_after es))) es
+        (advanced_by b (slice_get (hub_after es).kept ((hub_after es).commits - v.reached - 1)) v)) (sym behind)
+        (subst (λ b. IsAtBy m (answer_by false b v.reached (oldest (hub_after es))) es
+        (taken_if (slice_get (hub_after es).kept ((hub_after es).commits - v.reached - 1)) v)) (sym is_it)
+        (subst (λ o. IsAtBy m (Applied (v.reached + 1)) es (taken_if o v)) (sym read)
+        (taken_at m (Applied (v.reached + 1)) es v next.0 meant refl less next.1 is)))
     go false behind false is_it =
         let less : v.reached < length (batches es) = grind (arith, is.within, k.commits, behind, eqb_tells v.reached (hub_after es).commits) in
         let far : v.reached + 1 ≤ (hub_after es).commits - 100 = grind (arith, nat_tests, is_it) in
         let many : 100 ≤ (hub_after es).commits - v.reached - 1 = omega (arith, far, less, k.commits) in
         let read : slice_get (hub_after es).kept ((hub_after es).commits - v.reached - 1) ≡ None =
         ap (λ l. slice_get l ((hub_after es).commits - v.reached - 1)) k.kept ∙ take_past (batches es) 100 ((hub_after es).commits - v.reached - 1) many in
-        subst (λ b. IsAtBy m (answer_by b (is_kept (hub_after es) (v.reached + 1)) v.reached (oldest (hub_after es))) es (advanced_by b (slice_get (hub_after es).kept ((hub_after es).commits - v.reached - 1)) v)) (sym behind)
-        (subst (λ b. IsAtBy m (answer_by false b v.reached (oldest (hub_after es))) es (taken_if (slice_get (hub_after es).kept ((hub_after es).commits - v.reached - 1)) v)) (sym is_it)
-        (subst (λ o. IsAtBy m (Behind v.reached (oldest (hub_after es))) es (taken_if o v)) (sym read) (left_at m (Behind v.reached (oldest (hub_after es))) es v refl is)))
+        subst (λ b. IsAtBy m (answer_by b (is_kept (hub_after es) (v.reached + 1)) v.reached (oldest (hub_after es))) es
+        (advanced_by b (slice_get (hub_after es).kept ((hub_after es).commits - v.reached - 1)) v)) (sym behind)
+        (subst (λ b. IsAtBy m (answer_by false b v.reached (oldest (hub_after es))) es
+        (taken_if (slice_get (hub_after es).kept ((hub_after es).commits - v.reached - 1)) v)) (sym is_it)
+        (subst (λ o. IsAtBy m (Behind v.reached (oldest (hub_after es))) es (taken_if o v)) (sym read)
+        (left_at m (Behind v.reached (oldest (hub_after es))) es v refl is)))
 
 all_delivered : (m : ℕ) (es : List Event) (vs : List View) → Known es → AllByRecursion (IsAt es) vs → AreApart vs
     → AllByRecursion (IsAtBy m (delivery_if (hub_after es) (view_in m vs)) es) (changed_at m (advanced (hub_after es)) vs)
@@ -255,18 +282,23 @@ all_delivered m es [] k all apart = tt
 all_delivered m es (v ∷ vs) k all apart = go (is_numbered m v) refl (all_delivered m es vs k all.1 apart.1)
   where
     go : (b : Bool) → is_numbered m v ≡ b → AllByRecursion (IsAtBy m (delivery_if (hub_after es) (view_in m vs)) es) (changed_at m (advanced (hub_after es)) vs)
-        → AllByRecursion (IsAtBy m (delivery_if (hub_after es) (cond (is_numbered m v) (Some v) (view_in m vs))) es) (cond (is_numbered m v) (advanced (hub_after es) v ∷ vs) (v ∷ changed_at m (advanced (hub_after es)) vs))
+        → AllByRecursion (IsAtBy m (delivery_if (hub_after es) (cond (is_numbered m v) (Some v) (view_in m vs))) es)
+        (cond (is_numbered m v) (advanced (hub_after es) v ∷ vs) (v ∷ changed_at m (advanced (hub_after es)) vs))
     go true meant later =
-        subst (λ b. AllByRecursion (IsAtBy m (delivery_if (hub_after es) (cond b (Some v) (view_in m vs))) es) (cond b (advanced (hub_after es) v ∷ vs) (v ∷ changed_at m (advanced (hub_after es)) vs))) (sym meant) (
+        subst (λ b. AllByRecursion (IsAtBy m (delivery_if (hub_after es) (cond b (Some v) (view_in m vs))) es)
+        (cond b (advanced (hub_after es) v ∷ vs) (v ∷ changed_at m (advanced (hub_after es)) vs))) (sym meant) (
           meant_at m es v meant k all.0,
           all_both (HasOther v.number) (IsAt es) (IsAtBy m (delivery_to (hub_after es) v) es) vs
-              (λ w other is. not_meant m (delivery_to (hub_after es) v) es w (grind (arith, other, meant, eqb_tells w.number v.number, eqb_tells w.number m, eqb_tells v.number m)) is) apart.0 all.1,
+              (λ w other is. not_meant m (delivery_to (hub_after es) v) es w
+              (grind (arith, other, meant, eqb_tells w.number v.number, eqb_tells w.number m, eqb_tells v.number m)) is) apart.0 all.1,
         )
     go false other later =
-        subst (λ b. AllByRecursion (IsAtBy m (delivery_if (hub_after es) (cond b (Some v) (view_in m vs))) es) (cond b (advanced (hub_after es) v ∷ vs) (v ∷ changed_at m (advanced (hub_after es)) vs))) (sym other)
+        subst (λ b. AllByRecursion (IsAtBy m (delivery_if (hub_after es) (cond b (Some v) (view_in m vs))) es)
+        (cond b (advanced (hub_after es) v ∷ vs) (v ∷ changed_at m (advanced (hub_after es)) vs))) (sym other)
         (not_meant m (delivery_if (hub_after es) (view_in m vs)) es v other all.0, later)
 
-numbers_stay : (P : ℕ → Type 0) (h : Hub) (m : ℕ) (vs : List View) → AllByRecursion (λ v. P v.number) vs → AllByRecursion (λ v. P v.number) (changed_at m (advanced h) vs)
+numbers_stay : (P : ℕ → Type 0) (h : Hub) (m : ℕ) (vs : List View) → AllByRecursion (λ v. P v.number) vs
+    → AllByRecursion (λ v. P v.number) (changed_at m (advanced h) vs)
 numbers_stay P h m [] all = tt
 numbers_stay P h m (v ∷ vs) all =
     elim (is_numbered m v) as (λ b. AllByRecursion (λ v. P v.number) (cond b (advanced h v ∷ vs) (v ∷ changed_at m (advanced h) vs))) [

@@ -160,7 +160,8 @@ stays h at v read w same =
     ap (λ (l : List View). record { tip = h.tip; commits = h.commits; kept = h.kept; views = l; made = h.made })
     (sym (set_read h.views at v read) ∙ ap (slice_set h.views at) (sym same))
 
-pub level_stays : (h : Hub) (at : ℕ) (v : View) → slice_get h.views at ≡ Some v → v.reached ≡ h.commits → h ≡ record h { views = slice_set h.views at (advanced h v) }
+pub level_stays : (h : Hub) (at : ℕ) (v : View) → slice_get h.views at ≡ Some v → v.reached ≡ h.commits
+    → h ≡ record h { views = slice_set h.views at (advanced h v) }
 level_stays h at v read level =
     let yes : eqb v.reached h.commits ≡ true = grind (arith, eqb_tells v.reached h.commits) in
     stays h at v read (advanced h v) (ap (λ b. taken_if (cond b None (slice_get h.kept (h.commits - v.reached - 1))) v) yes)
@@ -171,7 +172,8 @@ past [] m none = omega arith
 past (x ∷ xs) zero none = absurd (cc)
 past (x ∷ xs) (suc m) none = let h = past xs m none in omega arith
 
-pub behind_answer : (h : Hub) (v : View) (r : ℕ) → IsHub h → r ≡ v.reached → r < h.commits → slice_get h.kept (h.commits - r - 1) ≡ None → Behind r (oldest h) ≡ delivery_to h v
+pub behind_answer : (h : Hub) (v : View) (r : ℕ) → IsHub h → r ≡ v.reached → r < h.commits → slice_get h.kept (h.commits - r - 1) ≡ None
+    → Behind r (oldest h) ≡ delivery_to h v
 behind_answer h v r is same less none =
     let far : length h.kept ≤ h.commits - r - 1 = past h.kept (h.commits - r - 1) none in
     let other : eqb v.reached h.commits ≡ false = grind (arith, eqb_tells v.reached h.commits) in
@@ -181,19 +183,22 @@ behind_answer h v r is same less none =
     ∙ sym (ap (λ b. cond b (Level v.reached) (cond (is_kept h (v.reached + 1)) (Applied (v.reached + 1)) (Behind v.reached (oldest h)))) other
     ∙ ap (λ b. cond b (Applied (v.reached + 1)) (Behind v.reached (oldest h))) gone)
 
-advanced_by : (h : Hub) (v : View) (r : ℕ) (o : Option (List Op)) → r ≡ v.reached → r < h.commits → slice_get h.kept (h.commits - r - 1) ≡ o → advanced h v ≡ taken_if o v
+advanced_by : (h : Hub) (v : View) (r : ℕ) (o : Option (List Op)) → r ≡ v.reached → r < h.commits → slice_get h.kept (h.commits - r - 1) ≡ o
+    → advanced h v ≡ taken_if o v
 advanced_by h v r o same less read =
     let other : eqb v.reached h.commits ≡ false = grind (arith, eqb_tells v.reached h.commits) in
     ap (λ b. taken_if (cond b None (slice_get h.kept (h.commits - v.reached - 1))) v) other
     ∙ ap (λ n. taken_if (slice_get h.kept (h.commits - n - 1)) v) (sym same)
     ∙ ap (λ o. taken_if o v) read
 
-pub behind_stays : (h : Hub) (at : ℕ) (v : View) (r : ℕ) → slice_get h.views at ≡ Some v → r ≡ v.reached → r < h.commits → slice_get h.kept (h.commits - r - 1) ≡ None
+pub behind_stays : (h : Hub) (at : ℕ) (v : View) (r : ℕ) → slice_get h.views at ≡ Some v → r ≡ v.reached → r < h.commits
+    → slice_get h.kept (h.commits - r - 1) ≡ None
     → h ≡ record h { views = slice_set h.views at (advanced h v) }
 behind_stays h at v r read same less none = stays h at v read (advanced h v) (advanced_by h v r None same less none)
 
 -- the next batch is kept, and the view takes it
-pub applied_answer : (h : Hub) (v : View) (r : ℕ) (ops : List Op) → IsHub h → r ≡ v.reached → r < h.commits → slice_get h.kept (h.commits - r - 1) ≡ Some ops → Applied (r + 1) ≡ delivery_to h v
+pub applied_answer : (h : Hub) (v : View) (r : ℕ) (ops : List Op) → IsHub h → r ≡ v.reached → r < h.commits → slice_get h.kept (h.commits - r - 1) ≡ Some ops
+    → Applied (r + 1) ≡ delivery_to h v
 applied_answer h v r ops is same less read =
     let near : h.commits - r - 1 < length h.kept = read_within h.kept (h.commits - r - 1) ops read in
     let other : eqb v.reached h.commits ≡ false = grind (arith, eqb_tells v.reached h.commits) in
@@ -204,7 +209,8 @@ applied_answer h v r ops is same less read =
     ∙ ap (λ b. cond b (Applied (v.reached + 1)) (Behind v.reached (oldest h))) there)
 
 -- what a view needs to take its next batch
-pub may_advance : (h : Hub) (at : ℕ) (v : View) (r : ℕ) (ops : List Op) → IsHub h → slice_get h.views at ≡ Some v → r ≡ v.reached → r < h.commits → slice_get h.kept (h.commits - r - 1) ≡ Some ops
+pub may_advance : (h : Hub) (at : ℕ) (v : View) (r : ℕ) (ops : List Op) → IsHub h → slice_get h.views at ≡ Some v → r ≡ v.reached → r < h.commits
+    → slice_get h.kept (h.commits - r - 1) ≡ Some ops
     → (w : View) × (slice_get h.views at ≡ Some w) × FitInTurn w.tree ops × (w.reached < last_u32) × IsLagging h (taken ops w)
 may_advance h at v r ops is read same less next =
     let lags = all_read (IsLagging h) h.views at v is.each read in
@@ -227,7 +233,8 @@ detached_now a h n at v ys view is items =
     ap (λ l. with_views l a) (items ∙ ap (λ (g : Hub). remove g.views at) view ∙ sym is.without)
     ∙ ap (with_views (without_view n h.views)) view
 
-pub published_now : (a h : Hub) (batch ops xs : List Op) (t w : HostTree) (pushed kept : List (List Op)) → a ≡ h → batch ≡ ops → t ≡ a.tip → xs ≡ ops → Leads t xs w
+pub published_now : (a h : Hub) (batch ops xs : List Op) (t w : HostTree) (pushed kept : List (List Op)) → a ≡ h → batch ≡ ops → t ≡ a.tip → xs ≡ ops
+    → Leads t xs w
     → pushed ≡ batch ∷ a.kept → kept ≡ take 100 pushed
     → record { tip = w; commits = a.commits + 1; kept = kept; views = a.views; made = a.made } ≡ published ops h
 published_now a h batch ops xs t w pushed kept view copied same items leads front fewest =
@@ -236,7 +243,8 @@ published_now a h batch ops xs t w pushed kept view copied same items leads fron
     (fewest ∙ ap (take 100) (front ∙ ap (λ b. b ∷ a.kept) copied))
     ∙ ap (published ops) view
 
-pub attached_now : (a : Hub) (tree : HostTree) (w : View) (vs : List View) → tree ≡ a.tip → w ≡ record { number = a.made + 1; reached = a.commits; tree = tree } → vs ≡ a.views ++ w ∷ []
+pub attached_now : (a : Hub) (tree : HostTree) (w : View) (vs : List View) → tree ≡ a.tip → w ≡ record { number = a.made + 1; reached = a.commits; tree = tree }
+    → vs ≡ a.views ++ w ∷ []
     → length a.views < 32 → IsHub a → IsHub (record { tip = a.tip; commits = a.commits; kept = a.kept; views = vs; made = a.made + 1 })
 attached_now a tree w vs copied made items room is =
     let same : vs ≡ a.views ++ next_view a ∷ [] =

@@ -72,6 +72,7 @@ nowhere n (v ∷ vs) none =
 pub place_found : (n : ℕ) (vs : List View) (r : Option ℕ) → r ≡ position (is_numbered n) vs → IsPlaceOf n vs r
 place_found n vs r is = go (nat_lt (position_or_len (is_numbered n) vs) (length vs)) refl is
   where
-    go : (b : Bool) → nat_lt (position_or_len (is_numbered n) vs) (length vs) ≡ b → r ≡ cond b (Some (position_or_len (is_numbered n) vs)) None → IsPlaceOf n vs r
+    go : (b : Bool) → nat_lt (position_or_len (is_numbered n) vs) (length vs) ≡ b → r ≡ cond b (Some (position_or_len (is_numbered n) vs)) None
+        → IsPlaceOf n vs r
     go true within is = subst (IsPlaceOf n vs) (sym is) (found n vs (position_or_len (is_numbered n) vs) (first_at n vs (grind (arith, nat_tests))))
     go false beyond is = subst (IsPlaceOf n vs) (sym is) (nowhere n vs (none_at n vs (grind (arith, nat_tests))))

@@ -52,30 +52,37 @@ above_in above t k = length (unwrap_or (ancestors_below key_of above t k) [])
 above_first : (above : List ℕ) (l : Label) (below rest : Forest) → above_in above (tree l below rest) l.key ≡ length above
 above_first above l below rest =
     let own : eqb l.key l.key ≡ true = grind (arith, eqb_tells l.key l.key) in
-    ap (λ b. length (unwrap_or (cond b (Some above) (option_or (ancestors_below key_of (l.key ∷ above) below l.key) (ancestors_below key_of above rest l.key))) [])) own
+    ap (λ b. length
+    (unwrap_or (cond b (Some above) (option_or (ancestors_below key_of (l.key ∷ above) below l.key) (ancestors_below key_of above rest l.key))) [])) own
 
-found_below : (above : List ℕ) (l : Label) (below rest : Forest) (k : ℕ) → IsDistinct key_of (tree l below rest) → named.has key_of k below ≡ true → ancestors_below key_of above (tree l below rest) k ≡ ancestors_below key_of (l.key ∷ above) below k
+found_below : (above : List ℕ) (l : Label) (below rest : Forest) (k : ℕ) → IsDistinct key_of (tree l below rest) → named.has key_of k below ≡ true
+    → ancestors_below key_of above (tree l below rest) k ≡ ancestors_below key_of (l.key ∷ above) below k
 found_below above l below rest k once there = grind (arith, there, once k, eqb_tells l.key k, is_some-ancestors_below key_of (l.key ∷ above) below k)
 
-found_rest : (above : List ℕ) (l : Label) (below rest : Forest) (k : ℕ) → IsDistinct key_of (tree l below rest) → named.has key_of k rest ≡ true → ancestors_below key_of above (tree l below rest) k ≡ ancestors_below key_of above rest k
+found_rest : (above : List ℕ) (l : Label) (below rest : Forest) (k : ℕ) → IsDistinct key_of (tree l below rest) → named.has key_of k rest ≡ true
+    → ancestors_below key_of above (tree l below rest) k ≡ ancestors_below key_of above rest k
 found_rest above l below rest k once there = grind (arith, there, once k, eqb_tells l.key k, ancestors_below-absent key_of (l.key ∷ above) below k)
 
-deepest_above : (d : ℕ) (above : List ℕ) (t : Forest) → length above ≡ d → IsDistinct key_of t → greatest (above_in above t) (named.preorder key_of t) ≡ deepest d t
+deepest_above : (d : ℕ) (above : List ℕ) (t : Forest) → length above ≡ d → IsDistinct key_of t
+    → greatest (above_in above t) (named.preorder key_of t) ≡ deepest d t
 deepest_above d above nil so once = refl
 deepest_above d above (tree l below rest) so once =
     let all : ℕ → ℕ = above_in above (tree l below rest) in
     let own : all l.key ≡ d = above_first above l below rest ∙ so in
     let inner : greatest all (named.preorder key_of below) ≡ deepest (d + 1) below =
-    greatest-agree all (above_in (l.key ∷ above) below) (named.preorder key_of below) (λ k e. ap (λ o. length (unwrap_or o [])) (found_below above l below rest k once (sym (is_among-preorder key_of k below) ∙ e)))
+    greatest-agree all (above_in (l.key ∷ above) below) (named.preorder key_of below)
+    (λ k e. ap (λ o. length (unwrap_or o [])) (found_below above l below rest k once (sym (is_among-preorder key_of k below) ∙ e)))
     ∙ deepest_above (d + 1) (l.key ∷ above) below (omega (arith, so)) (λ q. omega (arith, once q)) in
     let outer : greatest all (named.preorder key_of rest) ≡ deepest d rest =
-    greatest-agree all (above_in above rest) (named.preorder key_of rest) (λ k e. ap (λ o. length (unwrap_or o [])) (found_rest above l below rest k once (sym (is_among-preorder key_of k rest) ∙ e)))
+    greatest-agree all (above_in above rest) (named.preorder key_of rest)
+    (λ k e. ap (λ o. length (unwrap_or o [])) (found_rest above l below rest k once (sym (is_among-preorder key_of k rest) ∙ e)))
     ∙ deepest_above d above rest so (λ q. omega (arith, once q)) in
     omega (arith, own, inner, outer, greatest-append all (named.preorder key_of below) (named.preorder key_of rest))
 
 pub tree_depth-deepest : (f : Forest) → IsForest f → alone 0 f ≡ f → tree_depth f ≡ deepest 0 f
 tree_depth-deepest f h whole =
-    greatest-agree (depth_at f) (above_in [] f) (preorder f) (λ k e. ap (λ b. unwrap_or (cond b (Some (length (ancestors f k))) None) 0) (sym (is_among-preorder_of f k) ∙ e))
+    greatest-agree (depth_at f) (above_in [] f) (preorder f)
+    (λ k e. ap (λ b. unwrap_or (cond b (Some (length (ancestors f k))) None) 0) (sym (is_among-preorder_of f k) ∙ e))
     ∙ ap (λ t. greatest (above_in [] f) (named.preorder key_of t)) whole
     ∙ deepest_above 0 [] f refl h.once
 
@@ -99,14 +106,18 @@ few_keys n small = grind (arith, nat_tests, small)
 
 abbrev fault_of : ℕ → ℕ → ℕ → ℕ → Option Cause
 fault_of deep nodes characters next =
-    option_or (over Depth most_depth deep) (option_or (over Nodes most_nodes nodes) (option_or (over Characters most_characters characters) (over KeyCount most_key next)))
+    option_or (over Depth most_depth deep)
+    (option_or (over Nodes most_nodes nodes) (option_or (over Characters most_characters characters) (over KeyCount most_key next)))
 
-still_none : (deep nodes characters a b c next old : ℕ) → a ≡ deep → b ≡ nodes → c ≡ characters → next ≤ most_key → fault_of deep nodes characters old ≡ None → fault_of a b c next ≡ None
+still_none : (deep nodes characters a b c next old : ℕ) → a ≡ deep → b ≡ nodes → c ≡ characters → next ≤ most_key → fault_of deep nodes characters old ≡ None
+    → fault_of a b c next ≡ None
 still_none deep nodes characters a b c next old e g h few none =
     ap (λ n. fault_of n b c next) e ∙ ap (λ n. fault_of deep n c next) g ∙ ap (λ n. fault_of deep nodes n next) h
-    ∙ first_none (over Depth most_depth deep) (over Nodes most_nodes nodes) (over Characters most_characters characters) (over KeyCount most_key old) (over KeyCount most_key next) none (few_keys next few)
+    ∙ first_none (over Depth most_depth deep) (over Nodes most_nodes nodes) (over Characters most_characters characters) (over KeyCount most_key old)
+    (over KeyCount most_key next) none (few_keys next few)
 
-pub limits-back : (next : ℕ) (l : Label) (below : Forest) → IsForest (tree l below nil) → roots (tree l below nil) ≡ 0 ∷ [] → l.kind ≡ Root → 0 < next → next + total (tree l below nil) ≤ most_key + 1 → limits_fault (tree l below nil) 1 ≡ None
+pub limits-back : (next : ℕ) (l : Label) (below : Forest) → IsForest (tree l below nil) → roots (tree l below nil) ≡ 0 ∷ [] → l.kind ≡ Root → 0 < next
+    → next + total (tree l below nil) ≤ most_key + 1 → limits_fault (tree l below nil) 1 ≡ None
     → limits_fault (rooted next (pieces_of (tree l below nil))) (next_behind next (pieces_of (tree l below nil))) ≡ None
 limits-back next l below h one root first room none =
     let f : Forest = tree l below nil in
@@ -114,8 +125,10 @@ limits-back next l below h one root first room none =
     let i : IsForest g = rooted-in_order next (record { kind = l.kind; fields = l.fields }) (pieces_of below) nil first root in
     let old = alone_whole f h one in
     let new = alone_whole g i refl in
-    let deep : tree_depth g ≡ tree_depth f = tree_depth-deepest g i new ∙ ap (λ n. max 0 (max n 0)) (deepest-keyed 1 next below) ∙ sym (tree_depth-deepest f h old) in
+    let deep : tree_depth g ≡ tree_depth f =
+    tree_depth-deepest g i new ∙ ap (λ n. max 0 (max n 0)) (deepest-keyed 1 next below) ∙ sym (tree_depth-deepest f h old) in
     let nodes : total g ≡ total f = omega (arith, total-keyed next (pieces_of below), total-pieces below) in
     let weighs : weight characters_in g ≡ weight characters_in f = omega (arith, weight-keyed next below) in
     let characters : tree_characters g ≡ tree_characters f = tree_characters-weight g i new ∙ weighs ∙ sym (tree_characters-weight f h old) in
-    still_none (tree_depth f) (total f) (tree_characters f) (tree_depth g) (total g) (tree_characters g) (next + total (pieces_of below)) 1 deep nodes characters (omega (arith, total-pieces below, room)) none
+    still_none (tree_depth f) (total f) (tree_characters f) (tree_depth g) (total g) (tree_characters g) (next + total (pieces_of below)) 1 deep nodes
+    characters (omega (arith, total-pieces below, room)) none

@@ -50,14 +50,16 @@ may_hold-told : (parent kind : Kind) (d : Data) → may_hold parent (kind_told k
 unfolding kind_told
 may_hold-told parent (Heading level) d =
     let P : Kind → Type 0 = λ kind. may_hold parent kind ≡ may_hold parent (Heading level) in
-    told_by_holds P (λ level. Heading level) (Heading level) levels (get (codes "tag") d) (all_rows (λ to. P (Heading to)) (heading_held parent level) levels) refl
+    told_by_holds P (λ level. Heading level) (Heading level) levels (get (codes "tag") d) (all_rows (λ to. P (Heading to)) (heading_held parent level) levels)
+    refl
 may_hold-told parent (ListKind type) d =
     let P : Kind → Type 0 = λ kind. may_hold parent kind ≡ may_hold parent (ListKind type) in
     told_by_holds P (λ type. ListKind type) (ListKind type) list_types (get (codes "listType") d)
     (all_rows (λ to. P (ListKind to)) (list_held parent type) list_types) refl
 may_hold-told parent _ d = refl
 
-placed : (parent kind : Kind) (o : Option Kind) (text : List ℕ) (d : Data) → option_map (λ base. kind_told base d) o ≡ Some kind → may_hold parent kind ≡ true → placed_kind (Some parent) o text d ≡ Ok kind
+placed : (parent kind : Kind) (o : Option Kind) (text : List ℕ) (d : Data) → option_map (λ base. kind_told base d) o ≡ Some kind → may_hold parent kind ≡ true
+    → placed_kind (Some parent) o text d ≡ Ok kind
 placed parent kind None text d told held = absurd (cc)
 placed parent kind (Some base) text d told held =
     let is : kind_told base d ≡ kind = same_Some (kind_told base d) kind told in
@@ -89,10 +91,12 @@ none_bad kind o below there = elim (cases_Bool (is_element kind)) [
 fields-back : (l : Label) (below : Items) → IsGivenBack l below → fields_told l.kind (node_data l.kind l.fields below) ≡ Ok l.fields
 fields-back l below told =
     let d = node_data l.kind l.fields below in
-    ap (λ bad. fields_or_bad (first_bad bad (document_fields l.kind d))) (none_bad l.kind (get (codes "children") d) below (λ element. children-there l.kind l.fields below element told.of_kind))
+    ap (λ bad. fields_or_bad (first_bad bad (document_fields l.kind d)))
+    (none_bad l.kind (get (codes "children") d) below (λ element. children-there l.kind l.fields below element told.of_kind))
     ∙ ap fields_or_bad told.fields
 
-piece-back : (above : Option Kind) (l : Label) (below : Items) → IsGivenBack l below → placed_kind above (kind_of_type (type_name l.kind)) (type_name l.kind) (node_data l.kind l.fields below) ≡ Ok l.kind
+piece-back : (above : Option Kind) (l : Label) (below : Items) → IsGivenBack l below
+    → placed_kind above (kind_of_type (type_name l.kind)) (type_name l.kind) (node_data l.kind l.fields below) ≡ Ok l.kind
     → piece_of above (node_data l.kind l.fields below) ≡ Ok (piece_in l)
 unfolding piece_of
 piece-back above l below told here =
@@ -102,17 +106,21 @@ piece-back above l below told here =
     ∙ ap (λ r. and_then r to) (kind_typed above ∙ here)
     ∙ ap (λ r. and_then r (λ fields. Ok (record { kind = l.kind; fields = fields }))) (fields-back l below told)
   where
-    kind_typed : (above : Option Kind) → kind_by above (typed (type_name l.kind)) (node_data l.kind l.fields below) ≡ placed_kind above (kind_of_type (type_name l.kind)) (type_name l.kind) (node_data l.kind l.fields below)
+    kind_typed : (above : Option Kind)
+        → kind_by above (typed (type_name l.kind)) (node_data l.kind l.fields below)
+        ≡ placed_kind above (kind_of_type (type_name l.kind)) (type_name l.kind) (node_data l.kind l.fields below)
     kind_typed None = refl
     kind_typed (Some parent) = refl
 
-children-back : (l : Label) (below : Forest) → IsGivenBack l (trees_data below) → (is_element l.kind ≡ false → below ≡ nil) → trees_of (trees_data below) 0 l.kind ≡ Ok (pieces_of below)
+children-back : (l : Label) (below : Forest) → IsGivenBack l (trees_data below) → (is_element l.kind ≡ false → below ≡ nil)
+    → trees_of (trees_data below) 0 l.kind ≡ Ok (pieces_of below)
     → children_told l.kind (node_data l.kind l.fields (trees_data below)) ≡ Ok (pieces_of below)
 children-back l below told leaf back =
     let d = node_data l.kind l.fields (trees_data below) in
     elim (cases_Bool (is_element l.kind)) [
       | inl element ↦
-          children_told-list l.kind d (trees_data below) refl element (ap (option_and_then as_array) (children-there l.kind l.fields (trees_data below) element told.of_kind)) ∙ back
+          children_told-list l.kind d (trees_data below) refl element
+          (ap (option_and_then as_array) (children-there l.kind l.fields (trees_data below) element told.of_kind)) ∙ back
       | inr apart ↦ children_told-leaf l.kind d refl apart ∙ ap (λ f. Ok (pieces_of f)) (sym (leaf apart))
     ]
 
@@ -144,7 +152,9 @@ trees-back kind i nil told held = refl
 trees-back kind i (tree l below rest) told held =
     let d = node_data l.kind l.fields (trees_data below) in
     ap (λ r. with_rest (told_under (child_place i) r) (trees_of (trees_data rest) (i + 1) kind))
-    (node-back (Some kind) l below told.0 (placed kind l.kind (kind_of_type (type_name l.kind)) (type_name l.kind) d (kind-back l.kind l.fields (trees_data below) told.0.of_kind) held.0) (leaf_below l.kind below held.1) (trees-back l.kind 0 below told.1 held.1))
+    (node-back (Some kind) l below told.0
+    (placed kind l.kind (kind_of_type (type_name l.kind)) (type_name l.kind) d (kind-back l.kind l.fields (trees_data below) told.0.of_kind) held.0)
+    (leaf_below l.kind below held.1) (trees-back l.kind 0 below told.1 held.1))
     ∙ ap (λ r. with_rest (Ok (tree (piece_in l) (pieces_of below) nil)) r) (trees-back kind (i + 1) rest told.2 held.2)
 
 -- ---- a forest whose kinds its parents hold
@@ -154,16 +164,21 @@ record IsFit (kinds : ℕ → Option Kind) (s : Spot Label) : Type 0 where
   kind : kinds s.label.key ≡ Some s.label.kind
   held : (p : ℕ) → s.parent ≡ Some p → holds may_hold (kinds p) (Some s.label.kind) ≡ true
 
-below_at : (r : Option ℕ) (l : Label) (below rest : Forest) (q : ℕ) (s : Spot Label) → IsDistinct key_of (tree l below rest) → spot_below key_of (Some l.key) below q ≡ Some s → spot_below key_of r (tree l below rest) q ≡ Some s
+below_at : (r : Option ℕ) (l : Label) (below rest : Forest) (q : ℕ) (s : Spot Label) → IsDistinct key_of (tree l below rest)
+    → spot_below key_of (Some l.key) below q ≡ Some s → spot_below key_of r (tree l below rest) q ≡ Some s
 below_at r l below rest q s once e = grind (arith, e, once q, eqb_tells l.key q, spot_below-absent key_of (Some l.key) below q)
 
-rest_at : (r : Option ℕ) (l : Label) (below rest : Forest) (q : ℕ) (s : Spot Label) → IsDistinct key_of (tree l below rest) → spot_below key_of r rest q ≡ Some s → spot_below key_of r (tree l below rest) q ≡ Some s
-rest_at r l below rest q s once e = grind (arith, e, once q, eqb_tells l.key q, spot_below-absent key_of (Some l.key) below q, spot_below-absent key_of r rest q)
+rest_at : (r : Option ℕ) (l : Label) (below rest : Forest) (q : ℕ) (s : Spot Label) → IsDistinct key_of (tree l below rest)
+    → spot_below key_of r rest q ≡ Some s → spot_below key_of r (tree l below rest) q ≡ Some s
+rest_at r l below rest q s once e =
+    grind (arith, e, once q, eqb_tells l.key q, spot_below-absent key_of (Some l.key) below q, spot_below-absent key_of r rest q)
 
-first_at : (r : Option ℕ) (l : Label) (below rest : Forest) → spot_below key_of r (tree l below rest) l.key ≡ Some (record { label = l; parent = r; children = named.names key_of below })
+first_at : (r : Option ℕ) (l : Label) (below rest : Forest)
+    → spot_below key_of r (tree l below rest) l.key ≡ Some (record { label = l; parent = r; children = named.names key_of below })
 first_at r l below rest = grind (arith, eqb_tells l.key l.key)
 
-are_held : (kinds : ℕ → Option Kind) (p : ℕ) (parent : Kind) (t : Forest) → IsDistinct key_of t → kinds p ≡ Some parent → ((q : ℕ) (s : Spot Label) → spot_below key_of (Some p) t q ≡ Some s → IsFit kinds s) → AreHeld parent t
+are_held : (kinds : ℕ → Option Kind) (p : ℕ) (parent : Kind) (t : Forest) → IsDistinct key_of t → kinds p ≡ Some parent
+    → ((q : ℕ) (s : Spot Label) → spot_below key_of (Some p) t q ≡ Some s → IsFit kinds s) → AreHeld parent t
 are_held kinds p parent nil once up fit = tt
 are_held kinds p parent (tree l below rest) once up fit =
     let own = fit l.key (record { label = l; parent = Some p; children = named.names key_of below }) (first_at (Some p) l below rest) in (

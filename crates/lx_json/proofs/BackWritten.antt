@@ -34,7 +34,8 @@ use Rattle.lx_json.specs.GivenBack.{AreGivenBack}
 abbrev pub label_from : ℕ → Node → Label
 label_from key n = record { key = key; kind = n.kind; fields = n.fields }
 
-label_same : (l : Label) (key : ℕ) (kind : Kind) (fields : Fields) → l.key ≡ key → kind ≡ l.kind → fields ≡ l.fields → l ≡ record { key = key; kind = kind; fields = fields }
+label_same : (l : Label) (key : ℕ) (kind : Kind) (fields : Fields) → l.key ≡ key → kind ≡ l.kind → fields ≡ l.fields
+    → l ≡ record { key = key; kind = kind; fields = fields }
 label_same l key kind fields e f g = rw (← e, f, g) refl
 
 -- what a read says of a node
@@ -49,7 +50,8 @@ is_read f key n s e = from_spot (spot f key) refl e where
   from_spot (Some x) at e =
       let same : n ≡ node_of (linked (siblings f key) key x) = same_Some n (node_of (linked (siblings f key) key x)) e in
       let there : has key f ≡ true = sym (is_some-spot f key) ∙ ap is_some at in
-      let label : x.label ≡ label_from key n = label_same x.label key n.kind n.fields (key-spot f key x at) (ap (λ (n : Node). n.kind) same) (ap (λ (n : Node). n.fields) same) in
+      let label : x.label ≡ label_from key n =
+      label_same x.label key n.kind n.fields (key-spot f key x at) (ap (λ (n : Node). n.kind) same) (ap (λ (n : Node). n.fields) same) in
       record {
         of_kind = sym (ap is_suited (ap (option_map (λ (s : Spot Label). s.label)) at ∙ ap (λ l. Some l) label)) ∙ s.suited.each key;
         tree_is =
@@ -100,7 +102,8 @@ map_more [] v = refl
 map_more (x ∷ values) v = ap (λ ds. view x ∷ ds) (map_more values v)
 
 -- one child more
-pub written_more : (f : Forest) (all left rest : List ℕ) (k : ℕ) (values new : List Value) (v : Value) → IsWrittenUpTo f all left values → left ≡ k ∷ rest → new ≡ values ++ v ∷ []
+pub written_more : (f : Forest) (all left rest : List ℕ) (k : ℕ) (values new : List Value) (v : Value) → IsWrittenUpTo f all left values → left ≡ k ∷ rest
+    → new ≡ values ++ v ∷ []
     → trees_data (alone k f) ≡ item (view v) no_items → AreGivenBack (alone k f) → IsWrittenUpTo f all rest new
 written_more f all left rest k values new v m first is own told = record {
   part = λ q among. m.part q (ap (is_among q) first ∙ grind (arith, among));
@@ -120,7 +123,8 @@ pub record IsChildLeft (f : Forest) (key child : ℕ) : Type 0 where
   pub there : has child f ≡ true
   pub smaller : total (alone child f) < total (alone key f)
 
-pub child_left : (f : Forest) (key child : ℕ) (all left rest : List ℕ) (values : List Value) → Sound f → all ≡ children_of f key → IsWrittenUpTo f all left values → left ≡ child ∷ rest → IsChildLeft f key child
+pub child_left : (f : Forest) (key child : ℕ) (all left rest : List ℕ) (values : List Value) → Sound f → all ≡ children_of f key
+    → IsWrittenUpTo f all left values → left ≡ child ∷ rest → IsChildLeft f key child
 child_left f key child all left rest values s is m first =
     let among : is_among child left ≡ true = ap (is_among child) first ∙ grind (arith, eqb_tells child child) in
     let up : parent_of f child ≡ Some key = parent_of-child f child key s (sym (ap (is_among child) is) ∙ m.part child among) in
@@ -129,12 +133,16 @@ child_left f key child all left rest values s is m first =
 
 -- ---- all children
 
-all_written : (f : Forest) (key : ℕ) (all left : List ℕ) (values : List Value) → all ≡ children_of f key → left ≡ [] → IsWrittenUpTo f all left values → items_view values ≡ trees_data (trees_of f (children_of f key))
+all_written : (f : Forest) (key : ℕ) (all left : List ℕ) (values : List Value) → all ≡ children_of f key → left ≡ [] → IsWrittenUpTo f all left values
+    → items_view values ≡ trees_data (trees_of f (children_of f key))
 all_written f key all left values is none m =
-    ap items_of (sym (append-nil (map view values)) ∙ sym (ap (λ ks. map view values ++ written (trees_of f ks)) none) ∙ m.objects ∙ ap (λ ks. written (trees_of f ks)) is)
+    ap items_of
+    (sym (append-nil (map view values)) ∙ sym (ap (λ ks. map view values ++ written (trees_of f ks)) none) ∙ m.objects
+    ∙ ap (λ ks. written (trees_of f ks)) is)
     ∙ items_of-written (trees_of f (children_of f key))
 
-pub node_written : {E : Type 0} (r : Result Value E) (f : Forest) (key : ℕ) (n : Node) (all left : List ℕ) (values : List Value) → IsRead f key n → all ≡ children_of f key → left ≡ [] → IsWrittenUpTo f all left values
+pub node_written : {E : Type 0} (r : Result Value E) (f : Forest) (key : ℕ) (n : Node) (all left : List ℕ) (values : List Value) → IsRead f key n
+    → all ≡ children_of f key → left ≡ [] → IsWrittenUpTo f all left values
     → IfOk r (λ v. view v ≡ node_data n.kind n.fields (items_view values)) → IfOk r (λ v. trees_data (alone key f) ≡ item (view v) no_items)
 unfolding trees_data
 node_written (Err e) f key n all left values read is none m made = tt
@@ -143,8 +151,10 @@ node_written (Ok v) f key n all left values read is none m made =
     ∙ ap (λ ds. item (node_data n.kind n.fields ds) no_items) (sym (all_written f key all left values is none m))
     ∙ ap (λ d. item d no_items) (sym made)
 
-pub node_told : {E : Type 0} (r : Result Value E) (f : Forest) (key : ℕ) (n : Node) (all left : List ℕ) (values : List Value) → IsRead f key n → all ≡ children_of f key → left ≡ [] → IsWrittenUpTo f all left values
-    → IfOk r (λ v. view v ≡ node_data n.kind n.fields (items_view values)) → IfOk r (λ v. document_fields n.kind (view v) ≡ Ok n.fields) → IfOk r (λ v. AreGivenBack (alone key f))
+pub node_told : {E : Type 0} (r : Result Value E) (f : Forest) (key : ℕ) (n : Node) (all left : List ℕ) (values : List Value) → IsRead f key n
+    → all ≡ children_of f key → left ≡ [] → IsWrittenUpTo f all left values
+    → IfOk r (λ v. view v ≡ node_data n.kind n.fields (items_view values)) → IfOk r (λ v. document_fields n.kind (view v) ≡ Ok n.fields)
+    → IfOk r (λ v. AreGivenBack (alone key f))
 node_told (Err e) f key n all left values read is none m made back = tt
 node_told (Ok v) f key n all left values read is none m made back =
     let below = trees_of f (children_of f key) in

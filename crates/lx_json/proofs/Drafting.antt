@@ -34,12 +34,14 @@ use Rattle.lx_json.proofs.Told.{tells_on}
 
 -- ---- the draft
 
-by_growth : (next : ℕ) (r : Result (Trees Piece) Cause) (g : Growth) → rooted_by next r ≡ Ok g → and_then r (draft_of next) ≡ answer (limits_fault g.links g.next) (drafted g.links g.next)
+by_growth : (next : ℕ) (r : Result (Trees Piece) Cause) (g : Growth) → rooted_by next r ≡ Ok g
+    → and_then r (draft_of next) ≡ answer (limits_fault g.links g.next) (drafted g.links g.next)
 unfolding rooted_by rooted_growth
 by_growth next (Ok trees) g e = ap (λ (g : Growth). answer (limits_fault g.links g.next) (drafted g.links g.next)) (ok_is (rooted_growth next trees) g e)
 by_growth next (Err cause) g e = absurd (cc)
 
-pub imported_by : (d : Data) (next : ℕ) (g : Growth) → rooted_by next (document_of d) ≡ Ok g → imported d next ≡ answer (limits_fault g.links g.next) (drafted g.links g.next)
+pub imported_by : (d : Data) (next : ℕ) (g : Growth) → rooted_by next (document_of d) ≡ Ok g
+    → imported d next ≡ answer (limits_fault g.links g.next) (drafted g.links g.next)
 unfolding imported
 imported_by d next g e = by_growth next (document_of d) g e
 
@@ -47,15 +49,18 @@ pub import_refused : (d : Data) (next : ℕ) (e : Fault) → TellsStep e (docume
 unfolding imported
 import_refused d next e told = tells_on e (document_of d) (draft_of next) told
 
-pub import_beyond : (d : Data) (next : ℕ) (g : Growth) (cause : Cause) → rooted_by next (document_of d) ≡ Ok g → limits_fault g.links g.next ≡ Some cause → imported d next ≡ Err cause
+pub import_beyond : (d : Data) (next : ℕ) (g : Growth) (cause : Cause) → rooted_by next (document_of d) ≡ Ok g → limits_fault g.links g.next ≡ Some cause
+    → imported d next ≡ Err cause
 import_beyond d next g cause e beyond = imported_by d next g e ∙ ap (λ o. answer o (drafted g.links g.next)) beyond
 
-pub import_within : (d : Data) (next : ℕ) (g : Growth) (w : Working) → rooted_by next (document_of d) ≡ Ok g → limits_fault g.links g.next ≡ None → w ≡ drafted g.links g.next → imported d next ≡ Ok w
+pub import_within : (d : Data) (next : ℕ) (g : Growth) (w : Working) → rooted_by next (document_of d) ≡ Ok g → limits_fault g.links g.next ≡ None
+    → w ≡ drafted g.links g.next → imported d next ≡ Ok w
 import_within d next g w e within is = imported_by d next g e ∙ ap (λ o. answer o (drafted g.links g.next)) within ∙ ap (λ w. Ok w) (sym is)
 
 -- ---- its tree
 
-by_trees : (P : Growth → Type 0) (next : ℕ) (r : Result (Trees Piece) Cause) (g : Growth) → ((trees : Trees Piece) → P (rooted_growth next trees)) → rooted_by next r ≡ Ok g → P g
+by_trees : (P : Growth → Type 0) (next : ℕ) (r : Result (Trees Piece) Cause) (g : Growth) → ((trees : Trees Piece) → P (rooted_growth next trees))
+    → rooted_by next r ≡ Ok g → P g
 unfolding rooted_by
 by_trees P next (Ok trees) g each e = subst P (ok_is (rooted_growth next trees) g e) (each trees)
 by_trees P next (Err cause) g each e = absurd (cc)
@@ -113,7 +118,9 @@ may_start g i whole none =
       free = i.free;
       few = within Nodes most_nodes (total g.links) (omega arith) (none_first (over Nodes most_nodes (total g.links)) _ wide);
       whole = λ q there. whole_of g.links q i.order whole there;
-      shallow = λ q d at. omega (arith, le-tree_depth g.links q d at, within Depth most_depth (tree_depth g.links) (omega arith) (none_first (over Depth most_depth (tree_depth g.links)) _ none));
+      shallow =
+          λ q d at. omega
+          (arith, le-tree_depth g.links q d at, within Depth most_depth (tree_depth g.links) (omega arith) (none_first (over Depth most_depth (tree_depth g.links)) _ none));
     }
 
 -- ---- its marks
@@ -126,7 +133,8 @@ told_marks f ks h = record {
 
 covered_marks : (w : Working) (ks : List ℕ) → IsReady w → AreCovered w (marked_in w.forest ks w)
 covered_marks w ks r =
-    covered w (marked_in w.forest ks w) w.forest ks r.in_order (told_marks w.forest ks r.in_order) (kinds_at w.forest w.forest refl) (kinds_at w.forest w.forest refl) refl refl (record {
+    covered w (marked_in w.forest ks w) w.forest ks r.in_order (told_marks w.forest ks r.in_order) (kinds_at w.forest w.forest refl)
+    (kinds_at w.forest w.forest refl) refl refl (record {
       in_order = r.in_order;
       free = r.free;
     })
@@ -135,7 +143,8 @@ covered_marks w ks r =
 both : (a b c d : Bool) → a ≡ (b || (c && d)) → c ≡ true → d ≡ true → a ≡ true
 both a b c d e x y = grind (arith, e, x, y)
 
-pub is_imported : (d : Data) (next : ℕ) (g : Growth) (w : Working) → rooted_by next (document_of d) ≡ Ok g → IsGrowing g → MayStart g.links g.next → w ≡ drafted g.links g.next → IsImported next w
+pub is_imported : (d : Data) (next : ℕ) (g : Growth) (w : Working) → rooted_by next (document_of d) ≡ Ok g → IsGrowing g → MayStart g.links g.next
+    → w ≡ drafted g.links g.next → IsImported next w
 is_imported d next g w e i start is =
     subst (IsImported next) (sym is) (record {
       order = i.order;
@@ -145,5 +154,7 @@ is_imported d next g w e i start is =
       rises = (is_rooted d next g e).rises;
       fresh_keys = (is_rooted d next g e).fresh;
       covered = covered_marks (started g.links Nothing g.next) (preorder g.links) (record { in_order = i.order; free = i.free });
-      all_marked = λ q there. both _ (is_touched unmarked q) _ _ (touched-nodes g.links (preorder g.links) unmarked q) (is_among-preorder_of g.links q ∙ start.whole q there) there;
+      all_marked =
+          λ q there. both _ (is_touched unmarked q) _ _ (touched-nodes g.links (preorder g.links) unmarked q)
+          (is_among-preorder_of g.links q ∙ start.whole q there) there;
     })

@@ -56,21 +56,26 @@ grown-none p g = growth_is (last_below p nil g.links) g.links (g.next + 0) g.nex
     put_nothing p (tree l below rest) = at_one _ l p below rest (put_nothing p below) (put_nothing p rest)
 
 -- what is put below a node that was just put there
-grown-below : (p : ℕ) (piece : Piece) (below : Trees Piece) (g : Growth) → IsGrowing g → p < g.next → grown g.next below (grown p (tree piece nil nil) g) ≡ grown p (tree piece below nil) g
+grown-below : (p : ℕ) (piece : Piece) (below : Trees Piece) (g : Growth) → IsGrowing g → p < g.next
+    → grown g.next below (grown p (tree piece nil nil) g) ≡ grown p (tree piece below nil) g
 unfolding grown
 grown-below p piece below g i low =
-    growth_is _ _ _ _ (last_below-within p (label_for g.next piece) (keyed (g.next + 1) below) g.links (i.free g.next (omega arith)) (λ same. absurd (omega (arith, low, same)))) (sums g.next (total below))
+    growth_is _ _ _ _
+    (last_below-within p (label_for g.next piece) (keyed (g.next + 1) below) g.links (i.free g.next (omega arith))
+    (λ same. absurd (omega (arith, low, same)))) (sums g.next (total below))
   where
     sums : (n m : ℕ) → n + 1 + m ≡ n + (1 + m + 0)
     sums n m = omega arith
 
 -- trees after the one that was just put there
-grown-behind : (p : ℕ) (piece : Piece) (below others : Trees Piece) (g : Growth) → p < g.next → grown p others (grown p (tree piece below nil) g) ≡ grown p (tree piece below others) g
+grown-behind : (p : ℕ) (piece : Piece) (below others : Trees Piece) (g : Growth) → p < g.next
+    → grown p others (grown p (tree piece below nil) g) ≡ grown p (tree piece below others) g
 unfolding grown
 grown-behind p piece below others g low =
     growth_is _ _ _ _
     (ap (λ n. last_below p (keyed n others) (last_below p (keyed g.next (tree piece below nil)) g.links)) (sums g.next (total below))
-    ∙ last_below-twice p (keyed g.next (tree piece below nil)) (keyed (g.next + 1 + total below) others) g.links (ap (λ n. ltb 0 n) (keyed-low g.next p (tree piece below nil) low)))
+    ∙ last_below-twice p (keyed g.next (tree piece below nil)) (keyed (g.next + 1 + total below) others) g.links
+    (ap (λ n. ltb 0 n) (keyed-low g.next p (tree piece below nil) low)))
     (all g.next (total below) (total others))
   where
     sums : (n m : ℕ) → n + (1 + m + 0) ≡ n + 1 + m
@@ -82,7 +87,8 @@ grown-behind p piece below others g low =
 -- ---- what holds while they grow
 
 placed_links : (p : ℕ) (l : Label) (f : Forest) → IsForest f → has l.key f ≡ false → place_fault p None l.key (with_new l f) ≡ None
-    → IsForest (last_below p (tree l nil nil) f) × (total (last_below p (tree l nil nil) f) ≡ 1 + total f) × ((q : ℕ) → count q (last_below p (tree l nil nil) f) ≡ count q (with_new l f))
+    → IsForest (last_below p (tree l nil nil) f) × (total (last_below p (tree l nil nil) f) ≡ 1 + total f)
+    × ((q : ℕ) → count q (last_below p (tree l nil nil) f) ≡ count q (with_new l f))
 placed_links p l f order free none =
     let can = (placing p None l.key (with_new l f) none).can in
     let made = IsForest-with_new l f order free in
@@ -92,7 +98,8 @@ placed_links p l f order free none =
       (λ q. ap (count q) (sym same) ∙ count-put_in q p None l.key (with_new l f) made can.parent can.outside),
     )
 
-pub grown_one : (p : ℕ) (piece : Piece) (g : Growth) (made f : Forest) → IsGrowing g → made ≡ with_new (label_for g.next piece) g.links → place_fault p None g.next made ≡ None → f ≡ put_in p None g.next made
+pub grown_one : (p : ℕ) (piece : Piece) (g : Growth) (made f : Forest) → IsGrowing g → made ≡ with_new (label_for g.next piece) g.links
+    → place_fault p None g.next made ≡ None → f ≡ put_in p None g.next made
     → (record { links = f; next = g.next + 1 } ≡ grown p (tree piece nil nil) g) × IsGrowing (record { links = f; next = g.next + 1 })
 unfolding grown
 grown_one p piece g made f i new none is =
@@ -104,7 +111,8 @@ grown_one p piece g made f i new none is =
       record {
         order = subst IsForest (sym same) held.0;
         few = omega (arith, ap total same, held.1, i.few);
-        free = λ q above. ap (has q) same ∙ ap (λ n. ltb 0 n) (held.2 q ∙ count-with_new q l g.links) ∙ grind (arith, above, i.free q (omega (arith, above)), eqb_tells g.next q);
+        free = λ q above. ap (has q) same ∙ ap (λ n. ltb 0 n) (held.2 q ∙ count-with_new q l g.links)
+            ∙ grind (arith, above, i.free q (omega (arith, above)), eqb_tells g.next q);
       },
     )
 
@@ -127,13 +135,15 @@ pub grown_by-none : (p : ℕ) (r : Result (Trees Piece) Cause) (g : Growth) → 
 unfolding grown_by
 grown_by-none p r g e = ap (λ r. grown_by p r g) e ∙ ap (λ h. Ok h) (grown-none p g)
 
-grown_with : (p : ℕ) (piece : Piece) (r : Result (Trees Piece) Cause) (g : Growth) → IsGrowing g → p < g.next → grown_by p (with_tree piece r) g ≡ grown_by g.next r (grown p (tree piece nil nil) g)
+grown_with : (p : ℕ) (piece : Piece) (r : Result (Trees Piece) Cause) (g : Growth) → IsGrowing g → p < g.next
+    → grown_by p (with_tree piece r) g ≡ grown_by g.next r (grown p (tree piece nil nil) g)
 unfolding grown_by
 grown_with p piece (Ok below) g i low = ap (λ h. Ok h) (sym (grown-below p piece below g i low))
 grown_with p piece (Err cause) g i low = refl
 
 -- the node gets this key, and then its children are read
-pub node_grown : {piece : Piece} {key : ℕ} {g made h : Growth} (p : ℕ) (parent : Kind) (d : Data) → IsGrowing g → p < g.next → piece_of (Some parent) d ≡ Ok piece → key ≡ g.next → made ≡ grown p (tree piece nil nil) g
+pub node_grown : {piece : Piece} {key : ℕ} {g made h : Growth} (p : ℕ) (parent : Kind) (d : Data) → IsGrowing g → p < g.next
+    → piece_of (Some parent) d ≡ Ok piece → key ≡ g.next → made ≡ grown p (tree piece nil nil) g
     → grown_by key (children_told piece.kind d) made ≡ Ok h → grown_by p (tree_of d (Some parent)) g ≡ Ok h
 node_grown {piece} {key} {g} {made} p parent d i low of same is e =
     ap (λ r. grown_by p r g) (tree_of-node d parent ∙ ap (λ r. and_then r (with_children d)) of)
@@ -162,7 +172,8 @@ lone_node d parent = subst IsLone (sym (tree_of-node d parent)) (lone_by (piece_
     lone_by (Ok piece) = lone_with piece (children_told piece.kind d)
     lone_by (Err cause) = tt
 
-behind : (p : ℕ) (place : List ℕ) (r others : Result (Trees Piece) Cause) (g h : Growth) → IsLone r → p < g.next → grown_by p r g ≡ Ok h → grown_by p others h ≡ grown_by p (with_rest (told_under place r) others) g
+behind : (p : ℕ) (place : List ℕ) (r others : Result (Trees Piece) Cause) (g h : Growth) → IsLone r → p < g.next → grown_by p r g ≡ Ok h
+    → grown_by p others h ≡ grown_by p (with_rest (told_under place r) others) g
 unfolding grown_by
 behind p place (Ok nil) others g h lone low e = absurd lone
 behind p place (Ok (tree piece below (tree other more rest))) others g h lone low e = absurd lone
@@ -190,16 +201,20 @@ pub record IsReadTo (p : ℕ) (left : Result (Trees Piece) Cause) (g : Growth) (
   pub below : p < g.next
 
 -- the first of the items that are left is read
-pub read_on : {p : ℕ} {v : Value} {all : Result (Trees Piece) Cause} {g h first : Growth} (vs : List Value) (i n : ℕ) (kind : Kind) → IsReadTo p (trees_of (items_view (drop i vs)) n kind) g all first
-    → slice_get vs i ≡ Some v → grown_by p (tree_of (view v) (Some kind)) g ≡ Ok h → IsGrowing h → IsReadTo p (trees_of (items_view (drop (i + 1) vs)) (n + 1) kind) h all first
+pub read_on : {p : ℕ} {v : Value} {all : Result (Trees Piece) Cause} {g h first : Growth} (vs : List Value) (i n : ℕ) (kind : Kind)
+    → IsReadTo p (trees_of (items_view (drop i vs)) n kind) g all first
+    → slice_get vs i ≡ Some v → grown_by p (tree_of (view v) (Some kind)) g ≡ Ok h → IsGrowing h
+    → IsReadTo p (trees_of (items_view (drop (i + 1) vs)) (n + 1) kind) h all first
 read_on {p} {v} {g = g} {h = h} vs i n kind read is e growing = record {
-  same = behind p (child_place n) (tree_of (view v) (Some kind)) _ g h (lone_node (view v) kind) read.below e ∙ ap (λ r. grown_by p r g) (sym (trees_left vs i n v kind is)) ∙ read.same;
+  same = behind p (child_place n) (tree_of (view v) (Some kind)) _ g h (lone_node (view v) kind) read.below e
+      ∙ ap (λ r. grown_by p r g) (sym (trees_left vs i n v kind is)) ∙ read.same;
   growing = growing;
   below = omega (arith, read.below, next_up p _ g h e);
 }
 
 -- what refuses it, said from one place further up, refuses all
-pub tells_all : {p : ℕ} {v : Value} {all : Result (Trees Piece) Cause} {g first : Growth} (vs : List Value) (i n : ℕ) (kind : Kind) (e up : Fault) → IsReadTo p (trees_of (items_view (drop i vs)) n kind) g all first
+pub tells_all : {p : ℕ} {v : Value} {all : Result (Trees Piece) Cause} {g first : Growth} (vs : List Value) (i n : ℕ) (kind : Kind) (e up : Fault)
+    → IsReadTo p (trees_of (items_view (drop i vs)) n kind) g all first
     → slice_get vs i ≡ Some v → IsUnder (child_place n) e up → TellsStep e (tree_of (view v) (Some kind)) → TellsStep up all
 tells_all {p} {v} {all} {g} {first} vs i n kind e up read is above told =
     tells_where up _ all (λ cause refused. refused_by p all first cause (sym read.same ∙ refuses p _ g cause refused))

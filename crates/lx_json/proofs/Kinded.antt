@@ -37,20 +37,26 @@ placed_top _ text d other = refl
 
 -- ---- the first of the bad members
 
-pub first_children : (is_bad : Bool) (bs : List ℕ) → IsUtf8 bs → is_bad ≡ true → slice_cmp nat_cmp bs (codes "children") ≡ Greater → fields_or_bad (first_bad is_bad (Err (chars bs))) ≡ Err (BadState (member_place (codes "children")))
+pub first_children : (is_bad : Bool) (bs : List ℕ) → IsUtf8 bs → is_bad ≡ true → slice_cmp nat_cmp bs (codes "children") ≡ Greater
+    → fields_or_bad (first_bad is_bad (Err (chars bs))) ≡ Err (BadState (member_place (codes "children")))
 first_children is_bad bs utf8 bad is =
     ap (λ b. fields_or_bad (first_bad b (Err (chars bs)))) bad
-    ∙ ap (λ o. Err (BadState (member_place (match_ordering o (chars bs) (chars bs) (codes "children"))))) (sym (same_order bs (codes "children") utf8 refl) ∙ is)
+    ∙ ap (λ o. Err (BadState (member_place (match_ordering o (chars bs) (chars bs) (codes "children")))))
+    (sym (same_order bs (codes "children") utf8 refl) ∙ is)
 
-pub first_named : (bs : List ℕ) → IsUtf8 bs → slice_cmp nat_cmp bs (codes "children") ≢ Greater → fields_or_bad (first_bad true (Err (chars bs))) ≡ Err (BadState (member_place (chars bs)))
+pub first_named : (bs : List ℕ) → IsUtf8 bs → slice_cmp nat_cmp bs (codes "children") ≢ Greater
+    → fields_or_bad (first_bad true (Err (chars bs))) ≡ Err (BadState (member_place (chars bs)))
 first_named bs utf8 other = by_order (slice_cmp nat_cmp (chars bs) (codes "children")) (λ is. other (same_order bs (codes "children") utf8 refl ∙ is))
   where
-    by_order : (o : Ordering) → o ≢ Greater → ◌≡◌ {A = Result Fields Cause} (Err (BadState (member_place (match_ordering o (chars bs) (chars bs) (codes "children"))))) (Err (BadState (member_place (chars bs))))
+    by_order : (o : Ordering) → o ≢ Greater
+        → ◌≡◌ {A = Result Fields Cause} (Err (BadState (member_place (match_ordering o (chars bs) (chars bs) (codes "children")))))
+        (Err (BadState (member_place (chars bs))))
     by_order Less other = refl
     by_order Equal other = refl
     by_order Greater other = absurd (other refl)
 
-pub bad_children : (is_bad : Bool) (r : Result Fields (List ℕ)) (fields : Fields) → is_bad ≡ true → r ≡ Ok fields → fields_or_bad (first_bad is_bad r) ≡ Err (BadState (member_place (codes "children")))
+pub bad_children : (is_bad : Bool) (r : Result Fields (List ℕ)) (fields : Fields) → is_bad ≡ true → r ≡ Ok fields
+    → fields_or_bad (first_bad is_bad r) ≡ Err (BadState (member_place (codes "children")))
 bad_children is_bad r fields bad is = ap (λ b. fields_or_bad (first_bad b r)) bad ∙ ap (λ r. fields_or_bad (first_bad true r)) is
 
 -- ---- kinds that a node can be, and the root's kind, which is the root's alone
@@ -106,7 +112,8 @@ top_kind (Some _) text d kind e = absurd (cc)
 is_top : (kind : Kind) → kind ≡ Root → IsToldKind None kind
 is_top kind is = record { possible = ap is_possible is ∙ root_possible; below = λ some. absurd (cc); top = λ none. is }
 
-placed_below : (parent : Kind) (o : Option Kind) (text : List ℕ) (d : Data) (kind : Kind) → ((k : Kind) → o ≡ Some k → is_possible k ≡ true) → placed_kind (Some parent) o text d ≡ Ok kind → IsToldKind (Some parent) kind
+placed_below : (parent : Kind) (o : Option Kind) (text : List ℕ) (d : Data) (kind : Kind) → ((k : Kind) → o ≡ Some k → is_possible k ≡ true)
+    → placed_kind (Some parent) o text d ≡ Ok kind → IsToldKind (Some parent) kind
 placed_below parent None text d kind each e = absurd (cc)
 placed_below parent (Some k) text d kind each e =
     let held = if_held (may_hold parent k) (kind_told k d) kind _ e in

@@ -60,12 +60,14 @@ listed-other None kind is = refl
 listed-other (Some (array es)) kind is = absurd (grind (arith, is))
 listed-other (Some _) kind is = refl
 
-pub children_told-list : {b : Bool} (kind : Kind) (d : Data) (ds : Items) → b ≡ is_element kind → b ≡ true → option_and_then as_array (get (codes "children") d) ≡ Some ds → children_told kind d ≡ trees_of ds 0 kind
+pub children_told-list : {b : Bool} (kind : Kind) (d : Data) (ds : Items) → b ≡ is_element kind → b ≡ true
+    → option_and_then as_array (get (codes "children") d) ≡ Some ds → children_told kind d ≡ trees_of ds 0 kind
 unfolding children_told
 children_told-list kind d ds same element is =
     ap (λ b. if b then listed_in (get (codes "children") d) kind else Ok nil) (sym same ∙ element) ∙ listed-array (get (codes "children") d) ds kind is
 
-pub children_told-none : {b : Bool} (kind : Kind) (d : Data) → b ≡ is_element kind → b ≡ true → option_and_then as_array (get (codes "children") d) ≡ None → children_told kind d ≡ Ok nil
+pub children_told-none : {b : Bool} (kind : Kind) (d : Data) → b ≡ is_element kind → b ≡ true → option_and_then as_array (get (codes "children") d) ≡ None
+    → children_told kind d ≡ Ok nil
 unfolding children_told
 children_told-none kind d same element is =
     ap (λ b. if b then listed_in (get (codes "children") d) kind else Ok nil) (sym same ∙ element) ∙ listed-other (get (codes "children") d) kind is
@@ -77,12 +79,17 @@ children_told-leaf kind d same leaf = ap (λ b. if b then listed_in (get (codes 
 -- ---- items
 
 -- the items from one on are that one and those after it
-pub trees_left : (vs : List Value) (i n : ℕ) (v : Value) (kind : Kind) → slice_get vs i ≡ Some v → trees_of (items_view (drop i vs)) n kind ≡ with_rest (told_under (child_place n) (tree_of (view v) (Some kind))) (trees_of (items_view (drop (i + 1) vs)) (n + 1) kind)
+pub trees_left : (vs : List Value) (i n : ℕ) (v : Value) (kind : Kind) → slice_get vs i ≡ Some v
+    → trees_of (items_view (drop i vs)) n kind
+    ≡ with_rest (told_under (child_place n) (tree_of (view v) (Some kind))) (trees_of (items_view (drop (i + 1) vs)) (n + 1) kind)
 unfolding trees_of
 trees_left [] zero n v kind is = absurd (grind (arith, is))
 trees_left [] (suc i) n v kind is = absurd (grind (arith, is))
-trees_left (x ∷ vs) zero n v kind is = let same : x ≡ v = grind (arith, is) in ap (λ v. with_rest (told_under (child_place n) (tree_of (view v) (Some kind))) (trees_of (items_view vs) (n + 1) kind)) same
-trees_left (x ∷ vs) (suc i) n v kind is = trees_left vs i n v kind is ∙ ap (λ k. with_rest (told_under (child_place n) (tree_of (view v) (Some kind))) (trees_of (items_view (drop k (x ∷ vs))) (n + 1) kind)) (next_place i)
+trees_left (x ∷ vs) zero n v kind is = let same : x ≡ v =
+    grind (arith, is) in ap (λ v. with_rest (told_under (child_place n) (tree_of (view v) (Some kind))) (trees_of (items_view vs) (n + 1) kind)) same
+trees_left (x ∷ vs) (suc i) n v kind is =
+    trees_left vs i n v kind is
+    ∙ ap (λ k. with_rest (told_under (child_place n) (tree_of (view v) (Some kind))) (trees_of (items_view (drop k (x ∷ vs))) (n + 1) kind)) (next_place i)
   where
     next_place : (i : ℕ) → suc (i + 1) ≡ suc i + 1
     next_place i = omega arith

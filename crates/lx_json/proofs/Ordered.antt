@@ -16,16 +16,20 @@ above : (a d : ℕ) (o : Ordering) → 128 ≤ a → ltb d 128 ≡ true → orde
 above a d o high low = grind (arith, nat_tests, high, low)
 
 -- bytes that begin with those of a character
-first : (bs rest : List ℕ) (c d : ℕ) (ds : List ℕ) (o : Ordering) → bs ≡ encode c ++ rest → ltb d 128 ≡ true → slice_cmp nat_cmp rest ds ≡ o → slice_cmp nat_cmp bs (d ∷ ds) ≡ ordering_then (nat_cmp c d) o
+first : (bs rest : List ℕ) (c d : ℕ) (ds : List ℕ) (o : Ordering) → bs ≡ encode c ++ rest → ltb d 128 ≡ true → slice_cmp nat_cmp rest ds ≡ o
+    → slice_cmp nat_cmp bs (d ∷ ds) ≡ ordering_then (nat_cmp c d) o
 first [] rest c d ds o is low same = absurd (omega (arith, ap length is, length-append (encode c) rest, length-encode c, (len_utf8_bounds c).0))
 first (b ∷ bs) rest c d ds o is low same = elim (leb_tells 128 c) [
   | inl high ↦
-      let up : 128 ≤ b = elim (leb_tells 128 b) [ inl up ↦ up.1 | inr down ↦ absurd (omega (arith, high.1, down.1, char_from_byte (b ∷ bs) rest c is down.1 (omega arith))) ] in
+      let up : 128 ≤ b =
+      elim (leb_tells 128 b)
+      [ inl up ↦ up.1 | inr down ↦ absurd (omega (arith, high.1, down.1, char_from_byte (b ∷ bs) rest c is down.1 (omega arith))) ] in
       above b d (slice_cmp nat_cmp bs ds) up low ∙ sym (above c d o high.1 low)
   | inr ascii ↦
       let here : b ≡ c = byte_from_char (b ∷ bs) rest c is ascii.1 in
       let there : bs ≡ rest = ap (λ n. drop (0 + n) (b ∷ bs)) (sym (len_utf8_ascii c ascii.1)) ∙ drop_past_char (b ∷ bs) rest 0 c is in
-      ap (λ b. ordering_then (nat_cmp b d) (slice_cmp nat_cmp bs ds)) here ∙ ap (λ bs. ordering_then (nat_cmp c d) (slice_cmp nat_cmp bs ds)) there ∙ ap (ordering_then (nat_cmp c d)) same
+      ap (λ b. ordering_then (nat_cmp b d) (slice_cmp nat_cmp bs ds)) here ∙ ap (λ bs. ordering_then (nat_cmp c d) (slice_cmp nat_cmp bs ds)) there
+      ∙ ap (ordering_then (nat_cmp c d)) same
 ]
 
 none : (bs rest : List ℕ) (c : ℕ) → bs ≡ encode c ++ rest → slice_cmp nat_cmp bs [] ≡ Greater

@@ -48,12 +48,15 @@ rooted_next next piece g is = omega (arith, ap (λ (g : Growth). g.next) is)
 
 -- ---- with what is below it
 
-filled : (next : ℕ) (piece : Piece) (r : Result (Trees Piece) Cause) (made h : Growth) → made ≡ rooted_growth next (tree piece nil nil) → grown_by 0 r made ≡ Ok h → h.next ≢ next → rooted_by next (and_then (with_tree piece r) if_filled) ≡ Ok h
+filled : (next : ℕ) (piece : Piece) (r : Result (Trees Piece) Cause) (made h : Growth) → made ≡ rooted_growth next (tree piece nil nil)
+    → grown_by 0 r made ≡ Ok h → h.next ≢ next → rooted_by next (and_then (with_tree piece r) if_filled) ≡ Ok h
 unfolding grown_by grown rooted_by rooted_growth
 filled next piece (Ok nil) made h is e more =
     absurd (more (omega (arith, ap (λ (g : Growth). g.next) (ok_is (grown 0 nil made) h e), ap (λ (g : Growth). g.next) is)))
 filled next piece (Ok (tree other below rest)) made h is e more =
-    ap (λ h. Ok h) (growth_is _ _ _ _ (ap (λ n. last_below 0 (keyed n (tree other below rest)) (tree (label_for 0 piece) nil nil)) (sym (plain next))) (behind next (total (tree other below rest))) ∙ sym (ap (grown 0 (tree other below rest)) is) ∙ ok_is _ h e)
+    ap (λ h. Ok h)
+    (growth_is _ _ _ _ (ap (λ n. last_below 0 (keyed n (tree other below rest)) (tree (label_for 0 piece) nil nil)) (sym (plain next)))
+    (behind next (total (tree other below rest))) ∙ sym (ap (grown 0 (tree other below rest)) is) ∙ ok_is _ h e)
   where
     plain : (n : ℕ) → n + 0 ≡ n
     plain n = omega arith
@@ -62,7 +65,8 @@ filled next piece (Ok (tree other below rest)) made h is e more =
     behind n m = omega arith
 filled next piece (Err cause) made h is e more = absurd (cc)
 
-empty : (next : ℕ) (piece : Piece) (r : Result (Trees Piece) Cause) (made h : Growth) → made ≡ rooted_growth next (tree piece nil nil) → grown_by 0 r made ≡ Ok h → h.next ≡ next → and_then (with_tree piece r) if_filled ≡ Err EmptyState
+empty : (next : ℕ) (piece : Piece) (r : Result (Trees Piece) Cause) (made h : Growth) → made ≡ rooted_growth next (tree piece nil nil)
+    → grown_by 0 r made ≡ Ok h → h.next ≡ next → and_then (with_tree piece r) if_filled ≡ Err EmptyState
 unfolding grown_by grown rooted_growth
 empty next piece (Ok nil) made h is e none = refl
 empty next piece (Ok (tree other below rest)) made h is e none =
@@ -70,17 +74,20 @@ empty next piece (Ok (tree other below rest)) made h is e none =
 empty next piece (Err cause) made h is e none = absurd (cc)
 
 -- the root's tree is its piece, with what the object says of the children
-pub root_told : {piece : Piece} (d : Data) → is_some (as_object d) ≡ true → piece_of None d ≡ Ok piece → piece.kind ≡ Root → tree_of d None ≡ with_children d (root_piece piece.fields)
+pub root_told : {piece : Piece} (d : Data) → is_some (as_object d) ≡ true → piece_of None d ≡ Ok piece → piece.kind ≡ Root
+    → tree_of d None ≡ with_children d (root_piece piece.fields)
 root_told {piece} d is of top =
     tree_of-object d None is ∙ ap (λ r. and_then r (with_children d)) (of ∙ ap (λ k. Ok (record { kind = k; fields = piece.fields })) top)
 
-pub root_grown : {key : ℕ} {made h : Growth} (next : ℕ) (d : Data) (fields : Fields) → tree_of d None ≡ with_children d (root_piece fields) → made ≡ rooted_growth next (tree (root_piece fields) nil nil)
+pub root_grown : {key : ℕ} {made h : Growth} (next : ℕ) (d : Data) (fields : Fields) → tree_of d None ≡ with_children d (root_piece fields)
+    → made ≡ rooted_growth next (tree (root_piece fields) nil nil)
     → key ≡ 0 → grown_by key (children_told Root d) made ≡ Ok h → h.next ≢ next → rooted_by next (and_then (tree_of d None) if_filled) ≡ Ok h
 root_grown {made = made} {h = h} next d fields told alone root e more =
     ap (λ r. rooted_by next (and_then r if_filled)) told
     ∙ filled next (root_piece fields) (children_told Root d) made h alone (ap (λ k. grown_by k (children_told Root d) made) (sym root) ∙ e) more
 
-pub root_empty : {key : ℕ} {made h : Growth} (next : ℕ) (d : Data) (fields : Fields) → tree_of d None ≡ with_children d (root_piece fields) → made ≡ rooted_growth next (tree (root_piece fields) nil nil)
+pub root_empty : {key : ℕ} {made h : Growth} (next : ℕ) (d : Data) (fields : Fields) → tree_of d None ≡ with_children d (root_piece fields)
+    → made ≡ rooted_growth next (tree (root_piece fields) nil nil)
     → key ≡ 0 → grown_by key (children_told Root d) made ≡ Ok h → h.next ≡ next → and_then (tree_of d None) if_filled ≡ Err EmptyState
 root_empty {made = made} {h = h} next d fields told alone root e none =
     ap (λ r. and_then r if_filled) told
@@ -90,7 +97,8 @@ pub root_refused : (d : Data) (e : Fault) → is_some (as_object d) ≡ true →
 root_refused d e is told =
     tells_on e (tree_of d None) if_filled (tells_same e _ _ (tree_of-object d None is) (tells_on e (piece_of None d) (with_children d) told))
 
-pub below_refused : (d : Data) (fields : Fields) (e : Fault) → tree_of d None ≡ with_children d (root_piece fields) → TellsStep e (children_told Root d) → TellsStep e (and_then (tree_of d None) if_filled)
+pub below_refused : (d : Data) (fields : Fields) (e : Fault) → tree_of d None ≡ with_children d (root_piece fields) → TellsStep e (children_told Root d)
+    → TellsStep e (and_then (tree_of d None) if_filled)
 below_refused d fields e told refused =
     tells_on e (tree_of d None) if_filled (tells_same e _ _ told (tells_on e (children_told Root d) _ refused))
 

@@ -19,7 +19,8 @@ tells_same (fault.Cause cause) part whole same told = same ∙ told
 tells_same fault.Memory part whole same told = tt
 
 -- a place that is spelled so
-pub tells_at : {A : Type 0} (place spelled : List ℕ) (e : Fault) (r : Result A Cause) → spelled ≡ place → IsRefusedFor (BadState spelled) e → r ≡ Err (BadState place) → TellsStep e r
+pub tells_at : {A : Type 0} (place spelled : List ℕ) (e : Fault) (r : Result A Cause) → spelled ≡ place → IsRefusedFor (BadState spelled) e
+    → r ≡ Err (BadState place) → TellsStep e r
 tells_at place spelled e r same is refused = tells_as (BadState spelled) e r is (refused ∙ ap (λ place. Err (BadState place)) (sym same))
 
 pub told_of : {X E : Type 0} (r : Result X E) (P Q : X → Type 0) → IfOk r P → ((x : X) → P x → Q x) → IfOk r Q
@@ -43,6 +44,7 @@ tells_up place fault.Memory (fault.Cause other) r is told = absurd is
 tells_up place e fault.Memory r is told = tt
 
 -- whatever refuses the one for a cause refuses the other
-pub tells_where : {A B : Type 0} (e : Fault) (r : Result A Cause) (s : Result B Cause) → ((cause : Cause) → r ≡ Err cause → s ≡ Err cause) → TellsStep e r → TellsStep e s
+pub tells_where : {A B : Type 0} (e : Fault) (r : Result A Cause) (s : Result B Cause) → ((cause : Cause) → r ≡ Err cause → s ≡ Err cause) → TellsStep e r
+    → TellsStep e s
 tells_where (fault.Cause cause) r s each told = each cause told
 tells_where fault.Memory r s each told = tt

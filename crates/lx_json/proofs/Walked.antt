@@ -23,7 +23,8 @@ marked_none w order = record {
   here = depth-root w.forest order;
 }
 
-step_left : (o : Option (ℕ × ℕ)) (f : Forest) (q : ℕ) → IfSome o (λ next. from f q ≡ q ∷ from f next.0) → IfNone o (from f q ≡ q ∷ []) → from f q ≡ q ∷ left_from f o
+step_left : (o : Option (ℕ × ℕ)) (f : Forest) (q : ℕ) → IfSome o (λ next. from f q ≡ q ∷ from f next.0) → IfNone o (from f q ≡ q ∷ [])
+    → from f q ≡ q ∷ left_from f o
 step_left None f q next last = last
 step_left (Some at) f q next last = next
 
@@ -39,11 +40,13 @@ marked_by q w v e = (answered (unknown w.forest q) (marked_in w.forest (q ∷ []
 pub forest_by : (first w v : Working) (at : Option (ℕ × ℕ)) (q : ℕ) → IsMarkedTo first w at → mark_uncounted_step q w ≡ Ok v → v.forest ≡ first.forest
 forest_by first w v at q m e = ap (λ (x : Working). x.forest) (sym (marked_by q w v e)) ∙ m.forest
 
-pub depth_by : (first w v : Working) (at : Option (ℕ × ℕ)) (q d : ℕ) (g : Forest) → IsMarkedTo first w at → mark_uncounted_step q w ≡ Ok v → g ≡ v.forest → at ≡ Some (q, d) → depth g q ≡ Some d
+pub depth_by : (first w v : Working) (at : Option (ℕ × ℕ)) (q d : ℕ) (g : Forest) → IsMarkedTo first w at → mark_uncounted_step q w ≡ Ok v → g ≡ v.forest
+    → at ≡ Some (q, d) → depth g q ≡ Some d
 depth_by first w v at q d g m e own is = ap (λ f. depth f q) (own ∙ forest_by first w v at q m e) ∙ subst (λ o. IsAt first.forest o) is m.here
 
 pub marked_more : (first w v : Working) (at o : Option (ℕ × ℕ)) (q d : ℕ) (g : Forest) → IsMarkedTo first w at → mark_uncounted_step q w ≡ Ok v → g ≡ v.forest
-    → IfSome o (λ next. from g q ≡ q ∷ from g next.0) → IfNone o (from g q ≡ q ∷ []) → IfSome o (λ next. depth g next.0 ≡ Some next.1) → at ≡ Some (q, d) → IsMarkedTo first v o
+    → IfSome o (λ next. from g q ≡ q ∷ from g next.0) → IfNone o (from g q ≡ q ∷ []) → IfSome o (λ next. depth g next.0 ≡ Some next.1) → at ≡ Some (q, d)
+    → IsMarkedTo first v o
 marked_more first w v at o q d g m e own next last deep is =
     let same : v.forest ≡ first.forest = forest_by first w v at q m e in
     let left : from first.forest q ≡ q ∷ left_from first.forest o = subst (λ f. from f q ≡ q ∷ left_from f o) (own ∙ same) (step_left o g q next last) in
@@ -59,7 +62,8 @@ marked_more first w v at o q d g m e own next last deep is =
 
 -- fewer are left
 pub fewer : (first w v : Working) (at o : Option (ℕ × ℕ)) (q d : ℕ) (g : Forest) → IsMarkedTo first w at → mark_uncounted_step q w ≡ Ok v → g ≡ v.forest
-    → IfSome o (λ next. from g q ≡ q ∷ from g next.0) → IfNone o (from g q ≡ q ∷ []) → at ≡ Some (q, d) → length (left_from v.forest o) < length (left_from w.forest at)
+    → IfSome o (λ next. from g q ≡ q ∷ from g next.0) → IfNone o (from g q ≡ q ∷ []) → at ≡ Some (q, d)
+    → length (left_from v.forest o) < length (left_from w.forest at)
 fewer first w v at o q d g m e own next last is =
     let same : v.forest ≡ w.forest = forest_by first w v at q m e ∙ sym m.forest in
     let left : from w.forest q ≡ q ∷ left_from v.forest o =

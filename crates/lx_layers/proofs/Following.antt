@@ -34,9 +34,11 @@ last_told e h batch a last = let same : Some batch ≡ Some a.told = last ∙ a.
 
 pub fits_ahead : (e : Editor) (h : Hub) (batch : Told) (ops : List Op) → IsAhead e h → Some batch ≡ e.last → ops ≡ batch.ops → FitInTurn h.tip ops
 fits_ahead e h batch ops a last copied =
-    subst (λ (l : List Op). FitInTurn h.tip l) (sym (copied ∙ ap (λ (t : Told). t.ops) (last_told e h batch a last))) (leads_fit a.told.ops h.tip e.view a.leads)
+    subst (λ (l : List Op). FitInTurn h.tip l) (sym (copied ∙ ap (λ (t : Told). t.ops) (last_told e h batch a last)))
+    (leads_fit a.told.ops h.tip e.view a.leads)
 
-pub level_ahead : (e : Editor) (h g : Hub) (batch : Told) (ops : List Op) → IsAhead e h → Some batch ≡ e.last → ops ≡ batch.ops → g ≡ published ops h → AreLevel e g
+pub level_ahead : (e : Editor) (h g : Hub) (batch : Told) (ops : List Op) → IsAhead e h → Some batch ≡ e.last → ops ≡ batch.ops → g ≡ published ops h
+    → AreLevel e g
 level_ahead e h g batch ops a last copied made =
     let same : ops ≡ a.told.ops = copied ∙ ap (λ (t : Told). t.ops) (last_told e h batch a last) in
     record {
@@ -56,7 +58,8 @@ followed_still e f h g same still = record {
 -- ---- what was read
 
 -- a line that a value asks for, as bytes of that value
-pub answers_line : (old new : Editor) (bytes reply : List ℕ) (value : Data) (line : Line) → IsJson bytes value → Makes value (Ok line) → RepliesToLine old line reply new
+pub answers_line : (old new : Editor) (bytes reply : List ℕ) (value : Data) (line : Line) → IsJson bytes value → Makes value (Ok line)
+    → RepliesToLine old line reply new
     → Answers old bytes reply new
 unfolding Answers
 answers_line old new bytes reply value line is made replies = (Ok line, tells_of_json bytes value (Ok line) is made, replies)
@@ -81,7 +84,8 @@ no_json_other name bytes other refused = absurd refused
 pub beside_no_json : (old new : Editor) (h g : Hub) (bytes text : List ℕ) (cause : Cause) → TellsNoJson bytes (fault.Cause cause)
     → text ≡ reply_text (reply.Refused cause None) → new ≡ old → g ≡ h → AnswersIn (with_hub old h) bytes text (with_hub new g)
 beside_no_json old new h g bytes text cause refused told same still =
-    beside_views old new h g bytes text (no_json_other (codes "hub") bytes cause refused) (answers_no_json old new bytes text cause refused told same) (followed_still old new h g same still)
+    beside_views old new h g bytes text (no_json_other (codes "hub") bytes cause refused) (answers_no_json old new bytes text cause refused told same)
+    (followed_still old new h g same still)
 
 -- ---- lines by their values
 
@@ -89,7 +93,8 @@ beside_no_json old new h g bytes text cause refused told same still =
 pub one_value : (bytes : List ℕ) (value other : Data) → IsJson bytes value → IsJson bytes other → value ≡ other
 one_value bytes value other is also = let same : Some value ≡ Some other = sym is.1 ∙ also.1 in cc
 
-beside_member : (asked : Option Data) (old new : Editor) (h g : Hub) (bytes text : List ℕ) (value : Data) → IsJson bytes value → sole_member (codes "hub") value ≡ asked
+beside_member : (asked : Option Data) (old new : Editor) (h g : Hub) (bytes text : List ℕ) (value : Data) → IsJson bytes value
+    → sole_member (codes "hub") value ≡ asked
     → AnswersMember asked value old h text new g → AnswersIn (with_hub old h) bytes text (with_hub new g)
 beside_member (Some asked) old new h g bytes text value is sole p =
     subst (λ (e : Editor). AnswersIn (with_hub old h) bytes text (with_hub e g)) (sym p.1)

@@ -61,7 +61,8 @@ stays old new same = inl (record {
 
 -- ---- what is made of a draft
 
-moves_taken : (old : Editor) (tags : Tags) (moment : ℕ) (left : Left) (outcome : Outcome) (new : Editor) → IsTaken old (recording tags moment) left outcome new → Moves old.commits old.tree old.view old.last new
+moves_taken : (old : Editor) (tags : Tags) (moment : ℕ) (left : Left) (outcome : Outcome) (new : Editor) → IsTaken old (recording tags moment) left outcome new
+    → Moves old.commits old.tree old.view old.last new
 moves_taken old tags moment left (Committed commit ops) new p = inr (record {
   told = record { ops = ops; reads = p.reads };
   last = ap (λ (e : Editor). e.last) p.made;
@@ -79,7 +80,8 @@ moves_made : (left : Result Settled (Cause × Option ℕ)) (old : Editor) (tags 
 moves_made (Err refused) old tags moment outcome new p = stays old new p.1
 moves_made (Ok settled) old tags moment outcome new p = moves_taken old tags moment settled.left outcome new p.1
 
-moves_turned : (turn : Turn) (moment : ℕ) (old : Editor) (outcome : Outcome) (new : Editor) → IsTurnedBy turn moment old outcome new → Moves old.commits old.tree old.view old.last new
+moves_turned : (turn : Turn) (moment : ℕ) (old : Editor) (outcome : Outcome) (new : Editor) → IsTurnedBy turn moment old outcome new
+    → Moves old.commits old.tree old.view old.last new
 moves_turned turn moment old (Committed commit ops) new p = inr (record {
   told = record { ops = ops; reads = p.reads };
   last = ap (λ (e : Editor). e.last) p.made;
@@ -112,7 +114,8 @@ moves_gathered (Ok w) old tags outcome new p = inl (record {
   last = ap (λ (e : Editor). e.last) p.1;
 })
 
-moves_listening : (old : Editor) (listener : ListenerOf) (answer : Result ℕ Cause) (new : Editor) → IsListening old listener answer new → Moves old.commits old.tree old.view old.last new
+moves_listening : (old : Editor) (listener : ListenerOf) (answer : Result ℕ Cause) (new : Editor) → IsListening old listener answer new
+    → Moves old.commits old.tree old.view old.last new
 moves_listening old listener (Ok number) new p = inl (record {
   commits = ap (λ (e : Editor). e.commits) p.2;
   tree = ap (λ (e : Editor). e.tree) p.2;
@@ -123,10 +126,12 @@ moves_listening old listener (Err cause) new p = stays old new p.2
 
 -- ---- lines
 
-moves_form : (old : Editor) (tags : Tags) (form : Form) (bytes : List ℕ) (new : Editor) → RepliesTo old tags form bytes new → Moves old.commits old.tree old.view old.last new
+moves_form : (old : Editor) (tags : Tags) (form : Form) (bytes : List ℕ) (new : Editor) → RepliesTo old tags form bytes new
+    → Moves old.commits old.tree old.view old.last new
 unfolding RepliesTo IsUpdated IsFlushed IsDeferred IsDispatched IsRegistered IsLoaded
 moves_form old tags (Update script) bytes new p =
-    moves_made (left_by old.rules old.listeners (steps_of script) (begun old)) (with_nothing_pending old) (both_tags (pending_of old).tags tags) old.moment p.0 new p.1
+    moves_made (left_by old.rules old.listeners (steps_of script) (begun old)) (with_nothing_pending old) (both_tags (pending_of old).tags tags) old.moment p.0
+    new p.1
 moves_form old tags (Defer script) bytes new p = moves_gathered (gathered_by old (steps_of script)) old tags p.0 new p.1
 moves_form old tags Flush bytes new p =
     moves_made (rested_by old.rules (begun old)) (with_nothing_pending old) (both_tags (pending_of old).tags tags) old.moment p.0 new p.1
@@ -149,10 +154,12 @@ moves_at : (at : Option ℕ) (old : Editor) (tags : Tags) (form : Form) (bytes :
 moves_at None old tags form bytes new p = moves_form old tags form bytes new p
 moves_at (Some moment) old tags form bytes new p = moves_form (at_moment (Some moment) old) tags form bytes new p
 
-pub moves_line : (old : Editor) (line : Line) (bytes : List ℕ) (new : Editor) → RepliesToLine old line bytes new → Moves old.commits old.tree old.view old.last new
+pub moves_line : (old : Editor) (line : Line) (bytes : List ℕ) (new : Editor) → RepliesToLine old line bytes new
+    → Moves old.commits old.tree old.view old.last new
 moves_line old line bytes new p = moves_at line.at old line.tags line.form bytes new p
 
-moves_read : (old : Editor) (read : Result Line Cause) (bytes : List ℕ) (new : Editor) → Replies old read bytes new → Moves old.commits old.tree old.view old.last new
+moves_read : (old : Editor) (read : Result Line Cause) (bytes : List ℕ) (new : Editor) → Replies old read bytes new
+    → Moves old.commits old.tree old.view old.last new
 moves_read old (Ok line) bytes new p = moves_line old line bytes new p
 moves_read old (Err cause) bytes new p = stays old new p.1
 

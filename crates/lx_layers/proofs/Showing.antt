@@ -149,7 +149,8 @@ each_more ops bs s all each here n (inl less) =
     (λ t at. record { commit = at.commit; view = before_last n ops bs less ∙ at.view; shows = at.shows }) (each n less))
 each_more ops bs s all each here n (inr last) = inl (subst (λ (m : ℕ). IsAtCommit m (ops ∷ bs) s) (sym last) here)
 
-committed_along : (old new : Editor) (h g : Hub) (passed : List Served) (es : List Event) → h ≡ hub_after es → IsPassed old (batches es) (with_hub old h ∷ passed)
+committed_along : (old new : Editor) (h g : Hub) (passed : List Served) (es : List Event) → h ≡ hub_after es
+    → IsPassed old (batches es) (with_hub old h ∷ passed)
     → HasCommitted old.commits old.view new → IsFollowedBy old new h g → IsAlong (with_hub new g) (with_hub old h ∷ passed)
 committed_along old new h g passed es is known committed followed =
     let ops : List Op = committed.told.ops in
@@ -184,7 +185,8 @@ step _ _ _ _ passed (about_views e h line asked own) along =
     let same : h ≡ along.hub = let is : layer.Hub h ≡ layer.Hub along.hub = along.beside in cc in
     about_along (asked_about asked) e h passed along.events (same ∙ along.made) along.known
 step _ _ _ _ passed (about_outline e o line asked own) along = absurd (let no : layer.Outline o ≡ layer.Hub along.hub = along.beside in cc)
-step _ _ _ _ passed (beside_outline old new o p line bytes other answers noted) along = absurd (let no : layer.Outline o ≡ layer.Hub along.hub = along.beside in cc)
+step _ _ _ _ passed (beside_outline old new o p line bytes other answers noted) along =
+    absurd (let no : layer.Outline o ≡ layer.Hub along.hub = along.beside in cc)
 step _ _ _ _ passed (beside_views old new h g line bytes other answers followed) along =
     let same : h ≡ along.hub = let is : layer.Hub h ≡ layer.Hub along.hub = along.beside in cc in
     moved_along old new h g passed along.events (same ∙ along.made) along.known (moves_answers old line bytes new answers) followed
@@ -215,7 +217,8 @@ begin options is = record {
     number = refl;
     tip = refl;
     shows = root_shown;
-    each = λ n within. inl (record { commit = omega (arith, within); view = let none : n ≡ 0 = omega (arith, within) in ap (λ k. tree_of k []) none; shows = root_shown });
+    each = λ n within. inl
+        (record { commit = omega (arith, within); view = let none : n ≡ 0 = omega (arith, within) in ap (λ k. tree_of k []) none; shows = root_shown });
   };
 }
 
@@ -240,7 +243,8 @@ shown_along lag s earlier along =
     let each : AllByRecursion (IsAt es) (hub_after es).views = (lag es).views in
     let shown : AllByRecursion (λ (v : View). SomeServed (IsOfCommit v) all) (hub_after es).views =
     all_map (IsAt es) (λ (v : View). SomeServed (IsOfCommit v) all) (hub_after es).views (λ v at. of_commit v es all at along.known.each) each in
-    views_of s.layer along.hub all along.beside (subst (λ (h : Hub). AllByRecursion (λ (v : View). SomeServed (IsOfCommit v) all) h.views) (sym along.made) shown)
+    views_of s.layer along.hub all along.beside
+    (subst (λ (h : Hub). AllByRecursion (λ (v : View). SomeServed (IsOfCommit v) all) h.views) (sym along.made) shown)
 
 pub shown : ((es : List Event) → Lag es) → (options : Options) (lines : List (List ℕ)) (bytes : List ℕ) (s : Served) (earlier : List Served)
     → options.mode ≡ mode.Hub → LeadsThrough (new_served options) lines bytes [] (s ∷ earlier) → ViewsShow (s ∷ earlier) s.layer

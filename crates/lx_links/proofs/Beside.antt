@@ -61,7 +61,8 @@ pub previous_child : (f : Forest) (p i x : ℕ) → Sound f → slice_get (child
 previous_child f p i x s e =
     let up = parent_of-child f x p s (is_among-slice_get (children_of f p) x (i + 1) e) in
     let j : i + 1 ≡ suc i = omega arith in
-    ap (λ o. previous_in (children_below f o) x) up ∙ previous_in-slice_get (children_of f p) x i (kids_apart f p (i + 1) x s e) (ap (slice_get (children_of f p)) (sym j) ∙ e)
+    ap (λ o. previous_in (children_below f o) x) up
+    ∙ previous_in-slice_get (children_of f p) x i (kids_apart f p (i + 1) x s e) (ap (slice_get (children_of f p)) (sym j) ∙ e)
 
 -- ---- a walk through the children
 
@@ -69,7 +70,8 @@ last_at : (xs : List ℕ) (at : ℕ) → 0 + length xs ≡ at + 1 → last_of xs
 last_at [] at e = absurd (omega arith)
 last_at (x ∷ xs) at e = last_of-slice_get x xs ∙ ap (slice_get (x ∷ xs)) (let h : length xs ≡ at = omega (arith, e) in h)
 
-pub all_left : (f : Forest) (p size : ℕ) (front back : Option ℕ) → Sound f → size ≡ size_of f p → front ≡ first_child f p → back ≡ last_child f p → IsAmid f p 0 size front back
+pub all_left : (f : Forest) (p size : ℕ) (front back : Option ℕ) → Sound f → size ≡ size_of f p → front ≡ first_child f p → back ≡ last_child f p
+    → IsAmid f p 0 size front back
 all_left f p size front back s size_is first last = record {
   sound = s;
   within = omega (arith, size_is);
@@ -77,7 +79,8 @@ all_left f p size front back s size_is first last = record {
   back_is = λ at e. last ∙ last_at (children_of f p) at (omega (arith, size_is, e));
 }
 
-pub front_gone : (f : Forest) (p passed left key : ℕ) (front back next : Option ℕ) → IsAmid f p passed left front back → 0 < left → front ≡ Some key → next ≡ next_of f key → IsAmid f p (passed + 1) (left - 1) next back
+pub front_gone : (f : Forest) (p passed left key : ℕ) (front back next : Option ℕ) → IsAmid f p passed left front back → 0 < left → front ≡ Some key
+    → next ≡ next_of f key → IsAmid f p (passed + 1) (left - 1) next back
 front_gone f p passed left key front back next h more first is = record {
   sound = h.sound;
   within = omega (arith, h.within, more);
@@ -85,10 +88,12 @@ front_gone f p passed left key front back next h more first is = record {
   back_is = λ at e. h.back_is at (omega (arith, more, e));
 }
 
-at_back : (f : Forest) (p passed left key : ℕ) (front back : Option ℕ) → IsAmid f p passed left front back → 0 < left → back ≡ Some key → slice_get (children_of f p) (passed + (left - 1)) ≡ Some key
+at_back : (f : Forest) (p passed left key : ℕ) (front back : Option ℕ) → IsAmid f p passed left front back → 0 < left → back ≡ Some key
+    → slice_get (children_of f p) (passed + (left - 1)) ≡ Some key
 at_back f p passed left key front back h more last = sym (h.back_is (passed + (left - 1)) (omega (arith, more))) ∙ last
 
-pub back_gone : (f : Forest) (p passed left key : ℕ) (front back previous : Option ℕ) → IsAmid f p passed left front back → 0 < left → back ≡ Some key → previous ≡ previous_of f key → IsAmid f p passed (left - 1) front previous
+pub back_gone : (f : Forest) (p passed left key : ℕ) (front back previous : Option ℕ) → IsAmid f p passed left front back → 0 < left → back ≡ Some key
+    → previous ≡ previous_of f key → IsAmid f p passed (left - 1) front previous
 back_gone f p passed left key front back previous h more last is = record {
   sound = h.sound;
   within = omega (arith, h.within, more);
@@ -96,10 +101,12 @@ back_gone f p passed left key front back previous h more last is = record {
   back_is = λ at e. is ∙ previous_child f p at key h.sound (ap (slice_get (children_of f p)) (sym e) ∙ at_back f p passed left key front back h more last);
 }
 
-pub back_step : (f : Forest) (p passed left key : ℕ) (front back : Option ℕ) → IsAmid f p passed left front back → 0 < left → back ≡ Some key → take left (drop passed (children_of f p)) ≡ take (left - 1) (drop passed (children_of f p)) ++ key ∷ []
+pub back_step : (f : Forest) (p passed left key : ℕ) (front back : Option ℕ) → IsAmid f p passed left front back → 0 < left → back ≡ Some key
+    → take left (drop passed (children_of f p)) ≡ take (left - 1) (drop passed (children_of f p)) ++ key ∷ []
 back_step f p passed left key front back h more last = last_step (children_of f p) passed key left (at_back f p passed left key front back h more last) more
 
-pub front_step : (f : Forest) (p passed left key : ℕ) (front back : Option ℕ) → IsAmid f p passed left front back → 0 < left → front ≡ Some key → take left (drop passed (children_of f p)) ≡ key ∷ take (left - 1) (drop (passed + 1) (children_of f p))
+pub front_step : (f : Forest) (p passed left key : ℕ) (front back : Option ℕ) → IsAmid f p passed left front back → 0 < left → front ≡ Some key
+    → take left (drop passed (children_of f p)) ≡ key ∷ take (left - 1) (drop (passed + 1) (children_of f p))
 front_step f p passed left key front back h more first = first_step (children_of f p) passed key left (sym h.front_is ∙ first) more
 
 inside : (xs : List ℕ) (i : ℕ) → i < length xs → slice_get xs i ≡ None → ⊥
@@ -118,17 +125,20 @@ few_passed f p passed left front back h more = omega (arith, h.within, more, siz
 
 among_siblings : (f : Forest) (key at p : ℕ) → Sound f → parent_of f key ≡ Some p → parent_of f at ≡ parent_of f key → is_among at (siblings f key) ≡ true
 among_siblings f key at p s up same =
-    ap (λ o. is_among at (children_below f o)) up ∙ is_among-children_of f at p (in_order f key p s up) ∙ ap (λ o. is_named o p) (same ∙ up) ∙ grind (arith, eqb_tells p p)
+    ap (λ o. is_among at (children_below f o)) up ∙ is_among-children_of f at p (in_order f key p s up) ∙ ap (λ o. is_named o p) (same ∙ up)
+    ∙ grind (arith, eqb_tells p p)
 
 siblings_apart : (f : Forest) (key p : ℕ) → Sound f → parent_of f key ≡ Some p → NoRepeats (siblings f key)
 siblings_apart f key p s up = subst (λ o. NoRepeats (children_below f o)) (sym up) (NoRepeats-children_of f p (in_order f key p s up))
 
-pub step_back : (f : Forest) (key at previous p : ℕ) → Sound f → parent_of f key ≡ Some p → parent_of f at ≡ parent_of f key → previous_of f at ≡ Some previous → StepsBack (siblings f key) at previous
+pub step_back : (f : Forest) (key at previous p : ℕ) → Sound f → parent_of f key ≡ Some p → parent_of f at ≡ parent_of f key → previous_of f at ≡ Some previous
+    → StepsBack (siblings f key) at previous
 step_back f key at previous p s up same back =
     previous_in-place (siblings f key) at previous (siblings_apart f key p s up)
     (ap (λ o. previous_in (children_below f o) at) (sym same) ∙ back)
 
-pub still_sibling : (f : Forest) (key at previous p : ℕ) → Sound f → parent_of f key ≡ Some p → parent_of f at ≡ parent_of f key → previous_of f at ≡ Some previous → parent_of f previous ≡ parent_of f key
+pub still_sibling : (f : Forest) (key at previous p : ℕ) → Sound f → parent_of f key ≡ Some p → parent_of f at ≡ parent_of f key
+    → previous_of f at ≡ Some previous → parent_of f previous ≡ parent_of f key
 still_sibling f key at previous p s up same back = parent_of-previous f at previous p (in_order f key p s up) (same ∙ up) back ∙ sym up
 
 pub few_siblings : (f : Forest) (key p : ℕ) → Sound f → parent_of f key ≡ Some p → place_in (siblings f key) key < 2 ^ 32
@@ -136,7 +146,8 @@ few_siblings f key p s up =
     let at = slice_get-place_in (siblings f key) key (among_siblings f key key p s up refl) in
     omega (arith, slice_get_within (siblings f key) _ key at, ap (λ o. length (children_below f o)) up, size_of-le f p, s.small)
 
-pub counted_back : (f : Forest) (key at p index : ℕ) → Sound f → parent_of f key ≡ Some p → parent_of f at ≡ parent_of f key → previous_of f at ≡ None → place_in (siblings f key) at + index ≡ place_in (siblings f key) key → Some index ≡ index_of f key
+pub counted_back : (f : Forest) (key at p index : ℕ) → Sound f → parent_of f key ≡ Some p → parent_of f at ≡ parent_of f key → previous_of f at ≡ None
+    → place_in (siblings f key) at + index ≡ place_in (siblings f key) key → Some index ≡ index_of f key
 counted_back f key at p index s up same none sum =
     let zero_at : index_in (siblings f key) at ≡ Some 0 =
     index_in-first (siblings f key) at (among_siblings f key at p s up same) (ap (λ o. previous_in (children_below f o) at) (sym same) ∙ none) in

@@ -15,6 +15,7 @@ few_kinds : (f : Forest) (xs : List ℕ) → length (kinds_of f xs) ≤ length x
 few_kinds f [] = omega arith
 few_kinds f (x ∷ xs) = omega (arith, one_kind (kind_of f x) (kinds_of f xs) (length xs) (few_kinds f xs))
 
-pub few_child_kinds : (f : Forest) (p : ℕ) (kinds rest : List Kind) (all : List ℕ) → Sound f → kinds ++ rest ≡ kinds_of f all → all ≡ children_of f p → length kinds ≤ 4294967295
+pub few_child_kinds : (f : Forest) (p : ℕ) (kinds rest : List Kind) (all : List ℕ) → Sound f → kinds ++ rest ≡ kinds_of f all → all ≡ children_of f p
+    → length kinds ≤ 4294967295
 few_child_kinds f p kinds rest all s e is =
     omega (arith, ap length e, length-append kinds rest, few_kinds f all, ap length is, size_of-le f p, s.small)

@@ -42,7 +42,8 @@ all_none m h = same_map nat_cmp_total nat_cmp-IsAntisymmetric m empty (λ q. gon
   gone None e = refl
   gone (Some n) e = cc
 
-left_in : (y : ℕ) (ys : List ℕ) (m : Nodes) (q : ℕ) → (is_some (get m q) ≡ true → is_among q (y ∷ ys) ≡ true) → is_some (get (remove m y) q) ≡ true → is_among q ys ≡ true
+left_in : (y : ℕ) (ys : List ℕ) (m : Nodes) (q : ℕ) → (is_some (get m q) ≡ true → is_among q (y ∷ ys) ≡ true) → is_some (get (remove m y) q) ≡ true
+    → is_among q ys ≡ true
 left_in y ys m q h e = elim (eqb_tells q y) [
   | inl here ↦ absurd (false≢true (sym (ap is_some (remove_at m y q ∙ ap (λ b. cond b None (get m q)) here.0)) ∙ e))
   | inr other ↦
@@ -60,7 +61,9 @@ few_keys (y ∷ ys) m h =
 
 pub few_in : (m : Nodes) (f : Forest) → StandsFor (records m) f → len m ≤ total f
 few_in m f s =
-    let few = few_keys (named.preorder key_of f) m (λ q e. is_among-preorder key_of q f ∙ sym (is_some-record_at f q) ∙ ap is_some (sym (s.same q)) ∙ is_some-map (record_of q) (get m q) ∙ e) in
+    let few =
+    few_keys (named.preorder key_of f) m
+    (λ q e. is_among-preorder key_of q f ∙ sym (is_some-record_at f q) ∙ ap is_some (sym (s.same q)) ∙ is_some-map (record_of q) (get m q) ∙ e) in
     omega (arith, few, length-preorder key_of f)
 
 has_one : (m : Nodes) (y : ℕ) (o : Option Node) → get m y ≡ o → is_some o ≡ true → 0 < len m
@@ -70,7 +73,8 @@ has_one m y (Some n) e h = some_key (len m) refl where
   some_key zero z = let none : get m y ≡ None = ap (λ x. get x y) (empty_of_len m z) ∙ get-empty nat_cmp y in let no : None ≡ Some n = sym none ∙ e in cc
   some_key (suc k) z = omega arith
 
-still_in : (y : ℕ) (ys : List ℕ) (m : Nodes) (q : ℕ) → is_among y ys ≡ false → (is_among q (y ∷ ys) ≡ true → is_some (get m q) ≡ true) → is_among q ys ≡ true → is_some (get (remove m y) q) ≡ true
+still_in : (y : ℕ) (ys : List ℕ) (m : Nodes) (q : ℕ) → is_among y ys ≡ false → (is_among q (y ∷ ys) ≡ true → is_some (get m q) ≡ true) → is_among q ys ≡ true
+    → is_some (get (remove m y) q) ≡ true
 still_in y ys m q out h e = elim (eqb_tells q y) [
   | inl here ↦ absurd (false≢true (sym out ∙ ap (λ x. is_among x ys) (sym here.1) ∙ e))
   | inr other ↦ ap is_some (remove_at m y q ∙ ap (λ b. cond b None (get m q)) other.0) ∙ h (grind (arith, e, cases_Bool (eqb y q)))
@@ -99,15 +103,20 @@ other_root q e = ap (λ b. option_map (linked (siblings root_alone q) q) (cond b
 pub root_stands : StandsFor (records (insert empty 0 (lone_node Root plain_element))) root_alone
 root_stands = record {
   in_order = record { once = λ q. grind (arith, eqb_tells 0 q); rising = refl; root = refl };
-  same = λ q. ap (option_map (record_of q)) (insert_at empty 0 (lone_node Root plain_element) q ∙ ap (cond (eqb q 0) (Some (lone_node Root plain_element))) (get-empty nat_cmp q))
+  same = λ q. ap (option_map (record_of q))
+      (insert_at empty 0 (lone_node Root plain_element) q ∙ ap (cond (eqb q 0) (Some (lone_node Root plain_element))) (get-empty nat_cmp q))
       ∙ elim (eqb_tells q 0) [
-        | inl here ↦ let P : ℕ → Type 0 = λ x. option_map (record_of x) (cond (eqb x 0) (Some (lone_node Root plain_element)) None) ≡ record_at root_alone x in subst P (sym here.1) refl
-        | inr other ↦ ap (λ b. option_map (record_of q) (cond b (Some (lone_node Root plain_element)) None)) other.0 ∙ sym (other_root q (grind (arith, other, eqb_tells 0 q)))
+        | inl here ↦ let P : ℕ → Type 0 =
+            λ x. option_map (record_of x) (cond (eqb x 0) (Some (lone_node Root plain_element)) None) ≡ record_at root_alone x in subst P (sym here.1) refl
+        | inr other ↦
+            ap (λ b. option_map (record_of q) (cond b (Some (lone_node Root plain_element)) None)) other.0
+            ∙ sym (other_root q (grind (arith, other, eqb_tells 0 q)))
       ];
   small = omega arith;
 }
 
-pub new_records : (start new : Nodes) (k : ℕ) (n : Node) (fields : Fields) → start ≡ empty → k ≡ 0 → n ≡ lone_node Root fields → fields ≡ plain_element → new ≡ insert start k n → StandsFor (records new) root_alone
+pub new_records : (start new : Nodes) (k : ℕ) (n : Node) (fields : Fields) → start ≡ empty → k ≡ 0 → n ≡ lone_node Root fields → fields ≡ plain_element
+    → new ≡ insert start k n → StandsFor (records new) root_alone
 new_records start new k n fields empty_is root node plain put =
     let e : new ≡ insert empty 0 (lone_node Root plain_element) =
     put ∙ ap (λ m. insert m k n) empty_is ∙ ap (λ k. insert empty k n) root ∙ ap (insert empty 0) (node ∙ ap (lone_node Root) plain) in
@@ -116,18 +125,24 @@ new_records start new k n fields empty_is root node plain put =
 -- ---- edits
 
 -- the record of a key whose node is seen
-pub record_by : (m : Nodes) (f : Forest) (k : ℕ) (n : Node) → StandsFor (records m) f → Some n ≡ option_map node_of (record_at f k) → record_at f k ≡ Some (record_of k n)
+pub record_by : (m : Nodes) (f : Forest) (k : ℕ) (n : Node) → StandsFor (records m) f → Some n ≡ option_map node_of (record_at f k)
+    → record_at f k ≡ Some (record_of k n)
 record_by m f k n s e = sym (s.same k) ∙ ap (option_map (record_of k)) (get_stands m f k s ∙ sym e)
 
-mapped_over : (change : ℕ → Node → Node) (law : ℕ → Record → Record) (q : ℕ) (o : Option Node) → ((n : Node) → record_of q (change q n) ≡ law q (record_of q n)) → option_map (record_of q) (option_map (change q) o) ≡ option_map (law q) (option_map (record_of q) o)
+mapped_over : (change : ℕ → Node → Node) (law : ℕ → Record → Record) (q : ℕ) (o : Option Node) → ((n : Node) → record_of q (change q n) ≡ law q (record_of q n))
+    → option_map (record_of q) (option_map (change q) o) ≡ option_map (law q) (option_map (record_of q) o)
 mapped_over change law q None h = refl
 mapped_over change law q (Some n) h = ap (λ r. Some r) (h n)
 
 -- what changes in each node changes in its record
-pub records_after : (old new : Nodes) (f : Forest) (change : ℕ → Node → Node) (law : ℕ → Record → Record) (q : ℕ) → StandsFor (records old) f → Differs change old new → ((n : Node) → record_of q (change q n) ≡ law q (record_of q n)) → records new q ≡ option_map (law q) (record_at f q)
-records_after old new f change law q s d h = ap (option_map (record_of q)) (d.each q) ∙ mapped_over change law q (get old q) h ∙ ap (option_map (law q)) (s.same q)
+pub records_after : (old new : Nodes) (f : Forest) (change : ℕ → Node → Node) (law : ℕ → Record → Record) (q : ℕ) → StandsFor (records old) f
+    → Differs change old new → ((n : Node) → record_of q (change q n) ≡ law q (record_of q n)) → records new q ≡ option_map (law q) (record_at f q)
+records_after old new f change law q s d h =
+    ap (option_map (record_of q)) (d.each q) ∙ mapped_over change law q (get old q) h ∙ ap (option_map (law q)) (s.same q)
 
-inserted_record : (k q : ℕ) (kind : Kind) (fields : Fields) (o : Option Node) (r : Option Record) → option_map (record_of q) o ≡ r → option_map (record_of q) (cond (eqb q k) (Some (lone_node kind fields)) o) ≡ cond (eqb q k) (Some (lone (record { key = k; kind = kind; fields = fields }))) r
+inserted_record : (k q : ℕ) (kind : Kind) (fields : Fields) (o : Option Node) (r : Option Record) → option_map (record_of q) o ≡ r
+    → option_map (record_of q) (cond (eqb q k) (Some (lone_node kind fields)) o)
+    ≡ cond (eqb q k) (Some (lone (record { key = k; kind = kind; fields = fields }))) r
 inserted_record k q kind fields o r e = elim (eqb_tells q k) [
   | inl here ↦ ap (λ b. option_map (record_of q) (cond b (Some (lone_node kind fields)) o)) here.0
       ∙ ap (λ x. Some (record_of x (lone_node kind fields))) here.1
@@ -136,23 +151,28 @@ inserted_record k q kind fields o r e = elim (eqb_tells q k) [
       ∙ sym (ap (λ b. cond b (Some (lone (record { key = k; kind = kind; fields = fields }))) r) other.0)
 ]
 
-pub inserted_stands : (m : Nodes) (f : Forest) (k : ℕ) (kind : Kind) (fields : Fields) → StandsFor (records m) f → has k f ≡ false → total f < 4294967295 → StandsFor (records (insert m k (lone_node kind fields))) (with_new (record { key = k; kind = kind; fields = fields }) f)
+pub inserted_stands : (m : Nodes) (f : Forest) (k : ℕ) (kind : Kind) (fields : Fields) → StandsFor (records m) f → has k f ≡ false → total f < 4294967295
+    → StandsFor (records (insert m k (lone_node kind fields))) (with_new (record { key = k; kind = kind; fields = fields }) f)
 inserted_stands m f k kind fields s free room =
     let l : Label = record { key = k; kind = kind; fields = fields } in
     record {
       in_order = IsForest-with_new l f s.in_order free;
-      same = λ q. ap (option_map (record_of q)) (insert_at m k (lone_node kind fields) q) ∙ inserted_record k q kind fields (get m q) (record_at f q) (s.same q) ∙ sym (record_at-with_new l f q s.in_order free);
+      same = λ q. ap (option_map (record_of q)) (insert_at m k (lone_node kind fields) q) ∙ inserted_record k q kind fields (get m q) (record_at f q) (s.same q)
+          ∙ sym (record_at-with_new l f q s.in_order free);
       small = omega (arith, total-with_new l f, room);
     }
 
-pub set_records : (old new : Nodes) (f : Forest) (k : ℕ) (fields : Fields) → StandsFor (records old) f → Differs (λ q. node_after (Content fields) (is_named (Some k) q)) old new → StandsFor (records new) (with_fields k fields f)
+pub set_records : (old new : Nodes) (f : Forest) (k : ℕ) (fields : Fields) → StandsFor (records old) f
+    → Differs (λ q. node_after (Content fields) (is_named (Some k) q)) old new → StandsFor (records new) (with_fields k fields f)
 set_records old new f k fields s d = record {
   in_order = IsForest-with_fields k fields f s.in_order;
-  same = λ q. records_after old new f (λ q. node_after (Content fields) (is_named (Some k) q)) (refielded k fields) q s d (λ n. refl) ∙ sym (record_at-with_fields k fields f q);
+  same = λ q. records_after old new f (λ q. node_after (Content fields) (is_named (Some k) q)) (refielded k fields) q s d (λ n. refl)
+      ∙ sym (record_at-with_fields k fields f q);
   small = omega (arith, total-with_fields k fields f, s.small);
 }
 
-same_unlinked : (k p q : ℕ) (n m : Node) → n.parent ≡ Some p → record_of q (node_unlinked k p n.prev n.next q m) ≡ recs.unlinked k (record_of k n) q (record_of q m)
+same_unlinked : (k p q : ℕ) (n m : Node) → n.parent ≡ Some p
+    → record_of q (node_unlinked k p n.prev n.next q m) ≡ recs.unlinked k (record_of k n) q (record_of q m)
 same_unlinked k p q n m e =
     let G : Option ℕ → Record = λ up. record (record_of q (node_unlinked k p n.prev n.next q m)) {
       first = cond (is_named up q && is_none n.prev) n.next m.first;
@@ -161,7 +181,8 @@ same_unlinked k p q n m e =
     } in
     ap G (sym e)
 
-pub taken_records : (old new : Nodes) (f : Forest) (k p : ℕ) (n : Node) → StandsFor (records old) f → Some n ≡ option_map node_of (record_at f k) → n.parent ≡ Some p → Differs (node_unlinked k p n.prev n.next) old new → StandsFor (records new) (take_out k f)
+pub taken_records : (old new : Nodes) (f : Forest) (k p : ℕ) (n : Node) → StandsFor (records old) f → Some n ≡ option_map node_of (record_at f k)
+    → n.parent ≡ Some p → Differs (node_unlinked k p n.prev n.next) old new → StandsFor (records new) (take_out k f)
 taken_records old new f k p n s e up d = record {
   in_order = IsForest-take_out k f s.in_order;
   same = λ q. records_after old new f (node_unlinked k p n.prev n.next) (recs.unlinked k (record_of k n)) q s d (λ m. same_unlinked k p q n m up)
@@ -169,7 +190,9 @@ taken_records old new f k p n s e up d = record {
   small = omega (arith, total-take_out k f, s.small);
 }
 
-pub put_records : (old new : Nodes) (f : Forest) (k : ℕ) (kind : Kind) (fields : Fields) (n : Node) → StandsFor (records old) f → has k f ≡ false → total f < 4294967295 → n ≡ lone_node kind fields → new ≡ insert old k n → StandsFor (records new) (with_new (record { key = k; kind = kind; fields = fields }) f)
+pub put_records : (old new : Nodes) (f : Forest) (k : ℕ) (kind : Kind) (fields : Fields) (n : Node) → StandsFor (records old) f → has k f ≡ false
+    → total f < 4294967295 → n ≡ lone_node kind fields → new ≡ insert old k n
+    → StandsFor (records new) (with_new (record { key = k; kind = kind; fields = fields }) f)
 put_records old new f k kind fields n s free room node put =
     let e : new ≡ insert old k (lone_node kind fields) = put ∙ ap (insert old k) node in
     let P : Nodes → Type 0 = λ m. StandsFor (records m) (with_new (record { key = k; kind = kind; fields = fields }) f) in
@@ -183,11 +206,13 @@ few_held m f h = few_in m f h.stands
 pub all_held : (m : Nodes) (f : Forest) → Holds m f → len m ≡ total f
 all_held m f h = all_in m f h.stands
 
-pub new_stands : (start new : Nodes) (k : ℕ) (n : Node) (fields : Fields) → start ≡ empty → k ≡ 0 → n ≡ lone_node Root fields → fields ≡ plain_element → new ≡ insert start k n → Holds new root_alone
+pub new_stands : (start new : Nodes) (k : ℕ) (n : Node) (fields : Fields) → start ≡ empty → k ≡ 0 → n ≡ lone_node Root fields → fields ≡ plain_element
+    → new ≡ insert start k n → Holds new root_alone
 new_stands start new k n fields empty_is root node plain put =
     record { stands = new_records start new k n fields empty_is root node plain put; held = IsHeld-root_alone may_hold; suited = IsSuited-root_alone }
 
-pub put_stands : (old new : Nodes) (f : Forest) (k : ℕ) (kind : Kind) (fields : Fields) (n : Node) → Holds old f → has k f ≡ false → total f < 4294967295 → IsOfKind kind fields → n ≡ lone_node kind fields → new ≡ insert old k n → Holds new (with_new (record { key = k; kind = kind; fields = fields }) f)
+pub put_stands : (old new : Nodes) (f : Forest) (k : ℕ) (kind : Kind) (fields : Fields) (n : Node) → Holds old f → has k f ≡ false → total f < 4294967295
+    → IsOfKind kind fields → n ≡ lone_node kind fields → new ≡ insert old k n → Holds new (with_new (record { key = k; kind = kind; fields = fields }) f)
 put_stands old new f k kind fields n h free room of_kind node put = record {
   stands = put_records old new f k kind fields n h.stands free room node put;
   held = IsHeld-with_new may_hold f h.stands.in_order h.held (record { key = k; kind = kind; fields = fields }) free;
@@ -198,13 +223,15 @@ put_stands old new f k kind fields n h free room of_kind node put = record {
 right_fields : (f : Forest) (k : ℕ) (fields : Fields) (kind : Kind) → set_fault k fields f ≡ None → kind_of f k ≡ Some kind → IsOfKind kind fields
 right_fields f k fields kind none e = grind (arith, none, e)
 
-pub set_stands : (old new : Nodes) (f : Forest) (k : ℕ) (fields : Fields) → Holds old f → set_fault k fields f ≡ None → Differs (λ q. node_after (Content fields) (is_named (Some k) q)) old new → Holds new (with_fields k fields f)
+pub set_stands : (old new : Nodes) (f : Forest) (k : ℕ) (fields : Fields) → Holds old f → set_fault k fields f ≡ None
+    → Differs (λ q. node_after (Content fields) (is_named (Some k) q)) old new → Holds new (with_fields k fields f)
 set_stands old new f k fields h none d = record {
   stands = set_records old new f k fields h.stands d;
   held = IsHeld-with_fields may_hold f h.stands.in_order h.held k fields;
   suited = IsSuited-with_fields f k fields (λ l here. right_fields f k fields l.kind none (ap (λ o. option_map (λ m. m.kind) o) here)) h.suited;
 }
 
-pub taken_stands : (old new : Nodes) (f : Forest) (k p : ℕ) (n : Node) → Holds old f → Some n ≡ option_map node_of (record_at f k) → n.parent ≡ Some p → Differs (node_unlinked k p n.prev n.next) old new → Holds new (take_out k f)
+pub taken_stands : (old new : Nodes) (f : Forest) (k p : ℕ) (n : Node) → Holds old f → Some n ≡ option_map node_of (record_at f k) → n.parent ≡ Some p
+    → Differs (node_unlinked k p n.prev n.next) old new → Holds new (take_out k f)
 taken_stands old new f k p n h e up d =
     record { stands = taken_records old new f k p n h.stands e up d; held = IsHeld-take_out may_hold f h.stands.in_order h.held k; suited = IsSuited-take_out f k h.stands.in_order h.suited }

@@ -128,10 +128,12 @@ pub on_none : {A : Type 0} (o : Option A) (P : Type 0) → P → IfNone o P
 on_none None P h = h
 on_none (Some x) P h = tt
 
-pub next_of_leaf : (o : Option (ℕ × ℕ)) (f : Forest) (q d : ℕ) → Sound f → depth f q ≡ Some d → first_child f q ≡ None → IfSome o (λ n. behind f q ≡ from f n.0) → IfSome o (λ n. from f q ≡ q ∷ from f n.0)
+pub next_of_leaf : (o : Option (ℕ × ℕ)) (f : Forest) (q d : ℕ) → Sound f → depth f q ≡ Some d → first_child f q ≡ None → IfSome o (λ n. behind f q ≡ from f n.0)
+    → IfSome o (λ n. from f q ≡ q ∷ from f n.0)
 next_of_leaf None f q d s e none h = tt
 next_of_leaf (Some n) f q d s e none h = leaf_behind f q d s e none ∙ ap (λ ks. q ∷ ks) h
 
-pub last_leaf : (o : Option (ℕ × ℕ)) (f : Forest) (q d : ℕ) → Sound f → depth f q ≡ Some d → first_child f q ≡ None → IfNone o (behind f q ≡ []) → IfNone o (from f q ≡ q ∷ [])
+pub last_leaf : (o : Option (ℕ × ℕ)) (f : Forest) (q d : ℕ) → Sound f → depth f q ≡ Some d → first_child f q ≡ None → IfNone o (behind f q ≡ [])
+    → IfNone o (from f q ≡ q ∷ [])
 last_leaf None f q d s e none h = leaf_behind f q d s e none ∙ ap (λ ks. q ∷ ks) h
 last_leaf (Some n) f q d s e none h = tt

@@ -29,7 +29,8 @@ changed-elsewhere (Joined key behind before) n = refl
 elsewhere : (c : Change) (b : Bool) (o : Option Node) → b ≡ false → o ≡ option_map (node_after c b) o
 elsewhere c b o e = sym (option_map-same (node_after c b) (λ n. ap (λ b. node_after c b n) e ∙ changed-elsewhere c n) o)
 
-edited_at : (old : Nodes) (at : Option ℕ) (c : Change) (k : ℕ) (o : Option Node) (q : ℕ) → at ≡ Some k → get old k ≡ o → get (with_item old k (option_map (node_after c true) o)) q ≡ option_map (node_after c (is_named at q)) (get old q)
+edited_at : (old : Nodes) (at : Option ℕ) (c : Change) (k : ℕ) (o : Option Node) (q : ℕ) → at ≡ Some k → get old k ≡ o
+    → get (with_item old k (option_map (node_after c true) o)) q ≡ option_map (node_after c (is_named at q)) (get old q)
 edited_at old at c k None q e none = elim (eqb_tells q k) [
   | inl here ↦ let is : get old q ≡ None = ap (get old) here.1 ∙ none in is ∙ sym (ap (option_map (node_after c (is_named at q))) is)
   | inr other ↦ elsewhere c (is_named at q) (get old q) (ap (λ o. is_named o q) e ∙ other.0)
@@ -43,7 +44,8 @@ edited_at old at c k (Some n) q e there = insert_at old k (node_after c true n) 
 ]
 
 -- the node of the key was changed, where there is one
-pub node_differs : (old new : Nodes) (at : Option ℕ) (c : Change) (k : ℕ) → at ≡ Some k → new ≡ with_edit (node_after c true) k old → Differs (λ q. node_after c (is_named at q)) old new
+pub node_differs : (old new : Nodes) (at : Option ℕ) (c : Change) (k : ℕ) → at ≡ Some k → new ≡ with_edit (node_after c true) k old
+    → Differs (λ q. node_after c (is_named at q)) old new
 node_differs old new at c k e is = record { each = λ q. ap (λ m. get m q) is ∙ edited_at old at c k (get old k) q e refl }
 
 -- what holds of the item that is there

@@ -66,7 +66,8 @@ pub record Higher (f : Forest) (x y up_x up_y : ℕ) : Type 0 where
   pub level : IsLevel f up_x up_y
   pub fewer : length (ancestors f up_x) < length (ancestors f x)
 
-both_up : (f : Forest) (x y : ℕ) (o r : Option ℕ) → IsLevel f x y → parent_of f x ≡ o → parent_of f y ≡ r → same_named o r ≡ false → Higher f x y (unwrap_or o x) (unwrap_or r y)
+both_up : (f : Forest) (x y : ℕ) (o r : Option ℕ) → IsLevel f x y → parent_of f x ≡ o → parent_of f y ≡ r → same_named o r ≡ false
+    → Higher f x y (unwrap_or o x) (unwrap_or r y)
 both_up f x y None None h e k apart = cc
 both_up f x y None (Some q) h e k apart = absurd (omega (arith, none_up f x e, one_up f y q h.sound k, h.level))
 both_up f x y (Some p) None h e k apart = absurd (omega (arith, one_up f x p h.sound e, none_up f y k, h.level))
@@ -81,7 +82,8 @@ both_up f x y (Some p) (Some q) h e k apart = record {
   fewer = omega (arith, one_up f x p h.sound e);
 }
 
-pub higher : (f : Forest) (x y up_x up_y : ℕ) → IsLevel f x y → same_named (parent_of f x) (parent_of f y) ≡ false → up_x ≡ unwrap_or (parent_of f x) x → up_y ≡ unwrap_or (parent_of f y) y → Higher f x y up_x up_y
+pub higher : (f : Forest) (x y up_x up_y : ℕ) → IsLevel f x y → same_named (parent_of f x) (parent_of f y) ≡ false → up_x ≡ unwrap_or (parent_of f x) x
+    → up_y ≡ unwrap_or (parent_of f y) y → Higher f x y up_x up_y
 higher f x y up_x up_y h apart e k =
     let P : ℕ → Type 0 = λ z. Higher f x y z up_y in
     let Q : ℕ → Type 0 = λ z. Higher f x y (unwrap_or (parent_of f x) x) z in
@@ -93,7 +95,8 @@ attached_root f x s e up = elim (eqb_tells x 0) [
   | inr other ↦ absurd (false≢true (sym (within_top f 0 x s up other.1) ∙ e))
 ]
 
-meet : (f : Forest) (a b x y : ℕ) (o r : Option ℕ) → IsLevel f x y → parent_of f x ≡ o → parent_of f y ≡ r → same_named o r ≡ true → is_within f x a ≡ true → is_within f y b ≡ true → IsParted f a b x y
+meet : (f : Forest) (a b x y : ℕ) (o r : Option ℕ) → IsLevel f x y → parent_of f x ≡ o → parent_of f y ≡ r → same_named o r ≡ true → is_within f x a ≡ true
+    → is_within f y b ≡ true → IsParted f a b x y
 meet f a b x y None None h e k same first second = absurd (h.other (attached_root f x h.sound h.first e ∙ sym (attached_root f y h.sound h.second k)))
 meet f a b x y None (Some q) h e k same first second = cc
 meet f a b x y (Some p) None h e k same first second = cc
@@ -107,12 +110,14 @@ meet f a b x y (Some p) (Some q) h e k same first second = record {
   second = second;
 }
 
-pub met : (f : Forest) (a b x y : ℕ) → IsLevel f x y → same_named (parent_of f x) (parent_of f y) ≡ true → is_within f x a ≡ true → is_within f y b ≡ true → IsParted f a b x y
+pub met : (f : Forest) (a b x y : ℕ) → IsLevel f x y → same_named (parent_of f x) (parent_of f y) ≡ true → is_within f x a ≡ true → is_within f y b ≡ true
+    → IsParted f a b x y
 met f a b x y h same first second = meet f a b x y (parent_of f x) (parent_of f y) h refl refl same first second
 
 -- ---- which comes first
 
-compared_as : (m n : ℕ) (r : Ordering) → r ≡ nat_cmp m n → ((nat_cmp m n ≡ Less) × (m < n)) ⊎ (((nat_cmp m n ≡ Equal) × (m ≡ n)) ⊎ ((nat_cmp m n ≡ Greater) × (n < m)))
+compared_as : (m n : ℕ) (r : Ordering) → r ≡ nat_cmp m n
+    → ((nat_cmp m n ≡ Less) × (m < n)) ⊎ (((nat_cmp m n ≡ Equal) × (m ≡ n)) ⊎ ((nat_cmp m n ≡ Greater) × (n < m)))
 compared_as m n Less e = inl (sym e, ranked m n Less e)
 compared_as m n Equal e = inr (inl (sym e, ranked m n Equal e))
 compared_as m n Greater e = inr (inr (sym e, ranked m n Greater e))
@@ -120,7 +125,8 @@ compared_as m n Greater e = inr (inr (sym e, ranked m n Greater e))
 compared : (m n : ℕ) → ((nat_cmp m n ≡ Less) × (m < n)) ⊎ (((nat_cmp m n ≡ Equal) × (m ≡ n)) ⊎ ((nat_cmp m n ≡ Greater) × (n < m)))
 compared m n = compared_as m n (nat_cmp m n) refl
 
-depth_tells : (f : Forest) (q m : ℕ) (b : Bool) → is_attached f q ≡ b → cond b (Some (length (ancestors f q))) None ≡ Some m → (is_attached f q ≡ true) × (length (ancestors f q) ≡ m)
+depth_tells : (f : Forest) (q m : ℕ) (b : Bool) → is_attached f q ≡ b → cond b (Some (length (ancestors f q))) None ≡ Some m
+    → (is_attached f q ≡ true) × (length (ancestors f q) ≡ m)
 depth_tells f q m true e h = (e, grind (arith, h))
 depth_tells f q m false e h = cc
 
@@ -152,7 +158,8 @@ pub record Raised (f : Forest) (key steps up : ℕ) : Type 0 where
   pub same : steps ≡ 0 → up ≡ key
   pub attached : is_attached f up ≡ is_attached f key
 
-pub raised_by : (f : Forest) (key steps given up : ℕ) → given ≡ steps → is_within f up key ≡ has key f → length (ancestors f up) ≡ length (ancestors f key) - given → (given ≡ 0 → up ≡ key) → is_attached f up ≡ is_attached f key → Raised f key steps up
+pub raised_by : (f : Forest) (key steps given up : ℕ) → given ≡ steps → is_within f up key ≡ has key f
+    → length (ancestors f up) ≡ length (ancestors f key) - given → (given ≡ 0 → up ≡ key) → is_attached f up ≡ is_attached f key → Raised f key steps up
 raised_by f key steps given up is within above same attached = record {
   within = within;
   above = above ∙ ap (λ n. length (ancestors f key) - n) is;
@@ -166,7 +173,8 @@ test_equal x y e = grind (arith, e, eqb_tells x y)
 pub test_apart : (x y : ℕ) → eqb x y ≡ false → x ≢ y
 test_apart x y e = grind (arith, e, eqb_tells x y)
 
-pub one_above : (f : Forest) (a b m n x y : ℕ) → Sound f → depth f a ≡ Some m → depth f b ≡ Some n → Raised f a (m - n) x → Raised f b (n - m) y → x ≡ y → order_of f a b ≡ Some (nat_cmp m n)
+pub one_above : (f : Forest) (a b m n x y : ℕ) → Sound f → depth f a ≡ Some m → depth f b ≡ Some n → Raised f a (m - n) x → Raised f b (n - m) y → x ≡ y
+    → order_of f a b ≡ Some (nat_cmp m n)
 one_above f a b m n x y s da db rx ry same =
     let up_a = deep f a m da in
     let up_b = deep f b n db in
@@ -175,17 +183,20 @@ one_above f a b m n x y s da db rx ry same =
       | inl less ↦
           let is : y ≡ a = sym same ∙ rx.same (omega (arith, less.1)) in
           let under : is_within f a b ≡ true = ap (λ z. is_within f z b) (sym is) ∙ ry.within ∙ there_within f 0 b up_b.0 in
-          (order_of-below f a b h up_a.0 under (λ e. omega (arith, up_a.1, up_b.1, less.1, ap (λ z. length (ancestors f z)) e))).0 ∙ ap (λ o. Some o) (sym less.0)
+          (order_of-below f a b h up_a.0 under (λ e. omega (arith, up_a.1, up_b.1, less.1, ap (λ z. length (ancestors f z)) e))).0
+          ∙ ap (λ o. Some o) (sym less.0)
       | inr (inl even) ↦
           let is : b ≡ a = sym (ry.same (omega (arith, even.1))) ∙ sym same ∙ rx.same (omega (arith, even.1)) in
           ap (order_of f a) is ∙ order_of-self f a h up_a.0 ∙ ap (λ o. Some o) (sym even.0)
       | inr (inr more) ↦
           let is : x ≡ b = same ∙ ry.same (omega (arith, more.1)) in
           let under : is_within f b a ≡ true = ap (λ z. is_within f z a) (sym is) ∙ rx.within ∙ there_within f 0 a up_a.0 in
-          (order_of-below f b a h up_b.0 under (λ e. omega (arith, up_a.1, up_b.1, more.1, ap (λ z. length (ancestors f z)) e))).1 ∙ ap (λ o. Some o) (sym more.0)
+          (order_of-below f b a h up_b.0 under (λ e. omega (arith, up_a.1, up_b.1, more.1, ap (λ z. length (ancestors f z)) e))).1
+          ∙ ap (λ o. Some o) (sym more.0)
     ]
 
-pub levelled : (f : Forest) (a b m n x y : ℕ) → Sound f → depth f a ≡ Some m → depth f b ≡ Some n → Raised f a (m - n) x → Raised f b (n - m) y → x ≢ y → IsLevel f x y
+pub levelled : (f : Forest) (a b m n x y : ℕ) → Sound f → depth f a ≡ Some m → depth f b ≡ Some n → Raised f a (m - n) x → Raised f b (n - m) y → x ≢ y
+    → IsLevel f x y
 levelled f a b m n x y s da db rx ry other =
     let up_a = deep f a m da in
     let up_b = deep f b n db in
@@ -200,14 +211,17 @@ levelled f a b m n x y s da db rx ry other =
 apart_places : (xs : List ℕ) (x y i j : ℕ) → slice_get xs i ≡ Some x → slice_get xs j ≡ Some y → x ≢ y → i ≢ j
 apart_places xs x y i j e k other same = other (let is : Some x ≡ Some y = sym e ∙ ap (slice_get xs) same ∙ k in grind (arith, is))
 
-pub siblings_order : (f : Forest) (a b m n x y u v : ℕ) → Sound f → depth f a ≡ Some m → depth f b ≡ Some n → Raised f a (m - n) x → Raised f b (n - m) y → IsParted f x y u v → order_between (index_of f u) (index_of f v) ≡ order_of f a b
+pub siblings_order : (f : Forest) (a b m n x y u v : ℕ) → Sound f → depth f a ≡ Some m → depth f b ≡ Some n → Raised f a (m - n) x → Raised f b (n - m) y
+    → IsParted f x y u v → order_between (index_of f u) (index_of f v) ≡ order_of f a b
 siblings_order f a b m n x y u v s da db rx ry h =
     let up_a = deep f a m da in
     let up_b = deep f b n db in
     let i = in_order f u h.parent s h.first_below in
     let kids = children_of f h.parent in
-    let among_u : is_among u kids ≡ true = is_among-children_of f u h.parent i ∙ ap (λ o. is_named o h.parent) h.first_below ∙ grind (arith, eqb_tells h.parent h.parent) in
-    let among_v : is_among v kids ≡ true = is_among-children_of f v h.parent i ∙ ap (λ o. is_named o h.parent) h.second_below ∙ grind (arith, eqb_tells h.parent h.parent) in
+    let among_u : is_among u kids ≡ true =
+    is_among-children_of f u h.parent i ∙ ap (λ o. is_named o h.parent) h.first_below ∙ grind (arith, eqb_tells h.parent h.parent) in
+    let among_v : is_among v kids ≡ true =
+    is_among-children_of f v h.parent i ∙ ap (λ o. is_named o h.parent) h.second_below ∙ grind (arith, eqb_tells h.parent h.parent) in
     let at_u = slice_get-place_in kids u among_u in
     let at_v = slice_get-place_in kids v among_v in
     let index_u = index_in-among kids u among_u in
@@ -218,7 +232,13 @@ siblings_order f a b m n x y u v s da db rx ry h =
     ∙ ap (λ o. order_between (index_in kids u) (index_in (children_below f o) v)) h.second_below
     ∙ ap (λ o. order_between o (index_in kids v)) index_u ∙ ap (order_between (Some (place_in kids u))) index_v
     ∙ elim (compared (place_in kids u) (place_in kids v)) [
-      | inl less ↦ ap (λ o. Some o) less.0 ∙ sym (order_of-children f h.parent u v a b i h.attached (record { first = place_in kids u; second = place_in kids v; first_is = index_u; second_is = index_v; before = less.1 }) under_u under_v).0
+      | inl less ↦
+          ap (λ o. Some o) less.0
+          ∙ sym (order_of-children f h.parent u v a b i h.attached
+          (record { first = place_in kids u; second = place_in kids v; first_is = index_u; second_is = index_v; before = less.1 }) under_u under_v).0
       | inr (inl even) ↦ absurd (apart_places kids u v (place_in kids u) (place_in kids v) at_u at_v h.other even.1)
-      | inr (inr more) ↦ ap (λ o. Some o) more.0 ∙ sym (order_of-children f h.parent v u b a i h.attached (record { first = place_in kids v; second = place_in kids u; first_is = index_v; second_is = index_u; before = more.1 }) under_v under_u).1
+      | inr (inr more) ↦
+          ap (λ o. Some o) more.0
+          ∙ sym (order_of-children f h.parent v u b a i h.attached
+          (record { first = place_in kids v; second = place_in kids u; first_is = index_v; second_is = index_u; before = more.1 }) under_v under_u).1
     ]

@@ -45,7 +45,8 @@ behind_child : (f : Forest) (p b : ℕ) → Sound f → is_among b (children_of 
 behind_child f p b s e = ap (λ o. previous_in (children_below f o) b) (parent_of-child f b p s e)
 
 -- the child after which the gap before another one is
-pub behind_of : (f : Forest) (p b : ℕ) (before : Option ℕ) → Sound f → before ≡ Some b → is_place before (children_of f p) ≡ true → previous_of f b ≡ place_behind before (children_of f p)
+pub behind_of : (f : Forest) (p b : ℕ) (before : Option ℕ) → Sound f → before ≡ Some b → is_place before (children_of f p) ≡ true
+    → previous_of f b ≡ place_behind before (children_of f p)
 behind_of f p b before s is place =
     behind_child f p b s (sym (ap (λ o. is_place o (children_of f p)) is) ∙ place) ∙ sym (ap (λ o. place_behind o (children_of f p)) is)
 
@@ -59,7 +60,8 @@ known : (f : Forest) (k : ℕ) (b : Bool) → cond b None (Some (UnknownNode (Ke
 known f k true e = refl
 known f k false e = cc
 
-unbound : (k p : ℕ) (f : Forest) (a : Bool) (o : Option ℕ) (c : Bool) → cond (a || (is_some o || c)) (Some (BadPlace k)) None ≡ None → (a ≡ false) × (o ≡ None) × (c ≡ false)
+unbound : (k p : ℕ) (f : Forest) (a : Bool) (o : Option ℕ) (c : Bool) → cond (a || (is_some o || c)) (Some (BadPlace k)) None ≡ None
+    → (a ≡ false) × (o ≡ None) × (c ≡ false)
 unbound k p f true o c e = cc
 unbound k p f false (Some x) c e = cc
 unbound k p f false None true e = cc
@@ -99,12 +101,14 @@ placing p before k f e =
 
 -- ---- what placing leaves
 
-pub room_below : (m : Nodes) (f : Forest) (p : ℕ) (before : Option ℕ) (k : ℕ) (n : Node) → StandsFor (records m) f → place_fault p before k f ≡ None → get m p ≡ Some n → n.size + 1 < 2 ^ 32
+pub room_below : (m : Nodes) (f : Forest) (p : ℕ) (before : Option ℕ) (k : ℕ) (n : Node) → StandsFor (records m) f → place_fault p before k f ≡ None
+    → get m p ≡ Some n → n.size + 1 < 2 ^ 32
 room_below m f p before k n s none e =
     let size = (seen f p n (sym e ∙ get_stands m f p s)).size in
     omega (arith, size, size_of-lt p k f s.in_order (placing p before k f none).can, s.small)
 
-pub placed_records : (old new : Nodes) (f : Forest) (p k : ℕ) (before prev next : Option ℕ) → StandsFor (records old) f → place_fault p before k f ≡ None → prev ≡ place_behind before (children_of f p) → next ≡ before → Differs (node_linked k p prev next) old new → StandsFor (records new) (put_in p before k f)
+pub placed_records : (old new : Nodes) (f : Forest) (p k : ℕ) (before prev next : Option ℕ) → StandsFor (records old) f → place_fault p before k f ≡ None
+    → prev ≡ place_behind before (children_of f p) → next ≡ before → Differs (node_linked k p prev next) old new → StandsFor (records new) (put_in p before k f)
 placed_records old new f p k before prev next s none behind is d =
     let h = placing p before k f none in
     record {
@@ -124,10 +128,12 @@ fitting (Some outer) (Some inner) e = held (may_hold outer inner) e where
   held true e = refl
   held false e = cc
 
-pub place_room : (m : Nodes) (f : Forest) (p : ℕ) (before : Option ℕ) (k : ℕ) (n : Node) → Holds m f → place_fault p before k f ≡ None → get m p ≡ Some n → n.size + 1 < 2 ^ 32
+pub place_room : (m : Nodes) (f : Forest) (p : ℕ) (before : Option ℕ) (k : ℕ) (n : Node) → Holds m f → place_fault p before k f ≡ None → get m p ≡ Some n
+    → n.size + 1 < 2 ^ 32
 place_room m f p before k n h none e = room_below m f p before k n h.stands none e
 
-pub placed_stands : (old new : Nodes) (f : Forest) (p k : ℕ) (before prev next : Option ℕ) → Holds old f → place_fault p before k f ≡ None → prev ≡ place_behind before (children_of f p) → next ≡ before → Differs (node_linked k p prev next) old new → Holds new (put_in p before k f)
+pub placed_stands : (old new : Nodes) (f : Forest) (p k : ℕ) (before prev next : Option ℕ) → Holds old f → place_fault p before k f ≡ None
+    → prev ≡ place_behind before (children_of f p) → next ≡ before → Differs (node_linked k p prev next) old new → Holds new (put_in p before k f)
 placed_stands old new f p k before prev next h none behind is d =
     let free = placing p before k f none in
     record {

@@ -34,11 +34,13 @@ there f k rest e = ap (λ b. option_or (cond b None (Some (UnknownNode (Key k)))
 pub set_missing : (k : ℕ) (fields : Fields) (f : Forest) → has k f ≡ false → set_fault k fields f ≡ Some (UnknownNode (Key k))
 set_missing k fields f e = missing f k (wrong_fields (kind_of f k) fields) e
 
-set_seen : (k : ℕ) (fields : Fields) (f : Forest) (n : Node) (b : Bool) → Seen f k n → is_of_kind n.kind fields ≡ b → set_fault k fields f ≡ cond b None (Some (WrongKind n.kind))
+set_seen : (k : ℕ) (fields : Fields) (f : Forest) (n : Node) (b : Bool) → Seen f k n → is_of_kind n.kind fields ≡ b
+    → set_fault k fields f ≡ cond b None (Some (WrongKind n.kind))
 set_seen k fields f n b s e =
     there f k (wrong_fields (kind_of f k) fields) s.has ∙ ap (λ kind. wrong_fields kind fields) s.kind ∙ ap (λ b. cond b None (Some (WrongKind n.kind))) e
 
-pub set_wrong : (k : ℕ) (fields : Fields) (f : Forest) (n : Node) → Seen f k n → is_of_kind n.kind fields ≡ false → set_fault k fields f ≡ Some (WrongKind n.kind)
+pub set_wrong : (k : ℕ) (fields : Fields) (f : Forest) (n : Node) → Seen f k n → is_of_kind n.kind fields ≡ false
+    → set_fault k fields f ≡ Some (WrongKind n.kind)
 set_wrong k fields f n s e = set_seen k fields f n false s e
 
 pub set_fine : (k : ℕ) (fields : Fields) (f : Forest) (n : Node) → Seen f k n → is_of_kind n.kind fields ≡ true → set_fault k fields f ≡ None
@@ -56,9 +58,11 @@ detach_top k f n s e = detach_seen k f n None s e
 pub detach_fine : (k : ℕ) (f : Forest) (n : Node) (p : ℕ) → Seen f k n → n.parent ≡ Some p → detach_fault k f ≡ None
 detach_fine k f n p s e = detach_seen k f n (Some p) s e
 
-pub refused_by : (old new : Forest) (first : Option Cause) (e : Fault) (cause : Cause) → e ≡ fault.Cause cause → old ≢ nil → first ≡ Some cause → new ≡ old → RefusesEdit old first new e
+pub refused_by : (old new : Forest) (first : Option Cause) (e : Fault) (cause : Cause) → e ≡ fault.Cause cause → old ≢ nil → first ≡ Some cause → new ≡ old
+    → RefusesEdit old first new e
 refused_by old new first e cause is lives fault same = subst (RefusesEdit old first new) (sym is) (lives, fault, same)
 
 -- where no cause holds, memory ran out
-pub failed_by_memory : {T : Type 0} (r : Result T Fault) (old new : Forest) (first : Option Cause) → IsErrAnd r (λ y. y ≡ Memory) → first ≡ None → new ≡ nil → IfErr r (RefusesEdit old first new)
+pub failed_by_memory : {T : Type 0} (r : Result T Fault) (old new : Forest) (first : Option Cause) → IsErrAnd r (λ y. y ≡ Memory) → first ≡ None → new ≡ nil
+    → IfErr r (RefusesEdit old first new)
 failed_by_memory r old new first h none gone = memory_err r (RefusesEdit old first new) h (λ lives. none, gone)

@@ -99,7 +99,8 @@ spliced_differs old new k splice n t before within behind there is cut e =
     let x : Fields = fields.Text (record t { text = before ++ chars splice.text.now ++ behind }) in
     node_differs old new (Some k) (Content x) k refl
     (e ∙ ap (λ o. with_item old k (option_map (node_spliced splice) o)) there
-    ∙ ap (λ m. with_item old k (Some m)) (same_node splice n t (before ++ chars splice.text.now ++ behind) is (spliced_is splice t.text before within behind cut))
+    ∙ ap (λ m. with_item old k (Some m))
+    (same_node splice n t (before ++ chars splice.text.now ++ behind) is (spliced_is splice t.text before within behind cut))
     ∙ ap (λ o. with_item old k (option_map (node_after (Content x) true) o)) (sym there))
 
 -- the edit itself
@@ -115,7 +116,8 @@ edited_in_place (Ok x) splice n old text is fits made =
 edited_in_place (Err e) splice n old text is fits made = tt
 
 -- what is under the key then
-pub node_refielded : (old new : Nodes) (k : ℕ) (n : Node) (x : Fields) → Differs (λ q. node_after (Content x) (is_named (Some k) q)) old new → get old k ≡ Some n
+pub node_refielded : (old new : Nodes) (k : ℕ) (n : Node) (x : Fields) → Differs (λ q. node_after (Content x) (is_named (Some k) q)) old new
+    → get old k ≡ Some n
     → get new k ≡ Some (record n { fields = x })
 node_refielded old new k n x d there =
     let own : eqb k k ≡ true = grind (arith, eqb_tells k k) in
@@ -149,7 +151,8 @@ text_suited : (t : TextFields) (text : List ℕ) → is_of_kind Text (fields.Tex
 unfolding is_of_kind fits_kind is_text_of are_text_fields
 text_suited t text h = h
 
-label_suited : (o : Option Label) (kind : Kind) (x : Fields) → option_map (λ l. l.kind) o ≡ Some kind → option_map (λ l. l.fields) o ≡ Some x → is_suited o ≡ true
+label_suited : (o : Option Label) (kind : Kind) (x : Fields) → option_map (λ l. l.kind) o ≡ Some kind → option_map (λ l. l.fields) o ≡ Some x
+    → is_suited o ≡ true
     → is_of_kind kind x ≡ true
 label_suited None kind x e g h = cc
 label_suited (Some l) kind x e g h =
@@ -162,7 +165,8 @@ splice_fine m f k t text h kind is n told same =
     (ap (λ z. is_of_kind z (fields.Text (record t { text = text }))) same
     ∙ text_suited t text (label_suited (label_of f k) Text (fields.Text t) kind is (h.suited.each k)))
 
-pub splice_stands : (old new : Nodes) (f : Forest) (k : ℕ) (t : TextFields) (text : List ℕ) → Holds old f → kind_of f k ≡ Some Text → fields_of f k ≡ Some (fields.Text t)
+pub splice_stands : (old new : Nodes) (f : Forest) (k : ℕ) (t : TextFields) (text : List ℕ) → Holds old f → kind_of f k ≡ Some Text
+    → fields_of f k ≡ Some (fields.Text t)
     → TextNode old f k → Differs (λ q. node_after (Content (fields.Text (record t { text = text }))) (is_named (Some k) q)) old new
     → Holds new (with_fields k (fields.Text (record t { text = text })) f)
 splice_stands old new f k t text h kind is n d =

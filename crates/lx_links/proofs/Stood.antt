@@ -31,7 +31,8 @@ node_again q (Some n) r e = ap (option_map node_of) e
 pub get_stands : (m : Nodes) (f : Forest) (q : ℕ) → StandsFor (records m) f → get m q ≡ option_map node_of (record_at f q)
 get_stands m f q s = node_again q (get m q) (record_at f q) (s.same q)
 
-pub node_by : (held : Option Nodes) (s : Standing held) (f : Forest) (m : Nodes) (q : ℕ) → forest_in held s ≡ f → held ≡ Some m → get m q ≡ option_map node_of (record_at f q)
+pub node_by : (held : Option Nodes) (s : Standing held) (f : Forest) (m : Nodes) (q : ℕ) → forest_in held s ≡ f → held ≡ Some m
+    → get m q ≡ option_map node_of (record_at f q)
 node_by held s f m q e h = get_stands m f q (stood_by held s f m e h).stands
 
 pub no_node : (f : Forest) (q : ℕ) → f ≡ nil → None ≡ option_map node_of (record_at f q)
@@ -68,7 +69,8 @@ same_stands m n f h e = let P : Nodes → Type 0 = λ x. Holds x f in subst P (s
 -- ---- where two links differ
 
 -- what two maps say of equal items, the two forests say of equal nodes
-pub same_nodes : (m n : Nodes) (f g : Forest) (from : ℕ) (o : Option ℕ) → ((q : ℕ) → get m q ≡ node_at f q) → ((q : ℕ) → get n q ≡ node_at g q) → AreSameTo (get m) (get n) from o → AreSameTo (node_at f) (node_at g) from o
+pub same_nodes : (m n : Nodes) (f g : Forest) (from : ℕ) (o : Option ℕ) → ((q : ℕ) → get m q ≡ node_at f q) → ((q : ℕ) → get n q ≡ node_at g q)
+    → AreSameTo (get m) (get n) from o → AreSameTo (node_at f) (node_at g) from o
 same_nodes m n f g from None first second same = λ q up. sym (first q) ∙ same q up ∙ second q
 same_nodes m n f g from (Some to) first second same = (
   same.0,

@@ -44,7 +44,8 @@ capped-sum a b c d e g h i = omega (arith, h, i)
 pub counted_weight : (f : Forest) → capped (weight counted_in f) ≡ capped (weight characters_in f)
 counted_weight nil = refl
 counted_weight (tree l below rest) =
-    capped-sum (characters_of l.fields) (weight counted_in below) (weight characters_in below) (weight counted_in rest) (weight characters_in rest) 0 (counted_weight below) (counted_weight rest)
+    capped-sum (characters_of l.fields) (weight counted_in below) (weight characters_in below) (weight counted_in rest) (weight characters_in rest) 0
+    (counted_weight below) (counted_weight rest)
 
 item_counted : (l : Label) → capped (item_counted_in l) ≡ capped (item_characters_in l)
 unfolding capped
@@ -57,7 +58,8 @@ capped-parts a b c d e g h i j = omega (arith, h, i, j)
 pub counted_item_weight : (f : Forest) → capped (weight item_counted_in f) ≡ capped (weight item_characters_in f)
 counted_item_weight nil = refl
 counted_item_weight (tree l below rest) =
-    capped-parts (item_counted_in l) (item_characters_in l) (weight item_counted_in below) (weight item_characters_in below) (weight item_counted_in rest) (weight item_characters_in rest) (item_counted l) (counted_item_weight below) (counted_item_weight rest)
+    capped-parts (item_counted_in l) (item_characters_in l) (weight item_counted_in below) (weight item_characters_in below) (weight item_counted_in rest)
+    (weight item_characters_in rest) (item_counted l) (counted_item_weight below) (counted_item_weight rest)
 
 -- ---- they are few
 
@@ -65,7 +67,8 @@ few_items : (kind : Kind) → cond (is_item kind) 1 0 ≤ 1
 few_items kind = elim (cases_Bool (is_item kind)) [ inl item ↦ rw item (omega arith) | inr other ↦ rw other (omega arith) ]
 
 few_item_characters : (kind : Kind) (fields : Fields) → cond (is_item kind) (capped (characters_of fields)) 0 ≤ 2 ^ 64 - 1
-few_item_characters kind fields = elim (cases_Bool (is_item kind)) [ inl item ↦ rw item (capped-le (characters_of fields)) | inr other ↦ rw other (omega arith) ]
+few_item_characters kind fields =
+    elim (cases_Bool (is_item kind)) [ inl item ↦ rw item (capped-le (characters_of fields)) | inr other ↦ rw other (omega arith) ]
 
 pub few_own : (kind : Kind) (fields : Fields) (s : Sums) → s ≡ own_sums kind fields → AreFew s
 few_own kind fields s e =
@@ -115,7 +118,9 @@ root_counts = refl
 pub new_counts : (n more : Sums) (f : Forest) (l : Label) → n ≡ sums_of f → more ≡ own_sums l.kind l.fields
     → plus n more ≡ sums_of (with_new l f)
 new_counts n more f l e g =
-    rw (e, g) (same_sums _ _ (omega (arith, weight-with_new counted_in l f)) (omega (arith, weight-with_new items_in l f)) (omega (arith, weight-with_new item_counted_in l f)))
+    rw (e, g)
+    (same_sums _ _ (omega (arith, weight-with_new counted_in l f)) (omega (arith, weight-with_new items_in l f))
+    (omega (arith, weight-with_new item_counted_in l f)))
 
 label_there : (f : Forest) (k : ℕ) (s : Spot Label) (fields : Fields) → spot f k ≡ Some s
     → fields_at k fields s.label ≡ record s.label { fields = fields }
@@ -136,7 +141,8 @@ spot_seen f k n e = elim (cases_option (spot f k)) [
 
 set_at : (n old new : Sums) (f : Forest) (k : ℕ) (fields : Fields) (s : Spot Label) → IsForest f → spot f k ≡ Some s → n ≡ sums_of f
     → old ≡ own_sums s.label.kind s.label.fields → new ≡ own_sums s.label.kind fields → plus n new ≡ plus (sums_of (with_fields k fields f)) old
-set_at n old new f k fields s h e c o w = rw (c, o, w) (same_sums _ _ (set_weight counted_in f k fields s h e) (set_weight items_in f k fields s h e) (set_weight item_counted_in f k fields s h e))
+set_at n old new f k fields s h e c o w =
+    rw (c, o, w) (same_sums _ _ (set_weight counted_in f k fields s h e) (set_weight items_in f k fields s h e) (set_weight item_counted_in f k fields s h e))
 
 -- at a node that the forest has
 pub node_counts : (n old new : Sums) (f : Forest) (k : ℕ) (fields : Fields) (node : Node)
@@ -149,7 +155,8 @@ node_counts n old new f k fields node h e told before after =
     (after ∙ ap (λ kind. own_sums kind fields) there.1.1.0)
 
 -- over the answer of the look-up, at a node of links that stand for a forest
-pub set_counts : (n old new : Sums) (held : Option Nodes) (s : Standing held) (m : Nodes) (f : Forest) (k : ℕ) (fields : Fields) (o : Option (Bor Node)) (node : Bor Node)
+pub set_counts : (n old new : Sums) (held : Option Nodes) (s : Standing held) (m : Nodes) (f : Forest) (k : ℕ) (fields : Fields) (o : Option (Bor Node))
+    (node : Bor Node)
     → forest_in held s ≡ f → Holds m f → AreCounted n (forest_in held s) → option_copied o ≡ option_map node_of (record_at f k) → o ≡ Some node
     → old ≡ own_sums node.now.kind node.now.fields → new ≡ own_sums node.now.kind fields → plus n new ≡ plus (sums_of (with_fields k fields f)) old
 set_counts n old new held s m f k fields o node e h i seen at before after =
@@ -161,7 +168,8 @@ take_counts n k f e = e ∙ same_sums _ _ (sym (weight-take_out counted_in k f))
 pub put_counts : (n : Sums) (p k : ℕ) (before : Option ℕ) (f : Forest) → IsForest f → CanPut p k f → n ≡ sums_of f
     → n ≡ sums_of (put_in p before k f)
 put_counts n p k before f h c e =
-    e ∙ same_sums _ _ (sym (weight-put_in counted_in p before k f h c.parent c.outside)) (sym (weight-put_in items_in p before k f h c.parent c.outside)) (sym (weight-put_in item_counted_in p before k f h c.parent c.outside))
+    e ∙ same_sums _ _ (sym (weight-put_in counted_in p before k f h c.parent c.outside)) (sym (weight-put_in items_in p before k f h c.parent c.outside))
+    (sym (weight-put_in item_counted_in p before k f h c.parent c.outside))
 
 pub drop_counts : (n gone : Sums) (f : Forest) → n ≡ sums_of f → gone ≡ sums_of (without 0 f) → n ≡ plus (sums_of (drop_detached f)) gone
 drop_counts n gone f e g =
@@ -191,7 +199,8 @@ no_characters f e = sym (ap (λ g. capped (weight characters_in g)) e)
 
 pub item_characters_told : (s : Sums) (told : ℕ) (f : Forest) → s ≡ sums_of f → told ≡ min s.item_characters (2 ^ 64 - 1)
     → told ≡ capped (weight item_characters_in f)
-item_characters_told s told f e t = capped_is s.item_characters told (weight item_counted_in f) (ap (λ (s : Sums). s.item_characters) e) t ∙ counted_item_weight f
+item_characters_told s told f e t =
+    capped_is s.item_characters told (weight item_counted_in f) (ap (λ (s : Sums). s.item_characters) e) t ∙ counted_item_weight f
 
 pub no_item_characters : (f : Forest) → f ≡ nil → 0 ≡ capped (weight item_characters_in f)
 unfolding capped

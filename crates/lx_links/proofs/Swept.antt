@@ -55,7 +55,8 @@ not_tied Less h = refl
 not_tied Equal h = absurd h
 not_tied Greater h = refl
 
-first_two : (k : ℕ) (n : Node) (e : ℕ × Node) (es : List (ℕ × Node)) → T (is_sorted nat_cmp ((k, n) ∷ e ∷ es)) → T (is_lt (nat_cmp k e.0)) × T (is_sorted nat_cmp ((k, n) ∷ es))
+first_two : (k : ℕ) (n : Node) (e : ℕ × Node) (es : List (ℕ × Node)) → T (is_sorted nat_cmp ((k, n) ∷ e ∷ es))
+    → T (is_lt (nat_cmp k e.0)) × T (is_sorted nat_cmp ((k, n) ∷ es))
 first_two k n e es h = but_the_third _ _ _ _ h
 
 risen : (k : ℕ) (n : Node) (es : List (ℕ × Node)) → T (is_sorted nat_cmp ((k, n) ∷ es)) → is_among k (map (λ e. e.0) es) ≡ false
@@ -84,21 +85,24 @@ gone_one a x q o r e = elim (eqb_tells x q) [
   | inr other ↦ grind (arith, other.0, turned x q, e, cases_Bool a)
 ]
 
-pub gone_more : (start old new : Nodes) (xs : List ℕ) (i x q : ℕ) → get old q ≡ cond (is_among q (take i xs)) None (get start q) → i < length xs → x ≡ get_or xs i x → new ≡ remove old x → get new q ≡ cond (is_among q (take (i + 1) xs)) None (get start q)
+pub gone_more : (start old new : Nodes) (xs : List ℕ) (i x q : ℕ) → get old q ≡ cond (is_among q (take i xs)) None (get start q) → i < length xs
+    → x ≡ get_or xs i x → new ≡ remove old x → get new q ≡ cond (is_among q (take (i + 1) xs)) None (get start q)
 gone_more start old new xs i x q e h at taken =
     ap (λ m. get m q) taken ∙ remove_at old x q ∙ gone_one (is_among q (take i xs)) x q (get old q) (get start q) e
     ∙ ap (λ b. cond b None (get start q)) (sym (one_more xs i x q h at))
 
 -- ---- what stands for the forest afterwards
 
-left_over : (f : Forest) (q : ℕ) (o : Option Node) (r : Option Record) (t a : Bool) → option_map (record_of q) o ≡ r → is_some r ≡ t → (t ≡ false → a ≡ false) → option_map (record_of q) (cond (t && not a) None o) ≡ cond a r None
+left_over : (f : Forest) (q : ℕ) (o : Option Node) (r : Option Record) (t a : Bool) → option_map (record_of q) o ≡ r → is_some r ≡ t → (t ≡ false → a ≡ false)
+    → option_map (record_of q) (cond (t && not a) None o) ≡ cond a r None
 left_over f q o r true true e there h = e
 left_over f q o r true false e there h = refl
 left_over f q o r false true e there h = let no : true ≡ false = h refl in cc
 left_over f q None r false false e there h = refl
 left_over f q (Some n) r false false e there h = let no : true ≡ false = ap is_some e ∙ there in cc
 
-pub swept_records : (old new : Nodes) (f : Forest) (xs : List ℕ) → StandsFor (records old) f → ((q : ℕ) → is_among q xs ≡ (has q f && not (is_attached f q))) → ((q : ℕ) → get new q ≡ cond (is_among q xs) None (get old q)) → StandsFor (records new) (drop_detached f)
+pub swept_records : (old new : Nodes) (f : Forest) (xs : List ℕ) → StandsFor (records old) f → ((q : ℕ) → is_among q xs ≡ (has q f && not (is_attached f q)))
+    → ((q : ℕ) → get new q ≡ cond (is_among q xs) None (get old q)) → StandsFor (records new) (drop_detached f)
 swept_records old new f xs s found gone = record {
   in_order = IsForest-drop_detached f s.in_order;
   same = λ q. ap (option_map (record_of q)) (gone q ∙ ap (λ b. cond b None (get old q)) (found q))
@@ -110,6 +114,7 @@ swept_records old new f xs s found gone = record {
 pub is_among-keys : (m : Nodes) (f : Forest) (q : ℕ) → Holds m f → is_among q (keys m) ≡ has q f
 is_among-keys m f q h = keys_in m f q h.stands
 
-pub swept_stands : (old new : Nodes) (f : Forest) (xs : List ℕ) → Holds old f → ((q : ℕ) → is_among q xs ≡ (has q f && not (is_attached f q))) → ((q : ℕ) → get new q ≡ cond (is_among q xs) None (get old q)) → Holds new (drop_detached f)
+pub swept_stands : (old new : Nodes) (f : Forest) (xs : List ℕ) → Holds old f → ((q : ℕ) → is_among q xs ≡ (has q f && not (is_attached f q)))
+    → ((q : ℕ) → get new q ≡ cond (is_among q xs) None (get old q)) → Holds new (drop_detached f)
 swept_stands old new f xs h found gone =
     record { stands = swept_records old new f xs h.stands found gone; held = IsHeld-drop_detached may_hold f h.stands.in_order h.held; suited = IsSuited-drop_detached f h.stands.in_order h.suited }

@@ -120,17 +120,24 @@ kinds-alike f g a (x ∷ xs) = ap (λ k. with_kind k (kinds_of g xs)) (kind-alik
 
 viewed-alike : (f g : Forest) → IsAlike f g → (q : ℕ) (s : Spot Label) → viewed g q s ≡ viewed f q s
 viewed-alike f g a q s =
-    ap (λ p. record { kind = s.label.kind; fields = seen_fields s.label.fields; parent = p; prev = kind_at g (previous_of g q); next = kind_at g (next_of g q); children = kinds_of g s.children }) (kind_at-alike f g a s.parent)
-    ∙ ap (λ p. record { kind = s.label.kind; fields = seen_fields s.label.fields; parent = kind_at f s.parent; prev = p; next = kind_at g (next_of g q); children = kinds_of g s.children }) (kind_at-alike f g a (previous_of g q) ∙ ap (kind_at f) (previous-alike f g a q))
-    ∙ ap (λ p. record { kind = s.label.kind; fields = seen_fields s.label.fields; parent = kind_at f s.parent; prev = kind_at f (previous_of f q); next = p; children = kinds_of g s.children }) (kind_at-alike f g a (next_of g q) ∙ ap (kind_at f) (next-alike f g a q))
-    ∙ ap (λ p. record { kind = s.label.kind; fields = seen_fields s.label.fields; parent = kind_at f s.parent; prev = kind_at f (previous_of f q); next = kind_at f (next_of f q); children = p }) (kinds-alike f g a s.children)
+    ap (λ p. record
+    { kind = s.label.kind; fields = seen_fields s.label.fields; parent = p; prev = kind_at g (previous_of g q); next = kind_at g (next_of g q); children = kinds_of g s.children }) (kind_at-alike f g a s.parent)
+    ∙ ap (λ p. record
+    { kind = s.label.kind; fields = seen_fields s.label.fields; parent = kind_at f s.parent; prev = p; next = kind_at g (next_of g q); children = kinds_of g s.children }) (kind_at-alike f g a (previous_of g q) ∙ ap (kind_at f) (previous-alike f g a q))
+    ∙ ap (λ p. record
+    { kind = s.label.kind; fields = seen_fields s.label.fields; parent = kind_at f s.parent; prev = kind_at f (previous_of f q); next = p; children = kinds_of g s.children }) (kind_at-alike f g a (next_of g q) ∙ ap (kind_at f) (next-alike f g a q))
+    ∙ ap (λ p. record
+    { kind = s.label.kind; fields = seen_fields s.label.fields; parent = kind_at f s.parent; prev = kind_at f (previous_of f q); next = kind_at f (next_of f q); children = p }) (kinds-alike f g a s.children)
 
 viewed-seen : (f : Forest) (q : ℕ) (s : Spot Label) → viewed f q (seen_spot s) ≡ viewed f q s
 viewed-seen f q s =
-    ap (λ o. record { kind = s.label.kind; fields = o; parent = kind_at f s.parent; prev = kind_at f (previous_of f q); next = kind_at f (next_of f q); children = kinds_of f s.children }) (seen_twice s.label.fields)
+    ap (λ o. record
+    { kind = s.label.kind; fields = o; parent = kind_at f s.parent; prev = kind_at f (previous_of f q); next = kind_at f (next_of f q); children = kinds_of f s.children }) (seen_twice s.label.fields)
 
 view-seen : (f : Forest) (q : ℕ) → option_map (viewed f q) (seen_at f q) ≡ view_of f q
-view-seen f q = option_map-map (viewed f q) seen_spot (spot f q) ∙ option_map-agree (λ (s : Spot Label). viewed f q (seen_spot s)) (viewed f q) (spot f q) (λ s e. viewed-seen f q s)
+view-seen f q =
+    option_map-map (viewed f q) seen_spot (spot f q)
+    ∙ option_map-agree (λ (s : Spot Label). viewed f q (seen_spot s)) (viewed f q) (spot f q) (λ s e. viewed-seen f q s)
 
 pub view-alike : (f g : Forest) → IsAlike f g → (q : ℕ) → view_of g q ≡ view_of f q
 view-alike f g a q =
@@ -138,7 +145,9 @@ view-alike f g a q =
     ∙ sym (view-seen-of g) ∙ ap (option_map (viewed f q)) (a.spots q) ∙ view-seen f q
   where
     view-seen-of : (h : Forest) → option_map (viewed f q) (seen_at h q) ≡ option_map (viewed f q) (spot h q)
-    view-seen-of h = option_map-map (viewed f q) seen_spot (spot h q) ∙ option_map-agree (λ (s : Spot Label). viewed f q (seen_spot s)) (viewed f q) (spot h q) (λ s e. viewed-seen f q s)
+    view-seen-of h =
+        option_map-map (viewed f q) seen_spot (spot h q)
+        ∙ option_map-agree (λ (s : Spot Label). viewed f q (seen_spot s)) (viewed f q) (spot h q) (λ s e. viewed-seen f q s)
 
 -- ---- nor does the join step
 
@@ -148,7 +157,8 @@ text-seen kind (fields.Text text) = refl
 text-seen kind (fields.Embed source) = refl
 text-seen kind fields.Bare = refl
 
-text_in-seen : (o : Option (Spot Label)) → text_in (option_map (λ (s : Spot Label). s.label) (option_map seen_spot o)) ≡ text_in (option_map (λ (s : Spot Label). s.label) o)
+text_in-seen : (o : Option (Spot Label))
+    → text_in (option_map (λ (s : Spot Label). s.label) (option_map seen_spot o)) ≡ text_in (option_map (λ (s : Spot Label). s.label) o)
 text_in-seen None = refl
 text_in-seen (Some s) = text-seen s.label.kind s.label.fields
 
@@ -173,7 +183,8 @@ changed-seen n fields.Bare = refl
 
 reset-seen : (k q : ℕ) (new : Fields) (s : Spot Label) → ((q ≡ k) → seen_fields new ≡ seen_fields s.label.fields) → seen_spot (reset k new q s) ≡ seen_spot s
 reset-seen k q new s same =
-    ap (λ o. record { label = record { key = s.label.key; kind = s.label.kind; fields = o }; parent = s.parent; children = s.children }) (seen_if (cases_Bool (eqb q k)))
+    ap (λ o. record { label = record { key = s.label.key; kind = s.label.kind; fields = o }; parent = s.parent; children = s.children })
+    (seen_if (cases_Bool (eqb q k)))
   where
     seen_if : (eqb q k ≡ true) ⊎ (eqb q k ≡ false) → seen_fields (cond (eqb q k) new s.label.fields) ≡ seen_fields s.label.fields
     seen_if (inl here) = let is : q ≡ k = grind (arith, here, eqb_tells) in rw here (same is)

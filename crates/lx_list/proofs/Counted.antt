@@ -57,14 +57,16 @@ fields_known (Some x) n is = (x, refl)
 fields_known None n is = absurd (cc)
 
 -- numbering an item that has its number writes the fields that it has
-number_again : (n k : ℕ) (w : Working) → number_at (fields_of w.forest k) ≡ Some n → (o : Fields) × ((fields_of w.forest k ≡ Some o) × (number_item n k w ≡ set_step k o w))
+number_again : (n k : ℕ) (w : Working) → number_at (fields_of w.forest k) ≡ Some n
+    → (o : Fields) × ((fields_of w.forest k ≡ Some o) × (number_item n k w ≡ set_step k o w))
 unfolding number_item change_step
 number_again n k w is =
     let known = fields_known (fields_of w.forest k) n is in
     let o : Fields = known.0 in
     (o, (known.1, ap (λ x. set_changed (with_extra (numbered n)) k x w) known.1 ∙ ap (λ x. set_step k x w) (same_number n o (sym (ap number_at known.1) ∙ is))))
 
-again_done : (n k : ℕ) (w v : Working) → number_at (fields_of w.forest k) ≡ Some n → ((o : Fields) → fields_of w.forest k ≡ Some o → set_step k o w ≡ Ok v) → number_item n k w ≡ Ok v
+again_done : (n k : ℕ) (w v : Working) → number_at (fields_of w.forest k) ≡ Some n → ((o : Fields) → fields_of w.forest k ≡ Some o → set_step k o w ≡ Ok v)
+    → number_item n k w ≡ Ok v
 again_done n k w v is done = let same = number_again n k w is in same.1.1 ∙ done same.0 same.1.0
 
 item_element : (kind : Kind) → is_item kind ≡ true → is_element kind ≡ true
@@ -101,7 +103,8 @@ item_again n k w h suited is_it is fits =
 
 -- each of these has its number, where the first of them is to have this one
 abbrev HaveNumbers : Forest → ℕ → List ℕ → Type 0
-HaveNumbers f n items = (i item : ℕ) → slice_get items i ≡ Some item → number_at (fields_of f item) ≡ Some (n + count_by (λ q. not (is_nesting f q)) (take i items))
+HaveNumbers f n items =
+    (i item : ℕ) → slice_get items i ≡ Some item → number_at (fields_of f item) ≡ Some (n + count_by (λ q. not (is_nesting f q)) (take i items))
 
 next_have : (f : Forest) (n item : ℕ) (items : List ℕ) → HaveNumbers f n (item ∷ items) → HaveNumbers f (cond (is_nesting f item) n (n + 1)) items
 next_have f n item items have i q at =
@@ -113,7 +116,8 @@ next_have f n item items have i q at =
     by_nesting true m = omega arith
     by_nesting false m = omega arith
 
-items_again : (n : ℕ) (items : List ℕ) (w : Working) → IsForest w.forest → IsSuited w.forest → ((q : ℕ) → is_among q items ≡ true → is_at is_item w.forest q ≡ true) → HaveNumbers w.forest n items
+items_again : (n : ℕ) (items : List ℕ) (w : Working) → IsForest w.forest → IsSuited w.forest
+    → ((q : ℕ) → is_among q items ≡ true → is_at is_item w.forest q ≡ true) → HaveNumbers w.forest n items
     → HasRoomFor (sum_by (own_items w.forest) items) (sum_by (own_characters w.forest) items) w
     → numbered_from n items w ≡ Ok (rewritten (sum_by (own_items w.forest) items) (sum_by (own_characters w.forest) items) w)
 unfolding numbered_from
@@ -126,20 +130,25 @@ items_again n (item ∷ items) w h suited are have fits =
     let longer : sum_by (own_characters f) (item ∷ items) ≡ b + sum_by (own_characters f) items = sum_by-cons (own_characters f) item items in
     let here : number_at (fields_of f item) ≡ Some n = have 0 item refl ∙ ap Some (omega arith) in
     let v : Working = rewritten a b w in
-    let first : number_item n item w ≡ Ok v = item_again n item w h suited (are item (grind (arith, eqb_tells item item))) here (omega (arith, fits.0, more), omega (arith, fits.1, longer)) in
+    let first : number_item n item w ≡ Ok v =
+    item_again n item w h suited (are item (grind (arith, eqb_tells item item))) here (omega (arith, fits.0, more), omega (arith, fits.1, longer)) in
     let rest : numbered_from (cond (is_nesting f item) n (n + 1)) items v ≡ Ok (rewritten (sum_by (own_items f) items) (sum_by (own_characters f) items) v) =
-    items_again (cond (is_nesting f item) n (n + 1)) items v h suited (λ q among. are q (grind (arith, among))) (next_have f n item items have) (omega (arith, fits.0, more), omega (arith, fits.1, longer)) in
+    items_again (cond (is_nesting f item) n (n + 1)) items v h suited (λ q among. are q (grind (arith, among))) (next_have f n item items have)
+    (omega (arith, fits.0, more), omega (arith, fits.1, longer)) in
     ap (λ r. after r (numbered_from (cond (is_nesting f item) n (n + 1)) items)) first ∙ rest
     ∙ ap Ok (rewritten-more a b (sum_by (own_items f) items) (sum_by (own_characters f) items) w)
     ∙ ap₂ (λ x y. Ok (rewritten x y w)) (sym more) (sym longer)
 
 -- ---- lists, one after another
 
-list_again : (list : ℕ) (w : Working) → IsForest w.forest → IsHeld may_hold w.forest → IsSuited w.forest → is_at is_list w.forest list ≡ true → IsNumberedList w.forest list
+list_again : (list : ℕ) (w : Working) → IsForest w.forest → IsHeld may_hold w.forest → IsSuited w.forest → is_at is_list w.forest list ≡ true
+    → IsNumberedList w.forest list
     → HasRoomFor (sum_by (own_items w.forest) (children_of w.forest list)) (sum_by (own_characters w.forest) (children_of w.forest list)) w
-    → list_numbered list w ≡ Ok (rewritten (sum_by (own_items w.forest) (children_of w.forest list)) (sum_by (own_characters w.forest) (children_of w.forest list)) w)
+    → list_numbered list w
+    ≡ Ok (rewritten (sum_by (own_items w.forest) (children_of w.forest list)) (sum_by (own_characters w.forest) (children_of w.forest list)) w)
 list_again list w h held suited is numbered fits =
-    items_again (start_at (fields_of w.forest list)) (children_of w.forest list) w h suited (λ q among. item_below w.forest list q held is (parent_there w.forest list q h among)) numbered fits
+    items_again (start_at (fields_of w.forest list)) (children_of w.forest list) w h suited
+    (λ q among. item_below w.forest list q held is (parent_there w.forest list q h among)) numbered fits
 
 abbrev pub items_below : Forest → ℕ → ℕ
 items_below f list = sum_by (own_items f) (children_of f list)

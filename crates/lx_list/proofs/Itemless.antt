@@ -33,10 +33,12 @@ unweighed of r (tree l below rest) q s none e =
           ap (λ (x : Spot Label). of x.label) same ∙ omega (arith, none)
       | inr other ↦
           let here : option_or (spot_below key_of (Some l.key) below q) (spot_below key_of r rest q) ≡ Some s = grind (arith, e, other.0) in
-          by_first (spot_below key_of (Some l.key) below q) (unweighed of (Some l.key) below q s (omega (arith, none))) (unweighed of r rest q s (omega (arith, none))) refl here
+          by_first (spot_below key_of (Some l.key) below q) (unweighed of (Some l.key) below q s (omega (arith, none)))
+          (unweighed of r rest q s (omega (arith, none))) refl here
     ]
   where
-    by_first : (o : Option (Spot Label)) → (spot_below key_of (Some l.key) below q ≡ Some s → of s.label ≡ 0) → (spot_below key_of r rest q ≡ Some s → of s.label ≡ 0)
+    by_first : (o : Option (Spot Label)) → (spot_below key_of (Some l.key) below q ≡ Some s → of s.label ≡ 0)
+        → (spot_below key_of r rest q ≡ Some s → of s.label ≡ 0)
         → spot_below key_of (Some l.key) below q ≡ o → option_or o (spot_below key_of r rest q) ≡ Some s → of s.label ≡ 0
     by_first None below_it behind_it is e = behind_it e
     by_first (Some first) below_it behind_it is e = below_it (is ∙ e)
@@ -55,7 +57,9 @@ pub there_at : (test : Kind → Bool) (f : Forest) (q : ℕ) → is_at test f q 
 there_at test f q is = by_spot (spot f q) refl where
   by_spot : (o : Option (Spot Label)) → spot f q ≡ o → has q f ≡ true
   by_spot None e =
-      let none : false ≡ true = sym (ap (λ (o : Option (Spot Label)). passes test (option_map (λ (l : Label). l.kind) (option_map (λ (s : Spot Label). s.label) o))) e) ∙ is in absurd (cc)
+      let none : false ≡ true =
+      sym (ap (λ (o : Option (Spot Label)). passes test (option_map (λ (l : Label). l.kind) (option_map (λ (s : Spot Label). s.label) o))) e) ∙ is in
+      absurd (cc)
   by_spot (Some s) e = sym (is_some-spot f q) ∙ ap is_some e
 
 -- a child of a list is an item
@@ -65,7 +69,8 @@ item_below f list q held is_a_list up =
     let outer = spot_known f list (has-parent_of f q list up) in
     let inner = spot_known f q (has-child f q list up) in
     let is : is_list outer.0.label.kind ≡ true = sym (ap (λ o. passes is_list (kind o)) outer.1) ∙ is_a_list in
-    let may : may_hold outer.0.label.kind inner.0.label.kind ≡ true = sym (ap₂ (λ o p. holds may_hold (kind o) (kind p)) outer.1 inner.1) ∙ held.each q list up in
+    let may : may_hold outer.0.label.kind inner.0.label.kind ≡ true =
+    sym (ap₂ (λ o p. holds may_hold (kind o) (kind p)) outer.1 inner.1) ∙ held.each q list up in
     ap (λ o. passes is_item (kind o)) inner.1 ∙ held_below outer.0.label.kind inner.0.label.kind is may
 
 -- a child of a list would be an item
@@ -75,7 +80,8 @@ no_child f list q held none is_a_list up =
     let outer = spot_known f list (has-parent_of f q list up) in
     let inner = spot_known f q (has-child f q list up) in
     let is : is_list outer.0.label.kind ≡ true = sym (ap (λ o. passes is_list (kind o)) outer.1) ∙ is_a_list in
-    let may : may_hold outer.0.label.kind inner.0.label.kind ≡ true = sym (ap₂ (λ o p. holds may_hold (kind o) (kind p)) outer.1 inner.1) ∙ held.each q list up in
+    let may : may_hold outer.0.label.kind inner.0.label.kind ≡ true =
+    sym (ap₂ (λ o p. holds may_hold (kind o) (kind p)) outer.1 inner.1) ∙ held.each q list up in
     no_item inner.0.label (unweighed items_in None f q inner.0 none inner.1) (held_below outer.0.label.kind inner.0.label.kind is may)
 
 childless : (f : Forest) (list : ℕ) → IsForest f → IsHeld may_hold f → weight items_in f ≡ 0 → is_at is_list f list ≡ true → children_of f list ≡ []

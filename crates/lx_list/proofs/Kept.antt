@@ -53,14 +53,18 @@ HasItems-held f held suited list q is_a_list up = by_spots (spot f list) (spot f
   some_is a b e = cc
 
   by_spots : (o p : Option (Spot Label)) → spot f list ≡ o → spot f q ≡ p → is_some (number_at (fields_of f q)) ≡ true
-  by_spots None p e g = let b : false ≡ true = sym (ap (λ x. passes is_list (option_map (λ (l : Label). l.kind) (option_map (λ (s : Spot Label). s.label) x))) e) ∙ is_a_list in absurd (cc)
+  by_spots None p e g = let b : false ≡ true =
+      sym (ap (λ x. passes is_list (option_map (λ (l : Label). l.kind) (option_map (λ (s : Spot Label). s.label) x))) e) ∙ is_a_list in absurd (cc)
   by_spots (Some outer) None e g = let b : None ≡ Some list = sym (ap parent_at g) ∙ up in absurd (cc)
   by_spots (Some outer) (Some inner) e g =
-      let a_list : is_list outer.label.kind ≡ true = sym (ap (λ x. passes is_list (option_map (λ (l : Label). l.kind) (option_map (λ (s : Spot Label). s.label) x))) e) ∙ is_a_list in
+      let a_list : is_list outer.label.kind ≡ true =
+      sym (ap (λ x. passes is_list (option_map (λ (l : Label). l.kind) (option_map (λ (s : Spot Label). s.label) x))) e) ∙ is_a_list in
       let held_in : may_hold outer.label.kind inner.label.kind ≡ true =
       sym (ap (λ x. holds may_hold (option_map (λ (l : Label). l.kind) (option_map (λ (s : Spot Label). s.label) x)) (kind_of f q)) e
-      ∙ ap (λ x. holds may_hold (Some outer.label.kind) (option_map (λ (l : Label). l.kind) (option_map (λ (s : Spot Label). s.label) x))) g) ∙ held.each q list up in
-      let suits : is_of_kind inner.label.kind inner.label.fields ≡ true = sym (ap (λ x. is_suited (option_map (λ (s : Spot Label). s.label) x)) g) ∙ suited.each q in
+      ∙ ap (λ x. holds may_hold (Some outer.label.kind) (option_map (λ (l : Label). l.kind) (option_map (λ (s : Spot Label). s.label) x))) g)
+      ∙ held.each q list up in
+      let suits : is_of_kind inner.label.kind inner.label.fields ≡ true =
+      sym (ap (λ x. is_suited (option_map (λ (s : Spot Label). s.label) x)) g) ∙ suited.each q in
       ap (λ x. is_some (number_at (option_map (λ (l : Label). l.fields) (option_map (λ (s : Spot Label). s.label) x)))) g
       ∙ suited-item inner.label.kind inner.label.fields (held_below outer.label.kind inner.label.kind a_list held_in) suits
 
@@ -92,4 +96,5 @@ stays_numbered f g list u numbered i item at =
     due_same =
         ap (λ n. n + count_by (λ q. not (is_nesting g q)) (take i (children_of g list))) u.start
         ∙ ap (λ xs. start_at (fields_of f list) + count_by (λ q. not (is_nesting g q)) (take i xs)) u.children
-        ∙ ap (λ n. start_at (fields_of f list) + n) (count-agree_among (λ q. not (is_nesting g q)) (λ q. not (is_nesting f q)) (children_of f list) (λ q among. ap not (u.nesting q among)) i)
+        ∙ ap (λ n. start_at (fields_of f list) + n)
+        (count-agree_among (λ q. not (is_nesting g q)) (λ q. not (is_nesting f q)) (children_of f list) (λ q among. ap not (u.nesting q among)) i)

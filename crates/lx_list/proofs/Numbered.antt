@@ -129,7 +129,8 @@ other-set k q new f other =
     same None e = refl
     same (Some old) e = rw e refl
 
-given_by : (n k : ℕ) (o : Option Fields) (w v : Working) → fields_of w.forest k ≡ o → set_changed (with_extra (numbered n)) k o w ≡ Ok v → IsGiven k n w.forest v.forest
+given_by : (n k : ℕ) (o : Option Fields) (w v : Working) → fields_of w.forest k ≡ o → set_changed (with_extra (numbered n)) k o w ≡ Ok v
+    → IsGiven k n w.forest v.forest
 given_by n k None w v was e =
     let same : w ≡ v = cc in
     subst (λ (u : Working). IsGiven k n w.forest u.forest) same
@@ -211,7 +212,8 @@ parent_there f list q h among =
 pub due_there : (f : Forest) (list q i : ℕ) → IsForest f → slice_get (children_of f list) i ≡ Some q → due_at f q ≡ due f list i
 due_there f list q i h at =
     let up : parent_of f q ≡ Some list = parent_there f list q h (is_among-slice_get (children_of f list) q i at) in
-    let place : index_of f q ≡ Some i = ap (λ p. index_in (children_below f p) q) up ∙ index_in-slice_get (children_of f list) q i (NoRepeats-children_of f list h) at in
+    let place : index_of f q ≡ Some i =
+    ap (λ p. index_in (children_below f p) q) up ∙ index_in-slice_get (children_of f list) q i (NoRepeats-children_of f list h) at in
     ap (λ p. due f (unwrap_or p 0) (unwrap_or (index_of f q) 0)) up ∙ ap (λ p. due f list (unwrap_or p 0)) place
 
 at-append : (before : List ℕ) (q : ℕ) (rest : List ℕ) → slice_get (before ++ q ∷ rest) (length before) ≡ Some q
@@ -222,12 +224,14 @@ abbrev counts : Forest → List ℕ → ℕ
 counts f before = count_by (λ item. not (is_nesting f item)) before
 
 -- the number that comes to an item after others
-due-append : (f : Forest) (list q : ℕ) (before rest : List ℕ) → before ++ q ∷ rest ≡ children_of f list → due f list (length before) ≡ start_at (fields_of f list) + counts f before
+due-append : (f : Forest) (list q : ℕ) (before rest : List ℕ) → before ++ q ∷ rest ≡ children_of f list
+    → due f list (length before) ≡ start_at (fields_of f list) + counts f before
 due-append f list q before rest whole =
     ap (λ xs. start_at (fields_of f list) + counts f xs) (ap (take (length before)) (sym whole) ∙ take-append_seam before (q ∷ rest))
 
 -- ... and to the next
-next_due : (f : Forest) (q start : ℕ) (before : List ℕ) → cond (is_nesting f q) (start + counts f before) (start + counts f before + 1) ≡ start + counts f (before ++ q ∷ [])
+next_due : (f : Forest) (q start : ℕ) (before : List ℕ)
+    → cond (is_nesting f q) (start + counts f before) (start + counts f before + 1) ≡ start + counts f (before ++ q ∷ [])
 next_due f q start before =
     let one : counts f (before ++ q ∷ []) ≡ counts f before + counts f (q ∷ []) = sum_by-append (λ item. cond (not (is_nesting f item)) 1 0) before (q ∷ []) in
     elim (cases_Bool (is_nesting f q)) [
@@ -236,7 +240,8 @@ next_due f q start before =
     ]
 
 none_given : (f : Forest) (w v : Working) → IsAlike f w.forest → w ≡ v → AreGiven f w.forest v.forest []
-none_given f w v a same = subst (λ (u : Working). AreGiven f w.forest u.forest []) same (record { alike = a; kept = λ q was. was; right = λ q among. absurd (cc) })
+none_given f w v a same =
+    subst (λ (u : Working). AreGiven f w.forest u.forest []) same (record { alike = a; kept = λ q was. was; right = λ q among. absurd (cc) })
 
 -- one step after another that isn't refused
 first_ok : (r : Result Working Cause) (next : Working → Result Working Cause) (v : Working) → after r next ≡ Ok v → (u : Working) × (r ≡ Ok u) × (next u ≡ Ok v)
@@ -244,7 +249,8 @@ first_ok (Ok u) next v e = (u, refl, e)
 first_ok (Err cause) next v e = absurd (cc)
 
 pub items_given : (f : Forest) (list n : ℕ) (before items : List ℕ) (w v : Working) → IsForest f → HasItems f → is_at is_list f list ≡ true → IsAlike f w.forest
-    → before ++ items ≡ children_of f list → n ≡ start_at (fields_of f list) + counts f before → numbered_from n items w ≡ Ok v → AreGiven f w.forest v.forest items
+    → before ++ items ≡ children_of f list → n ≡ start_at (fields_of f list) + counts f before → numbered_from n items w ≡ Ok v
+    → AreGiven f w.forest v.forest items
 unfolding numbered_from
 items_given f list n before [] w v h items_there is_a_list a whole n_is e = none_given f w v a (ok_is e) where
   ok_is : ◌≡◌ {A = Result Working Cause} (Ok w) (Ok v) → w ≡ v
@@ -254,12 +260,14 @@ items_given f list n before (q ∷ items) w v h items_there is_a_list a whole n_
     let up : parent_of f q ≡ Some list = parent_there f list q h (is_among-slice_get (children_of f list) q (length before) at) in
     let due_is : n ≡ due_at f q = n_is ∙ sym (due-append f list q before items whole) ∙ sym (due_there f list q (length before) h at) in
     let next_is : cond (is_nesting w.forest q) n (n + 1) ≡ start_at (fields_of f list) + counts f (before ++ q ∷ []) =
-    ap (λ b. cond b n (n + 1)) (nesting-alike f w.forest a q) ∙ ap (λ m. cond (is_nesting f q) m (m + 1)) n_is ∙ next_due f q (start_at (fields_of f list)) before in
+    ap (λ b. cond b n (n + 1)) (nesting-alike f w.forest a q) ∙ ap (λ m. cond (is_nesting f q) m (m + 1)) n_is
+    ∙ next_due f q (start_at (fields_of f list)) before in
     let first = first_ok (number_item n q w) (numbered_from (cond (is_nesting w.forest q) n (n + 1)) items) v e in
     let u : Working = first.0 in
     let here : AreGiven f w.forest u.forest (q ∷ []) = one_given f q n w u a due_is (items_there list q is_a_list up) first.1 in
     given-then f w.forest u.forest v.forest (q ∷ []) items here
-    (items_given f list (cond (is_nesting w.forest q) n (n + 1)) (before ++ q ∷ []) items u v h items_there is_a_list here.alike (append_assoc before (q ∷ []) items ∙ whole) next_is first.2)
+    (items_given f list (cond (is_nesting w.forest q) n (n + 1)) (before ++ q ∷ []) items u v h items_there is_a_list here.alike
+    (append_assoc before (q ∷ []) items ∙ whole) next_is first.2)
 
 -- ---- each list
 
@@ -272,12 +280,15 @@ pub record AreNumbered (f g h : Forest) (lists : List ℕ) : Type 0 where
   pub kept : (q : ℕ) → IsRight f g q → IsRight f h q
   pub right : ListsRight f h lists
 
-list_given : (f : Forest) (list : ℕ) (w v : Working) → IsForest f → HasItems f → is_at is_list f list ≡ true → IsAlike f w.forest → list_numbered list w ≡ Ok v → AreGiven f w.forest v.forest (children_of f list)
+list_given : (f : Forest) (list : ℕ) (w v : Working) → IsForest f → HasItems f → is_at is_list f list ≡ true → IsAlike f w.forest → list_numbered list w ≡ Ok v
+    → AreGiven f w.forest v.forest (children_of f list)
 list_given f list w v h items is_a_list a e =
     items_given f list (start_at (fields_of f list)) [] (children_of f list) w v h items is_a_list a refl (omega arith)
-    (ap (λ n. numbered_from n (children_of f list) w) (sym (start-alike f w.forest a list)) ∙ ap (λ xs. numbered_from (start_at (fields_of w.forest list)) xs w) (sym (children-alike f w.forest a list)) ∙ e)
+    (ap (λ n. numbered_from n (children_of f list) w) (sym (start-alike f w.forest a list))
+    ∙ ap (λ xs. numbered_from (start_at (fields_of w.forest list)) xs w) (sym (children-alike f w.forest a list)) ∙ e)
 
-pub lists_given : (f : Forest) (lists : List ℕ) (w v : Working) → IsForest f → HasItems f → ((list : ℕ) → is_among list lists ≡ true → is_at is_list f list ≡ true) → IsAlike f w.forest
+pub lists_given : (f : Forest) (lists : List ℕ) (w v : Working) → IsForest f → HasItems f
+    → ((list : ℕ) → is_among list lists ≡ true → is_at is_list f list ≡ true) → IsAlike f w.forest
     → in_turn list_numbered lists w ≡ Ok v → AreNumbered f w.forest v.forest lists
 unfolding in_turn
 lists_given f [] w v h items are_lists a e =
@@ -286,15 +297,18 @@ lists_given f [] w v h items are_lists a e =
 lists_given f (list ∷ lists) w v h items are_lists a e =
     let first = first_ok (list_numbered list w) (in_turn list_numbered lists) v e in
     let u : Working = first.0 in
-    let here : AreGiven f w.forest u.forest (children_of f list) = list_given f list w u h items (are_lists list (grind (arith, eqb_tells list list))) a first.1 in
-    let rest : AreNumbered f u.forest v.forest lists = lists_given f lists u v h items (λ other among. are_lists other (grind (arith, among))) here.alike first.2 in
+    let here : AreGiven f w.forest u.forest (children_of f list) =
+    list_given f list w u h items (are_lists list (grind (arith, eqb_tells list list))) a first.1 in
+    let rest : AreNumbered f u.forest v.forest lists =
+    lists_given f lists u v h items (λ other among. are_lists other (grind (arith, among))) here.alike first.2 in
     record {
       alike = rest.alike;
       kept = λ q was. rest.kept q (here.kept q was);
       right = λ other q among below. by_list other q u (cases_Bool (eqb list other)) among below here rest;
     }
   where
-    by_list : (other q : ℕ) (u : Working) → (eqb list other ≡ true) ⊎ (eqb list other ≡ false) → is_among other (list ∷ lists) ≡ true → is_among q (children_of f other) ≡ true
+    by_list : (other q : ℕ) (u : Working) → (eqb list other ≡ true) ⊎ (eqb list other ≡ false) → is_among other (list ∷ lists) ≡ true
+        → is_among q (children_of f other) ≡ true
         → AreGiven f w.forest u.forest (children_of f list) → AreNumbered f u.forest v.forest lists → IsRight f v.forest q
     by_list other q u (inl same) among below here rest =
         let is : other ≡ list = grind (arith, same, eqb_tells list other) in
@@ -327,14 +341,18 @@ pub numbered-number : (w v : Working) → IsForest w.forest → HasItems w.fores
 unfolding number_step
 numbered-number w v h items e =
     let lists : List ℕ = filter (is_at is_list w.forest) (preorder w.forest) in
-    let all : AreNumbered w.forest w.forest v.forest lists = lists_given w.forest lists w v h items (passes_filter (is_at is_list w.forest) (preorder w.forest)) (alike-self w.forest) e in
+    let all : AreNumbered w.forest w.forest v.forest lists =
+    lists_given w.forest lists w v h items (passes_filter (is_at is_list w.forest) (preorder w.forest)) (alike-self w.forest) e in
     (record { each = λ list attached is_a_list i item at. numbered_at list i item all attached is_a_list at }, all.alike)
   where
-    numbered_at : (list i item : ℕ) → AreNumbered w.forest w.forest v.forest (filter (is_at is_list w.forest) (preorder w.forest)) → is_attached v.forest list ≡ true → is_at is_list v.forest list ≡ true
+    numbered_at : (list i item : ℕ) → AreNumbered w.forest w.forest v.forest (filter (is_at is_list w.forest) (preorder w.forest))
+        → is_attached v.forest list ≡ true → is_at is_list v.forest list ≡ true
         → slice_get (children_of v.forest list) i ≡ Some item → number_at (fields_of v.forest item) ≡ Some (due v.forest list i)
     numbered_at list i item all attached is_a_list at =
-        let was_at : slice_get (children_of w.forest list) i ≡ Some item = ap (λ xs. slice_get xs i) (sym (children-alike w.forest v.forest all.alike list)) ∙ at in
+        let was_at : slice_get (children_of w.forest list) i ≡ Some item =
+        ap (λ xs. slice_get xs i) (sym (children-alike w.forest v.forest all.alike list)) ∙ at in
         all.right list item
-        (among_filter (is_at is_list w.forest) (preorder w.forest) list (is_among-preorder_of w.forest list ∙ sym (all.alike.within 0 list) ∙ attached) (sym (is_at-alike w.forest v.forest all.alike is_list list) ∙ is_a_list))
+        (among_filter (is_at is_list w.forest) (preorder w.forest) list (is_among-preorder_of w.forest list ∙ sym (all.alike.within 0 list) ∙ attached)
+        (sym (is_at-alike w.forest v.forest all.alike is_list list) ∙ is_a_list))
         (is_among-slice_get (children_of w.forest list) item i was_at)
         ∙ ap (λ n. Some n) (due_there w.forest list item i h was_at ∙ sym (due-alike w.forest v.forest all.alike list i))

@@ -42,7 +42,8 @@ use Rattle.lx_list.specs.Numbering.{start_at, numbered_from, list_numbered, numb
 module _ {D : Working → Type 0} {R : Working → Working → Type 0} (way : IsWay D R) where
   -- ---- new nodes, fields, and places
 
-  with_new_path : (kind : Kind) (fields : Fields) (next : ℕ → Working → Result Working Cause) → ((k : ℕ) → Leads D R (next k)) → Leads D R (with_new kind fields next)
+  with_new_path : (kind : Kind) (fields : Fields) (next : ℕ → Working → Result Working Cause) → ((k : ℕ) → Leads D R (next k))
+      → Leads D R (with_new kind fields next)
   with_new_path kind fields next leads = chained way (new_step kind fields) (λ w. next w.next_key) (way.new kind fields) (λ w. leads w.next_key)
 
   new_like_path : (l : Option Label) → Leads D R (new_like l)
@@ -104,8 +105,10 @@ module _ {D : Working → Type 0} {R : Working → Working → Type 0} (way : Is
   item_made_path : (type : ListType) (line list : ℕ) → Leads D R (item_made type line list)
   unfolding item_made
   item_made_path type line list =
-      with_new_path Item (item_fields (unchecked type)) (λ item v. after (put_step item list (size_of v.forest list) v) (λ u. after (children_step line item u) (remove_step line))) (λ item.
-      chained way (λ v. put_step item list (size_of v.forest list) v) (λ v u. after (children_step line item u) (remove_step line)) (into_at item list (λ v. size_of v.forest list)) (λ v.
+      with_new_path Item (item_fields (unchecked type))
+      (λ item v. after (put_step item list (size_of v.forest list) v) (λ u. after (children_step line item u) (remove_step line))) (λ item.
+      chained way (λ v. put_step item list (size_of v.forest list) v) (λ v u. after (children_step line item u) (remove_step line))
+      (into_at item list (λ v. size_of v.forest list)) (λ v.
       chained way (children_step line item) (λ u. remove_step line) (children_go line item) (λ u. removes line)))
 
   list_made_path : (type : ListType) (line : ℕ) → Leads D R (list_made type line)
@@ -117,7 +120,8 @@ module _ {D : Working → Type 0} {R : Working → Working → Type 0} (way : Is
   itemized_path : (type : ListType) (line : ℕ) (o : Option ℕ) → Leads D R (itemized type line o)
   itemized_path type line None w v r e = list_made_path type line w v r e
   itemized_path type line (Some list) w v r e =
-      either way (is_at (is_list_of type) w.forest list) (item_made type line list) (list_made type line) (item_made_path type line list) (list_made_path type line) w v r e
+      either way (is_at (is_list_of type) w.forest list) (item_made type line list) (list_made type line) (item_made_path type line list)
+      (list_made_path type line) w v r e
 
   remarked_path : (type : ListType) (item : ℕ) → Leads D R (remarked type item)
   remarked_path Check item w v r e =
@@ -129,10 +133,13 @@ module _ {D : Working → Type 0} {R : Working → Working → Type 0} (way : Is
   retyped_with_path type list None = stays way
   retyped_with_path type list (Some fields) =
       let rest : ℕ → Working → Result Working Cause = λ new left. in_turn (remarked type) (children_of left.forest new) left in
-      with_new_path (ListKind type) fields (λ new v. after (put_before_step new list v) (λ put. after (children_step list new put) (λ moved. after (remove_step list moved) (rest new)))) (λ new.
-      chained way (put_before_step new list) (λ v put. after (children_step list new put) (λ moved. after (remove_step list moved) (rest new))) (before new list) (λ v.
+      with_new_path (ListKind type) fields
+      (λ new v. after (put_before_step new list v) (λ put. after (children_step list new put) (λ moved. after (remove_step list moved) (rest new)))) (λ new.
+      chained way (put_before_step new list) (λ v put. after (children_step list new put) (λ moved. after (remove_step list moved) (rest new)))
+      (before new list) (λ v.
       chained way (children_step list new) (λ u moved. after (remove_step list moved) (rest new)) (children_go list new) (λ u.
-      chained way (remove_step list) (λ x. rest new) (removes list) (λ x y z r e. every way (remarked type) (children_of y.forest new) (remarked_path type) y z r e))))
+      chained way (remove_step list) (λ x. rest new) (removes list)
+      (λ x y z r e. every way (remarked type) (children_of y.forest new) (remarked_path type) y z r e))))
 
   retyped_path : (type : ListType) (list : ℕ) → Leads D R (retyped type list)
   unfolding retyped
@@ -140,7 +147,8 @@ module _ {D : Working → Type 0} {R : Working → Working → Type 0} (way : Is
 
   retyped_above_path : (type : ListType) (o : Option ℕ) → Leads D R (retyped_above type o)
   retyped_above_path type None w v r e = stays way w v r e
-  retyped_above_path type (Some list) w v r e = either way (is_at (is_list_of type) w.forest list) (λ u. Ok u) (retyped type list) (stays way) (retyped_path type list) w v r e
+  retyped_above_path type (Some list) w v r e =
+      either way (is_at (is_list_of type) w.forest list) (λ u. Ok u) (retyped type list) (stays way) (retyped_path type list) w v r e
 
   listed_path : (type : ListType) (line : ℕ) → Leads D R (listed type line)
   unfolding listed
@@ -148,7 +156,8 @@ module _ {D : Working → Type 0} {R : Working → Working → Type 0} (way : Is
       either way (is_at is_item w.forest line) (retyped_above type (parent_of w.forest line))
       (λ u. cond (list_all (is_at is_inline w.forest) (children_of w.forest line)) (itemized type line (previous_of w.forest line) u) (Ok u))
       (retyped_above_path type (parent_of w.forest line))
-      (either way (list_all (is_at is_inline w.forest) (children_of w.forest line)) (itemized type line (previous_of w.forest line)) (λ u. Ok u) (itemized_path type line (previous_of w.forest line)) (stays way))
+      (either way (list_all (is_at is_inline w.forest) (children_of w.forest line)) (itemized type line (previous_of w.forest line)) (λ u. Ok u)
+      (itemized_path type line (previous_of w.forest line)) (stays way))
       w v r e
 
   pub make_list_path : (type : ListType) → Leads D R (make_list_step type)
@@ -160,8 +169,10 @@ module _ {D : Working → Type 0} {R : Working → Working → Type 0} (way : Is
   emptied_into_path : (paragraph line : ℕ) → Leads D R (emptied_into paragraph line)
   unfolding emptied_into
   emptied_into_path paragraph line w v r e =
-      from_ way w (pointed (moved_to line (element_point paragraph 0)) w) v (in_turn (moved_to_end paragraph) (filter (is_at is_inline w.forest) (children_of w.forest line)))
-      (points way (moved_to line (element_point paragraph 0)) w r) (every way (moved_to_end paragraph) (filter (is_at is_inline w.forest) (children_of w.forest line)) (to_end paragraph)) e
+      from_ way w (pointed (moved_to line (element_point paragraph 0)) w) v
+      (in_turn (moved_to_end paragraph) (filter (is_at is_inline w.forest) (children_of w.forest line)))
+      (points way (moved_to line (element_point paragraph 0)) w r)
+      (every way (moved_to_end paragraph) (filter (is_at is_inline w.forest) (children_of w.forest line)) (to_end paragraph)) e
 
   paragraph_made_path : (list line : ℕ) → Leads D R (paragraph_made list line)
   unfolding paragraph_made
@@ -191,7 +202,8 @@ module _ {D : Working → Type 0} {R : Working → Working → Type 0} (way : Is
 
   wrapped_like_path : (x : ℕ) (like : Option Label) → Leads D R (wrapped_like x like)
   wrapped_like_path x like =
-      with_new_path Item (item_fields None) (λ outer. with_like like (λ inner u. after (put_before_step outer x u) (λ put. after (put_step inner outer 0 put) (moved_to_end inner x)))) (λ outer.
+      with_new_path Item (item_fields None)
+      (λ outer. with_like like (λ inner u. after (put_before_step outer x u) (λ put. after (put_step inner outer 0 put) (moved_to_end inner x)))) (λ outer.
       with_like_path like (λ inner u. after (put_before_step outer x u) (λ put. after (put_step inner outer 0 put) (moved_to_end inner x))) (λ inner.
       chained way (put_before_step outer x) (λ u put. after (put_step inner outer 0 put) (moved_to_end inner x)) (before outer x) (λ u.
       chained way (put_step inner outer 0) (λ put. moved_to_end inner x) (into inner outer 0) (λ put. to_end inner x))))
@@ -202,12 +214,14 @@ module _ {D : Working → Type 0} {R : Working → Working → Type 0} (way : Is
 
   taken_from_path : (list further : ℕ) (o : Option ℕ) → Leads D R (taken_from list further o)
   taken_from_path list further None = stays way
-  taken_from_path list further (Some holder) = chained way (children_step further list) (λ w. remove_step holder) (children_go further list) (λ w. removes holder)
+  taken_from_path list further (Some holder) =
+      chained way (children_step further list) (λ w. remove_step holder) (children_go further list) (λ w. removes holder)
 
   moved_between_path : (list further x : ℕ) → Leads D R (moved_between list further x)
   unfolding moved_between
   moved_between_path list further x =
-      chained way (moved_to_end list x) (λ w v. taken_from list further (parent_of v.forest further) v) (to_end list x) (λ w v u r e. taken_from_path list further (parent_of v.forest further) v u r e)
+      chained way (moved_to_end list x) (λ w v. taken_from list further (parent_of v.forest further) v) (to_end list x)
+      (λ w v u r e. taken_from_path list further (parent_of v.forest further) v u r e)
 
   moved_to_front_path : (list x : ℕ) → Leads D R (moved_to_front list x)
   unfolding moved_to_front
@@ -222,7 +236,8 @@ module _ {D : Working → Type 0} {R : Working → Working → Type 0} (way : Is
   indented_path : (x : ℕ) → Leads D R (indented x)
   unfolding indented
   indented_path x w v r e =
-      either way (is_at is_item w.forest x) (nested_by (nested_in w.forest (previous_of w.forest x)) (nested_in w.forest (next_of w.forest x)) x) (change_step (with_indent deeper) x)
+      either way (is_at is_item w.forest x) (nested_by (nested_in w.forest (previous_of w.forest x)) (nested_in w.forest (next_of w.forest x)) x)
+      (change_step (with_indent deeper) x)
       (nested_by_path (nested_in w.forest (previous_of w.forest x)) (nested_in w.forest (next_of w.forest x)) x) (change_path (with_indent deeper) x) w v r e
 
   pub indent_path : Leads D R indent_step
@@ -233,10 +248,18 @@ module _ {D : Working → Type 0} {R : Working → Working → Type 0} (way : Is
 
   parted_like_path : (x : ℕ) (items : List ℕ) (outer : ℕ) (like : Option Label) → Leads D R (parted_like x items outer like)
   parted_like_path x items outer like =
-      with_new_path Item (item_fields None) (λ item. with_like like (λ inner u. after (put_step inner item 0 u) (λ put. after (in_turn (moved_to_end inner) items put) (λ moved. after (put_behind_step item outer moved) (moved_behind outer x))))) (λ item.
-      with_like_path like (λ inner u. after (put_step inner item 0 u) (λ put. after (in_turn (moved_to_end inner) items put) (λ moved. after (put_behind_step item outer moved) (moved_behind outer x)))) (λ inner.
-      chained way (put_step inner item 0) (λ u put. after (in_turn (moved_to_end inner) items put) (λ moved. after (put_behind_step item outer moved) (moved_behind outer x))) (into inner item 0) (λ u.
-      chained way (in_turn (moved_to_end inner) items) (λ put moved. after (put_behind_step item outer moved) (moved_behind outer x)) (every way (moved_to_end inner) items (to_end inner)) (λ put.
+      with_new_path Item (item_fields None)
+      (λ item. with_like like
+      (λ inner u. after (put_step inner item 0 u)
+      (λ put. after (in_turn (moved_to_end inner) items put) (λ moved. after (put_behind_step item outer moved) (moved_behind outer x))))) (λ item.
+      with_like_path like
+      (λ inner u. after (put_step inner item 0 u)
+      (λ put. after (in_turn (moved_to_end inner) items put) (λ moved. after (put_behind_step item outer moved) (moved_behind outer x)))) (λ inner.
+      chained way (put_step inner item 0)
+      (λ u put. after (in_turn (moved_to_end inner) items put) (λ moved. after (put_behind_step item outer moved) (moved_behind outer x)))
+      (into inner item 0) (λ u.
+      chained way (in_turn (moved_to_end inner) items) (λ put moved. after (put_behind_step item outer moved) (moved_behind outer x))
+      (every way (moved_to_end inner) items (to_end inner)) (λ put.
       chained way (put_behind_step item outer) (λ moved. moved_behind outer x) (behind item outer) (λ moved. moved_behind_path way outer x tt)))))
 
   parted_path : (x list outer : ℕ) → Leads D R (parted x list outer)
@@ -248,7 +271,9 @@ module _ {D : Working → Type 0} {R : Working → Working → Type 0} (way : Is
   moved_out_path x list outer w v r e =
       either way (is_named (first_child w.forest list) x && is_named (first_child w.forest outer) list) (moved_before outer x)
       (λ u. cond (is_none (next_of w.forest x)) (moved_behind outer x u) (parted x list outer u))
-      (moved_before_path way outer x tt) (either way (is_none (next_of w.forest x)) (moved_behind outer x) (parted x list outer) (moved_behind_path way outer x tt) (parted_path x list outer)) w v r e
+      (moved_before_path way outer x tt)
+      (either way (is_none (next_of w.forest x)) (moved_behind outer x) (parted x list outer) (moved_behind_path way outer x tt) (parted_path x list outer))
+      w v r e
 
   gone_path : (list : ℕ) → Leads D R (gone_if_empty list)
   gone_path list w v r e = if_ way (size_of w.forest list == 0) (remove_step list) w v r (removes list) e
@@ -281,7 +306,8 @@ module _ {D : Working → Type 0} {R : Working → Working → Type 0} (way : Is
   rest_parted_path paragraph [] like = stays way
   rest_parted_path paragraph (item ∷ items) like =
       with_like_path like (λ rest v. after (put_behind_step rest paragraph v) (in_turn (moved_to_end rest) (item ∷ items))) (λ rest.
-      chained way (put_behind_step rest paragraph) (λ v. in_turn (moved_to_end rest) (item ∷ items)) (behind rest paragraph) (λ v. every way (moved_to_end rest) (item ∷ items) (to_end rest)))
+      chained way (put_behind_step rest paragraph) (λ v. in_turn (moved_to_end rest) (item ∷ items)) (behind rest paragraph)
+      (λ v. every way (moved_to_end rest) (item ∷ items) (to_end rest)))
 
   caret_then : (x paragraph : ℕ) → Leads D R (λ left. remove_step x (caret_at (element_point paragraph 0) left))
   caret_then x paragraph w v r e =
@@ -289,9 +315,14 @@ module _ {D : Working → Type 0} {R : Working → Working → Type 0} (way : Is
 
   paragraph_behind_like_path : (x list : ℕ) (items : List ℕ) (like : Option Label) → Leads D R (paragraph_behind_like x list items like)
   paragraph_behind_like_path x list items like =
-      with_new_path Paragraph plain_element (λ paragraph v. after (put_behind_step paragraph list v) (λ put. after (rest_parted paragraph items like put) (λ left. remove_step x (caret_at (element_point paragraph 0) left)))) (λ paragraph.
-      chained way (put_behind_step paragraph list) (λ v put. after (rest_parted paragraph items like put) (λ left. remove_step x (caret_at (element_point paragraph 0) left))) (behind paragraph list) (λ v.
-      chained way (rest_parted paragraph items like) (λ put left. remove_step x (caret_at (element_point paragraph 0) left)) (rest_parted_path paragraph items like) (λ put. caret_then x paragraph)))
+      with_new_path Paragraph plain_element
+      (λ paragraph v. after (put_behind_step paragraph list v)
+      (λ put. after (rest_parted paragraph items like put) (λ left. remove_step x (caret_at (element_point paragraph 0) left)))) (λ paragraph.
+      chained way (put_behind_step paragraph list)
+      (λ v put. after (rest_parted paragraph items like put) (λ left. remove_step x (caret_at (element_point paragraph 0) left))) (behind paragraph list)
+      (λ v.
+      chained way (rest_parted paragraph items like) (λ put left. remove_step x (caret_at (element_point paragraph 0) left))
+      (rest_parted_path paragraph items like) (λ put. caret_then x paragraph)))
 
   paragraph_behind_path : (x list : ℕ) → Leads D R (paragraph_behind x list)
   unfolding paragraph_behind
@@ -300,7 +331,8 @@ module _ {D : Working → Type 0} {R : Working → Working → Type 0} (way : Is
   ended_by_path : (x list : ℕ) (o : Option ℕ) → Leads D R (ended_by x list o)
   ended_by_path x list None w v r e = stays way w v r e
   ended_by_path x list (Some above) w v r e =
-      either way (is_at is_item w.forest above) (out_of x list above) (paragraph_behind x list) (out_of_path x list above) (paragraph_behind_path x list) w v r e
+      either way (is_at is_item w.forest above) (out_of x list above) (paragraph_behind x list) (out_of_path x list above) (paragraph_behind_path x list) w v r
+      e
 
   ended_in_path : (x : ℕ) (o : Option ℕ) → Leads D R (ended_in x o)
   ended_in_path x None w v r e = stays way w v r e
@@ -314,7 +346,8 @@ module _ {D : Working → Type 0} {R : Working → Working → Type 0} (way : Is
 
   pub set_checked_path : (item : ℕ) (checked : Bool) → Leads D R (set_checked_step item checked)
   unfolding set_checked_step
-  set_checked_path item checked w v r e = allowed R w v (item_fault w.forest item) (check_item (Some checked) item) (λ f. check_item_path (Some checked) item w v r f) e
+  set_checked_path item checked w v r e =
+      allowed R w v (item_fault w.forest item) (check_item (Some checked) item) (λ f. check_item_path (Some checked) item w v r f) e
 
   toggled_path : (o : Option ℕ) → Leads D R (toggled o)
   toggled_path None w v r e = absurd (cc)
@@ -323,7 +356,8 @@ module _ {D : Working → Type 0} {R : Working → Working → Type 0} (way : Is
   pub toggle_checked_path : Leads D R toggle_checked_step
   unfolding toggle_checked_step
   toggle_checked_path w v r e =
-      by_read way w v (range_of w) (λ range. toggled (block_of w.forest range.anchor.key)) (λ range f. toggled_path (block_of w.forest range.anchor.key) w v r f) e
+      by_read way w v (range_of w) (λ range. toggled (block_of w.forest range.anchor.key))
+      (λ range f. toggled_path (block_of w.forest range.anchor.key) w v r f) e
 
   numbered_from_path : (n : ℕ) (items : List ℕ) → Leads D R (numbered_from n items)
   unfolding numbered_from

@@ -42,11 +42,13 @@ number_rewrites w b h held suited quiet few small =
     let lists : List ℕ = filter (is_at is_list f) (preorder f) in
     let numbered : IsNumbered f = still_numbered w b h held quiet in
     let items : sum_by (items_below f) lists ≡ weight items_in f = items_sum (λ l. 1) f h held (none_loose w b quiet) in
-    let characters : sum_by (characters_below f) lists ≡ weight item_characters_in f = items_sum (λ l. characters_of l.fields) f h held (none_loose w b quiet) in
+    let characters : sum_by (characters_below f) lists ≡ weight item_characters_in f =
+    items_sum (λ l. characters_of l.fields) f h held (none_loose w b quiet) in
     lists_again lists w h held suited
     (λ list among. (
       passes_filter (is_at is_list f) (preorder f) list among,
-      numbered.each list (sym (is_among-preorder_of f list) ∙ among_all (is_at is_list f) (preorder f) list among) (passes_filter (is_at is_list f) (preorder f) list among),
+      numbered.each list (sym (is_among-preorder_of f list)
+          ∙ among_all (is_at is_list f) (preorder f) list among) (passes_filter (is_at is_list f) (preorder f) list among),
     ))
     (omega (arith, few, items), omega (arith, small, characters))
     ∙ ap₂ (λ n m. Ok (rewritten n m w)) items characters
@@ -56,8 +58,10 @@ uncapped : (n more : ℕ) → more + capped n ≤ most_written → capped n ≡ 
 unfolding capped
 uncapped n more fits = grind (arith, nat_tests, fits)
 
-pub number_rewritten : (w v : Working) (n m : ℕ) → BeganNumbered w → IsReady w → IsHeld may_hold w.forest → IsSuited w.forest → stand_still w.forest w.marks ≡ true
-    → n ≡ weight items_in w.forest → m ≡ capped (weight item_characters_in w.forest) → w.counted + n ≤ most_counts → w.written + m ≤ most_written → v ≡ rewritten n m w → number_step w ≡ Ok v
+pub number_rewritten : (w v : Working) (n m : ℕ) → BeganNumbered w → IsReady w → IsHeld may_hold w.forest → IsSuited w.forest
+    → stand_still w.forest w.marks ≡ true
+    → n ≡ weight items_in w.forest → m ≡ capped (weight item_characters_in w.forest) → w.counted + n ≤ most_counts → w.written + m ≤ most_written
+    → v ≡ rewritten n m w → number_step w ≡ Ok v
 number_rewritten w v n m b ready held suited still n_is m_is few small v_is =
     let exact : m ≡ weight item_characters_in w.forest = m_is ∙ uncapped (weight item_characters_in w.forest) w.written (omega (arith, small, m_is)) in
     number_rewrites w b ready.in_order held suited (quiet_still w still) (omega (arith, few, n_is)) (omega (arith, small, exact))

@@ -45,7 +45,8 @@ start_of_label None h = omega arith
 start_of_label (Some l) h = start_of_fields l.kind l.fields h
 
 -- so many more than the number with which a list begins fit a machine's number
-pub numbers_small : (w : Working) (list : ℕ) (first : ℕ) (items : List ℕ) → IsWorking w → IsSuited w.forest → first ≡ start_at (fields_of w.forest list) → items ≡ children_of w.forest list
+pub numbers_small : (w : Working) (list : ℕ) (first : ℕ) (items : List ℕ) → IsWorking w → IsSuited w.forest → first ≡ start_at (fields_of w.forest list)
+    → items ≡ children_of w.forest list
     → first + length items < 2 ^ 32
 numbers_small w list first items h suited is own =
     let low : start_at (fields_of w.forest list) ≤ 1000000 = start_of_label (label_of w.forest list) (suited.each list) in

@@ -44,20 +44,24 @@ all_among p (x ∷ xs) q all among = elim (eqb_tells x q) [
 all_flagged : (p : ℕ → Bool) (es : List (ℕ × Bool)) (q : ℕ) → list_all (λ e. not (e.1 && p e.0)) es ≡ true → is_true_flag (flag_in es q) ≡ true → p q ≡ false
 all_flagged p [] q all flagged = absurd (cc)
 all_flagged p (e ∷ es) q all flagged = elim (eqb_tells q e.0) [
-  | inl own ↦ let here : (e.1 && p e.0) ≡ false = grind (arith, all) in let flag : e.1 ≡ true = grind (arith, flagged, own.0) in ap p own.1 ∙ grind (arith, here, flag)
+  | inl own ↦ let here : (e.1 && p e.0) ≡ false = grind (arith, all) in let flag : e.1 ≡ true =
+      grind (arith, flagged, own.0) in ap p own.1 ∙ grind (arith, here, flag)
   | inr other ↦ all_flagged p es q (grind (arith, all)) (grind (arith, flagged, other.0))
 ]
 
 pub quiet_still : (w : Working) → stand_still w.forest w.marks ≡ true → IsQuiet w
 quiet_still w still q marked =
     elim (cases_Bool (is_among q w.marks.leaves)) [
-      | inl leaf ↦ (let fine : not (may_renumber w.forest q) ≡ true = all_among (λ k. not (may_renumber w.forest k)) w.marks.leaves q (grind (arith, still)) leaf in grind (arith, fine))
+      | inl leaf ↦
+          (let fine : not (may_renumber w.forest q)
+          ≡ true = all_among (λ k. not (may_renumber w.forest k)) w.marks.leaves q (grind (arith, still)) leaf in grind (arith, fine))
       | inr other ↦ all_flagged (may_renumber w.forest) w.marks.elements q (grind (arith, still)) (grind (arith, marked, other))
     ]
 
 spot_kept : (w : Working) (b : BeganNumbered w) (q : ℕ) → IsQuiet w → may_renumber w.forest q ≡ true → spot w.forest q ≡ spot b.before q
 spot_kept w b q quiet is = by_seen (b.marks.seen q) where
-  by_seen : ((spot w.forest q ≡ spot b.before q) × (record_at w.forest q ≡ record_at b.before q)) ⊎ (is_touched w.marks q ≡ true) → spot w.forest q ≡ spot b.before q
+  by_seen : ((spot w.forest q ≡ spot b.before q) × (record_at w.forest q ≡ record_at b.before q)) ⊎ (is_touched w.marks q ≡ true)
+      → spot w.forest q ≡ spot b.before q
   by_seen (inl same) = same.0
   by_seen (inr marked) = let clash : may_renumber w.forest q ≡ false = quiet q marked in absurd (cc)
 
@@ -114,7 +118,8 @@ nesting_kept w b q same =
     ∙ first_kept w b (first_child b.before q)
     (λ k e. has-child b.before k q (parent_there b.before q k b.in_order (first_of-among (children_of b.before q) k e))))
 
-list_unchanged : (w : Working) (b : BeganNumbered w) (list : ℕ) → IsForest w.forest → IsHeld may_hold w.forest → IsQuiet w → is_at is_list w.forest list ≡ true → IsUnchanged b.before w.forest list
+list_unchanged : (w : Working) (b : BeganNumbered w) (list : ℕ) → IsForest w.forest → IsHeld may_hold w.forest → IsQuiet w → is_at is_list w.forest list ≡ true
+    → IsUnchanged b.before w.forest list
 list_unchanged w b list h held quiet is = record {
   start = ap (λ s. start_at (fields_in s)) (list_kept w b list quiet is);
   children = ap children_at (list_kept w b list quiet is);
@@ -126,5 +131,6 @@ pub still_numbered : (w : Working) → BeganNumbered w → IsForest w.forest →
 still_numbered w b h held quiet = record {
   each = λ list attached is_a_list.
       let was : is_at is_list b.before list ≡ true = sym (ap (λ s. passes is_list (kind_in s)) (list_kept w b list quiet is_a_list)) ∙ is_a_list in
-      stays_numbered b.before w.forest list (list_unchanged w b list h held quiet is_a_list) (b.numbered.each list (b.whole list (there_at is_list b.before list was)) was);
+      stays_numbered b.before w.forest list (list_unchanged w b list h held quiet is_a_list)
+      (b.numbered.each list (b.whole list (there_at is_list b.before list was)) was);
 }

@@ -28,14 +28,19 @@ use Rattle.lx_list.proofs.Numbered.{parent_there}
 
 -- ---- a sum over all keys is one over the first trees' and one over the children of each
 
-below_sum : (g : ℕ → ℕ) (children : ℕ → List ℕ) (r : Option ℕ) (t : Forest) → ((q : ℕ) → count q t < 2) → ((q : ℕ) (s : Spot Label) → spot_below key_of r t q ≡ Some s → children q ≡ s.children)
+below_sum : (g : ℕ → ℕ) (children : ℕ → List ℕ) (r : Option ℕ) (t : Forest) → ((q : ℕ) → count q t < 2)
+    → ((q : ℕ) (s : Spot Label) → spot_below key_of r t q ≡ Some s → children q ≡ s.children)
     → sum_by g (named.preorder key_of t) ≡ sum_by g (named.names key_of t) + sum_by (λ k. sum_by g (children k)) (named.preorder key_of t)
 below_sum g children r nil once told = refl
 below_sum g children r (tree l below rest) once told =
     let own : sum_by g (children l.key) ≡ sum_by g (named.names key_of below) =
     ap (sum_by g) (told l.key (record { label = l; parent = r; children = named.names key_of below }) (grind (arith, eqb_tells l.key l.key))) in
-    let inner = below_sum g children (Some l.key) below (λ q. omega (arith, once q)) (λ q s e. told q s (grind (arith, e, once q, eqb_tells l.key q, spot_below-absent key_of (Some l.key) below q))) in
-    let outer = below_sum g children r rest (λ q. omega (arith, once q)) (λ q s e. told q s (grind (arith, e, once q, eqb_tells l.key q, spot_below-absent key_of (Some l.key) below q, spot_below-absent key_of r rest q))) in
+    let inner =
+    below_sum g children (Some l.key) below (λ q. omega (arith, once q))
+    (λ q s e. told q s (grind (arith, e, once q, eqb_tells l.key q, spot_below-absent key_of (Some l.key) below q))) in
+    let outer =
+    below_sum g children r rest (λ q. omega (arith, once q))
+    (λ q s e. told q s (grind (arith, e, once q, eqb_tells l.key q, spot_below-absent key_of (Some l.key) below q, spot_below-absent key_of r rest q))) in
     omega (
       arith,
       own,
@@ -51,7 +56,8 @@ below_sum g children r (tree l below rest) once told =
 tree_sum : (g : ℕ → ℕ) (f : Forest) → IsForest f → sum_by g (preorder f) ≡ g 0 + sum_by (λ k. sum_by g (children_of f k)) (preorder f)
 tree_sum g f h =
     let all = below_sum g (children_of f) None (alone 0 f) (tree_distinct f h) told in
-    let first : sum_by g (named.names key_of (alone 0 f)) ≡ g 0 = ap (sum_by g) (names-alone key_of 0 f (grind (arith, h.once 0, has-root f h))) ∙ omega (arith, sum_by-cons g 0 []) in
+    let first : sum_by g (named.names key_of (alone 0 f)) ≡ g 0 =
+    ap (sum_by g) (names-alone key_of 0 f (grind (arith, h.once 0, has-root f h))) ∙ omega (arith, sum_by-cons g 0 []) in
     omega (arith, all, first)
   where
     told : (q : ℕ) (s : Spot Label) → spot_below key_of None (alone 0 f) q ≡ Some s → children_of f q ≡ s.children
@@ -99,7 +105,9 @@ light_child of f k q held other up =
     ap (λ o. weight_in (weighed of) (option_map (λ (s : Spot Label). s.label) o)) inner.1 ∙ weighs_nothing of inner.0.label not_it
   where
     not_item : (outer inner : Kind) → is_list outer ≡ false → may_hold outer inner ≡ true → is_item inner ≡ false
-    not_item outer inner is may = elim (cases_Bool (is_item inner)) [ inl item ↦ (let a_list : is_list outer ≡ true = held_item outer inner item may in absurd (cc)) | inr not_it ↦ not_it ]
+    not_item outer inner is may =
+        elim (cases_Bool (is_item inner))
+        [ inl item ↦ (let a_list : is_list outer ≡ true = held_item outer inner item may in absurd (cc)) | inr not_it ↦ not_it ]
 
 light_root : (of : Label → ℕ) (f : Forest) → IsForest f → own_weight (weighed of) f 0 ≡ 0
 unfolding is_item
@@ -117,7 +125,8 @@ light_root of f h = by_spot (spot f 0) refl where
 
 whole_sum : (of : Label → ℕ) (f : Forest) → IsForest f → ((q : ℕ) → is_top f q ≡ false) → sum_by (own_weight of f) (preorder f) ≡ weight of f
 whole_sum of f h none =
-    let kept = weight-preorder of (own_weight of f) f h (λ q s e. ap (λ (o : Option (Spot Label)). weight_in of (option_map (λ (t : Spot Label). t.label) o)) e) in
+    let kept =
+    weight-preorder of (own_weight of f) f h (λ q s e. ap (λ (o : Option (Spot Label)). weight_in of (option_map (λ (t : Spot Label). t.label) o)) e) in
     let gone : 0 ≡ weight of (without 0 f) = weight-tops of f [] h tt (λ q. sym (none q)) in
     omega (arith, kept, gone, weight-drop_detached of f)
 

@@ -32,19 +32,22 @@ no_repeats_back : (xs ys : List ℕ) → NoRepeats (xs ++ ys) → NoRepeats ys
 no_repeats_back [] ys u = u
 no_repeats_back (x ∷ xs) ys u = no_repeats_back xs ys u.1
 
-behind_left : (f : Forest) (q : ℕ) (stop : Option (ℕ × ℕ)) → IfSome stop (λ next. behind f q ≡ from f next.0) → IfNone stop (behind f q ≡ []) → left_from f stop ≡ behind f q
+behind_left : (f : Forest) (q : ℕ) (stop : Option (ℕ × ℕ)) → IfSome stop (λ next. behind f q ≡ from f next.0) → IfNone stop (behind f q ≡ [])
+    → left_from f stop ≡ behind f q
 behind_left f q None some none = sym none
 behind_left f q (Some next) some none = sym some
 
 -- the nodes from one on, up to what comes after its tree, are those of its tree
-pub tree_walked : (test : ℕ → Bool) (f : Forest) (q : ℕ) (stop : Option (ℕ × ℕ)) → Sound f → is_attached f q ≡ true → IfSome stop (λ next. behind f q ≡ from f next.0) → IfNone stop (behind f q ≡ [])
+pub tree_walked : (test : ℕ → Bool) (f : Forest) (q : ℕ) (stop : Option (ℕ × ℕ)) → Sound f → is_attached f q ≡ true
+    → IfSome stop (λ next. behind f q ≡ from f next.0) → IfNone stop (behind f q ≡ [])
     → IfSome stop (λ next. depth f next.0 ≡ Some next.1) → filter test (until (key_of_step stop) (from f q)) ≡ filter test (keys_within f q)
 tree_walked test f q stop s attached some none deep =
     let h : IsForest f = in_order_with f q s attached in
     let is : from f q ≡ keys_within f q ++ behind f q = from_is f q h attached in
     let once : NoRepeats (from f q) = no_repeats_back _ (from f q) (subst NoRepeats (before_and_from f q h attached) (NoRepeats-preorder_of f h)) in
     let stop_is : key_of_step stop ≡ first_of (behind f q) = first_left f stop (next_at stop f deep) ∙ ap first_of (behind_left f q stop some none) in
-    ap (filter test) (ap (λ o. until o (from f q)) stop_is ∙ ap (until (first_of (behind f q))) is ∙ until_front (keys_within f q) (behind f q) (subst NoRepeats is once))
+    ap (filter test)
+    (ap (λ o. until o (from f q)) stop_is ∙ ap (until (first_of (behind f q))) is ∙ until_front (keys_within f q) (behind f q) (subst NoRepeats is once))
 
 -- ---- the list around a line
 
@@ -64,7 +67,8 @@ above_attached test f k b s attached e =
     let h : IsForest f = in_order_at f k s there in
     attached_above f b k h attached (is_within-ancestors f b k h there ∙ more_among k b (ancestors f k) (found_among test (ancestors f k) b e))
 
-pub found_attached : (test : ℕ → Bool) (o : Option ℕ) (f : Forest) (k : ℕ) → Sound f → is_attached f k ≡ true → o ≡ find test (ancestors f k) → IfSome o (λ b. is_attached f b ≡ true)
+pub found_attached : (test : ℕ → Bool) (o : Option ℕ) (f : Forest) (k : ℕ) → Sound f → is_attached f k ≡ true → o ≡ find test (ancestors f k)
+    → IfSome o (λ b. is_attached f b ≡ true)
 found_attached test None f k s attached e = tt
 found_attached test (Some b) f k s attached e = above_attached test f k b s attached (sym e)
 

@@ -52,16 +52,19 @@ pub record WentDown (w v : Working) (p x : ℕ) : Type 0 where
   pub is_item : item.kind ≡ Item
   pub like : kind_of w.forest p ≡ Some list.kind
   pub sunk : HasSunk (with_new list (with_new item w.forest)) v.forest p x item.key list.key
-  pub stays : has_point_on p w.selection ≡ false → has_point_on item.key w.selection ≡ false → has_point_on list.key w.selection ≡ false → v.selection ≡ w.selection
+  pub stays : has_point_on p w.selection ≡ false → has_point_on item.key w.selection ≡ false → has_point_on list.key w.selection ≡ false
+      → v.selection ≡ w.selection
 
 later_free : (w : Working) (l : Label) (m : ℕ) → IsReady w → l.key ≡ w.next_key → m ≡ w.next_key + 1 → has m (with_new l w.forest) ≡ false
 later_free w l m ready first next = grind (arith, first, next, ready.free m (omega (arith, next)), count-with_new m l w.forest, eqb_tells l.key m)
 
-pub went_down : (x p : ℕ) (l : Label) (w v : Working) → IsReady w → parent_of w.forest x ≡ Some p → label_of w.forest p ≡ Some l → wrapped_like x (Some l) w ≡ Ok v → WentDown w v p x
+pub went_down : (x p : ℕ) (l : Label) (w v : Working) → IsReady w → parent_of w.forest x ≡ Some p → label_of w.forest p ≡ Some l
+    → wrapped_like x (Some l) w ≡ Ok v → WentDown w v p x
 went_down x p l w v ready up like e =
     let n : ℕ = w.next_key in
     let f : Forest = w.forest in
-    let into : ℕ → ℕ → Working → Result Working Cause = λ outer inner u. after (put_before_step outer x u) (λ put. after (put_step inner outer 0 put) (moved_to_end inner x)) in
+    let into : ℕ → ℕ → Working → Result Working Cause =
+    λ outer inner u. after (put_before_step outer x u) (λ put. after (put_step inner outer 0 put) (moved_to_end inner x)) in
     let a = first_part (new_step Item (item_fields None) w) (with_like (Some l) (into n)) v e in
     let m : ℕ = a.0.next_key in
     let b = first_part (new_step l.kind l.fields a.0) (into n m) v a.2 in
@@ -76,7 +79,8 @@ went_down x p l w v ready up like e =
     let two : n ≢ m = λ same. absurd (omega (arith, same, made.next)) in
     let new : Forest = with_new ml (with_new nl f) in
     let order : IsForest new = two_order f nl ml ready.in_order free_n free_m in
-    let empty : (q : ℕ) → has q f ≡ false → children_of new q ≡ [] = λ q free. two_children f nl ml ready.in_order free_n free_m q ∙ (is_absent f q free).children in
+    let empty : (q : ℕ) → has q f ≡ false → children_of new q ≡ [] =
+    λ q free. two_children f nl ml ready.in_order free_n free_m q ∙ (is_absent f q free).children in
     let up_new : parent_of new x ≡ Some p = two_parent f nl ml ready.in_order free_n free_m x ∙ up in
     let is_new : b.0.forest ≡ new = made_list.forest ∙ ap (with_new ml) made.forest in
     let put = was_put_before n x p b.0 c.0 (subst IsForest (sym is_new) order) (ap (λ z. parent_of z x) is_new ∙ up_new) c.1 in
@@ -106,11 +110,14 @@ went_down x p l w v ready up like e =
       stays = λ off_p off_n off_m.
           let sel_b : b.0.selection ≡ w.selection = made_list.selection ∙ made.selection in
           let sel_c : c.0.selection ≡ w.selection =
-          before_stays n x p b.0 c.0 (subst IsForest (sym is_new) order) (ap (λ z. parent_of z x) is_new ∙ up_new) c.1 (ap (has_point_on p) sel_b ∙ off_p) ∙ sel_b in
+          before_stays n x p b.0 c.0 (subst IsForest (sym is_new) order) (ap (λ z. parent_of z x) is_new ∙ up_new) c.1 (ap (has_point_on p) sel_b ∙ off_p)
+          ∙ sel_b in
           let sel_d : d.0.selection ≡ w.selection = put_stays m n 0 c.0 d.0 d.1 (ap (has_point_on n) sel_c ∙ off_n) ∙ sel_c in
           let here : parent_of d.0.forest x ≡ Some p =
-          ap (λ z. parent_of z x) nested.1 ∙ parent_of-put_in n (slice_get (children_of c.0.forest n) 0) m c.0.forest x (subst IsForest (sym is_put) (beside-order new p x n may)) nested.0
-          ∙ ap (λ b. cond b (Some n) (parent_of c.0.forest x)) (different x m (λ same. absurd (grind (arith, up, no_parent f m (ready.free m (omega (arith, made.next))), ap (parent_of f) same)))) ∙ above in
+          ap (λ z. parent_of z x) nested.1
+          ∙ parent_of-put_in n (slice_get (children_of c.0.forest n) 0) m c.0.forest x (subst IsForest (sym is_put) (beside-order new p x n may)) nested.0
+          ∙ ap (λ b. cond b (Some n) (parent_of c.0.forest x))
+          (different x m (λ same. absurd (grind (arith, up, no_parent f m (ready.free m (omega (arith, made.next))), ap (parent_of f) same)))) ∙ above in
           to_end_stays m x p d.0 v d.2 here (ap (has_point_on p) sel_d ∙ off_p) (ap (has_point_on m) sel_d ∙ off_m) ∙ sel_d;
     }
 
@@ -144,7 +151,8 @@ module _ (w v : Working) (p x : ℕ) (h : IsForest w.forest) (s : WentDown w v p
   list_kind = new_kind list ∙ ap (λ b. cond b (Some s.list.kind) (cond (eqb list item) (Some s.item.kind) (kind_of w.forest list))) (own list)
 
   x_kind : kind_of new x ≡ kind_of w.forest x
-  x_kind = new_kind x ∙ grind (arith, x_not_item new v.forest p x item list s.sunk, x_not_list new v.forest p x item list s.sunk, eqb_tells x item, eqb_tells x list)
+  x_kind =
+      new_kind x ∙ grind (arith, x_not_item new v.forest p x item list s.sunk, x_not_list new v.forest p x item list s.sunk, eqb_tells x item, eqb_tells x list)
 
   -- what is removed once x has come out
   module _ (r u : Working) (up : WasMoved v.forest r.forest p x (Some item)) (list_is : is_list s.list.kind ≡ true) (e : remove_step list r ≡ Ok u) where
@@ -157,7 +165,8 @@ module _ (w v : Working) (p x : ℕ) (h : IsForest w.forest) (s : WentDown w v p
     two : item ≢ list
     two = s.sunk.two
 
-    both_gone : (u.forest ≡ take_out item (take_out list r.forest)) × (has_point_on p r.selection ≡ false → has_point_on item r.selection ≡ false → has_point_on list r.selection ≡ false → u.selection ≡ r.selection)
+    both_gone : (u.forest ≡ take_out item (take_out list r.forest))
+        × (has_point_on p r.selection ≡ false → has_point_on item r.selection ≡ false → has_point_on list r.selection ≡ false → u.selection ≡ r.selection)
     both_gone =
         let f : Forest = r.forest in
         let there = list_up new v.forest p x item list s.sunk r.forest p (Some item) rose in
@@ -170,9 +179,11 @@ module _ (w v : Working) (p x : ℕ) (h : IsForest w.forest) (s : WentDown w v p
         let above : parent_of g item ≡ Some p = still item two (item_up new v.forest p x item list s.sunk r.forest p (Some item) rose) in
         let empty : children_of g item ≡ [] =
         ap (λ z. children_of z item) gone ∙ children_of-take_out list f item r_order
-        ∙ ap (names_without list) (item_holds new v.forest p x item list s.sunk r.forest p (Some item) rose (not_new new p x item s.sunk.may)) ∙ grind (arith, eqb_tells list list) in
+        ∙ ap (names_without list) (item_holds new v.forest p x item list s.sunk r.forest p (Some item) rose (not_new new p x item s.sunk.may))
+        ∙ grind (arith, eqb_tells list list) in
         let outer : kind_of g item ≡ Some Item =
-        ap (λ z. kind_of z item) gone ∙ kind_of-take_out list f item r_order ∙ now_kind new v.forest p x item list s.sunk r.forest p (Some item) rose item ∙ item_kind in
+        ap (λ z. kind_of z item) gone ∙ kind_of-take_out list f item r_order ∙ now_kind new v.forest p x item list s.sunk r.forest p (Some item) rose item
+        ∙ item_kind in
         let inner : kind_of f list ≡ Some s.list.kind = now_kind new v.forest p x item list s.sunk r.forest p (Some item) rose list ∙ list_kind in
         let goes : may_not_be_left (kind_of g item) (kind_of f list) ≡ true = ap₂ may_not_be_left outer inner ∙ (item_goes s.list.kind).1 list_is in
         let next : Some item ≡ goes_next (kind_of f list) g (parent_of f list) =
@@ -192,35 +203,42 @@ module _ (w v : Working) (p x : ℕ) (h : IsForest w.forest) (s : WentDown w v p
 
   -- up, from the list in the item
   pub went_up : (u : Working) → is_at is_item w.forest x ≡ true → is_list s.list.kind ≡ true → outdented x v ≡ Ok u
-      → (u.forest ≡ new) × (has_point_on p v.selection ≡ false → has_point_on item v.selection ≡ false → has_point_on list v.selection ≡ false → u.selection ≡ v.selection)
+      → (u.forest ≡ new)
+      × (has_point_on p v.selection ≡ false → has_point_on item v.selection ≡ false → has_point_on list v.selection ≡ false → u.selection ≡ v.selection)
   unfolding outdented out_of moved_out
   went_up u is list_is e =
       let g : Forest = v.forest in
       let x_is : is_at is_item g x ≡ true = ap (passes is_item) (now_kind new g p x item list s.sunk g list None s.sunk.moved x ∙ x_kind) ∙ is in
-      let item_is : is_at is_item g item ≡ true = ap (passes is_item) (now_kind new g p x item list s.sunk g list None s.sunk.moved item ∙ item_kind) ∙ (item_goes Item).0 in
+      let item_is : is_at is_item g item ≡ true =
+      ap (passes is_item) (now_kind new g p x item list s.sunk g list None s.sunk.moved item ∙ item_kind) ∙ (item_goes Item).0 in
       let up_x = x_up new g p x item list s.sunk g list None s.sunk.moved in
       let up_list = list_up new g p x item list s.sunk g list None s.sunk.moved in
       let out : out_of x list item v ≡ Ok u = rw (x_is, up_x, up_list, item_is) at e in
       let x_first : is_named (first_child g list) x ≡ true = ap (λ ks. is_named (first_of ks) x) (sunk_list new g p x item list s.sunk) ∙ own x in
-      let list_first : is_named (first_child g item) list ≡ true = ap (λ ks. is_named (first_of ks) list) (item_holds new g p x item list s.sunk g list None s.sunk.moved (λ e. s.sunk.two (sym e))) ∙ own list in
+      let list_first : is_named (first_child g item) list ≡ true =
+      ap (λ ks. is_named (first_of ks) list) (item_holds new g p x item list s.sunk g list None s.sunk.moved (λ e. s.sunk.two (sym e))) ∙ own list in
       let a = first_part (moved_before item x v) (gone_if_empty list) u (rw (x_first, list_first) at out) in
       let up : WasMoved g a.0.forest p x (Some item) =
-      was_moved_before item x p v a.0 (now_order new g p x item list s.sunk g list None s.sunk.moved) (item_up new g p x item list s.sunk g list None s.sunk.moved) (λ same. x_not_item new g p x item list s.sunk (sym same)) a.1 in
+      was_moved_before item x p v a.0 (now_order new g p x item list s.sunk g list None s.sunk.moved)
+      (item_up new g p x item list s.sunk g list None s.sunk.moved) (λ same. x_not_item new g p x item list s.sunk (sym same)) a.1 in
       let left : (size_of a.0.forest list == 0) ≡ true = ap (λ (ks : List ℕ). length ks == 0) (left_list new g p x item list s.sunk a.0.forest up) in
       let removes : remove_step list a.0 ≡ Ok u = rw left at a.2 in (
         all_back a.0 u up list_is removes,
         λ off_p off_n off_m.
             let mid : a.0.selection ≡ v.selection =
-            moved_before_stays item x list p v a.0 (now_order new g p x item list s.sunk g list None s.sunk.moved) (item_up new g p x item list s.sunk g list None s.sunk.moved) (λ same. x_not_item new g p x item list s.sunk (sym same)) a.1
+            moved_before_stays item x list p v a.0 (now_order new g p x item list s.sunk g list None s.sunk.moved)
+            (item_up new g p x item list s.sunk g list None s.sunk.moved) (λ same. x_not_item new g p x item list s.sunk (sym same)) a.1
             (x_up new g p x item list s.sunk g list None s.sunk.moved) off_m off_p in
-            (both_gone a.0 u up list_is removes).1 (ap (has_point_on p) mid ∙ off_p) (ap (has_point_on item) mid ∙ off_n) (ap (has_point_on list) mid ∙ off_m) ∙ mid,
+            (both_gone a.0 u up list_is removes).1 (ap (has_point_on p) mid ∙ off_p) (ap (has_point_on item) mid ∙ off_n) (ap (has_point_on list) mid
+            ∙ off_m) ∙ mid,
       )
 
   -- the new ones aren't in the root's tree
   pub tree_kept : drop_detached new ≡ drop_detached w.forest
   unfolding drop_detached
   tree_kept =
-      let root : (l : Label) (f : Forest) → IsForest f → has l.key f ≡ false → 0 ≢ l.key = λ l f order free same. absurd (grind (arith, has-root f order, free, same)) in
+      let root : (l : Label) (f : Forest) → IsForest f → has l.key f ≡ false → 0 ≢ l.key =
+      λ l f order free same. absurd (grind (arith, has-root f order, free, same)) in
       alone-with_new s.list (with_new s.item w.forest) 0 (root s.list (with_new s.item w.forest) item_order s.list_free)
       ∙ alone-with_new s.item w.forest 0 (root s.item w.forest h s.item_free)
 
@@ -229,7 +247,8 @@ module _ (w v : Working) (p x : ℕ) (h : IsForest w.forest) (s : WentDown w v p
 absent : (f : Forest) (x q : ℕ) → has q f ≡ false → is_within f x q ≡ false
 absent f x q free = grind (arith, free, there_within f x q)
 
-wrapped_and_back : (x : ℕ) (w v u : Working) → GoesAndComes x w v u → (o : Option ℕ) → parent_of w.forest x ≡ o → wrapped_in x o w ≡ Ok v → (drop_detached u.forest ≡ drop_detached w.forest) × PointsStay x w v u
+wrapped_and_back : (x : ℕ) (w v u : Working) → GoesAndComes x w v u → (o : Option ℕ) → parent_of w.forest x ≡ o → wrapped_in x o w ≡ Ok v
+    → (drop_detached u.forest ≡ drop_detached w.forest) × PointsStay x w v u
 unfolding outdented
 wrapped_and_back x w v u s None top e =
     let same : w ≡ v = was_same w v e in
@@ -253,5 +272,6 @@ wrapped_and_back x w v u s (Some p) up e =
           (first, goes.1 (ap (has_point_on p) first ∙ off_p) (ap (has_point_on down.item.key) first ∙ off_item) (ap (has_point_on down.list.key) first ∙ off_list) ∙ first),
     )
 
-pub alone_and_back : (x : ℕ) (w v u : Working) → GoesAndComes x w v u → nested_before w.forest x ≡ None → nested_behind w.forest x ≡ None → (drop_detached u.forest ≡ drop_detached w.forest) × PointsStay x w v u
+pub alone_and_back : (x : ℕ) (w v u : Working) → GoesAndComes x w v u → nested_before w.forest x ≡ None → nested_behind w.forest x ≡ None
+    → (drop_detached u.forest ≡ drop_detached w.forest) × PointsStay x w v u
 alone_and_back x w v u s before behind = wrapped_and_back x w v u s (parent_of w.forest x) refl (deeper_by x w v None None s.item s.deeper before behind)

@@ -111,7 +111,8 @@ module _ (x list p holder : ℕ) (w v : Working) (s : WentIn x list p holder w v
   list_not_p : list ≢ p
   list_not_p e =
       let above : parent_of f p ≡ Some holder = sym (ap (parent_of f) e) ∙ list_up in
-      absurd (grind (arith, is_within-parent f holder p s.in_order s.holder_up, is_within-up f holder p holder s.in_order above p_not_holder, is_within-self f holder, has-child f holder p s.holder_up))
+      absurd (grind
+      (arith, is_within-parent f holder p s.in_order s.holder_up, is_within-up f holder p holder s.in_order above p_not_holder, is_within-self f holder, has-child f holder p s.holder_up))
 
   -- x isn't the list, which is in the neighbour
   list_not_x : list ≢ x
@@ -153,7 +154,8 @@ module _ (x list p holder : ℕ) (w v : Working) (s : WentIn x list p holder w v
   pub first_still : first_child g holder ≡ Some list
   first_still =
       let same : children_of g holder ≡ children_of f holder =
-      g_children holder (λ e. list_not_holder (sym e)) ∙ names_without-absent_list x (children_of f holder) (not_child f x p holder s.in_order s.up p_not_holder) in
+      g_children holder (λ e. list_not_holder (sym e))
+      ∙ names_without-absent_list x (children_of f holder) (not_child f x p holder s.in_order s.up p_not_holder) in
       ap first_of same ∙ s.first
 
   -- so it comes out of the list again
@@ -168,23 +170,27 @@ module _ (x list p holder : ℕ) (w v : Working) (s : WentIn x list p holder w v
   pub came_back : (y u : Working) → WasMoved g y.forest p x (next_in (children_of f p) x) → gone_if_empty list y ≡ Ok u
       → (has_point_on list v.selection ≡ false → has_point_on p v.selection ≡ false → y.selection ≡ v.selection) → (u.forest ≡ f) × PointsStay x w v u
   came_back y u came e comes =
-      let same : y.forest ≡ f = moved_back f y.forest p x s.in_order s.up (moved_twice f g list x s.place s.in_order s.went y.forest p (next_in (children_of f p) x) came) in
+      let same : y.forest ≡ f =
+      moved_back f y.forest p x s.in_order s.up (moved_twice f g list x s.place s.in_order s.went y.forest p (next_in (children_of f p) x) came) in
       let some : (size_of y.forest list == 0) ≡ false = ap (λ z. size_of z list == 0) same ∙ not_none (children_of f list) s.some in
       let stays : y ≡ u = was_same y u (rw some at e) in
-      let off : (q : ℕ) → has_points_within f x w.selection ≡ true → is_within f x q ≡ false → has_point_on q w.selection ≡ false = λ q points outside. off_outside f x q w.selection points outside in
+      let off : (q : ℕ) → has_points_within f x w.selection ≡ true → is_within f x q ≡ false → has_point_on q w.selection ≡ false =
+      λ q points outside. off_outside f x q w.selection points outside in
       let p_outside : is_within f x p ≡ false = is_within-parent f x p s.in_order s.up in
       let list_outside : is_within f x list ≡ false =
       is_within-up f x list holder s.in_order list_up list_not_x ∙ is_within-up f x holder p s.in_order s.holder_up s.apart ∙ p_outside in (
         sym (ap (λ (z : Working). z.forest) stays) ∙ same,
         λ points.
             let first : v.selection ≡ w.selection = s.stays (off p points p_outside) (off list points list_outside) in
-            let last : y.selection ≡ v.selection = comes (ap (has_point_on list) first ∙ off list points list_outside) (ap (has_point_on p) first ∙ off p points p_outside) in
+            let last : y.selection ≡ v.selection =
+            comes (ap (has_point_on list) first ∙ off list points list_outside) (ap (has_point_on p) first ∙ off p points p_outside) in
             (first, sym (ap (λ (z : Working). z.selection) stays) ∙ last ∙ first),
       )
 
 -- ---- after a nesting item
 
-back_behind : (x list p holder : ℕ) (w v u : Working) (s : WentIn x list p holder w v) → s.place ≡ None → previous_in (children_of w.forest p) x ≡ Some holder → outdented x v ≡ Ok u → (u.forest ≡ w.forest) × PointsStay x w v u
+back_behind : (x list p holder : ℕ) (w v u : Working) (s : WentIn x list p holder w v) → s.place ≡ None → previous_in (children_of w.forest p) x ≡ Some holder
+    → outdented x v ≡ Ok u → (u.forest ≡ w.forest) × PointsStay x w v u
 unfolding out_of moved_out
 back_behind x list p holder w v u s at previous e =
     let f : Forest = w.forest in
@@ -210,7 +216,8 @@ back_behind x list p holder w v u s at previous e =
 
 -- ---- before one
 
-back_ahead : (x list p holder : ℕ) (w v u : Working) (s : WentIn x list p holder w v) → s.place ≡ first_of (children_of w.forest list) → next_in (children_of w.forest p) x ≡ Some holder → outdented x v ≡ Ok u → (u.forest ≡ w.forest) × PointsStay x w v u
+back_ahead : (x list p holder : ℕ) (w v u : Working) (s : WentIn x list p holder w v) → s.place ≡ first_of (children_of w.forest list)
+    → next_in (children_of w.forest p) x ≡ Some holder → outdented x v ≡ Ok u → (u.forest ≡ w.forest) × PointsStay x w v u
 unfolding out_of moved_out
 back_ahead x list p holder w v u s at next e =
     let f : Forest = w.forest in
@@ -227,7 +234,8 @@ back_ahead x list p holder w v u s at next e =
 -- ---- the laws
 
 -- a neighbour has a parent, and so has the item
-neighbour_up : (f : Forest) (x holder : ℕ) (side : List ℕ → ℕ → Option ℕ) → side [] x ≡ None → side (children_below f (parent_of f x)) x ≡ Some holder → (p : ℕ) × (parent_of f x ≡ Some p) × (side (children_of f p) x ≡ Some holder)
+neighbour_up : (f : Forest) (x holder : ℕ) (side : List ℕ → ℕ → Option ℕ) → side [] x ≡ None → side (children_below f (parent_of f x)) x ≡ Some holder
+    → (p : ℕ) × (parent_of f x ≡ Some p) × (side (children_of f p) x ≡ Some holder)
 neighbour_up f x holder side none e =
     elim (cases_option (parent_of f x)) [
       | inl top ↦ absurd (let no : None ≡ Some holder = sym none ∙ sym (ap (λ o. side (children_below f o) x) top) ∙ e in cc)
@@ -239,7 +247,8 @@ pub deeper_by : (x : ℕ) (w v : Working) (before behind : Option ℕ) → is_at
 unfolding indented
 deeper_by x w v before behind item e is_before is_behind = rw (item, is_before, is_behind) at e
 
-pub behind_and_back : (x list : ℕ) (w v u : Working) → GoesAndComes x w v u → nested_before w.forest x ≡ Some list → nested_behind w.forest x ≡ None → children_of w.forest list ≢ [] → (u.forest ≡ w.forest) × PointsStay x w v u
+pub behind_and_back : (x list : ℕ) (w v u : Working) → GoesAndComes x w v u → nested_before w.forest x ≡ Some list → nested_behind w.forest x ≡ None
+    → children_of w.forest list ≢ [] → (u.forest ≡ w.forest) × PointsStay x w v u
 behind_and_back x list w v u s before behind some =
     let f : Forest = w.forest in
     let nest = nests f (previous_of f x) list before in
@@ -262,7 +271,8 @@ behind_and_back x list w v u s before behind some =
     } in
     back_behind x list at.0 nest.holder w v u went refl at.2 s.up
 
-pub ahead_and_back : (x list : ℕ) (w v u : Working) → GoesAndComes x w v u → nested_before w.forest x ≡ None → nested_behind w.forest x ≡ Some list → children_of w.forest list ≢ [] → (u.forest ≡ w.forest) × PointsStay x w v u
+pub ahead_and_back : (x list : ℕ) (w v u : Working) → GoesAndComes x w v u → nested_before w.forest x ≡ None → nested_behind w.forest x ≡ Some list
+    → children_of w.forest list ≢ [] → (u.forest ≡ w.forest) × PointsStay x w v u
 ahead_and_back x list w v u s before behind some =
     let f : Forest = w.forest in
     let nest = nests f (next_of f x) list behind in
@@ -283,4 +293,5 @@ ahead_and_back x list w v u s before behind some =
       went = was_moved_to_front list x w v s.ready.in_order step;
       stays = to_front_stays list x at.0 w v step at.1;
     } in
-    back_ahead x list at.0 nest.holder w v u went (ap first_of (names_without-absent_list x (children_of f list) (absent x list at.0 nest.holder w v went))) at.2 s.up
+    back_ahead x list at.0 nest.holder w v u went (ap first_of (names_without-absent_list x (children_of f list) (absent x list at.0 nest.holder w v went)))
+    at.2 s.up

@@ -39,14 +39,17 @@ unfolding take_moves is_behind
 take_leaves p index a off = grind (arith, off)
 
 take_apart : (p : ℕ) (o : Option ℕ) (s : Selection) → has_point_on p s ≡ false → take_points (Some p) o s ≡ s
-take_apart p (Some index) (Range a b format) off = let each = or_parts (a.key == p) (b.key == p) off in rw (take_leaves p index a each.0, take_leaves p index b each.1) refl
+take_apart p (Some index) (Range a b format) off = let each =
+    or_parts (a.key == p) (b.key == p) off in rw (take_leaves p index a each.0, take_leaves p index b each.1) refl
 take_apart p o other off = refl
 
-pub take_stays : (k p : ℕ) (w v : Working) → take_step k w ≡ Ok v → parent_of w.forest k ≡ Some p → has_point_on p w.selection ≡ false → v.selection ≡ w.selection
+pub take_stays : (k p : ℕ) (w v : Working) → take_step k w ≡ Ok v → parent_of w.forest k ≡ Some p → has_point_on p w.selection ≡ false
+    → v.selection ≡ w.selection
 unfolding take_step
 take_stays k p w v e up off =
     let told = answered (option_or (detach_fault k w.forest) (over_counts w)) (node_taken k w) v e in
-    sym (ap (λ (x : Working). x.selection) told.1) ∙ ap (λ o. take_points o (index_of w.forest k) w.selection) up ∙ take_apart p (index_of w.forest k) w.selection off
+    sym (ap (λ (x : Working). x.selection) told.1) ∙ ap (λ o. take_points o (index_of w.forest k) w.selection) up
+    ∙ take_apart p (index_of w.forest k) w.selection off
 
 pub put_stays : (k p index : ℕ) (w v : Working) → put_step k p index w ≡ Ok v → has_point_on p w.selection ≡ false → v.selection ≡ w.selection
 unfolding put_step
@@ -54,29 +57,35 @@ put_stays k p index w v e off =
     let told = answered (option_or (put_fault k p index w.forest) (over_counts w)) (node_placed k p index w) v e in
     sym (ap (λ (x : Working). x.selection) told.1) ∙ put-apart p index w.selection off
 
-pub before_stays : (k other p : ℕ) (w v : Working) → IsForest w.forest → parent_of w.forest other ≡ Some p → put_before_step k other w ≡ Ok v → has_point_on p w.selection ≡ false → v.selection ≡ w.selection
+pub before_stays : (k other p : ℕ) (w v : Working) → IsForest w.forest → parent_of w.forest other ≡ Some p → put_before_step k other w ≡ Ok v
+    → has_point_on p w.selection ≡ false → v.selection ≡ w.selection
 before_stays k other p w v h up e off = put_stays k p (gap_index (Some other) (children_of w.forest p)) w v (before_is w k p other h up ∙ e) off
 
-behind_stays : (k other p : ℕ) (w v : Working) → IsForest w.forest → parent_of w.forest other ≡ Some p → put_behind_step k other w ≡ Ok v → has_point_on p w.selection ≡ false → v.selection ≡ w.selection
-behind_stays k other p w v h up e off = put_stays k p (gap_index (next_of w.forest other) (children_of w.forest p)) w v (behind_is w k p other (next_of w.forest other) refl h up ∙ e) off
+behind_stays : (k other p : ℕ) (w v : Working) → IsForest w.forest → parent_of w.forest other ≡ Some p → put_behind_step k other w ≡ Ok v
+    → has_point_on p w.selection ≡ false → v.selection ≡ w.selection
+behind_stays k other p w v h up e off =
+    put_stays k p (gap_index (next_of w.forest other) (children_of w.forest p)) w v (behind_is w k p other (next_of w.forest other) refl h up ∙ e) off
 
 -- ---- moves, from below one node to below another
 
-pub to_end_stays : (to k p : ℕ) (w v : Working) → moved_to_end to k w ≡ Ok v → parent_of w.forest k ≡ Some p → has_point_on p w.selection ≡ false → has_point_on to w.selection ≡ false → v.selection ≡ w.selection
+pub to_end_stays : (to k p : ℕ) (w v : Working) → moved_to_end to k w ≡ Ok v → parent_of w.forest k ≡ Some p → has_point_on p w.selection ≡ false
+    → has_point_on to w.selection ≡ false → v.selection ≡ w.selection
 unfolding moved_to_end
 to_end_stays to k p w v e up off off_to =
     let a = first_part (take_step k w) (λ u. put_step k to (size_of u.forest to) u) v e in
     let taken = take_stays k p w a.0 a.1 up off in
     put_stays k to (size_of a.0.forest to) a.0 v a.2 (ap (has_point_on to) taken ∙ off_to) ∙ taken
 
-pub to_front_stays : (to k p : ℕ) (w v : Working) → moved_to_front to k w ≡ Ok v → parent_of w.forest k ≡ Some p → has_point_on p w.selection ≡ false → has_point_on to w.selection ≡ false → v.selection ≡ w.selection
+pub to_front_stays : (to k p : ℕ) (w v : Working) → moved_to_front to k w ≡ Ok v → parent_of w.forest k ≡ Some p → has_point_on p w.selection ≡ false
+    → has_point_on to w.selection ≡ false → v.selection ≡ w.selection
 unfolding moved_to_front
 to_front_stays to k p w v e up off off_to =
     let a = first_part (take_step k w) (put_step k to 0) v e in
     let taken = take_stays k p w a.0 a.1 up off in
     put_stays k to 0 a.0 v a.2 (ap (has_point_on to) taken ∙ off_to) ∙ taken
 
-pub moved_before_stays : (other k from p : ℕ) (w v : Working) → IsForest w.forest → parent_of w.forest other ≡ Some p → other ≢ k → moved_before other k w ≡ Ok v → parent_of w.forest k ≡ Some from
+pub moved_before_stays : (other k from p : ℕ) (w v : Working) → IsForest w.forest → parent_of w.forest other ≡ Some p → other ≢ k
+    → moved_before other k w ≡ Ok v → parent_of w.forest k ≡ Some from
     → has_point_on from w.selection ≡ false → has_point_on p w.selection ≡ false → v.selection ≡ w.selection
 unfolding moved_before
 moved_before_stays other k from p w v h up apart e below off off_to =
@@ -85,7 +94,8 @@ moved_before_stays other k from p w v h up apart e below off off_to =
     let still = still_there k other p w a.0 h up apart a.1 in
     before_stays k other p a.0 v still.0 still.1 a.2 (ap (has_point_on p) taken ∙ off_to) ∙ taken
 
-pub moved_behind_stays : (other k from p : ℕ) (w v : Working) → IsForest w.forest → parent_of w.forest other ≡ Some p → other ≢ k → moved_behind other k w ≡ Ok v → parent_of w.forest k ≡ Some from
+pub moved_behind_stays : (other k from p : ℕ) (w v : Working) → IsForest w.forest → parent_of w.forest other ≡ Some p → other ≢ k
+    → moved_behind other k w ≡ Ok v → parent_of w.forest k ≡ Some from
     → has_point_on from w.selection ≡ false → has_point_on p w.selection ≡ false → v.selection ≡ w.selection
 unfolding moved_behind
 moved_behind_stays other k from p w v h up apart e below off off_to =
@@ -96,7 +106,8 @@ moved_behind_stays other k from p w v h up apart e below off off_to =
 
 -- ---- removed
 
-pub sent_stays : (k p : ℕ) (w v : Working) → take_step k (sent_away k w) ≡ Ok v → parent_of w.forest k ≡ Some p → has_point_on k w.selection ≡ false → has_point_on p w.selection ≡ false → v.selection ≡ w.selection
+pub sent_stays : (k p : ℕ) (w v : Working) → take_step k (sent_away k w) ≡ Ok v → parent_of w.forest k ≡ Some p → has_point_on k w.selection ≡ false
+    → has_point_on p w.selection ≡ false → v.selection ≡ w.selection
 sent_stays k p w v e up off off_above = take_stays k p w v (ap (take_step k) (sym (sent_away-apart k w off)) ∙ e) up off_above
 
 -- where another child is left, nothing above goes too

@@ -87,13 +87,15 @@ first_at [] = refl
 first_at (x ∷ xs) = refl
 
 -- to the front: before what comes first when the node has left
-pub was_moved_to_front : (to k : ℕ) (w v : Working) → IsForest w.forest → moved_to_front to k w ≡ Ok v → WasMoved w.forest v.forest to k (first_of (names_without k (children_of w.forest to)))
+pub was_moved_to_front : (to k : ℕ) (w v : Working) → IsForest w.forest → moved_to_front to k w ≡ Ok v
+    → WasMoved w.forest v.forest to k (first_of (names_without k (children_of w.forest to)))
 unfolding moved_to_front
 was_moved_to_front to k w v h e =
     let a = first_part (take_step k w) (put_step k to 0) v e in
     let put = was_put k to 0 a.0 v a.2 in
     let there : slice_get (children_of a.0.forest to) 0 ≡ first_of (names_without k (children_of w.forest to)) =
-    first_at (children_of a.0.forest to) ∙ ap (λ f. first_of (children_of f to)) (was_taken k w a.0 a.1).0 ∙ ap first_of (children_of-take_out k w.forest to h) in
+    first_at (children_of a.0.forest to) ∙ ap (λ f. first_of (children_of f to)) (was_taken k w a.0 a.1).0
+    ∙ ap first_of (children_of-take_out k w.forest to h) in
     was_moved k to (first_of (names_without k (children_of w.forest to))) w a.0 v a.1 put.0 (put.1 ∙ ap (λ o. put_in to o k a.0.forest) there)
 
 -- ---- removed
@@ -104,5 +106,6 @@ pub was_removed : (k p : ℕ) (w v : Working) → IsForest w.forest → parent_o
 unfolding remove_step
 was_removed k p w v h up e =
     let above : removed k (p ∷ ancestors w.forest p) w ≡ Ok v = ap (λ ks. removed k ks w) (sym (ancestors-step w.forest k p h up)) ∙ e in
-    let a = first_part (take_step k (sent_away k w)) (λ u. cond (goes_too (kind_of w.forest k) u.forest p) (removed p (ancestors w.forest p) u) (Ok u)) v above in
+    let a = first_part (take_step k (sent_away k w)) (λ u. cond (goes_too (kind_of w.forest k) u.forest p) (removed p (ancestors w.forest p) u) (Ok u)) v
+    above in
     (a.0, a.1, taken-forest k (sent_away k w) a.0 a.1 ∙ ap (take_out k) (sent_away-forest k w))

@@ -110,7 +110,8 @@ module _ (f g : Forest) (p x item list : ℕ) (s : HasSunk f g p x item list) wh
   nobodys : (q : ℕ) → (is_among list (children_of f q) ≡ false) × (is_among item (children_of f q) ≡ false)
   nobodys q = (grind (arith, list_detached, is_among-children_of f list q h), grind (arith, s.may.can.detached, is_among-children_of f item q h))
 
-  left : (q : ℕ) → names_without item (names_without list (cond (eqb q p) (names_with (Some item) (x ∷ []) (names_without x (held q))) (names_without x (held q))))
+  left : (q : ℕ)
+      → names_without item (names_without list (cond (eqb q p) (names_with (Some item) (x ∷ []) (names_without x (held q))) (names_without x (held q))))
       ≡ children_of f q
   left q = elim (eqb_tells q p) [
     | inl own ↦
@@ -127,7 +128,8 @@ module _ (f g : Forest) (p x item list : ℕ) (s : HasSunk f g p x item list) wh
         )
     | inr other ↦
         let away = not_child f x p q h s.may.up (λ e. other.1 (sym e)) in
-        let gone : (c : ℕ) → is_among c (children_of f q) ≡ false → names_without c (children_of f q) ≡ children_of f q = λ c. names_without-absent_list c (children_of f q) in
+        let gone : (c : ℕ) → is_among c (children_of f q) ≡ false → names_without c (children_of f q) ≡ children_of f q =
+        λ c. names_without-absent_list c (children_of f q) in
         grind (arith, other.0, nested_children q, nobodys q, away, s.item_empty, x_not_list, eqb_tells q item, eqb_tells list list, eqb_tells list x, gone x, gone list, gone item)
   ]
 

@@ -35,12 +35,15 @@ block_stays f g q stay block =
     let kind = kind_known f q (there_at is_text_block f q block) in ap (passes is_text_block) (stay.each q kind.0 kind.1 ∙ sym kind.1) ∙ block
 
 -- the lines are text blocks
-keeps_lines : (type : ListType) (ks : List ℕ) (w v : Working) → IsSound w → ((q : ℕ) → is_among q ks ≡ true → is_at is_text_block w.forest q ≡ true) → in_turn (if_there (listed type)) ks w ≡ Ok v → Keeps w v
+keeps_lines : (type : ListType) (ks : List ℕ) (w v : Working) → IsSound w → ((q : ℕ) → is_among q ks ≡ true → is_at is_text_block w.forest q ≡ true)
+    → in_turn (if_there (listed type)) ks w ≡ Ok v → Keeps w v
 unfolding in_turn
 keeps_lines type [] w v s block e = keeps_same w v s e
 keeps_lines type (k ∷ ks) w v s block e =
     let a = first_part (if_there (listed type) k w) (in_turn (if_there (listed type)) ks) v e in
-    let one = keeps_either (is_attached w.forest k) (listed type k w) (Ok w) w a.0 (λ is e. keeps_listed type k w a.0 s (block_apart w.forest k (block k (grind (arith, eqb_tells k k)))) e) (λ is e. keeps_same w a.0 s e) a.1 in
+    let one =
+    keeps_either (is_attached w.forest k) (listed type k w) (Ok w) w a.0
+    (λ is e. keeps_listed type k w a.0 s (block_apart w.forest k (block k (grind (arith, eqb_tells k k)))) e) (λ is e. keeps_same w a.0 s e) a.1 in
     let rest = keeps_lines type ks a.0 v one.stays.sound (λ q among. block_stays w.forest a.0.forest q one.stays.kinds (block q (grind (arith, among)))) a.2 in
     keeps_then w a.0 v one rest
 

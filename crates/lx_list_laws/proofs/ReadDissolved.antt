@@ -134,7 +134,8 @@ module _ (f g : Forest) (p list : ℕ) (m : IsEmptied f g p list) where
       let outside : is_within f list b ≡ false = grind (arith, clear) in
       elim (eqb_tells b p) [
         | inl own ↦
-            let here : children_of g b ≡ names_with (Some list) m.all.paragraphs (children_of f b) = ap (children_of g) own.1 ∙ m.all.here ∙ ap (λ q. names_with (Some list) m.all.paragraphs (children_of f q)) (sym own.1) in
+            let here : children_of g b ≡ names_with (Some list) m.all.paragraphs (children_of f b) =
+            ap (children_of g) own.1 ∙ m.all.here ∙ ap (λ q. names_with (Some list) m.all.paragraphs (children_of f q)) (sym own.1) in
             let among : is_among list (children_of f b) ≡ true = ap (λ q. is_among list (children_of f q)) own.1 ∙ child_of f p list order m.up in
             let same : reads_of g m.all.paragraphs ++ read_below g list ≡ read_below f list =
             ap₂ (λ x y. x ++ y) m.all.says emptied_list ∙ append-nil (said f (lines_of f list)) ∙ list_said in
@@ -182,12 +183,14 @@ pub first_same : (w v : Working) → IsSound w → InlinesFirst w.forest → ◌
 first_same w v s first e = subst (KeepsFirst w) (was_same w v e) (record { stays = stays_selected w w s refl refl; first = first; read = refl })
 
 -- a list that is below nothing can't be removed, nor can anything come before it
-top_stays : (list : ℕ) (lines : List ℕ) (w u v : Working) → IsSound w → in_turn (paragraph_made list) lines w ≡ Ok u → remove_step list u ≡ Ok v → (p : ℕ) × (parent_of w.forest list ≡ Some p)
+top_stays : (list : ℕ) (lines : List ℕ) (w u v : Working) → IsSound w → in_turn (paragraph_made list) lines w ≡ Ok u → remove_step list u ≡ Ok v
+    → (p : ℕ) × (parent_of w.forest list ≡ Some p)
 unfolding in_turn paragraph_made remove_step
 top_stays list [] w u v s e f = elim (cases_option (parent_of w.forest list)) [
   | inl top ↦
       let same : w ≡ u = was_same w u e in
-      let alone : take_step list (sent_away list u) ≡ Ok v = ap (λ ks. removed list ks u) (sym (ancestors-top u.forest list (ap (λ (x : Working). parent_of x.forest list) (sym same) ∙ top))) ∙ f in
+      let alone : take_step list (sent_away list u) ≡ Ok v =
+      ap (λ ks. removed list ks u) (sym (ancestors-top u.forest list (ap (λ (x : Working). parent_of x.forest list) (sym same) ∙ top))) ∙ f in
       let taken = was_taken list (sent_away list u) v alone in
       (taken.1.0, ap (λ (x : Working). parent_of x.forest list) same ∙ ap (λ x. parent_of x list) (sym (sent_away-forest list u)) ∙ taken.1.1)
   | inr found ↦ found
@@ -203,14 +206,16 @@ top_stays list (line ∷ lines) w u v s e f =
 pub block_apart : (f : Forest) (k : ℕ) → is_at is_text_block f k ≡ true → is_at is_inline f k ≡ false
 block_apart f k is = grind (arith, is, so_at is_inline is_text_block false inline_no_block f k)
 
-may_say : (f : Forest) (p list : ℕ) → IsForest f → IsHeld may_hold f → parent_of f list ≡ Some p → is_at is_list f list ≡ true → MaySay f p list (lines_of f list)
+may_say : (f : Forest) (p list : ℕ) → IsForest f → IsHeld may_hold f → parent_of f list ≡ Some p → is_at is_list f list ≡ true
+    → MaySay f p list (lines_of f list)
 may_say f p list h held up is =
     let inside : (q : ℕ) → is_among q (lines_of f list) ≡ true → is_within f list q ≡ true = λ q among. grind (arith, among_lines f list q, among) in
     let block : (q : ℕ) → is_among q (lines_of f list) ≡ true → is_at is_text_block f q ≡ true = λ q among. grind (arith, among_lines f list q, among) in
     record {
       up = up;
       place = grind (arith, inline_below f list p held up, so_at is_list is_inline false (λ kind e. (list_tells kind e).1) f list is);
-      once = NoRepeats-filter (is_line f) (keys_within f list) (NoRepeats-preorder key_of (alone list f) (λ q. omega (arith, count-alone-le key_of q list f, h.once q)));
+      once = NoRepeats-filter (is_line f) (keys_within f list)
+          (NoRepeats-preorder key_of (alone list f) (λ q. omega (arith, count-alone-le key_of q list f, h.once q)));
       there = λ q among. there_at is_text_block f q (block q among);
       apart = λ q among. grind (arith, inside q among, is_within-parent f list p h up, eqb_tells q p);
       block = λ q among. block_apart f q (block q among);

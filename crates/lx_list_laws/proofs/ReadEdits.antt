@@ -61,11 +61,13 @@ born kind fields w u v p before s mute e can put =
         told = record {
           before = h;
           behind = subst IsForest (sym put) (IsForest-put_in p before n u.forest order can);
-          texts = λ q. ap (λ x. text_at x q) put ∙ ap (λ o. text_or_none (text_in o)) (label_of-put_in p before n u.forest q order can) ∙ ap (λ x. text_at x q) is ∙ text_new f l q h free mute;
+          texts = λ q. ap (λ x. text_at x q) put ∙ ap (λ o. text_or_none (text_in o)) (label_of-put_in p before n u.forest q order can)
+              ∙ ap (λ x. text_at x q) is ∙ text_new f l q h free mute;
         };
         free = free;
         other = grind (arith, eqb_tells n p, can.outside, can.there, is_within-self u.forest n);
-        up = λ q. ap (λ x. parent_of x q) put ∙ parent_of-put_in p before n u.forest q order can ∙ ap (cond (eqb q n) (Some p)) (ap (λ x. parent_of x q) is ∙ parent_of-with_new l f q h free);
+        up = λ q. ap (λ x. parent_of x q) put ∙ parent_of-put_in p before n u.forest q order can
+            ∙ ap (cond (eqb q n) (Some p)) (ap (λ x. parent_of x q) is ∙ parent_of-with_new l f q h free);
         children = λ q. ap (λ x. children_of x q) put ∙ children_of-put_in p before n u.forest q order can
             ∙ ap (λ ks. cond (eqb q p) (names_with before (n ∷ []) ks) ks) (ap (λ x. children_of x q) is ∙ children_of-with_new l f q h free);
       };
@@ -78,16 +80,19 @@ pub born_last : (kind : Kind) (fields : Fields) (w u v : Working) (p : ℕ) → 
     → put_step w.next_key p (size_of u.forest p) u ≡ Ok v → IsBorn w v kind p None
 born_last kind fields w u v p s mute e put =
     let was = was_put w.next_key p (size_of u.forest p) u v put in
-    born kind fields w u v p None s mute e was.0 (was.1 ∙ ap (λ o. put_in p o w.next_key u.forest) (slice_get_past (children_of u.forest p) (size_of u.forest p) (omega arith)))
+    born kind fields w u v p None s mute e was.0
+    (was.1 ∙ ap (λ o. put_in p o w.next_key u.forest) (slice_get_past (children_of u.forest p) (size_of u.forest p) (omega arith)))
 
 -- a new node changes no parent
-pub parent_made : (kind : Kind) (fields : Fields) (w u : Working) (q : ℕ) → IsSound w → new_step kind fields w ≡ Ok u → parent_of u.forest q ≡ parent_of w.forest q
+pub parent_made : (kind : Kind) (fields : Fields) (w u : Working) (q : ℕ) → IsSound w → new_step kind fields w ≡ Ok u
+    → parent_of u.forest q ≡ parent_of w.forest q
 parent_made kind fields w u q s e =
     ap (λ x. parent_of x q) (new_forest kind fields w u e)
     ∙ parent_of-with_new (record { key = w.next_key; kind = kind; fields = fields }) w.forest q s.ready.in_order (is_free w s)
 
 -- before another node
-pub born_at : (kind : Kind) (fields : Fields) (w u v : Working) (other p : ℕ) → IsSound w → is_text kind ≡ false → parent_of w.forest other ≡ Some p → new_step kind fields w ≡ Ok u
+pub born_at : (kind : Kind) (fields : Fields) (w u v : Working) (other p : ℕ) → IsSound w → is_text kind ≡ false → parent_of w.forest other ≡ Some p
+    → new_step kind fields w ≡ Ok u
     → put_before_step w.next_key other u ≡ Ok v → IsBorn w v kind p (Some other)
 born_at kind fields w u v other p s mute up e put =
     let order : IsForest u.forest = (sound_new kind fields w u s e).sound.ready.in_order in
@@ -107,7 +112,8 @@ born_before kind fields w u v other s mute e put =
     record { parent = below.0; up = up; born = born_at kind fields w u v other below.0 s mute up e put }
 
 -- where one test of kinds says what another does, it does so of a node
-pub so_at : (test other : Kind → Bool) (t : Bool) → ((kind : Kind) → test kind ≡ true → other kind ≡ t) → (f : Forest) (k : ℕ) → is_at test f k ≡ true → is_at other f k ≡ t
+pub so_at : (test other : Kind → Bool) (t : Bool) → ((kind : Kind) → test kind ≡ true → other kind ≡ t) → (f : Forest) (k : ℕ) → is_at test f k ≡ true
+    → is_at other f k ≡ t
 so_at test other t so f k is = let kind = kind_known f k (there_at test f k is) in ap (passes other) kind.1 ∙ so kind.0 (sym (ap (passes test) kind.1) ∙ is)
 
 -- a key that isn't there is of no kind
@@ -115,7 +121,8 @@ absent_at : (test : Kind → Bool) (f : Forest) (k : ℕ) → has k f ≡ false 
 absent_at test f k free = grind (arith, free, there_at test f k)
 
 -- whether a node is of a kind stays, where the new one isn't
-pub kinds_born : (test : Kind → Bool) (w v : Working) (kind : Kind) (p : ℕ) (before : Option ℕ) → IsBorn w v kind p before → test kind ≡ false → (q : ℕ) → is_at test v.forest q ≡ is_at test w.forest q
+pub kinds_born : (test : Kind → Bool) (w v : Working) (kind : Kind) (p : ℕ) (before : Option ℕ) → IsBorn w v kind p before → test kind ≡ false → (q : ℕ)
+    → is_at test v.forest q ≡ is_at test w.forest q
 kinds_born test w v kind p before b clear q =
     ap (passes test) (b.kinds q) ∙ grind (arith, clear, absent_at test w.forest w.next_key b.came.free, eqb_tells q w.next_key)
 
@@ -127,20 +134,26 @@ first_born w v kind p before b clear place first = record { each = λ x item. by
   same : (q : ℕ) → is_at is_inline v.forest q ≡ is_at is_inline w.forest q
   same q = kinds_born is_inline w v kind p before b clear q
 
-  there : (x : ℕ) → is_at is_item w.forest x ≡ true → stand_first (is_at is_inline w.forest) (cond (eqb x p) (names_with before (w.next_key ∷ []) (children_of w.forest x)) (children_of w.forest x)) ≡ true
+  there : (x : ℕ) → is_at is_item w.forest x ≡ true
+      → stand_first (is_at is_inline w.forest) (cond (eqb x p) (names_with before (w.next_key ∷ []) (children_of w.forest x)) (children_of w.forest x)) ≡ true
   there x item = elim place [
     | inl none ↦ grind (arith, none, item, first.each x item, eqb_tells x p)
     | inr (o, is, other) ↦
-        let born = first-with (is_at is_inline w.forest) w.next_key o (children_of w.forest x) (absent_at is_inline w.forest w.next_key b.came.free) other (first.each x item) in
+        let born =
+        first-with (is_at is_inline w.forest) w.next_key o (children_of w.forest x) (absent_at is_inline w.forest w.next_key b.came.free) other
+        (first.each x item) in
         rw is (grind (arith, born, first.each x item))
   ]
 
-  by_key : (x : ℕ) → is_at is_item v.forest x ≡ true → ((eqb x w.next_key ≡ true) × (x ≡ w.next_key)) ⊎ ((eqb x w.next_key ≡ false) × (x ≢ w.next_key)) → stand_first (is_at is_inline v.forest) (children_of v.forest x) ≡ true
-  by_key x item (inl own) = ap (stand_first (is_at is_inline v.forest)) (ap (children_of v.forest) own.1 ∙ came_empty w.forest v.forest w.next_key p before b.came)
+  by_key : (x : ℕ) → is_at is_item v.forest x ≡ true → ((eqb x w.next_key ≡ true) × (x ≡ w.next_key)) ⊎ ((eqb x w.next_key ≡ false) × (x ≢ w.next_key))
+      → stand_first (is_at is_inline v.forest) (children_of v.forest x) ≡ true
+  by_key x item (inl own) =
+      ap (stand_first (is_at is_inline v.forest)) (ap (children_of v.forest) own.1 ∙ came_empty w.forest v.forest w.next_key p before b.came)
   by_key x item (inr other) =
       let was : is_at is_item w.forest x ≡ true = sym (ap (passes is_item) (b.kinds x ∙ ap (λ t. cond t (Some kind) (kind_of w.forest x)) other.0)) ∙ item in
       ap (stand_first (is_at is_inline v.forest)) (b.came.children x)
-      ∙ first-same (is_at is_inline v.forest) (is_at is_inline w.forest) (cond (eqb x p) (names_with before (w.next_key ∷ []) (children_of w.forest x)) (children_of w.forest x)) (λ q among. same q)
+      ∙ first-same (is_at is_inline v.forest) (is_at is_inline w.forest)
+      (cond (eqb x p) (names_with before (w.next_key ∷ []) (children_of w.forest x)) (children_of w.forest x)) (λ q among. same q)
       ∙ there x was
 
 -- ---- all children of a node go to another
@@ -150,15 +163,22 @@ pub kinds_went : (test : Kind → Bool) (f g : Forest) (from to : ℕ) (ks : Lis
 kinds_went test f g from to ks o q = ap (λ l. passes test (option_map (λ (x : Label). x.kind) l)) (o.label q)
 
 -- Inline children come first in each item then, where they do in the node to which all went.
-pub first_went : (f g : Forest) (from to : ℕ) → WentAll f g from to → (is_at is_item f to ≡ true → stand_first (is_at is_inline f) (children_of f to ++ children_of f from) ≡ true) → InlinesFirst f → InlinesFirst g
-first_went f g from to t there first = record { each = λ x item. same (children_of g x) ∙ by_key x (sym (kinds_went is_item f g from to (children_of f from) t.over x) ∙ item) (eqb_tells x from) (eqb_tells x to) } where
-  same : (xs : List ℕ) → stand_first (is_at is_inline g) xs ≡ stand_first (is_at is_inline f) xs
-  same xs = first-same (is_at is_inline g) (is_at is_inline f) xs (λ q among. kinds_went is_inline f g from to (children_of f from) t.over q)
+pub first_went : (f g : Forest) (from to : ℕ) → WentAll f g from to
+    → (is_at is_item f to ≡ true → stand_first (is_at is_inline f) (children_of f to ++ children_of f from) ≡ true) → InlinesFirst f → InlinesFirst g
+first_went f g from to t there first =
+    record {
+      each = λ x item. same (children_of g x)
+          ∙ by_key x (sym (kinds_went is_item f g from to (children_of f from) t.over x) ∙ item) (eqb_tells x from) (eqb_tells x to);
+    } where
+      same : (xs : List ℕ) → stand_first (is_at is_inline g) xs ≡ stand_first (is_at is_inline f) xs
+      same xs = first-same (is_at is_inline g) (is_at is_inline f) xs (λ q among. kinds_went is_inline f g from to (children_of f from) t.over q)
 
-  by_key : (x : ℕ) → is_at is_item f x ≡ true → ((eqb x from ≡ true) × (x ≡ from)) ⊎ ((eqb x from ≡ false) × (x ≢ from)) → ((eqb x to ≡ true) × (x ≡ to)) ⊎ ((eqb x to ≡ false) × (x ≢ to)) → stand_first (is_at is_inline f) (children_of g x) ≡ true
-  by_key x item (inl own) place = ap (stand_first (is_at is_inline f)) (ap (children_of g) own.1 ∙ t.none)
-  by_key x item (inr away) (inl own) = ap (stand_first (is_at is_inline f)) (ap (children_of g) own.1 ∙ t.over.there) ∙ there (ap (is_at is_item f) (sym own.1) ∙ item)
-  by_key x item (inr away) (inr other) = ap (stand_first (is_at is_inline f)) (t.over.others x away.1 other.1) ∙ first.each x item
+      by_key : (x : ℕ) → is_at is_item f x ≡ true → ((eqb x from ≡ true) × (x ≡ from)) ⊎ ((eqb x from ≡ false) × (x ≢ from))
+          → ((eqb x to ≡ true) × (x ≡ to)) ⊎ ((eqb x to ≡ false) × (x ≢ to)) → stand_first (is_at is_inline f) (children_of g x) ≡ true
+      by_key x item (inl own) place = ap (stand_first (is_at is_inline f)) (ap (children_of g) own.1 ∙ t.none)
+      by_key x item (inr away) (inl own) =
+          ap (stand_first (is_at is_inline f)) (ap (children_of g) own.1 ∙ t.over.there) ∙ there (ap (is_at is_item f) (sym own.1) ∙ item)
+      by_key x item (inr away) (inr other) = ap (stand_first (is_at is_inline f)) (t.over.others x away.1 other.1) ∙ first.each x item
 
 -- ---- removed
 
@@ -172,7 +192,8 @@ first_out f k h first = record {
   each = λ x item.
       let was : is_at is_item f x ≡ true = sym (ap (passes is_item) (kind_of-take_out k f x h)) ∙ item in
       ap (stand_first (is_at is_inline (take_out k f))) (children_of-take_out k f x h)
-      ∙ first-same (is_at is_inline (take_out k f)) (is_at is_inline f) (names_without k (children_of f x)) (λ q among. ap (passes is_inline) (kind_of-take_out k f q h))
+      ∙ first-same (is_at is_inline (take_out k f)) (is_at is_inline f) (names_without k (children_of f x))
+      (λ q among. ap (passes is_inline) (kind_of-take_out k f q h))
       ∙ first-without (is_at is_inline f) k (children_of f x) (first.each x was);
 }
 

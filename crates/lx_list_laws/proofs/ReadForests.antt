@@ -17,7 +17,8 @@ pub record AreTold (f g : Forest) : Type 0 where
 
 -- The same is read below each node but for some, where it is below its children taken together.
 pub reads_told : (f g : Forest) (skip : ℕ → Bool) → AreTold f g
-    → ((b : ℕ) → skip b ≡ false → IsKnown f g skip b → reads_of g (children_of g b) ≡ reads_of f (children_of f b)) → (b : ℕ) → skip b ≡ false → read_below g b ≡ read_below f b
+    → ((b : ℕ) → skip b ≡ false → IsKnown f g skip b → reads_of g (children_of g b) ≡ reads_of f (children_of f b)) → (b : ℕ) → skip b ≡ false
+    → read_below g b ≡ read_below f b
 reads_told f g skip t level = reads_by f g skip t.before t.behind (λ b clear k. record { text = t.texts b; below = level b clear k })
 
 -- where each node has the children that it had

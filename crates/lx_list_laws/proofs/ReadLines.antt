@@ -64,9 +64,11 @@ unfolding is_list is_item is_text
 listed_no_text kinds.Text e = absurd (cc)
 listed_no_text kind e = refl
 
-pub listed_below : (f : Forest) (q p : ℕ) → IsHeld may_hold f → parent_of f q ≡ Some p → is_at is_listed f p ≡ true → is_at is_inline f q ≡ false → is_at is_listed f q ≡ true
+pub listed_below : (f : Forest) (q p : ℕ) → IsHeld may_hold f → parent_of f q ≡ Some p → is_at is_listed f p ≡ true → is_at is_inline f q ≡ false
+    → is_at is_listed f q ≡ true
 listed_below f q p held up is other =
-    let k = both_kinds (λ outer inner. is_listed outer ≡ true → is_inline inner ≡ false → is_listed inner ≡ true) f q p held up (λ outer inner a b h x y. listed_holds outer inner h x y) in
+    let k = both_kinds (λ outer inner. is_listed outer ≡ true → is_inline inner ≡ false → is_listed inner ≡ true) f q p held up
+    (λ outer inner a b h x y. listed_holds outer inner h x y) in
     ap (passes is_listed) k.3 ∙ k.4 (sym (ap (passes is_listed) k.2) ∙ is) (sym (ap (passes is_inline) k.3) ∙ other)
 
 pub listed_silent : (f : Forest) (k : ℕ) → is_at is_listed f k ≡ true → text_at f k ≡ []
@@ -120,7 +122,8 @@ mixed test give read (x ∷ xs) first none same =
 line_says : (f : Forest) (k : ℕ) → is_at is_text_block f k ≡ true → says f k ≡ reads_of f (inlines f k)
 line_says f k block = elim (cases_Bool (list_any (is_at is_inline f) (children_of f k))) [
   | inl some ↦ grind (arith, block, some)
-  | inr none ↦ grind (arith, block, none, filter-gone (is_at is_inline f) (children_of f k) (λ q among. none-any (is_at is_inline f) (children_of f k) q none among))
+  | inr none ↦
+      grind (arith, block, none, filter-gone (is_at is_inline f) (children_of f k) (λ q among. none-any (is_at is_inline f) (children_of f k) q none among))
 ]
 
 pub is_block_at : (f : Forest) (k : ℕ) → is_at is_item f k ≡ true → is_at is_text_block f k ≡ true
@@ -139,7 +142,8 @@ list_or_item f k is = let kind = kind_known f k (there_at is_listed f k is) in e
 -- what is read below a list or an item is what the lines of its tree say
 pub lines_read : (f : Forest) → IsForest f → IsHeld may_hold f → InlinesFirst f → (k : ℕ) → is_at is_listed f k ≡ true → read_below f k ≡ below (says f) f k
 lines_read f h held first k is = down f h (λ q. is_at is_listed f q ≡ true → read_below f q ≡ below (says f) f q) level k is where
-  level : (b : ℕ) → ((c : ℕ) → parent_of f c ≡ Some b → is_at is_listed f c ≡ true → read_below f c ≡ below (says f) f c) → is_at is_listed f b ≡ true → read_below f b ≡ below (says f) f b
+  level : (b : ℕ) → ((c : ℕ) → parent_of f c ≡ Some b → is_at is_listed f c ≡ true → read_below f c ≡ below (says f) f c) → is_at is_listed f b ≡ true
+      → read_below f b ≡ below (says f) f b
   level b each here =
       let others : (q : ℕ) → is_among q (children_of f b) ≡ true → is_at is_inline f q ≡ false → read_below f q ≡ below (says f) f q =
       λ q among other. let up = parent_here f b q h among in each q up (listed_below f q b held up here other) in
@@ -149,9 +153,11 @@ lines_read f h held first k is = down f h (λ q. is_at is_listed f q ≡ true �
       below-level (says f) f b h (λ free. absurd (grind (arith, free, there_at is_listed f b here))) in
       one ∙ elim (list_or_item f b here) [
         | inl list ↦
-            spread-same (read_below f) (below (says f) f) (children_of f b) (λ q among. others q among (none_in_list f q b held (parent_here f b q h among) list))
+            spread-same (read_below f) (below (says f) f) (children_of f b)
+            (λ q among. others q among (none_in_list f q b held (parent_here f b q h among) list))
             ∙ sym (ap (λ t. cond t (reads_of f (inlines f b)) [] ++ spread (below (says f) f) (children_of f b)) (list_no_line f b list))
         | inr item ↦
-            mixed (is_at is_inline f) (below (says f) f) (read_below f) (children_of f b) (first.each b item) (λ q among inline. inline_says_nothing f h held q inline) others
+            mixed (is_at is_inline f) (below (says f) f) (read_below f) (children_of f b) (first.each b item)
+            (λ q among inline. inline_says_nothing f h held q inline) others
             ∙ ap (λ t. t ++ spread (below (says f) f) (children_of f b)) (sym (line_says f b (is_block_at f b item)))
       ] ∙ sym two

@@ -63,12 +63,14 @@ pub keeps_same : (w v : Working) → IsSound w → ◌≡◌ {A = Result Working
 keeps_same w v s e = subst (Keeps w) (was_same w v e) (record { stays = stays_selected w w s refl refl; first = λ x. x; read = refl })
 
 -- where a test chooses between two
-pub keeps_either : (t : Bool) (one other : Result Working Cause) (w v : Working) → (t ≡ true → one ≡ Ok v → Keeps w v) → (t ≡ false → other ≡ Ok v → Keeps w v) → cond t one other ≡ Ok v → Keeps w v
+pub keeps_either : (t : Bool) (one other : Result Working Cause) (w v : Working) → (t ≡ true → one ≡ Ok v → Keeps w v) → (t ≡ false → other ≡ Ok v → Keeps w v)
+    → cond t one other ≡ Ok v → Keeps w v
 keeps_either true one other w v first second e = first refl e
 keeps_either false one other w v first second e = second refl e
 
 -- a step for each of a list
-pub keeps_each : (step : ℕ → Working → Result Working Cause) → ((k : ℕ) (w v : Working) → IsSound w → step k w ≡ Ok v → Keeps w v) → (ks : List ℕ) (w v : Working) → IsSound w → in_turn step ks w ≡ Ok v → Keeps w v
+pub keeps_each : (step : ℕ → Working → Result Working Cause) → ((k : ℕ) (w v : Working) → IsSound w → step k w ≡ Ok v → Keeps w v)
+    → (ks : List ℕ) (w v : Working) → IsSound w → in_turn step ks w ≡ Ok v → Keeps w v
 unfolding in_turn
 keeps_each step each [] w v s e = keeps_same w v s e
 keeps_each step each (k ∷ ks) w v s e =
@@ -104,9 +106,11 @@ has_item : (f u : Forest) (line list item : ℕ) (m : MayBeItem f line list) →
 has_item f u line list item m c =
     let h : IsForest f = c.told.before in
     let up = both_up f m.parent list line h m.beside in
-    let two : eqb list line ≡ false = (beside-apart m.beside.front m.beside.rest list line (subst NoRepeats m.beside.is (NoRepeats-children_of f m.parent h))).two in
+    let two : eqb list line ≡ false =
+    (beside-apart m.beside.front m.beside.rest list line (subst NoRepeats m.beside.is (NoRepeats-children_of f m.parent h))).two in
     let elsewhere : (q : ℕ) → eqb q list ≡ false → children_of u q ≡ children_of f q = came_elsewhere f u item list None c in
-    let here : children_of u m.parent ≡ children_of f m.parent = elsewhere m.parent (grind (arith, up.0, parent_of-self f list h, eqb_tells list m.parent, eqb_tells m.parent list)) in
+    let here : children_of u m.parent ≡ children_of f m.parent =
+    elsewhere m.parent (grind (arith, up.0, parent_of-self f list h, eqb_tells list m.parent, eqb_tells m.parent list)) in
     record {
       beside = record { front = m.beside.front; rest = m.beside.rest; is = here ∙ m.beside.is };
       last = came_here f u item list None c ∙ names_with-end item (children_of f list);
@@ -116,7 +120,8 @@ has_item f u line list item m c =
     }
 
 -- it takes what is in the line
-item_filled : (f u x : Forest) (line list item : ℕ) (m : MayBeItem f line list) → CameNew f u item list None → WentAll u x line item → read_below x 0 ≡ read_below u 0
+item_filled : (f u x : Forest) (line list item : ℕ) (m : MayBeItem f line list) → CameNew f u item list None → WentAll u x line item
+    → read_below x 0 ≡ read_below u 0
 item_filled f u x line list item m c t =
     let i = has_item f u line list item m c in
     let h : IsForest u = c.told.behind in
@@ -127,9 +132,11 @@ item_filled f u x line list item m c t =
       leaf = i.leaf;
     } in
     let up = both_up u m.parent list line h i.beside in
-    read_back_in u x m.parent list line item back 0 (not_root u list m.parent h up.0) (not_root u line m.parent h up.1) (not_root u item list h (up_item u x m.parent list line item back))
+    read_back_in u x m.parent list line item back 0 (not_root u list m.parent h up.0) (not_root u line m.parent h up.1)
+    (not_root u item list h (up_item u x m.parent list line item back))
 
-item_first : (w u : Working) (x : Forest) (line list : ℕ) (m : MayBeItem w.forest line list) (b : IsBorn w u Item list None) → WentAll u.forest x line w.next_key → InlinesFirst w.forest → InlinesFirst x
+item_first : (w u : Working) (x : Forest) (line list : ℕ) (m : MayBeItem w.forest line list) (b : IsBorn w u Item list None)
+    → WentAll u.forest x line w.next_key → InlinesFirst w.forest → InlinesFirst x
 item_first w u x line list m b t first =
     let i = has_item w.forest u.forest line list w.next_key m b.came in
     let same : (q : ℕ) → is_at is_inline u.forest q ≡ is_at is_inline w.forest q = λ q. kinds_born is_inline w u Item list None b item_kind.1 q in
@@ -142,7 +149,8 @@ pub keeps_item : (type : ListType) (line list : ℕ) (w v : Working) → IsSound
 unfolding item_made
 keeps_item type line list w v s m e =
     let item : ℕ = w.next_key in
-    let a = first_part (new_step Item (item_fields (unchecked type)) w) (λ o. after (put_step item list (size_of o.forest list) o) (λ u. after (children_step line item u) (remove_step line))) v e in
+    let a = first_part (new_step Item (item_fields (unchecked type)) w)
+    (λ o. after (put_step item list (size_of o.forest list) o) (λ u. after (children_step line item u) (remove_step line))) v e in
     let b = first_part (put_step item list (size_of a.0.forest list) a.0) (λ u. after (children_step line item u) (remove_step line)) v a.2 in
     let c = first_part (children_step line item b.0) (remove_step line) v b.2 in
     let made = sound_path.new Item (item_fields (unchecked type)) w a.0 s a.1 in
@@ -174,7 +182,8 @@ record HasList (w v : Working) (type : ListType) (p other : ℕ) : Type 0 where
   kind : kind_of v.forest w.next_key ≡ Some (ListKind type)
   apart : other ≢ w.next_key
 
-has_list : (w v : Working) (type : ListType) (p other : ℕ) → parent_of w.forest other ≡ Some p → IsBorn w v (ListKind type) p (Some other) → HasList w v type p other
+has_list : (w v : Working) (type : ListType) (p other : ℕ) → parent_of w.forest other ≡ Some p → IsBorn w v (ListKind type) p (Some other)
+    → HasList w v type p other
 has_list w v type p other up b =
     let f : Forest = w.forest in
     let n : ℕ = w.next_key in
@@ -190,7 +199,8 @@ has_list w v type p other up b =
       apart = λ same. absurd (grind (arith, same, has-child f other p up, b.came.free));
     }
 
-pub keeps_list : (type : ListType) (line : ℕ) (w v : Working) → IsSound w → is_at is_inline w.forest line ≡ false → list_all (is_at is_inline w.forest) (children_of w.forest line) ≡ true
+pub keeps_list : (type : ListType) (line : ℕ) (w v : Working) → IsSound w → is_at is_inline w.forest line ≡ false
+    → list_all (is_at is_inline w.forest) (children_of w.forest line) ≡ true
     → list_made type line w ≡ Ok v → Keeps w v
 unfolding list_made
 keeps_list type line w v s clear inline e =
@@ -201,12 +211,15 @@ keeps_list type line w v s clear inline e =
     let put = stays_then w a.0 b.0 made (put_before_path sound_path list line tt a.0 b.0 made.sound b.1) in
     let born = born_before (ListKind type) list_fields w a.0 b.0 line s (list_kind type).0 a.1 b.1 in
     let l = has_list w b.0 type born.parent line born.up born.born in
-    let same : (q : ℕ) → is_at is_inline b.0.forest q ≡ is_at is_inline w.forest q = λ q. kinds_born is_inline w b.0 (ListKind type) born.parent (Some line) born.born (list_kind type).1 q in
+    let same : (q : ℕ) → is_at is_inline b.0.forest q ≡ is_at is_inline w.forest q =
+    λ q. kinds_born is_inline w b.0 (ListKind type) born.parent (Some line) born.born (list_kind type).1 q in
     let may : MayBeItem b.0.forest line list = record {
       parent = born.parent;
       beside = l.beside;
       no_item = ap (passes is_item) l.kind ∙ (list_kind type).2;
-      inline = ap (list_all (is_at is_inline b.0.forest)) l.children ∙ all-same (is_at is_inline b.0.forest) (is_at is_inline w.forest) (children_of w.forest line) (λ q among. same q) ∙ inline;
+      inline =
+          ap (list_all (is_at is_inline b.0.forest)) l.children
+          ∙ all-same (is_at is_inline b.0.forest) (is_at is_inline w.forest) (children_of w.forest line) (λ q among. same q) ∙ inline;
     } in
     let rest = keeps_item type line list b.0 v put.sound may b.2 in
     record {
@@ -228,31 +241,36 @@ before_in f line list e =
       | inr (p, up) ↦ (p, beside-previous (children_of f p) line list (sym (ap (λ o. previous_in (children_below f o) line) up) ∙ e))
     ]
 
-pub keeps_itemized : (type : ListType) (line : ℕ) (o : Option ℕ) (w v : Working) → IsSound w → is_at is_inline w.forest line ≡ false → list_all (is_at is_inline w.forest) (children_of w.forest line) ≡ true
+pub keeps_itemized : (type : ListType) (line : ℕ) (o : Option ℕ) (w v : Working) → IsSound w → is_at is_inline w.forest line ≡ false
+    → list_all (is_at is_inline w.forest) (children_of w.forest line) ≡ true
     → previous_of w.forest line ≡ o → itemized type line o w ≡ Ok v → Keeps w v
 keeps_itemized type line None w v s clear inline at e = keeps_list type line w v s clear inline e
 keeps_itemized type line (Some list) w v s clear inline at e =
     keeps_either (is_at (is_list_of type) w.forest list) (item_made type line list w) (list_made type line w) w v (λ is e.
     let found = before_in w.forest line list at in
     let no_item = so_at (is_list_of type) is_item false (list_of_no_item type) w.forest list is in
-    keeps_item type line list w v s (record { parent = found.0; beside = found.1; no_item = no_item; inline = inline }) e) (λ is e. keeps_list type line w v s clear inline e) e
+    keeps_item type line list w v s (record { parent = found.0; beside = found.1; no_item = no_item; inline = inline }) e)
+    (λ is e. keeps_list type line w v s clear inline e) e
 
 -- ---- check marks
 
 -- the same fields with a change of what only elements have give the same text
-changed_silent : (change : ElementFields → ElementFields) (kind : Kind) (x : Fields) → text_or_none (text_fields kind (changed change x)) ≡ text_or_none (text_fields kind x)
+changed_silent : (change : ElementFields → ElementFields) (kind : Kind) (x : Fields)
+    → text_or_none (text_fields kind (changed change x)) ≡ text_or_none (text_fields kind x)
 changed_silent change kinds.Text (fields.Element element) = refl
 changed_silent change kind (fields.Element element) = refl
 changed_silent change kind other = refl
 
-set_text : (change : ElementFields → ElementFields) (f : Forest) (k : ℕ) (x : Fields) (q : ℕ) → fields_of f k ≡ Some x → text_at (with_fields k (changed change x) f) q ≡ text_at f q
+set_text : (change : ElementFields → ElementFields) (f : Forest) (k : ℕ) (x : Fields) (q : ℕ) → fields_of f k ≡ Some x
+    → text_at (with_fields k (changed change x) f) q ≡ text_at f q
 set_text change f k x q is =
     ap (λ o. text_or_none (text_in o)) (label_of-with_fields k (changed change x) f q) ∙ by_label (label_of f q) refl where
       by_label : (o : Option Label) → label_of f q ≡ o → text_or_none (text_in (option_map (fields_at k (changed change x)) o)) ≡ text_or_none (text_in o)
       by_label None at = refl
       by_label (Some l) at = elim (eqb_tells l.key k) [
         | inl here ↦
-            let same : Some l.fields ≡ Some x = sym (ap (option_map (λ (y : Label). y.fields)) at) ∙ ap (fields_of f) (sym (key-label_of f q l at) ∙ here.1) ∙ is in
+            let same : Some l.fields ≡ Some x =
+            sym (ap (option_map (λ (y : Label). y.fields)) at) ∙ ap (fields_of f) (sym (key-label_of f q l at) ∙ here.1) ∙ is in
             rw here.0 (changed_silent change l.kind x ∙ grind (arith, same))
         | inr other ↦ rw other.0 refl
       ]
@@ -286,13 +304,15 @@ keeps_change change k w v s e = by_fields (fields_of w.forest k) refl e where
 keeps_remarked : (type : ListType) (k : ℕ) (w v : Working) → IsSound w → remarked type k w ≡ Ok v → Keeps w v
 unfolding check_item
 keeps_remarked Check k w v s e =
-    keeps_either (has_mark (fields_of w.forest k)) (Ok w) (check_item (Some false) k w) w v (λ is e. keeps_same w v s e) (λ is e. keeps_change (with_extra (checked_as (Some false))) k w v s e) e
+    keeps_either (has_mark (fields_of w.forest k)) (Ok w) (check_item (Some false) k w) w v (λ is e. keeps_same w v s e)
+    (λ is e. keeps_change (with_extra (checked_as (Some false))) k w v s e) e
 keeps_remarked other k w v s e = keeps_change (with_extra (checked_as None)) k w v s e
 
 -- ---- a list gets another type
 
 -- what is in it goes to the new list before it
-list_filled : (w u : Working) (x : Forest) (type : ListType) (p list : ℕ) → parent_of w.forest list ≡ Some p → IsBorn w u (ListKind type) p (Some list) → WentAll u.forest x list w.next_key → read_below x 0 ≡ read_below u.forest 0
+list_filled : (w u : Working) (x : Forest) (type : ListType) (p list : ℕ) → parent_of w.forest list ≡ Some p → IsBorn w u (ListKind type) p (Some list)
+    → WentAll u.forest x list w.next_key → read_below x 0 ≡ read_below u.forest 0
 list_filled w u x type p list up b t =
     let l = has_list w u type p list up b in
     let h : IsForest u.forest = b.came.told.behind in
@@ -300,12 +320,14 @@ list_filled w u x type p list up b t =
     read_back u.forest x p list w.next_key (record { in_order = h; all = t; beside = l.beside }) 0
     (not_root u.forest w.next_key p h ups.0) (not_root u.forest list p h ups.1)
 
-keeps_retyped_with : (type : ListType) (list : ℕ) (o : Option Fields) (w v : Working) → IsSound w → is_at is_inline w.forest list ≡ false → retyped_with type list o w ≡ Ok v → Keeps w v
+keeps_retyped_with : (type : ListType) (list : ℕ) (o : Option Fields) (w v : Working) → IsSound w → is_at is_inline w.forest list ≡ false
+    → retyped_with type list o w ≡ Ok v → Keeps w v
 keeps_retyped_with type list None w v s clear e = keeps_same w v s e
 keeps_retyped_with type list (Some x) w v s clear e =
     let new : ℕ = w.next_key in
     let rest : Working → Result Working Cause = λ left. in_turn (remarked type) (children_of left.forest new) left in
-    let a = first_part (new_step (ListKind type) x w) (λ o. after (put_before_step new list o) (λ put. after (children_step list new put) (λ moved. after (remove_step list moved) rest))) v e in
+    let a = first_part (new_step (ListKind type) x w)
+    (λ o. after (put_before_step new list o) (λ put. after (children_step list new put) (λ moved. after (remove_step list moved) rest))) v e in
     let b = first_part (put_before_step new list a.0) (λ put. after (children_step list new put) (λ moved. after (remove_step list moved) rest)) v a.2 in
     let c = first_part (children_step list new b.0) (λ moved. after (remove_step list moved) rest) v b.2 in
     let d = first_part (remove_step list c.0) rest v c.2 in
@@ -323,16 +345,20 @@ keeps_retyped_with type list (Some x) w v s clear e =
       stays = left;
       first = λ first. gone.first (first_went b.0.forest c.0.forest list new all (λ item. absurd (grind (arith, item, no_item)))
           (first_born w b.0 (ListKind type) born.parent (Some list) born.born (list_kind type).1 (inr (list, refl, clear)) first));
-      read = gone.read 0 ∙ list_filled w b.0 c.0.forest type born.parent list born.up born.born all ∙ read_came w.forest b.0.forest new born.parent (Some list) born.born.came 0;
+      read = gone.read 0 ∙ list_filled w b.0 c.0.forest type born.parent list born.up born.born all
+          ∙ read_came w.forest b.0.forest new born.parent (Some list) born.born.came 0;
     } in
     keeps_then w d.0 v up_to (keeps_each (remarked type) (keeps_remarked type) (children_of d.0.forest new) d.0 v left.sound d.2)
 
-pub keeps_retyped_above : (type : ListType) (line : ℕ) (o : Option ℕ) (w v : Working) → IsSound w → is_at is_item w.forest line ≡ true → parent_of w.forest line ≡ o → retyped_above type o w ≡ Ok v → Keeps w v
+pub keeps_retyped_above : (type : ListType) (line : ℕ) (o : Option ℕ) (w v : Working) → IsSound w → is_at is_item w.forest line ≡ true
+    → parent_of w.forest line ≡ o → retyped_above type o w ≡ Ok v → Keeps w v
 unfolding retyped
 keeps_retyped_above type line None w v s item up e = keeps_same w v s e
 keeps_retyped_above type line (Some list) w v s item up e =
-    let apart : is_at is_inline w.forest list ≡ false = so_at is_list is_inline false (λ kind e. (list_tells kind e).1) w.forest list (list_above w.forest line list s.held item up) in
-    keeps_either (is_at (is_list_of type) w.forest list) (Ok w) (retyped type list w) w v (λ is e. keeps_same w v s e) (λ is e. keeps_retyped_with type list (fields_of w.forest list) w v s apart e) e
+    let apart : is_at is_inline w.forest list ≡ false =
+    so_at is_list is_inline false (λ kind e. (list_tells kind e).1) w.forest list (list_above w.forest line list s.held item up) in
+    keeps_either (is_at (is_list_of type) w.forest list) (Ok w) (retyped type list w) w v (λ is e. keeps_same w v s e)
+    (λ is e. keeps_retyped_with type list (fields_of w.forest list) w v s apart e) e
 
 -- ---- a line
 
@@ -341,5 +367,7 @@ unfolding listed
 keeps_listed type line w v s clear e =
     let all : Bool = list_all (is_at is_inline w.forest) (children_of w.forest line) in
     let one : Result Working Cause = itemized type line (previous_of w.forest line) w in
-    keeps_either (is_at is_item w.forest line) (retyped_above type (parent_of w.forest line) w) (cond all one (Ok w)) w v (λ item e. keeps_retyped_above type line (parent_of w.forest line) w v s item refl e)
-    (λ is e. keeps_either all one (Ok w) w v (λ inline e. keeps_itemized type line (previous_of w.forest line) w v s clear inline refl e) (λ is e. keeps_same w v s e) e) e
+    keeps_either (is_at is_item w.forest line) (retyped_above type (parent_of w.forest line) w) (cond all one (Ok w)) w v
+    (λ item e. keeps_retyped_above type line (parent_of w.forest line) w v s item refl e)
+    (λ is e. keeps_either all one (Ok w) w v (λ inline e. keeps_itemized type line (previous_of w.forest line) w v s clear inline refl e)
+    (λ is e. keeps_same w v s e) e) e

@@ -64,7 +64,8 @@ any-with : (t : ℕ → Bool) (n o : ℕ) (xs : List ℕ) → t n ≡ false → 
 any-with t n o [] new none = grind (arith, new)
 any-with t n o (x ∷ xs) new none = grind (arith, none, new, any-with t n o xs new)
 
-pub first-with : (t : ℕ → Bool) (n o : ℕ) (xs : List ℕ) → t n ≡ false → t o ≡ false → stand_first t xs ≡ true → stand_first t (names_with (Some o) (n ∷ []) xs) ≡ true
+pub first-with : (t : ℕ → Bool) (n o : ℕ) (xs : List ℕ) → t n ≡ false → t o ≡ false → stand_first t xs ≡ true
+    → stand_first t (names_with (Some o) (n ∷ []) xs) ≡ true
 first-with t n o [] new old first = grind (arith, new)
 first-with t n o (x ∷ xs) new old first = grind (arith, first, new, old, eqb_tells x o, first-with t n o xs new old, any-with t n o xs new)
 

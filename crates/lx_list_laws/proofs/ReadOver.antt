@@ -62,14 +62,16 @@ module _ (f g : Forest) (p ahead from to : ℕ) (s : GoesBack f g p ahead from t
   apart_there = beside-apart s.beside.front s.beside.rest ahead from (subst NoRepeats s.beside.is (NoRepeats-children_of f p h))
 
   -- what is read of the two together
-  pair : read_below g ahead ≡ read_below f ahead ++ reads_of f (children_of f from) → read_below g ahead ++ read_below g from ≡ read_below f ahead ++ read_below f from
+  pair : read_below g ahead ≡ read_below f ahead ++ reads_of f (children_of f from)
+      → read_below g ahead ++ read_below g from ≡ read_below f ahead ++ read_below f from
   pair more =
       let gone : read_below g from ≡ [] = read-level g from told.behind ∙ ap₂ (λ x ks. x ++ reads_of g ks) (told.texts from ∙ s.all.silent) s.all.none in
       let was : read_below f from ≡ reads_of f (children_of f from) = read-level f from h ∙ ap (λ x. x ++ reads_of f (children_of f from)) s.all.silent in
       ap₂ (λ x y. x ++ y) more gone ∙ append-nil (read_below f ahead ++ reads_of f (children_of f from)) ∙ ap (λ x. read_below f ahead ++ x) (sym was)
 
   -- the children that went read as they did, where they are known
-  went_read : (skip : ℕ → Bool) → IsKnown f g skip p → ((q : ℕ) → parent_of f q ≡ Some from → skip q ≡ false) → reads_of g (children_of f from) ≡ reads_of f (children_of f from)
+  went_read : (skip : ℕ → Bool) → IsKnown f g skip p → ((q : ℕ) → parent_of f q ≡ Some from → skip q ≡ false)
+      → reads_of g (children_of f from) ≡ reads_of f (children_of f from)
   went_read skip k free =
       reads-same f g (children_of f from) (λ q among. let up = parent_here f from q h among in k.grandchild from q ups.1 up (free q up))
 
@@ -78,7 +80,8 @@ module _ (f g : Forest) (p ahead from to : ℕ) (s : GoesBack f g p ahead from t
     here k =
         let b = s.beside in
         let same : children_of g p ≡ children_of f p = s.all.over.others p (λ e. from_other (sym e)) (λ e. i.to_other (sym e)) in
-        let up : (q : ℕ) → is_among q (b.front ++ (ahead ∷ from ∷ b.rest)) ≡ true → parent_of f q ≡ Some p = λ q among. parent_here f p q h (ap (is_among q) b.is ∙ among) in
+        let up : (q : ℕ) → is_among q (b.front ++ (ahead ∷ from ∷ b.rest)) ≡ true → parent_of f q ≡ Some p =
+        λ q among. parent_here f p q h (ap (is_among q) b.is ∙ among) in
         let one : reads_of g b.front ≡ reads_of f b.front = reads-same f g b.front (λ q among.
         let x = apart_there.in_front q among in
         let above = up q (is_among-append q b.front (ahead ∷ from ∷ b.rest) ∙ grind (arith, among)) in
@@ -174,7 +177,8 @@ module _ (f g : Forest) (p list line item : ℕ) (t : GoesBackIn f g p list line
   ahead_read k =
       let once : NoRepeats (t.ahead ++ (item ∷ [])) = subst NoRepeats t.last (NoRepeats-children_of f list t.back.in_order) in
       reads-same f g t.ahead (λ q among.
-      let above : parent_of f q ≡ Some list = parent_here f list q t.back.in_order (ap (is_among q) t.last ∙ is_among-append q t.ahead (item ∷ []) ∙ grind (arith, among)) in
+      let above : parent_of f q ≡ Some list =
+      parent_here f list q t.back.in_order (ap (is_among q) t.last ∙ is_among-append q t.ahead (item ∷ []) ∙ grind (arith, among)) in
       let new : is_among q (item ∷ []) ≡ false = apart t.ahead (item ∷ []) q once among in
       k.grandchild list q up.0 above (grind (arith, above, new, up.0, up.1, list_other, eqb_tells list q, eqb_tells line q)))
 
@@ -209,6 +213,7 @@ module _ (f g : Forest) (p list line item : ℕ) (t : GoesBackIn f g p list line
     to_too = grind (arith, eqb_tells item item);
     to_other = item_other;
     beside = λ q above x y. grind (arith, above, x, y, up_item, list_other, eqb_tells item q);
-    below = λ q b above away clear. grind (arith, above, away, clear, up.0, up.1, up_item, eqb_tells list q, eqb_tells line q, eqb_tells item q, eqb_tells list b);
+    below = λ q b above away clear. grind
+        (arith, above, away, clear, up.0, up.1, up_item, eqb_tells list q, eqb_tells line q, eqb_tells item q, eqb_tells list b);
     more = list_read;
   }) b (grind (arith, x, y, z, eqb_tells list b, eqb_tells line b, eqb_tells item b))

@@ -65,7 +65,8 @@ inline_holds kinds.Link inner is h = grind (arith, h)
 inline_holds outer inner is h = absurd (cc)
 
 -- what is so of two kinds of which the first may hold the second is so of a parent's kind and a child's
-pub both_kinds : (P : Kind → Kind → Type 0) (f : Forest) (q p : ℕ) → IsHeld may_hold f → parent_of f q ≡ Some p → ((outer inner : Kind) → kind_of f p ≡ Some outer → kind_of f q ≡ Some inner → may_hold outer inner ≡ true → P outer inner)
+pub both_kinds : (P : Kind → Kind → Type 0) (f : Forest) (q p : ℕ) → IsHeld may_hold f → parent_of f q ≡ Some p
+    → ((outer inner : Kind) → kind_of f p ≡ Some outer → kind_of f q ≡ Some inner → may_hold outer inner ≡ true → P outer inner)
     → (outer : Kind) × (inner : Kind) × (kind_of f p ≡ Some outer) × (kind_of f q ≡ Some inner) × P outer inner
 both_kinds P f q p held up tells =
     let outer = kind_known f p (has-parent_of f q p up) in
@@ -78,7 +79,8 @@ inline_below f q p held up is =
     ap (passes is_inline) k.3 ∙ k.4 (sym (ap (passes is_inline) k.2) ∙ is)
 
 -- so where inline nodes have the children that they had, they read the same
-pub inline_read : (f g : Forest) → AreTold f g → IsHeld may_hold f → ((q : ℕ) → is_at is_inline f q ≡ true → children_of g q ≡ children_of f q) → (q : ℕ) → is_at is_inline f q ≡ true → read_below g q ≡ read_below f q
+pub inline_read : (f g : Forest) → AreTold f g → IsHeld may_hold f → ((q : ℕ) → is_at is_inline f q ≡ true → children_of g q ≡ children_of f q) → (q : ℕ)
+    → is_at is_inline f q ≡ true → read_below g q ≡ read_below f q
 inline_read f g t held same q is =
     let skip : ℕ → Bool = λ c. not (is_at is_inline f c) in
     reads_told f g skip t (λ b clear k.
@@ -104,8 +106,10 @@ record IsSaid (f g : Forest) (p list line n : ℕ) : Type 0 where
   up : parent_of g list ≡ parent_of f list
 
 -- a new paragraph among the children of p took what was in the line
-module _ (f u g : Forest) (p list line n : ℕ) (c : CameNew f u n p (Some list)) (here : has line f ≡ true) (apart : eqb line p ≡ false) (up : parent_of f list ≡ Some p)
-    (inline : (q : ℕ) → is_at is_inline u q ≡ is_at is_inline f q) (item : (q : ℕ) → is_at is_item u q ≡ is_at is_item f q) (o : WentOver u g line n (inlines u line)) where
+module _ (f u g : Forest) (p list line n : ℕ) (c : CameNew f u n p (Some list)) (here : has line f ≡ true) (apart : eqb line p ≡ false)
+    (up : parent_of f list ≡ Some p)
+    (inline : (q : ℕ) → is_at is_inline u q ≡ is_at is_inline f q) (item : (q : ℕ) → is_at is_item u q ≡ is_at is_item f q)
+    (o : WentOver u g line n (inlines u line)) where
   kept : (q : ℕ) → eqb q p ≡ false → children_of u q ≡ children_of f q
   kept = came_elsewhere f u n p (Some list) c
 
@@ -115,8 +119,10 @@ module _ (f u g : Forest) (p list line n : ℕ) (c : CameNew f u n p (Some list)
   is_up : parent_of g list ≡ parent_of f list
   is_up =
       let before : parent_of u list ≡ parent_of f list = c.up list ∙ ap (λ t. cond t (Some p) (parent_of f list)) (not_new list (has-child f list p up)) in
-      let stays : is_among list (children_of u line) ≡ false = not_child u list p line c.told.behind (before ∙ up) (λ e. absurd (grind (arith, e, apart, eqb_tells line p))) in
-      let none : is_among list (inlines u line) ≡ false = is_among-filter (is_at is_inline u) list (children_of u line) ∙ ap (λ t. t && is_at is_inline u list) stays in
+      let stays : is_among list (children_of u line) ≡ false =
+      not_child u list p line c.told.behind (before ∙ up) (λ e. absurd (grind (arith, e, apart, eqb_tells line p))) in
+      let none : is_among list (inlines u line) ≡ false =
+      is_among-filter (is_at is_inline u) list (children_of u line) ∙ ap (λ t. t && is_at is_inline u list) stays in
       o.up list ∙ ap (λ t. cond t (Some n) (parent_of u list)) none ∙ before
 
   said_now : IsSaid f g p list line n
@@ -127,7 +133,8 @@ module _ (f u g : Forest) (p list line n : ℕ) (c : CameNew f u n p (Some list)
         free = c.free;
         inline = λ q. kinds_went is_inline u g line n (inlines u line) o q ∙ inline q;
         item = λ q. kinds_went is_item u g line n (inlines u line) o q ∙ item q;
-        here = o.others p (λ e. absurd (grind (arith, e, apart, eqb_tells line p))) (λ e. absurd (grind (arith, e, c.other, eqb_tells n p))) ∙ came_here f u n p (Some list) c;
+        here = o.others p (λ e. absurd (grind (arith, e, apart, eqb_tells line p))) (λ e. absurd (grind (arith, e, c.other, eqb_tells n p)))
+            ∙ came_here f u n p (Some list) c;
         filled = o.there ∙ ap (λ ks. ks ++ inlines u line) (came_empty f u n p (Some list) c) ∙ ap (filter (is_at is_inline u)) (kept line apart)
             ∙ filter-same (is_at is_inline u) (is_at is_inline f) (children_of f line) (λ q among. inline q);
         left = o.left ∙ filter-others (is_at is_inline u) (children_of u line) ∙ ap (filter (λ q. not (is_at is_inline u q))) (kept line apart)
@@ -147,10 +154,12 @@ sound_paragraph list line w v s e =
     let ks : List ℕ = filter (is_at is_inline b.0.forest) (children_of b.0.forest line) in
     let filled : StaysSound b.0 v =
     from_ sound_path b.0 (pointed (moved_to line (element_point n 0)) b.0) v (in_turn (moved_to_end n) ks)
-    (points sound_path (moved_to line (element_point n 0)) b.0 put.sound) (every sound_path (moved_to_end n) ks (λ k. moved_to_end_path sound_path n k tt)) b.2 in
+    (points sound_path (moved_to line (element_point n 0)) b.0 put.sound) (every sound_path (moved_to_end n) ks (λ k. moved_to_end_path sound_path n k tt))
+    b.2 in
     stays_then w b.0 v put filled
 
-is_said : (p list line : ℕ) (w v : Working) → IsSound w → parent_of w.forest list ≡ Some p → has line w.forest ≡ true → eqb line p ≡ false → paragraph_made list line w ≡ Ok v
+is_said : (p list line : ℕ) (w v : Working) → IsSound w → parent_of w.forest list ≡ Some p → has line w.forest ≡ true → eqb line p ≡ false
+    → paragraph_made list line w ≡ Ok v
     → IsSaid w.forest v.forest p list line w.next_key
 unfolding paragraph_made emptied_into
 is_said p list line w v s up there apart e =
@@ -166,7 +175,8 @@ is_said p list line w v s up there apart e =
     let two : line ≢ n = λ same. absurd (grind (arith, same, there, c.free)) in
     let h : IsForest u = c.told.behind in
     let o : WentOver u v.forest line n (inlines u line) =
-    went_over line n (inlines u line) (pointed (moved_to line (element_point n 0)) b.0) v h two (NoRepeats-filter (is_at is_inline u) (children_of u line) (NoRepeats-children_of u line h))
+    went_over line n (inlines u line) (pointed (moved_to line (element_point n 0)) b.0) v h two
+    (NoRepeats-filter (is_at is_inline u) (children_of u line) (NoRepeats-children_of u line h))
     (λ q among. parent_here u line q h (grind (arith, is_among-filter (is_at is_inline u) q (children_of u line), among))) b.2 in
     said_now f u v.forest p list line n c there apart up inline item o
 
@@ -193,7 +203,8 @@ pub record AreSaid (f g : Forest) (p list : ℕ) (ls : List ℕ) : Type 0 where
   pub others : (q : ℕ) → has q f ≡ true → eqb q p ≡ false → is_among q ls ≡ false → children_of g q ≡ children_of f q
   pub reads : (q : ℕ) → is_at is_inline f q ≡ true → read_below g q ≡ read_below f q
 
-said-same : (f g : Forest) (ls : List ℕ) → ((q : ℕ) → is_among q ls ≡ true → inlines g q ≡ inlines f q) → ((q : ℕ) → is_at is_inline f q ≡ true → read_below g q ≡ read_below f q) → said g ls ≡ said f ls
+said-same : (f g : Forest) (ls : List ℕ) → ((q : ℕ) → is_among q ls ≡ true → inlines g q ≡ inlines f q)
+    → ((q : ℕ) → is_at is_inline f q ≡ true → read_below g q ≡ read_below f q) → said g ls ≡ said f ls
 said-same f g [] same each = refl
 said-same f g (l ∷ ls) same each =
     ap₂ (λ x y. x ++ y)
@@ -206,7 +217,8 @@ has_still f g stay q there =
     sym (is_some-kind_of g q) ∙ ap is_some (stay.each q kind.0 kind.1)
 
 -- what one line leaves, and the rest
-module _ (f x g : Forest) (p list line n : ℕ) (ls : List ℕ) (held : IsHeld may_hold f) (m : MaySay f p list (line ∷ ls)) (one : IsSaid f x p list line n) (stays : (q : ℕ) → has q f ≡ true → has q x ≡ true) where
+module _ (f x g : Forest) (p list line n : ℕ) (ls : List ℕ) (held : IsHeld may_hold f) (m : MaySay f p list (line ∷ ls)) (one : IsSaid f x p list line n)
+    (stays : (q : ℕ) → has q f ≡ true → has q x ≡ true) where
   among_first : is_among line (line ∷ ls) ≡ true
   among_first = grind (arith, eqb_tells line line)
 
@@ -221,7 +233,9 @@ module _ (f x g : Forest) (p list line n : ℕ) (ls : List ℕ) (held : IsHeld m
   later_still q among = still q (m.there q (among_later q among)) (m.apart q (among_later q among)) (grind (arith, among, m.once.0, eqb_tells q line))
 
   inline_first : (q : ℕ) → is_at is_inline f q ≡ true → read_below x q ≡ read_below f q
-  inline_first = inline_read f x one.told held (λ q is. still q (there_at is_inline f q is) (grind (arith, is, m.place, eqb_tells q p)) (grind (arith, is, m.block line among_first, eqb_tells q line)))
+  inline_first =
+      inline_read f x one.told held
+      (λ q is. still q (there_at is_inline f q is) (grind (arith, is, m.place, eqb_tells q p)) (grind (arith, is, m.block line among_first, eqb_tells q line)))
 
   may_go_on : MaySay x p list ls
   may_go_on = record {
@@ -234,7 +248,8 @@ module _ (f x g : Forest) (p list line n : ℕ) (ls : List ℕ) (held : IsHeld m
   }
 
   same_inlines : (q : ℕ) → is_among q ls ≡ true → inlines x q ≡ inlines f q
-  same_inlines q among = ap (filter (is_at is_inline x)) (later_still q among) ∙ filter-same (is_at is_inline x) (is_at is_inline f) (children_of f q) (λ c there. one.inline c)
+  same_inlines q among =
+      ap (filter (is_at is_inline x)) (later_still q among) ∙ filter-same (is_at is_inline x) (is_at is_inline f) (children_of f q) (λ c there. one.inline c)
 
   same_rest : (q : ℕ) → is_among q ls ≡ true → rest_of x q ≡ rest_of f q
   same_rest q among =
@@ -242,7 +257,8 @@ module _ (f x g : Forest) (p list line n : ℕ) (ls : List ℕ) (held : IsHeld m
       ∙ filter-same (λ c. not (is_at is_inline x c)) (λ c. not (is_at is_inline f c)) (children_of f q) (λ c there. ap not (one.inline c))
 
   new_up : parent_of x n ≡ Some p
-  new_up = parent_here x p n one.told.behind (ap (is_among n) one.here ∙ is_among-names_with (Some list) (n ∷ []) (children_of f p) n ∙ grind (arith, eqb_tells n n))
+  new_up =
+      parent_here x p n one.told.behind (ap (is_among n) one.here ∙ is_among-names_with (Some list) (n ∷ []) (children_of f p) n ∙ grind (arith, eqb_tells n n))
 
   goes_on : AreSaid x g p list ls → AreSaid f g p list (line ∷ ls)
   goes_on rest =
@@ -251,7 +267,8 @@ module _ (f x g : Forest) (p list line n : ℕ) (ls : List ℕ) (held : IsHeld m
       let both : (q : ℕ) → is_at is_inline f q ≡ true → read_below g q ≡ read_below f q = λ q is. rest.reads q (one.inline q ∙ is) ∙ inline_first q is in
       let first : read_below g n ≡ reads_of f (inlines f line) =
       read-level g n rest.told.behind
-      ∙ ap₂ (λ t ks. t ++ reads_of g ks) (rest.told.texts n ∙ one.told.texts n ∙ (absent f n one.free).text) (rest.others n (has-child x n p new_up) not_p not_later ∙ one.filled)
+      ∙ ap₂ (λ t ks. t ++ reads_of g ks) (rest.told.texts n ∙ one.told.texts n ∙ (absent f n one.free).text)
+      (rest.others n (has-child x n p new_up) not_p not_later ∙ one.filled)
       ∙ reads-same f g (inlines f line) (λ q among. both q (among_inlines f line q among)) in
       record {
         told = record { before = one.told.before; behind = rest.told.behind; texts = λ q. rest.told.texts q ∙ one.told.texts q };
@@ -273,7 +290,8 @@ module _ (f x g : Forest) (p list line n : ℕ) (ls : List ℕ) (held : IsHeld m
         reads = both;
       }
 
-pub are_said : (p list : ℕ) (ls : List ℕ) (w v : Working) → IsSound w → MaySay w.forest p list ls → in_turn (paragraph_made list) ls w ≡ Ok v → AreSaid w.forest v.forest p list ls × StaysSound w v
+pub are_said : (p list : ℕ) (ls : List ℕ) (w v : Working) → IsSound w → MaySay w.forest p list ls → in_turn (paragraph_made list) ls w ≡ Ok v
+    → AreSaid w.forest v.forest p list ls × StaysSound w v
 unfolding in_turn
 are_said p list [] w v s m e =
     subst (λ (x : Working). AreSaid w.forest x.forest p list [] × StaysSound w x) (was_same w v e) (

@@ -47,7 +47,8 @@ stays_selected w v s same key = record {
 
 -- ---- a new node
 
-pub new_forest : (kind : Kind) (fields : Fields) (w v : Working) → new_step kind fields w ≡ Ok v → v.forest ≡ with_new (record { key = w.next_key; kind = kind; fields = fields }) w.forest
+pub new_forest : (kind : Kind) (fields : Fields) (w v : Working) → new_step kind fields w ≡ Ok v
+    → v.forest ≡ with_new (record { key = w.next_key; kind = kind; fields = fields }) w.forest
 unfolding new_step
 new_forest kind fields w v e = ap (λ (x : Working). x.forest) (sym (answered (over_limits (characters_of fields) w) (made kind fields w) v e).1)
 
@@ -57,7 +58,8 @@ is_free w s = s.ready.free w.next_key (omega arith)
 pub sound_new : (kind : Kind) (fields : Fields) (w v : Working) → IsSound w → new_step kind fields w ≡ Ok v → StaysSound w v
 sound_new kind fields w v s e =
     by_covered w v (covered-new kind fields w v s.ready e)
-    (subst (IsHeld may_hold) (sym (new_forest kind fields w v e)) (IsHeld-with_new may_hold w.forest s.ready.in_order s.held (record { key = w.next_key; kind = kind; fields = fields }) (is_free w s)))
+    (subst (IsHeld may_hold) (sym (new_forest kind fields w v e))
+    (IsHeld-with_new may_hold w.forest s.ready.in_order s.held (record { key = w.next_key; kind = kind; fields = fields }) (is_free w s)))
 
 -- ---- fields
 
@@ -65,17 +67,21 @@ pub set_forest : (k : ℕ) (fields : Fields) (w v : Working) → set_step k fiel
 unfolding set_step
 set_forest k fields w v e =
     ap (λ (x : Working). x.forest)
-    (sym (answered (option_or (set_fault k fields w.forest) (over_limits (characters_of fields) w)) (fields_written k fields (characters_of fields) (set_points k fields) w) v e).1)
+    (sym (answered (option_or (set_fault k fields w.forest) (over_limits (characters_of fields) w))
+    (fields_written k fields (characters_of fields) (set_points k fields) w) v e).1)
 
 sound_set : (k : ℕ) (fields : Fields) (w v : Working) → IsSound w → set_step k fields w ≡ Ok v → StaysSound w v
 sound_set k fields w v s e =
-    by_covered w v (covered-set k fields w v s.ready e) (subst (IsHeld may_hold) (sym (set_forest k fields w v e)) (IsHeld-with_fields may_hold w.forest s.ready.in_order s.held k fields))
+    by_covered w v (covered-set k fields w v s.ready e)
+    (subst (IsHeld may_hold) (sym (set_forest k fields w v e)) (IsHeld-with_fields may_hold w.forest s.ready.in_order s.held k fields))
 
 sound_splice : (k from to : ℕ) (new : List ℕ) (w v : Working) → IsSound w → splice_step k from to new w ≡ Ok v → StaysSound w v
 unfolding splice_step
 sound_splice k from to new w v s e =
     let x : Fields = label_with_piece (label_of w.forest k) from to new in
-    let told = answered (option_or (splice_fault k from to w.forest) (over_limits (length new) w)) (fields_written k x (length new) (splice_points k from to new) w) v e in
+    let told =
+    answered (option_or (splice_fault k from to w.forest) (over_limits (length new) w)) (fields_written k x (length new) (splice_points k from to new) w) v
+    e in
     by_covered w v (covered-splice k from to new w v s.ready e)
     (subst (λ (u : Working). IsHeld may_hold u.forest) told.1 (IsHeld-with_fields may_hold w.forest s.ready.in_order s.held k x))
 
@@ -83,7 +89,8 @@ sound_splice k from to new w v s e =
 
 sound_take : (k : ℕ) (w v : Working) → IsSound w → take_step k w ≡ Ok v → StaysSound w v
 sound_take k w v s e =
-    by_covered w v (covered-take k w v s.ready e) (subst (IsHeld may_hold) (sym (taken-forest k w v e)) (IsHeld-take_out may_hold w.forest s.ready.in_order s.held k))
+    by_covered w v (covered-take k w v s.ready e)
+    (subst (IsHeld may_hold) (sym (taken-forest k w v e)) (IsHeld-take_out may_hold w.forest s.ready.in_order s.held k))
 
 misfit_holds : (outer inner : Option Kind) → misfit outer inner ≡ None → holds may_hold outer inner ≡ true
 misfit_holds (Some a) (Some b) e = grind (arith, e)
@@ -99,7 +106,8 @@ sound_put k p index w v s e =
     let none = (both_none (put_fault k p index w.forest) (over_counts w) told.0).0 in
     by_covered w v (covered-put k p index w v s.ready e)
     (subst (λ (u : Working). IsHeld may_hold u.forest) told.1
-    (IsHeld-put_in may_hold w.forest s.ready.in_order s.held p (slice_get (children_of w.forest p) index) k (can_put w.forest k p index none) (put_fits w.forest k p index none)))
+    (IsHeld-put_in may_hold w.forest s.ready.in_order s.held p (slice_get (children_of w.forest p) index) k (can_put w.forest k p index none)
+    (put_fits w.forest k p index none)))
 
 -- ---- every edit
 

@@ -14,7 +14,8 @@ lookup-flag_in q [] = refl
 lookup-flag_in q (e ∷ es) = ap (cond (eqb q e.0) (Some e.1)) (lookup-flag_in q es)
 
 -- what was there, raised by the flag, is put in the place of the key
-pub insert_entry-flagged : (k : ℕ) (flag value : Bool) (es : List (ℕ × Bool)) → value ≡ (unwrap_or (flag_in es k) false || flag) → insert_entry eqb es k value ≡ flagged k flag es
+pub insert_entry-flagged : (k : ℕ) (flag value : Bool) (es : List (ℕ × Bool)) → value ≡ (unwrap_or (flag_in es k) false || flag)
+    → insert_entry eqb es k value ≡ flagged k flag es
 unfolding flagged
 insert_entry-flagged k flag value [] e = ap (λ b. (k, b) ∷ []) e
 insert_entry-flagged k flag value (f ∷ es) e = grind (arith, insert_entry-flagged k flag value es, e)
@@ -24,6 +25,7 @@ pub NoRepeats-named : {T E : Type 0} (r : Result T E) (k : ℕ) (xs ys : List �
 NoRepeats-named (Ok v) k xs ys ok err once = subst NoRepeats (sym ok) (NoRepeats-with_name k xs once)
 NoRepeats-named (Err e) k xs ys ok err once = subst NoRepeats (sym err) once
 
-pub NoRepeats-raised : {T E : Type 0} (r : Result T E) (k : ℕ) (flag : Bool) (es fs : List (ℕ × Bool)) → OnOk r (fs ≡ flagged k flag es) → OnErr r (fs ≡ es) → NoRepeats (keys_of es) → NoRepeats (keys_of fs)
+pub NoRepeats-raised : {T E : Type 0} (r : Result T E) (k : ℕ) (flag : Bool) (es fs : List (ℕ × Bool)) → OnOk r (fs ≡ flagged k flag es) → OnErr r (fs ≡ es)
+    → NoRepeats (keys_of es) → NoRepeats (keys_of fs)
 NoRepeats-raised (Ok v) k flag es fs ok err once = subst (λ gs. NoRepeats (keys_of gs)) (sym ok) (once_flagged k flag es once)
 NoRepeats-raised (Err e) k flag es fs ok err once = subst (λ gs. NoRepeats (keys_of gs)) (sym err) once

@@ -50,7 +50,8 @@ unfolding flagged
 flagged-absent k flag [] none = refl
 flagged-absent k flag (e ∷ es) none = grind (arith, none, flagged-absent k flag es, eqb_tells k e.0, eqb_tells e.0 k)
 
-pub all_flagged-apart : (fs es : List (ℕ × Bool)) → NoRepeats (keys_of fs) → ((q : ℕ) → is_among q (keys_of fs) ≡ true → is_among q (keys_of es) ≡ false) → all_flagged fs es ≡ es ++ fs
+pub all_flagged-apart : (fs es : List (ℕ × Bool)) → NoRepeats (keys_of fs) → ((q : ℕ) → is_among q (keys_of fs) ≡ true → is_among q (keys_of es) ≡ false)
+    → all_flagged fs es ≡ es ++ fs
 unfolding all_flagged
 all_flagged-apart [] es once apart = sym (append-nil es)
 all_flagged-apart (f ∷ fs) es once apart =

@@ -101,7 +101,8 @@ absorbed-unmarked m once =
     λ i. record { leaves = leaves i; elements = elements i }
 
 -- what was put into tables that held these marks
-pub IsMarked-tables : (other m n : Marked) → n.leaves ≡ with_names other.leaves m.leaves → n.elements ≡ all_flagged other.elements m.elements → IsMarked m → IsMarked n
+pub IsMarked-tables : (other m n : Marked) → n.leaves ≡ with_names other.leaves m.leaves → n.elements ≡ all_flagged other.elements m.elements → IsMarked m
+    → IsMarked n
 unfolding absorbed
 IsMarked-tables other m n leaves elements once =
     let more = IsMarked-absorbed other m once in

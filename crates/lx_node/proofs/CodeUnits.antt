@@ -63,8 +63,10 @@ pub counted-one : (c n : ℕ) → n ≡ units_of c → AreCounted (record { char
 unfolding units
 counted-one c n is = record { characters = refl; units = omega (arith, is); fits = omega (arith, units_of-few c) }
 
-pub counted-append : (a b : Counts) (characters code_units : ℕ) → characters ≡ min (a.characters + b.characters) (2 ^ 64 - 1) → code_units ≡ min (a.units + b.units) (2 ^ 64 - 1)
-    → (front back : List ℕ) → AreCounted a front → AreCounted b back → units (front ++ back) < 2 ^ 64 → AreCounted (record { characters = characters; units = code_units }) (front ++ back)
+pub counted-append : (a b : Counts) (characters code_units : ℕ) → characters ≡ min (a.characters + b.characters) (2 ^ 64 - 1)
+    → code_units ≡ min (a.units + b.units) (2 ^ 64 - 1)
+    → (front back : List ℕ) → AreCounted a front → AreCounted b back → units (front ++ back) < 2 ^ 64
+    → AreCounted (record { characters = characters; units = code_units }) (front ++ back)
 counted-append a b characters code_units e f front back x y few = record {
   characters = omega (arith, e, x.characters, y.characters, length-append front back, units-many (front ++ back), few);
   units = omega (arith, f, x.units, y.units, units-append front back, few);
@@ -85,11 +87,13 @@ pub units-three : (front middle back : List ℕ) → units (front ++ middle ++ b
 units-three front middle back = omega (arith, units-append (front ++ middle) back, units-append front middle)
 
 -- a piece is taken off, and another one added
-module _ (all piece new : Counts) (characters code_units : ℕ) (e : characters ≡ min (all.characters - piece.characters + new.characters) (2 ^ 64 - 1)) (f : code_units ≡ min (all.units - piece.units + new.units) (2 ^ 64 - 1)) where
+module _ (all piece new : Counts) (characters code_units : ℕ) (e : characters ≡ min (all.characters - piece.characters + new.characters) (2 ^ 64 - 1))
+    (f : code_units ≡ min (all.units - piece.units + new.units) (2 ^ 64 - 1)) where
   pub counted-spliced : (front middle more back : List ℕ) → AreCounted all (front ++ middle ++ back) → AreCounted piece middle → AreCounted new more
       → units (front ++ more ++ back) < 2 ^ 64 → AreCounted (record { characters = characters; units = code_units }) (front ++ more ++ back)
   counted-spliced front middle more back x y z few = record {
-    characters = omega (arith, e, x.characters, y.characters, z.characters, length-three front middle back, length-three front more back, units-many (front ++ more ++ back), few);
+    characters =
+        omega (arith, e, x.characters, y.characters, z.characters, length-three front middle back, length-three front more back, units-many (front ++ more ++ back), few);
     units = omega (arith, f, x.units, y.units, z.units, units-three front middle back, units-three front more back, few);
     fits = few;
   }

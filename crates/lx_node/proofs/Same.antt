@@ -106,9 +106,11 @@ abbrev element_fields : Direction → Align → ℕ → ℕ → List ℕ → Ext
 element_fields direction format indent text_format text_style extra =
     record { direction = direction; format = format; indent = indent; text_format = text_format; text_style = text_style; extra = extra }
 
-same_elements : (a b : ElementFields) → a.direction ≡ b.direction → a.format ≡ b.format → a.indent ≡ b.indent → a.text_format ≡ b.text_format → a.text_style ≡ b.text_style → a.extra ≡ b.extra → a ≡ b
+same_elements : (a b : ElementFields) → a.direction ≡ b.direction → a.format ≡ b.format → a.indent ≡ b.indent → a.text_format ≡ b.text_format
+    → a.text_style ≡ b.text_style → a.extra ≡ b.extra → a ≡ b
 same_elements a b direction format indent text_format text_style extra =
-    let e : element_fields a.direction a.format a.indent a.text_format a.text_style a.extra ≡ element_fields b.direction b.format b.indent b.text_format b.text_style b.extra = cc in
+    let e : element_fields a.direction a.format a.indent a.text_format a.text_style a.extra
+    ≡ element_fields b.direction b.format b.indent b.text_format b.text_style b.extra = cc in
     e
 
 pub same_element-Decides : (a b : ElementFields) → Decides (same_element a b) (a ≡ b)

@@ -37,7 +37,8 @@ left_from f parent k at next s is among after =
     let h = has_next f parent k s among in
     ap (λ o. from_name o (children_of f parent)) is ∙ h.left ∙ ap (λ o. k ∷ from_name o (children_of f parent)) (sym (after ∙ h.next_is))
 
-pub way_more : (f : Forest) (parent : ℕ) (piece : ℕ → List ℕ) (start text more : List ℕ) (at next : Option ℕ) (k : ℕ) → Sound f → IsOnWay f parent piece start text at → at ≡ Some k
+pub way_more : (f : Forest) (parent : ℕ) (piece : ℕ → List ℕ) (start text more : List ℕ) (at next : Option ℕ) (k : ℕ) → Sound f
+    → IsOnWay f parent piece start text at → at ≡ Some k
     → next ≡ next_of f k → more ≡ text ++ piece k → IsOnWay f parent piece start more next
 way_more f parent piece start text more at next k s way is after pushed = record {
   among = λ q e. next_in-among (children_of f parent) k q (sym (has_next f parent k s (way.among k is)).next_is ∙ sym after ∙ e);
@@ -48,11 +49,13 @@ way_more f parent piece start text more at next k s way is after pushed = record
 }
 
 -- fewer are left, and so is what they cost
-pub way_fewer : (f : Forest) (parent : ℕ) (piece : ℕ → List ℕ) (start text : List ℕ) (at next : Option ℕ) (k : ℕ) → Sound f → IsOnWay f parent piece start text at → at ≡ Some k → next ≡ next_of f k
+pub way_fewer : (f : Forest) (parent : ℕ) (piece : ℕ → List ℕ) (start text : List ℕ) (at next : Option ℕ) (k : ℕ) → Sound f
+    → IsOnWay f parent piece start text at → at ≡ Some k → next ≡ next_of f k
     → length (from_name next (children_of f parent)) < length (from_name at (children_of f parent))
 way_fewer f parent piece start text at next k s way is after = omega (arith, ap length (left_from f parent k at next s is (way.among k is) after))
 
-pub way_cost : (f : Forest) (parent : ℕ) (piece : ℕ → List ℕ) (start text : List ℕ) (at : Option ℕ) (k : ℕ) (cost : ℕ → ℕ) → Sound f → IsOnWay f parent piece start text at → at ≡ Some k
+pub way_cost : (f : Forest) (parent : ℕ) (piece : ℕ → List ℕ) (start text : List ℕ) (at : Option ℕ) (k : ℕ) (cost : ℕ → ℕ) → Sound f
+    → IsOnWay f parent piece start text at → at ≡ Some k
     → sum_by cost (from_name at (children_of f parent)) ≡ cost k + sum_by cost (from_name (next_of f k) (children_of f parent))
 way_cost f parent piece start text at k cost s way is =
     ap (sum_by cost) (left_from f parent k at (next_of f k) s is (way.among k is) refl) ∙ sum_by-cons cost k (from_name (next_of f k) (children_of f parent))

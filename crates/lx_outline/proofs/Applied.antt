@@ -76,8 +76,10 @@ module _ (old new : Forest) (events : List Event) (b : AreBetween old new events
         left = omega (arith, is, before, after, all, total_weight old, total_weight new);
       }
 
-  pub characters_moved : (f g : Forest) (was gone come : ℕ) → f ≡ old → g ≡ new → weight characters_in old ≤ most_characters → weight characters_in new ≤ most_characters
-      → was ≡ weight characters_in old → gone ≡ weight_among characters_in f events → come ≡ weight_among characters_in g events → IsMoved was gone come (weight characters_in new)
+  pub characters_moved : (f g : Forest) (was gone come : ℕ) → f ≡ old → g ≡ new → weight characters_in old ≤ most_characters
+      → weight characters_in new ≤ most_characters
+      → was ≡ weight characters_in old → gone ≡ weight_among characters_in f events → come ≡ weight_among characters_in g events
+      → IsMoved was gone come (weight characters_in new)
   characters_moved f g was gone come at_old at_new short long is going coming =
       let all = whole characters_in (same_text_weight old new) in
       let before : gone ≡ weight_among characters_in old events = going ∙ ap (λ f. weight_among characters_in f events) at_old in

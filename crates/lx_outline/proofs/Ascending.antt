@@ -20,7 +20,8 @@ contains-is_among q [] = refl
 contains-is_among q (x ∷ xs) = ap (λ b. b || list_any (is_at (nat_cmp q)) xs) (is_eq-nat_cmp q x) ∙ ap (λ b. eqb x q || b) (contains-is_among q xs)
 
 -- one key more
-pub inserted : (seen old new : List ℕ) (k key : ℕ) → seen ≡ old → k ≡ key → ((q : ℕ) → list_any (is_at (nat_cmp q)) new ≡ cond (is_at (nat_cmp k) q) true (list_any (is_at (nat_cmp q)) old))
+pub inserted : (seen old new : List ℕ) (k key : ℕ) → seen ≡ old → k ≡ key
+    → ((q : ℕ) → list_any (is_at (nat_cmp q)) new ≡ cond (is_at (nat_cmp k) q) true (list_any (is_at (nat_cmp q)) old))
     → (q : ℕ) → is_among q new ≡ (is_among q seen || eqb q key)
 inserted seen old new k key same is added q =
     sym (contains-is_among q new) ∙ added q ∙ rw (is_eq-nat_cmp k q, contains-is_among q old) (either (eqb q k) (is_among q old))

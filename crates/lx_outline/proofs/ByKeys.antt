@@ -62,11 +62,13 @@ split_one : (g : ℕ → ℕ) (k : ℕ) (ks : List ℕ) (q : ℕ) → is_among k
 split_one g k ks q apart = elim (eqb_tells k q) [
   | inl same ↦
       let away : is_among q ks ≡ false = sym (ap (λ x. is_among x ks) same.1) ∙ apart in
-      ap (λ b. cond b 0 (g q)) away ∙ sym (ap g same.1) ∙ sym (omega (arith, ap (λ b. cond b (g k) 0) same.0, ap (λ b. cond (b || is_among q ks) 0 (g q)) same.0))
+      ap (λ b. cond b 0 (g q)) away ∙ sym (ap g same.1)
+      ∙ sym (omega (arith, ap (λ b. cond b (g k) 0) same.0, ap (λ b. cond (b || is_among q ks) 0 (g q)) same.0))
   | inr other ↦ omega (arith, ap (λ b. cond b (g k) 0) other.0, ap (λ b. cond (b || is_among q ks) 0 (g q)) other.0)
 ]
 
-pub with_others : (g : ℕ → ℕ) (ks : List ℕ) (n : ℕ) → NoRepeats ks → ((k : ℕ) → is_among k ks ≡ true → k < n) → sum_by g ks + all_below (others ks g) n ≡ all_below g n
+pub with_others : (g : ℕ → ℕ) (ks : List ℕ) (n : ℕ) → NoRepeats ks → ((k : ℕ) → is_among k ks ≡ true → k < n)
+    → sum_by g ks + all_below (others ks g) n ≡ all_below g n
 with_others g [] n once within = omega (arith, all_below-same (others [] g) g n (λ q. refl))
 with_others g (k ∷ ks) n once within =
     let apart = all_below-same (others ks g) (λ q. cond (eqb k q) (g k) 0 + others (k ∷ ks) g q) n (λ q. split_one g k ks q once.0) in
@@ -154,7 +156,8 @@ own_worth of f q sound = elim (cases_Bool (has q f)) [
   | inl there ↦
       let h = in_order_at f q sound there in
       let s = is_there f q there in
-      ap (weight_in of) s.label_is ∙ sym (ap (head_worth (λ l below. of l)) (alone-spot f q s.at h s.at_is)) ∙ sym (worth_alone (λ l below. of l) f q (h.once q))
+      ap (weight_in of) s.label_is ∙ sym (ap (head_worth (λ l below. of l)) (alone-spot f q s.at h s.at_is))
+      ∙ sym (worth_alone (λ l below. of l) f q (h.once q))
   | inr absent ↦ no_weight of f q absent ∙ sym (worth_absent (λ l below. of l) f q (grind (arith, nat_tests, absent)))
 ]
 

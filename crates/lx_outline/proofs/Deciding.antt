@@ -51,7 +51,8 @@ detail _ = 0
 
 kind_from : ℕ → ℕ → Kind
 kind_from p d =
-    cond (eqb p 0) kind.Root (cond (eqb p 1) kind.Paragraph (cond (eqb p 2) (kind.Heading d) (cond (eqb p 3) kind.Quote (cond (eqb p 4) (kind.List (type_from d))
+    cond (eqb p 0) kind.Root
+    (cond (eqb p 1) kind.Paragraph (cond (eqb p 2) (kind.Heading d) (cond (eqb p 3) kind.Quote (cond (eqb p 4) (kind.List (type_from d))
     (cond (eqb p 5) kind.Item (cond (eqb p 6) kind.Link (cond (eqb p 7) kind.Table (cond (eqb p 8) kind.Row (cond (eqb p 9) kind.Cell
     (cond (eqb p 10) kind.Text (cond (eqb p 11) kind.Tab (cond (eqb p 12) kind.Break (cond (eqb p 13) kind.Rule kind.Embed)))))))))))))
 
@@ -97,8 +98,11 @@ both_told (inr other) q = inr (λ pq. other pq.0)
 
 pub same_or_other : (old new : Forest) (q : ℕ) → IsSame old new q ⊎ (IsSame old new q → ⊥)
 same_or_other old new q =
-    elim (both_told (both_told (told _ (option_eq-Decides same_kind same_kind-Decides (kind_of old q) (kind_of new q))) (told _ (option_eq-Decides same_fields same_fields-Decides (fields_of old q) (fields_of new q))))
-    (both_told (told _ (option_eq-Decides eqb Decides-eqb (parent_of old q) (parent_of new q))) (told _ (same_text-Decides (children_of old q) (children_of new q))))) [
+    elim (both_told
+    (both_told (told _ (option_eq-Decides same_kind same_kind-Decides (kind_of old q) (kind_of new q)))
+    (told _ (option_eq-Decides same_fields same_fields-Decides (fields_of old q) (fields_of new q))))
+    (both_told (told _ (option_eq-Decides eqb Decides-eqb (parent_of old q) (parent_of new q)))
+    (told _ (same_text-Decides (children_of old q) (children_of new q))))) [
       | inl same ↦ inl (record { kind = same.0.0; fields = same.0.1; parent = same.1.0; children = same.1.1 })
       | inr other ↦ inr (λ same. other ((same.kind, same.fields), (same.parent, same.children)))
     ]

@@ -49,13 +49,16 @@ module _ (f : Forest) (s : Sound f) (q : ℕ) where
   }
 
   -- from a link's parent
-  by_outer : (r p o : ℕ) (k : Option Kind) → has r f ≡ true → parent_of f r ≡ Some p → parent_of f p ≡ Some o → kind_of f o ≡ k → if_heading o k ≡ Some q → IsOver f q r
+  by_outer : (r p o : ℕ) (k : Option Kind) → has r f ≡ true → parent_of f r ≡ Some p → parent_of f p ≡ Some o → kind_of f o ≡ k → if_heading o k ≡ Some q
+      → IsOver f q r
   by_outer r p o (Some (kind.Heading level)) here up further is found =
       let same : o ≡ q = same_Some o q found in
       let h = in_order_at f r s here in
       record {
         here = here;
-        inside = ap (λ x. is_within f x r) (sym same) ∙ is_within-trans f o p r h (child_within f o p h (has-parent_of f p o further) further) (child_within f p r h (has-parent_of f r p up) up);
+        inside =
+            ap (λ x. is_within f x r) (sym same)
+            ∙ is_within-trans f o p r h (child_within f o p h (has-parent_of f p o further) further) (child_within f p r h (has-parent_of f r p up) up);
         level = level;
         kind_is = ap (kind_of f) (sym same) ∙ is;
       }
@@ -128,7 +131,8 @@ drop_false true b e = refl
 drop_false false true e = refl
 drop_false false false e = e
 
-full_worth : (test : ℕ → Bool) (l : Label) (below : Forest) (level : ℕ) → l.kind ≡ kind.Heading level → has_one test (tree l below nil) ≡ true → heading_worth test l below ≡ 1 + total below
+full_worth : (test : ℕ → Bool) (l : Label) (below : Forest) (level : ℕ) → l.kind ≡ kind.Heading level → has_one test (tree l below nil) ≡ true
+    → heading_worth test l below ≡ 1 + total below
 full_worth test l below level is one =
     ap (λ k. cond (is_some (level_of k) && (test l.key || has_one test below)) (1 + total below) 0) is
     ∙ ap (λ b. cond b (1 + total below) 0) (drop_false (test l.key) (has_one test below) one)
@@ -153,7 +157,8 @@ child_there f q c s among = has-child f c q (parent_of-child f c q s among)
 reads_le : (f : Forest) (c : ℕ) → Sound f → has c f ≡ true → reads_of f c ≤ total (alone c f)
 reads_le f c s there =
     let h = in_order_at f c s there in
-    let each : sum_by (λ (g : ℕ). 1) (children_of f c) ≤ sum_by (λ g. total (alone g f)) (children_of f c) = sum_le (λ (g : ℕ). 1) (λ g. total (alone g f)) (children_of f c)
+    let each : sum_by (λ (g : ℕ). 1) (children_of f c) ≤ sum_by (λ g. total (alone g f)) (children_of f c) =
+    sum_le (λ (g : ℕ). 1) (λ g. total (alone g f)) (children_of f c)
     (λ g among. omega (arith, total-alone f g h (child_there f c g s among))) in
     omega (arith, each, ones (children_of f c), total-alone f c h there)
 
@@ -185,7 +190,8 @@ module _ (old new : Forest) (events : List Event) (after : Sound new) (told : Ar
       let full = full_worth test x.at.label (trees_of new x.at.children) over.level kind_is (sym (ap (has_one test) tree_is) ∙ one) in
       (there, omega (arith, heading_le new q after there, worth_alone (heading_worth test) new q (h.once q), ap (head_worth (heading_worth test)) tree_is, ap total tree_is, full))
 
-  pub few_reads : (keys : List ℕ) → NoRepeats keys → ((q : ℕ) → is_among q keys ≡ is_over_one new events q) → sum_by (heading_reads new) keys ≤ headings_size (is_changed events) new
+  pub few_reads : (keys : List ℕ) → NoRepeats keys → ((q : ℕ) → is_among q keys ≡ is_over_one new events q)
+      → sum_by (heading_reads new) keys ≤ headings_size (is_changed events) new
   few_reads keys once over =
       let worth = λ (q : ℕ). worth_at (heading_worth (is_changed events)) q new in
       let n = top_key new in

@@ -116,7 +116,8 @@ module _ (old new : Forest) (events : List Event) (e : AreEvents old new events)
   about q =
       ap (λ es. is_changed es q) e.listed
       ∙ list_any-append (is_about q) (map (λ q. Destroyed q) e.destroyed ++ map (λ q. Created q) e.created) (map (λ q. Updated q) e.updated)
-      ∙ ap (λ b. b || is_changed (map (λ q. Updated q) e.updated) q) (list_any-append (is_about q) (map (λ q. Destroyed q) e.destroyed) (map (λ q. Created q) e.created))
+      ∙ ap (λ b. b || is_changed (map (λ q. Updated q) e.updated) q)
+      (list_any-append (is_about q) (map (λ q. Destroyed q) e.destroyed) (map (λ q. Created q) e.created))
       ∙ rw (about_destroyed e.destroyed q, about_created e.created q, about_updated e.updated q) refl
 
   apart_by : (q : ℕ) (keys : List ℕ) → (is_among q keys ≡ true → ⊥) → is_among q keys ≡ false

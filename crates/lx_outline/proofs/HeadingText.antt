@@ -90,7 +90,8 @@ is_there f q there = from_spot (spot f q) refl where
   }
 
 -- a child is of a kind that its parent may hold
-pub held_by : (f : Forest) (q p : ℕ) (outer inner : Kind) → Sound f → parent_of f q ≡ Some p → kind_of f p ≡ Some outer → kind_of f q ≡ Some inner → may_hold outer inner ≡ true
+pub held_by : (f : Forest) (q p : ℕ) (outer inner : Kind) → Sound f → parent_of f q ≡ Some p → kind_of f p ≡ Some outer → kind_of f q ≡ Some inner
+    → may_hold outer inner ≡ true
 held_by f q p outer inner s up e g =
     sym (ap (λ o. holds may_hold o (kind_of f q)) e ∙ ap (holds may_hold (Some outer)) g) ∙ s.held.each q p up
 
@@ -134,7 +135,8 @@ below_inline f c g s outer up = elim (cases_Bool (is_link outer.kind)) [
       }
   | inr other ↦
       let child = is_there f g (has-child f g c up) in
-      absurd (let h = held_by f g c outer.kind child.at.label.kind s up outer.kind_is child.kind_is in let e = leaf_kind outer.kind outer.inline other child.at.label.kind in cc)
+      absurd (let h = held_by f g c outer.kind child.at.label.kind s up outer.kind_is child.kind_is in let e = leaf_kind outer.kind outer.inline other
+      child.at.label.kind in cc)
 ]
 
 -- ---- the text of a tree
@@ -142,7 +144,8 @@ below_inline f c g s outer up = elim (cases_Bool (is_link outer.kind)) [
 text_of-joined : (s t : Forest) → text_of (joined s t) ≡ text_of s ++ text_of t
 text_of-joined nil t = refl
 text_of-joined (tree l below rest) t =
-    ap (λ x. (piece_of l.kind l.fields ++ text_of below) ++ x) (text_of-joined rest t) ∙ sym (append_assoc (piece_of l.kind l.fields ++ text_of below) (text_of rest) (text_of t))
+    ap (λ x. (piece_of l.kind l.fields ++ text_of below) ++ x) (text_of-joined rest t)
+    ∙ sym (append_assoc (piece_of l.kind l.fields ++ text_of below) (text_of rest) (text_of t))
 
 text_of-trees : (f : Forest) (ks : List ℕ) → text_of (trees_of f ks) ≡ gathered (λ c. text_of (alone c f)) ks
 text_of-trees f [] = refl
@@ -182,7 +185,8 @@ heading_silent f q level s there is =
     ap label_piece x.label_is ∙ ap (λ k. piece_of k x.at.label.fields) own
     ∙ silent level x.at.label.fields (sym (ap (λ k. is_of_kind k x.at.label.fields) own) ∙ fits)
 
-pub heading_text : (f : Forest) (q level : ℕ) → Sound f → has q f ≡ true → kind_of f q ≡ Some (kind.Heading level) → text_of (alone q f) ≡ gathered (with_below f) (children_of f q)
+pub heading_text : (f : Forest) (q level : ℕ) → Sound f → has q f ≡ true → kind_of f q ≡ Some (kind.Heading level)
+    → text_of (alone q f) ≡ gathered (with_below f) (children_of f q)
 heading_text f q level s there is =
     let h = in_order_at f q s there in
     text_alone f q h there
@@ -193,7 +197,8 @@ heading_text f q level s there is =
 
 -- ---- a heading that was read
 
-pub heading_read : (f : Forest) (q : ℕ) (n : Node) (level : ℕ) (text : List ℕ) → Sound f → Seen f q n → level_of n.kind ≡ Some level → text ≡ gathered (with_below f) (children_of f q)
+pub heading_read : (f : Forest) (q : ℕ) (n : Node) (level : ℕ) (text : List ℕ) → Sound f → Seen f q n → level_of n.kind ≡ Some level
+    → text ≡ gathered (with_below f) (children_of f q)
     → Some (heading_with text level) ≡ heading_at f q
 heading_read f q n level text s seen is read =
     let own : kind_of f q ≡ Some (kind.Heading level) = seen.kind ∙ ap (λ (k : Kind). Some k) (level_is n.kind level is) in

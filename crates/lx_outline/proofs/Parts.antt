@@ -45,7 +45,8 @@ pub record AreTaken (old new : Forest) (start keys all left : List ℕ) : Type 0
   pub each : (c : ℕ) → is_among c all ≡ true → has c new ≡ false → (is_among c left ≡ true) ⊎ (is_among c keys ≡ true)
 
 -- what a child of those that are left is
-pub taken_child : (old new : Forest) (start keys all left rest : List ℕ) (p k : ℕ) → Sound old → all ≡ children_of old p → AreTaken old new start keys all left → left ≡ k ∷ rest
+pub taken_child : (old new : Forest) (start keys all left rest : List ℕ) (p k : ℕ) → Sound old → all ≡ children_of old p → AreTaken old new start keys all left
+    → left ≡ k ∷ rest
     → parent_of old k ≡ Some p
 taken_child old new start keys all left rest p k sound is taken at =
     parent_of-child old k p sound (sym (ap (is_among k) is) ∙ taken.within k (ap (is_among k) at ∙ grind (arith, eqb_tells k k)))
@@ -55,7 +56,8 @@ either_of true b e = inl refl
 either_of false b e = inr e
 
 -- once its children are taken, the node is
-pub taken_all : (old new : Forest) (start keys more all left : List ℕ) (k : ℕ) → Sound old → has k old ≡ true → has k new ≡ false → all ≡ children_of old k → left ≡ []
+pub taken_all : (old new : Forest) (start keys more all left : List ℕ) (k : ℕ) → Sound old → has k old ≡ true → has k new ≡ false → all ≡ children_of old k
+    → left ≡ []
     → AreTaken old new start keys all left → ((q : ℕ) → is_among q more ≡ (is_among q keys || eqb q k)) → AreGone old new more
 taken_all old new start keys more all left k sound there out is none taken added = record { each = each; closed = closed } where
   kept : (q : ℕ) → is_among q keys ≡ true → is_among q more ≡ true
@@ -75,7 +77,8 @@ taken_all old new start keys more all left k sound there out is none taken added
     | inl before ↦ kept q (taken.gone.closed q p up left_out before)
     | inr own ↦ elim (eqb_tells p k) [
       | inl same ↦
-          let child : is_among q all ≡ true = ap (is_among q) is ∙ child_named old q k sound ∙ ap (λ o. is_named o k) (up ∙ ap (λ x. Some x) same.1) ∙ grind (arith, eqb_tells k k) in
+          let child : is_among q all ≡ true =
+          ap (is_among q) is ∙ child_named old q k sound ∙ ap (λ o. is_named o k) (up ∙ ap (λ x. Some x) same.1) ∙ grind (arith, eqb_tells k k) in
           elim (taken.each q child left_out) [
             | inl waits ↦ absurd (let h : true ≡ false = sym waits ∙ ap (is_among q) none in cc)
             | inr done ↦ kept q done
@@ -86,7 +89,8 @@ taken_all old new start keys more all left k sound there out is none taken added
 
 -- what has left its parent is there once what it took along is
 pub left_more : (old new : Forest) (keys more marked : List ℕ) (k : ℕ) → ((q : ℕ) → is_among q marked ≡ true → HasLeft old new q → is_among q keys ≡ true)
-    → Grows keys more → (HasLeft old new k → is_among k more ≡ true) → (q : ℕ) → is_among q (marked ++ k ∷ []) ≡ true → HasLeft old new q → is_among q more ≡ true
+    → Grows keys more → (HasLeft old new k → is_among k more ≡ true) → (q : ℕ) → is_among q (marked ++ k ∷ []) ≡ true → HasLeft old new q
+    → is_among q more ≡ true
 left_more old new keys more marked k told grows own q e left =
     elim (either_of (is_among q marked) (is_among q (k ∷ [])) (sym (is_among-append q marked (k ∷ [])) ∙ e)) [
       | inl before ↦ grows q (told q before left)

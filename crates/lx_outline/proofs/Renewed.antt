@@ -66,6 +66,7 @@ module _ (old new : Forest) (events : List Event) (before : Sound old) (after : 
             | inl plain ↦ ap (λ o. heading_by o (text_of (alone q new))) x.kind_is ∙ ap (option_map (heading_with (text_of (alone q new)))) plain
             | inr (level, is) ↦
                 let kind_is = x.kind_is ∙ ap (λ (k : Kind). Some k) (level_is x.at.label.kind level is) in
-                absurd (let e = over_from new events q q named (over_is new q q level after (in_order_at new q after there) kind_is (is_within-self new q ∙ there)) in cc)
+                absurd (let e = over_from new events q q named
+                (over_is new q q level after (in_order_at new q after there) kind_is (is_within-self new q ∙ there)) in cc)
           ]
     ]

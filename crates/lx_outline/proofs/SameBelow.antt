@@ -34,7 +34,9 @@ trees_same f g (k ∷ ks) same =
 
 pub child_within : (f : Forest) (q c : ℕ) → IsForest f → has q f ≡ true → parent_of f c ≡ Some q → is_within f q c ≡ true
 child_within f q c h there up =
-    is_within-up f q c q h up (λ same. let own : is_named (parent_of f c) c ≡ true = ap (λ o. is_named o c) up ∙ (grind (arith, same, eqb_tells c q)) in let none = parent_of-self f c h in cc)
+    is_within-up f q c q h up
+    (λ same. let own : is_named (parent_of f c) c ≡ true = ap (λ o. is_named o c) up
+    ∙ (grind (arith, same, eqb_tells c q)) in let none = parent_of-self f c h in cc)
     ∙ is_within-self f q ∙ there
 
 -- what is the same in both at a node, and the node is in both

@@ -39,7 +39,8 @@ updated_by_node old new q a b r s t test other = (
 
 -- where they are the same, and the children are asked
 pub updated_by_children : (old new : Forest) (q : ℕ) (a b : Node) (r children : Bool) → Seen old q a → Seen new q b → (IsTrue r ↔ IsSameNode a b) → r ≡ true
-    → (IsTrue children ↔ (children_of old q ≡ children_of new q)) → (IsTrue (not children) → IsUpdated old new q) × (IsUpdated old new q → IsTrue (not children))
+    → (IsTrue children ↔ (children_of old q ≡ children_of new q))
+    → (IsTrue (not children) → IsUpdated old new q) × (IsUpdated old new q → IsTrue (not children))
 updated_by_children old new q a b r children s t test same_node children_test = (
   λ e. (s.has, t.has, λ same. not_both children (children_test.1 same.children) e),
   λ u. elim (cases_Bool children) [

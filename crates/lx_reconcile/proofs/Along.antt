@@ -49,11 +49,13 @@ goes-on olds news back done p q m passed reached at a on w back_is passed_within
   at_within = omega (arith, on.at_is);
 }
 
-pub along-same : (olds news : List ℕ) (p q : Progress) (k : ℕ) → IsAlong olds news p → case_of olds news (slice_get olds p.passed) (slice_get news p.reached) ≡ case.Same k →
+pub along-same : (olds news : List ℕ) (p q : Progress) (k : ℕ) → IsAlong olds news p
+    → case_of olds news (slice_get olds p.passed) (slice_get news p.reached) ≡ case.Same k →
     GoesOn p q (Stay k) (with_handled k p.handled.keys) (p.passed + 1) (p.reached + 1) (p.passed + 1) → IsAlong olds news q
 along-same olds news p q k a met on =
     let says : Says olds news (slice_get olds p.passed) (slice_get news p.reached) (case.Same k) = said olds news _ _ _ met in
-    let w : IsWalking olds news (k ∷ drop (p.passed + 1) olds) (k ∷ drop (p.reached + 1) news) (missing (drop p.at olds) p.handled.keys) p.handled.keys p.moves.items =
+    let w : IsWalking olds news (k ∷ drop (p.passed + 1) olds) (k ∷ drop (p.reached + 1) news) (missing (drop p.at olds) p.handled.keys) p.handled.keys
+    p.moves.items =
     alike a.walking (drop_from olds p.passed k says.0) (drop_from news p.reached k says.1) refl refl refl in
     let grown : with_handled k p.handled.keys ≡ p.handled.keys ++ k ∷ [] =
     with_handled-new k p.handled.keys (next-undone k news p.handled.keys (drop (p.reached + 1) news) a.new_once w.news_are) in
@@ -63,13 +65,15 @@ along-same olds news p q k a met on =
     (get_within olds p.passed k says.0) (get_within news p.reached k says.1) (get_within olds p.passed k says.0)
 
 -- the next child before leaves, also where none after is left
-gone-known : (olds news back done : List ℕ) (p : Progress) (o : ℕ) → IsWalking olds news (o ∷ drop (p.passed + 1) olds) (drop p.reached news) back done p.moves.items →
+gone-known : (olds news back done : List ℕ) (p : Progress) (o : ℕ)
+    → IsWalking olds news (o ∷ drop (p.passed + 1) olds) (drop p.reached news) back done p.moves.items →
     (slice_get news p.reached ≡ None) ⊎ (is_among o news ≡ false) → is_among o news ≡ false
 gone-known olds news back done p o w (inl e) =
     old-left o olds news (drop (p.passed + 1) olds) back done p.moves.items (alike w refl (drop_none news p.reached e) refl refl refl)
 gone-known olds news back done p o w (inr e) = e
 
-pub along-gone : (olds news : List ℕ) (p q : Progress) (o : ℕ) → IsAlong olds news p → case_of olds news (slice_get olds p.passed) (slice_get news p.reached) ≡ case.Gone o →
+pub along-gone : (olds news : List ℕ) (p q : Progress) (o : ℕ) → IsAlong olds news p
+    → case_of olds news (slice_get olds p.passed) (slice_get news p.reached) ≡ case.Gone o →
     GoesOn p q (Leave o) p.handled.keys (p.passed + 1) p.reached (p.passed + 1) → IsAlong olds news q × (left_of olds news q < left_of olds news p)
 along-gone olds news p q o a met on =
     let says : Says olds news (slice_get olds p.passed) (slice_get news p.reached) (case.Gone o) = said olds news _ _ _ met in
@@ -81,7 +85,8 @@ along-gone olds news p q o a met on =
     (goes-on olds news _ p.handled.keys p q (Leave o) (p.passed + 1) p.reached (p.passed + 1) a on v refl within a.reached_within within, omega (arith, within, on.passed_is, on.reached_is))
 
 -- the next child after is new, also where none before is left
-new-known : (olds news back done : List ℕ) (p : Progress) (n : ℕ) → IsWalking olds news (drop p.passed olds) (n ∷ drop (p.reached + 1) news) back done p.moves.items →
+new-known : (olds news back done : List ℕ) (p : Progress) (n : ℕ)
+    → IsWalking olds news (drop p.passed olds) (n ∷ drop (p.reached + 1) news) back done p.moves.items →
     (slice_get olds p.passed ≡ None) ⊎ (is_among n olds ≡ false) → is_among n olds ≡ false
 new-known olds news back done p n w (inl e) =
     new-left n olds news (drop (p.reached + 1) news) back done p.moves.items (alike w (drop_none olds p.passed e) refl refl refl refl)
@@ -138,7 +143,8 @@ along-settled olds news p q n before a met at on =
 
 -- ---- how it begins and ends
 
-pub along-begun : (olds news : List ℕ) (p : Progress) → NoRepeats olds → NoRepeats news → p.passed ≡ 0 → p.reached ≡ 0 → p.at ≡ 0 → p.handled.keys ≡ [] → p.moves.items ≡ [] →
+pub along-begun : (olds news : List ℕ) (p : Progress) → NoRepeats olds → NoRepeats news → p.passed ≡ 0 → p.reached ≡ 0 → p.at ≡ 0 → p.handled.keys ≡ []
+    → p.moves.items ≡ [] →
     IsAlong olds news p
 along-begun olds news p once other passed reached at handled moves = record {
   walking = alike (begun olds news once other) (ap (λ n. drop n olds) (sym passed)) (ap (λ n. drop n news) (sym reached))
@@ -159,7 +165,8 @@ along-ended olds news p a over =
 
 -- ---- how many children are left
 
-pub none-left : (olds news : List ℕ) (p : Progress) → case_of olds news (slice_get olds p.passed) (slice_get news p.reached) ≡ case.Neither → left_of olds news p ≡ 0
+pub none-left : (olds news : List ℕ) (p : Progress) → case_of olds news (slice_get olds p.passed) (slice_get news p.reached) ≡ case.Neither
+    → left_of olds news p ≡ 0
 none-left olds news p met =
     let says : Says olds news (slice_get olds p.passed) (slice_get news p.reached) case.Neither = said olds news _ _ _ met in
     omega (arith, get_past olds p.passed says.0, get_past news p.reached says.1)

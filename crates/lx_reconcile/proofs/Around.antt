@@ -57,8 +57,11 @@ module _ (old new : Forest) (mk : Marking) (v : HostTree) (b : IsBetween old new
       let is_new : is_among c news ≡ true = child_named new c k b.sound ∙ ap (λ o. is_named o k) (sym alike.parent ∙ up) ∙ own k in
       record {
         among = is_new;
-        previous = sym (ap (λ xs. previous_in xs c) (siblings_of new k c b.sound is_new)) ∙ sym alike.previous ∙ ap (λ xs. previous_in xs c) (siblings_of old k c b.was_sound among);
-        next = sym (ap (λ xs. next_in xs c) (siblings_of new k c b.sound is_new)) ∙ sym alike.next ∙ ap (λ xs. next_in xs c) (siblings_of old k c b.was_sound among);
+        previous =
+            sym (ap (λ xs. previous_in xs c) (siblings_of new k c b.sound is_new)) ∙ sym alike.previous
+            ∙ ap (λ xs. previous_in xs c) (siblings_of old k c b.was_sound among);
+        next = sym (ap (λ xs. next_in xs c) (siblings_of new k c b.sound is_new)) ∙ sym alike.next
+            ∙ ap (λ xs. next_in xs c) (siblings_of old k c b.was_sound among);
       }
     where
       own : (k : ℕ) → is_named (Some k) k ≡ true
@@ -115,7 +118,9 @@ module _ (old new : Forest) (mk : Marking) (v : HostTree) (b : IsBetween old new
     pub window_part : (first : Option ℕ) (moves : List Move) → first ≡ first_child new k → IsWalkIn w first news moves → IsPart mk.noted olds news moves
     window_part first moves is x =
         let walk : IsWalk w.keys.items run.new x.walk = subst (λ ks. IsWalk w.keys.items ks x.walk) (sym (run_is first is)) x.is in
-        let part = part_of_window mk.noted m.is.front w.keys.items m.is.back run.new x.walk list_once (subst NoRepeats run.list news_once) walk m.front_plain m.back_plain in
+        let part =
+        part_of_window mk.noted m.is.front w.keys.items m.is.back run.new x.walk list_once (subst NoRepeats run.list news_once) walk m.front_plain
+        m.back_plain in
         let named = x.moves_are ∙ ap (λ o. map (toward o) x.walk) m.is.behind in
         subst (λ t. t) (λ i. IsPart mk.noted (sym m.is.list i) (sym run.list i) (sym named i)) part
 
@@ -134,7 +139,8 @@ module _ (old new : Forest) (mk : Marking) (v : HostTree) (b : IsBetween old new
           s.next ∙ ap (λ ks. next_in ks l.0) m.is.list ∙ next_in-last l.0 m.is.front (w.keys.items ++ m.is.back) list_once last in
           ap (λ o. is_place o news) (begins_own first l.0 last) ∙ by_keys w.keys.items refl l.0 next e
         where
-          by_keys : (ks : List ℕ) → w.keys.items ≡ ks → (l : ℕ) → next_in news l ≡ first_of (w.keys.items ++ m.is.back) → m.is.front ≡ x ∷ xs → is_place (first_of w.keys.items) news ≡ true
+          by_keys : (ks : List ℕ) → w.keys.items ≡ ks → (l : ℕ) → next_in news l ≡ first_of (w.keys.items ++ m.is.back) → m.is.front ≡ x ∷ xs
+              → is_place (first_of w.keys.items) news ≡ true
           by_keys [] none l next front = absurd (let empty = (full none).0 in cc)
           by_keys (y ∷ ys) some l next front =
               ap (λ ks. is_place (first_of ks) news) some ∙ next_in-among news l y (next ∙ ap (λ ks. first_of (ks ++ m.is.back)) some)

@@ -38,7 +38,8 @@ tree_record f q s there =
     let h = tree_order f q s there in
     ap (λ g. record_at g q) (is_tree f) ∙ record_at-drop_detached f q h ∙ ap (λ b. cond b (record_at f q) None) there
 
-pub tree_found : (f : Forest) (q : ℕ) (found : Option Node) → Sound f → found ≡ option_map node_of (record_at f q) → has q (alone 0 f) ≡ true → found ≡ option_map node_of (record_at (alone 0 f) q)
+pub tree_found : (f : Forest) (q : ℕ) (found : Option Node) → Sound f → found ≡ option_map node_of (record_at f q) → has q (alone 0 f) ≡ true
+    → found ≡ option_map node_of (record_at (alone 0 f) q)
 tree_found f q found s is there = is ∙ sym (ap (option_map node_of) (tree_record f q s there))
 
 pub tree_sound : (f : Forest) → Sound f → Sound (alone 0 f)
@@ -50,7 +51,8 @@ tree_sound f s = record {
 } where
   held_by : (f : Forest) → Sound f → IsHeld may_hold (alone 0 f)
   held_by nil s = record { each = λ q p e. absurd (cc) }
-  held_by (tree l b t) s = subst (IsHeld may_hold) (sym (is_tree (tree l b t))) (IsHeld-drop_detached may_hold (tree l b t) (s.in_order (λ e. absurd (cc))) s.held)
+  held_by (tree l b t) s =
+      subst (IsHeld may_hold) (sym (is_tree (tree l b t))) (IsHeld-drop_detached may_hold (tree l b t) (s.in_order (λ e. absurd (cc))) s.held)
 
   suited_by : (f : Forest) → Sound f → IsSuited (alone 0 f)
   suited_by nil s = IsSuited-nil

@@ -16,14 +16,16 @@ pub record AreFound (kids : List ℕ) (first last at : Option ℕ) (keys : List 
   pub place : is_place at kids ≡ true
   pub list : keys ++ between_names at last kids ≡ between_names first last kids
 
-pub found_none : (kids : List ℕ) (first last at : Option ℕ) (keys : List ℕ) → is_place first kids ≡ true → at ≡ first → keys ≡ [] → AreFound kids first last at keys
+pub found_none : (kids : List ℕ) (first last at : Option ℕ) (keys : List ℕ) → is_place first kids ≡ true → at ≡ first → keys ≡ []
+    → AreFound kids first last at keys
 found_none kids first last at keys place here none = record {
   place = ap (λ o. is_place o kids) here ∙ place;
   list = ap (λ ks. ks ++ between_names at last kids) none ∙ ap (λ o. between_names o last kids) here;
 }
 
 -- the next one and those after it
-between-step : (kids : List ℕ) (child : ℕ) (last next : Option ℕ) → NoRepeats kids → is_among child kids ≡ true → next ≡ cond (is_named last child) None (next_in kids child)
+between-step : (kids : List ℕ) (child : ℕ) (last next : Option ℕ) → NoRepeats kids → is_among child kids ≡ true
+    → next ≡ cond (is_named last child) None (next_in kids child)
     → between_names (Some child) last kids ≡ child ∷ between_names next last kids
 between-step kids child None next once among is = from_name-step kids child once among ∙ ap (λ o. child ∷ from_name o kids) (sym is)
 between-step kids child (Some l) next once among is = grind (arith, is, eqb_tells child l, eqb_tells l child, from_name-step kids child once among)
@@ -32,7 +34,8 @@ next_is_place : (kids : List ℕ) (child : ℕ) (b : Bool) → is_place (cond b 
 next_is_place kids child true = refl
 next_is_place kids child false = next_place kids child
 
-pub found_more : (kids : List ℕ) (first last at next : Option ℕ) (child : ℕ) (keys more : List ℕ) → NoRepeats kids → at ≡ Some child → AreFound kids first last at keys
+pub found_more : (kids : List ℕ) (first last at next : Option ℕ) (child : ℕ) (keys more : List ℕ) → NoRepeats kids → at ≡ Some child
+    → AreFound kids first last at keys
     → next ≡ cond (is_named last child) None (next_in kids child) → more ≡ keys ++ child ∷ [] → AreFound kids first last next more
 found_more kids first last at next child keys more once here f is more_is =
     let among : is_among child kids ≡ true = sym (ap (λ o. is_place o kids) here) ∙ f.place in
@@ -46,7 +49,8 @@ found_more kids first last at next child keys more once here f is more_is =
     }
 
 -- fewer are left after the next one
-pub found_fewer : (kids : List ℕ) (last at next : Option ℕ) (child : ℕ) → NoRepeats kids → at ≡ Some child → is_place at kids ≡ true → next ≡ cond (is_named last child) None (next_in kids child)
+pub found_fewer : (kids : List ℕ) (last at next : Option ℕ) (child : ℕ) → NoRepeats kids → at ≡ Some child → is_place at kids ≡ true
+    → next ≡ cond (is_named last child) None (next_in kids child)
     → length (from_name next kids) < length (from_name at kids)
 found_fewer kids last at next child once here place is =
     let among : is_among child kids ≡ true = sym (ap (λ o. is_place o kids) here) ∙ place in

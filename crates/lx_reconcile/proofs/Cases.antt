@@ -22,7 +22,8 @@ says_apart olds news o n true false e f other = (refl, inr f)
 says_apart olds news o n true true e f other = (o, refl, refl, other, e, f)
 
 says_both : (olds news : List ℕ) (o n : ℕ) (same : Bool) → eqb o n ≡ same →
-    Says olds news (Some o) (Some n) (cond same (case.Same o) (cond (not (is_among o news)) (case.Gone o) (cond (not (is_among n olds)) (case.New n) (case.Settled n))))
+    Says olds news (Some o) (Some n)
+    (cond same (case.Same o) (cond (not (is_among o news)) (case.Gone o) (cond (not (is_among n olds)) (case.New n) (case.Settled n))))
 says_both olds news o n true e = (refl, grind (arith, e, eqb_tells o n))
 says_both olds news o n false e = says_apart olds news o n (is_among o news) (is_among n olds) refl refl e
 

@@ -34,7 +34,8 @@ use Rattle.lx_reconcile.proofs.Lists.{last_of-among}
 abbrev pub label_from : ℕ → Node → Label
 label_from key n = record { key = key; kind = n.kind; fields = n.fields }
 
-pub label_same : (l : Label) (key : ℕ) (kind : Kind) (fields : Fields) → l.key ≡ key → kind ≡ l.kind → fields ≡ l.fields → l ≡ record { key = key; kind = kind; fields = fields }
+pub label_same : (l : Label) (key : ℕ) (kind : Kind) (fields : Fields) → l.key ≡ key → kind ≡ l.kind → fields ≡ l.fields
+    → l ≡ record { key = key; kind = kind; fields = fields }
 label_same l key kind fields e f g = rw (← e, f, g) refl
 
 -- what a read says of a node
@@ -106,7 +107,8 @@ stands_there f key h there = from_spot (spot f key) refl where
     below_is = sym (ap (λ o. trees_of f (children_at o)) at);
   }
 
-last_kind-trees_of : (f : Forest) (ks : List ℕ) → IsForest f → ((q : ℕ) → is_among q ks ≡ true → has q f ≡ true) → last_kind (trees_of f ks) ≡ kind_at f (last_of ks)
+last_kind-trees_of : (f : Forest) (ks : List ℕ) → IsForest f → ((q : ℕ) → is_among q ks ≡ true → has q f ≡ true)
+    → last_kind (trees_of f ks) ≡ kind_at f (last_of ks)
 last_kind-trees_of f [] h there = refl
 last_kind-trees_of f (k ∷ []) h there =
     let s = stands_there f k h (there k (grind (arith, eqb_tells k k))) in
@@ -127,7 +129,8 @@ last_there f key n s e k is =
     let r = is_read f key n s e in
     child_there f key k s (last_of-among (children_of f key) k (sym r.last ∙ is))
 
-pub last_still : (f g : Forest) (key : ℕ) (n : Node) → g ≡ f → Sound f → Some n ≡ option_map node_of (record_at f key) → (k : ℕ) → n.last ≡ Some k → has k g ≡ true
+pub last_still : (f g : Forest) (key : ℕ) (n : Node) → g ≡ f → Sound f → Some n ≡ option_map node_of (record_at f key) → (k : ℕ) → n.last ≡ Some k
+    → has k g ≡ true
 last_still f g key n same s e k is = ap (has k) same ∙ last_there f key n s e k is
 
 pub last_kind_read : (f : Forest) (key : ℕ) (n : Node) → Sound f → IsRead f key n → last_kind (trees_of f (children_of f key)) ≡ kind_at f n.last
@@ -171,7 +174,8 @@ pub record ChildrenFit (f g : Forest) (key id : ℕ) (n : Node) : Type 0 where
   pub all : id + 1 + total (trees_of g (children_of g key)) ≡ id + total (alone key f)
   pub still : total (alone key g) ≡ total (alone key f)
 
-pub children_fit : (f g : Forest) (key id : ℕ) (n : Node) → g ≡ f → Sound f → Some n ≡ option_map node_of (record_at f key) → id + total (alone key f) ≤ last_u32 → ChildrenFit f g key id n
+pub children_fit : (f g : Forest) (key id : ℕ) (n : Node) → g ≡ f → Sound f → Some n ≡ option_map node_of (record_at f key)
+    → id + total (alone key f) ≤ last_u32 → ChildrenFit f g key id n
 children_fit f g key id n same s read room =
     let r = is_read f key n s read in
     let all = total_read f key n r in
@@ -221,7 +225,8 @@ child_left f key child s among =
 
 -- one tree more
 one_more : (host id : ℕ) (label : Label) (below rest : Forest) (ops : List Op)
-    → ((ops ++ creation_of id (tree label below nil)) ++ Place host id None ∷ []) ++ creations host (id + total (tree label below nil)) rest ≡ ops ++ creations host id (joined (tree label below nil) rest)
+    → ((ops ++ creation_of id (tree label below nil)) ++ Place host id None ∷ []) ++ creations host (id + total (tree label below nil)) rest
+    ≡ ops ++ creations host id (joined (tree label below nil) rest)
 one_more host id label below rest ops =
     let behind : id + total (tree label below nil) ≡ id + 1 + total below = omega arith in
     append_assoc (ops ++ creation id label below) (Place host id None ∷ []) (creations host (id + total (tree label below nil)) rest)
@@ -229,13 +234,17 @@ one_more host id label below rest ops =
     ∙ ap (λ n. ops ++ (creation id label below ++ Place host id None ∷ creations host n rest)) behind
 
 made_one : (f : Forest) (host id child : ℕ) (ks : List ℕ) (ops : List Op) → IsForest f → has child f ≡ true
-    → ((ops ++ creation_of id (alone child f)) ++ Place host id None ∷ []) ++ creations host (id + total (alone child f)) (trees_of f ks) ≡ ops ++ creations host id (trees_of f (child ∷ ks))
+    → ((ops ++ creation_of id (alone child f)) ++ Place host id None ∷ []) ++ creations host (id + total (alone child f)) (trees_of f ks)
+    ≡ ops ++ creations host id (trees_of f (child ∷ ks))
 made_one f host id child ks ops h there =
     let s = stands_there f child h there in
-    let P : Forest → Type 0 = λ t. ((ops ++ creation_of id t) ++ Place host id None ∷ []) ++ creations host (id + total t) (trees_of f ks) ≡ ops ++ creations host id (joined t (trees_of f ks)) in
+    let P : Forest → Type 0 =
+    λ t. ((ops ++ creation_of id t) ++ Place host id None ∷ []) ++ creations host (id + total t) (trees_of f ks)
+    ≡ ops ++ creations host id (joined t (trees_of f ks)) in
     subst P (sym s.tree_is) (one_more host id s.label s.below (trees_of f ks) ops)
 
-pub made_child : (f g : Forest) (key host : ℕ) (start : List Op) (child id : ℕ) (at next : Option ℕ) (next_id : ℕ) (ops new : List Op) → g ≡ f → Sound f → at ≡ Some child
+pub made_child : (f g : Forest) (key host : ℕ) (start : List Op) (child id : ℕ) (at next : Option ℕ) (next_id : ℕ) (ops new : List Op) → g ≡ f → Sound f
+    → at ≡ Some child
     → IsMadeUpTo f key host start at id ops
     → next ≡ next_of g child
     → next_id ≡ id + total (alone child g)
@@ -253,12 +262,14 @@ made_child f g key host start child id at next next_id ops new same s here m nex
       place = ap (λ o. is_place o kids) is ∙ next_place kids child;
       made =
           ap (λ ks. new ++ creations host next_id (trees_of f ks)) then
-          ∙ ap (λ ops. ops ++ creations host next_id (trees_of f rest)) (new_is ∙ ap (λ f. ops ++ creation_of id (alone child f) ++ Place host id None ∷ []) same)
+          ∙ ap (λ ops. ops ++ creations host next_id (trees_of f rest))
+          (new_is ∙ ap (λ f. ops ++ creation_of id (alone child f) ++ Place host id None ∷ []) same)
           ∙ ap (λ n. (ops ++ creation_of id (alone child f) ++ Place host id None ∷ []) ++ creations host n (trees_of f rest)) id_after
           ∙ made_one f host id child rest ops c.ordered c.there
           ∙ sym (ap (λ ks. ops ++ creations host id (trees_of f ks)) left)
           ∙ m.made;
-      next = omega (arith, m.next, id_after, ap (λ ks. total (trees_of f ks)) then, ap (λ ks. total (trees_of f ks)) left, total-joined (alone child f) (trees_of f rest));
+      next = omega
+          (arith, m.next, id_after, ap (λ ks. total (trees_of f ks)) then, ap (λ ks. total (trees_of f ks)) left, total-joined (alone child f) (trees_of f rest));
     }
 
 -- what the call for a child needs
@@ -269,7 +280,8 @@ pub record ChildFits (f g : Forest) (key child id : ℕ) (at : Option ℕ) : Typ
   pub smaller : total (alone child g) < total (alone key f)
   pub part : total (alone child g) ≤ total (trees_of f (from_name at (children_of f key)))
 
-pub child_fits : (f g : Forest) (key host : ℕ) (start : List Op) (child id : ℕ) (at : Option ℕ) (ops : List Op) → g ≡ f → Sound f → at ≡ Some child → host + 1 + total (trees_of f (children_of f key)) ≤ last_u32
+pub child_fits : (f g : Forest) (key host : ℕ) (start : List Op) (child id : ℕ) (at : Option ℕ) (ops : List Op) → g ≡ f → Sound f → at ≡ Some child
+    → host + 1 + total (trees_of f (children_of f key)) ≤ last_u32
     → IsMadeUpTo f key host start at id ops → ChildFits f g key child id at
 child_fits f g key host start child id at ops same s here room m =
     let kids = children_of f key in
@@ -285,7 +297,8 @@ child_fits f g key host start child id at ops same s here room m =
       part = omega (arith, of_child, ap (λ ks. total (trees_of f ks)) left, total-joined (alone child f) (trees_of f rest));
     }
 
-pub fewer_left : (f g : Forest) (key child : ℕ) (at next : Option ℕ) → g ≡ f → Sound f → at ≡ Some child → is_place at (children_of f key) ≡ true → next ≡ next_of g child
+pub fewer_left : (f g : Forest) (key child : ℕ) (at next : Option ℕ) → g ≡ f → Sound f → at ≡ Some child → is_place at (children_of f key) ≡ true
+    → next ≡ next_of g child
     → length (from_name next (children_of f key)) < length (from_name at (children_of f key))
 fewer_left f g key child at next same s here place next_is =
     let kids = children_of f key in
@@ -293,7 +306,8 @@ fewer_left f g key child at next same s here place next_is =
     omega (arith, ap length (ap (λ o. from_name o kids) (next_is ∙ ap (λ f. next_of f child) same ∙ c.next)), ap length (ap (λ o. from_name o kids) here ∙ c.left))
 
 -- how much is left, before a child and after it
-pub left_with : (f g : Forest) (key child : ℕ) (at next : Option ℕ) → g ≡ f → Sound f → at ≡ Some child → is_place at (children_of f key) ≡ true → next ≡ next_of g child
+pub left_with : (f g : Forest) (key child : ℕ) (at next : Option ℕ) → g ≡ f → Sound f → at ≡ Some child → is_place at (children_of f key) ≡ true
+    → next ≡ next_of g child
     → total (trees_of f (from_name at (children_of f key))) ≡ total (alone child g) + total (trees_of f (from_name next (children_of f key)))
 left_with f g key child at next same s here place next_is =
     let kids = children_of f key in

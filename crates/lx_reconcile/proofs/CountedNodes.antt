@@ -72,7 +72,8 @@ and_kept kept x only e is = is ∙ sym (ap (λ k. k && only) e)
 
 -- ---- how many aren't kept
 
-pub unkept_in-joined : (kept : Bool) (old : Forest) (p : Option ℕ) (f g : Forest) → unkept_in kept old p (joined f g) ≡ unkept_in kept old p f + unkept_in kept old p g
+pub unkept_in-joined : (kept : Bool) (old : Forest) (p : Option ℕ) (f g : Forest)
+    → unkept_in kept old p (joined f g) ≡ unkept_in kept old p f + unkept_in kept old p g
 unkept_in-joined true old p f g = unkept-joined old p f g
 unkept_in-joined false old p f g = total-joined f g
 
@@ -101,13 +102,16 @@ pub record IsCountedNode (stays : Bool) (all below : ℕ) : Type 0 where
   pub other : stays ≡ false → below + 1 ≡ all
   pub fits : below + 1 < 2 ^ 32
 
-pub counted_node : (kept stays : Bool) (old old_now f f_now : Forest) (p : Option ℕ) (q : ℕ) (n : Node) (below : ℕ) → old_now ≡ old → f_now ≡ f → Sound f → Some n ≡ option_map node_of (record_at f q)
-    → stays ≡ (kept && is_only p (tag_of n.kind n.fields) (places_of q None (alone 0 old))) → below ≡ unkept_in stays (alone 0 old_now) (Some q) (trees_of f_now (children_of f_now q))
+pub counted_node : (kept stays : Bool) (old old_now f f_now : Forest) (p : Option ℕ) (q : ℕ) (n : Node) (below : ℕ) → old_now ≡ old → f_now ≡ f → Sound f
+    → Some n ≡ option_map node_of (record_at f q)
+    → stays ≡ (kept && is_only p (tag_of n.kind n.fields) (places_of q None (alone 0 old)))
+    → below ≡ unkept_in stays (alone 0 old_now) (Some q) (trees_of f_now (children_of f_now q))
     → IsCountedNode stays (unkept_in kept (alone 0 old) p (alone q f)) below
 counted_node kept stays old old_now f f_now p q n below before after s read is below_is =
     let all = counted_tree kept stays (alone 0 old) f p q n s read is in
     let own : below ≡ unkept_in stays (alone 0 old) (Some q) (trees_of f (children_of f q)) =
-    below_is ∙ ap (λ o. unkept_in stays (alone 0 o) (Some q) (trees_of f_now (children_of f_now q))) before ∙ ap (λ f. unkept_in stays (alone 0 old) (Some q) (trees_of f (children_of f q))) after in
+    below_is ∙ ap (λ o. unkept_in stays (alone 0 o) (Some q) (trees_of f_now (children_of f_now q))) before
+    ∙ ap (λ f. unkept_in stays (alone 0 old) (Some q) (trees_of f (children_of f q))) after in
     record {
       kept = λ so. omega (arith, all, own, ap {B = ℕ} (λ b. cond b 0 1) so);
       other = λ out. omega (arith, all, own, ap {B = ℕ} (λ b. cond b 0 1) out);
@@ -136,14 +140,16 @@ below_small f key s = from_spot (spot f key) refl where
 -- those of some of the children are counted, and `at` is the first of the children that are left
 pub record IsCountedUpTo (kept : Bool) (old f : Forest) (key : ℕ) (at : Option ℕ) (counted : ℕ) : Type 0 where
   pub place : is_place at (children_of f key) ≡ true
-  pub sum : counted + unkept_in kept old (Some key) (trees_of f (from_name at (children_of f key))) ≡ unkept_in kept old (Some key) (trees_of f (children_of f key))
+  pub sum : counted + unkept_in kept old (Some key) (trees_of f (from_name at (children_of f key)))
+      ≡ unkept_in kept old (Some key) (trees_of f (children_of f key))
 
 -- the next child is there, with a smaller tree
 pub record IsChildNext (f f_now : Forest) (key child : ℕ) : Type 0 where
   pub there : has child f_now ≡ true
   pub smaller : total (alone child f_now) < total (alone key f)
 
-pub child_next : (f f_now : Forest) (key child : ℕ) (at : Option ℕ) → f_now ≡ f → Sound f → at ≡ Some child → is_place at (children_of f key) ≡ true → IsChildNext f f_now key child
+pub child_next : (f f_now : Forest) (key child : ℕ) (at : Option ℕ) → f_now ≡ f → Sound f → at ≡ Some child → is_place at (children_of f key) ≡ true
+    → IsChildNext f f_now key child
 child_next f f_now key child at same s here place =
     let c = child_left f key child s (sym (ap (λ o. is_place o (children_of f key)) here) ∙ place) in
     record {
@@ -152,8 +158,10 @@ child_next f f_now key child at same s here place =
     }
 
 -- and its nodes are counted too
-pub counted_more : (kept : Bool) (old old_now f f_now : Forest) (key child : ℕ) (at next : Option ℕ) (counted more : ℕ) → old_now ≡ old → f_now ≡ f → Sound f → at ≡ Some child → IsCountedUpTo kept old f key at counted
-    → more ≡ unkept_in kept old_now (Some key) (alone child f_now) → next ≡ next_of f_now child → (counted + more ≤ total f) × IsCountedUpTo kept old f key next (counted + more)
+pub counted_more : (kept : Bool) (old old_now f f_now : Forest) (key child : ℕ) (at next : Option ℕ) (counted more : ℕ) → old_now ≡ old → f_now ≡ f → Sound f
+    → at ≡ Some child → IsCountedUpTo kept old f key at counted
+    → more ≡ unkept_in kept old_now (Some key) (alone child f_now) → next ≡ next_of f_now child
+    → (counted + more ≤ total f) × IsCountedUpTo kept old f key next (counted + more)
 counted_more kept old old_now f f_now key child at next counted more before same s here m more_is next_is =
     let kids = children_of f key in
     let c = child_left f key child s (sym (ap (λ o. is_place o kids) here) ∙ m.place) in
@@ -161,7 +169,8 @@ counted_more kept old old_now f f_now key child at next counted more before same
     let weigh = λ (t : Forest). unkept_in kept old (Some key) t in
     let left : from_name at kids ≡ child ∷ rest = ap (λ o. from_name o kids) here ∙ c.left in
     let is : next ≡ next_in kids child = next_is ∙ ap (λ f. next_of f child) same ∙ c.next in
-    let own : more ≡ weigh (alone child f) = more_is ∙ ap (λ o. unkept_in kept o (Some key) (alone child f_now)) before ∙ ap (λ f. weigh (alone child f)) same in
+    let own : more ≡ weigh (alone child f) =
+    more_is ∙ ap (λ o. unkept_in kept o (Some key) (alone child f_now)) before ∙ ap (λ f. weigh (alone child f)) same in
     let parts : weigh (trees_of f (from_name at kids)) ≡ weigh (alone child f) + weigh (trees_of f rest) =
     ap (λ ks. weigh (trees_of f ks)) left ∙ unkept_in-joined kept old (Some key) (alone child f) (trees_of f rest) in
     let then : weigh (trees_of f (from_name next kids)) ≡ weigh (trees_of f rest) = ap (λ o. weigh (trees_of f (from_name o kids))) is in (

@@ -30,7 +30,8 @@ next_told (Some r) = r.next
 previous_is : (f : Forest) (q : ℕ) → previous_of f q ≡ previous_told (record_at f q)
 unfolding previous_told
 previous_is f q = from_spot (spot f q) where
-  from_spot : (o : Option (Spot Label)) → previous_in (children_below f (parent_at o)) q ≡ previous_told (option_map (linked (children_below f (parent_at o)) q) o)
+  from_spot : (o : Option (Spot Label))
+      → previous_in (children_below f (parent_at o)) q ≡ previous_told (option_map (linked (children_below f (parent_at o)) q) o)
   from_spot None = refl
   from_spot (Some x) = refl
 
@@ -41,7 +42,8 @@ next_is f q = from_spot (spot f q) where
   from_spot None = refl
   from_spot (Some x) = refl
 
-module _ (f g : Forest) (n : Marked) (h : IsForest g) (c : Covers f unmarked g n) (kinds : (q : ℕ) → has q f ≡ true → has q g ≡ true → kind_of f q ≡ kind_of g q) where
+module _ (f g : Forest) (n : Marked) (h : IsForest g) (c : Covers f unmarked g n)
+    (kinds : (q : ℕ) → has q f ≡ true → has q g ≡ true → kind_of f q ≡ kind_of g q) where
   tree : Forest
   tree = alone 0 g
 
@@ -76,7 +78,8 @@ module _ (f g : Forest) (n : Marked) (h : IsForest g) (c : Covers f unmarked g n
   pub covered : AreCovered f (alone 0 g) (marking n)
   covered = record {
     kinds = λ q was is.
-        kinds q was (there_too q is) ∙ sym (ap (λ (o : Option (Spot Label)). option_map (λ (l : Label). l.kind) (option_map (λ (s : Spot Label). s.label) o)) (same_spot q is));
+        kinds q was (there_too q is)
+        ∙ sym (ap (λ (o : Option (Spot Label)). option_map (λ (l : Label). l.kind) (option_map (λ (s : Spot Label). s.label) o)) (same_spot q is));
     alike = λ q was is plain.
         let same = untouched_spot q is plain in
         let told : record_at f q ≡ record_at (alone 0 g) q = untouched_record q is plain in

@@ -95,11 +95,13 @@ host_over id face below = tree (record { id = id; face = face }) below nil
 above : (a b : ℕ) → a < b → ltb a b ≡ true
 above a b h = grind (arith, h)
 
-fits_create : (next : ℕ) (label : Label) (last : Option Kind) (hosts : Trees Host) → next < last_u32 → fits (create_op next label last) (host_tree hosts next) ≡ true
+fits_create : (next : ℕ) (label : Label) (last : Option Kind) (hosts : Trees Host) → next < last_u32
+    → fits (create_op next label last) (host_tree hosts next) ≡ true
 unfolding fits
 fits_create next label last hosts h = rw (eq-eqb next next refl) (above next last_u32 h)
 
-effect_create : (next : ℕ) (label : Label) (last : Option Kind) (hosts : Trees Host) → host_tree (joined hosts (one_host next (face_of label last))) (next + 1) ≡ effect (create_op next label last) (host_tree hosts next)
+effect_create : (next : ℕ) (label : Label) (last : Option Kind) (hosts : Trees Host)
+    → host_tree (joined hosts (one_host next (face_of label last))) (next + 1) ≡ effect (create_op next label last) (host_tree hosts next)
 unfolding effect
 effect_create next label last hosts = refl
 
@@ -110,12 +112,14 @@ pub count_other : (q id : ℕ) (face : Face) (below : Trees Host) → id ≢ q �
 count_other q id face below other h = rw (ne_eqb id q other) (omega (arith, h))
 
 -- what is put below the last host
-put_last : (id : ℕ) (face : Face) (new hosts : Trees Host) → count id hosts ≡ 0 → put_below id None new (joined hosts (one_host id face)) ≡ joined hosts (host_over id face new)
+put_last : (id : ℕ) (face : Face) (new hosts : Trees Host) → count id hosts ≡ 0
+    → put_below id None new (joined hosts (one_host id face)) ≡ joined hosts (host_over id face new)
 put_last id face new hosts h =
     put_below-joined id None new hosts (one_host id face)
     ∙ rw (put_below-absent id None new hosts h) (rw (eq-eqb id id refl) refl)
 
-pub alone_last : (id : ℕ) (face : Face) (below hosts : Trees Host) → count id hosts ≡ 0 → alone id (joined hosts (host_over id face below)) ≡ host_over id face below
+pub alone_last : (id : ℕ) (face : Face) (below hosts : Trees Host) → count id hosts ≡ 0
+    → alone id (joined hosts (host_over id face below)) ≡ host_over id face below
 alone_last id face below hosts h =
     alone-joined id hosts (host_over id face below)
     ∙ rw (alone-absent id hosts h) (rw (eq-eqb id id refl) refl)
@@ -125,7 +129,9 @@ without_last id face below hosts h =
     without-joined id hosts (host_over id face below)
     ∙ rw (without-absent id hosts h) (rw (eq-eqb id id refl) (joined-nil hosts))
 
-pub effect_place : (parent id : ℕ) (before : Option ℕ) (next : ℕ) (face : Face) (below hosts : Trees Host) → count id hosts ≡ 0 → host_tree (put_below parent before (host_over id face below) hosts) next ≡ effect (Place parent id before) (host_tree (joined hosts (host_over id face below)) next)
+pub effect_place : (parent id : ℕ) (before : Option ℕ) (next : ℕ) (face : Face) (below hosts : Trees Host) → count id hosts ≡ 0
+    → host_tree (put_below parent before (host_over id face below) hosts) next
+    ≡ effect (Place parent id before) (host_tree (joined hosts (host_over id face below)) next)
 unfolding effect
 effect_place parent id before next face below hosts h =
     sym (ap (λ w. host_tree w next) (rw (alone_last id face below hosts h) (rw (without_last id face below hosts h) refl)))
@@ -136,7 +142,8 @@ has_if id hosts h = above 0 (count id hosts) h
 pub has_not : (id : ℕ) (hosts : Trees Host) → count id hosts ≡ 0 → has id hosts ≡ false
 has_not id hosts h = rw h refl
 
-pub fits_place : (parent id : ℕ) (before : Option ℕ) (next : ℕ) (face : Face) (below hosts : Trees Host) → id ≢ 0 → count id hosts ≡ 0 → count id below ≡ 0 → 0 < count parent hosts → count parent (host_over id face below) ≡ 0
+pub fits_place : (parent id : ℕ) (before : Option ℕ) (next : ℕ) (face : Face) (below hosts : Trees Host) → id ≢ 0 → count id hosts ≡ 0 → count id below ≡ 0
+    → 0 < count parent hosts → count parent (host_over id face below) ≡ 0
     → fits_before id before (children_of parent hosts) ≡ true → fits (Place parent id before) (host_tree (joined hosts (host_over id face below)) next) ≡ true
 unfolding fits
 fits_place parent id before next face below hosts nonzero absent outside_too there outside beside =
@@ -147,21 +154,26 @@ fits_place parent id before next face below hosts nonzero absent outside_too the
     let onto : has parent all ≡ true = has_if parent all (omega (arith, count-joined parent hosts new, there)) in
     let apart : has parent (alone id all) ≡ false = has_not parent (alone id all) (ap (count parent) (alone_last id face below hosts absent) ∙ outside) in
     let children : children_of parent all ≡ children_of parent hosts =
-    children_of-joined parent hosts new ∙ ap (λ ids. children_of parent hosts ++ ids) (children_of-absent parent new outside) ∙ append-nil (children_of parent hosts) in
+    children_of-joined parent hosts new ∙ ap (λ ids. children_of parent hosts ++ ids) (children_of-absent parent new outside)
+    ∙ append-nil (children_of parent hosts) in
     rw (not_root, child, onto, apart, children) beside
 
 -- ---- the hosts of trees
 
 -- a host with what is below it, last and not placed
 created_one : (next : ℕ) (hosts : Trees Host) (label : Label) (below : Forest) → next < last_u32 → count next hosts ≡ 0
-    → Leads (host_tree (joined hosts (one_host next (face_of label (last_kind below)))) (next + 1)) (creations next (next + 1) below) (host_tree (put_below next None (numbered (next + 1) (render below)) (joined hosts (one_host next (face_of label (last_kind below))))) (next + 1 + total below))
-    → Leads (host_tree hosts next) (creation next label below) (host_tree (joined hosts (host_over next (face_of label (last_kind below)) (numbered (next + 1) (render below)))) (next + 1 + total below))
+    → Leads (host_tree (joined hosts (one_host next (face_of label (last_kind below)))) (next + 1)) (creations next (next + 1) below)
+    (host_tree (put_below next None (numbered (next + 1) (render below)) (joined hosts (one_host next (face_of label (last_kind below)))))
+    (next + 1 + total below))
+    → Leads (host_tree hosts next) (creation next label below)
+    (host_tree (joined hosts (host_over next (face_of label (last_kind below)) (numbered (next + 1) (render below)))) (next + 1 + total below))
 created_one next hosts label below room free inner =
     let face = face_of label (last_kind below) in (
       host_tree (joined hosts (one_host next face)) (next + 1),
       fits_create next label (last_kind below) hosts room,
       effect_create next label (last_kind below) hosts,
-      subst (λ w. Leads (host_tree (joined hosts (one_host next face)) (next + 1)) (creations next (next + 1) below) (host_tree w (next + 1 + total below))) (put_last next face (numbered (next + 1) (render below)) hosts free) inner,
+      subst (λ w. Leads (host_tree (joined hosts (one_host next face)) (next + 1)) (creations next (next + 1) below)
+          (host_tree w (next + 1 + total below))) (put_last next face (numbered (next + 1) (render below)) hosts free) inner,
     )
 
 -- ---- what is needed on the way
@@ -172,14 +184,16 @@ ready_below : (parent next : ℕ) (hosts : Trees Host) (label : Label) (below re
 ready_below parent next hosts label below rest ready =
     let face = face_of label (last_kind below) in
     record {
-      free = λ q h. omega (arith, h, ready.free q (omega (arith, h)), count-joined q hosts (one_host next face), count_other q next face nil (omega (arith, h)) refl);
+      free = λ q h. omega
+          (arith, h, ready.free q (omega (arith, h)), count-joined q hosts (one_host next face), count_other q next face nil (omega (arith, h)) refl);
       once = omega (arith, ready.free next (omega arith), count-joined next hosts (one_host next face), count_here next face nil refl);
       room = omega (arith, ready.room);
     }
 
 -- after a host that was just placed
 ready_behind : (parent next : ℕ) (hosts : Trees Host) (label : Label) (below rest : Forest) → IsReadyFor parent (total (tree label below rest)) hosts next
-    → IsReadyFor parent (total rest) (put_below parent None (host_over next (face_of label (last_kind below)) (numbered (next + 1) (render below))) hosts) (next + 1 + total below)
+    → IsReadyFor parent (total rest) (put_below parent None (host_over next (face_of label (last_kind below)) (numbered (next + 1) (render below))) hosts)
+    (next + 1 + total below)
 ready_behind parent next hosts label below rest ready =
     let face = face_of label (last_kind below) in
     let inner = numbered (next + 1) (render below) in
@@ -187,8 +201,10 @@ ready_behind parent next hosts label below rest ready =
     let before = parent_before parent (total (tree label below rest)) hosts next ready in
     let counted = λ (q : ℕ). trees.count-put_below id_of q parent None new hosts ready.once in
     record {
-      free = λ q h. omega (arith, h, ready.free q (omega (arith, h)), counted q, count_other q next face inner (omega (arith, h)) (count-numbered_behind q (next + 1) (render below) (omega (arith, h, total-render below))));
-      once = omega (arith, ready.once, counted parent, count_other parent next face inner (omega (arith, before)) (count-numbered_before parent (next + 1) (render below) (omega (arith, before))));
+      free = λ q h. omega
+          (arith, h, ready.free q (omega (arith, h)), counted q, count_other q next face inner (omega (arith, h)) (count-numbered_behind q (next + 1) (render below) (omega (arith, h, total-render below))));
+      once = omega
+          (arith, ready.once, counted parent, count_other parent next face inner (omega (arith, before)) (count-numbered_before parent (next + 1) (render below) (omega (arith, before))));
       room = omega (arith, ready.room);
     }
 
@@ -211,9 +227,12 @@ created parent next hosts (tree label below rest) ready =
     let same : on ≡ next + 1 + total (render below) = ap (λ n. next + 1 + n) (sym (total-render below)) in
     let placed = put_below parent None new hosts in
     Leads-append (creation next label below) (Place parent next None ∷ creations parent on rest) _ _ _
-    (created_one next hosts label below (omega (arith, ready.room)) free (created next (next + 1) (joined hosts (one_host next face)) below (ready_below parent next hosts label below rest ready))) (
+    (created_one next hosts label below (omega (arith, ready.room)) free
+    (created next (next + 1) (joined hosts (one_host next face)) below (ready_below parent next hosts label below rest ready))) (
       host_tree placed on,
-      fits_place parent next None on face inner hosts (omega (arith, before)) free (count-numbered_before next (next + 1) (render below) (omega arith)) (omega (arith, ready.once)) (count_other parent next face inner (omega (arith, before)) (count-numbered_before parent (next + 1) (render below) (omega (arith, before)))) refl,
+      fits_place parent next None on face inner hosts (omega (arith, before)) free (count-numbered_before next (next + 1) (render below) (omega arith)) (omega
+          (arith, ready.once)) (count_other parent next face inner (omega (arith, before))
+          (count-numbered_before parent (next + 1) (render below) (omega (arith, before)))) refl,
       effect_place parent next None on face inner hosts free,
       subst (λ w. Leads (host_tree placed on) (creations parent on rest) w) (
           ap (λ h. host_tree h (on + total rest)) (put_below-twice parent new behind hosts)
@@ -224,11 +243,14 @@ created parent next hosts (tree label below rest) ready =
 
 -- ---- one tree, not placed
 
-pub created_alone : (next : ℕ) (hosts : Trees Host) (label : Label) (below : Forest) → ((q : ℕ) → next < q + 1 → count q hosts ≡ 0) → next + 1 + total below ≤ last_u32
-    → Leads (host_tree hosts next) (creation next label below) (host_tree (joined hosts (numbered next (render (tree label below nil)))) (next + 1 + total below))
+pub created_alone : (next : ℕ) (hosts : Trees Host) (label : Label) (below : Forest) → ((q : ℕ) → next < q + 1 → count q hosts ≡ 0)
+    → next + 1 + total below ≤ last_u32
+    → Leads (host_tree hosts next) (creation next label below)
+    (host_tree (joined hosts (numbered next (render (tree label below nil)))) (next + 1 + total below))
 created_alone next hosts label below free room =
     let face = face_of label (last_kind below) in
-    created_one next hosts label below (omega (arith, room)) (free next (omega arith)) (created next (next + 1) (joined hosts (one_host next face)) below (record {
+    created_one next hosts label below (omega (arith, room)) (free next (omega arith))
+    (created next (next + 1) (joined hosts (one_host next face)) below (record {
       free = λ q h. omega (arith, h, free q (omega (arith, h)), count-joined q hosts (one_host next face), count_other q next face nil (omega (arith, h)) refl);
       once = omega (arith, free next (omega arith), count-joined next hosts (one_host next face), count_here next face nil refl);
       room = room;

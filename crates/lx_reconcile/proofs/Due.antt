@@ -28,7 +28,8 @@ quiet_writes (op ∷ ops) w quiet = (quiet.0 w, quiet_writes ops (effect op w) q
 
 -- ---- the operations that make hosts
 
-pub creations_each : (P : Op → Type 0) (low : ℕ) → ((id : ℕ) (label : Label) (last : Option Kind) → low ≤ id → P (create_op id label last)) → ((parent id : ℕ) → low ≤ id → P (Place parent id None))
+pub creations_each : (P : Op → Type 0) (low : ℕ) → ((id : ℕ) (label : Label) (last : Option Kind) → low ≤ id → P (create_op id label last))
+    → ((parent id : ℕ) → low ≤ id → P (Place parent id None))
     → (parent id : ℕ) (f : Forest) → low ≤ id → AllByRecursion P (creations parent id f)
 creations_each P low creates places parent id nil from = tt
 creations_each P low creates places parent id (tree label below rest) from = (
@@ -38,13 +39,15 @@ creations_each P low creates places parent id (tree label below rest) from = (
       (places parent id from, creations_each P low creates places parent (id + 1 + total below) rest (omega (arith, from))),
 )
 
-pub creation_each : (P : Op → Type 0) (low : ℕ) → ((id : ℕ) (label : Label) (last : Option Kind) → low ≤ id → P (create_op id label last)) → ((parent id : ℕ) → low ≤ id → P (Place parent id None))
+pub creation_each : (P : Op → Type 0) (low : ℕ) → ((id : ℕ) (label : Label) (last : Option Kind) → low ≤ id → P (create_op id label last))
+    → ((parent id : ℕ) → low ≤ id → P (Place parent id None))
     → (id : ℕ) (label : Label) (below : Forest) → low ≤ id → AllByRecursion P (creation id label below)
 creation_each P low creates places id label below from =
     (creates id label (last_kind below) from, creations_each P low creates places id (id + 1) below (omega (arith, from)))
 
 -- they write nothing, nor does the operation that places the host
-pub creation_writes : (id : ℕ) (label : Label) (below : Forest) (parent : ℕ) (before : Option ℕ) (w : HostTree) → AllWriteAnew w (creation id label below ++ Place parent id before ∷ [])
+pub creation_writes : (id : ℕ) (label : Label) (below : Forest) (parent : ℕ) (before : Option ℕ) (w : HostTree)
+    → AllWriteAnew w (creation id label below ++ Place parent id before ∷ [])
 creation_writes id label below parent before w =
     let P : Op → Type 0 = λ op. (w : HostTree) → WritesAnew w op in
     quiet_writes (creation id label below ++ Place parent id before ∷ []) w

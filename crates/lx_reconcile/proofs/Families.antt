@@ -75,11 +75,13 @@ count-flat_both q c d family (k ∷ ks) other e f =
 abbrev pub StandsApart : (ℕ → ℕ) → (ℕ → Trees Host) → List ℕ → ℕ → Type 0
 StandsApart ids family cs c = (d : ℕ) → is_among d cs ≡ true → d ≢ c → count (ids c) (family d) ≡ 0
 
-pub stands_apart : (ids : ℕ → ℕ) (family : ℕ → Trees Host) (cs : List ℕ) (c : ℕ) → AreAt ids family cs → ((q : ℕ) → count q (flat family cs) < 2) → is_among c cs ≡ true → StandsApart ids family cs c
+pub stands_apart : (ids : ℕ → ℕ) (family : ℕ → Trees Host) (cs : List ℕ) (c : ℕ) → AreAt ids family cs → ((q : ℕ) → count q (flat family cs) < 2)
+    → is_among c cs ≡ true → StandsApart ids family cs c
 stands_apart ids family cs c at once here d there other =
     omega (arith, once (ids c), count-at (ids c) (family c) (at c here), count-flat_both (ids c) c d family cs (λ e. other (sym e)) here there)
 
-pub other_id : (ids : ℕ → ℕ) (family : ℕ → Trees Host) (cs : List ℕ) (c d : ℕ) → AreAt ids family cs → StandsApart ids family cs c → is_among d cs ≡ true → d ≢ c → ids d ≢ ids c
+pub other_id : (ids : ℕ → ℕ) (family : ℕ → Trees Host) (cs : List ℕ) (c d : ℕ) → AreAt ids family cs → StandsApart ids family cs c → is_among d cs ≡ true
+    → d ≢ c → ids d ≢ ids c
 other_id ids family cs c d at apart there other e =
     omega (arith, apart d there other, count-at (ids d) (family d) (at d there), ap (λ i. count i (family d)) e)
 
@@ -119,7 +121,8 @@ with_entry-other k a entries c other = rw (ne_eqb c k other) refl
 pub among_other : (c k : ℕ) (cs : List ℕ) → is_among k cs ≡ false → is_among c cs ≡ true → c ≢ k
 among_other c k cs out here e = grind (arith, out, here, e)
 
-pub flat-with_entry : (k : ℕ) (t : Trees Host) (family : ℕ → Trees Host) (cs : List ℕ) → is_among k cs ≡ false → flat (with_entry k t family) cs ≡ flat family cs
+pub flat-with_entry : (k : ℕ) (t : Trees Host) (family : ℕ → Trees Host) (cs : List ℕ) → is_among k cs ≡ false
+    → flat (with_entry k t family) cs ≡ flat family cs
 flat-with_entry k t family cs out = flat-agree (with_entry k t family) family cs (λ c e. with_entry-other k t family c (among_other c k cs out e))
 
 count-flat_none : (q : ℕ) (family : ℕ → Trees Host) (cs : List ℕ) → ((d : ℕ) → is_among d cs ≡ true → count q (family d) ≡ 0) → count q (flat family cs) ≡ 0
@@ -127,7 +130,8 @@ count-flat_none q family [] none = refl
 count-flat_none q family (k ∷ ks) none =
     omega (arith, count-joined q (family k) (flat family ks), none k (among_first k ks), count-flat_none q family ks (λ d e. none d (among_rest d k ks e)))
 
-pub alone-flat : (ids : ℕ → ℕ) (family : ℕ → Trees Host) (cs : List ℕ) (c : ℕ) → NoRepeats cs → AreAt ids family cs → StandsApart ids family cs c → is_among c cs ≡ true
+pub alone-flat : (ids : ℕ → ℕ) (family : ℕ → Trees Host) (cs : List ℕ) (c : ℕ) → NoRepeats cs → AreAt ids family cs → StandsApart ids family cs c
+    → is_among c cs ≡ true
     → alone (ids c) (flat family cs) ≡ family c
 alone-flat ids family [] c distinct at apart e = absurd (cc)
 alone-flat ids family (k ∷ ks) c distinct at apart e =
@@ -167,7 +171,8 @@ inserted-at : (h : ℕ) (before : Option ℕ) (new t rest : Trees Host) → IsAt
 inserted-at h before new t rest at =
     rw at.is (ap (λ i. cond (is_named before i) (joined new (tree at.host at.below rest)) (tree at.host at.below (inserted before new rest))) at.id)
 
-pub inserted-flat : (ids : ℕ → ℕ) (family : ℕ → Trees Host) (cs : List ℕ) (before : Option ℕ) (k : ℕ) (new : Trees Host) → AreAt ids family cs → is_among k cs ≡ false
+pub inserted-flat : (ids : ℕ → ℕ) (family : ℕ → Trees Host) (cs : List ℕ) (before : Option ℕ) (k : ℕ) (new : Trees Host) → AreAt ids family cs
+    → is_among k cs ≡ false
     → ((d : ℕ) → is_among d cs ≡ true → is_named (option_map ids before) (ids d) ≡ is_named before d)
     → inserted (option_map ids before) new (flat family cs) ≡ flat (with_entry k new family) (names_with before (k ∷ []) cs)
 inserted-flat ids family [] before k new at out named = sym (joined-nil (with_entry k new family k) ∙ with_entry-same k new family)

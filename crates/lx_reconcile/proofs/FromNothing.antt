@@ -52,11 +52,13 @@ attributes_lead xs (y ∷ ys) b =
 
 text_leads : (attributes : List (Name × List ℕ)) (text : Option (List ℕ)) → Leads (alone_with attributes None) (text_ops 0 text) (alone_with attributes text)
 text_leads attributes None = refl
-text_leads attributes (Some text) = (alone_with attributes (Some text), sym (fits_write (is_text text) (alone_with attributes None)), effect_text 0 text (alone_with attributes None), refl)
+text_leads attributes (Some text) =
+    (alone_with attributes (Some text), sym (fits_write (is_text text) (alone_with attributes None)), effect_text 0 text (alone_with attributes None), refl)
 
 -- ---- the whole
 
-ready_alone : (attributes : List (Name × List ℕ)) (text : Option (List ℕ)) (more : ℕ) → 1 + more ≤ last_u32 → IsReadyFor 0 more (one_host 0 (root_with attributes text)) 1
+ready_alone : (attributes : List (Name × List ℕ)) (text : Option (List ℕ)) (more : ℕ) → 1 + more ≤ last_u32
+    → IsReadyFor 0 more (one_host 0 (root_with attributes text)) 1
 ready_alone attributes text more room = record {
   free = λ q h. rw (ne_eqb 0 q (omega (arith, h))) refl;
   once = refl;
@@ -66,7 +68,8 @@ ready_alone attributes text more room = record {
 -- what the operations lead to
 abbrev pub shown_by : Label → Forest → HostTree
 shown_by label below =
-    host_tree (tree (record { id = 0; face = root_with (attributes_of label.kind label.fields) (text_of label.fields) }) (numbered 1 (render below)) nil) (1 + total below)
+    host_tree (tree (record { id = 0; face = root_with (attributes_of label.kind label.fields) (text_of label.fields) }) (numbered 1 (render below)) nil)
+    (1 + total below)
 
 pub fresh_leads : (label : Label) (below : Forest) → 1 + total below ≤ last_u32 → Leads new_tree (fresh_ops (tree label below nil)) (shown_by label below)
 fresh_leads label below room =
@@ -113,32 +116,36 @@ pub fresh_fits : (f : Forest) (ops : List Op) → Sound f → f ≢ nil → ops 
 fresh_fits f ops s living is =
     let r = is_rooted f s living in
     let P : List Op → Type 0 = λ o. FitInTurn new_tree o in
-    subst P (sym (is ∙ ap fresh_ops r.tree_is)) (Leads-fits (fresh_ops (tree r.label r.below nil)) new_tree (shown_by r.label r.below) (fresh_leads r.label r.below r.room))
+    subst P (sym (is ∙ ap fresh_ops r.tree_is))
+    (Leads-fits (fresh_ops (tree r.label r.below nil)) new_tree (shown_by r.label r.below) (fresh_leads r.label r.below r.room))
 
-module _ (f : Forest) (ops : List Op) (view : HostTree) (s : Sound f) (living : f ≢ nil) (is : ops ≡ fresh_ops (alone 0 f)) (leads : Leads new_tree ops view) where
-  root : IsRooted f
-  root = is_rooted f s living
+module _ (f : Forest) (ops : List Op) (view : HostTree) (s : Sound f) (living : f ≢ nil) (is : ops ≡ fresh_ops (alone 0 f)) (leads : Leads new_tree ops view)
+  where
+    root : IsRooted f
+    root = is_rooted f s living
 
-  view_is : view ≡ shown_by root.label root.below
-  view_is =
-      let these : Leads new_tree (fresh_ops (tree root.label root.below nil)) view = subst (λ o. Leads new_tree o view) (is ∙ ap fresh_ops root.tree_is) leads in
-      Leads-same (fresh_ops (tree root.label root.below nil)) new_tree view (shown_by root.label root.below) these (fresh_leads root.label root.below root.room)
+    view_is : view ≡ shown_by root.label root.below
+    view_is =
+        let these : Leads new_tree (fresh_ops (tree root.label root.below nil)) view =
+        subst (λ o. Leads new_tree o view) (is ∙ ap fresh_ops root.tree_is) leads in
+        Leads-same (fresh_ops (tree root.label root.below nil)) new_tree view (shown_by root.label root.below) these (fresh_leads root.label root.below root.room)
 
-  pub fresh_shows : Shows view (alone 0 f)
-  fresh_shows =
-      ap (λ (v : HostTree). shape_of v.hosts) view_is
-      ∙ shows_root root.label root.below root.key root.kind
-      ∙ sym (ap render root.tree_is)
+    pub fresh_shows : Shows view (alone 0 f)
+    fresh_shows =
+        ap (λ (v : HostTree). shape_of v.hosts) view_is
+        ∙ shows_root root.label root.below root.key root.kind
+        ∙ sym (ap render root.tree_is)
 
-  pub fresh_rooted : hosts.IsRooted view.hosts
-  fresh_rooted = subst (λ (v : HostTree). hosts.IsRooted v.hosts) (sym view_is) refl
+    pub fresh_rooted : hosts.IsRooted view.hosts
+    fresh_rooted = subst (λ (v : HostTree). hosts.IsRooted v.hosts) (sym view_is) refl
 
-  pub fresh_next : view.next ≡ total (alone 0 f)
-  fresh_next = omega (arith, ap (λ (v : HostTree). v.next) view_is, ap total root.tree_is)
+    pub fresh_next : view.next ≡ total (alone 0 f)
+    fresh_next = omega (arith, ap (λ (v : HostTree). v.next) view_is, ap total root.tree_is)
 
 -- ---- what is pushed for the root's tree
 
-pub root_room : (f g : Forest) (key : ℕ) (n : Node) → g ≡ f → Sound f → Some n ≡ option_map node_of (record_at f key) → 1 + total (trees_of g (children_of g key)) ≤ last_u32
+pub root_room : (f g : Forest) (key : ℕ) (n : Node) → g ≡ f → Sound f → Some n ≡ option_map node_of (record_at f key)
+    → 1 + total (trees_of g (children_of g key)) ≤ last_u32
 root_room f g key n same s read =
     let r = is_read f key n s read in
     omega (arith, s.small, total_read f key n r, total-without-alone key_of key f, ap (λ f. total (trees_of f (children_of f key))) same)

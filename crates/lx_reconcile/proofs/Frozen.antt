@@ -16,7 +16,8 @@ use Rattle.lx_draft.proofs.Covered.{answered}
 -- ---- what is frozen
 
 -- the forest swept, and the marks of the whole update
-pub frozen_parts : (w : Working) (f : Forest) (selection : Selection) (marks : Marked) (next_key : ℕ) → Freezes w f selection marks next_key → (drop_detached w.forest ≡ f) × (w.marks ≡ marks)
+pub frozen_parts : (w : Working) (f : Forest) (selection : Selection) (marks : Marked) (next_key : ℕ) → Freezes w f selection marks next_key
+    → (drop_detached w.forest ≡ f) × (w.marks ≡ marks)
 unfolding freeze_step swept
 frozen_parts w f selection marks next_key frozen =
     let left : Working = record (swept w) { forest = f; selection = selection; marks = marks; next_key = next_key } in

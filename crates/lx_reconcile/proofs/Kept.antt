@@ -105,9 +105,11 @@ was_child old new p _ g h among (kept_below c up tag kept was is) =
     }
 
 -- a child that wasn't one of the same node, or had another tag, isn't kept
-pub not_kept_new : (old new : Forest) (p c : ℕ) → IsForest old → IsForest new → is_among c (children_of new p) ≡ true → is_among c (children_of old p) ≡ false → IsKept old new c → ⊥
+pub not_kept_new : (old new : Forest) (p c : ℕ) → IsForest old → IsForest new → is_among c (children_of new p) ≡ true → is_among c (children_of old p) ≡ false
+    → IsKept old new c → ⊥
 not_kept_new old new p c g h among out kept = let was = (was_child old new p c g h among kept).among in cc
 
-pub not_kept_tag : (old new : Forest) (p c : ℕ) (x y : Label) → IsForest old → IsForest new → is_among c (children_of new p) ≡ true → label_of old c ≡ Some x → label_of new c ≡ Some y
+pub not_kept_tag : (old new : Forest) (p c : ℕ) (x y : Label) → IsForest old → IsForest new → is_among c (children_of new p) ≡ true → label_of old c ≡ Some x
+    → label_of new c ≡ Some y
     → (tag_of x.kind x.fields ≡ tag_of y.kind y.fields → ⊥) → IsKept old new c → ⊥
 not_kept_tag old new p c x y g h among was is other kept = other ((was_child old new p c g h among kept).tag x y was is)

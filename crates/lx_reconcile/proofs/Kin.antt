@@ -42,7 +42,8 @@ use Rattle.lx_reconcile.proofs.Reading.{weight, weight-some}
 
 -- ---- the table, one marked node after another
 
-below-push : (v : HostTree) (host key : ℕ) (keys : List ℕ) → shown_below v host (keys ++ key ∷ []) ≡ shown_below v host keys ++ cond (is_named (host_above v key) host) (key ∷ []) []
+below-push : (v : HostTree) (host key : ℕ) (keys : List ℕ)
+    → shown_below v host (keys ++ key ∷ []) ≡ shown_below v host keys ++ cond (is_named (host_above v key) host) (key ∷ []) []
 below-push v host key [] = refl
 below-push v host key (x ∷ keys) = grind (arith, below-push v host key keys)
 
@@ -50,12 +51,16 @@ family-push : (key : ℕ) (keys : List ℕ) → family_of (keys ++ key ∷ []) �
 family-push key [] = refl
 family-push key (x ∷ keys) = ap (λ n. Some (record { child = x; size = n + 1 })) (length-append keys (key ∷ []))
 
-pub families_other : {S : Type 0} (v : HostTree) (key : ℕ) (keys : List ℕ) (made : HashMap ℕ Family S) → host_above v key ≡ None → AreFamilies v keys made → AreFamilies v (keys ++ key ∷ []) made
+pub families_other : {S : Type 0} (v : HostTree) (key : ℕ) (keys : List ℕ) (made : HashMap ℕ Family S) → host_above v key ≡ None → AreFamilies v keys made
+    → AreFamilies v (keys ++ key ∷ []) made
 families_other v key keys made none are = record {
-  each = λ host. are.each host ∙ sym (ap family_of (below-push v host key keys ∙ ap (λ o. shown_below v host keys ++ cond (is_named o host) (key ∷ []) []) none ∙ append-nil (shown_below v host keys)));
+  each = λ host. are.each host
+      ∙ sym (ap family_of
+      (below-push v host key keys ∙ ap (λ o. shown_below v host keys ++ cond (is_named o host) (key ∷ []) []) none ∙ append-nil (shown_below v host keys)));
 }
 
-pub families_more : {S T : Type 0} (v : HostTree) (key above : ℕ) (keys : List ℕ) (old : HashMap ℕ Family S) (new : HashMap ℕ Family T) → host_above v key ≡ Some above → AreFamilies v keys old
+pub families_more : {S T : Type 0} (v : HostTree) (key above : ℕ) (keys : List ℕ) (old : HashMap ℕ Family S) (new : HashMap ℕ Family T)
+    → host_above v key ≡ Some above → AreFamilies v keys old
     → ((q : ℕ) → get nat_eq new q ≡ cond (nat_eq above q) (Some (with_child key (get nat_eq old above))) (get nat_eq old q))
     → AreFamilies v (keys ++ key ∷ []) new
 families_more v key above keys old new is are each = record { each = at } where
@@ -129,17 +134,22 @@ module _ (old new : Forest) (mk : Marking) (v : HostTree) (b : IsBetween old new
     kids : Trees Host
     kids = flat (λ c. alone (host_in v c) v.hosts) (children_of old k)
 
-    from_spot : (o : Option (Spot Host)) → spot id_of v.hosts (host_in v k) ≡ o → rooted.children_of id_of v.hosts (host_in v k) ≡ map (host_in v) (children_of old k)
+    from_spot : (o : Option (Spot Host)) → spot id_of v.hosts (host_in v k) ≡ o
+        → rooted.children_of id_of v.hosts (host_in v k) ≡ map (host_in v) (children_of old k)
     from_spot None at =
-        absurd (let none : alone (host_in v k) v.hosts ≡ nil = trees.alone-absent id_of (host_in v k) v.hosts (let out = sym (is_some-spot id_of v.hosts (host_in v k)) ∙ ap is_some at in grind (arith, out)) in let some = s.is in cc)
+        absurd (let none : alone (host_in v k) v.hosts
+        ≡ nil = trees.alone-absent id_of (host_in v k) v.hosts
+        (let out = sym (is_some-spot id_of v.hosts (host_in v k)) ∙ ap is_some at in grind (arith, out)) in let some = s.is in cc)
     from_spot (Some x) at =
-        let same : tree x.label (named.gathered id_of v.hosts x.children) nil ≡ tree s.host kids nil = sym (lookups.alone-spot id_of v.hosts (host_in v k) x ordered at) ∙ s.is in
+        let same : tree x.label (named.gathered id_of v.hosts x.children) nil ≡ tree s.host kids nil =
+        sym (lookups.alone-spot id_of v.hosts (host_in v k) x ordered at) ∙ s.is in
         let below : named.gathered id_of v.hosts x.children ≡ kids = cc in
         let own : rooted.children_of id_of v.hosts (host_in v k) ≡ x.children = ap children_at at in
         own
         ∙ sym (names-gathered v.hosts x.children (λ q e. child_counted q (ap (is_among q) own ∙ e)))
         ∙ ap ids_of below
-        ∙ ids_of-flat (host_in v) (λ c. alone (host_in v c) v.hosts) (children_of old k) (λ c e. shown_at_id old v c b.view.before b.view.shows b.view.numbered (child_stands old k c b.view.before e))
+        ∙ ids_of-flat (host_in v) (λ c. alone (host_in v c) v.hosts) (children_of old k)
+        (λ c e. shown_at_id old v c b.view.before b.view.shows b.view.numbered (child_stands old k c b.view.before e))
       where
         child_counted : (q : ℕ) → is_among q (rooted.children_of id_of v.hosts (host_in v k)) ≡ true → count q v.hosts ≡ 1
         child_counted q e =
@@ -151,7 +161,8 @@ module _ (old new : Forest) (mk : Marking) (v : HostTree) (b : IsBetween old new
       ap (host_of c) b.whole
       ∙ one_shows c (host_in v c) v.hosts (only_host old v c b.view.before b.view.shows there)
 
-  above_is : (c k : ℕ) → forest.has c old ≡ true → forest.has k old ≡ true → is_named (host_above v c) (host_in v k) ≡ is_among (host_in v c) (map (host_in v) (children_of old k))
+  above_is : (c k : ℕ) → forest.has c old ≡ true → forest.has k old ≡ true
+      → is_named (host_above v c) (host_in v k) ≡ is_among (host_in v c) (map (host_in v) (children_of old k))
   above_is c k there up =
       ap (λ o. is_named (right_above v o) (host_in v k)) (host_found c there)
       ∙ sym (lookups.is_among-children_of id_of v.hosts (host_in v c) (host_in v k) ordered)
@@ -162,12 +173,14 @@ module _ (old new : Forest) (mk : Marking) (v : HostTree) (b : IsBetween old new
   one_host c d there too same =
       let s = is_shown_at old v c b.view.before b.view.shows b.view.numbered there in
       let t = is_shown_at old v d b.view.before b.view.shows b.view.numbered too in
-      let trees_same : tree s.host (flat (λ c. alone (host_in v c) v.hosts) (children_of old c)) nil ≡ tree t.host (flat (λ c. alone (host_in v c) v.hosts) (children_of old d)) nil =
+      let trees_same : tree s.host (flat (λ c. alone (host_in v c) v.hosts) (children_of old c)) nil
+      ≡ tree t.host (flat (λ c. alone (host_in v c) v.hosts) (children_of old d)) nil =
       sym s.is ∙ ap (λ i. alone i v.hosts) same ∙ t.is in
       let hosts_same : s.host ≡ t.host = cc in
       sym s.key ∙ ap (λ (h : Host). h.face.key) hosts_same ∙ t.key
 
-  among_hosts : (c : ℕ) (ks : List ℕ) → forest.has c old ≡ true → ((q : ℕ) → is_among q ks ≡ true → forest.has q old ≡ true) → is_among (host_in v c) (map (host_in v) ks) ≡ true → is_among c ks ≡ true
+  among_hosts : (c : ℕ) (ks : List ℕ) → forest.has c old ≡ true → ((q : ℕ) → is_among q ks ≡ true → forest.has q old ≡ true)
+      → is_among (host_in v c) (map (host_in v) ks) ≡ true → is_among c ks ≡ true
   among_hosts c [] there all e = absurd (cc)
   among_hosts c (k ∷ ks) there all e =
       grind (
@@ -186,7 +199,8 @@ module _ (old new : Forest) (mk : Marking) (v : HostTree) (b : IsBetween old new
         let there : forest.has c old ≡ true = grind (arith, some) in
         among_hosts c (children_of old k) there (λ q among. child_stands old k q b.view.before among) (sym (above_is c k there up) ∙ e)
     | inr none ↦
-        let out : host_of c (first_tree v.hosts) ≡ None = ap (host_of c) b.whole ∙ none_shows c v.hosts (count-shown c v.hosts old b.view.shows ∙ omega (arith, none)) in
+        let out : host_of c (first_tree v.hosts) ≡ None =
+        ap (host_of c) b.whole ∙ none_shows c v.hosts (count-shown c v.hosts old b.view.shows ∙ omega (arith, none)) in
         absurd (let no = ap (λ o. is_named (right_above v o) (host_in v k)) out in cc)
   ]
 
@@ -196,14 +210,18 @@ module _ (old new : Forest) (mk : Marking) (v : HostTree) (b : IsBetween old new
   -- ---- the family of a node
 
   module _ {S : Type 0} (m : Marked) (families : HashMap ℕ Family S) (are : AreFamilies v (marked_keys m) families) where
-    among_below : (q k : ℕ) → forest.has k old ≡ true → is_among q (children_of old k) ≡ true → is_noted m q ≡ true → is_among q (shown_below v (host_in v k) (marked_keys m)) ≡ true
+    among_below : (q k : ℕ) → forest.has k old ≡ true → is_among q (children_of old k) ≡ true → is_noted m q ≡ true
+        → is_among q (shown_below v (host_in v k) (marked_keys m)) ≡ true
     among_below q k up among marked =
-        filter-among (λ key. is_named (host_above v key) (host_in v k)) (marked_keys m) q ∙ ap (λ b. b && is_named (host_above v q) (host_in v k)) (noted_among m q ∙ marked) ∙ above_child q k up among
+        filter-among (λ key. is_named (host_above v key) (host_in v k)) (marked_keys m) q
+        ∙ ap (λ b. b && is_named (host_above v q) (host_in v k)) (noted_among m q ∙ marked) ∙ above_child q k up among
 
     fewer : (k : ℕ) → forest.has k old ≡ true → marked_among (is_noted m) (children_of old k) ≤ length (shown_below v (host_in v k) (marked_keys m))
     fewer k up =
-        no_longer (filter (is_noted m) (children_of old k)) (shown_below v (host_in v k) (marked_keys m)) (once-filter (is_noted m) (children_of old k) (NoRepeats-children_of old k b.view.before))
-        (λ q e. let t = and_parts (is_among q (children_of old k)) (is_noted m q) (sym (filter-among (is_noted m) (children_of old k) q) ∙ e) in among_below q k up t.0 t.1)
+        no_longer (filter (is_noted m) (children_of old k)) (shown_below v (host_in v k) (marked_keys m))
+        (once-filter (is_noted m) (children_of old k) (NoRepeats-children_of old k b.view.before))
+        (λ q e. let t = and_parts (is_among q (children_of old k)) (is_noted m q) (sym (filter-among (is_noted m) (children_of old k) q) ∙ e) in among_below q k
+        up t.0 t.1)
 
     -- what is known of it where there is one
     pub record IsFamily (k : ℕ) (x : Family) : Type 0 where
@@ -213,13 +231,16 @@ module _ (old new : Forest) (mk : Marking) (v : HostTree) (b : IsBetween old new
 
     pub is_family : (k : ℕ) (x : Family) → forest.has k old ≡ true → get nat_eq families (host_in v k) ≡ Some x → IsFamily k x
     is_family k x up e = by_list (shown_below v (host_in v k) (marked_keys m)) refl (sym (are.each (host_in v k)) ∙ e) where
-      by_list : (ks : List ℕ) → shown_below v (host_in v k) (marked_keys m) ≡ ks → family_of (shown_below v (host_in v k) (marked_keys m)) ≡ Some x → IsFamily k x
+      by_list : (ks : List ℕ) → shown_below v (host_in v k) (marked_keys m) ≡ ks → family_of (shown_below v (host_in v k) (marked_keys m)) ≡ Some x
+          → IsFamily k x
       by_list [] is some = absurd (let none = ap family_of is in cc)
       by_list (c ∷ ks) is some =
           let own : record { child = c; size = length ks + 1 } ≡ x = same_Some _ x (sym (ap family_of is) ∙ some) in
           let first : c ≡ x.child = ap (λ (f : Family). f.child) own in
-          let among : is_among x.child (shown_below v (host_in v k) (marked_keys m)) ≡ true = ap (is_among x.child) is ∙ grind (arith, first, eqb_tells c x.child) in
-          let t = and_parts (is_among x.child (marked_keys m)) (is_named (host_above v x.child) (host_in v k)) (sym (filter-among (λ key. is_named (host_above v key) (host_in v k)) (marked_keys m) x.child) ∙ among) in
+          let among : is_among x.child (shown_below v (host_in v k) (marked_keys m)) ≡ true =
+          ap (is_among x.child) is ∙ grind (arith, first, eqb_tells c x.child) in
+          let t = and_parts (is_among x.child (marked_keys m)) (is_named (host_above v x.child) (host_in v k))
+          (sym (filter-among (λ key. is_named (host_above v key) (host_in v k)) (marked_keys m) x.child) ∙ among) in
           record {
             child = child_above x.child k up t.1;
             marked = sym (noted_among m x.child) ∙ t.0;
@@ -227,7 +248,8 @@ module _ (old new : Forest) (mk : Marking) (v : HostTree) (b : IsBetween old new
           }
 
     -- where there is none, no child carries a mark
-    pub no_family : (k : ℕ) → forest.has k old ≡ true → get nat_eq families (host_in v k) ≡ None → (q : ℕ) → is_among q (children_of old k) ≡ true → is_noted m q ≡ false
+    pub no_family : (k : ℕ) → forest.has k old ≡ true → get nat_eq families (host_in v k) ≡ None → (q : ℕ) → is_among q (children_of old k) ≡ true
+        → is_noted m q ≡ false
     no_family k up e q among = elim (cases_Bool (is_noted m q)) [
       | inr plain ↦ plain
       | inl marked ↦ absurd (no_list (shown_below v (host_in v k) (marked_keys m)) (sym (are.each (host_in v k)) ∙ e) (among_below q k up among marked))

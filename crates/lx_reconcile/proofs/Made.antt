@@ -48,13 +48,16 @@ use Rattle.lx_reconcile.proofs.HostOf.{one_shows}
 
 -- ---- the host that shows a node
 
-found_is : (k : ℕ) (v : HostTree) (o : Option ℕ) → o ≡ hosts.host_of k (first_tree v.hosts) → first_tree v.hosts ≡ v.hosts → hosts_of k v.hosts ≡ host_in v k ∷ [] → o ≡ Some (host_in v k)
+found_is : (k : ℕ) (v : HostTree) (o : Option ℕ) → o ≡ hosts.host_of k (first_tree v.hosts) → first_tree v.hosts ≡ v.hosts
+    → hosts_of k v.hosts ≡ host_in v k ∷ [] → o ≡ Some (host_in v k)
 found_is k v o e whole shown = e ∙ ap (hosts.host_of k) whole ∙ one_shows k (host_in v k) v.hosts shown
 
-pub found_id : (k : ℕ) (v : HostTree) (id : ℕ) → Some id ≡ hosts.host_of k (first_tree v.hosts) → first_tree v.hosts ≡ v.hosts → hosts_of k v.hosts ≡ host_in v k ∷ [] → id ≡ host_in v k
+pub found_id : (k : ℕ) (v : HostTree) (id : ℕ) → Some id ≡ hosts.host_of k (first_tree v.hosts) → first_tree v.hosts ≡ v.hosts
+    → hosts_of k v.hosts ≡ host_in v k ∷ [] → id ≡ host_in v k
 found_id k v id e whole shown = same_Some id (host_in v k) (found_is k v (Some id) e whole shown)
 
-pub found_none : (k : ℕ) (v : HostTree) → None ≡ hosts.host_of k (first_tree v.hosts) → first_tree v.hosts ≡ v.hosts → hosts_of k v.hosts ≡ host_in v k ∷ [] → 0 ≡ host_in v k
+pub found_none : (k : ℕ) (v : HostTree) → None ≡ hosts.host_of k (first_tree v.hosts) → first_tree v.hosts ≡ v.hosts → hosts_of k v.hosts ≡ host_in v k ∷ []
+    → 0 ≡ host_in v k
 found_none k v e whole shown = absurd (let h = found_is k v None e whole shown in cc)
 
 -- ---- where a source has been read, its forest is the same
@@ -94,7 +97,8 @@ module _ {old new : Forest} {mk : Marking} {v : HostTree} (b : IsBetween old new
   pub after_there : (k c : ℕ) → is_among c (children_of new k) ≡ true → has c new ≡ true
   after_there k c among = has-child new c k (parent_of-child new c k b.sound among)
 
-  makes_stay : {k c n : ℕ} {start end : List Op} {m : ℕ} → has c new ≡ true → Reconciles old new mk v c n start end m → MakesMoves old new mk v k (Stay c ∷ []) n start end m
+  makes_stay : {k c n : ℕ} {start end : List Op} {m : ℕ} → has c new ≡ true → Reconciles old new mk v c n start end m
+      → MakesMoves old new mk v k (Stay c ∷ []) n start end m
   makes_stay there r = record { pushed = r.pushed; list = r.list; due = r.due; leads = λ from ops a more w. walk_stay b.view.after there w r.done }
 
 -- ---- a child that stays
@@ -119,7 +123,8 @@ module _ {old new : Forest} {mk : Marking} {v : HostTree} {k c n : ℕ} (b : IsB
   pub stay_skipped : (start : List Op) → mk.noted c ≡ false → MakesMoves old new mk v k (Stay c ∷ []) n start start n
   stay_skipped start plain = makes_stay b stay_after (skipped old new mk v b c n start stay_after plain)
 
-  pub stay_done : {A E : Type 0} (r : Result A E) {f_now g_now : Forest} (start end : List Op) (m : ℕ) → f_now ≡ old → g_now ≡ new → OnOk r (Reconciles f_now g_now mk v c n start end m) → OnOk r (MakesMoves old new mk v k (Stay c ∷ []) n start end m)
+  pub stay_done : {A E : Type 0} (r : Result A E) {f_now g_now : Forest} (start end : List Op) (m : ℕ) → f_now ≡ old → g_now ≡ new
+      → OnOk r (Reconciles f_now g_now mk v c n start end m) → OnOk r (MakesMoves old new mk v k (Stay c ∷ []) n start end m)
   stay_done r start end m e d = on_ok_weaker r (λ done. makes_stay b stay_after (subst (λ t. t) (λ i. Reconciles (e i) (d i) mk v c n start end m) done))
 
   module _ {was now : Node} (was_is : Some was ≡ option_map node_of (record_at old c)) (now_is : Some now ≡ option_map node_of (record_at new c)) where
@@ -132,7 +137,8 @@ module _ {old new : Forest} {mk : Marking} {v : HostTree} {k c n : ℕ} (b : IsB
     own_label : (t : StandsThere new c) → t.label ≡ label_from c now
     own_label t = same_Some t.label (label_from c now) (sym t.label_is ∙ now_label)
 
-    pub node_reads : tag_of was.kind was.fields ≡ tag_of now.kind now.fields → mk.noted c ≡ true → reads_in old mk.noted (Some k) (alone c new) ≡ 2 + reads_below old new mk.noted c
+    pub node_reads : tag_of was.kind was.fields ≡ tag_of now.kind now.fields → mk.noted c ≡ true
+        → reads_in old mk.noted (Some k) (alone c new) ≡ 2 + reads_below old new mk.noted c
     node_reads same marked =
         let t = stands_there new c b.view.after stay_after in
         let kept = same_kept old k (label_from c was) t.label b.view.before (ap (λ q. is_among q (children_of old k)) t.key ∙ (walk_both x.are.walk).0)
@@ -150,7 +156,8 @@ module _ {old new : Forest} {mk : Marking} {v : HostTree} {k c n : ℕ} (b : IsB
     -- where it is made anew, with another element
     module _ (other : tag_of was.kind was.fields ≡ tag_of now.kind now.fields → ⊥) where
       pub again_room : n + total (alone c new) ≤ last_u32
-      again_room = omega (arith, x.are.room, walk_room c x.are.walk refl, again_unkept old new k c b.view.before b.view.after stay_after was_label now_label other)
+      again_room =
+          omega (arith, x.are.room, walk_room c x.are.walk refl, again_unkept old new k c b.view.before b.view.after stay_after was_label now_label other)
 
       -- with another element it has another kind or other fields
       again_touched : mk.touched c ≡ true
@@ -158,8 +165,10 @@ module _ {old new : Forest} {mk : Marking} {v : HostTree} {k c n : ℕ} (b : IsB
           label_touched old new mk v c (label_from c was) (label_from c now) b.covered stay_before stay_after was_label now_label
           (λ kinds fields. other (ap (λ k. tag_of k was.fields) kinds ∙ ap (tag_of now.kind) fields))
 
-      pub again_done : {A E : Type 0} (r : Result A E) {h i : ℕ} {new_now : Forest} (start end : List Op) (m : ℕ) → new_now ≡ new → h ≡ host_in v k → i ≡ host_in v c
-          → OnOk r (end ≡ start ++ creation_of n (alone c new_now) ++ op.Place h n (Some i) ∷ [] ++ op.Drop i ∷ []) → OnOk r (m ≡ n + total (alone c new_now)) → OnOk r (MakesMoves old new mk v k (Stay c ∷ []) n start end m)
+      pub again_done : {A E : Type 0} (r : Result A E) {h i : ℕ} {new_now : Forest} (start end : List Op) (m : ℕ) → new_now ≡ new → h ≡ host_in v k
+          → i ≡ host_in v c
+          → OnOk r (end ≡ start ++ creation_of n (alone c new_now) ++ op.Place h n (Some i) ∷ [] ++ op.Drop i ∷ []) → OnOk r (m ≡ n + total (alone c new_now))
+          → OnOk r (MakesMoves old new mk v k (Stay c ∷ []) n start end m)
       again_done r start end m d id own =
           let made = creation_of n (alone c new) in
           let placing = op.Place (host_in v k) n (Some (host_in v c)) ∷ [] in
@@ -172,7 +181,8 @@ module _ {old new : Forest} {mk : Marking} {v : HostTree} {k c n : ℕ} (b : IsB
                 ∙ ap (λ l. l ++ dropping) (append_assoc start made placing)
                 ∙ append_assoc start (made ++ placing) dropping;
             due = each_append (Due old new mk v) (made ++ placing) dropping
-                (each_append (Due old new mk v) made placing (creation_due old new mk v n c b stay_after stay_behind) (new_due old new mk v (host_in v k) n (Some (host_in v c)) b.view.numbered stay_behind, tt))
+                (each_append (Due old new mk v) made placing (creation_due old new mk v n c b stay_after stay_behind)
+                (new_due old new mk v (host_in v k) n (Some (host_in v c)) b.view.numbered stay_behind, tt))
                 (drop_due old new mk v c b stay_before again_touched, tt);
             leads = λ low ops a more w.
                 subst (IsInWalk old new v k low (ops ++ ((made ++ placing) ++ dropping)) a more) (sym (next ∙ ap (λ y. n + total (alone c y)) d))
@@ -184,7 +194,8 @@ module _ {old new : Forest} {mk : Marking} {v : HostTree} {k c n : ℕ} (b : IsB
           let t = stands_there new c b.view.after stay_after in
           ap (reads_in old mk.noted (Some k)) t.tree_is
           ∙ reads_unkept old mk.noted (Some k) t.label t.below
-          (other_unkept old k (label_from c was) t.label b.view.before (ap (label_of old) t.key ∙ was_label) (λ e. other (e ∙ ap (λ (l : Label). tag_of l.kind l.fields) (own_label t))))
+          (other_unkept old k (label_from c was) t.label b.view.before (ap (label_of old) t.key ∙ was_label)
+          (λ e. other (e ∙ ap (λ (l : Label). tag_of l.kind l.fields) (own_label t))))
           ∙ ap (λ y. 2 + 2 * total y) (sym t.tree_is)
 
 -- ---- how much smaller the trees become
@@ -200,7 +211,8 @@ module _ {old new : Forest} {mk : Marking} {v : HostTree} (b : IsBetween old new
   move_less {k} (Leave c) x = omega (arith, ap total (stands_there new k b.view.after x.are.there).tree_is)
   move_less {k} s x = standing_less k (child_of s) (x.are.walk.to_come.stays (child_of s) (grind (arith, eqb_tells (child_of s) (child_of s))))
 
-  pub move_less_still : {k : ℕ} {s : Move} {n : ℕ} {new_now : Forest} → new_now ≡ new → IsNext old new v k s n → 4 * standing_total new_now (s ∷ []) + 3 < 4 * total (alone k new)
+  pub move_less_still : {k : ℕ} {s : Move} {n : ℕ} {new_now : Forest} → new_now ≡ new → IsNext old new v k s n
+      → 4 * standing_total new_now (s ∷ []) + 3 < 4 * total (alone k new)
   move_less_still {k} {s} d x = subst (λ y. 4 * standing_total y (s ∷ []) + 3 < 4 * total (alone k new)) (sym d) (move_less s x)
 
 -- a move after which this child is there
@@ -208,7 +220,8 @@ module _ (new : Forest) (s : Move) {c : ℕ} (e : standing (s ∷ []) ≡ c ∷ 
   pub one_less : 4 * total (alone c new) + 2 < 4 * standing_total new (s ∷ []) + 3
   one_less = omega (arith, one_total new c, ap (λ ks. total (trees_of new ks)) e)
 
-  pub one_reads : (old : Forest) (noted : ℕ → Bool) (k : ℕ) → reads_in old noted (Some k) (trees_of new (standing (s ∷ []))) ≡ reads_in old noted (Some k) (alone c new)
+  pub one_reads : (old : Forest) (noted : ℕ → Bool) (k : ℕ)
+      → reads_in old noted (Some k) (trees_of new (standing (s ∷ []))) ≡ reads_in old noted (Some k) (alone c new)
   one_reads old noted k = ap (λ ks. reads_in old noted (Some k) (trees_of new ks)) e ∙ reads-alone old new noted (Some k) c
 
 -- ---- one move, by which of them it is
@@ -234,7 +247,8 @@ module _ {old new : Forest} {mk : Marking} {v : HostTree} {k c n : ℕ} (b : IsB
     leads = λ from ops a more w. walk_leave b.view w;
   }
 
-module _ {old new : Forest} {mk : Marking} {v : HostTree} {k c n : ℕ} {before : Option ℕ} (b : IsBetween old new mk v) (x : IsNext old new v k (Make c before) n) where
+module _ {old new : Forest} {mk : Marking} {v : HostTree} {k c n : ℕ} {before : Option ℕ} (b : IsBetween old new mk v)
+    (x : IsNext old new v k (Make c before) n) where
   make_other : is_among c (children_of old k) ≡ false
   make_other = not-true (is_among c (children_of old k)) x.are.walk.to_come.suited.0
 
@@ -247,15 +261,18 @@ module _ {old new : Forest} {mk : Marking} {v : HostTree} {k c n : ℕ} {before 
   pub make_room : n + total (alone c new) ≤ last_u32
   make_room = omega (arith, x.are.room, walk_room c x.are.walk refl, made_unkept old new k c b.view.before b.view.after make_there make_other)
 
-  pub make_done : {A E : Type 0} (r : Result A E) {h : ℕ} {place : Option ℕ} (start end : List Op) (m : ℕ) → h ≡ host_in v k → place ≡ option_map (host_in v) before
-      → OnOk r (end ≡ start ++ creation_of n (alone c new) ++ op.Place h n place ∷ []) → OnOk r (m ≡ n + total (alone c new)) → OnOk r (MakesMoves old new mk v k (Make c before ∷ []) n start end m)
+  pub make_done : {A E : Type 0} (r : Result A E) {h : ℕ} {place : Option ℕ} (start end : List Op) (m : ℕ) → h ≡ host_in v k
+      → place ≡ option_map (host_in v) before
+      → OnOk r (end ≡ start ++ creation_of n (alone c new) ++ op.Place h n place ∷ []) → OnOk r (m ≡ n + total (alone c new))
+      → OnOk r (MakesMoves old new mk v k (Make c before ∷ []) n start end m)
   make_done r start end m id at =
       let made = creation_of n (alone c new) in
       let placing = op.Place (host_in v k) n (option_map (host_in v) before) ∷ [] in
       on_ok_both r (λ is next. record {
         pushed = made ++ placing;
         list = is ∙ (λ j. start ++ made ++ op.Place (id j) n (at j) ∷ []) ∙ append_assoc start made placing;
-        due = each_append (Due old new mk v) made placing (creation_due old new mk v n c b make_there (next_behind x)) (new_due old new mk v (host_in v k) n (option_map (host_in v) before) b.view.numbered (next_behind x), tt);
+        due = each_append (Due old new mk v) made placing (creation_due old new mk v n c b make_there (next_behind x))
+            (new_due old new mk v (host_in v k) n (option_map (host_in v) before) b.view.numbered (next_behind x), tt);
         leads = λ low ops a more w. subst (IsInWalk old new v k low (ops ++ (made ++ placing)) a more) (sym next) (walk_make b.view w make_room);
       })
 
@@ -264,10 +281,12 @@ module _ {old new : Forest} {mk : Marking} {v : HostTree} {k c n : ℕ} {before 
       let t = stands_there new c b.view.after make_there in
       reads-alone old new mk.noted (Some k) c
       ∙ ap (reads_in old mk.noted (Some k)) t.tree_is
-      ∙ reads_unkept old mk.noted (Some k) t.label t.below (new_unkept old k t.label b.view.before (ap (λ q. is_among q (children_of old k)) t.key ∙ make_other))
+      ∙ reads_unkept old mk.noted (Some k) t.label t.below
+      (new_unkept old k t.label b.view.before (ap (λ q. is_among q (children_of old k)) t.key ∙ make_other))
       ∙ ap (λ y. 2 + 2 * total y) (sym t.tree_is)
 
-module _ {old new : Forest} {mk : Marking} {v : HostTree} {k c n : ℕ} {before : Option ℕ} (b : IsBetween old new mk v) (x : IsNext old new v k (Place c before) n) where
+module _ {old new : Forest} {mk : Marking} {v : HostTree} {k c n : ℕ} {before : Option ℕ} (b : IsBetween old new mk v)
+    (x : IsNext old new v k (Place c before) n) where
   place_among : is_among c (children_of old k) ≡ true
   place_among = x.are.walk.to_come.suited.0
 
@@ -279,7 +298,8 @@ module _ {old new : Forest} {mk : Marking} {v : HostTree} {k c n : ℕ} {before 
 
   -- where a child was placed, it stays next
   pub placed_next : IsNext old new v k (Stay c) n
-  placed_next = record { more = x.more; are = record { from = x.are.from; ops = _; a = x.are.a; walk = walk_place b.view x.are.walk; behind = x.are.behind; room = x.are.room; there = x.are.there } }
+  placed_next =
+      record { more = x.more; are = record { from = x.are.from; ops = _; a = x.are.a; walk = walk_place b.view x.are.walk; behind = x.are.behind; room = x.are.room; there = x.are.there } }
 
   -- a child is placed, so the children don't keep their order, and differ
   placed_order : KeepsOrder old new k → ⊥
@@ -290,7 +310,8 @@ module _ {old new : Forest} {mk : Marking} {v : HostTree} {k c n : ℕ} {before 
       children_touched old new mk v k b.covered (was_there b k c place_among) x.are.there
       (λ same. placed_order (ap (λ ys. common ys (children_of new k)) same ∙ sym (ap (common (children_of new k)) same)))
 
-  pub place_done : {A E : Type 0} (r : Result A E) {h i : ℕ} {place : Option ℕ} (start mid end : List Op) (m : ℕ) → h ≡ host_in v k → i ≡ host_in v c → place ≡ option_map (host_in v) before → mid ≡ start ++ op.Place h i place ∷ []
+  pub place_done : {A E : Type 0} (r : Result A E) {h i : ℕ} {place : Option ℕ} (start mid end : List Op) (m : ℕ) → h ≡ host_in v k → i ≡ host_in v c
+      → place ≡ option_map (host_in v) before → mid ≡ start ++ op.Place h i place ∷ []
       → OnOk r (MakesMoves old new mk v k (Stay c ∷ []) n mid end m) → OnOk r (MakesMoves old new mk v k (Place c before ∷ []) n start end m)
   place_done r start mid end m id own at is =
       let placing = op.Place (host_in v k) (host_in v c) (option_map (host_in v) before) ∷ [] in
@@ -299,7 +320,8 @@ module _ {old new : Forest} {mk : Marking} {v : HostTree} {k c n : ℕ} {before 
       on_ok_weaker r (λ r. record {
         pushed = placing ++ r.pushed;
         list = r.list ∙ ap (λ l. l ++ r.pushed) first ∙ append_assoc start placing r.pushed;
-        due = each_append (Due old new mk v) placing r.pushed (place_due old new mk v k c (host_in v k) (option_map (host_in v) before) b x.are.there place_among stays place_touched placed_order, tt) r.due;
+        due = each_append (Due old new mk v) placing r.pushed
+            (place_due old new mk v k c (host_in v k) (option_map (host_in v) before) b x.are.there place_among stays place_touched placed_order, tt) r.due;
         leads = λ from ops a more w.
             subst (λ l. IsInWalk old new v k from l a more m) (append_assoc ops placing r.pushed) (r.leads from (ops ++ placing) a more (walk_place b.view w));
       })
@@ -316,7 +338,8 @@ module _ {old new : Forest} {mk : Marking} {v : HostTree} {k : ℕ} where
   }
 
   -- these moves, then those
-  pub makes_both : (xs ys : List Move) {n m l : ℕ} {start mid end : List Op} → MakesMoves old new mk v k xs n start mid m → MakesMoves old new mk v k ys m mid end l → MakesMoves old new mk v k (xs ++ ys) n start end l
+  pub makes_both : (xs ys : List Move) {n m l : ℕ} {start mid end : List Op} → MakesMoves old new mk v k xs n start mid m
+      → MakesMoves old new mk v k ys m mid end l → MakesMoves old new mk v k (xs ++ ys) n start end l
   makes_both xs ys {n} {l} {start} first then = record {
     pushed = first.pushed ++ then.pushed;
     list = then.list ∙ ap (λ x. x ++ then.pushed) first.list ∙ append_assoc start first.pushed then.pushed;
@@ -328,28 +351,35 @@ module _ {old new : Forest} {mk : Marking} {v : HostTree} {k : ℕ} where
   }
 
   -- of these moves those up to place i are made, and the next one is s
-  pub makes_next : (moves : List Move) (i : ℕ) {s : Move} {n m l : ℕ} {start mid end : List Op} → i < length moves → s ≡ get_or moves i s → MakesMoves old new mk v k (take i moves) n start mid m → MakesMoves old new mk v k (s ∷ []) m mid end l
+  pub makes_next : (moves : List Move) (i : ℕ) {s : Move} {n m l : ℕ} {start mid end : List Op} → i < length moves → s ≡ get_or moves i s
+      → MakesMoves old new mk v k (take i moves) n start mid m → MakesMoves old new mk v k (s ∷ []) m mid end l
       → MakesMoves old new mk v k (take (i + 1) moves) n start end l
   makes_next moves i {s} {n} {l} {start} {end} within item first then =
-      subst (λ x. MakesMoves old new mk v k x n start end l) (sym (take_more moves i s within ∙ ap (λ y. take i moves ++ y ∷ []) (sym item))) (makes_both (take i moves) (s ∷ []) first then)
+      subst (λ x. MakesMoves old new mk v k x n start end l) (sym (take_more moves i s within ∙ ap (λ y. take i moves ++ y ∷ []) (sym item)))
+      (makes_both (take i moves) (s ∷ []) first then)
 
-  pub is_next : {moves : List Move} (i : ℕ) {s : Move} {n m : ℕ} {start mid : List Op} → i < length moves → s ≡ get_or moves i s → AreComing old new v k moves n → MakesMoves old new mk v k (take i moves) n start mid m → IsNext old new v k s m
+  pub is_next : {moves : List Move} (i : ℕ) {s : Move} {n m : ℕ} {start mid : List Op} → i < length moves → s ≡ get_or moves i s → AreComing old new v k moves n
+      → MakesMoves old new mk v k (take i moves) n start mid m → IsNext old new v k s m
   is_next {moves} i {s} {n} within item x made =
       let behind = drop (i + 1) moves ++ x.more in
       let here : drop i moves ≡ s ∷ drop (i + 1) moves = drop_more moves i s within ∙ ap (λ y. y ∷ drop (i + 1) moves) (sym item) in
       let split : moves ++ x.more ≡ take i moves ++ s ∷ behind =
-      ap (λ z. z ++ x.more) (sym (take-append-drop i moves)) ∙ append_assoc (take i moves) (drop i moves) x.more ∙ ap (λ z. take i moves ++ (z ++ x.more)) here in
-      let walk : IsInWalk old new v k x.are.from x.are.ops x.are.a (take i moves ++ s ∷ behind) n = subst (λ z. IsInWalk old new v k x.are.from x.are.ops x.are.a z n) split x.are.walk in
+      ap (λ z. z ++ x.more) (sym (take-append-drop i moves)) ∙ append_assoc (take i moves) (drop i moves) x.more
+      ∙ ap (λ z. take i moves ++ (z ++ x.more)) here in
+      let walk : IsInWalk old new v k x.are.from x.are.ops x.are.a (take i moves ++ s ∷ behind) n =
+      subst (λ z. IsInWalk old new v k x.are.from x.are.ops x.are.a z n) split x.are.walk in
       record {
         more = behind;
-        are = record { from = x.are.from; ops = x.are.ops ++ made.pushed; a = x.are.a; walk = made.leads x.are.from x.are.ops x.are.a (s ∷ behind) walk; behind = x.are.behind; room = x.are.room; there = x.are.there };
+        are = record
+            { from = x.are.from; ops = x.are.ops ++ made.pushed; a = x.are.a; walk = made.leads x.are.from x.are.ops x.are.a (s ∷ behind) walk; behind = x.are.behind; room = x.are.room; there = x.are.there };
       }
 
 -- ---- how many reads go to some of the moves
 
 module _ (old new : Forest) (noted : ℕ → Bool) (k : ℕ) (moves : List Move) (i : ℕ) where
   pub take_reads : (s : Move) → i < length moves → s ≡ get_or moves i s
-      → reads_in old noted (Some k) (trees_of new (standing (take (i + 1) moves))) ≡ reads_in old noted (Some k) (trees_of new (standing (take i moves))) + reads_in old noted (Some k) (trees_of new (standing (s ∷ [])))
+      → reads_in old noted (Some k) (trees_of new (standing (take (i + 1) moves)))
+      ≡ reads_in old noted (Some k) (trees_of new (standing (take i moves))) + reads_in old noted (Some k) (trees_of new (standing (s ∷ [])))
   take_reads s within item =
       ap (λ ms. reads_in old noted (Some k) (trees_of new (standing ms))) (take_more moves i s within ∙ ap (λ y. take i moves ++ y ∷ []) (sym item))
       ∙ ap (λ ks. reads_in old noted (Some k) (trees_of new ks)) (standing-append (take i moves) (s ∷ []))
@@ -357,7 +387,8 @@ module _ (old new : Forest) (noted : ℕ → Bool) (k : ℕ) (moves : List Move)
 
   pub part_reads : reads_in old noted (Some k) (trees_of new (standing (take i moves))) ≤ reads_in old noted (Some k) (trees_of new (standing moves))
   part_reads =
-      let all : reads_in old noted (Some k) (trees_of new (standing moves)) ≡ reads_in old noted (Some k) (trees_of new (standing (take i moves))) + reads_in old noted (Some k) (trees_of new (standing (drop i moves))) =
+      let all : reads_in old noted (Some k) (trees_of new (standing moves))
+      ≡ reads_in old noted (Some k) (trees_of new (standing (take i moves))) + reads_in old noted (Some k) (trees_of new (standing (drop i moves))) =
       ap (λ ms. reads_in old noted (Some k) (trees_of new (standing ms))) (sym (take-append-drop i moves))
       ∙ ap (λ ks. reads_in old noted (Some k) (trees_of new ks)) (standing-append (take i moves) (drop i moves))
       ∙ reads_append old new noted (Some k) (standing (take i moves)) (standing (drop i moves)) in

@@ -19,7 +19,8 @@ pub record IsBeside (f : Forest) (key child : ℕ) (n : Node) : Type 0 where
   pub prev : n.prev ≡ previous_in (children_of f key) child
   pub next : n.next ≡ next_in (children_of f key) child
 
-pub is_beside : (f : Forest) (key child : ℕ) (n : Node) → Sound f → is_among child (children_of f key) ≡ true → Some n ≡ option_map node_of (record_at f child) → IsBeside f key child n
+pub is_beside : (f : Forest) (key child : ℕ) (n : Node) → Sound f → is_among child (children_of f key) ≡ true → Some n ≡ option_map node_of (record_at f child)
+    → IsBeside f key child n
 is_beside f key child n s among e =
     let r = is_read f child n s e in
     record {
@@ -33,7 +34,8 @@ pub record IsNextIn (f g : Forest) (key child : ℕ) : Type 0 where
   pub once : NoRepeats (children_of f key)
   pub next : next_of g child ≡ next_in (children_of f key) child
 
-pub is_next_in : (f g : Forest) (key child : ℕ) (at : Option ℕ) → g ≡ f → Sound f → at ≡ Some child → is_place at (children_of f key) ≡ true → IsNextIn f g key child
+pub is_next_in : (f g : Forest) (key child : ℕ) (at : Option ℕ) → g ≡ f → Sound f → at ≡ Some child → is_place at (children_of f key) ≡ true
+    → IsNextIn f g key child
 is_next_in f g key child at same s here place =
     let c = child_left f key child s (sym (ap (λ o. is_place o (children_of f key)) here) ∙ place) in
     record { there = ap (has child) same ∙ c.there; once = NoRepeats-children_of f key c.ordered; next = ap (λ f. next_of f child) same ∙ c.next }

@@ -39,39 +39,47 @@ no_repeats ids family (k ∷ ks) at once = (
 )
 
 -- what is there where a family is read
-among_kids : (ids : ℕ → ℕ) (family : ℕ → Trees Host) (cs : List ℕ) (c : ℕ) → AreAt ids family cs → is_among c cs ≡ true → is_among (ids c) (ids_of (flat family cs)) ≡ true
+among_kids : (ids : ℕ → ℕ) (family : ℕ → Trees Host) (cs : List ℕ) (c : ℕ) → AreAt ids family cs → is_among c cs ≡ true
+    → is_among (ids c) (ids_of (flat family cs)) ≡ true
 among_kids ids family cs c at here = ap (is_among (ids c)) (ids_of-flat ids family cs at) ∙ is_among-ids ids c cs here
 
 -- ---- one move
 
-pub at_stay : (h : ℕ) (a : Host) (ids : ℕ → ℕ) (family : ℕ → Trees Host) (cs : List ℕ) (n c : ℕ) (ops : List Op) (to : Trees Host) (m : ℕ) → a.id ≡ h → AreAt ids family cs → is_among c cs ≡ true
+pub at_stay : (h : ℕ) (a : Host) (ids : ℕ → ℕ) (family : ℕ → Trees Host) (cs : List ℕ) (n c : ℕ) (ops : List Op) (to : Trees Host) (m : ℕ) → a.id ≡ h
+    → AreAt ids family cs → is_among c cs ≡ true
     → LeadsAt (ids c) (family c) n ops to m
     → LeadsAt h (tree a (flat family cs) nil) n ops (tree a (flat (with_entry c to family) cs) nil) m
 at_stay h a ids family cs n c ops to m id at here inner =
     at_kids h a (flat family cs) n ops (tree a (flat (with_entry c to family) cs) nil) m (λ once free.
     let apart = stands_apart ids family cs c at once here in
     subst (λ kids. LeadsAt h (tree a (flat family cs) nil) n ops (tree a kids nil) m) (replaced-flat ids family cs c to at apart)
-    (at_inner h a (flat family cs) n (ids c) (family c) ops to m id (among_kids ids family cs c at here) (alone-flat ids family cs c (no_repeats ids family cs at once) at apart here) inner))
+    (at_inner h a (flat family cs) n (ids c) (family c) ops to m id (among_kids ids family cs c at here)
+    (alone-flat ids family cs c (no_repeats ids family cs at once) at apart here) inner))
 
-pub at_gone : (h : ℕ) (a : Host) (ids : ℕ → ℕ) (family : ℕ → Trees Host) (cs : List ℕ) (n c : ℕ) → a.id ≡ h → AreAt ids family cs → is_among c cs ≡ true → ids c ≢ 0
+pub at_gone : (h : ℕ) (a : Host) (ids : ℕ → ℕ) (family : ℕ → Trees Host) (cs : List ℕ) (n c : ℕ) → a.id ≡ h → AreAt ids family cs → is_among c cs ≡ true
+    → ids c ≢ 0
     → LeadsAt h (tree a (flat family cs) nil) n (Drop (ids c) ∷ []) (tree a (flat family (names_without c cs)) nil) n
 at_gone h a ids family cs n c id at here nonzero =
     at_kids h a (flat family cs) n (Drop (ids c) ∷ []) (tree a (flat family (names_without c cs)) nil) n (λ once free.
-    subst (λ kids. LeadsAt h (tree a (flat family cs) nil) n (Drop (ids c) ∷ []) (tree a kids nil) n) (without-flat ids family cs c at (stands_apart ids family cs c at once here))
+    subst (λ kids. LeadsAt h (tree a (flat family cs) nil) n (Drop (ids c) ∷ []) (tree a kids nil) n)
+    (without-flat ids family cs c at (stands_apart ids family cs c at once here))
     (at_leave h a (flat family cs) n (ids c) id nonzero (among_kids ids family cs c at here)))
 
 -- the id before which a child comes names the same child
-named_id : (ids : ℕ → ℕ) (family : ℕ → Trees Host) (cs : List ℕ) (before : Option ℕ) → AreAt ids family cs → ((q : ℕ) → count q (flat family cs) < 2) → is_place before cs ≡ true
+named_id : (ids : ℕ → ℕ) (family : ℕ → Trees Host) (cs : List ℕ) (before : Option ℕ) → AreAt ids family cs → ((q : ℕ) → count q (flat family cs) < 2)
+    → is_place before cs ≡ true
     → (d : ℕ) → is_among d cs ≡ true → is_named (option_map ids before) (ids d) ≡ is_named before d
 named_id ids family cs None at once place d there = refl
 named_id ids family cs (Some b) at once place d there =
     grind (arith, eqb_tells d b, eqb_tells (ids d) (ids b), other_id ids family cs b d at (stands_apart ids family cs b at once place) there)
 
-has_before_ids : (ids : ℕ → ℕ) (family : ℕ → Trees Host) (cs : List ℕ) (before : Option ℕ) → AreAt ids family cs → is_place before cs ≡ true → has_before (option_map ids before) (ids_of (flat family cs)) ≡ true
+has_before_ids : (ids : ℕ → ℕ) (family : ℕ → Trees Host) (cs : List ℕ) (before : Option ℕ) → AreAt ids family cs → is_place before cs ≡ true
+    → has_before (option_map ids before) (ids_of (flat family cs)) ≡ true
 has_before_ids ids family cs None at place = refl
 has_before_ids ids family cs (Some b) at place = among_kids ids family cs b at place
 
-pub at_new : (h : ℕ) (a : Host) (ids : ℕ → ℕ) (family : ℕ → Trees Host) (cs : List ℕ) (n k : ℕ) (before : Option ℕ) (label : Label) (below : Forest) → a.id ≡ h → AreAt ids family cs
+pub at_new : (h : ℕ) (a : Host) (ids : ℕ → ℕ) (family : ℕ → Trees Host) (cs : List ℕ) (n k : ℕ) (before : Option ℕ) (label : Label) (below : Forest) → a.id ≡ h
+    → AreAt ids family cs
     → is_among k cs ≡ false → is_place before cs ≡ true → n + total (tree label below nil) ≤ last_u32
     → LeadsAt h (tree a (flat family cs) nil) n (creation n label below ++ Place h n (option_map ids before) ∷ [])
     (tree a (flat (with_entry k (numbered n (render (tree label below nil))) family) (names_with before (k ∷ []) cs)) nil) (n + total (tree label below nil))
@@ -80,7 +88,8 @@ at_new h a ids family cs n k before label below id at out place room =
     let ops = creation n label below ++ Place h n (option_map ids before) ∷ [] in
     let m = n + total (tree label below nil) in
     at_kids h a (flat family cs) n ops (tree a (flat (with_entry k new family) (names_with before (k ∷ []) cs)) nil) m (λ once free.
-    subst (λ kids. LeadsAt h (tree a (flat family cs) nil) n ops (tree a kids nil) m) (inserted-flat ids family cs before k new at out (named_id ids family cs before at once place))
+    subst (λ kids. LeadsAt h (tree a (flat family cs) nil) n ops (tree a kids nil) m)
+    (inserted-flat ids family cs before k new at out (named_id ids family cs before at once place))
     (at_make h a (flat family cs) n label below (option_map ids before) id room (has_before_ids ids family cs before at place)))
 
 pub without_key : (c d : ℕ) (cs : List ℕ) → is_among d (names_without c cs) ≡ true → (is_among d cs ≡ true) × (d ≢ c)
@@ -89,16 +98,19 @@ without_key c d cs e = (grind (arith, e, is_among-names_without c d cs), λ same
 without_self : (c : ℕ) (cs : List ℕ) → is_among c (names_without c cs) ≡ false
 without_self c cs = grind (arith, is_among-names_without c c cs, eqb_tells c c)
 
-fits_id : (ids : ℕ → ℕ) (family : ℕ → Trees Host) (cs : List ℕ) (c : ℕ) (before : Option ℕ) → AreAt ids family cs → StandsApart ids family cs c → is_place before cs ≡ true → is_named before c ≡ false
+fits_id : (ids : ℕ → ℕ) (family : ℕ → Trees Host) (cs : List ℕ) (c : ℕ) (before : Option ℕ) → AreAt ids family cs → StandsApart ids family cs c
+    → is_place before cs ≡ true → is_named before c ≡ false
     → fits_before (ids c) (option_map ids before) (ids_of (flat family cs)) ≡ true
 fits_id ids family cs c None at apart place other = refl
 fits_id ids family cs c (Some b) at apart place other =
     let differ : b ≢ c = λ e. grind (arith, other, eqb_tells c b, e) in
     rw (among_kids ids family cs b at place, ne_eqb (ids b) (ids c) (other_id ids family cs c b at apart place differ)) refl
 
-pub at_moved : (h : ℕ) (a : Host) (ids : ℕ → ℕ) (family : ℕ → Trees Host) (cs : List ℕ) (n c : ℕ) (before : Option ℕ) → a.id ≡ h → AreAt ids family cs → is_among c cs ≡ true → ids c ≢ 0
+pub at_moved : (h : ℕ) (a : Host) (ids : ℕ → ℕ) (family : ℕ → Trees Host) (cs : List ℕ) (n c : ℕ) (before : Option ℕ) → a.id ≡ h → AreAt ids family cs
+    → is_among c cs ≡ true → ids c ≢ 0
     → is_place before cs ≡ true → is_named before c ≡ false
-    → LeadsAt h (tree a (flat family cs) nil) n (Place h (ids c) (option_map ids before) ∷ []) (tree a (flat family (names_with before (c ∷ []) (names_without c cs))) nil) n
+    → LeadsAt h (tree a (flat family cs) nil) n (Place h (ids c) (option_map ids before) ∷ [])
+    (tree a (flat family (names_with before (c ∷ []) (names_without c cs))) nil) n
 at_moved h a ids family cs n c before id at here nonzero place other =
     let ops = Place h (ids c) (option_map ids before) ∷ [] in
     let kids = flat family cs in
@@ -106,9 +118,12 @@ at_moved h a ids family cs n c before id at here nonzero place other =
     let apart = stands_apart ids family cs c at once here in
     let own : alone (ids c) kids ≡ family c = alone-flat ids family cs c (no_repeats ids family cs at once) at apart here in
     let left : without (ids c) kids ≡ flat family (names_without c cs) = without-flat ids family cs c at apart in
-    let there : inserted (option_map ids before) (family c) (flat family (names_without c cs)) ≡ flat (with_entry c (family c) family) (names_with before (c ∷ []) (names_without c cs)) =
-    inserted-flat ids family (names_without c cs) before c (family c) (λ d e. at d (without_key c d cs e).0) (without_self c cs) (λ d e. named_id ids family cs before at once place d (without_key c d cs e).0) in
-    let same : flat (with_entry c (family c) family) (names_with before (c ∷ []) (names_without c cs)) ≡ flat family (names_with before (c ∷ []) (names_without c cs)) =
+    let there : inserted (option_map ids before) (family c) (flat family (names_without c cs))
+    ≡ flat (with_entry c (family c) family) (names_with before (c ∷ []) (names_without c cs)) =
+    inserted-flat ids family (names_without c cs) before c (family c) (λ d e. at d (without_key c d cs e).0) (without_self c cs)
+    (λ d e. named_id ids family cs before at once place d (without_key c d cs e).0) in
+    let same : flat (with_entry c (family c) family) (names_with before (c ∷ []) (names_without c cs))
+    ≡ flat family (names_with before (c ∷ []) (names_without c cs)) =
     flat-agree (with_entry c (family c) family) family (names_with before (c ∷ []) (names_without c cs)) (λ d e. entry_own c family d) in
     subst (λ kids_after. LeadsAt h (tree a kids nil) n ops (tree a kids_after nil) n)
     (ap (λ t. inserted (option_map ids before) t (without (ids c) kids)) own ∙ ap (inserted (option_map ids before) (family c)) left ∙ there ∙ same)
@@ -118,7 +133,8 @@ at_moved h a ids family cs n c before id at here nonzero place other =
     entry_own c family d = grind (arith, eqb_tells d c)
 
 -- what comes before a tree that then leaves is in its place
-without_inserted : (i : ℕ) (new t : Trees Host) → count i t < 2 → count i new ≡ 0 → is_among i (ids_of t) ≡ true → without i (inserted (Some i) new t) ≡ replaced i new t
+without_inserted : (i : ℕ) (new t : Trees Host) → count i t < 2 → count i new ≡ 0 → is_among i (ids_of t) ≡ true
+    → without i (inserted (Some i) new t) ≡ replaced i new t
 without_inserted i new nil once free here = absurd (cc)
 without_inserted i new (tree x b r) once free here =
     grind (
@@ -143,7 +159,8 @@ among_inserted i before new t here =
     ∙ grind (arith, here)
 
 -- a child whose element is another one: it is made anew before its old host, which then goes
-pub at_again : (h : ℕ) (a : Host) (ids : ℕ → ℕ) (family : ℕ → Trees Host) (cs : List ℕ) (n c : ℕ) (label : Label) (below : Forest) → a.id ≡ h → AreAt ids family cs
+pub at_again : (h : ℕ) (a : Host) (ids : ℕ → ℕ) (family : ℕ → Trees Host) (cs : List ℕ) (n c : ℕ) (label : Label) (below : Forest) → a.id ≡ h
+    → AreAt ids family cs
     → is_among c cs ≡ true → ids c ≢ 0 → n + total (tree label below nil) ≤ last_u32
     → LeadsAt h (tree a (flat family cs) nil) n ((creation n label below ++ Place h n (Some (ids c)) ∷ []) ++ Drop (ids c) ∷ [])
     (tree a (flat (with_entry c (numbered n (render (tree label below nil))) family) cs) nil) (n + total (tree label below nil))

@@ -67,7 +67,8 @@ end_is_place front ks (b ∷ back) = among_all front ks (b ∷ back) b ∙ grind
 -- ---- one move between a front and a back
 
 -- it can be made in the whole
-can_toward : (m : Move) (front ks back : List ℕ) → NoRepeats (front ++ (ks ++ back)) → is_among (child_of m) front ≡ false → is_among (child_of m) back ≡ false →
+can_toward : (m : Move) (front ks back : List ℕ) → NoRepeats (front ++ (ks ++ back)) → is_among (child_of m) front ≡ false → is_among (child_of m) back ≡ false
+    →
     can_move m ks ≡ true → can_move (toward (first_of back) m) (front ++ (ks ++ back)) ≡ true
 can_toward (Stay k) front ks back once f b e = grind (arith, e, among_all front ks back k)
 can_toward (Leave k) front ks back once f b e = grind (arith, e, among_all front ks back k)
@@ -77,7 +78,8 @@ can_toward (Place k None) front ks back once f b e = grind (arith, e, b, among_a
 can_toward (Place k (Some c)) front ks back once f b e = grind (arith, e, among_all front ks back k, among_all front ks back c)
 
 -- and does there what it does between them
-moved_toward : (m : Move) (front ks back : List ℕ) → NoRepeats (front ++ (ks ++ back)) → is_among (child_of m) front ≡ false → is_among (child_of m) back ≡ false →
+moved_toward : (m : Move) (front ks back : List ℕ) → NoRepeats (front ++ (ks ++ back)) → is_among (child_of m) front ≡ false
+    → is_among (child_of m) back ≡ false →
     can_move m ks ≡ true → moved (toward (first_of back) m) (front ++ (ks ++ back)) ≡ front ++ (moved m ks ++ back)
 moved_toward (Stay k) front ks back once f b e = refl
 moved_toward (Leave k) front ks back once f b e = without_between k front ks back f b
@@ -110,7 +112,8 @@ rest_apart : (k : ℕ) (ks front back : List ℕ) → AreApart (k ∷ ks) front 
 rest_apart k ks front back far = λ q e. far q (grind (arith, e))
 
 all_toward : (ms : List Move) (front ks back : List ℕ) → NoRepeats (front ++ (ks ++ back)) → AreApart (map child_of ms) front back → CanAllMove ms ks →
-    CanAllMove (map (toward (first_of back)) ms) (front ++ (ks ++ back)) × (all_moved (map (toward (first_of back)) ms) (front ++ (ks ++ back)) ≡ front ++ (all_moved ms ks ++ back))
+    CanAllMove (map (toward (first_of back)) ms) (front ++ (ks ++ back))
+    × (all_moved (map (toward (first_of back)) ms) (front ++ (ks ++ back)) ≡ front ++ (all_moved ms ks ++ back))
 all_toward [] front ks back once far can = (tt, refl)
 all_toward (m ∷ ms) front ks back once far can =
     let own = first_apart (child_of m) (map child_of ms) front back far in
@@ -173,9 +176,11 @@ waiting_toward m front old back handled now once are far waits = by_move m waits
   named : (c : ℕ) → is_waiting old handled (Some c) ≡ true → is_waiting (front ++ (old ++ back)) now (Some c) ≡ true
   named c e = grind (arith, e, among_all front old back c, is_among-append c old back, are c, apart front (old ++ back) c once)
 
-  end : (back : List ℕ) → NoRepeats (front ++ (old ++ back)) → ((q : ℕ) → is_among q handled ≡ true → is_among q back ≡ false) → is_waiting (front ++ (old ++ back)) now (first_of back) ≡ true
+  end : (back : List ℕ) → NoRepeats (front ++ (old ++ back)) → ((q : ℕ) → is_among q handled ≡ true → is_among q back ≡ false)
+      → is_waiting (front ++ (old ++ back)) now (first_of back) ≡ true
   end [] once far = refl
-  end (b ∷ back) once far = grind (arith, eqb_tells b b, among_all front old (b ∷ back) b, is_among-append b old (b ∷ back), are b, far b, apart front (old ++ b ∷ back) b once)
+  end (b ∷ back) once far =
+      grind (arith, eqb_tells b b, among_all front old (b ∷ back) b, is_among-append b old (b ∷ back), are b, far b, apart front (old ++ b ∷ back) b once)
 
   by_move : (m : Move) → is_waiting old handled (before_of m) ≡ true → is_waiting (front ++ (old ++ back)) now (before_of (toward (first_of back) m)) ≡ true
   by_move (Make k None) e = end back once far
@@ -198,12 +203,14 @@ unhandled_toward (m ∷ ms) front old back handled now once are behind far waits
 
 -- ---- moves after others
 
-BeforeUnhandled-append : (ms ns : List Move) (old handled : List ℕ) → BeforeUnhandled old handled ms → ((now : List ℕ) → BeforeUnhandled old now ns) → BeforeUnhandled old handled (ms ++ ns)
+BeforeUnhandled-append : (ms ns : List Move) (old handled : List ℕ) → BeforeUnhandled old handled ms → ((now : List ℕ) → BeforeUnhandled old now ns)
+    → BeforeUnhandled old handled (ms ++ ns)
 BeforeUnhandled-append [] ns old handled waits then = then handled
 BeforeUnhandled-append (m ∷ ms) ns old handled waits then = (waits.0, BeforeUnhandled-append ms ns old (child_of m ∷ handled) waits.1 then)
 
 -- after a front that stays, which is handled by then
-BeforeUnhandled-behind : (front : List ℕ) (ms : List Move) (old handled : List ℕ) → ((now : List ℕ) → AreHandled now handled front → BeforeUnhandled old now ms) → BeforeUnhandled old handled (map Stay front ++ ms)
+BeforeUnhandled-behind : (front : List ℕ) (ms : List Move) (old handled : List ℕ) → ((now : List ℕ) → AreHandled now handled front → BeforeUnhandled old now ms)
+    → BeforeUnhandled old handled (map Stay front ++ ms)
 BeforeUnhandled-behind [] ms old handled then = then handled (λ q. grind arith)
 BeforeUnhandled-behind (x ∷ front) ms old handled then =
     (refl, BeforeUnhandled-behind front ms old (x ∷ handled) (λ now are. then now (λ q. grind (arith, are q))))
@@ -231,7 +238,8 @@ between_same front old back new once q e =
     let far = between_apart front old back once q e in
     grind (arith, far.0, far.1, among_all front new back q)
 
-missing-between : (front old back new : List ℕ) → NoRepeats (front ++ (old ++ back)) → missing (front ++ (old ++ back)) (front ++ (new ++ back)) ≡ missing old new
+missing-between : (front old back new : List ℕ) → NoRepeats (front ++ (old ++ back))
+    → missing (front ++ (old ++ back)) (front ++ (new ++ back)) ≡ missing old new
 missing-between front old back new once =
     let all = front ++ (new ++ back) in
     missing-append front (old ++ back) all
@@ -241,7 +249,8 @@ missing-between front old back new once =
     ∙ append-nil (missing old all)
     ∙ missing-same old all new (between_same front old back new once)
 
-common-between : (front old back new : List ℕ) → NoRepeats (front ++ (old ++ back)) → common (front ++ (old ++ back)) (front ++ (new ++ back)) ≡ front ++ (common old new ++ back)
+common-between : (front old back new : List ℕ) → NoRepeats (front ++ (old ++ back))
+    → common (front ++ (old ++ back)) (front ++ (new ++ back)) ≡ front ++ (common old new ++ back)
 common-between front old back new once =
     let all = front ++ (new ++ back) in
     common-append front (old ++ back) all
@@ -255,7 +264,8 @@ common-between front old back new once =
 children_apart : (front back old new : List ℕ) (ms : List Move) → NoRepeats (front ++ (old ++ back)) → NoRepeats (front ++ (new ++ back)) → IsWalk old new ms →
     AreApart (map child_of ms) front back
 children_apart front back old new ms once next_once w q e =
-    let known : (is_among q new || is_among q (missing old new)) ≡ true = grind (arith, sym (children_among q ms) ∙ e, ap (is_among q) w.stands, ap (is_among q) w.leaves) in
+    let known : (is_among q new || is_among q (missing old new)) ≡ true =
+    grind (arith, sym (children_among q ms) ∙ e, ap (is_among q) w.stands, ap (is_among q) w.leaves) in
     elim (cases_Bool (is_among q new)) [
       | inl here ↦ between_apart front new back next_once q here
       | inr gone ↦ between_apart front old back once q (grind (arith, known, gone, is_among-missing old new q))
@@ -288,11 +298,13 @@ part_walk front back old new ms once next_once w =
           ∙ leaving-append middle (map Stay back) ∙ ap (λ ks. leaving middle ++ ks) (staying.leaves back) ∙ append-nil (leaving middle)
           ∙ leaving_toward (first_of back) ms ∙ w.leaves ∙ sym (missing-between front old back new once);
       suited = All-append (λ m. suits_children olds m ≡ true) (map Stay front) (middle ++ map Stay back)
-          (All-from_recursion (λ m. suits_children olds m ≡ true) (map Stay front) (staying.suited front olds (λ q e. grind (arith, e, among_all front old back q))))
+          (All-from_recursion (λ m. suits_children olds m ≡ true) (map Stay front)
+          (staying.suited front olds (λ q e. grind (arith, e, among_all front old back q))))
           (All-append (λ m. suits_children olds m ≡ true) middle (map Stay back)
           (All-from_recursion (λ m. suits_children olds m ≡ true) middle
           (all_suit ms front old back far (recursion_from_All (λ m. suits_children old m ≡ true) ms w.suited)))
-          (All-from_recursion (λ m. suits_children olds m ≡ true) (map Stay back) (staying.suited back olds (λ q e. grind (arith, e, among_all front old back q)))));
+          (All-from_recursion (λ m. suits_children olds m ≡ true) (map Stay back)
+          (staying.suited back olds (λ q e. grind (arith, e, among_all front old back q)))));
       unhandled = BeforeUnhandled-behind front (middle ++ map Stay back) olds []
           (λ now are. BeforeUnhandled-append middle (map Stay back) olds now
           (unhandled_toward ms front old back [] now once are (λ q e. absurd (grind (arith, e))) far w.unhandled)
@@ -322,7 +334,8 @@ none_part noted xs ys once same plain = record {
 }
 
 -- and the moves of a run between a front and a back that carry no mark
-pub part_of_window : (noted : ℕ → Bool) (front old back new : List ℕ) (ms : List Move) → NoRepeats (front ++ (old ++ back)) → NoRepeats (front ++ (new ++ back)) → IsWalk old new ms →
+pub part_of_window : (noted : ℕ → Bool) (front old back new : List ℕ) (ms : List Move) → NoRepeats (front ++ (old ++ back)) → NoRepeats (front ++ (new ++ back))
+    → IsWalk old new ms →
     ((k : ℕ) → is_among k front ≡ true → noted k ≡ false) → ((k : ℕ) → is_among k back ≡ true → noted k ≡ false) →
     IsPart noted (front ++ (old ++ back)) (front ++ (new ++ back)) (map (toward (first_of back)) ms)
 part_of_window noted front old back new ms once next_once w front_plain back_plain = record {

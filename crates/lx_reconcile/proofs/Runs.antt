@@ -47,7 +47,8 @@ behind_among children w child is here =
     let last : is_among child is.back ≡ true = first_of-among is.back child (sym is.behind ∙ here) in
     grind (arith, ap (is_among child) is.list, is_among-append child is.front (w.keys.items ++ is.back), is_among-append child w.keys.items is.back, last)
 
-pub taken_before : (noted : ℕ → Bool) (children : List ℕ) (old new : Window) (child : ℕ) (marked : Bool) → NoRepeats children → IsWindow children old → old.before ≡ Some child
+pub taken_before : (noted : ℕ → Bool) (children : List ℕ) (old new : Window) (child : ℕ) (marked : Bool) → NoRepeats children → IsWindow children old
+    → old.before ≡ Some child
     → new.before ≡ previous_in children child → new.keys.items ≡ child ∷ old.keys.items → new.behind ≡ old.behind → marked ≡ noted child
     → Takes noted children old new marked
 taken_before noted children old new child marked once w here before keys behind told =
@@ -68,7 +69,8 @@ taken_before noted children old new child marked once w here before keys behind 
       one = ap length keys ∙ omega arith;
     }
 
-pub taken_behind : (noted : ℕ → Bool) (children : List ℕ) (old new : Window) (child : ℕ) (marked : Bool) → NoRepeats children → IsWindow children old → old.behind ≡ Some child
+pub taken_behind : (noted : ℕ → Bool) (children : List ℕ) (old new : Window) (child : ℕ) (marked : Bool) → NoRepeats children → IsWindow children old
+    → old.behind ≡ Some child
     → new.before ≡ old.before → new.keys.items ≡ old.keys.items ++ child ∷ [] → new.behind ≡ next_in children child → marked ≡ noted child
     → Takes noted children old new marked
 taken_behind noted children old new child marked once w here before keys behind told =
@@ -114,7 +116,8 @@ stands_in (y ∷ xs) x e = elim (eqb_tells y x) [
       record { front = y ∷ rest.front; back = rest.back; list = ap (λ ys. y ∷ ys) rest.list; out = grind (arith, other.0, rest.out) }
 ]
 
-pub window_of_one : (children : List ℕ) (w : Window) (child : ℕ) → is_among child children ≡ true → w.before ≡ previous_in children child → w.keys.items ≡ child ∷ [] → w.behind ≡ next_in children child → IsWindow children w
+pub window_of_one : (children : List ℕ) (w : Window) (child : ℕ) → is_among child children ≡ true → w.before ≡ previous_in children child
+    → w.keys.items ≡ child ∷ [] → w.behind ≡ next_in children child → IsWindow children w
 window_of_one children w child among before keys behind =
     let at = stands_in children child among in
     record {
@@ -128,10 +131,12 @@ window_of_one children w child among before keys behind =
 -- ---- when it holds all that carry a mark
 
 -- as many as there are at all
-pub all_in : (noted : ℕ → Bool) (children : List ℕ) (w : Window) → IsWindow children w → marked_among noted children ≤ marked_among noted w.keys.items → 0 < length w.keys.items → IsWindowOfMarks noted children w
+pub all_in : (noted : ℕ → Bool) (children : List ℕ) (w : Window) → IsWindow children w → marked_among noted children ≤ marked_among noted w.keys.items
+    → 0 < length w.keys.items → IsWindowOfMarks noted children w
 all_in noted children w is all some =
     let sum : marked_among noted children ≡ marked_among noted is.front + (marked_among noted w.keys.items + marked_among noted is.back) =
-    ap (marked_among noted) is.list ∙ marked-append noted is.front (w.keys.items ++ is.back) ∙ ap (λ n. marked_among noted is.front + n) (marked-append noted w.keys.items is.back) in
+    ap (marked_among noted) is.list ∙ marked-append noted is.front (w.keys.items ++ is.back)
+    ∙ ap (λ n. marked_among noted is.front + n) (marked-append noted w.keys.items is.back) in
     record {
       is = is;
       front_plain = marked-none noted is.front (omega (arith, sum, all));
@@ -144,7 +149,8 @@ no_children [] first is none = refl
 no_children (x ∷ children) first is none = absurd (let e = ap is_some is in cc)
 
 -- or nothing is beside it
-pub all_of : (noted : ℕ → Bool) (children : List ℕ) (w : Window) → IsWindow children w → (is_some w.before || is_some w.behind) ≡ false → 0 < length w.keys.items → IsWindowOfMarks noted children w
+pub all_of : (noted : ℕ → Bool) (children : List ℕ) (w : Window) → IsWindow children w → (is_some w.before || is_some w.behind) ≡ false
+    → 0 < length w.keys.items → IsWindowOfMarks noted children w
 all_of noted children w is closed some =
     let front : is.front ≡ [] = no_last is.front (grind (arith, closed, ap is_some is.before)) in
     let back : is.back ≡ [] = no_children is.back (first_of is.back) refl (grind (arith, closed, ap is_some is.behind)) in
@@ -159,7 +165,8 @@ all_of noted children w is closed some =
     no_last [] e = refl
     no_last (x ∷ xs) e = absurd (let l = last_is x xs in let there = ap is_some l.1 in cc)
 
-pub none_window : (noted : ℕ → Bool) (children : List ℕ) (w : Window) → children ≡ [] → w.before ≡ None → w.keys.items ≡ [] → w.behind ≡ None → IsWindowOfMarks noted children w
+pub none_window : (noted : ℕ → Bool) (children : List ℕ) (w : Window) → children ≡ [] → w.before ≡ None → w.keys.items ≡ [] → w.behind ≡ None
+    → IsWindowOfMarks noted children w
 none_window noted children w none before keys behind = record {
   is = record { front = []; back = []; list = none ∙ sym (ap (λ ks. ks ++ []) keys); before = before; behind = behind };
   front_plain = λ k e. absurd (cc);

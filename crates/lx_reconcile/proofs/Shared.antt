@@ -99,20 +99,24 @@ pub record IsShared (front old back news : List ℕ) : Type 0 where
   pub list : news ≡ front ++ (new ++ back)
 
 -- a name with none before it in the first list, which begins with it, begins the second too
-pub first_shared : (f : ℕ) (front rest news : List ℕ) → NoRepeats news → is_among f news ≡ true → previous_in news f ≡ previous_in (f ∷ front ++ rest) f → first_of news ≡ Some f
+pub first_shared : (f : ℕ) (front rest news : List ℕ) → NoRepeats news → is_among f news ≡ true → previous_in news f ≡ previous_in (f ∷ front ++ rest) f
+    → first_of news ≡ Some f
 first_shared f front rest news once there same =
     grind (arith, same, eqb_tells f f, is_named_tells (first_of news) f, is_none-previous_in news f once there)
 
 -- it goes on after this front
-front_shared : (front old back news : List ℕ) → NoRepeats (front ++ (old ++ back)) → NoRepeats news → AgreeAround front old back news → (behind : List ℕ) × (news ≡ front ++ behind)
+front_shared : (front old back news : List ℕ) → NoRepeats (front ++ (old ++ back)) → NoRepeats news → AgreeAround front old back news
+    → (behind : List ℕ) × (news ≡ front ++ behind)
 front_shared [] old back news once news_once agree = (news, refl)
 front_shared (f ∷ front) old back news once news_once agree =
     let own = agree f (grind (arith, eqb_tells f f)) in
     let b : BeginsWith (f ∷ front) (old ++ back) news =
-    begins (f ∷ front) (old ++ back) news news_once once (first_shared f front (old ++ back) news news_once own.0 own.1) (λ k e. (agree k (grind (arith, e))).2) in
+    begins (f ∷ front) (old ++ back) news news_once once (first_shared f front (old ++ back) news news_once own.0 own.1)
+    (λ k e. (agree k (grind (arith, e))).2) in
     (b.behind, b.list)
 
-back_shared : (front old back news : List ℕ) → NoRepeats (front ++ (old ++ back)) → NoRepeats news → AgreeAround front old back news → from_name (first_of back) news ≡ back
+back_shared : (front old back news : List ℕ) → NoRepeats (front ++ (old ++ back)) → NoRepeats news → AgreeAround front old back news
+    → from_name (first_of back) news ≡ back
 back_shared front old back news once news_once agree =
     let behind_once : NoRepeats (old ++ back) = NoRepeats-right front (old ++ back) once in
     ends back news news_once (NoRepeats-right old back behind_once) (λ k e. (agree k (grind (arith, e))).0)
@@ -126,7 +130,8 @@ back_behind front old (b ∷ back) xs once =
     from_name-behind b front xs (grind (arith, eqb_tells b b, apart front (old ++ b ∷ back) b once, is_among-append b old (b ∷ back)))
 
 -- such a list has that front and that back
-pub shared : (front old back news : List ℕ) → NoRepeats (front ++ (old ++ back)) → NoRepeats news → AgreeAround front old back news → (old ≡ [] → (front ≡ []) × (back ≡ [])) →
+pub shared : (front old back news : List ℕ) → NoRepeats (front ++ (old ++ back)) → NoRepeats news → AgreeAround front old back news
+    → (old ≡ [] → (front ≡ []) × (back ≡ [])) →
     IsShared front old back news
 shared front old back news once news_once agree full =
     let begun = front_shared front old back news once news_once agree in
@@ -138,8 +143,10 @@ shared front old back news once news_once agree full =
 -- ---- the run of the second list
 
 -- from the first name after the front on
-run_begins : (front old back new : List ℕ) (from : Option ℕ) → NoRepeats (front ++ (old ++ back)) → NoRepeats (front ++ (new ++ back)) → AgreeAround front old back (front ++ (new ++ back)) →
-    (old ≡ [] → (front ≡ []) × (back ≡ [])) → (front ≡ [] → from ≡ first_of (front ++ (new ++ back))) → ((x : ℕ) → last_of front ≡ Some x → from ≡ first_of old) →
+run_begins : (front old back new : List ℕ) (from : Option ℕ) → NoRepeats (front ++ (old ++ back)) → NoRepeats (front ++ (new ++ back))
+    → AgreeAround front old back (front ++ (new ++ back)) →
+    (old ≡ [] → (front ≡ []) × (back ≡ [])) → (front ≡ [] → from ≡ first_of (front ++ (new ++ back))) → ((x : ℕ) → last_of front ≡ Some x → from ≡ first_of old)
+    →
     from_name from (front ++ (new ++ back)) ≡ new ++ back
 run_begins [] old back new from once news_once agree full at_first behind =
     ap (λ o. from_name o (new ++ back)) (at_first refl) ∙ from_name-first (new ++ back)
@@ -167,7 +174,8 @@ first_behind b front ks back once =
     )
 
 -- a name that is last between stays so where it comes last after the front
-last_behind : (w : ℕ) (front old new back : List ℕ) → NoRepeats (front ++ (old ++ back)) → last_of (front ++ new) ≡ Some w → last_of old ≡ Some w → last_of new ≡ Some w
+last_behind : (w : ℕ) (front old new back : List ℕ) → NoRepeats (front ++ (old ++ back)) → last_of (front ++ new) ≡ Some w → last_of old ≡ Some w
+    → last_of new ≡ Some w
 last_behind w front old [] back once e own =
     absurd (grind (
       arith,
@@ -179,7 +187,8 @@ last_behind w front old [] back once e own =
 last_behind w front old (n ∷ new) back once e own = sym (last_from-append None front n new) ∙ e
 
 -- up to the last one before the back
-run_ends : (front old back new : List ℕ) (to : Option ℕ) → NoRepeats (front ++ (old ++ back)) → NoRepeats (front ++ (new ++ back)) → AgreeAround front old back (front ++ (new ++ back)) →
+run_ends : (front old back new : List ℕ) (to : Option ℕ) → NoRepeats (front ++ (old ++ back)) → NoRepeats (front ++ (new ++ back))
+    → AgreeAround front old back (front ++ (new ++ back)) →
     (old ≡ [] → (front ≡ []) × (back ≡ [])) → (back ≡ [] → to ≡ None) → ((x : ℕ) → first_of back ≡ Some x → to ≡ last_of old) →
     up_to_end to (new ++ back) ≡ new
 run_ends front old [] new to once news_once agree full at_end before =
@@ -199,7 +208,8 @@ run_ends front (o ∷ old) (b ∷ back) new to once news_once agree full at_end 
     (last_behind last.0 front (o ∷ old) new (b ∷ back) once (sym before_new ∙ (agree b (grind (arith, eqb_tells b b))).1 ∙ before_old) last.1)
 
 -- what is in the second list between the front and the back is what is read from the first name to the last
-pub shared_run : (front old back news : List ℕ) → NoRepeats (front ++ (old ++ back)) → NoRepeats news → AgreeAround front old back news → (old ≡ [] → (front ≡ []) × (back ≡ [])) →
+pub shared_run : (front old back news : List ℕ) → NoRepeats (front ++ (old ++ back)) → NoRepeats news → AgreeAround front old back news
+    → (old ≡ [] → (front ≡ []) × (back ≡ [])) →
     (s : IsShared front old back news) (from to : Option ℕ) →
     (front ≡ [] → from ≡ first_of news) → ((x : ℕ) → last_of front ≡ Some x → from ≡ first_of old) →
     (back ≡ [] → to ≡ None) → ((x : ℕ) → first_of back ≡ Some x → to ≡ last_of old) →

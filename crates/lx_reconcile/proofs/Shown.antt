@@ -144,7 +144,8 @@ pub among_one : (i : ℕ) (xs : List ℕ) → xs ≡ i ∷ [] → is_among i xs 
 among_one i xs e = rw (e, eq-eqb i i refl) refl
 
 -- the tree of a node is the one at its host
-pub alone-host : (k i : ℕ) (t : Trees Host) → ((q : ℕ) → count q t < 2) → named.count key_in k t ≡ 1 → hosts_of k t ≡ i ∷ [] → named.alone key_in k t ≡ alone i t
+pub alone-host : (k i : ℕ) (t : Trees Host) → ((q : ℕ) → count q t < 2) → named.count key_in k t ≡ 1 → hosts_of k t ≡ i ∷ []
+    → named.alone key_in k t ≡ alone i t
 alone-host k i nil once one is = refl
 alone-host k i (tree h b r) once one is =
     grind (

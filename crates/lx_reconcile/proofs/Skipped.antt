@@ -43,11 +43,15 @@ module _ (old new : Forest) (mk : Marking) (v : HostTree) (b : IsBetween old new
       let alike : IsAlike old new k = b.covered.alike k was there (untouched k plain) in
       let x = stands_there old k b.view.before was in
       let y = stands_there new k b.view.after there in
-      let kinds : Some y.label.kind ≡ Some x.label.kind = sym (ap (option_map (λ (l : Label). l.kind)) y.label_is) ∙ sym (b.covered.kinds k was there) ∙ ap (option_map (λ (l : Label). l.kind)) x.label_is in
-      let fields : Some y.label.fields ≡ Some x.label.fields = sym (ap (option_map (λ (l : Label). l.fields)) y.label_is) ∙ sym alike.fields ∙ ap (option_map (λ (l : Label). l.fields)) x.label_is in
-      let labels : y.label ≡ x.label = label_same y.label x.label.key x.label.kind x.label.fields (y.key ∙ sym x.key) (sym (same_Some _ _ kinds)) (sym (same_Some _ _ fields)) in
+      let kinds : Some y.label.kind ≡ Some x.label.kind =
+      sym (ap (option_map (λ (l : Label). l.kind)) y.label_is) ∙ sym (b.covered.kinds k was there) ∙ ap (option_map (λ (l : Label). l.kind)) x.label_is in
+      let fields : Some y.label.fields ≡ Some x.label.fields =
+      sym (ap (option_map (λ (l : Label). l.fields)) y.label_is) ∙ sym alike.fields ∙ ap (option_map (λ (l : Label). l.fields)) x.label_is in
+      let labels : y.label ≡ x.label =
+      label_same y.label x.label.key x.label.kind x.label.fields (y.key ∙ sym x.key) (sym (same_Some _ _ kinds)) (sym (same_Some _ _ fields)) in
       let below : trees_of new (children_of new k) ≡ trees_of old (children_of new k) = trees_same new old (children_of new k)
-      (λ c among. same_below fuel c (omega (arith, small, total-alone-lt new c k b.view.after (parent_of-child new c k b.sound among))) (child_stands new k c b.view.after among) (child_unmarked k c plain among)) in
+      (λ c among. same_below fuel c (omega (arith, small, total-alone-lt new c k b.view.after (parent_of-child new c k b.sound among)))
+      (child_stands new k c b.view.after among) (child_unmarked k c plain among)) in
       y.tree_is
       ∙ ap (λ l. tree l y.below nil) labels
       ∙ ap (λ t. tree x.label t nil) (y.below_is ∙ below ∙ ap (trees_of old) (sym alike.children) ∙ sym x.below_is)

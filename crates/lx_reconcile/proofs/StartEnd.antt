@@ -45,10 +45,12 @@ count_one old v k h shows there = count-shown k v.hosts old shows ∙ has_tells 
 pub only_host : (old : Forest) (v : HostTree) (k : ℕ) → IsForest old → Shows v old → forest.has k old ≡ true → hosts_of k v.hosts ≡ host_in v k ∷ []
 only_host old v k h shows there = hosts_of-one k v.hosts (count_one old v k h shows there)
 
-same_tree : (old : Forest) (v : HostTree) (k : ℕ) → IsForest old → Shows v old → IsNumbered v → forest.has k old ≡ true → named.alone key_in k v.hosts ≡ alone (host_in v k) v.hosts
+same_tree : (old : Forest) (v : HostTree) (k : ℕ) → IsForest old → Shows v old → IsNumbered v → forest.has k old ≡ true
+    → named.alone key_in k v.hosts ≡ alone (host_in v k) v.hosts
 same_tree old v k h shows n there = alone-host k (host_in v k) v.hosts n.once (count_one old v k h shows there) (only_host old v k h shows there)
 
-gathered-flat : (old : Forest) (v : HostTree) (cs : List ℕ) → IsForest old → Shows v old → IsNumbered v → ((c : ℕ) → is_among c cs ≡ true → forest.has c old ≡ true)
+gathered-flat : (old : Forest) (v : HostTree) (cs : List ℕ) → IsForest old → Shows v old → IsNumbered v
+    → ((c : ℕ) → is_among c cs ≡ true → forest.has c old ≡ true)
     → named.gathered key_in v.hosts cs ≡ flat (λ c. alone (host_in v c) v.hosts) cs
 gathered-flat old v [] h shows n there = refl
 gathered-flat old v (c ∷ cs) h shows n there =
@@ -64,7 +66,8 @@ child_stands f k c h among = grind (arith, among, is_among-children_of f c k h, 
 
 pub is_shown_at : (old : Forest) (v : HostTree) (k : ℕ) → IsForest old → Shows v old → IsNumbered v → forest.has k old ≡ true → IsShownAt old v k
 is_shown_at old v k h shows n there = from_spot (spot_below key_in None v.hosts k) refl (children-shown k None None v.hosts old shows) where
-  from_spot : (o : Option (Spot Host)) → spot_below key_in None v.hosts k ≡ o → option_map (λ (s : Spot Host). s.children) o ≡ option_map (λ (s : Spot Label). s.children) (spot old k) → IsShownAt old v k
+  from_spot : (o : Option (Spot Host)) → spot_below key_in None v.hosts k ≡ o
+      → option_map (λ (s : Spot Host). s.children) o ≡ option_map (λ (s : Spot Label). s.children) (spot old k) → IsShownAt old v k
   from_spot None at e = absurd (grind (arith, e, there, is_some-spot old k))
   from_spot (Some s) at e =
       let kids : s.children ≡ children_of old k = some_children s.children (spot old k) e in
@@ -76,19 +79,22 @@ is_shown_at old v k h shows n there = from_spot (spot_below key_in None v.hosts 
       let is : alone (host_in v k) v.hosts ≡ tree s.label (flat (λ c. alone (host_in v c) v.hosts) (children_of old k)) nil =
       sym same ∙ keyed ∙ ap (λ t. tree s.label t nil) below in
       let only = only_host old v k h shows there in
-      let one : count (host_in v k) v.hosts ≡ 1 = omega (arith, n.once (host_in v k), count-hosts_of k (host_in v k) v.hosts (among_one (host_in v k) (hosts_of k v.hosts) only)) in
+      let one : count (host_in v k) v.hosts ≡ 1 =
+      omega (arith, n.once (host_in v k), count-hosts_of k (host_in v k) v.hosts (among_one (host_in v k) (hosts_of k v.hosts) only)) in
       let ids : s.label.id ∷ [] ≡ host_in v k ∷ [] = sym (ap (named.names id_of) is) ∙ trees.names-alone id_of (host_in v k) v.hosts one in
       let keys : s.label.face.key ∷ [] ≡ k ∷ [] = sym (ap (named.names key_in) keyed) ∙ trees.names-alone key_in k v.hosts (count_one old v k h shows there) in
       record {
         host = s.label;
         is = is;
         id = cc;
-        face = λ l below e. (shows_first s.label (named.gathered key_in v.hosts s.children) nil l below nil (sym (ap shape_of keyed) ∙ alone-shown k v.hosts old shows ∙ ap render e)).face;
+        face = λ l below e. (shows_first s.label (named.gathered key_in v.hosts s.children) nil l below nil
+            (sym (ap shape_of keyed) ∙ alone-shown k v.hosts old shows ∙ ap render e)).face;
         key = cc;
         only = only;
       }
 
-pub shown_at_id : (old : Forest) (v : HostTree) (k : ℕ) → IsForest old → Shows v old → IsNumbered v → forest.has k old ≡ true → IsAt (host_in v k) (alone (host_in v k) v.hosts)
+pub shown_at_id : (old : Forest) (v : HostTree) (k : ℕ) → IsForest old → Shows v old → IsNumbered v → forest.has k old ≡ true
+    → IsAt (host_in v k) (alone (host_in v k) v.hosts)
 shown_at_id old v k h shows n there =
     let s = is_shown_at old v k h shows n there in
     record { host = s.host; below = flat (λ c. alone (host_in v c) v.hosts) (children_of old k); is = s.is; id = s.id }
@@ -96,7 +102,8 @@ shown_at_id old v k h shows n there =
 rises_first : (x : ℕ) (xs : List ℕ) → rises (x ∷ xs) ≡ true → x ≡ 0
 rises_first x xs e = eqb-true x 0 (and_parts (eqb x 0) (rises_from 0 xs) e).0
 
-root_key : (t : Trees Host) (f : Forest) (x : Host) (below : Trees Host) → IsForest f → shape_of t ≡ render f → IsRooted t → alone 0 t ≡ tree x below nil → x.face.key ≡ 0
+root_key : (t : Trees Host) (f : Forest) (x : Host) (below : Trees Host) → IsForest f → shape_of t ≡ render f → IsRooted t → alone 0 t ≡ tree x below nil
+    → x.face.key ≡ 0
 root_key nil f x below h shows rooted e = absurd rooted
 root_key (tree a b r) f x below h shows rooted e =
     let own : tree a b (alone 0 r) ≡ tree x below nil = rw (eq-eqb a.id 0 rooted) at e in
@@ -105,17 +112,21 @@ root_key (tree a b r) f x below h shows rooted e =
     ∙ rises_first a.face.key (named.names key_in r) (ap rises (names-shown (tree a b r) f shows) ∙ h.rising)
 
 -- no child is shown by host 0
-pub not_root : (old : Forest) (v : HostTree) (k c : ℕ) → IsForest old → Shows v old → IsNumbered v → IsRooted v.hosts → is_among c (children_of old k) ≡ true → host_in v c ≢ 0
+pub not_root : (old : Forest) (v : HostTree) (k c : ℕ) → IsForest old → Shows v old → IsNumbered v → IsRooted v.hosts → is_among c (children_of old k) ≡ true
+    → host_in v c ≢ 0
 not_root old v k c h shows n rooted among zero =
     let s = is_shown_at old v c h shows n (child_stands old k c h among) in
-    let key = root_key v.hosts old s.host (flat (λ c. alone (host_in v c) v.hosts) (children_of old c)) h shows rooted (ap (λ i. alone i v.hosts) (sym zero) ∙ s.is) in
+    let key =
+    root_key v.hosts old s.host (flat (λ c. alone (host_in v c) v.hosts) (children_of old c)) h shows rooted
+    (ap (λ i. alone i v.hosts) (sym zero) ∙ s.is) in
     let root : c ≡ 0 = sym s.key ∙ key in
     let named : is_named (parent_of old c) k ≡ true = sym (is_among-children_of old c k h) ∙ among in
     let none : is_named (parent_of old c) k ≡ false = ap (λ o. is_named o k) (ap (parent_of old) root ∙ parent_of-root old h) in
     cc
 
 -- before the first move
-pub is_started : (old new : Forest) (v : HostTree) (k : ℕ) → IsForest old → Shows v old → IsNumbered v → IsUnderWay old new v [] (children_of old k) (host_in v) (λ c. alone (host_in v c) v.hosts)
+pub is_started : (old new : Forest) (v : HostTree) (k : ℕ) → IsForest old → Shows v old → IsNumbered v
+    → IsUnderWay old new v [] (children_of old k) (host_in v) (λ c. alone (host_in v c) v.hosts)
 is_started old new v k h shows n = record {
   at = λ c among. shown_at_id old v c h shows n (child_stands old k c h among);
   done = λ c among handled. absurd (cc);
@@ -125,7 +136,8 @@ is_started old new v k h shows n = record {
 -- ---- what is handled
 
 -- the shape of the trees of some nodes
-pub shape_of-flat : (old new : Forest) (v : HostTree) (family : ℕ → Trees Host) (cs : List ℕ) → ((c : ℕ) → is_among c cs ≡ true → AreReconciled old new v c (family c))
+pub shape_of-flat : (old new : Forest) (v : HostTree) (family : ℕ → Trees Host) (cs : List ℕ)
+    → ((c : ℕ) → is_among c cs ≡ true → AreReconciled old new v c (family c))
     → shape_of (flat family cs) ≡ render (trees_of new cs)
 shape_of-flat old new v family [] done = refl
 shape_of-flat old new v family (c ∷ cs) done =
@@ -138,7 +150,8 @@ shape_of-flat old new v family (c ∷ cs) done =
 shown_none : (q k : ℕ) (new : Forest) (t : Trees Host) → shape_of t ≡ render (forest.alone k new) → forest.count q (forest.alone k new) ≡ 0 → hosts_of q t ≡ []
 shown_none q k new t shape none = hosts_of-none q t (count-shown q t (forest.alone k new) shape ∙ none)
 
-pub hosts_of-flat : (old new : Forest) (v : HostTree) (family : ℕ → Trees Host) (cs : List ℕ) (q : ℕ) → ((c : ℕ) → is_among c cs ≡ true → AreReconciled old new v c (family c))
+pub hosts_of-flat : (old new : Forest) (v : HostTree) (family : ℕ → Trees Host) (cs : List ℕ) (q : ℕ)
+    → ((c : ℕ) → is_among c cs ≡ true → AreReconciled old new v c (family c))
     → IsKept old new q → forest.count q (trees_of new cs) ≡ 1 → hosts_of q (flat family cs) ≡ hosts_of q v.hosts
 hosts_of-flat old new v family [] q done kept one = absurd (omega (arith, one))
 hosts_of-flat old new v family (c ∷ cs) q done kept one =
@@ -159,7 +172,8 @@ hosts_of-flat old new v family (c ∷ cs) q done kept one =
 
 -- ---- a tree that is the same in both
 
-pub shown_same : (old new : Forest) (v : HostTree) (k : ℕ) → IsForest old → Shows v old → IsNumbered v → forest.has k old ≡ true → forest.alone k new ≡ forest.alone k old
+pub shown_same : (old new : Forest) (v : HostTree) (k : ℕ) → IsForest old → Shows v old → IsNumbered v → forest.has k old ≡ true
+    → forest.alone k new ≡ forest.alone k old
     → AreReconciled old new v k (alone (host_in v k) v.hosts)
 shown_same old new v k h shows n there same =
     let keyed : named.alone key_in k v.hosts ≡ alone (host_in v k) v.hosts = same_tree old v k h shows n there in
@@ -200,7 +214,8 @@ are_reconciled old new v k a l family g h shows is face id done =
           let own_key : l.key ≡ k = label_key new k l kids h is in
           let counted : cond (eqb a.face.key q) 1 0 + forest.count q kids ≡ forest.count q (forest.alone k new) =
           ap {B = ℕ} (λ x. cond (eqb x q) 1 0 + forest.count q kids) key ∙ omega (arith, ap (forest.count q) is) in
-          let one : cond (eqb a.face.key q) 1 0 + forest.count q kids ≡ 1 = counted ∙ has_tells (forest.count q (forest.alone k new)) (omega (arith, h.once q, count-alone-le key_of q k new)) inside in
+          let one : cond (eqb a.face.key q) 1 0 + forest.count q kids ≡ 1 =
+          counted ∙ has_tells (forest.count q (forest.alone k new)) (omega (arith, h.once q, count-alone-le key_of q k new)) inside in
           grind (
             arith,
             one,
@@ -239,7 +254,8 @@ root_id old v h shows rooted at =
     let same : at.host.id ≡ host_in v 0 = cc in
     sym same ∙ at.id
 
-pub is_allowed : (old new : Forest) (touched : ℕ → Bool) (v : HostTree) (ops : List Op) (to : Trees Host) (m : ℕ) → IsForest old → IsForest new → forest.alone 0 new ≡ new
+pub is_allowed : (old new : Forest) (touched : ℕ → Bool) (v : HostTree) (ops : List Op) (to : Trees Host) (m : ℕ) → IsForest old → IsForest new
+    → forest.alone 0 new ≡ new
     → AreReconciled old new v 0 to → Leads v ops (record { hosts = to; next = m }) → AllByRecursion (IsDue old new touched v) ops → AllWriteAnew v ops
     → AreAllowed old new touched v ops (record { hosts = to; next = m })
 is_allowed old new touched v ops to m g h whole r leads due writes = record {

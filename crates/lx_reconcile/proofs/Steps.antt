@@ -42,7 +42,8 @@ in_order-behind k front passed done e none far =
 -- ---- what any step keeps
 
 module _ {olds news old new back done : List ℕ} {moves : List Move} (w : IsWalking olds news old new back done moves) where
-  now-push : (front : List ℕ) (m : Move) (children : List ℕ) → all_moved moves olds ≡ front ++ back → moved m (front ++ back) ≡ children → all_moved (moves ++ m ∷ []) olds ≡ children
+  now-push : (front : List ℕ) (m : Move) (children : List ℕ) → all_moved moves olds ≡ front ++ back → moved m (front ++ back) ≡ children
+      → all_moved (moves ++ m ∷ []) olds ≡ children
   now-push front m children now to = all_moved-append moves (m ∷ []) olds ∙ ap (moved m) now ∙ to
 
   can-push : (m : Move) → can_move m (w.front ++ back) ≡ true → CanAllMove (moves ++ m ∷ []) olds
@@ -99,7 +100,8 @@ step-same k olds news old new back done moves news_once w =
     λ q. ap (is_among q) back_is ∙ is_among-append q w.passed (k ∷ missing old done) in
     let k_back : is_among k back ≡ true = grind (arith, among_back k, eqb_tells k k) in
     let k_front : is_among k w.front ≡ false = grind (arith, apart w.front back k w.once, k_back) in
-    let children_same : (q : ℕ) → is_among q (w.front ++ back) ≡ is_among q ((w.front ++ (w.passed ++ k ∷ [])) ++ missing old (done ++ k ∷ [])) = λ q. ap (is_among q) to in
+    let children_same : (q : ℕ) → is_among q (w.front ++ back) ≡ is_among q ((w.front ++ (w.passed ++ k ∷ [])) ++ missing old (done ++ k ∷ [])) =
+    λ q. ap (is_among q) to in
     record {
       front = w.front ++ (w.passed ++ k ∷ []);
       passed = [];
@@ -122,7 +124,8 @@ step-same k olds news old new back done moves news_once w =
           ∙ ap (λ xs. leaving moves ++ xs) (sym (missing-in k old news in_news)) ∙ w.leaves;
       suited = All-push (λ m. suits_children olds m ≡ true) moves (Stay k) w.suited in_olds;
       unhandled = unhandled-push w (Stay k) (λ b e. absurd (cc));
-      kept_order = λ same. (kept_order-same k old new news olds in_news in_olds (w.kept_order same).0, list_any-append is_placing moves (Stay k ∷ []) ∙ ap (λ b. b || false) (w.kept_order same).1);
+      kept_order =
+          λ same. (kept_order-same k old new news olds in_news in_olds (w.kept_order same).0, list_any-append is_placing moves (Stay k ∷ []) ∙ ap (λ b. b || false) (w.kept_order same).1);
     }
 
 -- ---- the next child before is none of those after: it leaves, and the cursor goes to where it was
@@ -140,7 +143,8 @@ names_without-middle k xs ys zs once =
     names_without-append k xs (ys ++ k ∷ zs) ∙ ap (λ us. us ++ names_without k (ys ++ k ∷ zs)) (names_without-absent_list k xs k_xs)
     ∙ ap (λ us. xs ++ us) behind ∙ sym (append_assoc xs ys zs)
 
-pub step-gone : (o : ℕ) (olds news old new back done : List ℕ) (moves : List Move) → is_among o news ≡ false → IsWalking olds news (o ∷ old) new back done moves →
+pub step-gone : (o : ℕ) (olds news old new back done : List ℕ) (moves : List Move) → is_among o news ≡ false → IsWalking olds news (o ∷ old) new back done moves
+    →
     IsWalking olds news old new (missing old done) done (moves ++ Leave o ∷ [])
 step-gone o olds news old new back done moves gone w =
     let in_olds : is_among o olds ≡ true = w.old_among o (grind (arith, eqb_tells o o)) in
@@ -178,7 +182,8 @@ step-gone o olds news old new back done moves gone w =
           ∙ ap (λ xs. leaving moves ++ xs) (sym (missing-out o old news gone)) ∙ w.leaves;
       suited = All-push (λ m. suits_children olds m ≡ true) moves (Leave o) w.suited in_olds;
       unhandled = unhandled-push w (Leave o) (λ b e. absurd (cc));
-      kept_order = λ same. (sym (common-out o old news gone) ∙ (w.kept_order same).0, list_any-append is_placing moves (Leave o ∷ []) ∙ ap (λ b. b || false) (w.kept_order same).1);
+      kept_order =
+          λ same. (sym (common-out o old news gone) ∙ (w.kept_order same).0, list_any-append is_placing moves (Leave o ∷ []) ∙ ap (λ b. b || false) (w.kept_order same).1);
     }
 
 -- ---- the next child after is none of those before: it is made at the cursor
@@ -187,7 +192,8 @@ is_place-first : (xs ys : List ℕ) → is_place (first_of ys) (xs ++ ys) ≡ tr
 is_place-first xs [] = refl
 is_place-first xs (y ∷ ys) = is_among-append y xs (y ∷ ys) ∙ grind (arith, eqb_tells y y)
 
-pub step-made : (n : ℕ) (olds news old new back done : List ℕ) (moves : List Move) → NoRepeats news → is_among n olds ≡ false → IsWalking olds news old (n ∷ new) back done moves →
+pub step-made : (n : ℕ) (olds news old new back done : List ℕ) (moves : List Move) → NoRepeats news → is_among n olds ≡ false
+    → IsWalking olds news old (n ∷ new) back done moves →
     IsWalking olds news old new (names_without n back) (done ++ n ∷ []) (moves ++ Make n (first_of back) ∷ [])
 step-made n olds news old new back done moves news_once none w =
     let in_news : is_among n news ≡ true = next-known n news done new w.news_are in
@@ -222,7 +228,8 @@ step-made n olds news old new back done moves news_once none w =
       leaves = ap (λ xs. xs ++ missing old news) (leaving-append moves (Make n (first_of back) ∷ []) ∙ append-nil (leaving moves)) ∙ w.leaves;
       suited = All-push (λ m. suits_children olds m ≡ true) moves (Make n (first_of back)) w.suited (ap not none);
       unhandled = unhandled-push w (Make n (first_of back)) (first_of-among back);
-      kept_order = λ same. ((w.kept_order same).0 ∙ common-out n new olds none, list_any-append is_placing moves (Make n (first_of back) ∷ []) ∙ ap (λ b. b || false) (w.kept_order same).1);
+      kept_order =
+          λ same. ((w.kept_order same).0 ∙ common-out n new olds none, list_any-append is_placing moves (Make n (first_of back) ∷ []) ∙ ap (λ b. b || false) (w.kept_order same).1);
     } in
     subst (λ xs. IsWalking olds news old new xs (done ++ n ∷ []) (moves ++ Make n (first_of back) ∷ [])) (sym (names_without-absent_list n back n_back)) walked
 
@@ -299,7 +306,8 @@ step-at_cursor o n olds news old new back done moves news_once o_news n_olds oth
     (grind (arith, n_back, apart w.front back n w.once)) (λ q. sym (ap (is_among q) to))
 
 pub step-placed : (o n : ℕ) (olds news old new back done : List ℕ) (moves : List Move) → NoRepeats news →
-    is_among o news ≡ true → is_among n olds ≡ true → eqb o n ≡ false → is_named (first_of back) n ≡ false → IsWalking olds news (o ∷ old) (n ∷ new) back done moves →
+    is_among o news ≡ true → is_among n olds ≡ true → eqb o n ≡ false → is_named (first_of back) n ≡ false
+    → IsWalking olds news (o ∷ old) (n ∷ new) back done moves →
     IsWalking olds news old new (names_without n back) (done ++ n ∷ []) (moves ++ Place n (first_of back) ∷ [])
 step-placed o n olds news old new back done moves news_once o_news n_olds other at w =
     let in_news : is_among n news ≡ true = next-known n news done new w.news_are in

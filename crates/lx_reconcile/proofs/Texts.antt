@@ -36,6 +36,7 @@ pub none_of_kind : (k : Kind) (was now : Fields) → is_of_kind k was ≡ true �
 unfolding is_of_kind
 none_of_kind k (fields.Element e) now fit other none = refl
 none_of_kind k (fields.Text t) now fit other none =
-    absurd (text_of_characters k now (characters_of_text k t (and_parts (is_possible k) (fits_kind k (fields.Text t)) fit).1) (and_parts (is_possible k) (fits_kind k now) other).1 none)
+    absurd (text_of_characters k now (characters_of_text k t (and_parts (is_possible k) (fits_kind k (fields.Text t)) fit).1)
+    (and_parts (is_possible k) (fits_kind k now) other).1 none)
 none_of_kind k (fields.Embed src) now fit other none = refl
 none_of_kind k fields.Bare now fit other none = refl

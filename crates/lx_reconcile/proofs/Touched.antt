@@ -74,23 +74,29 @@ module _ (old new : Forest) (mk : Marking) (v : HostTree) where
 
   -- ---- what is marked
 
-  pub children_touched : (k : ℕ) → AreCovered old new mk → has k old ≡ true → has k new ≡ true → (children_of old k ≡ children_of new k → ⊥) → mk.touched k ≡ true
+  pub children_touched : (k : ℕ) → AreCovered old new mk → has k old ≡ true → has k new ≡ true → (children_of old k ≡ children_of new k → ⊥)
+      → mk.touched k ≡ true
   children_touched k c was is other = true_from_ne_false (mk.touched k) (λ plain. other (c.alike k was is plain).children)
 
-  pub label_touched : (k : ℕ) (x y : Label) → AreCovered old new mk → has k old ≡ true → has k new ≡ true → label_of old k ≡ Some x → label_of new k ≡ Some y → (x.kind ≡ y.kind → x.fields ≡ y.fields → ⊥) → mk.touched k ≡ true
+  pub label_touched : (k : ℕ) (x y : Label) → AreCovered old new mk → has k old ≡ true → has k new ≡ true → label_of old k ≡ Some x → label_of new k ≡ Some y
+      → (x.kind ≡ y.kind → x.fields ≡ y.fields → ⊥) → mk.touched k ≡ true
   label_touched k x y c was is was_label is_label other = true_from_ne_false (mk.touched k) (λ plain.
-      let kinds : Some x.kind ≡ Some y.kind = sym (ap (option_map (λ (l : Label). l.kind)) was_label) ∙ c.kinds k was is ∙ ap (option_map (λ (l : Label). l.kind)) is_label in
-      let fields : Some x.fields ≡ Some y.fields = sym (ap (option_map (λ (l : Label). l.fields)) was_label) ∙ (c.alike k was is plain).fields ∙ ap (option_map (λ (l : Label). l.fields)) is_label in
+      let kinds : Some x.kind ≡ Some y.kind =
+      sym (ap (option_map (λ (l : Label). l.kind)) was_label) ∙ c.kinds k was is ∙ ap (option_map (λ (l : Label). l.kind)) is_label in
+      let fields : Some x.fields ≡ Some y.fields =
+      sym (ap (option_map (λ (l : Label). l.fields)) was_label) ∙ (c.alike k was is plain).fields ∙ ap (option_map (λ (l : Label). l.fields)) is_label in
       other (same_Some x.kind y.kind kinds) (same_Some x.fields y.fields fields))
 
   -- the last child of an untouched node has the same kind in both
-  pub last_same : (k : ℕ) → AreCovered old new mk → Sound old → Sound new → IsBetween old new mk v → children_of old k ≡ children_of new k → kind_at old (last_child old k) ≡ kind_at new (last_child new k)
+  pub last_same : (k : ℕ) → AreCovered old new mk → Sound old → Sound new → IsBetween old new mk v → children_of old k ≡ children_of new k
+      → kind_at old (last_child old k) ≡ kind_at new (last_child new k)
   last_same k c s t b same = by_last (last_child old k) refl (sym (ap last_of same)) where
     by_last : (o : Option ℕ) → last_child old k ≡ o → last_child new k ≡ last_child old k → kind_at old (last_child old k) ≡ kind_at new (last_child new k)
     by_last None e d = ap (kind_at old) e ∙ sym (ap (kind_at new) (d ∙ e))
     by_last (Some q) e d =
         ap (kind_at old) e
-        ∙ c.kinds q (child_stands old k q b.view.before (last_of-among (children_of old k) q e)) (child_stands new k q b.view.after (last_of-among (children_of new k) q (d ∙ e)))
+        ∙ c.kinds q (child_stands old k q b.view.before (last_of-among (children_of old k) q e))
+        (child_stands new k q b.view.after (last_of-among (children_of new k) q (d ∙ e)))
         ∙ sym (ap (kind_at new) (d ∙ e))
 
   -- ---- operations about new hosts
@@ -112,7 +118,8 @@ module _ (old new : Forest) (mk : Marking) (v : HostTree) where
   creation_due id c b there from =
       let s = stands_there new c b.view.after there in
       subst (λ t. AllByRecursion Due (creation_of id t)) (sym s.tree_is)
-      (creation_each Due v.next (λ id label last from. create_due id label last b.view.numbered from) (λ parent id from. new_due parent id None b.view.numbered from) id s.label s.below from)
+      (creation_each Due v.next (λ id label last from. create_due id label last b.view.numbered from)
+      (λ parent id from. new_due parent id None b.view.numbered from) id s.label s.below from)
 
   -- ---- operations about hosts of the view
 
@@ -123,7 +130,8 @@ module _ (old new : Forest) (mk : Marking) (v : HostTree) where
   host_there c b there = has_if (host_in v c) v.hosts (count-hosts_of c (host_in v c) v.hosts (shows_it c b there))
 
   -- the host of a child goes
-  pub child_drop_due : (k c : ℕ) → IsBetween old new mk v → has k new ≡ true → is_among c (children_of old k) ≡ true → mk.touched k ≡ true → Due (op.Drop (host_in v c))
+  pub child_drop_due : (k c : ℕ) → IsBetween old new mk v → has k new ≡ true → is_among c (children_of old k) ≡ true → mk.touched k ≡ true
+      → Due (op.Drop (host_in v c))
   child_drop_due k c b stays among marked =
       let there = child_stands old k c b.view.before among in
       record {
@@ -137,7 +145,8 @@ module _ (old new : Forest) (mk : Marking) (v : HostTree) where
   drop_due c b there marked = record { subject = of_touched (host_in v c) c (shows_it c b there) marked; place = tt; drop = host_there c b there }
 
   -- a child is placed, where the children don't keep their order
-  pub place_due : (k c parent : ℕ) (before : Option ℕ) → IsBetween old new mk v → has k new ≡ true → is_among c (children_of old k) ≡ true → is_among c (children_of new k) ≡ true → mk.touched k ≡ true → (KeepsOrder old new k → ⊥) → Due (op.Place parent (host_in v c) before)
+  pub place_due : (k c parent : ℕ) (before : Option ℕ) → IsBetween old new mk v → has k new ≡ true → is_among c (children_of old k) ≡ true
+      → is_among c (children_of new k) ≡ true → mk.touched k ≡ true → (KeepsOrder old new k → ⊥) → Due (op.Place parent (host_in v c) before)
   place_due k c parent before b stays among among_new marked other =
       let there = child_stands old k c b.view.before among in
       let shown = shows_it c b there in
@@ -157,7 +166,8 @@ module _ (old new : Forest) (mk : Marking) (v : HostTree) where
   write_due k b there marked _ (is_break ending) = record { subject = of_touched (host_in v k) k (shows_it k b there) marked; place = tt; drop = tt }
 
   -- either the node is touched, or nothing is written
-  pub writes_due : (k : ℕ) (start end pushed : List Op) → IsBetween old new mk v → has k old ≡ true → end ≡ start ++ pushed → AllByRecursion (IsWriteAt (host_in v k)) pushed → (mk.touched k ≡ false → end ≡ start) → AllByRecursion Due pushed
+  pub writes_due : (k : ℕ) (start end pushed : List Op) → IsBetween old new mk v → has k old ≡ true → end ≡ start ++ pushed
+      → AllByRecursion (IsWriteAt (host_in v k)) pushed → (mk.touched k ≡ false → end ≡ start) → AllByRecursion Due pushed
   writes_due k start end pushed b there is only none = elim (cases_Bool (mk.touched k)) [
     | inl marked ↦ each_weaker (IsWriteAt (host_in v k)) Due pushed (write_due k b there marked) only
     | inr plain ↦ subst (AllByRecursion Due) (sym (none_pushed start end pushed is (none plain))) tt

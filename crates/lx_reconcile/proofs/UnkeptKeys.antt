@@ -46,7 +46,8 @@ length-unkept_keys old p (tree l b t) =
     )
 
 -- what isn't in the trees isn't among them
-own_absent : (stays : Bool) (old : Forest) (l : Label) (b : Forest) (q : ℕ) → is_among q (unkept_keys old (Some l.key) b) ≡ false → count q (tree l b nil) ≡ 0 → is_among q (own_keys stays old l b) ≡ false
+own_absent : (stays : Bool) (old : Forest) (l : Label) (b : Forest) (q : ℕ) → is_among q (unkept_keys old (Some l.key) b) ≡ false → count q (tree l b nil) ≡ 0
+    → is_among q (own_keys stays old l b) ≡ false
 own_absent true old l b q below none = below
 own_absent false old l b q below none = grind (arith, none, is_among-preorder key_of q b, eqb_tells l.key q)
 
@@ -66,7 +67,8 @@ unkept_keys-absent old p (tree l b t) q none =
 own_there : (stays : Bool) (old : Forest) (l : Label) (b : Forest) (q : ℕ) → is_among q (own_keys stays old l b) ≡ true → 0 < count q (tree l b nil)
 own_there stays old l b q e = grind (arith, e, own_absent stays old l b q, unkept_keys-absent old (Some l.key) b q)
 
-once_own : (stays : Bool) (l : Label) (b : Forest) (below : List ℕ) → IsDistinct key_of (tree l b nil) → NoRepeats below → NoRepeats (cond stays below (l.key ∷ preorder key_of b))
+once_own : (stays : Bool) (l : Label) (b : Forest) (below : List ℕ) → IsDistinct key_of (tree l b nil) → NoRepeats below
+    → NoRepeats (cond stays below (l.key ∷ preorder key_of b))
 once_own true l b below once e = e
 once_own false l b below once e = (
   grind (arith, once l.key, eqb_tells l.key l.key, is_among-preorder key_of l.key b),
@@ -93,7 +95,8 @@ is_own k q = grind (arith, eqb_tells k q)
 abbrev StandBelow : Forest → Option ℕ → Forest → Type 0
 StandBelow new p g = (q : ℕ) → 0 < count q g → places_of q None new ≡ places_of q p g
 
-stand_first : (new : Forest) (p : Option ℕ) (l : Label) (b t : Forest) → IsDistinct key_of (tree l b t) → StandBelow new p (tree l b t) → places_of l.key None new ≡ (p, tag_of l.kind l.fields) ∷ []
+stand_first : (new : Forest) (p : Option ℕ) (l : Label) (b t : Forest) → IsDistinct key_of (tree l b t) → StandBelow new p (tree l b t)
+    → places_of l.key None new ≡ (p, tag_of l.kind l.fields) ∷ []
 stand_first new p l b t once at =
     grind (
       arith,
@@ -104,13 +107,16 @@ stand_first new p l b t once at =
       places_of-absent l.key p t,
     )
 
-stand_below : (new : Forest) (p : Option ℕ) (l : Label) (b t : Forest) → IsDistinct key_of (tree l b t) → StandBelow new p (tree l b t) → StandBelow new (Some l.key) b
+stand_below : (new : Forest) (p : Option ℕ) (l : Label) (b t : Forest) → IsDistinct key_of (tree l b t) → StandBelow new p (tree l b t)
+    → StandBelow new (Some l.key) b
 stand_below new p l b t once at q inside = grind (arith, inside, once q, at q, places_of-absent q p t, append-nil (places_of q (Some l.key) b))
 
-stand_alone : (new : Forest) (p : Option ℕ) (l : Label) (b t : Forest) → IsDistinct key_of (tree l b t) → StandBelow new p (tree l b t) → StandBelow new p (tree l b nil)
+stand_alone : (new : Forest) (p : Option ℕ) (l : Label) (b t : Forest) → IsDistinct key_of (tree l b t) → StandBelow new p (tree l b t)
+    → StandBelow new p (tree l b nil)
 stand_alone new p l b t once at q own =
     at q (omega (arith, own))
-    ∙ ap (λ xs. cond (eqb l.key q) ((p, tag_of l.kind l.fields) ∷ []) [] ++ places_of q (Some l.key) b ++ xs) (places_of-absent q p t (omega (arith, once q, own)))
+    ∙ ap (λ xs. cond (eqb l.key q) ((p, tag_of l.kind l.fields) ∷ []) [] ++ places_of q (Some l.key) b ++ xs)
+    (places_of-absent q p t (omega (arith, once q, own)))
 
 stand_behind : (new : Forest) (p : Option ℕ) (l : Label) (b t : Forest) → IsDistinct key_of (tree l b t) → StandBelow new p (tree l b t) → StandBelow new p t
 stand_behind new p l b t once at q behind = grind (arith, behind, once q, at q, places_of-absent q (Some l.key) b)
@@ -154,7 +160,8 @@ module _ (old new : Forest) (h : IsForest new) where
   none_kept : (k : ℕ) (g : Forest) → IsDistinct key_of g → StandBelow new (Some k) g → (IsKept old new k → ⊥) → (q : ℕ) → 0 < count q g → IsKept old new q → ⊥
   none_kept k nil once at out q there kept = absurd (omega (arith, there))
   none_kept k (tree l b t) once at out q there kept =
-      let first : IsKept old new l.key → ⊥ = λ own. out (kept_at old new l.key k (tag_of l.kind l.fields) h (stand_first new (Some k) l b t once at) own).parent in
+      let first : IsKept old new l.key → ⊥ =
+      λ own. out (kept_at old new l.key k (tag_of l.kind l.fields) h (stand_first new (Some k) l b t once at) own).parent in
       elim (is_own l.key q) [
         | inl own ↦ first (subst (IsKept old new) (sym own) kept)
         | inr other ↦ elim (cases_lt 0 (count q b)) [
@@ -194,7 +201,8 @@ module _ (old new : Forest) (h : IsForest new) where
             subst (Tells old new q) (sym (ap among goes ∙ all)) (tells_other other)
       ]
 
-  tell_kept : (k : ℕ) (g : Forest) → IsDistinct key_of g → StandBelow new (Some k) g → IsKept old new k → (q : ℕ) → 0 < count q g → Tells old new q (is_among q (unkept_keys old (Some k) g))
+  tell_kept : (k : ℕ) (g : Forest) → IsDistinct key_of g → StandBelow new (Some k) g → IsKept old new k → (q : ℕ) → 0 < count q g
+      → Tells old new q (is_among q (unkept_keys old (Some k) g))
   tell_kept k nil once at kept q there = absurd (omega (arith, there))
   tell_kept k (tree l b t) once at kept q there =
       let stays = kept_here old (Some k) l in
@@ -208,7 +216,8 @@ module _ (old new : Forest) (h : IsForest new) where
             (tell_kept k t (λ q. omega (arith, once q)) (stand_behind new (Some k) l b t once at) kept q behind)
         | inr before ↦
             subst (Tells old new q)
-            (sym (is_among-append q first rest ∙ ap (λ c. is_among q first || c) (unkept_keys-absent old (Some k) t q (omega (arith, before))) ∙ or-false (is_among q first)))
+            (sym (is_among-append q first rest ∙ ap (λ c. is_among q first || c) (unkept_keys-absent old (Some k) t q (omega (arith, before)))
+            ∙ or-false (is_among q first)))
             (tell_first k l b (λ q. omega (arith, once q)) (stand_alone new (Some k) l b t once at) kept
             (λ own. tell_kept l.key b (λ q. omega (arith, once q)) (stand_below new (Some k) l b t once at) own)
             q (omega (arith, there, before)))
@@ -235,7 +244,8 @@ root_here old l h key kind =
     ∙ from_spot (spot old 0) refl
   where
     from_spot : (o : Option (Spot Label)) → spot old 0 ≡ o → is_only None (tag_of l.kind l.fields) (places_at o) ≡ true
-    from_spot None at = absurd (let root = h.root in let none = ap (λ o. option_map (λ (l : Label). l.kind) (option_map (λ (s : Spot Label). s.label) o)) at in cc)
+    from_spot None at =
+        absurd (let root = h.root in let none = ap (λ o. option_map (λ (l : Label). l.kind) (option_map (λ (s : Spot Label). s.label) o)) at in cc)
     from_spot (Some s) at =
         let up : s.parent ≡ None = sym (ap parent_at at) ∙ parent_of-root old h in
         let own : s.label.kind ≡ Root = kind_at_root old s h at in
@@ -247,7 +257,8 @@ told_tree old new l b g h whole key kind =
     let keys = unkept_keys old (Some 0) b in
     let counts : (q : ℕ) → count q new ≡ count q (tree l b nil) = λ q. ap (count q) whole in
     let once : IsDistinct key_of (tree l b nil) = λ q. omega (arith, h.once q, counts q) in
-    let at : StandBelow new (Some 0) b = subst (λ k. StandBelow new (Some k) b) key (stand_below new None l b nil once (λ q there. ap (places_of q None) whole)) in
+    let at : StandBelow new (Some 0) b =
+    subst (λ k. StandBelow new (Some k) b) key (stand_below new None l b nil once (λ q there. ap (places_of q None) whole)) in
     let tells = tell_kept old new h 0 b (λ q. omega (arith, once q)) at kept_root in
     let inside : (q : ℕ) → is_among q keys ≡ true → 0 < count q b = λ q e. grind (arith, e, unkept_keys-absent old (Some 0) b q) in
     let stays = root_here old l g key kind in
@@ -281,5 +292,7 @@ counted_told f g n was is s t number = from_spot (spot g 0) refl where
   from_spot None at = absurd (let none : is_some (spot g 0) ≡ false = ap is_some at in let there = is_some-spot g 0 in cc)
   from_spot (Some x) at =
       let h = tree_order g 0 t (tree_there g is) in
-      let told = told_tree (alone 0 f) (alone 0 g) x.label (trees_of g x.children) (ordered f was s) (ordered g is t) (alone-spot g 0 x h at) (key-spot g 0 x at) (kind_at_root g x h at) in
+      let told =
+      told_tree (alone 0 f) (alone 0 g) x.label (trees_of g x.children) (ordered f was s) (ordered g is t) (alone-spot g 0 x h at) (key-spot g 0 x at)
+      (kind_at_root g x h at) in
       (told.0, told.1, told.2 ∙ sym number)

@@ -87,7 +87,8 @@ not_second true b e = e
 not_second false b e = refl
 
 -- nor is one that was another element
-pub other_unkept : (old : Forest) (k : ℕ) (x l : Label) → IsForest old → label_of old l.key ≡ Some x → (tag_of x.kind x.fields ≡ tag_of l.kind l.fields → ⊥) → kept_here old (Some k) l ≡ false
+pub other_unkept : (old : Forest) (k : ℕ) (x l : Label) → IsForest old → label_of old l.key ≡ Some x → (tag_of x.kind x.fields ≡ tag_of l.kind l.fields → ⊥)
+    → kept_here old (Some k) l ≡ false
 other_unkept old k x l h was other = ap (is_only (Some k) (tag_of l.kind l.fields)) (places_are old l.key h) ∙ from_spot (spot old l.key) refl where
   from_spot : (o : Option (Spot Label)) → spot old l.key ≡ o → is_only (Some k) (tag_of l.kind l.fields) (places_at o) ≡ false
   from_spot None at = refl
@@ -99,12 +100,14 @@ other_unkept old k x l h was other = ap (is_only (Some k) (tag_of l.kind l.field
       not_second (is_parent s.parent (Some k)) _ differ
 
 -- but one that was one there with the same element is
-pub same_kept : (old : Forest) (k : ℕ) (x l : Label) → IsForest old → is_among l.key (children_of old k) ≡ true → label_of old l.key ≡ Some x → tag_of x.kind x.fields ≡ tag_of l.kind l.fields → kept_here old (Some k) l ≡ true
+pub same_kept : (old : Forest) (k : ℕ) (x l : Label) → IsForest old → is_among l.key (children_of old k) ≡ true → label_of old l.key ≡ Some x
+    → tag_of x.kind x.fields ≡ tag_of l.kind l.fields → kept_here old (Some k) l ≡ true
 same_kept old k x l h among was same =
     ap (is_only (Some k) (tag_of l.kind l.fields)) (places_are old l.key h)
     ∙ from_spot (spot old l.key) (sym (is_among-children_of old l.key k h) ∙ among) was
   where
-    from_spot : (o : Option (Spot Label)) → is_named (parent_at o) k ≡ true → option_map (λ (s : Spot Label). s.label) o ≡ Some x → is_only (Some k) (tag_of l.kind l.fields) (places_at o) ≡ true
+    from_spot : (o : Option (Spot Label)) → is_named (parent_at o) k ≡ true → option_map (λ (s : Spot Label). s.label) o ≡ Some x
+        → is_only (Some k) (tag_of l.kind l.fields) (places_at o) ≡ true
     from_spot None named is = absurd (cc)
     from_spot (Some s) named is =
         let own : s.label ≡ x = same_Some s.label x is in

@@ -39,9 +39,11 @@ use Rattle.lx_reconcile.proofs.OneMove.{at_stay, at_gone, at_new, at_moved, at_a
 
 -- ---- the children that moves are of
 
-children_once : (ms : List Move) → NoRepeats (standing ms) → NoRepeats (leaving ms) → ((q : ℕ) → is_among q (standing ms) ≡ true → is_among q (leaving ms) ≡ false) → NoRepeats (map child_of ms)
+children_once : (ms : List Move) → NoRepeats (standing ms) → NoRepeats (leaving ms)
+    → ((q : ℕ) → is_among q (standing ms) ≡ true → is_among q (leaving ms) ≡ false) → NoRepeats (map child_of ms)
 children_once [] s l apart = tt
-children_once (Leave k ∷ ms) s l apart = (grind (arith, children_among k ms, l.0, apart k, eqb_tells k k), children_once ms s l.1 (λ q e. grind (arith, apart q e)))
+children_once (Leave k ∷ ms) s l apart =
+    (grind (arith, children_among k ms, l.0, apart k, eqb_tells k k), children_once ms s l.1 (λ q e. grind (arith, apart q e)))
 children_once (m ∷ ms) s l apart = (
   grind (arith, children_among (child_of m) ms, s.0, apart (child_of m), eqb_tells (child_of m) (child_of m)),
   children_once ms s.1 l (λ q e. apart q (grind (arith, e))),
@@ -74,7 +76,8 @@ later_leaves : (m : Move) (ms : List Move) (q : ℕ) → is_among q (leaving ms)
 later_leaves (Leave k) ms q e = grind (arith, e)
 later_leaves _ ms q e = e
 
-pub one_came : (olds news handled now : List ℕ) (m : Move) (ms : List Move) → AreToCome olds news handled now (m ∷ ms) → AreToCome olds news (child_of m ∷ handled) (moved m now) ms
+pub one_came : (olds news handled now : List ℕ) (m : Move) (ms : List Move) → AreToCome olds news handled now (m ∷ ms)
+    → AreToCome olds news (child_of m ∷ handled) (moved m now) ms
 one_came olds news handled now m ms t = record {
   can = t.can.1;
   unhandled = t.unhandled.1;
@@ -89,7 +92,8 @@ one_came olds news handled now m ms t = record {
 }
 
 -- a child that is placed stays then
-pub placed_stays : (olds news handled now : List ℕ) (c : ℕ) (before : Option ℕ) (ms : List Move) → is_among c (moved (Place c before) now) ≡ true → AreToCome olds news handled now (Place c before ∷ ms)
+pub placed_stays : (olds news handled now : List ℕ) (c : ℕ) (before : Option ℕ) (ms : List Move) → is_among c (moved (Place c before) now) ≡ true
+    → AreToCome olds news handled now (Place c before ∷ ms)
     → AreToCome olds news handled (moved (Place c before) now) (Stay c ∷ ms)
 placed_stays olds news handled now c before ms there t = record {
   can = (there, t.can.1);
@@ -121,11 +125,13 @@ not_handled : (d c : ℕ) (handled : List ℕ) → is_among d (c ∷ handled) �
 not_handled d c handled e = (λ same. grind (arith, e, eqb_tells c d, same), grind (arith, e))
 
 made_at : (n : ℕ) (label : Label) (below : Forest) → IsAt n (numbered n (render (tree label below nil)))
-made_at n label below = record { host = record { id = n; face = face_of label (last_kind below) }; below = numbered (n + 1) (render below); is = refl; id = refl }
+made_at n label below =
+    record { host = record { id = n; face = face_of label (last_kind below) }; below = numbered (n + 1) (render below); is = refl; id = refl }
 
 module _ {old new : Forest} {v : HostTree} where
   -- one child has another tree now, which shows it
-  under_way_entry : {handled cs : List ℕ} (cs_after : List ℕ) {ids : ℕ → ℕ} {family : ℕ → Trees Host} (c i : ℕ) (to : Trees Host) → IsUnderWay old new v handled cs ids family
+  under_way_entry : {handled cs : List ℕ} (cs_after : List ℕ) {ids : ℕ → ℕ} {family : ℕ → Trees Host} (c i : ℕ) (to : Trees Host)
+      → IsUnderWay old new v handled cs ids family
       → ((d : ℕ) → is_among d cs_after ≡ true → d ≢ c → is_among d cs ≡ true) → IsAt i to → AreReconciled old new v c to
       → IsUnderWay old new v (c ∷ handled) cs_after (with_entry c i ids) (with_entry c to family)
   under_way_entry {handled} cs_after c i to u sub to_at to_is = record {
@@ -150,7 +156,8 @@ module _ {old new : Forest} {v : HostTree} where
   }
 
   -- the ids that the view has
-  before_id : (olds : List ℕ) {handled cs : List ℕ} {ids : ℕ → ℕ} {family : ℕ → Trees Host} (before : Option ℕ) → IsUnderWay old new v handled cs ids family → is_place before cs ≡ true
+  before_id : (olds : List ℕ) {handled cs : List ℕ} {ids : ℕ → ℕ} {family : ℕ → Trees Host} (before : Option ℕ) → IsUnderWay old new v handled cs ids family
+      → is_place before cs ≡ true
       → is_waiting olds handled before ≡ true → option_map ids before ≡ option_map (host_in v) before
   before_id olds None u place waits = refl
   before_id olds (Some b) u place waits = ap (λ i. Some i) (u.waiting b place (grind (arith, waits))).0
@@ -158,34 +165,42 @@ module _ {old new : Forest} {v : HostTree} where
 -- ---- how many aren't kept
 
 module _ (old new : Forest) where
-  one_less : (k c : ℕ) (ks : List ℕ) → unkept old (Some k) (trees_of new (c ∷ ks)) ≡ unkept old (Some k) (forest.alone c new) + unkept old (Some k) (trees_of new ks)
+  one_less : (k c : ℕ) (ks : List ℕ)
+      → unkept old (Some k) (trees_of new (c ∷ ks)) ≡ unkept old (Some k) (forest.alone c new) + unkept old (Some k) (trees_of new ks)
   one_less k c ks = unkept-joined old (Some k) (forest.alone c new) (trees_of new ks)
 
   -- below a child no more than in its tree
-  pub child_unkept : (k c : ℕ) → IsForest new → forest.has c new ≡ true → unkept old (Some c) (trees_of new (children_of new c)) ≤ unkept old (Some k) (forest.alone c new)
+  pub child_unkept : (k c : ℕ) → IsForest new → forest.has c new ≡ true
+      → unkept old (Some c) (trees_of new (children_of new c)) ≤ unkept old (Some k) (forest.alone c new)
   child_unkept k c h there =
       let s = stands_there new c h there in
       omega (arith, ap (unkept old (Some k)) s.tree_is, ap (λ q. unkept old (Some q) s.below) s.key, ap (unkept old (Some c)) s.below_is, unkept-below old (Some k) s.label s.below)
 
   -- all in the tree of a child that wasn't one, or was another element
-  pub made_unkept : (k c : ℕ) → IsForest old → IsForest new → forest.has c new ≡ true → is_among c (children_of old k) ≡ false → unkept old (Some k) (forest.alone c new) ≡ total (forest.alone c new)
+  pub made_unkept : (k c : ℕ) → IsForest old → IsForest new → forest.has c new ≡ true → is_among c (children_of old k) ≡ false
+      → unkept old (Some k) (forest.alone c new) ≡ total (forest.alone c new)
   made_unkept k c g h there out =
       let s = stands_there new c h there in
-      ap (unkept old (Some k)) s.tree_is ∙ unkept-all old (Some k) s.label s.below (new_unkept old k s.label g (ap (λ q. is_among q (children_of old k)) s.key ∙ out)) ∙ ap total (sym s.tree_is)
+      ap (unkept old (Some k)) s.tree_is
+      ∙ unkept-all old (Some k) s.label s.below (new_unkept old k s.label g (ap (λ q. is_among q (children_of old k)) s.key ∙ out))
+      ∙ ap total (sym s.tree_is)
 
-  pub again_unkept : (k c : ℕ) {x y : Label} → IsForest old → IsForest new → forest.has c new ≡ true → label_of old c ≡ Some x → label_of new c ≡ Some y → (tag_of x.kind x.fields ≡ tag_of y.kind y.fields → ⊥)
+  pub again_unkept : (k c : ℕ) {x y : Label} → IsForest old → IsForest new → forest.has c new ≡ true → label_of old c ≡ Some x → label_of new c ≡ Some y
+      → (tag_of x.kind x.fields ≡ tag_of y.kind y.fields → ⊥)
       → unkept old (Some k) (forest.alone c new) ≡ total (forest.alone c new)
   again_unkept k c {x} {y} g h there was is other =
       let s = stands_there new c h there in
       let own : s.label ≡ y = same_Some s.label y (sym s.label_is ∙ is) in
       ap (unkept old (Some k)) s.tree_is
-      ∙ unkept-all old (Some k) s.label s.below (other_unkept old k x s.label g (ap (label_of old) s.key ∙ was) (λ e. other (e ∙ ap (λ (l : Label). tag_of l.kind l.fields) own)))
+      ∙ unkept-all old (Some k) s.label s.below
+      (other_unkept old k x s.label g (ap (label_of old) s.key ∙ was) (λ e. other (e ∙ ap (λ (l : Label). tag_of l.kind l.fields) own)))
       ∙ ap total (sym s.tree_is)
 
 -- ---- one move after another
 
 module _ {old new : Forest} {v : HostTree} where
-  pub walk_start : {k n : ℕ} {ms : List Move} → IsView old new v → (s : IsShownAt old v k) → IsWalk (children_of old k) (children_of new k) ms → IsInWalk old new v k n [] s.host ms n
+  pub walk_start : {k n : ℕ} {ms : List Move} → IsView old new v → (s : IsShownAt old v k) → IsWalk (children_of old k) (children_of new k) ms
+      → IsInWalk old new v k n [] s.host ms n
   walk_start {k} {n} {ms} view s w =
       let start = alone (host_in v k) v.hosts in
       record {
@@ -195,7 +210,8 @@ module _ {old new : Forest} {v : HostTree} where
         family = λ c. alone (host_in v c) v.hosts;
         id = s.id;
         leads = subst (λ t. LeadsAt (host_in v k) start n [] t n) s.is
-            (at_same (host_in v k) start n (record { host = s.host; below = flat (λ c. alone (host_in v c) v.hosts) (children_of old k); is = s.is; id = s.id }));
+            (at_same (host_in v k) start n
+            (record { host = s.host; below = flat (λ c. alone (host_in v c) v.hosts) (children_of old k); is = s.is; id = s.id }));
         under_way = is_started old new v k view.before view.shows view.numbered;
         to_come = all_to_come (children_of old k) (children_of new k) ms (NoRepeats-children_of old k view.before) (NoRepeats-children_of new k view.after) w;
         rises = omega arith;
@@ -203,7 +219,8 @@ module _ {old new : Forest} {v : HostTree} where
       }
 
   -- more operations, which make of the host and of the family that are there now these ones
-  walked_on : {k n : ℕ} {ops : List Op} {a : Host} {before : List Move} {m : ℕ} (w : IsInWalk old new v k n ops a before m) (more : List Op) (b : Host) (handled now : List ℕ)
+  walked_on : {k n : ℕ} {ops : List Op} {a : Host} {before : List Move} {m : ℕ} (w : IsInWalk old new v k n ops a before m) (more : List Op) (b : Host)
+      (handled now : List ℕ)
       (ids : ℕ → ℕ) (family : ℕ → Trees Host) (after : List Move) (l : ℕ) → b.id ≡ a.id
       → LeadsAt (host_in v k) (tree a (flat w.family w.now) nil) m more (tree b (flat family now) nil) l
       → IsUnderWay old new v handled now ids family → AreToCome (children_of old k) (children_of new k) handled now after
@@ -224,15 +241,18 @@ module _ {old new : Forest} {v : HostTree} where
   }
 
   -- there are ids left for the next child that is there in the end
-  pub walk_room : {k n : ℕ} {ops : List Op} {a : Host} {s : Move} {ms : List Move} {m : ℕ} (c : ℕ) → IsInWalk old new v k n ops a (s ∷ ms) m → standing (s ∷ ms) ≡ c ∷ standing ms
+  pub walk_room : {k n : ℕ} {ops : List Op} {a : Host} {s : Move} {ms : List Move} {m : ℕ} (c : ℕ) → IsInWalk old new v k n ops a (s ∷ ms) m
+      → standing (s ∷ ms) ≡ c ∷ standing ms
       → m + unkept old (Some k) (forest.alone c new) ≤ n + unkept old (Some k) (trees_of new (children_of new k))
   walk_room {k} {ms} c w stands = omega (arith, w.grows, ap (λ ks. unkept old (Some k) (trees_of new ks)) stands, one_less old new k c (standing ms))
 
   -- what a move's child is: among the children before, and among those after
-  pub walk_both : {k n : ℕ} {ops : List Op} {a : Host} {c : ℕ} {ms : List Move} {m : ℕ} → IsInWalk old new v k n ops a (Stay c ∷ ms) m → (is_among c (children_of old k) ≡ true) × (is_among c (children_of new k) ≡ true)
+  pub walk_both : {k n : ℕ} {ops : List Op} {a : Host} {c : ℕ} {ms : List Move} {m : ℕ} → IsInWalk old new v k n ops a (Stay c ∷ ms) m
+      → (is_among c (children_of old k) ≡ true) × (is_among c (children_of new k) ≡ true)
   walk_both {c} w = (w.to_come.suited.0, w.to_come.stays c (grind (arith, eqb_tells c c)))
 
-  pub walk_stay : {k n : ℕ} {ops : List Op} {a : Host} {c : ℕ} {ms : List Move} {m : ℕ} {more : List Op} {l : ℕ} → IsForest new → forest.has c new ≡ true → IsInWalk old new v k n ops a (Stay c ∷ ms) m → IsReconciled old new v c m more l
+  pub walk_stay : {k n : ℕ} {ops : List Op} {a : Host} {c : ℕ} {ms : List Move} {m : ℕ} {more : List Op} {l : ℕ} → IsForest new → forest.has c new ≡ true
+      → IsInWalk old new v k n ops a (Stay c ∷ ms) m → IsReconciled old new v c m more l
       → IsInWalk old new v k n (ops ++ more) a ms l
   walk_stay {k} {a} {c} {ms} {m} {more} {l} h there w r =
       let u = w.under_way in
@@ -246,7 +266,8 @@ module _ {old new : Forest} {v : HostTree} where
       r.rises (omega (arith, r.grows, one_less old new k c (standing ms), child_unkept old new k c h there))
 
   -- a child that was one has its host of before, which isn't the root's
-  own_id : {k n : ℕ} {ops : List Op} {a : Host} (s : Move) {ms : List Move} {m : ℕ} → IsView old new v → (w : IsInWalk old new v k n ops a (s ∷ ms) m) → is_among (child_of s) w.now ≡ true
+  own_id : {k n : ℕ} {ops : List Op} {a : Host} (s : Move) {ms : List Move} {m : ℕ} → IsView old new v → (w : IsInWalk old new v k n ops a (s ∷ ms) m)
+      → is_among (child_of s) w.now ≡ true
       → is_among (child_of s) (children_of old k) ≡ true → (w.ids (child_of s) ≡ host_in v (child_of s)) × (w.ids (child_of s) ≢ 0)
   own_id {k} s {ms} view w here among =
       let own = (w.under_way.waiting (child_of s) here (own_fresh (children_of old k) (children_of new k) w.handled w.now s ms w.to_come)).0 in
@@ -260,7 +281,8 @@ module _ {old new : Forest} {v : HostTree} where
       let own = own_id (Leave c) view w here w.to_come.suited.0 in
       let then = tree a (flat w.family (names_without c w.now)) nil in
       walked_on w (op.Drop (host_in v c) ∷ []) a (c ∷ w.handled) (names_without c w.now) w.ids w.family ms m refl
-      (subst (λ i. LeadsAt (host_in v k) (tree a (flat w.family w.now) nil) m (op.Drop i ∷ []) then m) own.0 (at_gone (host_in v k) a w.ids w.family w.now m c w.id u.at here own.1))
+      (subst (λ i. LeadsAt (host_in v k) (tree a (flat w.family w.now) nil) m (op.Drop i ∷ []) then m) own.0
+      (at_gone (host_in v k) a w.ids w.family w.now m c w.id u.at here own.1))
       (record {
         at = λ d among. u.at d (without_key c d w.now among).0;
         done = λ d among done. u.done d (without_key c d w.now among).0 (among_handled d c w.handled (without_key c d w.now among).1 done);
@@ -269,7 +291,8 @@ module _ {old new : Forest} {v : HostTree} where
       (one_came (children_of old k) (children_of new k) w.handled w.now (Leave c) ms w.to_come) (omega arith) (omega arith)
 
   -- a child is placed, and stays then
-  pub walk_place : {k n : ℕ} {ops : List Op} {a : Host} {c : ℕ} {before : Option ℕ} {ms : List Move} {m : ℕ} → IsView old new v → IsInWalk old new v k n ops a (Place c before ∷ ms) m
+  pub walk_place : {k n : ℕ} {ops : List Op} {a : Host} {c : ℕ} {before : Option ℕ} {ms : List Move} {m : ℕ} → IsView old new v
+      → IsInWalk old new v k n ops a (Place c before ∷ ms) m
       → IsInWalk old new v k n (ops ++ op.Place (host_in v k) (host_in v c) (option_map (host_in v) before) ∷ []) a (Stay c ∷ ms) m
   walk_place {k} {a} {c} {before} {ms} {m} view w =
       let u = w.under_way in
@@ -280,7 +303,9 @@ module _ {old new : Forest} {v : HostTree} where
       let after = names_with before (c ∷ []) (names_without c w.now) in
       let named = before_id (children_of old k) before u place.0 t.unhandled.0 in
       walked_on w (op.Place (host_in v k) (host_in v c) (option_map (host_in v) before) ∷ []) a w.handled after w.ids w.family (Stay c ∷ ms) m refl
-      (subst (λ t. t) (λ i. LeadsAt (host_in v k) (tree a (flat w.family w.now) nil) m (op.Place (host_in v k) (own.0 i) (named i) ∷ []) (tree a (flat w.family after) nil) m)
+      (subst (λ t. t)
+      (λ i. LeadsAt (host_in v k) (tree a (flat w.family w.now) nil) m (op.Place (host_in v k) (own.0 i) (named i) ∷ []) (tree a (flat w.family after) nil)
+      m)
       (at_moved (host_in v k) a w.ids w.family w.now m c before w.id u.at can.0 own.1 place.0 (not-true (is_named before c) place.1)))
       (record {
         at = λ d among. u.at d (was_among d among);
@@ -294,9 +319,11 @@ module _ {old new : Forest} {v : HostTree} where
           let can = w.to_come.can.0 in
           grind (arith, e, can, is_among-names_with before (c ∷ []) (names_without c w.now) d, is_among-names_without c d w.now, eqb_tells c d)
 
-  pub walk_make : {k n : ℕ} {ops : List Op} {a : Host} {c : ℕ} {before : Option ℕ} {ms : List Move} {m : ℕ} → IsView old new v → IsInWalk old new v k n ops a (Make c before ∷ ms) m
+  pub walk_make : {k n : ℕ} {ops : List Op} {a : Host} {c : ℕ} {before : Option ℕ} {ms : List Move} {m : ℕ} → IsView old new v
+      → IsInWalk old new v k n ops a (Make c before ∷ ms) m
       → m + total (forest.alone c new) ≤ last_u32
-      → IsInWalk old new v k n (ops ++ (creation_of m (forest.alone c new) ++ op.Place (host_in v k) m (option_map (host_in v) before) ∷ [])) a ms (m + total (forest.alone c new))
+      → IsInWalk old new v k n (ops ++ (creation_of m (forest.alone c new) ++ op.Place (host_in v k) m (option_map (host_in v) before) ∷ [])) a ms
+      (m + total (forest.alone c new))
   walk_make {k} {a} {c} {before} {ms} {m} view w room =
       let u = w.under_way in
       let t = w.to_come in
@@ -308,13 +335,16 @@ module _ {old new : Forest} {v : HostTree} where
       let after = names_with before (c ∷ []) w.now in
       let to : Forest → Trees Host = λ f. numbered m (render f) in
       let Makes : Forest → Option ℕ → Type 0 = λ f o.
-      LeadsAt (host_in v k) (tree a (flat w.family w.now) nil) m (creation_of m f ++ op.Place (host_in v k) m o ∷ []) (tree a (flat (with_entry c (to f) w.family) after) nil) (m + total f) in
+      LeadsAt (host_in v k) (tree a (flat w.family w.now) nil) m (creation_of m f ++ op.Place (host_in v k) m o ∷ [])
+      (tree a (flat (with_entry c (to f) w.family) after) nil) (m + total f) in
       let step : Makes (forest.alone c new) (option_map (host_in v) before) =
       subst (Makes (forest.alone c new)) (before_id (children_of old k) before u can.1 t.unhandled.0)
       (subst (λ f. m + total f ≤ last_u32 → Makes f (option_map w.ids before)) (sym s.tree_is)
       (at_new (host_in v k) a w.ids w.family w.now m c before s.label s.below w.id u.at (not-true (is_among c w.now) can.0) can.1) room) in
-      walked_on w _ a (c ∷ w.handled) after (with_entry c m w.ids) (with_entry c (to (forest.alone c new)) w.family) ms (m + total (forest.alone c new)) refl step
-      (under_way_entry after c m (to (forest.alone c new)) u (λ d e differs. was_among d e differs) (subst (λ f. IsAt m (to f)) (sym s.tree_is) (made_at m s.label s.below))
+      walked_on w _ a (c ∷ w.handled) after (with_entry c m w.ids) (with_entry c (to (forest.alone c new)) w.family) ms (m + total (forest.alone c new)) refl
+      step
+      (under_way_entry after c m (to (forest.alone c new)) u (λ d e differs. was_among d e differs)
+      (subst (λ f. IsAt m (to f)) (sym s.tree_is) (made_at m s.label s.below))
       (made_shown c m view.after (not_kept_new old new k c view.before view.after among other)))
       (one_came (children_of old k) (children_of new k) w.handled w.now (Make c before) ms t)
       (omega arith) (omega (arith, one_less old new k c (standing ms), made_unkept old new k c view.before view.after there other))
@@ -323,10 +353,13 @@ module _ {old new : Forest} {v : HostTree} where
       was_among d e other = grind (arith, e, is_among-names_with before (c ∷ []) w.now d, eqb_tells c d, other)
 
   -- a child whose element is another one is made anew in place of the old one
-  pub walk_again : {k n : ℕ} {ops : List Op} {a : Host} {c : ℕ} {ms : List Move} {m : ℕ} {x y : Label} → IsView old new v → IsInWalk old new v k n ops a (Stay c ∷ ms) m
+  pub walk_again : {k n : ℕ} {ops : List Op} {a : Host} {c : ℕ} {ms : List Move} {m : ℕ} {x y : Label} → IsView old new v
+      → IsInWalk old new v k n ops a (Stay c ∷ ms) m
       → label_of old c ≡ Some x → label_of new c ≡ Some y → (tag_of x.kind x.fields ≡ tag_of y.kind y.fields → ⊥)
       → m + total (forest.alone c new) ≤ last_u32
-      → IsInWalk old new v k n (ops ++ ((creation_of m (forest.alone c new) ++ op.Place (host_in v k) m (Some (host_in v c)) ∷ []) ++ op.Drop (host_in v c) ∷ [])) a ms (m + total (forest.alone c new))
+      → IsInWalk old new v k n
+      (ops ++ ((creation_of m (forest.alone c new) ++ op.Place (host_in v k) m (Some (host_in v c)) ∷ []) ++ op.Drop (host_in v c) ∷ [])) a ms
+      (m + total (forest.alone c new))
   walk_again {k} {a} {c} {ms} {m} {x} {y} view w was is other room =
       let u = w.under_way in
       let t = w.to_come in
@@ -340,8 +373,10 @@ module _ {old new : Forest} {v : HostTree} where
       (tree a (flat (with_entry c (to f) w.family) w.now) nil) (m + total f) in
       let step : Makes (forest.alone c new) (host_in v c) =
       subst (Makes (forest.alone c new)) own.0
-      (subst (λ f. m + total f ≤ last_u32 → Makes f (w.ids c)) (sym s.tree_is) (at_again (host_in v k) a w.ids w.family w.now m c s.label s.below w.id u.at t.can.0 own.1) room) in
-      walked_on w _ a (c ∷ w.handled) w.now (with_entry c m w.ids) (with_entry c (to (forest.alone c new)) w.family) ms (m + total (forest.alone c new)) refl step
+      (subst (λ f. m + total f ≤ last_u32 → Makes f (w.ids c)) (sym s.tree_is)
+      (at_again (host_in v k) a w.ids w.family w.now m c s.label s.below w.id u.at t.can.0 own.1) room) in
+      walked_on w _ a (c ∷ w.handled) w.now (with_entry c m w.ids) (with_entry c (to (forest.alone c new)) w.family) ms (m + total (forest.alone c new)) refl
+      step
       (under_way_entry w.now c m (to (forest.alone c new)) u (λ d e differs. e) (subst (λ f. IsAt m (to f)) (sym s.tree_is) (made_at m s.label s.below))
       (made_shown c m view.after (not_kept_tag old new k c x y view.before view.after among was is other)))
       (one_came (children_of old k) (children_of new k) w.handled w.now (Stay c) ms t)
@@ -361,12 +396,14 @@ module _ {old new : Forest} {v : HostTree} where
       → IsReconciled old new v k n ops m
   walk_end {k} {n} {ops} {a} {m} {l} view w is face =
       let same = w.to_come.leads in
-      let u : IsUnderWay old new v w.handled (children_of new k) w.ids w.family = subst (λ xs. IsUnderWay old new v w.handled xs w.ids w.family) same w.under_way in
+      let u : IsUnderWay old new v w.handled (children_of new k) w.ids w.family =
+      subst (λ xs. IsUnderWay old new v w.handled xs w.ids w.family) same w.under_way in
       record {
         to = tree a (flat w.family (children_of new k)) nil;
         leads = subst (λ xs. LeadsAt (host_in v k) (alone (host_in v k) v.hosts) n ops (tree a (flat w.family xs) nil) m) same w.leads;
         at = record { host = a; below = flat w.family (children_of new k); is = refl; id = w.id };
-        shown = are_reconciled old new v k a l w.family view.before view.after view.shows is face w.id (λ c here. u.done c here (grind (arith, w.to_come.each c here)));
+        shown = are_reconciled old new v k a l w.family view.before view.after view.shows is face w.id
+            (λ c here. u.done c here (grind (arith, w.to_come.each c here)));
         rises = w.rises;
         grows = omega (arith, w.grows);
       }
@@ -385,7 +422,8 @@ module _ {old new : Forest} {v : HostTree} where
       }
 
   -- the whole
-  pub walk_whole : {touched : ℕ → Bool} {ops : List Op} {m : ℕ} → IsView old new v → forest.roots old ≡ 0 ∷ [] → forest.roots new ≡ 0 ∷ [] → IsReconciled old new v 0 v.next ops m
+  pub walk_whole : {touched : ℕ → Bool} {ops : List Op} {m : ℕ} → IsView old new v → forest.roots old ≡ 0 ∷ [] → forest.roots new ≡ 0 ∷ []
+      → IsReconciled old new v 0 v.next ops m
       → AllByRecursion (IsDue old new touched v) ops → (hosts : Trees Host) × AreAllowed old new touched v ops (host_tree hosts m)
   walk_whole {touched} {ops} {m} view was is r due =
       let at = root_at v.hosts old view.before (one_tree old view.before was) view.shows view.rooted in

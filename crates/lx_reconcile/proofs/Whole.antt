@@ -80,19 +80,23 @@ module _ (old new : Forest) (mk : Marking) (v : HostTree) (k n : ℕ) (was now :
   mid_face = shown_face k (tag_of was.kind was.fields) now.kind now.fields (old_end old k was)
 
   -- its face is written, and its children are to come
-  face_walk : {moves : List Move} (start end : List Op) → (p : IsPart mk.noted (children_of old k) (children_of new k) moves) → (c : Changes (host_in v k) first_face mid_face start end)
+  face_walk : {moves : List Move} (start end : List Op) → (p : IsPart mk.noted (children_of old k) (children_of new k) moves)
+      → (c : Changes (host_in v k) first_face mid_face start end)
       → IsInWalk old new v k n c.pushed (showing v k mid_face) (all_of p) n
   face_walk start end p c =
       let s = is_shown_at old v k b.view.before b.view.shows b.view.numbered (there_read old k was before_read) in
-      let same : s.host ≡ showing v k first_face = host_same s.host (host_in v k) first_face s.id (s.face (label_from k was) (trees_of old (children_of old k)) (tree_read old k was before_read)) in
-      let begun : IsInWalk old new v k n [] (showing v k first_face) (all_of p) n = subst (λ a. IsInWalk old new v k n [] a (all_of p) n) same (walk_start b.view s p.walk) in
+      let same : s.host ≡ showing v k first_face =
+      host_same s.host (host_in v k) first_face s.id (s.face (label_from k was) (trees_of old (children_of old k)) (tree_read old k was before_read)) in
+      let begun : IsInWalk old new v k n [] (showing v k first_face) (all_of p) n =
+      subst (λ a. IsInWalk old new v k n [] a (all_of p) n) same (walk_start b.view s p.walk) in
       walk_face c.pushed begun refl (λ kids. c.leads kids n)
 
   written : (h : ℕ) (start end : List Op) → h ≡ host_in v k → FaceChanges h was now start end → Changes (host_in v k) first_face mid_face start end
   written h start end id face = subst (λ i. Changes i first_face mid_face start end) id (face k (tag_of was.kind was.fields) (old_end old k was))
 
   -- then a part of its children is to come
-  pub children_coming : {moves : List Move} (h : ℕ) (start end : List Op) → h ≡ host_in v k → v.next ≤ n → n + unkept old (Some k) (trees_of new (children_of new k)) ≤ last_u32
+  pub children_coming : {moves : List Move} (h : ℕ) (start end : List Op) → h ≡ host_in v k → v.next ≤ n
+      → n + unkept old (Some k) (trees_of new (children_of new k)) ≤ last_u32
       → IsPart mk.noted (children_of old k) (children_of new k) moves → FaceChanges h was now start end → AreComing old new v k moves n
   children_coming {moves} h start end id behind room p face =
       let c = written h start end id face in
@@ -103,11 +107,15 @@ module _ (old new : Forest) (mk : Marking) (v : HostTree) (k n : ℕ) (was now :
       → with_ending ended mid_face ≡ face_of (label_from k now) (last_kind (trees_of new (children_of new k)))
   last_face ended tag is =
       let face : Tag → Bool → Face = λ t e. record { key = k; tag = t; attrs = attributes_of now.kind now.fields; text = text_of now.fields; ending = e } in
-      ap (λ t. face t ended) tag ∙ ap (λ e. face (tag_of now.kind now.fields) e) (is ∙ sym (ap (needs_break now.kind) (last_kind_read new k now b.sound after_read)))
+      ap (λ t. face t ended) tag
+      ∙ ap (λ e. face (tag_of now.kind now.fields) e) (is ∙ sym (ap (needs_break now.kind) (last_kind_read new k now b.sound after_read)))
 
   kind_same : was.kind ≡ now.kind
   kind_same =
-      let kinds : Some was.kind ≡ Some now.kind = sym (ap (option_map (λ (l : Label). l.kind)) (label_read old k was before_read)) ∙ b.covered.kinds k (there_read old k was before_read) (there_read new k now after_read) ∙ ap (option_map (λ (l : Label). l.kind)) (label_read new k now after_read) in
+      let kinds : Some was.kind ≡ Some now.kind =
+      sym (ap (option_map (λ (l : Label). l.kind)) (label_read old k was before_read))
+      ∙ b.covered.kinds k (there_read old k was before_read) (there_read new k now after_read)
+      ∙ ap (option_map (λ (l : Label). l.kind)) (label_read new k now after_read) in
       same_Some was.kind now.kind kinds
 
   -- a text stays one
@@ -122,16 +130,21 @@ module _ (old new : Forest) (mk : Marking) (v : HostTree) (k n : ℕ) (was now :
   untouched_face : {one start : List Op} → mk.touched k ≡ false → (was.kind ≡ now.kind → was.fields ≡ now.fields → one ≡ start) → one ≡ start
   untouched_face plain same =
       let fields : Some was.fields ≡ Some now.fields =
-      sym (ap (option_map (λ (l : Label). l.fields)) (label_read old k was before_read)) ∙ (b.covered.alike k (there_read old k was before_read) (there_read new k now after_read) plain).fields ∙ ap (option_map (λ (l : Label). l.fields)) (label_read new k now after_read) in
+      sym (ap (option_map (λ (l : Label). l.fields)) (label_read old k was before_read))
+      ∙ (b.covered.alike k (there_read old k was before_read) (there_read new k now after_read) plain).fields
+      ∙ ap (option_map (λ (l : Label). l.fields)) (label_read new k now after_read) in
       same kind_same (same_Some was.fields now.fields fields)
 
-  untouched_end : mk.touched k ≡ false → (was_ended ended : Bool) → was_ended ≡ needs_break was.kind (kind_at old was.last) → ended ≡ needs_break now.kind (kind_at new now.last) → was_ended ≡ ended
+  untouched_end : mk.touched k ≡ false → (was_ended ended : Bool) → was_ended ≡ needs_break was.kind (kind_at old was.last)
+      → ended ≡ needs_break now.kind (kind_at new now.last) → was_ended ≡ ended
   untouched_end plain was_ended ended was_is is =
       let children = (b.covered.alike k (there_read old k was before_read) (there_read new k now after_read) plain).children in
-      let last : kind_at old was.last ≡ kind_at new now.last = ap (kind_at old) before_read.last ∙ last_same old new mk v k b.covered b.was_sound b.sound b children ∙ sym (ap (kind_at new) after_read.last) in
+      let last : kind_at old was.last ≡ kind_at new now.last =
+      ap (kind_at old) before_read.last ∙ last_same old new mk v k b.covered b.was_sound b.sound b children ∙ sym (ap (kind_at new) after_read.last) in
       was_is ∙ ap (λ x. needs_break x (kind_at old was.last)) kind_same ∙ ap (needs_break now.kind) last ∙ sym is
 
-  pub node_done : {moves : List Move} (h : ℕ) (start one two end : List Op) (m : ℕ) (was_ended ended : Bool) → h ≡ host_in v k → tag_of was.kind was.fields ≡ tag_of now.kind now.fields
+  pub node_done : {moves : List Move} (h : ℕ) (start one two end : List Op) (m : ℕ) (was_ended ended : Bool) → h ≡ host_in v k
+      → tag_of was.kind was.fields ≡ tag_of now.kind now.fields
       → IsPart mk.noted (children_of old k) (children_of new k) moves
       → (was.kind ≡ now.kind → was.fields ≡ now.fields → one ≡ start) → FaceChanges h was now start one → MakesMoves old new mk v k moves n one two m
       → was_ended ≡ needs_break was.kind (kind_at old was.last) → ended ≡ needs_break now.kind (kind_at new now.last)
@@ -140,11 +153,14 @@ module _ (old new : Forest) (mk : Marking) (v : HostTree) (k n : ℕ) (was now :
   node_done {moves} h start one two end m was_ended ended id tag p same_face face part was_end end_is same_end ending =
       let c = written h start one id face in
       let first = face_walk start one p c in
-      let made : MakesMoves old new mk v k (all_of p) n one two m = part_makes old new mk v b k (children_of old k) (children_of new k) moves n m one two p part in
+      let made : MakesMoves old new mk v k (all_of p) n one two m =
+      part_makes old new mk v b k (children_of old k) (children_of new k) moves n m one two p part in
       let second : IsInWalk old new v k n (c.pushed ++ made.pushed) (showing v k mid_face) [] m =
-      made.leads n c.pushed (showing v k mid_face) [] (subst (λ ms. IsInWalk old new v k n c.pushed (showing v k mid_face) ms n) (sym (append-nil (all_of p))) first) in
+      made.leads n c.pushed (showing v k mid_face) []
+      (subst (λ ms. IsInWalk old new v k n c.pushed (showing v k mid_face) ms n) (sym (append-nil (all_of p))) first) in
       let ends : old_end old k was ≡ was_ended = ap (needs_break was.kind) (last_kind_read old k was b.was_sound before_read) ∙ sym was_end in
-      let d : Changes (host_in v k) mid_face (with_ending ended mid_face) two end = subst (λ i. Changes i mid_face (with_ending ended mid_face) two end) id (ending mid_face ends) in
+      let d : Changes (host_in v k) mid_face (with_ending ended mid_face) two end =
+      subst (λ i. Changes i mid_face (with_ending ended mid_face) two end) id (ending mid_face ends) in
       let third : IsInWalk old new v k n ((c.pushed ++ made.pushed) ++ d.pushed) (showing v k (with_ending ended mid_face)) [] m =
       walk_face d.pushed second refl (λ kids. d.leads kids m) in
       record {
@@ -154,12 +170,16 @@ module _ (old new : Forest) (mk : Marking) (v : HostTree) (k n : ℕ) (was now :
             ∙ ap (λ l. l ++ d.pushed) (made.list ∙ ap (λ l. l ++ made.pushed) c.list ∙ append_assoc start c.pushed made.pushed)
             ∙ append_assoc start (c.pushed ++ made.pushed) d.pushed;
         due = each_append (Due old new mk v) (c.pushed ++ made.pushed) d.pushed
-            (each_append (Due old new mk v) c.pushed made.pushed (writes_due old new mk v k start one c.pushed b (there_read old k was before_read) c.list c.only (λ plain. untouched_face plain same_face)) made.due)
-            (writes_due old new mk v k two end d.pushed b (there_read old k was before_read) d.list d.only (λ plain. same_end (untouched_end plain was_ended ended was_end end_is)));
+            (each_append (Due old new mk v) c.pushed made.pushed
+            (writes_due old new mk v k start one c.pushed b (there_read old k was before_read) c.list c.only (λ plain. untouched_face plain same_face))
+            made.due)
+            (writes_due old new mk v k two end d.pushed b (there_read old k was before_read) d.list d.only
+            (λ plain. same_end (untouched_end plain was_ended ended was_end end_is)));
         done = walk_end b.view third (tree_read new k now after_read) (last_face ended tag end_is);
       }
 
-pub node_shown : (old new : Forest) (mk : Marking) (v : HostTree) (k : ℕ) (was : Node) → IsBetween old new mk v → Some was ≡ option_map node_of (record_at old k) → hosts_of k v.hosts ≡ host_in v k ∷ []
+pub node_shown : (old new : Forest) (mk : Marking) (v : HostTree) (k : ℕ) (was : Node) → IsBetween old new mk v
+    → Some was ≡ option_map node_of (record_at old k) → hosts_of k v.hosts ≡ host_in v k ∷ []
 node_shown old new mk v k was b was_is = only_host old v k b.view.before b.view.shows (there_read old k was (is_read old k was b.was_sound was_is))
 
 pub node_less : (f g : Forest) (k : ℕ) → g ≡ f → 4 * total (alone k g) < 4 * total (alone k f) + 1
@@ -174,7 +194,8 @@ tree_ordered : (f : Forest) → IsTree f → IsForest f
 tree_ordered nil t = absurd (let e = t.alone in cc)
 tree_ordered (tree l below rest) t = t.sound.in_order (λ e. absurd (cc))
 
-pub are_between : (old new : Forest) (mk : Marking) (v : HostTree) → AreCovered old new mk → IsTree old → IsTree new → Shows v old → IsNumbered v → IsRooted v.hosts → IsBetween old new mk v
+pub are_between : (old new : Forest) (mk : Marking) (v : HostTree) → AreCovered old new mk → IsTree old → IsTree new → Shows v old → IsNumbered v
+    → IsRooted v.hosts → IsBetween old new mk v
 are_between old new mk v covered was is shows numbered rooted =
     let at = root_at v.hosts old (tree_ordered old was) (one_tree old (tree_ordered old was) was.alone) shows rooted in
     record {
@@ -201,7 +222,8 @@ root_unkept old f t =
     let s = stands_there f 0 h (has-root f h) in
     omega (arith, ap (unkept old None) (sym (one_tree f h t.alone) ∙ s.tree_is), ap (λ q. unkept old (Some q) s.below) s.key, ap (unkept old (Some 0)) s.below_is, unkept-below old None s.label s.below)
 
-pub all_allowed : (old new : Forest) (mk : Marking) (v : HostTree) (start ops : List Op) (m : ℕ) → IsTree old → IsTree new → IsBetween old new mk v → start ≡ [] → Reconciles old new mk v 0 v.next start ops m → IsAllowed old new mk v ops
+pub all_allowed : (old new : Forest) (mk : Marking) (v : HostTree) (start ops : List Op) (m : ℕ) → IsTree old → IsTree new → IsBetween old new mk v → start ≡ []
+    → Reconciles old new mk v 0 v.next start ops m → IsAllowed old new mk v ops
 all_allowed old new mk v start ops m was is b none r =
     let same : r.pushed ≡ ops = sym (r.list ∙ ap (λ l. l ++ r.pushed) none) in
     let done = walk_whole b.view was.alone is.alone r.done r.due in
@@ -209,7 +231,8 @@ all_allowed old new mk v start ops m was is b none r =
 
 -- ---- by what the code knows
 
-pub root_same_tag : (old new : Forest) (k : ℕ) (was now : Node) → k ≡ 0 → IsTree old → IsTree new → Some was ≡ option_map node_of (record_at old k) → Some now ≡ option_map node_of (record_at new k) → tag_of was.kind was.fields ≡ tag_of now.kind now.fields
+pub root_same_tag : (old new : Forest) (k : ℕ) (was now : Node) → k ≡ 0 → IsTree old → IsTree new → Some was ≡ option_map node_of (record_at old k)
+    → Some now ≡ option_map node_of (record_at new k) → tag_of was.kind was.fields ≡ tag_of now.kind now.fields
 root_same_tag old new k was now e s t f g =
     ap (λ k. tag_of k was.fields) (root_kind old k was e s f) ∙ sym (ap (λ k. tag_of k now.fields) (root_kind new k now e t g))
 
@@ -224,11 +247,14 @@ root_reads old f noted was t marked =
     let s = stands_there f 0 h (has-root f h) in
     let whole : f ≡ tree s.label s.below nil = sym (one_tree f h t.alone) ∙ s.tree_is in
     let w = size_if noted (children_of old) in
-    let kids : roots s.below ≡ children_of f 0 = ap roots s.below_is ∙ roots_of f (children_of f 0) h (λ c e. has-child f c 0 (parent_of-child f c 0 t.sound e)) in
+    let kids : roots s.below ≡ children_of f 0 =
+    ap roots s.below_is ∙ roots_of f (children_of f 0) h (λ c e. has-child f c 0 (parent_of-child f c 0 t.sound e)) in
     let below = reads_less old noted (Some 0) s.below in
     let here : noted s.label.key ≡ true = ap noted s.key ∙ marked in
-    let own : cond (noted s.label.key) (length (roots s.below)) 0 ≡ length (children_of f 0) = ap (λ b. cond b (length (roots s.below)) 0) here ∙ ap length kids in
-    let own_old : w s.label.key ≡ length (children_of old 0) = ap (λ b. cond b (length (children_of old s.label.key)) 0) here ∙ ap (λ q. length (children_of old q)) s.key in
+    let own : cond (noted s.label.key) (length (roots s.below)) 0 ≡ length (children_of f 0) =
+    ap (λ b. cond b (length (roots s.below)) 0) here ∙ ap length kids in
+    let own_old : w s.label.key ≡ length (children_of old 0) =
+    ap (λ b. cond b (length (children_of old s.label.key)) 0) here ∙ ap (λ q. length (children_of old q)) s.key in
     omega (
       arith,
       below,
@@ -256,15 +282,18 @@ bound_fits old f noted was t =
     omega (arith, marked_children-total (staying noted f) old, marked_children-total noted f, unkept-total old None f, was.sound.small, t.sound.small)
 
 -- nothing is done where the root carries no mark
-pub nothing_allowed : (old new : Forest) (mk : Marking) (v : HostTree) (k : ℕ) (ops : List Op) → k ≡ 0 → ops ≡ [] → IsTree old → IsTree new → IsBetween old new mk v → mk.noted k ≡ false → IsAllowed old new mk v ops
+pub nothing_allowed : (old new : Forest) (mk : Marking) (v : HostTree) (k : ℕ) (ops : List Op) → k ≡ 0 → ops ≡ [] → IsTree old → IsTree new
+    → IsBetween old new mk v → mk.noted k ≡ false → IsAllowed old new mk v ops
 nothing_allowed old new mk v k ops e none was is b plain =
     all_allowed old new mk v ops ops v.next was is b none (skipped old new mk v b 0 v.next ops (root_there new is) (ap mk.noted (sym e) ∙ plain))
 
-pub root_room : (v : HostTree) (old old_now f f_now : Forest) (k n : ℕ) → k ≡ 0 → n ≡ v.next → old_now ≡ old → f_now ≡ f → IsTree f → v.next + unkept old None f ≤ last_u32 → n + unkept old_now (Some k) (trees_of f_now (children_of f_now k)) ≤ last_u32
+pub root_room : (v : HostTree) (old old_now f f_now : Forest) (k n : ℕ) → k ≡ 0 → n ≡ v.next → old_now ≡ old → f_now ≡ f → IsTree f
+    → v.next + unkept old None f ≤ last_u32 → n + unkept old_now (Some k) (trees_of f_now (children_of f_now k)) ≤ last_u32
 root_room v old old_now f f_now k n e is c d t room =
     omega (arith, room, is, root_unkept old f t, ap (λ k. unkept old_now (Some k) (trees_of f_now (children_of f_now k))) e, ap (λ f. unkept old_now (Some 0) (trees_of f (children_of f 0))) d, ap (λ o. unkept o (Some 0) (trees_of f (children_of f 0))) c)
 
-pub root_allowed : (old old_now new new_now : Forest) (mk : Marking) (v : HostTree) (k n : ℕ) (start ops : List Op) (m : ℕ) → k ≡ 0 → n ≡ v.next → start ≡ [] → old_now ≡ old → new_now ≡ new → IsTree old → IsTree new → IsBetween old new mk v
+pub root_allowed : (old old_now new new_now : Forest) (mk : Marking) (v : HostTree) (k n : ℕ) (start ops : List Op) (m : ℕ) → k ≡ 0 → n ≡ v.next → start ≡ []
+    → old_now ≡ old → new_now ≡ new → IsTree old → IsTree new → IsBetween old new mk v
     → Reconciles old_now new_now mk v k n start ops m → IsAllowed old new mk v ops
 root_allowed old old_now new new_now mk v k n start ops m e is none a b s t w r =
     let there = subst (λ t. t) (λ i. Reconciles (a i) (b i) mk v k n start ops m) r in

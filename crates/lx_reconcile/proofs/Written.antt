@@ -53,7 +53,8 @@ before_more name [] a h e = (later a.0 name e, tt)
 before_more name (b ∷ rest) a h e = (h.0, before_more name rest a h.1 e)
 
 -- what is written of that name comes after them
-pub with_behind : (name : Name) (value : Option (List ℕ)) (done rest : Attributes) → AllBefore name done → with_attribute name value (done ++ rest) ≡ done ++ with_attribute name value rest
+pub with_behind : (name : Name) (value : Option (List ℕ)) (done rest : Attributes) → AllBefore name done
+    → with_attribute name value (done ++ rest) ≡ done ++ with_attribute name value rest
 with_behind name value [] rest h = refl
 with_behind name value (a ∷ done) rest h = rw h.0 (ap (λ l. a ∷ l) (with_behind name value done rest h.1))
 
@@ -83,21 +84,25 @@ behind_rest done a more h = record {
 pub behind_done : (done : Attributes) (a : Name × List ℕ) (more : Attributes) → IsBehind done (a ∷ more) → IsBehind (done ++ a ∷ []) more
 behind_done done a more h = record {
   rise = rise_rest a more h.rise;
-  first = λ b rest is. before_more b.0 done a ((behind_rest done a more h).first b rest is) (rise_less a b rest (subst (λ l. names_rise (a ∷ l) ≡ true) is h.rise));
+  first = λ b rest is. before_more b.0 done a ((behind_rest done a more h).first b rest is)
+      (rise_less a b rest (subst (λ l. names_rise (a ∷ l) ≡ true) is h.rise));
 }
 
 -- with one done that comes before its first
-behind_given : (done : Attributes) (b : Name × List ℕ) (rest : Attributes) → IsBehind done rest → ((a : Name × List ℕ) (more : Attributes) → rest ≡ a ∷ more → name_order b.0 a.0 ≡ Less) → IsBehind (done ++ b ∷ []) rest
+behind_given : (done : Attributes) (b : Name × List ℕ) (rest : Attributes) → IsBehind done rest
+    → ((a : Name × List ℕ) (more : Attributes) → rest ≡ a ∷ more → name_order b.0 a.0 ≡ Less) → IsBehind (done ++ b ∷ []) rest
 behind_given done b rest h less = record {
   rise = h.rise;
   first = λ a more is. before_more a.0 done b (h.first a more is) (less a more is);
 }
 
-all_written-append : (writes more : List (Name × Option (List ℕ))) (attributes : Attributes) → all_written (writes ++ more) attributes ≡ all_written more (all_written writes attributes)
+all_written-append : (writes more : List (Name × Option (List ℕ))) (attributes : Attributes)
+    → all_written (writes ++ more) attributes ≡ all_written more (all_written writes attributes)
 all_written-append [] more attributes = refl
 all_written-append (write ∷ writes) more attributes = all_written-append writes more (with_attribute write.0 write.1 attributes)
 
-anew-append : (writes more : List (Name × Option (List ℕ))) (attributes : Attributes) → AreAnew writes attributes → AreAnew more (all_written writes attributes) → AreAnew (writes ++ more) attributes
+anew-append : (writes more : List (Name × Option (List ℕ))) (attributes : Attributes) → AreAnew writes attributes → AreAnew more (all_written writes attributes)
+    → AreAnew (writes ++ more) attributes
 anew-append [] more attributes first then = then
 anew-append (write ∷ writes) more attributes first then = (first.0, anew-append writes more (with_attribute write.0 write.1 attributes) first.1 then)
 
@@ -123,7 +128,8 @@ pub record IsWriting (host : ℕ) (olds done old new : Attributes) (start now : 
   pub new_behind : IsBehind done new
 
 -- one more is written
-write_more : (host : ℕ) (olds now to : Attributes) (start ops more : List Op) (name : Name) (value : Option (List ℕ)) → Writes host olds now start ops → with_attribute name value now ≡ to → to ≢ now → more ≡ ops ++ Attr host name value ∷ [] → Writes host olds to start more
+write_more : (host : ℕ) (olds now to : Attributes) (start ops more : List Op) (name : Name) (value : Option (List ℕ)) → Writes host olds now start ops
+    → with_attribute name value now ≡ to → to ≢ now → more ≡ ops ++ Attr host name value ∷ [] → Writes host olds to start more
 write_more host olds now to start ops more name value w e other is = record {
   writes = w.writes ++ (name, value) ∷ [];
   list =
@@ -139,7 +145,8 @@ write_more host olds now to start ops more name value w e other is = record {
 with_away : (a : Name × List ℕ) (rest : Attributes) → with_attribute a.0 None (a ∷ rest) ≡ rest
 with_away a rest = rw (same_name a.0) refl
 
-with_given : (b : Name × List ℕ) (rest : Attributes) → ((a : Name × List ℕ) (more : Attributes) → rest ≡ a ∷ more → name_order b.0 a.0 ≡ Less) → with_attribute b.0 (Some b.1) rest ≡ b ∷ rest
+with_given : (b : Name × List ℕ) (rest : Attributes) → ((a : Name × List ℕ) (more : Attributes) → rest ≡ a ∷ more → name_order b.0 a.0 ≡ Less)
+    → with_attribute b.0 (Some b.1) rest ≡ b ∷ rest
 with_given b [] less = refl
 with_given b (a ∷ rest) less = rw (less a rest refl) refl
 
@@ -150,7 +157,8 @@ done_one : (b : Name × List ℕ) (done rest : Attributes) → done ++ b ∷ res
 done_one b done rest = sym (append_assoc done (b ∷ []) rest)
 
 -- the first of the old ones goes
-pub goes_away : (host : ℕ) (olds done old new : Attributes) (a : Name × List ℕ) (start now more : List Op) → IsWriting host olds done (a ∷ old) new start now → more ≡ now ++ Attr host a.0 None ∷ [] → IsWriting host olds done old new start more
+pub goes_away : (host : ℕ) (olds done old new : Attributes) (a : Name × List ℕ) (start now more : List Op) → IsWriting host olds done (a ∷ old) new start now
+    → more ≡ now ++ Attr host a.0 None ∷ [] → IsWriting host olds done old new start more
 goes_away host olds done old new a start now more h is = record {
   so_far = write_more host olds (done ++ a ∷ old) (done ++ old) start now more a.0 None h.so_far
       (with_behind a.0 None done (a ∷ old) (h.old_behind.first a old refl) ∙ ap (λ l. done ++ l) (with_away a old)) (less_one done old a) is;
@@ -158,32 +166,39 @@ goes_away host olds done old new a start now more h is = record {
   new_behind = h.new_behind;
 }
 
-less_first : (b : Name × List ℕ) (old new : Attributes) → next_order old (b ∷ new) ≡ Some Greater → (a : Name × List ℕ) (more : Attributes) → old ≡ a ∷ more → name_order b.0 a.0 ≡ Less
+less_first : (b : Name × List ℕ) (old new : Attributes) → next_order old (b ∷ new) ≡ Some Greater → (a : Name × List ℕ) (more : Attributes) → old ≡ a ∷ more
+    → name_order b.0 a.0 ≡ Less
 less_first b old new e a more is =
     let own : next_order (a ∷ more) (b ∷ new) ≡ Some Greater = sym (ap (λ l. next_order l (b ∷ new)) is) ∙ e in
     let behind : name_order a.0 b.0 ≡ Greater = cc in
     earlier a.0 b.0 behind
 
 -- the first of the new ones comes before the old ones
-pub comes_before : (host : ℕ) (olds done old new : Attributes) (b : Name × List ℕ) (start now more : List Op) → IsWriting host olds done old (b ∷ new) start now → next_order old (b ∷ new) ≡ Some Greater → more ≡ now ++ Attr host b.0 (Some b.1) ∷ [] → IsWriting host olds (done ++ b ∷ []) old new start more
+pub comes_before : (host : ℕ) (olds done old new : Attributes) (b : Name × List ℕ) (start now more : List Op) → IsWriting host olds done old (b ∷ new) start now
+    → next_order old (b ∷ new) ≡ Some Greater → more ≡ now ++ Attr host b.0 (Some b.1) ∷ [] → IsWriting host olds (done ++ b ∷ []) old new start more
 comes_before host olds done old new b start now more h e is = record {
   so_far = write_more host olds (done ++ old) ((done ++ b ∷ []) ++ old) start now more b.0 (Some b.1) h.so_far
-      (with_behind b.0 (Some b.1) done old (h.new_behind.first b new refl) ∙ ap (λ l. done ++ l) (with_given b old (less_first b old new e)) ∙ done_one b done old) (more_one done old b) is;
+      (with_behind b.0 (Some b.1) done old (h.new_behind.first b new refl) ∙ ap (λ l. done ++ l) (with_given b old (less_first b old new e))
+      ∙ done_one b done old) (more_one done old b) is;
   old_behind = behind_given done b old h.old_behind (less_first b old new e);
   new_behind = behind_done done b new h.new_behind;
 }
 
 -- both have an attribute of one name, which is written, or is equal
-pub is_written : (host : ℕ) (olds done old new : Attributes) (a b : Name × List ℕ) (start now more : List Op) → IsWriting host olds done (a ∷ old) (b ∷ new) start now → name_order a.0 b.0 ≡ Equal → a ≢ b → more ≡ now ++ Attr host b.0 (Some b.1) ∷ [] → IsWriting host olds (done ++ b ∷ []) old new start more
+pub is_written : (host : ℕ) (olds done old new : Attributes) (a b : Name × List ℕ) (start now more : List Op)
+    → IsWriting host olds done (a ∷ old) (b ∷ new) start now → name_order a.0 b.0 ≡ Equal → a ≢ b → more ≡ now ++ Attr host b.0 (Some b.1) ∷ []
+    → IsWriting host olds (done ++ b ∷ []) old new start more
 is_written host olds done old new a b start now more h e other is = record {
   so_far = write_more host olds (done ++ a ∷ old) ((done ++ b ∷ []) ++ old) start now more b.0 (Some b.1) h.so_far
-      (with_behind b.0 (Some b.1) done (a ∷ old) (h.new_behind.first b new refl) ∙ ap (λ l. done ++ l) (with_same a b old e) ∙ done_one b done old) (other_one done old a b other) is;
+      (with_behind b.0 (Some b.1) done (a ∷ old) (h.new_behind.first b new refl) ∙ ap (λ l. done ++ l) (with_same a b old e) ∙ done_one b done old)
+      (other_one done old a b other) is;
   old_behind = behind_given done b old (behind_rest done a old h.old_behind)
       (λ c rest same. sym (order.congr a.0 b.0 c.0 e) ∙ rise_less a c rest (subst (λ l. names_rise (a ∷ l) ≡ true) same h.old_behind.rise));
   new_behind = behind_done done b new h.new_behind;
 }
 
-pub is_equal : (host : ℕ) (olds done old new : Attributes) (a b : Name × List ℕ) (start now : List Op) → IsWriting host olds done (a ∷ old) (b ∷ new) start now → a ≡ b → IsWriting host olds (done ++ b ∷ []) old new start now
+pub is_equal : (host : ℕ) (olds done old new : Attributes) (a b : Name × List ℕ) (start now : List Op) → IsWriting host olds done (a ∷ old) (b ∷ new) start now
+    → a ≡ b → IsWriting host olds (done ++ b ∷ []) old new start now
 is_equal host olds done old new a b start now h e = record {
   so_far = subst (λ l. Writes host olds l start now) (ap (λ x. done ++ x ∷ old) e ∙ done_one b done old) h.so_far;
   old_behind = behind_done done b old (subst (λ x. IsBehind done (x ∷ old)) e h.old_behind);
@@ -224,14 +239,17 @@ passed : (xs : Attributes) (i : ℕ) (x : Name × List ℕ) → i < length xs �
 passed xs i x within item = take_more xs i x within ∙ ap (λ y. take i xs ++ y ∷ []) (sym item)
 
 module _ (host : ℕ) (olds news : Attributes) (i j : ℕ) (start now more : List Op) (w : IsWritingAt host olds news i j start now) where
-  pub away_at : (a : Name × List ℕ) → i < length olds → a ≡ get_or olds i a → more ≡ now ++ Attr host a.0 None ∷ [] → IsWritingAt host olds news (i + 1) j start more
+  pub away_at : (a : Name × List ℕ) → i < length olds → a ≡ get_or olds i a → more ≡ now ++ Attr host a.0 None ∷ []
+      → IsWritingAt host olds news (i + 1) j start more
   away_at a within item is = record {
-    at = goes_away host olds (take j news) (drop (i + 1) olds) (drop j news) a start now more (subst (λ l. IsWriting host olds (take j news) l (drop j news) start now) (met olds i a within item) w.at) is;
+    at = goes_away host olds (take j news) (drop (i + 1) olds) (drop j news) a start now more
+        (subst (λ l. IsWriting host olds (take j news) l (drop j news) start now) (met olds i a within item) w.at) is;
     old_within = omega (arith, within);
     new_within = w.new_within;
   }
 
-  pub given_at : (b : Name × List ℕ) → j < length news → b ≡ get_or news j b → next_order (drop i olds) (drop j news) ≡ Some Greater → more ≡ now ++ Attr host b.0 (Some b.1) ∷ [] → IsWritingAt host olds news i (j + 1) start more
+  pub given_at : (b : Name × List ℕ) → j < length news → b ≡ get_or news j b → next_order (drop i olds) (drop j news) ≡ Some Greater
+      → more ≡ now ++ Attr host b.0 (Some b.1) ∷ [] → IsWritingAt host olds news i (j + 1) start more
   given_at b within item e is =
       let here = met news j b within item in
       record {
@@ -244,27 +262,37 @@ module _ (host : ℕ) (olds news : Attributes) (i j : ℕ) (start now more : Lis
         new_within = omega (arith, within);
       }
 
-  both_at : (a b : Name × List ℕ) → i < length olds → j < length news → a ≡ get_or olds i a → b ≡ get_or news j b → IsWriting host olds (take j news) (a ∷ drop (i + 1) olds) (b ∷ drop (j + 1) news) start now
+  both_at : (a b : Name × List ℕ) → i < length olds → j < length news → a ≡ get_or olds i a → b ≡ get_or news j b
+      → IsWriting host olds (take j news) (a ∷ drop (i + 1) olds) (b ∷ drop (j + 1) news) start now
   both_at a b within fits item other =
       subst (λ l. IsWriting host olds (take j news) l (b ∷ drop (j + 1) news) start now) (met olds i a within item)
       (subst (λ l. IsWriting host olds (take j news) (drop i olds) l start now) (met news j b fits other) w.at)
 
-  order_met : (a b : Name × List ℕ) → i < length olds → j < length news → a ≡ get_or olds i a → b ≡ get_or news j b → next_order (drop i olds) (drop j news) ≡ Some Equal → name_order a.0 b.0 ≡ Equal
+  order_met : (a b : Name × List ℕ) → i < length olds → j < length news → a ≡ get_or olds i a → b ≡ get_or news j b
+      → next_order (drop i olds) (drop j news) ≡ Some Equal → name_order a.0 b.0 ≡ Equal
   order_met a b within fits item other e =
-      let same : Some (name_order a.0 b.0) ≡ Some Equal = sym (ap (λ l. next_order l (b ∷ drop (j + 1) news)) (met olds i a within item)) ∙ sym (ap (next_order (drop i olds)) (met news j b fits other)) ∙ e in
+      let same : Some (name_order a.0 b.0) ≡ Some Equal =
+      sym (ap (λ l. next_order l (b ∷ drop (j + 1) news)) (met olds i a within item)) ∙ sym (ap (next_order (drop i olds)) (met news j b fits other)) ∙ e in
       cc
 
-  both_passed : (b : Name × List ℕ) → j < length news → b ≡ get_or news j b → i < length olds → (ops : List Op) → IsWriting host olds (take j news ++ b ∷ []) (drop (i + 1) olds) (drop (j + 1) news) start ops → IsWritingAt host olds news (i + 1) (j + 1) start ops
+  both_passed : (b : Name × List ℕ) → j < length news → b ≡ get_or news j b → i < length olds → (ops : List Op)
+      → IsWriting host olds (take j news ++ b ∷ []) (drop (i + 1) olds) (drop (j + 1) news) start ops → IsWritingAt host olds news (i + 1) (j + 1) start ops
   both_passed b fits other within ops h = record {
     at = subst (λ l. IsWriting host olds l (drop (i + 1) olds) (drop (j + 1) news) start ops) (sym (passed news j b fits other)) h;
     old_within = omega (arith, within);
     new_within = omega (arith, fits);
   }
 
-  pub written_at : (a b : Name × List ℕ) → i < length olds → j < length news → a ≡ get_or olds i a → b ≡ get_or news j b → next_order (drop i olds) (drop j news) ≡ Some Equal → a ≢ b → more ≡ now ++ Attr host b.0 (Some b.1) ∷ [] → IsWritingAt host olds news (i + 1) (j + 1) start more
+  pub written_at : (a b : Name × List ℕ) → i < length olds → j < length news → a ≡ get_or olds i a → b ≡ get_or news j b
+      → next_order (drop i olds) (drop j news) ≡ Some Equal → a ≢ b → more ≡ now ++ Attr host b.0 (Some b.1) ∷ []
+      → IsWritingAt host olds news (i + 1) (j + 1) start more
   written_at a b within fits item other e differ is =
-      both_passed b fits other within more (is_written host olds (take j news) (drop (i + 1) olds) (drop (j + 1) news) a b start now more (both_at a b within fits item other) (order_met a b within fits item other e) differ is)
+      both_passed b fits other within more
+      (is_written host olds (take j news) (drop (i + 1) olds) (drop (j + 1) news) a b start now more (both_at a b within fits item other)
+      (order_met a b within fits item other e) differ is)
 
-  pub equal_at : (a b : Name × List ℕ) → i < length olds → j < length news → a ≡ get_or olds i a → b ≡ get_or news j b → a ≡ b → IsWritingAt host olds news (i + 1) (j + 1) start now
+  pub equal_at : (a b : Name × List ℕ) → i < length olds → j < length news → a ≡ get_or olds i a → b ≡ get_or news j b → a ≡ b
+      → IsWritingAt host olds news (i + 1) (j + 1) start now
   equal_at a b within fits item other e =
-      both_passed b fits other within now (is_equal host olds (take j news) (drop (i + 1) olds) (drop (j + 1) news) a b start now (both_at a b within fits item other) e)
+      both_passed b fits other within now
+      (is_equal host olds (take j news) (drop (i + 1) olds) (drop (j + 1) news) a b start now (both_at a b within fits item other) e)

@@ -50,7 +50,8 @@ each_of false b h = absurd (grind (arith, h))
 
 -- ---- what is gathered rises
 
-first-given : (n m : Name) (value : Option (List ℕ)) (rest : List (Name × List ℕ)) → is_before n m ≡ true → is_before_first n rest ≡ true → is_before_first n (given m value ++ rest) ≡ true
+first-given : (n m : Name) (value : Option (List ℕ)) (rest : List (Name × List ℕ)) → is_before n m ≡ true → is_before_first n rest ≡ true
+    → is_before_first n (given m value ++ rest) ≡ true
 first-given n m None rest before first = first
 first-given n m (Some value) rest before first = before
 
@@ -60,12 +61,14 @@ first-gathered n (entry ∷ entries) all =
     let each = each_of (is_before n entry.0) (is_before_all n entries) all in
     first-given n entry.0 entry.1 (gathered entries) each.0 (first-gathered n entries each.1)
 
-rise-cons : (n : Name) (value : List ℕ) (rest : List (Name × List ℕ)) → is_before_first n rest ≡ true → names_rise rest ≡ true → names_rise ((n, value) ∷ rest) ≡ true
+rise-cons : (n : Name) (value : List ℕ) (rest : List (Name × List ℕ)) → is_before_first n rest ≡ true → names_rise rest ≡ true
+    → names_rise ((n, value) ∷ rest) ≡ true
 unfolding is_before
 rise-cons n value [] first rise = refl
 rise-cons n value (a ∷ rest) first rise = rw first rise
 
-rise-given : (n : Name) (value : Option (List ℕ)) (rest : List (Name × List ℕ)) → is_before_first n rest ≡ true → names_rise rest ≡ true → names_rise (given n value ++ rest) ≡ true
+rise-given : (n : Name) (value : Option (List ℕ)) (rest : List (Name × List ℕ)) → is_before_first n rest ≡ true → names_rise rest ≡ true
+    → names_rise (given n value ++ rest) ≡ true
 rise-given n None rest first rise = rise
 rise-given n (Some value) rest first rise = rise-cons n value rest first rise
 
@@ -93,22 +96,34 @@ are-gathered entries order few =
 regroup : {X : Type 0} (a b c d e f : List X) → a ++ (b ++ (c ++ (d ++ (e ++ f)))) ≡ a ++ b ++ c ++ d ++ e ++ f
 regroup a b c d e f = simp append_assoc
 
-elements : (k : Kind) (x : Extra) (align indent direction : Option (List ℕ)) → AreAttributes (first_attributes x ++ (given DataAlign align ++ (middle_attributes x ++ (given DataIndent indent ++ (given Dir direction ++ last_attributes k x)))))
+elements : (k : Kind) (x : Extra) (align indent direction : Option (List ℕ))
+    → AreAttributes
+    (first_attributes x ++ (given DataAlign align ++ (middle_attributes x ++ (given DataIndent indent ++ (given Dir direction ++ last_attributes k x)))))
 unfolding is_before name_word
 elements k extra.Plain align indent direction =
     are-gathered ((DataAlign, align) ∷ (DataIndent, indent) ∷ (Dir, direction) ∷ []) refl (omega arith)
 elements k (extra.List start) align indent direction =
     simp append-nil at (are-gathered ((DataAlign, align) ∷ (DataIndent, indent) ∷ (Dir, direction) ∷ (Start, start_word k start) ∷ []) refl (omega arith))
 elements k (extra.Item value checked) align indent direction =
-    are-gathered ((AriaChecked, checked_word checked) ∷ (DataAlign, align) ∷ (DataIndent, indent) ∷ (Dir, direction) ∷ (Role, role_word checked) ∷ (Value, Some (decimal value)) ∷ []) refl (omega arith)
+    are-gathered
+    ((AriaChecked, checked_word checked) ∷ (DataAlign, align) ∷ (DataIndent, indent) ∷ (Dir, direction) ∷ (Role, role_word checked)
+    ∷ (Value, Some (decimal value)) ∷ []) refl (omega arith)
 elements k (extra.Link rel target title url) align indent direction =
-    simp append_assoc (simp append-nil at (are-gathered ((DataAlign, align) ∷ (DataIndent, indent) ∷ (Dir, direction) ∷ (Href, Some url) ∷ (Rel, rel) ∷ (Target, target) ∷ (Title, title) ∷ []) refl (omega arith)))
+    simp append_assoc
+    (simp append-nil at
+    (are-gathered ((DataAlign, align) ∷ (DataIndent, indent) ∷ (Dir, direction) ∷ (Href, Some url) ∷ (Rel, rel) ∷ (Target, target) ∷ (Title, title) ∷ [])
+    refl (omega arith)))
 elements k (extra.Cell header row_span col_span background) align indent direction =
-    simp append-nil at (are-gathered ((ColSpan, span_word col_span) ∷ (DataAlign, align) ∷ (DataBg, background) ∷ (DataIndent, indent) ∷ (Dir, direction) ∷ (RowSpan, span_word row_span) ∷ []) refl (omega arith))
+    simp append-nil at
+    (are-gathered
+    ((ColSpan, span_word col_span) ∷ (DataAlign, align) ∷ (DataBg, background) ∷ (DataIndent, indent) ∷ (Dir, direction) ∷ (RowSpan, span_word row_span)
+    ∷ []) refl (omega arith))
 
 elements_are : (k : Kind) (e : ElementFields) → AreAttributes (element_attributes k e)
 elements_are k e =
-    subst (λ list. AreAttributes list) (regroup (first_attributes e.extra) (given DataAlign (align_word e.format)) (middle_attributes e.extra) (given DataIndent (when (nat_lt 0 e.indent) (decimal e.indent))) (given Dir (direction_word e.direction)) (last_attributes k e.extra))
+    subst (λ list. AreAttributes list)
+    (regroup (first_attributes e.extra) (given DataAlign (align_word e.format)) (middle_attributes e.extra)
+    (given DataIndent (when (nat_lt 0 e.indent) (decimal e.indent))) (given Dir (direction_word e.direction)) (last_attributes k e.extra))
     (elements k e.extra (align_word e.format) (when (nat_lt 0 e.indent) (decimal e.indent)) (direction_word e.direction))
 
 -- ---- of any node

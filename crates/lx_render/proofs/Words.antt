@@ -41,7 +41,8 @@ unfolding chars
 chars-space place behind = sym (space_if place behind)
 
 -- the words up to a place, and the one there
-pub spaced-next : (words : List (List ℕ)) (place : ℕ) (word : List ℕ) → place < length words → spaced (take (place + 1) words) ≡ spaced (take place words) ++ (if nat_lt 0 place then codes " " else []) ++ get_or words place word
+pub spaced-next : (words : List (List ℕ)) (place : ℕ) (word : List ℕ) → place < length words
+    → spaced (take (place + 1) words) ≡ spaced (take place words) ++ (if nat_lt 0 place then codes " " else []) ++ get_or words place word
 spaced-next words zero word within = rw (take_more words 0 word within) refl
 spaced-next words (suc place) word within =
     let some : 0 < length (take (suc place) words) = rw (length-take-le (suc place) words (omega arith)) (omega arith) in

@@ -68,11 +68,14 @@ rewrites-itself _ = refl
 
 -- ---- a member before others
 
-passed : (m : Member) (ms : List Member) (f : Fields) → with_members ms (with_member m f) ≡ cond (list_any (rewrites m) ms) (with_members ms f) (with_member m (with_members ms f))
+passed : (m : Member) (ms : List Member) (f : Fields)
+    → with_members ms (with_member m f) ≡ cond (list_any (rewrites m) ms) (with_members ms f) (with_member m (with_members ms f))
 passed m [] f = refl
 passed m (b ∷ ms) f =
     ap (with_members ms) (meet m b f)
-    ∙ elim (rewrites m b) as (λ t. with_members ms (cond t (with_member b f) (with_member m (with_member b f))) ≡ cond (t || list_any (rewrites m) ms) (with_members ms (with_member b f)) (with_member m (with_members ms (with_member b f)))) [
+    ∙ elim (rewrites m b) as
+    (λ t. with_members ms (cond t (with_member b f) (with_member m (with_member b f)))
+    ≡ cond (t || list_any (rewrites m) ms) (with_members ms (with_member b f)) (with_member m (with_members ms (with_member b f)))) [
       | true ↦ refl
       | false ↦ passed m ms (with_member b f)
     ]
@@ -82,16 +85,19 @@ rewritten m ms f e = sym (passed m ms f ∙ ap (λ t. cond t (with_members ms f)
 
 changed : (m : Member) (ms : List Member) (f : Fields) → list_any (rewrites m) ms ≡ false → with_members (m ∷ ms) f ≡ f → with_member m f ≡ f
 changed m ms f e same =
-    let last : with_member m (with_members ms f) ≡ f = sym (passed m ms f ∙ ap (λ t. cond t (with_members ms f) (with_member m (with_members ms f))) e) ∙ same in
+    let last : with_member m (with_members ms f) ≡ f =
+    sym (passed m ms f ∙ ap (λ t. cond t (with_members ms f) (with_member m (with_members ms f))) e) ∙ same in
     let twice : with_member m (with_member m (with_members ms f)) ≡ with_member m (with_members ms f) =
-    meet m m (with_members ms f) ∙ ap (λ t. cond t (with_member m (with_members ms f)) (with_member m (with_member m (with_members ms f)))) (rewrites-itself m) in
+    meet m m (with_members ms f)
+    ∙ ap (λ t. cond t (with_member m (with_members ms f)) (with_member m (with_member m (with_members ms f)))) (rewrites-itself m) in
     ap (with_member m) (sym last) ∙ twice ∙ last
 
 -- ---- what is left of the members, from a place on
 
 module _ (rest all : List Member) (f : Fields) (left : with_members rest f ≡ with_members all f) where
   -- what none rewrites stays, and with it a difference
-  pub differing : (m : Member) (ms : List Member) → rest ≡ m ∷ ms → list_any (rewrites m) ms ≡ false → (with_member m f ≡ f → ⊥) → true ≡ not (same_fields (with_members all f) f)
+  pub differing : (m : Member) (ms : List Member) → rest ≡ m ∷ ms → list_any (rewrites m) ms ≡ false → (with_member m f ≡ f → ⊥)
+      → true ≡ not (same_fields (with_members all f) f)
   differing m ms is e h =
       elim (same_fields (with_members all f) f) as (λ t. (t ≡ true → with_members all f ≡ f) → true ≡ not t) [
         | true ↦ λ same. absurd (h (changed m ms f e (ap (λ xs. with_members xs f) (sym is) ∙ left ∙ same refl)))
@@ -99,7 +105,8 @@ module _ (rest all : List Member) (f : Fields) (left : with_members rest f ≡ w
       ] (same_fields-Decides (with_members all f) f).0
 
   -- a member that changes nothing, or is rewritten, may be left out
-  pub left_out : (m : Member) (ms : List Member) → rest ≡ m ∷ ms → (list_any (rewrites m) ms ≡ true) ⊎ (with_member m f ≡ f) → with_members ms f ≡ with_members all f
+  pub left_out : (m : Member) (ms : List Member) → rest ≡ m ∷ ms → (list_any (rewrites m) ms ≡ true) ⊎ (with_member m f ≡ f)
+      → with_members ms f ≡ with_members all f
   left_out m ms is (inl e) = rewritten m ms f e ∙ ap (λ xs. with_members xs f) (sym is) ∙ left
   left_out m ms is (inr e) = ap (with_members ms) (sym e) ∙ ap (λ xs. with_members xs f) (sym is) ∙ left
 

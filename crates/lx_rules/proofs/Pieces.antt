@@ -22,7 +22,8 @@ in_none : (piece front back : List ℕ) → [] ≡ front ++ (piece ++ back) → 
 in_none piece [] back e = (back, e)
 in_none piece (x ∷ front) back e = absurd (cc)
 
-in_some : (piece front back text : List ℕ) (c : ℕ) → (c ∷ text) ≡ front ++ (piece ++ back) → ((rest : List ℕ) × ((c ∷ text) ≡ piece ++ rest)) ⊎ HasSubslice text piece
+in_some : (piece front back text : List ℕ) (c : ℕ) → (c ∷ text) ≡ front ++ (piece ++ back)
+    → ((rest : List ℕ) × ((c ∷ text) ≡ piece ++ rest)) ⊎ HasSubslice text piece
 in_some piece [] back text c e = inl (back, e)
 in_some piece (x ∷ front) back text c e = inr (front, back, cc)
 
@@ -63,7 +64,8 @@ bytes_piece bytes piece whole part h = (
 
 -- ---- over the answer of std's search, which is about bytes
 
-module _ (r : Bool) (piece bytes : List ℕ) (answer : MatchBool r (HasMatch (FindsText piece) bytes) (FindsText piece bytes None)) (whole : IsUtf8 bytes) (part : IsUtf8 piece) where
+module _ (r : Bool) (piece bytes : List ℕ) (answer : MatchBool r (HasMatch (FindsText piece) bytes) (FindsText piece bytes None)) (whole : IsUtf8 bytes)
+    (part : IsUtf8 piece) where
   pub piece_told : (r ≡ true) ↔ HasSubslice (chars bytes) (chars piece)
   piece_told =
       let told = contains_text r piece bytes answer in

@@ -27,7 +27,8 @@ pub one_row_told : (row bits : ℕ) (kind : Kind) → bits ≡ set_of_row row �
 one_row_told row bits kind e = ap (λ n. is_on n kind) e ∙ of_row row kind _ refl
 
 pub shifted : (row : ℕ) → row < 15 → 1 * 2 ^ row % 4294967296 ≡ set_of_row row
-shifted row within = let small : nat_lt row 15 ≡ true = grind (arith, nat_tests) in rw small (shl_exact 1 row 32 (omega arith) (omega arith) ∙ one-mul (2 ^ row))
+shifted row within = let small : nat_lt row 15 ≡ true =
+    grind (arith, nat_tests) in rw small (shl_exact 1 row 32 (omega arith) (omega arith) ∙ one-mul (2 ^ row))
 
 pub none : (row : ℕ) → 15 ≤ row → 0 ≡ set_of_row row
 none row beyond = let large : nat_lt row 15 ≡ false = grind (arith, nat_tests) in rw large refl

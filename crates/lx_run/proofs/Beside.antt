@@ -12,7 +12,9 @@ use Rattle.lx_links.proofs.Up.{in_order}
 
 -- one less than all, where it is below that node
 in_all : (f : Forest) (k p : ℕ) → IsForest f → length (names_without k (children_of f p)) + cond (is_named (parent_of f k) p) 1 0 ≡ size_of f p
-in_all f k p h = subst (λ b. length (names_without k (children_of f p)) + cond b 1 0 ≡ size_of f p) (is_among-children_of f k p h) (length-names_without k (children_of f p) (NoRepeats-children_of f p h))
+in_all f k p h =
+    subst (λ b. length (names_without k (children_of f p)) + cond b 1 0 ≡ size_of f p) (is_among-children_of f k p h)
+    (length-names_without k (children_of f p) (NoRepeats-children_of f p h))
 
 pub beside_child : (f : Forest) (k p : ℕ) → Sound f → parent_of f k ≡ Some p → length (names_without k (children_of f p)) + 1 ≡ size_of f p
 beside_child f k p s up = let all = in_all f k p (in_order f k p s up) in grind (arith, all, up)

@@ -29,7 +29,8 @@ one_within : (n most : ℕ) → n ≤ most → cond (eqb n most) (Some StepLimit
 one_within n most few e = grind (arith, eqb_tells n most, few, e)
 
 -- a count that was taken was left
-counts_within : (w v x : Working) (first : Option Cause) → answer first x ≡ Ok v → (first ≡ None → over_counts w ≡ None) → x.counted ≡ w.counted + 1 → KeepsMost w v
+counts_within : (w v x : Working) (first : Option Cause) → answer first x ≡ Ok v → (first ≡ None → over_counts w ≡ None) → x.counted ≡ w.counted + 1
+    → KeepsMost w v
 counts_within w v x first e left once few =
     let is : v.counted ≡ w.counted + 1 = ap (λ (y : Working). y.counted) (answered first x v e) ∙ once in
     let within : w.counted + 1 ≤ most_counts = one_within w.counted most_counts few (left (unrefused first x v e)) in
@@ -45,7 +46,8 @@ marked-counted : (b : Bool) (f : Forest) (k : ℕ) (w : Working) → (marked_if 
 marked-counted true f k w = refl
 marked-counted false f k w = refl
 
-refielded-counted : (k : ℕ) (fields : Fields) (more : ℕ) (moved : Selection → Selection) (w : Working) → (fields_written k fields more moved w).counted ≡ w.counted + 1
+refielded-counted : (k : ℕ) (fields : Fields) (more : ℕ) (moved : Selection → Selection) (w : Working)
+    → (fields_written k fields more moved w).counted ≡ w.counted + 1
 refielded-counted k fields more moved w = marked-counted (differ (fields_of w.forest k) fields) w.forest k _
 
 new_within : (kind : Kind) (fields : Fields) (w v : Working) → new_step kind fields w ≡ Ok v → KeepsMost w v
@@ -72,7 +74,8 @@ take_within k w v e = counts_within w v _ (option_or (detach_fault k w.forest) (
 
 put_within : (k p index : ℕ) (w v : Working) → put_step k p index w ≡ Ok v → KeepsMost w v
 unfolding put_step
-put_within k p index w v e = counts_within w v _ (option_or (put_fault k p index w.forest) (over_counts w)) e (second_of (put_fault k p index w.forest) (over_counts w)) refl
+put_within k p index w v e =
+    counts_within w v _ (option_or (put_fault k p index w.forest) (over_counts w)) e (second_of (put_fault k p index w.forest) (over_counts w)) refl
 
 within_path : IsPath Any KeepsMost (λ k. Unit {0})
 within_path = record {

@@ -26,19 +26,23 @@ use Rattle.lx_run.proofs.Paths.{IsScriptPath, Reaches, on_draft_path}
 
 -- ---- what is sent
 
-pub with_none_path : (D : Working → Type 0) (R : Working → Working → Type 0) (command : Working → Result Working Cause) → Leads D R command → (sent : Payload) → Leads D R (with_none command sent)
+pub with_none_path : (D : Working → Type 0) (R : Working → Working → Type 0) (command : Working → Result Working Cause) → Leads D R command → (sent : Payload)
+    → Leads D R (with_none command sent)
 with_none_path D R command leads payload.Nothing w v d e = leads w v d e
 with_none_path D R command leads _ w v d e = absurd (cc)
 
-with_text_path : (D : Working → Type 0) (R : Working → Working → Type 0) (command : List ℕ → Working → Result Working Cause) → ((text : List ℕ) → Leads D R (command text)) → (sent : Payload) → Leads D R (with_text command sent)
+with_text_path : (D : Working → Type 0) (R : Working → Working → Type 0) (command : List ℕ → Working → Result Working Cause)
+    → ((text : List ℕ) → Leads D R (command text)) → (sent : Payload) → Leads D R (with_text command sent)
 with_text_path D R command leads (payload.Text text) w v d e = leads text w v d e
 with_text_path D R command leads _ w v d e = absurd (cc)
 
-meant_path : {A : Type 0} (D : Working → Type 0) (R : Working → Working → Type 0) (command : A → Working → Result Working Cause) → ((a : A) → Leads D R (command a)) → (o : Option A) → Leads D R (meant command o)
+meant_path : {A : Type 0} (D : Working → Type 0) (R : Working → Working → Type 0) (command : A → Working → Result Working Cause)
+    → ((a : A) → Leads D R (command a)) → (o : Option A) → Leads D R (meant command o)
 meant_path D R command leads None w v d e = absurd (cc)
 meant_path D R command leads (Some a) w v d e = leads a w v d e
 
-pub with_word_path : {A : Type 0} (D : Working → Type 0) (R : Working → Working → Type 0) (table : List (List ℕ × A)) (command : A → Working → Result Working Cause) → ((a : A) → Leads D R (command a)) → (sent : Payload) → Leads D R (with_word table command sent)
+pub with_word_path : {A : Type 0} (D : Working → Type 0) (R : Working → Working → Type 0) (table : List (List ℕ × A))
+    (command : A → Working → Result Working Cause) → ((a : A) → Leads D R (command a)) → (sent : Payload) → Leads D R (with_word table command sent)
 with_word_path D R table command leads sent w v d e =
     with_text_path D R (λ text. meant command (row_of table text)) (λ text. meant_path D R command leads (row_of table text)) sent w v d e
 
@@ -48,8 +52,10 @@ ended_path : (D : Working → Type 0) (R : Working → Working → Type 0) → I
 ended_path D R scripts None w v d e = ok R w w v (self scripts.path w d) e
 ended_path D R scripts (Some item) w v d e = paragraph_in_item_path scripts.path item w v d e
 
-cut_path : (D : Working → Type 0) (R : Working → Working → Type 0) → IsScriptPath D R → (w v : Working) (r : Result Broken Cause) → ((u : Working) → draft_left r ≡ Ok u → R w u) → after r (λ broken. ended_at broken.item broken.draft) ≡ Ok v → R w v
-cut_path D R scripts w v (Ok broken) each e = from_ scripts.path w broken.draft v (ended_at broken.item) (each broken.draft refl) (ended_path D R scripts broken.item) e
+cut_path : (D : Working → Type 0) (R : Working → Working → Type 0) → IsScriptPath D R → (w v : Working) (r : Result Broken Cause)
+    → ((u : Working) → draft_left r ≡ Ok u → R w u) → after r (λ broken. ended_at broken.item broken.draft) ≡ Ok v → R w v
+cut_path D R scripts w v (Ok broken) each e =
+    from_ scripts.path w broken.draft v (ended_at broken.item) (each broken.draft refl) (ended_path D R scripts broken.item) e
 cut_path D R scripts w v (Err cause) each e = absurd (cc)
 
 paragraph_path : (D : Working → Type 0) (R : Working → Working → Type 0) → IsScriptPath D R → Leads D R paragraph_step
@@ -63,10 +69,12 @@ plain_path D R scripts InsertTab w v d e = insert_tab_path scripts.path w v d e
 plain_path D R scripts SelectAll w v d e = select_all_path scripts.path w v d e
 plain_path D R scripts _ w v d e = absurd (cc)
 
-caret_path : (D : Working → Type 0) (R : Working → Working → Type 0) → IsScriptPath D R → (command : CaretCommand) (sent : Payload) → Leads D R (caret_step command sent)
+caret_path : (D : Working → Type 0) (R : Working → Working → Type 0) → IsScriptPath D R → (command : CaretCommand) (sent : Payload)
+    → Leads D R (caret_step command sent)
 unfolding caret_step
 caret_path D R scripts InsertText sent w v d e = with_text_path D R insert_text_step (λ text. insert_text_path scripts.path text) sent w v d e
-caret_path D R scripts DeleteCharacter sent w v d e = with_word_path D R ways delete_character_step (λ back. delete_character_path scripts.path back) sent w v d e
+caret_path D R scripts DeleteCharacter sent w v d e =
+    with_word_path D R ways delete_character_step (λ back. delete_character_path scripts.path back) sent w v d e
 caret_path D R scripts DeleteWord sent w v d e = with_word_path D R ways delete_word_step (λ back. delete_word_path scripts.path back) sent w v d e
 caret_path D R scripts FormatText sent w v d e = with_word_path D R formats format_text_step (λ bit. format_text_path scripts.path bit) sent w v d e
 caret_path D R scripts Paste sent w v d e = with_text_path D R paste_step (λ text. paste_path scripts.path text) sent w v d e
@@ -76,5 +84,6 @@ caret_path D R scripts InsertLineBreak sent w v d e = with_none_path D R (plain_
 caret_path D R scripts InsertTab sent w v d e = with_none_path D R (plain_step InsertTab) (plain_path D R scripts InsertTab) sent w v d e
 caret_path D R scripts SelectAll sent w v d e = with_none_path D R (plain_step SelectAll) (plain_path D R scripts SelectAll) sent w v d e
 
-pub caret_reaches : {D : Working → Type 0} {R : Working → Working → Type 0} → IsScriptPath D R → (command : CaretCommand) (sent : Payload) → Reaches D R (on_draft (caret_step command sent))
+pub caret_reaches : {D : Working → Type 0} {R : Working → Working → Type 0} → IsScriptPath D R → (command : CaretCommand) (sent : Payload)
+    → Reaches D R (on_draft (caret_step command sent))
 caret_reaches {D = D} {R = R} scripts command sent = on_draft_path D R (caret_step command sent) (caret_path D R scripts command sent)

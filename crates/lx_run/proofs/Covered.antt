@@ -34,7 +34,8 @@ AreCoveredRunning m n = AreCovered m.script.draft n.script.draft
 covered_count : (m n : Running) → IsReadyRunning m → take_count m ≡ Ok n → AreCoveredRunning m n
 covered_count m n ready e = covered-count m.script.draft n.script.draft ready (count_taken m n e).draft
 
-covered_on : (edit : Scripted → Result Scripted Cause) (m n : Running) → Reaches IsReady AreCovered edit → IsReadyRunning m → on_script edit m ≡ Ok n → AreCoveredRunning m n
+covered_on : (edit : Scripted → Result Scripted Cause) (m n : Running) → Reaches IsReady AreCovered edit → IsReadyRunning m → on_script edit m ≡ Ok n
+    → AreCoveredRunning m n
 covered_on edit m n reaches ready e =
     left_as (AreCoveredRunning m n) edit m n (λ t f is. subst (λ (x : Running). AreCoveredRunning m x) is (reaches m.script t ready f)) e
 

@@ -53,7 +53,8 @@ turn_ends : (more : ℕ) (ls : List Listener) (m : Running) → IsEnough (suc mo
 turn_ends more ls m h next [] e = e
 turn_ends more ls m h next (q ∷ rest) e =
     makes_then (IsPaced (running m.script rest)) IsDone (steps_in (dispatched most_nested ls) q.sent q.steps (running m.script rest)) (emptied more ls)
-    (steps_keep AnyRunning IsPaced paced (dispatched most_nested ls) (dispatched_keeps AnyRunning IsPaced paced most_nested ls) q.sent q.steps (running m.script rest) tt)
+    (steps_keep AnyRunning IsPaced paced (dispatched most_nested ls) (dispatched_keeps AnyRunning IsPaced paced most_nested ls) q.sent q.steps
+    (running m.script rest) tt)
     (λ n p. next n (record { most = p.most h.most; turns = omega (arith, p.queued, h.turns, longer m.queue rest q e) }))
 
 pub is_emptied : (more : ℕ) (ls : List Listener) (m : Running) → IsEnough more m → Makes IsDone (emptied more ls m)

@@ -32,18 +32,22 @@ ends_on P Q (turned turn) each p = tt
 
 -- ---- what stays
 
-reached_leaves : (P : Running → Type 0) (nothing untouched : Bool) (turn : Turn) → Makes (EndsAs P) (if nothing then (if untouched then Ok (turned turn) else Err HistoryInside) else Err BadCommand)
+reached_leaves : (P : Running → Type 0) (nothing untouched : Bool) (turn : Turn)
+    → Makes (EndsAs P) (if nothing then (if untouched then Ok (turned turn) else Err HistoryInside) else Err BadCommand)
 reached_leaves P true true turn = tt
 reached_leaves P true false turn = tt
 reached_leaves P false untouched turn = tt
 
-stopped : (P : Running → Type 0) (next : Running → Result Ended Cause) (n : Running) (handled : Bool) → P n → Makes (EndsAs P) (next n) → Makes (EndsAs P) (if handled then Ok (ran n true) else next n)
+stopped : (P : Running → Type 0) (next : Running → Result Ended Cause) (n : Running) (handled : Bool) → P n → Makes (EndsAs P) (next n)
+    → Makes (EndsAs P) (if handled then Ok (ran n true) else next n)
 stopped P next n true p q = p
 stopped P next n false p q = q
 
-ended_keeps : (D : Running → Type 0) (R : Running → Running → Type 0) → IsKept D R → (way : Option Turn) (ls : List Listener) (c : Command) (m : Running) → D m → Makes (EndsAs (R m)) (ended_by way ls c m)
+ended_keeps : (D : Running → Type 0) (R : Running → Running → Type 0) → IsKept D R → (way : Option Turn) (ls : List Listener) (c : Command) (m : Running) → D m
+    → Makes (EndsAs (R m)) (ended_by way ls c m)
 ended_keeps D R kept None ls c m ready =
-    makes_then (λ r. R m r.0) (EndsAs (R m)) (dispatched most_nested ls c.name c.payload m) (λ r. Ok (ran r.0 r.1)) (dispatched_keeps D R kept most_nested ls c.name c.payload m ready) (λ r h. h)
+    makes_then (λ r. R m r.0) (EndsAs (R m)) (dispatched most_nested ls c.name c.payload m) (λ r. Ok (ran r.0 r.1))
+    (dispatched_keeps D R kept most_nested ls c.name c.payload m ready) (λ r h. h)
 ended_keeps D R kept (Some turn) ls c m ready =
     let next : Running → Result Ended Cause = λ n. after (take_count n) (reached turn c.payload m.script.draft.selection) in
     makes_then (λ r. R m r.0) (EndsAs (R m)) (offered (dispatched most_inside ls) c.payload (above c.name ls) m) (unless_stopped next)
@@ -52,15 +56,18 @@ ended_keeps D R kept (Some turn) ls c m ready =
     (makes_from (EndsAs (R m)) (take_count r.0) (reached turn c.payload m.script.draft.selection) (λ n e.
     reached_leaves (R m) (is_nothing c.payload) (is_untouched m.script.draft.selection n) turn)))
 
-begun_keeps : (D : Running → Type 0) (R : Running → Running → Type 0) → IsKept D R → (ls : List Listener) (c : Command) (m : Running) → D m → Makes (EndsAs (R m)) (dispatch_begun ls c m)
+begun_keeps : (D : Running → Type 0) (R : Running → Running → Type 0) → IsKept D R → (ls : List Listener) (c : Command) (m : Running) → D m
+    → Makes (EndsAs (R m)) (dispatch_begun ls c m)
 begun_keeps D R kept ls c m ready =
     makes_from (EndsAs (R m)) (take_count m) (ended_by (turn_of (built_in c.name)) ls c) (λ n e.
     let h : R m n = kept.counted m n ready e in
-    makes_on (EndsAs (R n)) (EndsAs (R m)) (ended_by (turn_of (built_in c.name)) ls c n) (ended_keeps D R kept (turn_of (built_in c.name)) ls c n (kept.ready m n h))
+    makes_on (EndsAs (R n)) (EndsAs (R m)) (ended_by (turn_of (built_in c.name)) ls c n)
+    (ended_keeps D R kept (turn_of (built_in c.name)) ls c n (kept.ready m n h))
     (λ ended i. ends_on (R n) (R m) ended (λ o j. kept.on m n o h j) i))
 
 -- what holds of the queue's end holds of the line's
-queue_makes : (P Q : Running → Type 0) (ls : List Listener) (ended : Ended) → EndsAs P ended → ((m : Running) → P m → Makes Q (queue_run ls m)) → Makes (EndsAs Q) (dispatch_ended ls ended)
+queue_makes : (P Q : Running → Type 0) (ls : List Listener) (ended : Ended) → EndsAs P ended → ((m : Running) → P m → Makes Q (queue_run ls m))
+    → Makes (EndsAs Q) (dispatch_ended ls ended)
 queue_makes P Q ls (ran m handled) p each = makes_and Q (EndsAs Q) (queue_run ls m) (λ n. Ok (ran n handled)) (each m p) (λ n q. q)
 queue_makes P Q ls (turned turn) p each = tt
 
@@ -70,15 +77,18 @@ dispatch_covered : (ls : List Listener) (c : Command) (w : Working) → IsReady 
 unfolding dispatch_run
 dispatch_covered ls c w ready =
     let P : Running → Type 0 = AreCoveredRunning (at_first w) in
-    makes_step (EndsAs P) (EndsAs P) 0 (dispatch_begun ls c (at_first w)) (dispatch_ended ls) (begun_keeps IsReadyRunning AreCoveredRunning covered ls c (at_first w) ready)
+    makes_step (EndsAs P) (EndsAs P) 0 (dispatch_begun ls c (at_first w)) (dispatch_ended ls)
+    (begun_keeps IsReadyRunning AreCoveredRunning covered ls c (at_first w) ready)
     (λ ended h. queue_makes P P ls ended h (λ m i. queue_covered ls (at_first w) m i))
 
-draft_so : (P : Working → Type 0) (r : Result Ended Refused) (v : Working) (handled : Bool) → Makes (EndsAs (λ m. P m.script.draft)) r → answer_drafted r ≡ Ok (Left v handled) → P v
+draft_so : (P : Working → Type 0) (r : Result Ended Refused) (v : Working) (handled : Bool) → Makes (EndsAs (λ m. P m.script.draft)) r
+    → answer_drafted r ≡ Ok (Left v handled) → P v
 draft_so P (Ok (ran m b)) v handled p e = let is : m.script.draft ≡ v = cc in subst P is p
 draft_so P (Ok (turned turn)) v handled p e = absurd (cc)
 draft_so P (Err refused) v handled p e = absurd (cc)
 
-pub dispatch_told : (ls : List Listener) (c : Command) (w : Working) (ending : Ending) → answer_drafted (dispatch_run ls c w) ≡ Ok ending → IsEndingCovered w ending
+pub dispatch_told : (ls : List Listener) (c : Command) (w : Working) (ending : Ending) → answer_drafted (dispatch_run ls c w) ≡ Ok ending
+    → IsEndingCovered w ending
 dispatch_told ls c w (Left v handled) e = λ ready. draft_so (AreCovered w) (dispatch_run ls c w) v handled (dispatch_covered ls c w ready) e
 dispatch_told ls c w (Turned turn) e = tt
 
@@ -93,24 +103,30 @@ pub dispatch_ends : (ls : List Listener) (c : Command) (w : Working) → w.count
 unfolding dispatch_run
 dispatch_ends ls c w few =
     let P : Running → Type 0 = IsPaced (at_first w) in
-    answer_told _ (makes_step (EndsAs P) (EndsAs (λ m. m.queue ≡ [])) 0 (dispatch_begun ls c (at_first w)) (dispatch_ended ls) (begun_keeps AnyRunning IsPaced paced ls c (at_first w) tt)
+    answer_told _
+    (makes_step (EndsAs P) (EndsAs (λ m. m.queue ≡ [])) 0 (dispatch_begun ls c (at_first w)) (dispatch_ended ls)
+    (begun_keeps AnyRunning IsPaced paced ls c (at_first w) tt)
     (λ ended h. queue_makes P (λ m. m.queue ≡ []) ls ended h (λ m p. queue_ends ls w m few p)))
 
 -- ---- what the line comes to
 
-dispatch_from : (ls : List Listener) (c : Command) (w : Working) (first : Running) (begun : Result Ended Refused) → first ≡ at_first w → at_step 0 (dispatch_begun ls c first) ≡ begun
+dispatch_from : (ls : List Listener) (c : Command) (w : Working) (first : Running) (begun : Result Ended Refused) → first ≡ at_first w
+    → at_step 0 (dispatch_begun ls c first) ≡ begun
     → dispatch_run ls c w ≡ and_then begun (dispatch_ended ls)
 unfolding dispatch_run
 dispatch_from ls c w first begun is ended =
     ap (λ x. and_then (at_step 0 (dispatch_begun ls c x)) (dispatch_ended ls)) (sym is) ∙ ap (λ r. and_then r (dispatch_ended ls)) ended
 
-pub dispatch_comes_to : (ls : List Listener) (c : Command) (w : Working) (first m n : Running) (handled : Bool) → first ≡ at_first w → at_step 0 (dispatch_begun ls c first) ≡ Ok (ran m handled) → queue_run ls m ≡ Ok n → dispatch_run ls c w ≡ Ok (ran n handled)
+pub dispatch_comes_to : (ls : List Listener) (c : Command) (w : Working) (first m n : Running) (handled : Bool) → first ≡ at_first w
+    → at_step 0 (dispatch_begun ls c first) ≡ Ok (ran m handled) → queue_run ls m ≡ Ok n → dispatch_run ls c w ≡ Ok (ran n handled)
 dispatch_comes_to ls c w first m n handled is ended rest =
     dispatch_from ls c w first (Ok (ran m handled)) is ended ∙ ap (λ r. and_then r (λ o. Ok (ran o handled))) rest
 
-pub dispatch_refused_by : (ls : List Listener) (c : Command) (w : Working) (first : Running) (refused : Refused) → first ≡ at_first w → at_step 0 (dispatch_begun ls c first) ≡ Err refused → dispatch_run ls c w ≡ Err refused
+pub dispatch_refused_by : (ls : List Listener) (c : Command) (w : Working) (first : Running) (refused : Refused) → first ≡ at_first w
+    → at_step 0 (dispatch_begun ls c first) ≡ Err refused → dispatch_run ls c w ≡ Err refused
 dispatch_refused_by ls c w first refused is ended = dispatch_from ls c w first (Err refused) is ended
 
-pub dispatch_refused_behind : (ls : List Listener) (c : Command) (w : Working) (first m : Running) (handled : Bool) (refused : Refused) → first ≡ at_first w → at_step 0 (dispatch_begun ls c first) ≡ Ok (ran m handled) → queue_run ls m ≡ Err refused → dispatch_run ls c w ≡ Err refused
+pub dispatch_refused_behind : (ls : List Listener) (c : Command) (w : Working) (first m : Running) (handled : Bool) (refused : Refused) → first ≡ at_first w
+    → at_step 0 (dispatch_begun ls c first) ≡ Ok (ran m handled) → queue_run ls m ≡ Err refused → dispatch_run ls c w ≡ Err refused
 dispatch_refused_behind ls c w first m handled refused is ended rest =
     dispatch_from ls c w first (Ok (ran m handled)) is ended ∙ ap (λ r. and_then r (λ o. Ok (ran o handled))) rest

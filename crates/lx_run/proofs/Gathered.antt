@@ -16,6 +16,7 @@ none_gathered all s = whole (all_resolved all s)
     whole (Ok more) = refl
     whole (Err cause) = refl
 
-pub one_gathered : (keys : List ℕ) (k : ℕ) (r : Result (List ℕ) Cause) → after (after r (λ more. Ok (k ∷ more))) (λ more. Ok (keys ++ more)) ≡ after r (λ more. Ok ((keys ++ k ∷ []) ++ more))
+pub one_gathered : (keys : List ℕ) (k : ℕ) (r : Result (List ℕ) Cause)
+    → after (after r (λ more. Ok (k ∷ more))) (λ more. Ok (keys ++ more)) ≡ after r (λ more. Ok ((keys ++ k ∷ []) ++ more))
 one_gathered keys k (Ok more) = ap (λ l. Ok l) (sym (append_assoc keys (k ∷ []) more))
 one_gathered keys k (Err cause) = refl

@@ -35,7 +35,8 @@ text_test bs ds u v =
 
 module _ {Y : Type 0} where
   -- what the entries have at a name
-  pub found_text : (bs : List ℕ) (es : List (String Y × ℕ)) → IsUtf8 bs → get (from_entries {R = slice_cmp nat_cmp} (as_texts es)) (chars bs) ≡ lookup (is_at (λ k. slice_cmp nat_cmp bs (string_bytes k))) es
+  pub found_text : (bs : List ℕ) (es : List (String Y × ℕ)) → IsUtf8 bs
+      → get (from_entries {R = slice_cmp nat_cmp} (as_texts es)) (chars bs) ≡ lookup (is_at (λ k. slice_cmp nat_cmp bs (string_bytes k))) es
   found_text bs es u = get-from_entries nat_list_cmp_total (as_texts es) (chars bs) ∙ found es
     where
       found : (es : List (String Y × ℕ)) → find (slice_cmp nat_cmp) (chars bs) (as_texts es) ≡ lookup (is_at (λ k. slice_cmp nat_cmp bs (string_bytes k))) es
@@ -68,15 +69,18 @@ module _ {Y : Type 0} where
   -- what is found at a name, where another was set
   abbrev SetAt : List ℕ → String Y → ℕ → List (String Y × ℕ) → List (String Y × ℕ) → Type 0
   SetAt q k v es new =
-      find (slice_cmp nat_cmp) q (as_texts new) ≡ cond (is_eq (slice_cmp nat_cmp q (chars (string_bytes k)))) (Some v) (find (slice_cmp nat_cmp) q (as_texts es))
+      find (slice_cmp nat_cmp) q (as_texts new)
+      ≡ cond (is_eq (slice_cmp nat_cmp q (chars (string_bytes k)))) (Some v) (find (slice_cmp nat_cmp) q (as_texts es))
 
   -- by how the name compares to the first
-  set_here : (q : List ℕ) (k : String Y) (v : ℕ) (e : String Y × ℕ) (es : List (String Y × ℕ)) (o : Ordering) → string_cmp k e.0 ≡ o → SetAt q k v es (insert_entry string_cmp es k v)
+  set_here : (q : List ℕ) (k : String Y) (v : ℕ) (e : String Y × ℕ) (es : List (String Y × ℕ)) (o : Ordering) → string_cmp k e.0 ≡ o
+      → SetAt q k v es (insert_entry string_cmp es k v)
       → SetAt q k v (e ∷ es) (match_ordering o ((k, v) ∷ e ∷ es) ((e.0, v) ∷ es) (e ∷ insert_entry string_cmp es k v))
   set_here q k v e es Less cmp rest = refl
   set_here q k v e es Equal cmp rest =
       let same : string_bytes k ≡ string_bytes e.0 = slice_cmp-IsAntisymmetric nat_cmp-IsAntisymmetric (string_bytes k) (string_bytes e.0) cmp in
-      let test : is_eq (slice_cmp nat_cmp q (chars (string_bytes e.0))) ≡ is_eq (slice_cmp nat_cmp q (chars (string_bytes k))) = ap (λ bs. is_eq (slice_cmp nat_cmp q (chars bs))) (sym same) in
+      let test : is_eq (slice_cmp nat_cmp q (chars (string_bytes e.0))) ≡ is_eq (slice_cmp nat_cmp q (chars (string_bytes k))) =
+      ap (λ bs. is_eq (slice_cmp nat_cmp q (chars bs))) (sym same) in
       let found : Option ℕ = find (slice_cmp nat_cmp) q (as_texts es) in
       ap (λ t. cond t (Some v) found) test ∙ twice_test (is_eq (slice_cmp nat_cmp q (chars (string_bytes k)))) v e.1 found
       ∙ ap (λ t. cond (is_eq (slice_cmp nat_cmp q (chars (string_bytes k)))) (Some v) (cond t (Some e.1) found)) (sym test)
@@ -84,9 +88,11 @@ module _ {Y : Type 0} where
       let t : Bool = is_eq (slice_cmp nat_cmp q (chars (string_bytes e.0))) in
       let s : Bool = is_eq (slice_cmp nat_cmp q (chars (string_bytes k))) in
       let apart : t ≡ true → s ≡ true → ⊥ = (λ here there.
-      let names : chars (string_bytes k) ≡ chars (string_bytes e.0) = sym (same_texts q (chars (string_bytes k)) there) ∙ same_texts q (chars (string_bytes e.0)) here in
+      let names : chars (string_bytes k) ≡ chars (string_bytes e.0) =
+      sym (same_texts q (chars (string_bytes k)) there) ∙ same_texts q (chars (string_bytes e.0)) here in
       let bytes : string_bytes k ≡ string_bytes e.0 = same_bytes (string_bytes k) (string_bytes e.0) (IsUtf8-string_bytes k) (IsUtf8-string_bytes e.0) names in
-      let tie : is_eq (slice_cmp nat_cmp (string_bytes k) (string_bytes e.0)) ≡ true = is_eq-slice_cmp (string_bytes k) (string_bytes e.0) ∙ (bytes_decides (string_bytes k) (string_bytes e.0)).1 bytes in
+      let tie : is_eq (slice_cmp nat_cmp (string_bytes k) (string_bytes e.0)) ≡ true =
+      is_eq-slice_cmp (string_bytes k) (string_bytes e.0) ∙ (bytes_decides (string_bytes k) (string_bytes e.0)).1 bytes in
       absurd (grind (arith, ap is_eq cmp, tie)))
       in
       ap (cond t (Some e.1)) rest ∙ other_test t s e.1 v (find (slice_cmp nat_cmp) q (as_texts es)) apart
@@ -96,7 +102,8 @@ module _ {Y : Type 0} where
   set_among q k v (e ∷ es) = set_here q k v e es (string_cmp k e.0) refl (set_among q k v es)
 
   -- an entry that is set makes the map in which the name is set
-  pub set_text : (k : String Y) (v : ℕ) (es : List (String Y × ℕ)) → from_entries {R = slice_cmp nat_cmp} (as_texts (insert_entry string_cmp es k v)) ≡ insert (from_entries (as_texts es)) (chars (string_bytes k)) v
+  pub set_text : (k : String Y) (v : ℕ) (es : List (String Y × ℕ))
+      → from_entries {R = slice_cmp nat_cmp} (as_texts (insert_entry string_cmp es k v)) ≡ insert (from_entries (as_texts es)) (chars (string_bytes k)) v
   set_text k v es = same_map nat_list_cmp_total (slice_cmp-IsAntisymmetric nat_cmp-IsAntisymmetric) _ _ (λ q.
       get-from_entries nat_list_cmp_total (as_texts (insert_entry string_cmp es k v)) q ∙ set_among q k v es
       ∙ sym (get-insert nat_list_cmp_total (from_entries (as_texts es)) (chars (string_bytes k)) v q

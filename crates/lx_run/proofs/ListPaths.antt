@@ -18,7 +18,8 @@ plain_path D R scripts Outdent w v d e = outdent_path scripts.path w v d e
 plain_path D R scripts ToggleChecked w v d e = toggle_checked_path scripts.path w v d e
 plain_path D R scripts MakeList w v d e = absurd (cc)
 
-list_path : (D : Working → Type 0) (R : Working → Working → Type 0) → IsScriptPath D R → (command : ListCommand) (sent : Payload) → Leads D R (list_step command sent)
+list_path : (D : Working → Type 0) (R : Working → Working → Type 0) → IsScriptPath D R → (command : ListCommand) (sent : Payload)
+    → Leads D R (list_step command sent)
 unfolding list_step
 list_path D R scripts MakeList sent w v d e = with_word_path D R list_types make_list_step (λ type. make_list_path scripts.path type) sent w v d e
 list_path D R scripts RemoveList sent w v d e = with_none_path D R (plain_list_step RemoveList) (plain_path D R scripts RemoveList) sent w v d e
@@ -26,5 +27,6 @@ list_path D R scripts Indent sent w v d e = with_none_path D R (plain_list_step 
 list_path D R scripts Outdent sent w v d e = with_none_path D R (plain_list_step Outdent) (plain_path D R scripts Outdent) sent w v d e
 list_path D R scripts ToggleChecked sent w v d e = with_none_path D R (plain_list_step ToggleChecked) (plain_path D R scripts ToggleChecked) sent w v d e
 
-pub list_reaches : {D : Working → Type 0} {R : Working → Working → Type 0} → IsScriptPath D R → (command : ListCommand) (sent : Payload) → Reaches D R (on_draft (list_step command sent))
+pub list_reaches : {D : Working → Type 0} {R : Working → Working → Type 0} → IsScriptPath D R → (command : ListCommand) (sent : Payload)
+    → Reaches D R (on_draft (list_step command sent))
 list_reaches {D = D} {R = R} scripts command sent = on_draft_path D R (list_step command sent) (list_path D R scripts command sent)

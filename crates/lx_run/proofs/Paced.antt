@@ -32,14 +32,16 @@ pub record IsPaced (m n : Running) : Type 0 where
 
 -- ---- what leaves the queue as it is
 
-pub left_as : (T : Type 0) (edit : Scripted → Result Scripted Cause) (m n : Running) → ((s : Scripted) → edit m.script ≡ Ok s → running s m.queue ≡ n → T) → on_script edit m ≡ Ok n → T
+pub left_as : (T : Type 0) (edit : Scripted → Result Scripted Cause) (m n : Running) → ((s : Scripted) → edit m.script ≡ Ok s → running s m.queue ≡ n → T)
+    → on_script edit m ≡ Ok n → T
 left_as T edit m n each e = by_result (edit m.script) (λ s is. each s is) e
   where
     by_result : (r : Result Scripted Cause) → ((s : Scripted) → r ≡ Ok s → running s m.queue ≡ n → T) → after r (λ s. Ok (running s m.queue)) ≡ Ok n → T
     by_result (Ok s) each e = let is : running s m.queue ≡ n = cc in each s refl is
     by_result (Err cause) each e = absurd (cc)
 
-drafted_as : (T : Type 0) (edit : Working → Result Working Cause) (s t : Scripted) → ((w : Working) → edit s.draft ≡ Ok w → scripted w s.names ≡ t → T) → on_draft edit s ≡ Ok t → T
+drafted_as : (T : Type 0) (edit : Working → Result Working Cause) (s t : Scripted) → ((w : Working) → edit s.draft ≡ Ok w → scripted w s.names ≡ t → T)
+    → on_draft edit s ≡ Ok t → T
 drafted_as T edit s t each e = by_result (edit s.draft) each e
   where
     by_result : (r : Result Working Cause) → ((w : Working) → r ≡ Ok w → scripted w s.names ≡ t → T) → after r (λ w. Ok (scripted w s.names)) ≡ Ok t → T
@@ -80,7 +82,8 @@ paced_later m n steps sent e =
     let more : length (queued steps sent n).queue ≡ length n.queue + 1 = length_one_more n.queue (record { steps = steps; sent = sent }) in
     record { counted = omega (arith, once); queued = omega (arith, once, same, more); most = count_within m.script.draft n.script.draft c.draft }
 
-paced_on : (edit : Scripted → Result Scripted Cause) (m n : Running) → Reaches Any KeepsCounts edit → Reaches Any KeepsMost edit → on_script edit m ≡ Ok n → IsPaced m n
+paced_on : (edit : Scripted → Result Scripted Cause) (m n : Running) → Reaches Any KeepsCounts edit → Reaches Any KeepsMost edit → on_script edit m ≡ Ok n
+    → IsPaced m n
 paced_on edit m n counted within e = left_as (IsPaced m n) edit m n (λ t f is.
     let more : m.script.draft.counted ≤ t.draft.counted = counted m.script t tt f in
     let at : t.draft.counted ≡ n.script.draft.counted = ap (λ (x : Running). x.script.draft.counted) is in
@@ -98,12 +101,17 @@ pub paced : IsKept AnyRunning IsPaced
 paced = record {
   ready = λ m n p. tt;
   same = λ m r. record { counted = omega arith; queued = omega arith; most = λ few. few };
-  on = λ m n o p q. record { counted = omega (arith, p.counted, q.counted); queued = omega (arith, p.queued, q.queued, p.counted, q.counted); most = λ few. q.most (p.most few) };
+  on = λ m n o p q. record
+      { counted = omega (arith, p.counted, q.counted); queued = omega (arith, p.queued, q.queued, p.counted, q.counted); most = λ few. q.most (p.most few) };
   counted = λ m n r e. paced_count m n e;
   plain = λ s m n r e. paced_plain s m n e;
-  does = λ command sent m n r e. paced_on (on_draft (caret_step command sent)) m n (caret_reaches counted_scripts command sent) (caret_reaches within_scripts command sent) e;
-  lists = λ command sent m n r e. paced_on (on_draft (list_step command sent)) m n (list_reaches counted_scripts command sent) (list_reaches within_scripts command sent) e;
-  tables = λ command sent m n r e. paced_on (on_draft (table_step command sent)) m n (table_reaches counted_scripts command sent) (table_reaches within_scripts command sent) e;
+  does = λ command sent m n r e. paced_on (on_draft (caret_step command sent)) m n (caret_reaches counted_scripts command sent)
+      (caret_reaches within_scripts command sent) e;
+  lists = λ command sent m n r e. paced_on (on_draft (list_step command sent)) m n (list_reaches counted_scripts command sent)
+      (list_reaches within_scripts command sent) e;
+  tables =
+      λ command sent m n r e. paced_on (on_draft (table_step command sent)) m n (table_reaches counted_scripts command sent)
+      (table_reaches within_scripts command sent) e;
   later = λ m n steps sent r e. paced_later m n steps sent e;
 }
 
@@ -138,9 +146,11 @@ Rises m n = m.script.draft.counted + 1 ≤ n.script.draft.counted
 rises_on : (m n o : Running) → Rises m n → IsPaced n o → Rises m o
 rises_on m n o begun p = omega (arith, begun, p.counted)
 
-effect_rises : (left : ℕ) (ls : List Listener) (sent : Payload) (s : Step) (m n : Running) → Rises m n → Makes (Rises m) (effect_in (dispatched left ls) sent s n)
+effect_rises : (left : ℕ) (ls : List Listener) (sent : Payload) (s : Step) (m n : Running) → Rises m n
+    → Makes (Rises m) (effect_in (dispatched left ls) sent s n)
 effect_rises left ls sent (step.Do c) m n begun =
-    makes_on (IsPaced n) (Rises m) (done_if (built_in c.name) (payload_for sent c.payload) n) (done_keeps AnyRunning IsPaced paced (built_in c.name) (payload_for sent c.payload) n tt)
+    makes_on (IsPaced n) (Rises m) (done_if (built_in c.name) (payload_for sent c.payload) n)
+    (done_keeps AnyRunning IsPaced paced (built_in c.name) (payload_for sent c.payload) n tt)
     (λ o p. rises_on m n o begun p)
 effect_rises left ls sent (step.Dispatch c) m n begun =
     makes_then (λ r. IsPaced n r.0) (Rises m) (dispatched left ls c.name (payload_for sent c.payload) n) (λ r. Ok r.0)
@@ -154,5 +164,6 @@ step_rises left ls sent s m =
     makes_from (Rises m) (take_count m) (effect_in (dispatched left ls) sent s) (λ n e.
     effect_rises left ls sent s m n (omega (arith, count-counted m.script.draft n.script.draft (count_taken m n e).draft)))
 
-pub step_counts : (left : ℕ) (ls : List Listener) (sent : Payload) (s : Step) (m n : Running) → step_in (dispatched left ls) sent s m ≡ Ok n → m.script.draft.counted + 1 ≤ n.script.draft.counted
+pub step_counts : (left : ℕ) (ls : List Listener) (sent : Payload) (s : Step) (m n : Running) → step_in (dispatched left ls) sent s m ≡ Ok n
+    → m.script.draft.counted + 1 ≤ n.script.draft.counted
 step_counts left ls sent s m n ran = subst (Makes (Rises m)) ran (step_rises left ls sent s m)

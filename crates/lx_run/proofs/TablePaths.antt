@@ -15,7 +15,8 @@ use Rattle.lx_run.specs.Tables.{with_size, sides, plain_table_step, table_step}
 use Rattle.lx_run.proofs.CaretPaths.{with_none_path, with_word_path}
 use Rattle.lx_run.proofs.Paths.{IsScriptPath, Reaches, on_draft_path}
 
-with_size_path : (D : Working → Type 0) (R : Working → Working → Type 0) (command : ℕ → ℕ → Bool → Working → Result Working Cause) → ((rows columns : ℕ) (headers : Bool) → Leads D R (command rows columns headers)) → (sent : Payload) → Leads D R (with_size command sent)
+with_size_path : (D : Working → Type 0) (R : Working → Working → Type 0) (command : ℕ → ℕ → Bool → Working → Result Working Cause)
+    → ((rows columns : ℕ) (headers : Bool) → Leads D R (command rows columns headers)) → (sent : Payload) → Leads D R (with_size command sent)
 with_size_path D R command leads (payload.Grid rows columns headers) w v d e = leads rows columns headers w v d e
 with_size_path D R command leads _ w v d e = absurd (cc)
 
@@ -26,9 +27,11 @@ plain_path D R scripts MergeCells w v d e = merge_cells_path scripts.path w v d 
 plain_path D R scripts Unmerge w v d e = unmerge_path scripts.path w v d e
 plain_path D R scripts _ w v d e = absurd (cc)
 
-table_path : (D : Working → Type 0) (R : Working → Working → Type 0) → IsScriptPath D R → (command : TableCommand) (sent : Payload) → Leads D R (table_step command sent)
+table_path : (D : Working → Type 0) (R : Working → Working → Type 0) → IsScriptPath D R → (command : TableCommand) (sent : Payload)
+    → Leads D R (table_step command sent)
 unfolding table_step
-table_path D R scripts InsertTable sent w v d e = with_size_path D R insert_table_step (λ rows columns headers. insert_table_path scripts.path rows columns headers) sent w v d e
+table_path D R scripts InsertTable sent w v d e =
+    with_size_path D R insert_table_step (λ rows columns headers. insert_table_path scripts.path rows columns headers) sent w v d e
 table_path D R scripts InsertRow sent w v d e = with_word_path D R sides insert_row_step (λ behind. insert_row_path scripts.path behind) sent w v d e
 table_path D R scripts InsertColumn sent w v d e = with_word_path D R sides insert_column_step (λ behind. insert_column_path scripts.path behind) sent w v d e
 table_path D R scripts DeleteRow sent w v d e = with_none_path D R (plain_table_step DeleteRow) (plain_path D R scripts DeleteRow) sent w v d e
@@ -36,5 +39,6 @@ table_path D R scripts DeleteColumn sent w v d e = with_none_path D R (plain_tab
 table_path D R scripts MergeCells sent w v d e = with_none_path D R (plain_table_step MergeCells) (plain_path D R scripts MergeCells) sent w v d e
 table_path D R scripts Unmerge sent w v d e = with_none_path D R (plain_table_step Unmerge) (plain_path D R scripts Unmerge) sent w v d e
 
-pub table_reaches : {D : Working → Type 0} {R : Working → Working → Type 0} → IsScriptPath D R → (command : TableCommand) (sent : Payload) → Reaches D R (on_draft (table_step command sent))
+pub table_reaches : {D : Working → Type 0} {R : Working → Working → Type 0} → IsScriptPath D R → (command : TableCommand) (sent : Payload)
+    → Reaches D R (on_draft (table_step command sent))
 table_reaches {D = D} {R = R} scripts command sent = on_draft_path D R (table_step command sent) (table_path D R scripts command sent)

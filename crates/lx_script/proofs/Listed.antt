@@ -17,9 +17,11 @@ queued_in-get : (inside : Bool) (ms : Members) → queued_in inside ms ≡ optio
 unfolding queued_in
 queued_in-get inside ms = looked_up (codes "later") (option_and_then (script_in inside)) (queued_in inside) refl (λ name d ms. refl) ms
 
-pub step_of-found : (inside : Bool) (d : Data) → step_of inside d ≡ option_and_then (λ verb. step_for inside verb d (required (script_in inside) (codes "later") d)) (first_member verbs d)
+pub step_of-found : (inside : Bool) (d : Data)
+    → step_of inside d ≡ option_and_then (λ verb. step_for inside verb d (required (script_in inside) (codes "later") d)) (first_member verbs d)
 unfolding step_of
-step_of-found inside (object ms) = ap (λ queued. option_and_then (λ verb. step_for inside verb (object ms) queued) (first_member verbs (object ms))) (queued_in-get inside ms)
+step_of-found inside (object ms) =
+    ap (λ queued. option_and_then (λ verb. step_for inside verb (object ms) queued) (first_member verbs (object ms))) (queued_in-get inside ms)
 step_of-found inside _ = refl
 
 script_in-array : (inside : Bool) (d : Data) → script_in inside d ≡ option_and_then (script_from inside) (as_array d)
@@ -32,12 +34,14 @@ script_in-listed inside None = refl
 script_in-listed inside (Some d) = script_in-array inside d
 
 -- the script of a member is that of the items that it lists
-pub member-listed : (inside : Bool) (k : List ℕ) (d : Data) → required (script_in inside) k d ≡ option_and_then (script_from inside) (option_and_then as_array (get k d))
+pub member-listed : (inside : Bool) (k : List ℕ) (d : Data)
+    → required (script_in inside) k d ≡ option_and_then (script_from inside) (option_and_then as_array (get k d))
 member-listed inside k d = script_in-listed inside (get k d)
 
 -- ---- lists
 
-zipped : (s : Option Step) (more : Option (List Step)) → option_map (λ p. with_first p.0 p.1) (option_zip s (option_map script_of more)) ≡ option_map script_of (option_map (λ p. p.0 ∷ p.1) (option_zip s more))
+zipped : (s : Option Step) (more : Option (List Step))
+    → option_map (λ p. with_first p.0 p.1) (option_zip s (option_map script_of more)) ≡ option_map script_of (option_map (λ p. p.0 ∷ p.1) (option_zip s more))
 zipped None more = refl
 zipped (Some s) None = refl
 zipped (Some s) (Some more) = refl
@@ -47,4 +51,5 @@ pub script_from-all : (inside : Bool) (ds : Items) → script_from inside ds ≡
 unfolding script_from
 script_from-all inside no_items = refl
 script_from-all inside (item d ds) =
-    ap (λ more. option_map (λ p. with_first p.0 p.1) (option_zip (step_of inside d) more)) (script_from-all inside ds) ∙ zipped (step_of inside d) (all_of (step_of inside) ds)
+    ap (λ more. option_map (λ p. with_first p.0 p.1) (option_zip (step_of inside d) more)) (script_from-all inside ds)
+    ∙ zipped (step_of inside d) (all_of (step_of inside) ds)

@@ -59,7 +59,8 @@ form_of-no_load d form is =
     (either IsNoLoad (dispatch_form_of d) _
     (tested IsNoLoad (has_only (codes "at" ∷ codes "tags" ∷ codes "dispatch" ∷ codes "payload" ∷ []) d) _
     (mapped IsNoLoad (λ command. Dispatch command) (command_in false d) (λ made at. tt)))
-    (either IsNoLoad (rule_form_of d) _ (tested IsNoLoad (has_only (codes "at" ∷ codes "rule" ∷ []) d) _ (mapped IsNoLoad (λ rule. Rule rule) rules (λ made at. tt)))
+    (either IsNoLoad (rule_form_of d) _
+    (tested IsNoLoad (has_only (codes "at" ∷ codes "rule" ∷ []) d) _ (mapped IsNoLoad (λ rule. Rule rule) rules (λ made at. tt)))
     (either IsNoLoad (listener_form_of d) _
     (tested IsNoLoad (has_only (codes "at" ∷ codes "listener" ∷ []) d) _ (mapped IsNoLoad (λ listener. Listens listener) listens (λ made at. tt)))
     (either IsNoLoad (show_of d) (clear_of d)

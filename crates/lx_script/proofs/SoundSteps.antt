@@ -81,7 +81,8 @@ members_ranged no_members made is = let same : [] ≡ made = cc in subst (All Is
 members_ranged (member text d rest) made is =
     let one = patch_member (word_in names text) text d in
     mapped (All IsInRange) (λ p. p.0 ∷ p.1) (option_zip one (patch_members rest))
-    (λ p at. All-cons IsInRange p.0 p.1 (member_ranged (word_in names text) text d p.0 (zip_first one (patch_members rest) p at)) (members_ranged rest p.1 (zip_second one (patch_members rest) p at)))
+    (λ p at. All-cons IsInRange p.0 p.1 (member_ranged (word_in names text) text d p.0 (zip_first one (patch_members rest) p at))
+    (members_ranged rest p.1 (zip_second one (patch_members rest) p at)))
     made is
 
 patch_ranged : (d : Data) (made : List Member) → patch_of d ≡ Some made → All IsInRange made
@@ -138,7 +139,8 @@ unfolding kind_with is_possible
 kind_with_new (kind.Heading level) d new of is =
     let found = or_default level (named levels) (get (codes "tag") d) in
     mapped IsNewKind (λ level. kind.Heading level) found
-    (λ l at. level_heading l (default_holds IsLevel level (named levels) (heading_level level of) (named_holds IsLevel levels each_level) (get (codes "tag") d) l at)) new is
+    (λ l at. level_heading l
+    (default_holds IsLevel level (named levels) (heading_level level of) (named_holds IsLevel levels each_level) (get (codes "tag") d) l at)) new is
 kind_with_new (kind.List type) d new of is =
     mapped IsNewKind (λ type. kind.List type) (or_default type (named list_types) (get (codes "listType") d)) (λ t at. (refl, λ e. cc)) new is
 kind_with_new old d new of is = let same : old ≡ new = cc in subst IsNewKind same of
@@ -153,7 +155,8 @@ new_fields_of_kind of d fields possible is =
 
 new_step_sound : (of : Kind) (d : Data) (name : Option (List ℕ)) (s : Step) → IsNewKind of → new_in of d name ≡ Some s → IsSound s
 new_step_sound of d name s new is =
-    mapped IsSound (λ fields. step.New of fields name) (new_fields of d) (λ fields at. record { other = new.1; of_kind = new_fields_of_kind of d fields new.0 at }) s is
+    mapped IsSound (λ fields. step.New of fields name) (new_fields of d)
+    (λ fields at. record { other = new.1; of_kind = new_fields_of_kind of d fields new.0 at }) s is
 
 new_with_sound : (of : Kind) (d : Data) (name : Option (Option (List ℕ))) (s : Step) → IsNewKind of → new_with of d name ≡ Some s → IsSound s
 new_with_sound of d name s new is =
@@ -180,42 +183,54 @@ set_of_sound d s is =
     s is
 
 -- other steps are sound whatever they hold
-any : {A : Type 0} (test : Bool) (f : A → Step) → ((a : A) → IsSound (f a)) → (o : Option A) (s : Step) → (if test then option_map f o else None) ≡ Some s → IsSound s
+any : {A : Type 0} (test : Bool) (f : A → Step) → ((a : A) → IsSound (f a)) → (o : Option A) (s : Step) → (if test then option_map f o else None) ≡ Some s
+    → IsSound s
 any test f sound o s is = tested IsSound test (option_map f o) (mapped IsSound f o (λ a at. sound a)) s is
 
-any_node : (f : Reference → Step) → ((node : Reference) → IsSound (f node)) → (name : List ℕ) (d : Data) (s : Step) → option_map f (one_node name d) ≡ Some s → IsSound s
+any_node : (f : Reference → Step) → ((node : Reference) → IsSound (f node)) → (name : List ℕ) (d : Data) (s : Step) → option_map f (one_node name d) ≡ Some s
+    → IsSound s
 any_node f sound name d s is = mapped IsSound f (one_node name d) (λ a at. sound a) s is
 
-any_nodes : (f : Reference × Reference → Step) → ((p : Reference × Reference) → IsSound (f p)) → (first second : List ℕ) (d : Data) (s : Step) → option_map f (two_nodes first second d) ≡ Some s → IsSound s
+any_nodes : (f : Reference × Reference → Step) → ((p : Reference × Reference) → IsSound (f p)) → (first second : List ℕ) (d : Data) (s : Step)
+    → option_map f (two_nodes first second d) ≡ Some s → IsSound s
 any_nodes f sound first second d s is = mapped IsSound f (two_nodes first second d) (λ a at. sound a) s is
 
-one_of_two : {A : Type 0} {P : Type 0} (test : Bool) (first second : Option A) (a : A) → (first ≡ Some a → P) → (second ≡ Some a → P) → (if test then first else second) ≡ Some a → P
+one_of_two : {A : Type 0} {P : Type 0} (test : Bool) (first second : Option A) (a : A) → (first ≡ Some a → P) → (second ≡ Some a → P)
+    → (if test then first else second) ≡ Some a → P
 one_of_two true first second a here there is = here is
 one_of_two false first second a here there is = there is
 
-step_for_sound : (inside : Bool) (word : Verb) (d : Data) (queued : Option Script) (s : Step) → ((script : Script) → queued ≡ Some script → IsSoundScript script) → step_for inside word d queued ≡ Some s → IsSound s
+step_for_sound : (inside : Bool) (word : Verb) (d : Data) (queued : Option Script) (s : Step)
+    → ((script : Script) → queued ≡ Some script → IsSoundScript script) → step_for inside word d queued ≡ Some s → IsSound s
 unfolding step_for
 step_for_sound inside verb.Append d queued s below is = any _ (λ text. step.Append text) (λ text. tt) (required string_of (codes "append") d) s is
 step_for_sound inside verb.New d queued s below is = new_of_sound d s is
 step_for_sound inside verb.Put d queued s below is =
-    any _ (λ p. step.Put p.0.0 p.0.1 p.1) (λ p. tt) (option_zip (option_zip (required reference_of (codes "put") d) (required reference_of (codes "into") d)) (optional whole_of (codes "at") d)) s is
+    any _ (λ p. step.Put p.0.0 p.0.1 p.1) (λ p. tt)
+    (option_zip (option_zip (required reference_of (codes "put") d) (required reference_of (codes "into") d)) (optional whole_of (codes "at") d)) s is
 step_for_sound inside verb.Remove d queued s below is = any_node (λ node. step.Remove node) (λ node. tt) (codes "remove") d s is
 step_for_sound inside verb.Replace d queued s below is =
-    any _ (λ p. step.Replace p.0.0 p.0.1 p.1) (λ p. tt) (option_zip (option_zip (required reference_of (codes "replace") d) (required reference_of (codes "with") d)) (truth_in (get (codes "keep") d))) s is
+    any _ (λ p. step.Replace p.0.0 p.0.1 p.1) (λ p. tt)
+    (option_zip (option_zip (required reference_of (codes "replace") d) (required reference_of (codes "with") d)) (truth_in (get (codes "keep") d))) s is
 step_for_sound inside verb.Set d queued s below is = set_of_sound d s is
 step_for_sound inside verb.Mark d queued s below is = any_node (λ node. step.Mark node) (λ node. tt) (codes "mark") d s is
 step_for_sound inside verb.Split d queued s below is =
-    any _ (λ p. step.Split p.0.0 p.0.1 p.1) (λ p. tt) (option_zip (option_zip (required reference_of (codes "split") d) (required (list_of whole_of) (codes "at") d)) (optional string_of (codes "as") d)) s is
+    any _ (λ p. step.Split p.0.0 p.0.1 p.1) (λ p. tt)
+    (option_zip (option_zip (required reference_of (codes "split") d) (required (list_of whole_of) (codes "at") d)) (optional string_of (codes "as") d)) s
+    is
 step_for_sound inside verb.Join d queued s below is = any_nodes (λ p. step.Join p.0 p.1) (λ p. tt) (codes "join") (codes "with") d s is
 step_for_sound inside verb.Wrap d queued s below is = any_nodes (λ p. step.Wrap p.0 p.1) (λ p. tt) (codes "wrap") (codes "in") d s is
 step_for_sound inside verb.Unwrap d queued s below is = any_node (λ node. step.Unwrap node) (λ node. tt) (codes "unwrap") d s is
 step_for_sound inside verb.Children d queued s below is = any_nodes (λ p. step.Children p.0 p.1) (λ p. tt) (codes "children") (codes "into") d s is
-step_for_sound inside verb.Select d queued s below is = any _ (λ selection. step.Select selection) (λ selection. tt) (required selection_of (codes "select") d) s is
+step_for_sound inside verb.Select d queued s below is =
+    any _ (λ selection. step.Select selection) (λ selection. tt) (required selection_of (codes "select") d) s is
 step_for_sound inside verb.Do d queued s below is =
-    any _ (λ p. step.Do (command_with p.0 p.1)) (λ p. tt) (option_zip (option_and_then built_in_name (required string_of (codes "do") d)) (payload_in inside (get (codes "payload") d))) s is
+    any _ (λ p. step.Do (command_with p.0 p.1)) (λ p. tt)
+    (option_zip (option_and_then built_in_name (required string_of (codes "do") d)) (payload_in inside (get (codes "payload") d))) s is
 step_for_sound inside verb.Dispatch d queued s below is = mapped IsSound (λ command. step.Dispatch command) (command_of inside d) (λ command at. tt) s is
 step_for_sound inside verb.Later d queued s below is =
-    tested IsSound (has_only (codes "later" ∷ []) d) (option_map (λ script. step.Later script) queued) (mapped IsSound (λ script. step.Later script) queued below) s is
+    tested IsSound (has_only (codes "later" ∷ []) d) (option_map (λ script. step.Later script) queued)
+    (mapped IsSound (λ script. step.Later script) queued below) s is
 
 mutual
   unfolding step_of queued_in script_in script_from
@@ -228,7 +243,9 @@ mutual
 
   queued_in_sound : (inside : Bool) (ms : Members) (made : Script) → queued_in inside ms ≡ Some made → IsSoundScript made
   queued_in_sound inside no_members made is = absurd (cc)
-  queued_in_sound inside (member name d rest) made is = one_of_two (bytes_eq (codes "later") name) (script_in inside d) (queued_in inside rest) made (script_in_sound inside d made) (queued_in_sound inside rest made) is
+  queued_in_sound inside (member name d rest) made is =
+      one_of_two (bytes_eq (codes "later") name) (script_in inside d) (queued_in inside rest) made (script_in_sound inside d made)
+      (queued_in_sound inside rest made) is
 
   script_in_sound : (inside : Bool) (d : Data) (made : Script) → script_in inside d ≡ Some made → IsSoundScript made
   script_in_sound inside (array ds) made is = script_from_sound inside ds made is
@@ -238,7 +255,8 @@ mutual
   script_from_sound inside no_items made is = let same : nil ≡ made = cc in subst IsSoundScript same tt
   script_from_sound inside (item d ds) made is =
       mapped IsSoundScript (λ p. with_first p.0 p.1) (option_zip (step_of inside d) (script_from inside ds))
-      (λ p at. script_with p.0 p.1 (step_of_sound inside d p.0 (zip_first (step_of inside d) (script_from inside ds) p at)) (script_from_sound inside ds p.1 (zip_second (step_of inside d) (script_from inside ds) p at)))
+      (λ p at. script_with p.0 p.1 (step_of_sound inside d p.0 (zip_first (step_of inside d) (script_from inside ds) p at))
+      (script_from_sound inside ds p.1 (zip_second (step_of inside d) (script_from inside ds) p at)))
       made is
 
 member_script_sound : (inside : Bool) (name : List ℕ) (d : Data) (made : Script) → required (script_in inside) name d ≡ Some made → IsSoundScript made
@@ -270,13 +288,15 @@ flush_of_sound d form is =
 
 dispatch_form_of_sound : (d : Data) (form : Form) → dispatch_form_of d ≡ Some form → IsSoundForm form
 dispatch_form_of_sound d form is =
-    tested IsSoundForm (has_only (codes "at" ∷ codes "tags" ∷ codes "dispatch" ∷ codes "payload" ∷ []) d) (option_map (λ command. Dispatch command) (command_in false d))
+    tested IsSoundForm (has_only (codes "at" ∷ codes "tags" ∷ codes "dispatch" ∷ codes "payload" ∷ []) d)
+    (option_map (λ command. Dispatch command) (command_in false d))
     (mapped IsSoundForm (λ command. Dispatch command) (command_in false d) (λ command at. tt)) form is
 
 rule_form_of_sound : (d : Data) (form : Form) → rule_form_of d ≡ Some form → IsSoundForm form
 rule_form_of_sound d form is =
     let rule = required rule_of (codes "rule") d in
-    tested IsSoundForm (has_only (codes "at" ∷ codes "rule" ∷ []) d) (option_map (λ rule. Rule rule) rule) (mapped IsSoundForm (λ rule. Rule rule) rule (λ made at. tt)) form is
+    tested IsSoundForm (has_only (codes "at" ∷ codes "rule" ∷ []) d) (option_map (λ rule. Rule rule) rule)
+    (mapped IsSoundForm (λ rule. Rule rule) rule (λ made at. tt)) form is
 
 priority_within : (d : Data) (priority : ℕ) → required (number_within 0 4) (codes "priority") d ≡ Some priority → priority ≤ 4
 priority_within d priority is =
@@ -312,7 +332,8 @@ listener_form_of_sound d form is =
 show_of_sound : (d : Data) (form : Form) → show_of d ≡ Some form → IsSoundForm form
 show_of_sound d form is =
     let shown = required (named questions) (codes "show") d in
-    tested IsSoundForm (has_only (codes "at" ∷ codes "show" ∷ []) d) (option_map (λ shown. Show shown) shown) (mapped IsSoundForm (λ shown. Show shown) shown (λ made at. tt)) form is
+    tested IsSoundForm (has_only (codes "at" ∷ codes "show" ∷ []) d) (option_map (λ shown. Show shown) shown)
+    (mapped IsSoundForm (λ shown. Show shown) shown (λ made at. tt)) form is
 
 clear_of_sound : (d : Data) (form : Form) → clear_of d ≡ Some form → IsSoundForm form
 clear_of_sound d form is =

@@ -25,7 +25,8 @@ text_of_reply reply begun done bytes nothing none told is =
 has_float-state_data : (document : Data) → has_float document ≡ false → has_float (state_data document) ≡ false
 has_float-state_data document whole = rw whole refl
 
-pub text_of_state : (document d : Data) (bytes : List ℕ) → d ≡ state_data document → has_float document ≡ false → (has_float d ≡ false → bytes ≡ compact_text d) → bytes ≡ state_text document
+pub text_of_state : (document d : Data) (bytes : List ℕ) → d ≡ state_data document → has_float document ≡ false → (has_float d ≡ false → bytes ≡ compact_text d)
+    → bytes ≡ state_text document
 unfolding state_text
 text_of_state document d bytes is whole written = written (ap has_float is ∙ has_float-state_data document whole) ∙ ap compact_text is
 
@@ -33,6 +34,7 @@ slice-whole : (slice : Option Data) → ((d : Data) → slice ≡ Some d → has
 slice-whole None whole = refl
 slice-whole (Some d) whole = ap (λ b. b || false) (whole d refl)
 
-pub text_of_slice : (slice : Option Data) (d : Data) (bytes : List ℕ) → d ≡ shown_slice_data slice → ((d : Data) → slice ≡ Some d → has_float d ≡ false) → (has_float d ≡ false → bytes ≡ compact_text d) → bytes ≡ slice_text slice
+pub text_of_slice : (slice : Option Data) (d : Data) (bytes : List ℕ) → d ≡ shown_slice_data slice → ((d : Data) → slice ≡ Some d → has_float d ≡ false)
+    → (has_float d ≡ false → bytes ≡ compact_text d) → bytes ≡ slice_text slice
 unfolding slice_text
 text_of_slice slice d bytes is whole told = told (ap has_float is ∙ slice-whole slice whole) ∙ ap compact_text is

@@ -11,7 +11,8 @@ neither true b e = absurd (cc)
 neither false b e = (refl, e)
 
 -- a rule that leaves each point that isn't on the key
-each-apart : (key : ℕ) (moved : Point → Point) (s : Selection) → ((p : Point) → (p.key == key) ≡ false → moved p ≡ p) → has_point_on key s ≡ false → each_point moved s ≡ s
+each-apart : (key : ℕ) (moved : Point → Point) (s : Selection) → ((p : Point) → (p.key == key) ≡ false → moved p ≡ p) → has_point_on key s ≡ false
+    → each_point moved s ≡ s
 each-apart key moved Nothing leaves e = refl
 each-apart key moved (Range a b format) leaves e =
     let h = neither (a.key == key) (b.key == key) e in

@@ -14,7 +14,8 @@ use Rattle.lx_settle.proofs.Joining.{IsJoining}
 use Rattle.lx_settle.proofs.Rest.{there as attached_there}
 
 -- From a joined tree with no detached one beside it, whatever an update did is pending.
-pub joining_begun : (w v : Working) → IsJoined w.forest → IsReady w → ((q : ℕ) → has q w.forest ≡ true → is_attached w.forest q ≡ true) → AreCovered w v → AreElements w.forest w.fresh → IsJoining [] v
+pub joining_begun : (w v : Working) → IsJoined w.forest → IsReady w → ((q : ℕ) → has q w.forest ≡ true → is_attached w.forest q ≡ true) → AreCovered w v
+    → AreElements w.forest w.fresh → IsJoining [] v
 joining_begun w v j r all c sorted = record {
   full = λ q there. elim (c.fresh.seen q) [
     | inl same ↦ inl (ap (λ o. is_empty_text (if_simple (text_in (option_map (λ (s : Spot Label). s.label) o)))) same.0 ∙ j.full q (was_there q same.0 there))

@@ -55,7 +55,8 @@ carried_homed w v a = record {
 pub fresh_stays : (w v : Working) (q : ℕ) → IsCarried w v → is_due w.fresh q ≡ true → is_due v.fresh q ≡ true
 fresh_stays w v q c e =
     due_tells v.fresh q
-    ∙ either (is_touched w.fresh q) (is_noted w.fresh q) (is_touched v.fresh q) (is_noted v.fresh q) (eqb q 0) (c.covered.fresh.touched q) (c.covered.fresh.noted q) (sym (due_tells w.fresh q) ∙ e)
+    ∙ either (is_touched w.fresh q) (is_noted w.fresh q) (is_touched v.fresh q) (is_noted v.fresh q) (eqb q 0) (c.covered.fresh.touched q)
+    (c.covered.fresh.noted q) (sym (due_tells w.fresh q) ∙ e)
 
 pub carried_self : (w : Working) → IsReady w → IsCarried w w
 carried_self w r = record {

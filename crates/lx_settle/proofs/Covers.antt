@@ -31,17 +31,20 @@ marked_after : (u v : Working) (r : Result Working Cause) (next : Working → Re
 marked_after u v (Ok x) next first second e = second x (first x refl) e
 marked_after u v (Err cause) next first second e = absurd (cc)
 
-over_turns : (u : Working) (rules : List Answers) (step : ℕ → Working → Result Working Cause) → ((k : ℕ) (w v : Working) → IsReady w → step k w ≡ Ok v → IsTurn rules k w v)
+over_turns : (u : Working) (rules : List Answers) (step : ℕ → Working → Result Working Cause)
+    → ((k : ℕ) (w v : Working) → IsReady w → step k w ≡ Ok v → IsTurn rules k w v)
     → (ks : List ℕ) (w v : Working) → AreMarked u w → in_turn step ks w ≡ Ok v → AreMarked u v
 unfolding in_turn
 over_turns u rules step each [] w v a e = let same : w ≡ v = cc in subst (AreMarked u) same a
 over_turns u rules step each (k ∷ ks) w v a e =
-    marked_after u v (step k w) (in_turn step ks) (λ x f. marked_then u w x a (each k w x a.ready f).carried) (λ x b f. over_turns u rules step each ks x v b f) e
+    marked_after u v (step k w) (in_turn step ks) (λ x f. marked_then u w x a (each k w x a.ready f).carried) (λ x b f. over_turns u rules step each ks x v b f)
+    e
 
 -- ---- rounds
 
 taken_marked : (u w : Working) → AreMarked u w → AreMarked u (taken w)
-taken_marked u w a = record { marks = a.marks; kinds = a.kinds; keys = record { next = a.keys.next; each = a.keys.each }; ready = record { in_order = a.ready.in_order; free = a.ready.free } }
+taken_marked u w a =
+    record { marks = a.marks; kinds = a.kinds; keys = record { next = a.keys.next; each = a.keys.each }; ready = record { in_order = a.ready.in_order; free = a.ready.free } }
 
 round_marked : (rules : List Answers) (leaves : List ℕ) (es : List (ℕ × Bool)) (u w v : Working) (again : Working → Result Working Cause) → AreMarked u w
     → ((x : Working) → AreMarked u x → again x ≡ Ok v → AreMarked u v) → passed rules (round_by leaves es) again w ≡ Ok v → AreMarked u v
@@ -51,7 +54,8 @@ round_marked rules (k ∷ ks) es u w v again a next e =
     (λ x f. over_turns u rules (leaf_step rules) (λ q y z s g. leaf_turned acts_are_marked rules q y z s g) (k ∷ ks) (taken w) x (taken_marked u w a) f) next e
 round_marked rules [] (i ∷ es) u w v again a next e =
     marked_after u v (element_pass rules (i ∷ es) (taken w)) again
-    (λ x f. over_turns u rules (rules_step rules) (λ q y z s g. rules_turned acts_are_marked rules q y z s g) (turns_of (i ∷ es)) (taken w) x (taken_marked u w a) f) next e
+    (λ x f. over_turns u rules (rules_step rules) (λ q y z s g. rules_turned acts_are_marked rules q y z s g) (turns_of (i ∷ es)) (taken w) x
+    (taken_marked u w a) f) next e
 round_marked rules [] [] u w v again a next e = let same : w ≡ v = cc in subst (AreMarked u) same a
 
 ended_marked : (leaves : List ℕ) (es : List (ℕ × Bool)) (u w v : Working) → AreMarked u w → ended (round_by leaves es) w ≡ Ok v → AreMarked u v

@@ -33,30 +33,37 @@ in_both step (x ∷ xs) ys w =
 
 -- ---- elements with their flags
 
-flagged_by : (rules : List Answers) (flagged : Bool) (k : ℕ) (es : List (ℕ × Bool)) (w : Working) → ((u : Working) → in_turn (element_step rules) es u ≡ in_turn (rules_step rules) (flagged_first es) u)
-    → after (cond flagged (rules_step rules k w) (Ok w)) (in_turn (element_step rules) es) ≡ in_turn (rules_step rules) (cond flagged (k ∷ flagged_first es) (flagged_first es)) w
+flagged_by : (rules : List Answers) (flagged : Bool) (k : ℕ) (es : List (ℕ × Bool)) (w : Working)
+    → ((u : Working) → in_turn (element_step rules) es u ≡ in_turn (rules_step rules) (flagged_first es) u)
+    → after (cond flagged (rules_step rules k w) (Ok w)) (in_turn (element_step rules) es)
+    ≡ in_turn (rules_step rules) (cond flagged (k ∷ flagged_first es) (flagged_first es)) w
 unfolding in_turn
 flagged_by rules true k es w later = after_same (rules_step rules k w) (in_turn (element_step rules) es) (in_turn (rules_step rules) (flagged_first es)) later
 flagged_by rules false k es w later = later w
 
-flagged_in_turn : (rules : List Answers) (es : List (ℕ × Bool)) (w : Working) → in_turn (element_step rules) es w ≡ in_turn (rules_step rules) (flagged_first es) w
+flagged_in_turn : (rules : List Answers) (es : List (ℕ × Bool)) (w : Working)
+    → in_turn (element_step rules) es w ≡ in_turn (rules_step rules) (flagged_first es) w
 unfolding in_turn element_step
 flagged_in_turn rules [] w = refl
 flagged_in_turn rules (e ∷ es) w = flagged_by rules (e.1 && not (eqb e.0 0)) e.0 es w (λ u. flagged_in_turn rules es u)
 
-root_by : (rules : List Answers) (listed : Bool) (w : Working) → in_turn (rules_step rules) (cond listed (0 ∷ []) []) w ≡ cond listed (rules_step rules 0 w) (Ok w)
+root_by : (rules : List Answers) (listed : Bool) (w : Working)
+    → in_turn (rules_step rules) (cond listed (0 ∷ []) []) w ≡ cond listed (rules_step rules 0 w) (Ok w)
 unfolding in_turn
 root_by rules true w = after_nothing (rules_step rules 0 w)
 root_by rules false w = refl
 
-root_in_turn : (rules : List Answers) (es : List (ℕ × Bool)) (w : Working) → in_turn (rules_step rules) (cond (is_some (flag_in es 0)) (0 ∷ []) []) w ≡ root_step rules es w
+root_in_turn : (rules : List Answers) (es : List (ℕ × Bool)) (w : Working)
+    → in_turn (rules_step rules) (cond (is_some (flag_in es 0)) (0 ∷ []) []) w ≡ root_step rules es w
 unfolding root_step
 root_in_turn rules es w = root_by rules (is_some (flag_in es 0)) w
 
 -- each element in its order, and then the root
-pub element_turns : (rules : List Answers) (es : List (ℕ × Bool)) (w : Working) → element_pass rules es w ≡ after (in_turn (element_step rules) es w) (root_step rules es)
+pub element_turns : (rules : List Answers) (es : List (ℕ × Bool)) (w : Working)
+    → element_pass rules es w ≡ after (in_turn (element_step rules) es w) (root_step rules es)
 unfolding element_pass
 element_turns rules es w =
     in_both (rules_step rules) (flagged_first es) (cond (is_some (flag_in es 0)) (0 ∷ []) []) w
     ∙ ap (λ r. after r (in_turn (rules_step rules) (cond (is_some (flag_in es 0)) (0 ∷ []) []))) (sym (flagged_in_turn rules es w))
-    ∙ after_same (in_turn (element_step rules) es w) (in_turn (rules_step rules) (cond (is_some (flag_in es 0)) (0 ∷ []) [])) (root_step rules es) (root_in_turn rules es)
+    ∙ after_same (in_turn (element_step rules) es w) (in_turn (rules_step rules) (cond (is_some (flag_in es 0)) (0 ∷ []) [])) (root_step rules es)
+    (root_in_turn rules es)

@@ -16,7 +16,8 @@ no_elements : (u : Working) → u.fresh ≡ unmarked → AreElements u.forest u.
 no_elements u e = subst (AreElements u.forest) (sym e) (record { each = λ q flag. absurd (cc) })
 
 -- where every node of the tree is marked, all is still to be joined
-all_pending : (w : Working) → ((q : ℕ) → is_attached w.forest q ≡ true → is_touched w.fresh q ≡ true) → AreElements w.forest w.fresh → IsReady w → IsJoining [] w
+all_pending : (w : Working) → ((q : ℕ) → is_attached w.forest q ≡ true → is_touched w.fresh q ≡ true) → AreElements w.forest w.fresh → IsReady w
+    → IsJoining [] w
 all_pending w all sorted ready = record {
   full = λ q there. inr (inr (all q there));
   apart = λ q n there next. inr (inl (inr (all q there)));

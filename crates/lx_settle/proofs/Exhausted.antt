@@ -33,11 +33,13 @@ ExhaustsFor o = (cause : Cause) → o ≡ Some cause → is_exhausted cause ≡ 
 pub exhausts_ok : (w : Working) → Exhausts (Ok w)
 exhausts_ok w cause e = absurd (cc)
 
-pub exhausts_then : (r : Result Working Cause) (next : Working → Result Working Cause) → Exhausts r → ((u : Working) → r ≡ Ok u → Exhausts (next u)) → Exhausts (after r next)
+pub exhausts_then : (r : Result Working Cause) (next : Working → Result Working Cause) → Exhausts r → ((u : Working) → r ≡ Ok u → Exhausts (next u))
+    → Exhausts (after r next)
 exhausts_then (Ok u) next first second cause e = second u refl cause e
 exhausts_then (Err other) next first second cause e = first cause e
 
-pub exhausts_allowed : (o : Option Cause) (w : Working) (next : Working → Result Working Cause) → o ≡ None → Exhausts (next w) → Exhausts (after (answer o w) next)
+pub exhausts_allowed : (o : Option Cause) (w : Working) (next : Working → Result Working Cause) → o ≡ None → Exhausts (next w)
+    → Exhausts (after (answer o w) next)
 exhausts_allowed None w next none c cause e = c cause e
 exhausts_allowed (Some x) w next none c cause e = absurd (cc)
 
@@ -77,13 +79,16 @@ new_exhausts kind fields w = answered_for (over_limits (characters_of fields) w)
 pub set_exhausts : (k : ℕ) (fields : Fields) (w : Working) → set_fault k fields w.forest ≡ None → Exhausts (set_step k fields w)
 unfolding set_step
 set_exhausts k fields w none =
-    answered_for (option_or (set_fault k fields w.forest) (over_limits (characters_of fields) w)) (fields_written k fields (characters_of fields) (set_points k fields) w)
-    (for_either (set_fault k fields w.forest) (over_limits (characters_of fields) w) (for_none (set_fault k fields w.forest) none) (for_limits (characters_of fields) w))
+    answered_for (option_or (set_fault k fields w.forest) (over_limits (characters_of fields) w))
+    (fields_written k fields (characters_of fields) (set_points k fields) w)
+    (for_either (set_fault k fields w.forest) (over_limits (characters_of fields) w) (for_none (set_fault k fields w.forest) none)
+    (for_limits (characters_of fields) w))
 
 pub splice_exhausts : (k from to : ℕ) (new : List ℕ) (w : Working) → splice_fault k from to w.forest ≡ None → Exhausts (splice_step k from to new w)
 unfolding splice_step
 splice_exhausts k from to new w none =
-    answered_for (option_or (splice_fault k from to w.forest) (over_limits (length new) w)) (fields_written k (label_with_piece (label_of w.forest k) from to new) (length new) (splice_points k from to new) w)
+    answered_for (option_or (splice_fault k from to w.forest) (over_limits (length new) w))
+    (fields_written k (label_with_piece (label_of w.forest k) from to new) (length new) (splice_points k from to new) w)
     (for_either (splice_fault k from to w.forest) (over_limits (length new) w) (for_none (splice_fault k from to w.forest) none) (for_limits (length new) w))
 
 -- a node that is below another
@@ -112,11 +117,13 @@ put_none : (k p index : ℕ) (f : Forest) → CanPut p k f → holds may_hold (k
 put_none k p index f can fits within =
     rw (can.there, can.parent, bound_none f p k can, misfit_none (kind_of f p) (kind_of f k) fits) (beyond_none f p index within)
 
-pub put_exhausts : (k p index : ℕ) (w : Working) → CanPut p k w.forest → holds may_hold (kind_of w.forest p) (kind_of w.forest k) ≡ true → index ≤ size_of w.forest p → Exhausts (put_step k p index w)
+pub put_exhausts : (k p index : ℕ) (w : Working) → CanPut p k w.forest → holds may_hold (kind_of w.forest p) (kind_of w.forest k) ≡ true
+    → index ≤ size_of w.forest p → Exhausts (put_step k p index w)
 unfolding put_step
 put_exhausts k p index w can fits within =
     answered_for (option_or (put_fault k p index w.forest) (over_counts w)) (node_placed k p index w)
-    (for_either (put_fault k p index w.forest) (over_counts w) (for_none (put_fault k p index w.forest) (put_none k p index w.forest can fits within)) (for_counts w))
+    (for_either (put_fault k p index w.forest) (over_counts w) (for_none (put_fault k p index w.forest) (put_none k p index w.forest can fits within))
+    (for_counts w))
 
 -- ---- remove
 
@@ -129,14 +136,16 @@ some_parent f k e = elim (cases_option (parent_of f k)) [
 sent_parent : (k p : ℕ) (w : Working) → parent_of w.forest k ≡ Some p → parent_of (sent_away k w).forest k ≡ Some p
 sent_parent k p w below = ap (λ f. parent_of f k) (sent_away-forest k w) ∙ below
 
-goes_on : (goes : Bool) (inner : Option Kind) (p : ℕ) (rest : List ℕ) (u : Working) → goes_too inner u.forest p ≡ goes → ((q : ℕ) → parent_of u.forest p ≡ Some q → Exhausts (removed p rest u)) → Exhausts (cond goes (removed p rest u) (Ok u))
+goes_on : (goes : Bool) (inner : Option Kind) (p : ℕ) (rest : List ℕ) (u : Working) → goes_too inner u.forest p ≡ goes
+    → ((q : ℕ) → parent_of u.forest p ≡ Some q → Exhausts (removed p rest u)) → Exhausts (cond goes (removed p rest u) (Ok u))
 goes_on true inner p rest u is next = let q = some_parent u.forest p (grind (arith, is)) in next q.0 q.1
 goes_on false inner p rest u is next = exhausts_ok u
 
 removed_exhausts : (k q : ℕ) (above : List ℕ) (w : Working) → parent_of w.forest k ≡ Some q → Exhausts (removed k above w)
 removed_exhausts k q [] w below = take_exhausts k q (sent_away k w) (sent_parent k q w below)
 removed_exhausts k q (p ∷ rest) w below =
-    exhausts_then (take_step k (sent_away k w)) (λ u. cond (goes_too (kind_of w.forest k) u.forest p) (removed p rest u) (Ok u)) (take_exhausts k q (sent_away k w) (sent_parent k q w below))
+    exhausts_then (take_step k (sent_away k w)) (λ u. cond (goes_too (kind_of w.forest k) u.forest p) (removed p rest u) (Ok u))
+    (take_exhausts k q (sent_away k w) (sent_parent k q w below))
     (λ u e. goes_on (goes_too (kind_of w.forest k) u.forest p) (kind_of w.forest k) p rest u refl (λ x above. removed_exhausts p x rest u above))
 
 pub remove_exhausts : (k p : ℕ) (w : Working) → parent_of w.forest k ≡ Some p → Exhausts (remove_step k w)

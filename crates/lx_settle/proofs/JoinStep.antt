@@ -45,7 +45,8 @@ pub record IsJoinedAt (k : ℕ) (w : Working) : Type 0 where
 found_in_key : (other x : ℕ) (own : TextFields) (o : Option TextFields) → (found_in other own o ≡ Empty x) ⊎ (found_in other own o ≡ Alike x) → other ≡ x
 found_in_key other x own None e = elim e [ inl a ↦ absurd (cc) | inr a ↦ absurd (cc) ]
 found_in_key other x own (Some t) e = by_tests (has_no_text t.text) ((eqb own.format t.format) && same_text own.style t.style) e where
-  by_tests : (a b : Bool) → (cond a (Empty other) (cond b (Alike other) Nothing) ≡ Empty x) ⊎ (cond a (Empty other) (cond b (Alike other) Nothing) ≡ Alike x) → other ≡ x
+  by_tests : (a b : Bool) → (cond a (Empty other) (cond b (Alike other) Nothing) ≡ Empty x) ⊎ (cond a (Empty other) (cond b (Alike other) Nothing) ≡ Alike x)
+      → other ≡ x
   by_tests true b e = elim e [ inl f ↦ (let g : other ≡ x = cc in g) | inr f ↦ absurd (cc) ]
   by_tests false true e = elim e [ inl f ↦ absurd (cc) | inr f ↦ (let g : other ≡ x = cc in g) ]
   by_tests false false e = elim e [ inl f ↦ absurd (cc) | inr f ↦ absurd (cc) ]
@@ -65,12 +66,15 @@ previous_of_none f None k n h up e top =
 previous_of_none f (Some p) k n h up e top = grind (arith, parent_of-previous f k n p h up e, top)
 
 -- so it was marked that its neighbour went
-marked_beside : (k n : ℕ) (w u : Working) → IsReady w → IsHomed (0 ∷ []) w u → (next_of w.forest k ≡ Some n) ⊎ (previous_of w.forest k ≡ Some n) → parent_of u.forest n ≡ None → is_touched u.fresh k ≡ true
+marked_beside : (k n : ℕ) (w u : Working) → IsReady w → IsHomed (0 ∷ []) w u → (next_of w.forest k ≡ Some n) ⊎ (previous_of w.forest k ≡ Some n)
+    → parent_of u.forest n ≡ None → is_touched u.fresh k ≡ true
 marked_beside k n w u r c beside top =
     elim (c.covered.fresh.seen k) [
       | inl same ↦ elim beside [
         | inl next ↦ absurd (next_of_none u.forest (parent_of u.forest k) k n c.covered.ready.in_order refl (next_stays w.forest u.forest k same.1 ∙ next) top)
-        | inr previous ↦ absurd (previous_of_none u.forest (parent_of u.forest k) k n c.covered.ready.in_order refl (previous_stays w.forest u.forest k same.1 ∙ previous) top)
+        | inr previous ↦
+            absurd (previous_of_none u.forest (parent_of u.forest k) k n c.covered.ready.in_order refl (previous_stays w.forest u.forest k same.1 ∙ previous)
+            top)
       ]
       | inr touched ↦ touched
     ]
@@ -81,7 +85,8 @@ joined_top : (first second : ℕ) (w v : Working) → IsReady w → texts_joined
 joined_top first second w v r e =
     let end : ℕ = length_at w.forest first in
     let text : List ℕ = text_or_none (text_in (label_of w.forest second)) in
-    ends w v (splice_step first end end text w) (λ u. take_step second (pointed (join_moves first end second) u)) (λ u f. (covered-splice first end end text w u r f).ready)
+    ends w v (splice_step first end end text w) (λ u. take_step second (pointed (join_moves first end second) u))
+    (λ u f. (covered-splice first end end text w u r f).ready)
     (λ u s f. taken_top second (pointed (join_moves first end second) u) v (points ready_path (join_moves first end second) u s) f) e
 
 join_top : (first second : ℕ) (w v : Working) → IsReady w → join_step first second w ≡ Ok v → parent_of v.forest second ≡ None
@@ -99,35 +104,41 @@ path = homed_path (0 ∷ [])
 
 -- after a first step that marked the node, it is marked
 marked_first : {P : Type 0} (k : ℕ) (w v : Working) (s : Result Working Cause) (again : Working → Result Working Cause)
-    → ((u : Working) → s ≡ Ok u → (is_touched u.fresh k ≡ true) × IsReady u) → ((u : Working) → IsReady u → again u ≡ Ok v → IsHomed (0 ∷ []) u v) → after s again ≡ Ok v → Untouched k w v P
+    → ((u : Working) → s ≡ Ok u → (is_touched u.fresh k ≡ true) × IsReady u) → ((u : Working) → IsReady u → again u ≡ Ok v → IsHomed (0 ∷ []) u v)
+    → after s again ≡ Ok v → Untouched k w v P
 marked_first k w v (Ok u) again first second e = λ there unmarked other.
     let f = first u refl in
     let c = second u f.1 e in
     absurd (grind (arith, unmarked, c.covered.fresh.touched k f.0))
 marked_first k w v (Err cause) again first second e = absurd (cc)
 
-join_on_by : (found : Found) (n k : ℕ) (w v : Working) → IsReady w → found_behind w.forest k ≡ found → joined_behind found k (join_on n k) w ≡ Ok v → Untouched k w v (found_behind w.forest k ≡ Nothing)
+join_on_by : (found : Found) (n k : ℕ) (w v : Working) → IsReady w → found_behind w.forest k ≡ found → joined_behind found k (join_on n k) w ≡ Ok v
+    → Untouched k w v (found_behind w.forest k ≡ Nothing)
 join_on_by Nothing n k w v r is e = λ there unmarked other. ((let same : v ≡ w = cc in same), is)
 join_on_by (Empty x) n k w v r is e =
     marked_first k w v (remove_step x w) (join_on n k) (λ u f.
     let c = remove_path path x w u r f in
-    (marked_beside k x w u r c (inl (found_key w.forest (next_of w.forest k) (simple_at w.forest k) x (inl is))) (remove_top x w u r f), c.covered.ready)) (λ u s f. join_on_path path n k u v s f) e
+    (marked_beside k x w u r c (inl (found_key w.forest (next_of w.forest k) (simple_at w.forest k) x (inl is))) (remove_top x w u r f), c.covered.ready))
+    (λ u s f. join_on_path path n k u v s f) e
 join_on_by (Alike x) n k w v r is e =
     marked_first k w v (join_step k x w) (join_on n k) (λ u f.
     let c = join_path path k x w u r f in
-    (marked_beside k x w u r c (inl (found_key w.forest (next_of w.forest k) (simple_at w.forest k) x (inr is))) (join_top k x w u r f), c.covered.ready)) (λ u s f. join_on_path path n k u v s f) e
+    (marked_beside k x w u r c (inl (found_key w.forest (next_of w.forest k) (simple_at w.forest k) x (inr is))) (join_top k x w u r f), c.covered.ready))
+    (λ u s f. join_on_path path n k u v s f) e
 
 join_on_first : (n k : ℕ) (w v : Working) → IsReady w → join_on (suc n) k w ≡ Ok v → Untouched k w v (found_behind w.forest k ≡ Nothing)
 unfolding join_on
 join_on_first n k w v r e = join_on_by (found_behind w.forest k) n k w v r refl e
 
-join_back_by : (found : Found) (n m k : ℕ) (w v : Working) → IsReady w → found_before w.forest k ≡ found → joined_before found k (join_back n) (join_on (suc m) k) w ≡ Ok v
+join_back_by : (found : Found) (n m k : ℕ) (w v : Working) → IsReady w → found_before w.forest k ≡ found
+    → joined_before found k (join_back n) (join_on (suc m) k) w ≡ Ok v
     → Untouched k w v ((found_behind w.forest k ≡ Nothing) × (found_before w.forest k ≡ Nothing))
 join_back_by Nothing n m k w v r is e = λ there unmarked other. let j = join_on_first m k w v r e there unmarked other in (j.0, (j.1, is))
 join_back_by (Empty x) n m k w v r is e =
     marked_first k w v (remove_step x w) (join_back n k) (λ u f.
     let c = remove_path path x w u r f in
-    (marked_beside k x w u r c (inr (found_key w.forest (previous_of w.forest k) (simple_at w.forest k) x (inl is))) (remove_top x w u r f), c.covered.ready)) (λ u s f. join_back_path path n k u v s f) e
+    (marked_beside k x w u r c (inr (found_key w.forest (previous_of w.forest k) (simple_at w.forest k) x (inl is))) (remove_top x w u r f), c.covered.ready))
+    (λ u s f. join_back_path path n k u v s f) e
 join_back_by (Alike x) n m k w v r is e = λ there unmarked other. absurd (other (gone_at (join_step x k w) refl e there)) where
   gone_at : (s : Result Working Cause) → join_step x k w ≡ s → after s (join_back n x) ≡ Ok v → is_attached v.forest k ≡ true → k ≡ 0
   gone_at (Ok u) joined_is f there =
@@ -136,7 +147,8 @@ join_back_by (Alike x) n m k w v r is e = λ there unmarked other. absurd (other
       top_root v.forest k t.ready.in_order (t.top (join_top x k w u r joined_is)) there
   gone_at (Err cause) joined_is f there = absurd (cc)
 
-join_back_first : (n k : ℕ) (w v : Working) → IsReady w → join_back (suc n) k w ≡ Ok v → Untouched k w v ((found_behind w.forest k ≡ Nothing) × (found_before w.forest k ≡ Nothing))
+join_back_first : (n k : ℕ) (w v : Working) → IsReady w → join_back (suc n) k w ≡ Ok v
+    → Untouched k w v ((found_behind w.forest k ≡ Nothing) × (found_before w.forest k ≡ Nothing))
 unfolding join_back
 join_back_first n k w v r e = join_back_by (found_before w.forest k) n most_counts k w v r refl e
 
@@ -166,7 +178,8 @@ nothing_joined k w v none e = (
   record { full = ap is_empty_text none; behind = λ own is. absurd (cc); before = λ own is. absurd (cc) },
 )
 
-by_emptiness : (b : Bool) (t : TextFields) (k : ℕ) (w v : Working) → IsReady w → simple_at w.forest k ≡ Some t → has_no_text t.text ≡ b → join_simple (Some b) k w ≡ Ok v
+by_emptiness : (b : Bool) (t : TextFields) (k : ℕ) (w v : Working) → IsReady w → simple_at w.forest k ≡ Some t → has_no_text t.text ≡ b
+    → join_simple (Some b) k w ≡ Ok v
     → is_attached v.forest k ≡ true → is_touched v.fresh k ≡ false → (v ≡ w) × IsJoinedAt k w
 by_emptiness true t k w v r is empty e there unmarked =
     absurd (not_root w.forest k t r.in_order is (top_root v.forest k (remove_path path k w v r e).covered.ready.in_order (remove_top k w v r e) there))
@@ -179,7 +192,8 @@ by_simple : (o : Option TextFields) (k : ℕ) (w v : Working) → IsReady w → 
 by_simple None k w v r is e there unmarked = nothing_joined k w v is e
 by_simple (Some t) k w v r is e there unmarked = by_emptiness (has_no_text t.text) t k w v r is refl e there unmarked
 
-pub join_stood : (k : ℕ) (w v : Working) → IsReady w → join_around_step k w ≡ Ok v → is_attached v.forest k ≡ true → is_touched v.fresh k ≡ false → (v ≡ w) × IsJoinedAt k w
+pub join_stood : (k : ℕ) (w v : Working) → IsReady w → join_around_step k w ≡ Ok v → is_attached v.forest k ≡ true → is_touched v.fresh k ≡ false
+    → (v ≡ w) × IsJoinedAt k w
 unfolding join_around_step
 join_stood k w v r e there unmarked =
     by_simple (simple_at w.forest k) k w v r refl (allowed_by w v (unknown w.forest k) (joined_around k) (λ f. f) e) there unmarked
@@ -187,19 +201,21 @@ join_stood k w v r e there unmarked =
 -- ---- what is found nowhere isn't alike
 
 alike_sym : (a b : TextFields) → ((eqb a.format b.format) && same_text a.style b.style) ≡ ((eqb b.format a.format) && same_text b.style a.style)
-alike_sym a b = both (eqb a.format b.format) (eqb b.format a.format) (same_text a.style b.style) (same_text b.style a.style) (grind (arith, eqb_tells a.format b.format, eqb_tells b.format a.format)) (text_sym a.style b.style) where
-  both : (p q x y : Bool) → p ≡ q → x ≡ y → (p && x) ≡ (q && y)
-  both p q x y e f = grind (arith, e, f)
+alike_sym a b =
+    both (eqb a.format b.format) (eqb b.format a.format) (same_text a.style b.style) (same_text b.style a.style)
+    (grind (arith, eqb_tells a.format b.format, eqb_tells b.format a.format)) (text_sym a.style b.style) where
+      both : (p q x y : Bool) → p ≡ q → x ≡ y → (p && x) ≡ (q && y)
+      both p q x y e f = grind (arith, e, f)
 
-  text_sym : (x y : List ℕ) → same_text x y ≡ same_text y x
-  text_sym x y =
-      elim (cases_Bool (same_text x y)) [
-        | inl same ↦ same ∙ sym ((same_text-Decides y x).1 (sym ((same_text-Decides x y).0 same)))
-        | inr differs ↦ elim (cases_Bool (same_text y x)) [
-          | inl turned ↦ absurd (grind (arith, differs, (same_text-Decides x y).1 (sym ((same_text-Decides y x).0 turned))))
-          | inr also ↦ differs ∙ sym also
-        ]
-      ]
+      text_sym : (x y : List ℕ) → same_text x y ≡ same_text y x
+      text_sym x y =
+          elim (cases_Bool (same_text x y)) [
+            | inl same ↦ same ∙ sym ((same_text-Decides y x).1 (sym ((same_text-Decides x y).0 same)))
+            | inr differs ↦ elim (cases_Bool (same_text y x)) [
+              | inl turned ↦ absurd (grind (arith, differs, (same_text-Decides x y).1 (sym ((same_text-Decides y x).0 turned))))
+              | inr also ↦ differs ∙ sym also
+            ]
+          ]
 
 nothing_in : (n : ℕ) (own : TextFields) (o : Option TextFields) → found_in n own o ≡ Nothing → are_alike (Some own) o ≡ false
 nothing_in n own None e = refl
@@ -220,10 +236,14 @@ pub apart_behind : (k n : ℕ) (w : Working) → IsJoinedAt k w → next_of w.fo
 apart_behind k n w j next = by_own (simple_at w.forest k) refl where
   by_own : (o : Option TextFields) → simple_at w.forest k ≡ o → are_alike o (simple_at w.forest n) ≡ false
   by_own None is = refl
-  by_own (Some own) is = nothing_in n own (simple_at w.forest n) (sym (ap (λ o. found_by w.forest o (simple_at w.forest k)) next ∙ ap (λ o. found_by w.forest (Some n) o) is) ∙ j.behind own is)
+  by_own (Some own) is =
+      nothing_in n own (simple_at w.forest n)
+      (sym (ap (λ o. found_by w.forest o (simple_at w.forest k)) next ∙ ap (λ o. found_by w.forest (Some n) o) is) ∙ j.behind own is)
 
 pub apart_before : (k n : ℕ) (w : Working) → IsJoinedAt k w → previous_of w.forest k ≡ Some n → are_alike (simple_at w.forest n) (simple_at w.forest k) ≡ false
 apart_before k n w j previous = alike_turned (simple_at w.forest n) (simple_at w.forest k) ∙ by_own (simple_at w.forest k) refl where
   by_own : (o : Option TextFields) → simple_at w.forest k ≡ o → are_alike o (simple_at w.forest n) ≡ false
   by_own None is = refl
-  by_own (Some own) is = nothing_in n own (simple_at w.forest n) (sym (ap (λ o. found_by w.forest o (simple_at w.forest k)) previous ∙ ap (λ o. found_by w.forest (Some n) o) is) ∙ j.before own is)
+  by_own (Some own) is =
+      nothing_in n own (simple_at w.forest n)
+      (sym (ap (λ o. found_by w.forest o (simple_at w.forest k)) previous ∙ ap (λ o. found_by w.forest (Some n) o) is) ∙ j.before own is)

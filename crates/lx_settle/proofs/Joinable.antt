@@ -88,14 +88,17 @@ splice-parent : (k from to : ℕ) (new : List ℕ) (q : ℕ) (w v : Working) →
 unfolding splice_step
 splice-parent k from to new q w v e =
     let fields : Fields = label_with_piece (label_of w.forest k) from to new in
-    ap (λ (x : Working). parent_of x.forest q) (sym ((answered (option_or (splice_fault k from to w.forest) (over_limits (length new) w)) (fields_written k fields (length new) (splice_points k from to new) w) v e).1))
+    ap (λ (x : Working). parent_of x.forest q)
+    (sym ((answered (option_or (splice_fault k from to w.forest) (over_limits (length new) w))
+    (fields_written k fields (length new) (splice_points k from to new) w) v e).1))
     ∙ parent_of-with_fields k fields w.forest q
 
 is_key_own : (o : Option ℕ) (k : ℕ) → o ≡ Some k → is_key o k ≡ true
 is_key_own None k e = absurd (cc)
 is_key_own (Some x) k e = grind (arith, e)
 
-join_exhausts : (first second p : ℕ) (a b : TextFields) (w : Working) → simple_at w.forest first ≡ Some a → simple_at w.forest second ≡ Some b → next_of w.forest first ≡ Some second → parent_of w.forest second ≡ Some p → Exhausts (join_step first second w)
+join_exhausts : (first second p : ℕ) (a b : TextFields) (w : Working) → simple_at w.forest first ≡ Some a → simple_at w.forest second ≡ Some b
+    → next_of w.forest first ≡ Some second → parent_of w.forest second ≡ Some p → Exhausts (join_step first second w)
 unfolding join_step
 join_exhausts first second p a b w is_a is_b next below =
     let end : ℕ = length_at w.forest first in
@@ -108,7 +111,8 @@ join_exhausts first second p a b w is_a is_b next below =
 
 -- ---- again and again
 
-on_by : (found : Found) (k : ℕ) (again : Working → Result Working Cause) (w : Working) → IsReady w → found_behind w.forest k ≡ found → ((u : Working) → IsReady u → Exhausts (again u)) → Exhausts (joined_behind found k again w)
+on_by : (found : Found) (k : ℕ) (again : Working → Result Working Cause) (w : Working) → IsReady w → found_behind w.forest k ≡ found
+    → ((u : Working) → IsReady u → Exhausts (again u)) → Exhausts (joined_behind found k again w)
 on_by Nothing k again w r is next = exhausts_ok w
 on_by (Empty x) k again w r is next =
     let s = next_siblings w.forest k x r.in_order (found_key w.forest (next_of w.forest k) (simple_at w.forest k) x (inl is)) in
@@ -117,14 +121,16 @@ on_by (Alike x) k again w r is next =
     let behind = found_key w.forest (next_of w.forest k) (simple_at w.forest k) x (inr is) in
     let s = next_siblings w.forest k x r.in_order behind in
     let t = alike_simple w.forest (next_of w.forest k) (simple_at w.forest k) x is in
-    exhausts_then (join_step k x w) again (join_exhausts k x s.parent t.own t.other w t.own_is t.other_is behind s.second) (λ u e. next u (join_path ready_path k x w u r e))
+    exhausts_then (join_step k x w) again (join_exhausts k x s.parent t.own t.other w t.own_is t.other_is behind s.second)
+    (λ u e. next u (join_path ready_path k x w u r e))
 
 on_exhausts : (n k : ℕ) (w : Working) → IsReady w → Exhausts (join_on n k w)
 unfolding join_on
 on_exhausts zero k w r = exhausts_ok w
 on_exhausts (suc n) k w r = on_by (found_behind w.forest k) k (join_on n k) w r refl (λ u s. on_exhausts n k u s)
 
-back_by : (found : Found) (k : ℕ) (again : ℕ → Working → Result Working Cause) (last : Working → Result Working Cause) (w : Working) → IsReady w → found_before w.forest k ≡ found
+back_by : (found : Found) (k : ℕ) (again : ℕ → Working → Result Working Cause) (last : Working → Result Working Cause) (w : Working) → IsReady w
+    → found_before w.forest k ≡ found
     → ((x : ℕ) (u : Working) → IsReady u → Exhausts (again x u)) → Exhausts (last w) → Exhausts (joined_before found k again last w)
 back_by Nothing k again last w r is next end = end
 back_by (Empty x) k again last w r is next end =
@@ -134,7 +140,8 @@ back_by (Alike x) k again last w r is next end =
     let before = found_key w.forest (previous_of w.forest k) (simple_at w.forest k) x (inr is) in
     let s = previous_siblings w.forest k x r.in_order before in
     let t = alike_simple w.forest (previous_of w.forest k) (simple_at w.forest k) x is in
-    exhausts_then (join_step x k w) (again x) (join_exhausts x k s.parent t.other t.own w t.other_is t.own_is (previous_next w.forest k x r.in_order before) s.first)
+    exhausts_then (join_step x k w) (again x)
+    (join_exhausts x k s.parent t.other t.own w t.other_is t.own_is (previous_next w.forest k x r.in_order before) s.first)
     (λ u e. next x u (join_path ready_path x k w u r e))
 
 back_exhausts : (n k : ℕ) (w : Working) → IsReady w → Exhausts (join_back n k w)
@@ -145,13 +152,15 @@ back_exhausts (suc n) k w r =
 
 -- ---- the join step
 
-simple_exhausts : (empty : Bool) (k : ℕ) (t : TextFields) (w : Working) → IsReady w → is_attached w.forest k ≡ true → simple_at w.forest k ≡ Some t → Exhausts (join_simple (Some empty) k w)
+simple_exhausts : (empty : Bool) (k : ℕ) (t : TextFields) (w : Working) → IsReady w → is_attached w.forest k ≡ true → simple_at w.forest k ≡ Some t
+    → Exhausts (join_simple (Some empty) k w)
 simple_exhausts true k t w r there is =
     let p = attached_parent w.forest k r.in_order there (not_root w.forest k t r.in_order is) in
     remove_exhausts k p.0 w p.1
 simple_exhausts false k t w r there is = back_exhausts enough k w r
 
-around_by : (o : Option TextFields) (k : ℕ) (w : Working) → IsReady w → is_attached w.forest k ≡ true → simple_at w.forest k ≡ o → Exhausts (join_simple (emptiness o) k w)
+around_by : (o : Option TextFields) (k : ℕ) (w : Working) → IsReady w → is_attached w.forest k ≡ true → simple_at w.forest k ≡ o
+    → Exhausts (join_simple (emptiness o) k w)
 around_by None k w r there is = exhausts_ok w
 around_by (Some t) k w r there is = simple_exhausts _ k t w r there is
 

@@ -39,7 +39,8 @@ IsPending todo w q = (is_among q todo ≡ true) ⊎ (is_touched w.fresh q ≡ tr
 
 pub record IsJoining (todo : List ℕ) (w : Working) : Type 0 where
   pub full : (q : ℕ) → is_attached w.forest q ≡ true → (is_empty_text (simple_at w.forest q) ≡ false) ⊎ IsPending todo w q
-  pub apart : (q n : ℕ) → is_attached w.forest q ≡ true → next_of w.forest q ≡ Some n → (are_alike (simple_at w.forest q) (simple_at w.forest n) ≡ false) ⊎ (IsPending todo w q ⊎ IsPending todo w n)
+  pub apart : (q n : ℕ) → is_attached w.forest q ≡ true → next_of w.forest q ≡ Some n
+      → (are_alike (simple_at w.forest q) (simple_at w.forest n) ≡ false) ⊎ (IsPending todo w q ⊎ IsPending todo w n)
   pub sorted : AreElements w.forest w.fresh
   pub ready : IsReady w
 
@@ -106,26 +107,35 @@ next_previous f q k h e = next_previous_below f (parent_of f q) q k h refl e
 still_pending : (k : ℕ) (todo : List ℕ) (w v : Working) (q : ℕ) → IsCarried w v → eqb k q ≡ false → IsPending (k ∷ todo) w q → IsPending todo v q
 still_pending k todo w v q c other p = elim p [ inl among ↦ inl (grind (arith, among, other)) | inr touched ↦ inr (c.covered.fresh.touched q touched) ]
 
-full_by : (k : ℕ) (todo : List ℕ) (w v : Working) (q : ℕ) → IsJoining (k ∷ todo) w → IsJoinTurn k w v → is_attached v.forest q ≡ true → is_touched v.fresh q ≡ false → (is_empty_text (simple_at v.forest q) ≡ false) ⊎ IsPending todo v q
+full_by : (k : ℕ) (todo : List ℕ) (w v : Working) (q : ℕ) → IsJoining (k ∷ todo) w → IsJoinTurn k w v → is_attached v.forest q ≡ true
+    → is_touched v.fresh q ≡ false → (is_empty_text (simple_at v.forest q) ≡ false) ⊎ IsPending todo v q
 full_by k todo w v q j t there unmarked =
     let b = as_before w v q t.carried there unmarked in
     elim (j.full q b.attached) [
       | inl full ↦ inl (ap is_empty_text b.simple ∙ full)
       | inr pending ↦ elim (eqb_tells k q) [
-        | inl own ↦ inl (ap is_empty_text b.simple ∙ subst (λ x. is_empty_text (simple_at w.forest x) ≡ false) own.1 (t.joined (subst (λ x. is_attached v.forest x ≡ true) (sym own.1) there) (subst (λ x. is_touched v.fresh x ≡ false) (sym own.1) unmarked)).full)
+        | inl own ↦
+            inl (ap is_empty_text b.simple
+            ∙ subst (λ x. is_empty_text (simple_at w.forest x) ≡ false) own.1
+            (t.joined (subst (λ x. is_attached v.forest x ≡ true) (sym own.1) there) (subst (λ x. is_touched v.fresh x ≡ false) (sym own.1) unmarked)).full)
         | inr other ↦ inr (still_pending k todo w v q t.carried other.0 pending)
       ]
     ]
 
 -- two neighbours of which one had its turn and neither is marked are apart
-apart_turned : (k : ℕ) (w v : Working) (q n : ℕ) → IsReady w → IsJoinTurn k w v → is_attached v.forest q ≡ true → is_touched v.fresh q ≡ false → is_attached v.forest n ≡ true → is_touched v.fresh n ≡ false
+apart_turned : (k : ℕ) (w v : Working) (q n : ℕ) → IsReady w → IsJoinTurn k w v → is_attached v.forest q ≡ true → is_touched v.fresh q ≡ false
+    → is_attached v.forest n ≡ true → is_touched v.fresh n ≡ false
     → next_of w.forest q ≡ Some n → (k ≡ q) ⊎ (k ≡ n) → are_alike (simple_at w.forest q) (simple_at w.forest n) ≡ false
 apart_turned k w v q n r t there unmarked there_n unmarked_n next own = elim own [
-  | inl first ↦ apart_behind q n w (subst (λ x. is_attached v.forest x ≡ true → is_touched v.fresh x ≡ false → IsJoinedAt x w) first t.joined there unmarked) next
-  | inr second ↦ apart_before n q w (subst (λ x. is_attached v.forest x ≡ true → is_touched v.fresh x ≡ false → IsJoinedAt x w) second t.joined there_n unmarked_n) (next_previous w.forest q n r.in_order next)
+  | inl first ↦
+      apart_behind q n w (subst (λ x. is_attached v.forest x ≡ true → is_touched v.fresh x ≡ false → IsJoinedAt x w) first t.joined there unmarked) next
+  | inr second ↦
+      apart_before n q w (subst (λ x. is_attached v.forest x ≡ true → is_touched v.fresh x ≡ false → IsJoinedAt x w) second t.joined there_n unmarked_n)
+      (next_previous w.forest q n r.in_order next)
 ]
 
-apart_by : (k : ℕ) (todo : List ℕ) (w v : Working) (q n : ℕ) → IsJoining (k ∷ todo) w → IsJoinTurn k w v → is_attached v.forest q ≡ true → next_of v.forest q ≡ Some n → is_touched v.fresh q ≡ false → is_touched v.fresh n ≡ false
+apart_by : (k : ℕ) (todo : List ℕ) (w v : Working) (q n : ℕ) → IsJoining (k ∷ todo) w → IsJoinTurn k w v → is_attached v.forest q ≡ true
+    → next_of v.forest q ≡ Some n → is_touched v.fresh q ≡ false → is_touched v.fresh n ≡ false
     → (are_alike (simple_at v.forest q) (simple_at v.forest n) ≡ false) ⊎ (IsPending todo v q ⊎ IsPending todo v n)
 apart_by k todo w v q n j t there next unmarked unmarked_n =
     let there_n = next_attached v.forest q n t.carried.covered.ready.in_order there next in
@@ -153,7 +163,9 @@ join_turned k todo w v j t = record {
   full = λ q there. elim (cases_Bool (is_touched v.fresh q)) [ inl touched ↦ inr (inr touched) | inr unmarked ↦ full_by k todo w v q j t there unmarked ];
   apart = λ q n there next. elim (cases_Bool (is_touched v.fresh q)) [
     | inl touched ↦ inr (inl (inr touched))
-    | inr unmarked ↦ elim (cases_Bool (is_touched v.fresh n)) [ inl touched ↦ inr (inr (inr touched)) | inr unmarked_n ↦ apart_by k todo w v q n j t there next unmarked unmarked_n ]
+    | inr unmarked ↦
+        elim (cases_Bool (is_touched v.fresh n))
+        [ inl touched ↦ inr (inr (inr touched)) | inr unmarked_n ↦ apart_by k todo w v q n j t there next unmarked unmarked_n ]
   ];
   sorted = t.carried.covered.elements j.sorted;
   ready = t.carried.covered.ready;
@@ -164,7 +176,9 @@ pub joining_carried : (todo : List ℕ) (w v : Working) → IsJoining todo w →
 joining_carried todo w v j c = record {
   full = λ q there. elim (cases_Bool (is_touched v.fresh q)) [
     | inl touched ↦ inr (inr touched)
-    | inr unmarked ↦ let b = as_before w v q c there unmarked in elim (j.full q b.attached) [ inl full ↦ inl (ap is_empty_text b.simple ∙ full) | inr pending ↦ inr (pending_still todo w v q c pending) ]
+    | inr unmarked ↦ let b =
+        as_before w v q c there unmarked in
+        elim (j.full q b.attached) [ inl full ↦ inl (ap is_empty_text b.simple ∙ full) | inr pending ↦ inr (pending_still todo w v q c pending) ]
   ];
   apart = λ q n there next. elim (cases_Bool (is_touched v.fresh q)) [
     | inl touched ↦ inr (inl (inr touched))
@@ -191,20 +205,23 @@ was_unmarked : (u v : Working) (k : ℕ) → IsCarried u v → is_touched v.fres
 was_unmarked u v k c unmarked =
     elim (cases_Bool (is_touched u.fresh k)) [ inl touched ↦ absurd (grind (arith, unmarked, c.covered.fresh.touched k touched)) | inr none ↦ none ]
 
-leaf_then : (rules : List Answers) (k : ℕ) (w v : Working) (s : Result Working Cause) → IsReady w → join_around_step k w ≡ s → after s (rules_step rules k) ≡ Ok v → is_attached v.forest k ≡ true → is_touched v.fresh k ≡ false → IsJoinedAt k w
+leaf_then : (rules : List Answers) (k : ℕ) (w v : Working) (s : Result Working Cause) → IsReady w → join_around_step k w ≡ s
+    → after s (rules_step rules k) ≡ Ok v → is_attached v.forest k ≡ true → is_touched v.fresh k ≡ false → IsJoinedAt k w
 leaf_then rules k w v (Ok u) r is e there unmarked =
     let c = join_carried k w u r is in
     let t = rules_turned acts_are_marked rules k u v c.covered.ready e in
     (join_stood k w u r is (as_before u v k t.carried there unmarked).attached (was_unmarked u v k t.carried unmarked)).1
 leaf_then rules k w v (Err cause) r is e there unmarked = absurd (cc)
 
-leaf_by : (rules : List Answers) (k : ℕ) (here : Bool) (w v : Working) → is_attached w.forest k ≡ here → IsReady w → cond here (after (join_around_step k w) (rules_step rules k)) (Ok w) ≡ Ok v
+leaf_by : (rules : List Answers) (k : ℕ) (here : Bool) (w v : Working) → is_attached w.forest k ≡ here → IsReady w
+    → cond here (after (join_around_step k w) (rules_step rules k)) (Ok w) ≡ Ok v
     → is_attached v.forest k ≡ true → is_touched v.fresh k ≡ false → IsJoinedAt k w
 leaf_by rules k true w v is r e there unmarked = leaf_then rules k w v (join_around_step k w) r refl e there unmarked
 leaf_by rules k false w v is r e there unmarked =
     let same : v ≡ w = cc in absurd (grind (arith, is, subst (λ x. is_attached x.forest k ≡ true) same there))
 
-leaf_joined : (rules : List Answers) (k : ℕ) (w v : Working) → IsReady w → leaf_step rules k w ≡ Ok v → is_attached v.forest k ≡ true → is_touched v.fresh k ≡ false → IsJoinedAt k w
+leaf_joined : (rules : List Answers) (k : ℕ) (w v : Working) → IsReady w → leaf_step rules k w ≡ Ok v → is_attached v.forest k ≡ true
+    → is_touched v.fresh k ≡ false → IsJoinedAt k w
 unfolding leaf_step
 leaf_joined rules k w v r e there unmarked = leaf_by rules k (is_attached w.forest k) w v refl r e there unmarked
 
@@ -216,7 +233,8 @@ leaf_join_turn rules k w v r e = record {
 
 -- ---- passes
 
-one_more : (rules : List Answers) (step : ℕ → Working → Result Working Cause) (k : ℕ) (todo left : List ℕ) (w v : Working) (s : Result Working Cause) → ((u : Working) → s ≡ Ok u → IsJoining left u)
+one_more : (rules : List Answers) (step : ℕ → Working → Result Working Cause) (k : ℕ) (todo left : List ℕ) (w v : Working) (s : Result Working Cause)
+    → ((u : Working) → s ≡ Ok u → IsJoining left u)
     → ((u : Working) → IsJoining left u → in_turn step todo u ≡ Ok v → IsJoining [] v) → after s (in_turn step todo) ≡ Ok v → IsJoining [] v
 one_more rules step k todo left w v (Ok u) first second e = second u (first u refl) e
 one_more rules step k todo left w v (Err cause) first second e = absurd (cc)
@@ -225,13 +243,15 @@ over_leaves : (rules : List Answers) (todo : List ℕ) (w v : Working) → IsJoi
 unfolding in_turn
 over_leaves rules [] w v j e = let same : w ≡ v = cc in subst (IsJoining []) same j
 over_leaves rules (k ∷ todo) w v j e =
-    one_more rules (leaf_step rules) k todo todo w v (leaf_step rules k w) (λ u f. join_turned k todo w u j (leaf_join_turn rules k w u j.ready f)) (λ u next f. over_leaves rules todo u v next f) e
+    one_more rules (leaf_step rules) k todo todo w v (leaf_step rules k w) (λ u f. join_turned k todo w u j (leaf_join_turn rules k w u j.ready f))
+    (λ u next f. over_leaves rules todo u v next f) e
 
 over_elements : (rules : List Answers) (todo : List ℕ) (w v : Working) → IsJoining [] w → in_turn (rules_step rules) todo w ≡ Ok v → IsJoining [] v
 unfolding in_turn
 over_elements rules [] w v j e = let same : w ≡ v = cc in subst (IsJoining []) same j
 over_elements rules (k ∷ todo) w v j e =
-    one_more rules (rules_step rules) k todo [] w v (rules_step rules k w) (λ u f. joining_carried [] w u j ((rules_turned acts_are_marked rules k w u j.ready f).carried))
+    one_more rules (rules_step rules) k todo [] w v (rules_step rules k w)
+    (λ u f. joining_carried [] w u j ((rules_turned acts_are_marked rules k w u j.ready f).carried))
     (λ u next f. over_elements rules todo u v next f) e
 
 -- ---- rounds
@@ -246,7 +266,8 @@ no_element f m q t s e flag =
 leaves_taken : (w : Working) (k : ℕ) (ks : List ℕ) → w.fresh.leaves ≡ k ∷ ks → IsJoining [] w → IsJoining (k ∷ ks) (taken w)
 leaves_taken w k ks leaves j = record {
   full = λ q there. elim (j.full q there) [ inl full ↦ inl full | inr pending ↦ inr (moved q pending) ];
-  apart = λ q n there next. elim (j.apart q n there next) [ inl apart ↦ inl apart | inr pending ↦ inr (elim pending [ inl first ↦ inl (moved q first) | inr second ↦ inr (moved n second) ]) ];
+  apart = λ q n there next. elim (j.apart q n there next)
+      [ inl apart ↦ inl apart | inr pending ↦ inr (elim pending [ inl first ↦ inl (moved q first) | inr second ↦ inr (moved n second) ]) ];
   sorted = record { each = λ q flag. j.sorted.each q (sym (ap (λ xs. is_true_flag (flag_in (elements_left xs w.fresh.elements) q)) leaves) ∙ flag) };
   ready = record { in_order = j.ready.in_order; free = j.ready.free };
 } where
@@ -262,7 +283,8 @@ leaves_taken w k ks leaves j = record {
   moved q p = elim p [ inl among ↦ absurd (cc) | inr touched ↦ by_leaves w.fresh.leaves w.fresh.elements q leaves touched ]
 
 -- where no leaf is marked no text is pending
-none_pending : (w : Working) (q : ℕ) (t : TextFields) → w.fresh.leaves ≡ [] → AreElements w.forest w.fresh → simple_at w.forest q ≡ Some t → IsPending [] w q → ⊥
+none_pending : (w : Working) (q : ℕ) (t : TextFields) → w.fresh.leaves ≡ [] → AreElements w.forest w.fresh → simple_at w.forest q ≡ Some t → IsPending [] w q
+    → ⊥
 none_pending w q t leaves s is p = elim p [
   | inl among ↦ cc
   | inr touched ↦ no_element w.forest w.fresh q t s is (no_leaf w.fresh.leaves (is_true_flag (flag_in w.fresh.elements q)) q leaves touched)
@@ -274,12 +296,16 @@ full_now w q leaves j there = elim (j.full q there) [ inl full ↦ full | inr pe
   by_text None is p = ap is_empty_text is
   by_text (Some t) is p = absurd (none_pending w q t leaves j.sorted is p)
 
-apart_now : (w : Working) (q n : ℕ) → w.fresh.leaves ≡ [] → IsJoining [] w → is_attached w.forest q ≡ true → next_of w.forest q ≡ Some n → are_alike (simple_at w.forest q) (simple_at w.forest n) ≡ false
-apart_now w q n leaves j there next = elim (j.apart q n there next) [ inl apart ↦ apart | inr pending ↦ by_texts (simple_at w.forest q) (simple_at w.forest n) refl refl pending ] where
-  by_texts : (a b : Option TextFields) → simple_at w.forest q ≡ a → simple_at w.forest n ≡ b → IsPending [] w q ⊎ IsPending [] w n → are_alike (simple_at w.forest q) (simple_at w.forest n) ≡ false
-  by_texts None b is_a is_b p = ap (λ o. are_alike o (simple_at w.forest n)) is_a
-  by_texts (Some a) None is_a is_b p = ap (λ o. are_alike o (simple_at w.forest n)) is_a ∙ ap (are_alike (Some a)) is_b
-  by_texts (Some a) (Some b) is_a is_b p = absurd (elim p [ inl first ↦ none_pending w q a leaves j.sorted is_a first | inr second ↦ none_pending w n b leaves j.sorted is_b second ])
+apart_now : (w : Working) (q n : ℕ) → w.fresh.leaves ≡ [] → IsJoining [] w → is_attached w.forest q ≡ true → next_of w.forest q ≡ Some n
+    → are_alike (simple_at w.forest q) (simple_at w.forest n) ≡ false
+apart_now w q n leaves j there next =
+    elim (j.apart q n there next) [ inl apart ↦ apart | inr pending ↦ by_texts (simple_at w.forest q) (simple_at w.forest n) refl refl pending ] where
+      by_texts : (a b : Option TextFields) → simple_at w.forest q ≡ a → simple_at w.forest n ≡ b → IsPending [] w q ⊎ IsPending [] w n
+          → are_alike (simple_at w.forest q) (simple_at w.forest n) ≡ false
+      by_texts None b is_a is_b p = ap (λ o. are_alike o (simple_at w.forest n)) is_a
+      by_texts (Some a) None is_a is_b p = ap (λ o. are_alike o (simple_at w.forest n)) is_a ∙ ap (are_alike (Some a)) is_b
+      by_texts (Some a) (Some b) is_a is_b p =
+          absurd (elim p [ inl first ↦ none_pending w q a leaves j.sorted is_a first | inr second ↦ none_pending w n b leaves j.sorted is_b second ])
 
 elements_taken : (w : Working) → w.fresh.leaves ≡ [] → IsJoining [] w → IsJoining [] (taken w)
 elements_taken w leaves j = record {
@@ -298,20 +324,24 @@ all_joined w leaves j = record {
   apart = λ q n there next. apart_now w q n leaves j there next;
 }
 
-pass_then : (w v : Working) (s : Result Working Cause) (again : Working → Result Working Cause) → ((u : Working) → s ≡ Ok u → IsJoining [] u) → ((u : Working) → IsJoining [] u → again u ≡ Ok v → IsJoined v.forest) → after s again ≡ Ok v → IsJoined v.forest
+pass_then : (w v : Working) (s : Result Working Cause) (again : Working → Result Working Cause) → ((u : Working) → s ≡ Ok u → IsJoining [] u)
+    → ((u : Working) → IsJoining [] u → again u ≡ Ok v → IsJoined v.forest) → after s again ≡ Ok v → IsJoined v.forest
 pass_then w v (Ok u) again first second e = second u (first u refl) e
 pass_then w v (Err cause) again first second e = absurd (cc)
 
-round_by_lists : (rules : List Answers) (leaves : List ℕ) (es : List (ℕ × Bool)) (w v : Working) (again : Working → Result Working Cause) → w.fresh.leaves ≡ leaves → IsJoining [] w
+round_by_lists : (rules : List Answers) (leaves : List ℕ) (es : List (ℕ × Bool)) (w v : Working) (again : Working → Result Working Cause)
+    → w.fresh.leaves ≡ leaves → IsJoining [] w
     → ((u : Working) → IsJoining [] u → again u ≡ Ok v → IsJoined v.forest) → passed rules (round_by leaves es) again w ≡ Ok v → IsJoined v.forest
 unfolding leaf_pass element_pass
 round_by_lists rules (k ∷ ks) es w v again leaves j next e =
     pass_then w v (leaf_pass rules (k ∷ ks) (taken w)) again (λ x f. over_leaves rules (k ∷ ks) (taken w) x (leaves_taken w k ks leaves j) f) next e
 round_by_lists rules [] (x ∷ es) w v again leaves j next e =
-    pass_then w v (element_pass rules (x ∷ es) (taken w)) again (λ y f. over_elements rules (turns_of (x ∷ es)) (taken w) y (elements_taken w leaves j) f) next e
+    pass_then w v (element_pass rules (x ∷ es) (taken w)) again (λ y f. over_elements rules (turns_of (x ∷ es)) (taken w) y (elements_taken w leaves j) f) next
+    e
 round_by_lists rules [] [] w v again leaves j next e = let same : w ≡ v = cc in subst (λ x. IsJoined x.forest) same (all_joined w leaves j)
 
-ended_by_lists : (leaves : List ℕ) (es : List (ℕ × Bool)) (w v : Working) → w.fresh.leaves ≡ leaves → IsJoining [] w → ended (round_by leaves es) w ≡ Ok v → IsJoined v.forest
+ended_by_lists : (leaves : List ℕ) (es : List (ℕ × Bool)) (w v : Working) → w.fresh.leaves ≡ leaves → IsJoining [] w → ended (round_by leaves es) w ≡ Ok v
+    → IsJoined v.forest
 ended_by_lists (k ∷ ks) es w v leaves j e = absurd (cc)
 ended_by_lists [] (x ∷ es) w v leaves j e = absurd (cc)
 ended_by_lists [] [] w v leaves j e = let same : w ≡ v = cc in subst (λ x. IsJoined x.forest) same (all_joined w leaves j)
@@ -319,7 +349,8 @@ ended_by_lists [] [] w v leaves j e = let same : w ≡ v = cc in subst (λ x. Is
 rounds_join : (rules : List Answers) (n : ℕ) (w v : Working) → IsJoining [] w → rounds rules n w ≡ Ok v → IsJoined v.forest
 unfolding rounds
 rounds_join rules zero w v j e = ended_by_lists w.fresh.leaves w.fresh.elements w v refl j e
-rounds_join rules (suc n) w v j e = round_by_lists rules w.fresh.leaves w.fresh.elements w v (rounds rules n) refl j (λ x way f. rounds_join rules n x v way f) e
+rounds_join rules (suc n) w v j e =
+    round_by_lists rules w.fresh.leaves w.fresh.elements w v (rounds rules n) refl j (λ x way f. rounds_join rules n x v way f) e
 
 -- Where each text that is empty, and one of two that are alike, is marked anew, settling leaves the forest joined.
 pub joins : (rules : List Answers) (w v : Working) → IsJoining [] w → settle_step rules w ≡ Ok v → IsJoined v.forest

@@ -31,7 +31,8 @@ stands_made : (v : View) (new : NewNode) (rest : Bool) → (may_stand v new && r
 stands_made v new rest e =
     let stands : may_stand v new ≡ true = first_of (may_stand v new) rest e in
     record {
-      other = held_other v.parent new.kind (second_of (not (is_root v.kind)) (is_held v.parent new.kind) (second_of (is_suited new) (not (is_root v.kind) && is_held v.parent new.kind) stands));
+      other = held_other v.parent new.kind
+          (second_of (not (is_root v.kind)) (is_held v.parent new.kind) (second_of (is_suited new) (not (is_root v.kind) && is_held v.parent new.kind) stands));
       of_kind = first_of (is_suited new) (not (is_root v.kind) && is_held v.parent new.kind) stands;
     }
 
@@ -56,6 +57,7 @@ child_made None new e = absurd (cc)
 child_made (Some v) new e =
     let rest : Bool = may_hold v.kind new.kind && not (list_any (same_kind new.kind) v.children) in
     record {
-      other = inside_other v.kind new.kind (first_of (may_hold v.kind new.kind) (not (list_any (same_kind new.kind) v.children)) (second_of (is_suited new) rest e));
+      other = inside_other v.kind new.kind
+          (first_of (may_hold v.kind new.kind) (not (list_any (same_kind new.kind) v.children)) (second_of (is_suited new) rest e));
       of_kind = first_of (is_suited new) rest e;
     }

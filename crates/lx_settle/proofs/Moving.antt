@@ -57,8 +57,10 @@ can_move f k p q h below there apart = record {
   outside = is_within-take_out k f k p h ∙ out_of (is_within f k p) _ apart;
 }
 
-pub fits-taken : (f : Forest) (k p c : ℕ) → IsForest f → holds may_hold (kind_of f p) (kind_of f c) ≡ true → holds may_hold (kind_of (take_out k f) p) (kind_of (take_out k f) c) ≡ true
-fits-taken f k p c h e = ap (λ o. holds may_hold o (kind_of (take_out k f) c)) (kind_of-take_out k f p h) ∙ ap (holds may_hold (kind_of f p)) (kind_of-take_out k f c h) ∙ e
+pub fits-taken : (f : Forest) (k p c : ℕ) → IsForest f → holds may_hold (kind_of f p) (kind_of f c) ≡ true
+    → holds may_hold (kind_of (take_out k f) p) (kind_of (take_out k f) c) ≡ true
+fits-taken f k p c h e =
+    ap (λ o. holds may_hold o (kind_of (take_out k f) c)) (kind_of-take_out k f p h) ∙ ap (holds may_hold (kind_of f p)) (kind_of-take_out k f c h) ∙ e
 
 -- ---- beside another
 
@@ -66,7 +68,8 @@ before_some : (made k p i : ℕ) (o x : Option ℕ) (w : Working) → o ≡ Some
 before_some made k p i o x w e f c =
     subst (λ a. Exhausts (before_at made k a x w)) (sym e) (subst (λ b. Exhausts (before_at made k (Some p) b w)) (sym f) c)
 
-behind_some : (made k p i : ℕ) (o x : Option ℕ) (w : Working) → o ≡ Some p → x ≡ Some i → Exhausts (put_step made p (i + 1) w) → Exhausts (behind_at made k o x w)
+behind_some : (made k p i : ℕ) (o x : Option ℕ) (w : Working) → o ≡ Some p → x ≡ Some i → Exhausts (put_step made p (i + 1) w)
+    → Exhausts (behind_at made k o x w)
 behind_some made k p i o x w e f c =
     subst (λ a. Exhausts (behind_at made k a x w)) (sym e) (subst (λ b. Exhausts (behind_at made k (Some p) b w)) (sym f) c)
 
@@ -80,13 +83,15 @@ place_of f k p h below =
       | inr (i, is) ↦ (i, same ∙ is, omega (arith, index_in-lt (children_of f p) k i is))
     ]
 
-pub before_exhausts : (made k p : ℕ) (w : Working) → IsForest w.forest → parent_of w.forest k ≡ Some p → CanPut p made w.forest → holds may_hold (kind_of w.forest p) (kind_of w.forest made) ≡ true → Exhausts (put_before_step made k w)
+pub before_exhausts : (made k p : ℕ) (w : Working) → IsForest w.forest → parent_of w.forest k ≡ Some p → CanPut p made w.forest
+    → holds may_hold (kind_of w.forest p) (kind_of w.forest made) ≡ true → Exhausts (put_before_step made k w)
 unfolding put_before_step
 before_exhausts made k p w h below can fits =
     let i = place_of w.forest k p h below in
     before_some made k p i.0 (parent_of w.forest k) (index_of w.forest k) w below i.1 (put_exhausts made p i.0 w can fits (omega (arith, i.2)))
 
-pub behind_exhausts : (made k p : ℕ) (w : Working) → IsForest w.forest → parent_of w.forest k ≡ Some p → CanPut p made w.forest → holds may_hold (kind_of w.forest p) (kind_of w.forest made) ≡ true → Exhausts (put_behind_step made k w)
+pub behind_exhausts : (made k p : ℕ) (w : Working) → IsForest w.forest → parent_of w.forest k ≡ Some p → CanPut p made w.forest
+    → holds may_hold (kind_of w.forest p) (kind_of w.forest made) ≡ true → Exhausts (put_behind_step made k w)
 unfolding put_behind_step
 behind_exhausts made k p w h below can fits =
     let i = place_of w.forest k p h below in
@@ -136,7 +141,8 @@ end_moved p c w v e =
 pub moved-parent : (c p q : ℕ) (f g : Forest) → IsForest f → HasMoved c p f g → eqb q c ≡ false → parent_of g q ≡ parent_of f q
 moved-parent c p q f g h m other =
     ap (λ x. parent_of x q) m.is ∙ parent_of-put_in p m.before c (take_out c f) q (IsForest-take_out c f h) m.can
-    ∙ ap (λ b. cond b (Some p) (parent_of (take_out c f) q)) other ∙ parent_of-take_out c f q h ∙ ap (λ b. cond b (let o : Option ℕ = None in o) (parent_of f q)) other
+    ∙ ap (λ b. cond b (Some p) (parent_of (take_out c f) q)) other ∙ parent_of-take_out c f q h
+    ∙ ap (λ b. cond b (let o : Option ℕ = None in o) (parent_of f q)) other
 
 moved-within : (c p q : ℕ) (f g : Forest) → IsForest f → HasMoved c p f g → is_within f q p ≡ false → is_within g q p ≡ false
 moved-within c p q f g h m apart =
@@ -171,7 +177,8 @@ first_among x xs = grind (arith, eqb_tells x x)
 pub later_among : (x c : ℕ) (xs : List ℕ) → is_among c xs ≡ true → is_among c (x ∷ xs) ≡ true
 later_among x c xs e = grind (arith, e)
 
-all_end : (from p : ℕ) (ks : List ℕ) (w : Working) → IsReady w → NoRepeats ks → has p w.forest ≡ true → ((c : ℕ) → is_among c ks ≡ true → IsMovable from p w.forest c) → Exhausts (in_turn (moved_to_end p) ks w)
+all_end : (from p : ℕ) (ks : List ℕ) (w : Working) → IsReady w → NoRepeats ks → has p w.forest ≡ true
+    → ((c : ℕ) → is_among c ks ≡ true → IsMovable from p w.forest c) → Exhausts (in_turn (moved_to_end p) ks w)
 unfolding in_turn
 all_end from p [] w r once there each = exhausts_ok w
 all_end from p (x ∷ ks) w r once there each =
@@ -181,7 +188,8 @@ all_end from p (x ∷ ks) w r once there each =
     (λ c among. moved-movable from p x c w.forest u.forest r.in_order m (apart_among x c ks among once.0) (each c (later_among x c ks among))))
 
 -- the place of another stays
-all_end-parent : (p : ℕ) (ks : List ℕ) (q : ℕ) (w v : Working) → IsReady w → is_among q ks ≡ false → in_turn (moved_to_end p) ks w ≡ Ok v → parent_of v.forest q ≡ parent_of w.forest q
+all_end-parent : (p : ℕ) (ks : List ℕ) (q : ℕ) (w v : Working) → IsReady w → is_among q ks ≡ false → in_turn (moved_to_end p) ks w ≡ Ok v
+    → parent_of v.forest q ≡ parent_of w.forest q
 unfolding in_turn
 all_end-parent p [] q w v r other e = let same : w ≡ v = cc in ap (λ (x : Working). parent_of x.forest q) (sym same)
 all_end-parent p (x ∷ ks) q w v r other e =
@@ -199,12 +207,14 @@ apart_child f from to c h apart below =
     ] where
       within_parent : (f : Forest) (from c : ℕ) → IsForest f → parent_of f c ≡ Some from → is_within f from c ≡ true
       within_parent f from c h below =
-          is_within-up f from c from h below (λ same. grind (arith, parent_of-self f c h, below, same, eqb_tells from c)) ∙ is_within-self f from ∙ has-parent_of f c from below
+          is_within-up f from c from h below (λ same. grind (arith, parent_of-self f c h, below, same, eqb_tells from c)) ∙ is_within-self f from
+          ∙ has-parent_of f c from below
 
 pub not_own_child : (f : Forest) (k : ℕ) → IsForest f → is_among k (children_of f k) ≡ false
 not_own_child f k h = is_among-children_of f k k h ∙ parent_of-self f k h
 
-pub misfits_none : (f : Forest) (outer : Option Kind) (ks : List ℕ) → ((c : ℕ) → is_among c ks ≡ true → holds may_hold outer (kind_of f c) ≡ true) → misfit_among f outer ks ≡ None
+pub misfits_none : (f : Forest) (outer : Option Kind) (ks : List ℕ) → ((c : ℕ) → is_among c ks ≡ true → holds may_hold outer (kind_of f c) ≡ true)
+    → misfit_among f outer ks ≡ None
 misfits_none f outer [] fits = refl
 misfits_none f outer (k ∷ ks) fits =
     rw (misfit_none outer (kind_of f k) (fits k (first_among k ks))) (misfits_none f outer ks (λ c among. fits c (later_among k c ks among)))
@@ -234,6 +244,9 @@ pub children-parent : (from to : ℕ) (w v : Working) → IsReady w → children
 unfolding children_step
 children-parent from to w v r e =
     allowed_by w v (children_fault from to w.forest) (children_moved from to) (λ f.
-    let a = first_part (in_turn (moved_to_end to) (children_of w.forest from) w) (λ u. Ok (brought from to (size_of w.forest to) (ends_of w.selection) u)) v f in
-    let same : brought from to (size_of w.forest to) (ends_of w.selection) a.0 ≡ v = let both : ◌≡◌ {A = Result Working Cause} (Ok (brought from to (size_of w.forest to) (ends_of w.selection) a.0)) (Ok v) = a.2 in cc in
-    ap (λ (x : Working). parent_of x.forest from) (sym same) ∙ all_end-parent to (children_of w.forest from) from w a.0 r (not_own_child w.forest from r.in_order) a.1) e
+    let a = first_part (in_turn (moved_to_end to) (children_of w.forest from) w) (λ u. Ok (brought from to (size_of w.forest to) (ends_of w.selection) u)) v
+    f in
+    let same : brought from to (size_of w.forest to) (ends_of w.selection) a.0 ≡ v =
+    let both : ◌≡◌ {A = Result Working Cause} (Ok (brought from to (size_of w.forest to) (ends_of w.selection) a.0)) (Ok v) = a.2 in cc in
+    ap (λ (x : Working). parent_of x.forest from) (sym same)
+    ∙ all_end-parent to (children_of w.forest from) from w a.0 r (not_own_child w.forest from r.in_order) a.1) e

@@ -50,8 +50,10 @@ previous_next f k n h e =
 
 next_in_other : (xs : List ℕ) (k n : ℕ) → NoRepeats xs → is_among k xs ≡ true → next_in xs k ≡ Some n → k ≢ n
 next_in_other xs k n once among e same =
-    let behind : slice_get xs (suc (place_in xs k)) ≡ Some k = sym (next_in-slice_get xs k (place_in xs k) once (slice_get-place_in xs k among)) ∙ e ∙ ap (λ x. Some x) (sym same) in
-    let twice : Some (suc (place_in xs k)) ≡ Some (place_in xs k) = sym (index_in-slice_get xs k (suc (place_in xs k)) once behind) ∙ index_in-among xs k among in
+    let behind : slice_get xs (suc (place_in xs k)) ≡ Some k =
+    sym (next_in-slice_get xs k (place_in xs k) once (slice_get-place_in xs k among)) ∙ e ∙ ap (λ x. Some x) (sym same) in
+    let twice : Some (suc (place_in xs k)) ≡ Some (place_in xs k) =
+    sym (index_in-slice_get xs k (suc (place_in xs k)) once behind) ∙ index_in-among xs k among in
     let equal : suc (place_in xs k) ≡ place_in xs k = cc in
     omega (arith, equal)
 

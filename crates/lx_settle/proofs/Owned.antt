@@ -80,7 +80,8 @@ top_path k = record {
   take = λ j w v r e. record { ready = (covered-take j w v r e).ready; top = λ t. top_take j w v r e t };
   put = λ j p index w v may r e. absurd may;
 } where
-  top_new : (kind : Kind) (fields : Fields) (w v : Working) → IsReady w → new_step kind fields w ≡ Ok v → parent_of w.forest k ≡ None → parent_of v.forest k ≡ None
+  top_new : (kind : Kind) (fields : Fields) (w v : Working) → IsReady w → new_step kind fields w ≡ Ok v → parent_of w.forest k ≡ None
+      → parent_of v.forest k ≡ None
   top_new kind fields w v r e t =
       let l : Label = record { key = w.next_key; kind = kind; fields = fields } in
       ap (λ (x : Working). parent_of x.forest k) (sym ((answered (over_limits (characters_of fields) w) (made kind fields w) v e).1))
@@ -88,13 +89,18 @@ top_path k = record {
 
   top_set : (j : ℕ) (fields : Fields) (w v : Working) → IsReady w → set_step j fields w ≡ Ok v → parent_of w.forest k ≡ None → parent_of v.forest k ≡ None
   top_set j fields w v r e t =
-      ap (λ (x : Working). parent_of x.forest k) (sym ((answered (option_or (set_fault j fields w.forest) (over_limits (characters_of fields) w)) (fields_written j fields (characters_of fields) (set_points j fields) w) v e).1))
+      ap (λ (x : Working). parent_of x.forest k)
+      (sym ((answered (option_or (set_fault j fields w.forest) (over_limits (characters_of fields) w))
+      (fields_written j fields (characters_of fields) (set_points j fields) w) v e).1))
       ∙ parent_of-with_fields j fields w.forest k ∙ t
 
-  top_splice : (j from to : ℕ) (new : List ℕ) (w v : Working) → IsReady w → splice_step j from to new w ≡ Ok v → parent_of w.forest k ≡ None → parent_of v.forest k ≡ None
+  top_splice : (j from to : ℕ) (new : List ℕ) (w v : Working) → IsReady w → splice_step j from to new w ≡ Ok v → parent_of w.forest k ≡ None
+      → parent_of v.forest k ≡ None
   top_splice j from to new w v r e t =
       let fields : Fields = label_with_piece (label_of w.forest j) from to new in
-      ap (λ (x : Working). parent_of x.forest k) (sym ((answered (option_or (splice_fault j from to w.forest) (over_limits (length new) w)) (fields_written j fields (length new) (splice_points j from to new) w) v e).1))
+      ap (λ (x : Working). parent_of x.forest k)
+      (sym ((answered (option_or (splice_fault j from to w.forest) (over_limits (length new) w))
+      (fields_written j fields (length new) (splice_points j from to new) w) v e).1))
       ∙ parent_of-with_fields j fields w.forest k ∙ t
 
   top_take : (j : ℕ) (w v : Working) → IsReady w → take_step j w ≡ Ok v → parent_of w.forest k ≡ None → parent_of v.forest k ≡ None
@@ -115,21 +121,25 @@ unfolding sent_away
 sent_ready k w r = sent_from_path ready_path k (parent_of w.forest k) (index_of w.forest k) w r
 
 -- where a chain of steps ends, the last one shows it
-pub ends : {Q : Type 0} (w v : Working) (r : Result Working Cause) (next : Working → Result Working Cause) → ((u : Working) → r ≡ Ok u → IsReady u) → ((u : Working) → IsReady u → next u ≡ Ok v → Q) → after r next ≡ Ok v → Q
+pub ends : {Q : Type 0} (w v : Working) (r : Result Working Cause) (next : Working → Result Working Cause) → ((u : Working) → r ≡ Ok u → IsReady u)
+    → ((u : Working) → IsReady u → next u ≡ Ok v → Q) → after r next ≡ Ok v → Q
 ends w v (Ok u) next first second e = second u (first u refl) e
 ends w v (Err cause) next first second e = absurd (cc)
 
-pub allowed_by : {Q : Type 0} (w v : Working) (o : Option Cause) (next : Working → Result Working Cause) → (next w ≡ Ok v → Q) → after (answer o w) next ≡ Ok v → Q
+pub allowed_by : {Q : Type 0} (w v : Working) (o : Option Cause) (next : Working → Result Working Cause) → (next w ≡ Ok v → Q) → after (answer o w) next ≡ Ok v
+    → Q
 allowed_by w v None next c e = c e
 allowed_by w v (Some cause) next c e = absurd (cc)
 
 removed_top : (k : ℕ) (above : List ℕ) (w v : Working) → IsReady w → removed k above w ≡ Ok v → parent_of v.forest k ≡ None
 removed_top k [] w v r e = taken_top k (sent_away k w) v (sent_ready k w r) e
 removed_top k (p ∷ above) w v r e = rest (take_step k (sent_away k w)) refl e where
-  rest : (s : Result Working Cause) → take_step k (sent_away k w) ≡ s → after s (λ u. cond (goes_too (kind_of w.forest k) u.forest p) (removed p above u) (Ok u)) ≡ Ok v → parent_of v.forest k ≡ None
+  rest : (s : Result Working Cause) → take_step k (sent_away k w) ≡ s
+      → after s (λ u. cond (goes_too (kind_of w.forest k) u.forest p) (removed p above u) (Ok u)) ≡ Ok v → parent_of v.forest k ≡ None
   rest (Ok u) is f =
       let ready : IsReady u = (covered-take k (sent_away k w) u (sent_ready k w r) is).ready in
-      (if_ (top_path k) (goes_too (kind_of w.forest k) u.forest p) (removed p above) u v ready (removed_path (top_path k) p above) f).top (taken_top k (sent_away k w) u (sent_ready k w r) is)
+      (if_ (top_path k) (goes_too (kind_of w.forest k) u.forest p) (removed p above) u v ready (removed_path (top_path k) p above) f).top
+      (taken_top k (sent_away k w) u (sent_ready k w r) is)
   rest (Err cause) is f = absurd (cc)
 
 pub remove_top : (k : ℕ) (w v : Working) → IsReady w → remove_step k w ≡ Ok v → parent_of v.forest k ≡ None
@@ -142,7 +152,8 @@ pub work_at : (o : Option View) (edit : SelfEdit) → has_work_at o edit ≡ tru
 work_at None edit e = absurd (cc)
 work_at (Some v) edit e = (v, refl, e)
 
-viewed_kind : (f : Forest) (q : ℕ) (o : Option (Spot Label)) (v : View) → option_map (viewed f q) o ≡ Some v → option_map (λ (l : Label). l.kind) (option_map (λ (s : Spot Label). s.label) o) ≡ Some v.kind
+viewed_kind : (f : Forest) (q : ℕ) (o : Option (Spot Label)) (v : View) → option_map (viewed f q) o ≡ Some v
+    → option_map (λ (l : Label). l.kind) (option_map (λ (s : Spot Label). s.label) o) ≡ Some v.kind
 viewed_kind f q None v e = absurd (cc)
 viewed_kind f q (Some s) v e = cc
 
@@ -167,7 +178,8 @@ unfolding put_step
 put_parent k p index w v r e =
     let a = answered (option_or (put_fault k p index w.forest) (over_counts w)) (node_placed k p index w) v e in
     let can = can_put w.forest k p index ((both_none (put_fault k p index w.forest) (over_counts w) a.0).0) in
-    ap (λ (x : Working). parent_of x.forest k) (sym a.1) ∙ parent_of-put_in p (slice_get (children_of w.forest p) index) k w.forest k r.in_order can ∙ grind (arith, eqb_tells k k)
+    ap (λ (x : Working). parent_of x.forest k) (sym a.1) ∙ parent_of-put_in p (slice_get (children_of w.forest p) index) k w.forest k r.in_order can
+    ∙ grind (arith, eqb_tells k k)
 
 record_there : (f : Forest) (k : ℕ) → has k f ≡ true → (r : Record) × (record_at f k ≡ Some r)
 record_there f k e =
@@ -177,7 +189,8 @@ record_there f k e =
     ]
 
 -- one that is put right before k is the one before it
-put_previous : (made p index k : ℕ) (w v : Working) → IsReady w → has k w.forest ≡ true → k ≢ made → slice_get (children_of w.forest p) index ≡ Some k → put_step made p index w ≡ Ok v → previous_of v.forest k ≡ Some made
+put_previous : (made p index k : ℕ) (w v : Working) → IsReady w → has k w.forest ≡ true → k ≢ made → slice_get (children_of w.forest p) index ≡ Some k
+    → put_step made p index w ≡ Ok v → previous_of v.forest k ≡ Some made
 unfolding put_step
 put_previous made p index k w v r there other at e =
     let a = answered (option_or (put_fault made p index w.forest) (over_counts w)) (node_placed made p index w) v e in
@@ -185,15 +198,20 @@ put_previous made p index k w v r there other at e =
     let before : Option ℕ = slice_get (children_of w.forest p) index in
     let old = record_there w.forest k there in
     let new : record_at (put_in p before made w.forest) k ≡ Some (linked_in p (place_behind before (children_of w.forest p)) before made k old.0) =
-    record_at-put_in p before made w.forest k r.in_order can (index_place (children_of w.forest p) before index refl) ∙ ap (option_map (linked_in p (place_behind before (children_of w.forest p)) before made k)) old.1 in
+    record_at-put_in p before made w.forest k r.in_order can (index_place (children_of w.forest p) before index refl)
+    ∙ ap (option_map (linked_in p (place_behind before (children_of w.forest p)) before made k)) old.1 in
     ap (λ (x : Working). previous_of x.forest k) (sym a.1)
     ∙ (IsRecordOf-record_at (put_in p before made w.forest) k (linked_in p (place_behind before (children_of w.forest p)) before made k old.0) new).prev
-    ∙ linked_before (eqb k made) (is_named before k) (place_behind before (children_of w.forest p)) made old.0.prev (grind (arith, other, eqb_tells k made)) (ap (λ o. is_named o k) at ∙ grind (arith, eqb_tells k k)) where
-      linked_before : (own before : Bool) (behind : Option ℕ) (made : ℕ) (prev : Option ℕ) → own ≡ false → before ≡ true → cond own behind (cond before (Some made) prev) ≡ Some made
+    ∙ linked_before (eqb k made) (is_named before k) (place_behind before (children_of w.forest p)) made old.0.prev (grind (arith, other, eqb_tells k made))
+    (ap (λ o. is_named o k) at ∙ grind (arith, eqb_tells k k)) where
+      linked_before : (own before : Bool) (behind : Option ℕ) (made : ℕ) (prev : Option ℕ) → own ≡ false → before ≡ true
+          → cond own behind (cond before (Some made) prev) ≡ Some made
       linked_before own before behind made prev e f = rw (e, f) refl
 
 -- one that is put right after k is the one after it
-put_next : (made p index k : ℕ) (w v : Working) → IsReady w → has k w.forest ≡ true → k ≢ made → place_behind (slice_get (children_of w.forest p) index) (children_of w.forest p) ≡ Some k → put_step made p index w ≡ Ok v → next_of v.forest k ≡ Some made
+put_next : (made p index k : ℕ) (w v : Working) → IsReady w → has k w.forest ≡ true → k ≢ made
+    → place_behind (slice_get (children_of w.forest p) index) (children_of w.forest p) ≡ Some k → put_step made p index w ≡ Ok v
+    → next_of v.forest k ≡ Some made
 unfolding put_step
 put_next made p index k w v r there other at e =
     let a = answered (option_or (put_fault made p index w.forest) (over_counts w)) (node_placed made p index w) v e in
@@ -202,11 +220,14 @@ put_next made p index k w v r there other at e =
     let behind : Option ℕ = place_behind before (children_of w.forest p) in
     let old = record_there w.forest k there in
     let new : record_at (put_in p before made w.forest) k ≡ Some (linked_in p behind before made k old.0) =
-    record_at-put_in p before made w.forest k r.in_order can (index_place (children_of w.forest p) before index refl) ∙ ap (option_map (linked_in p behind before made k)) old.1 in
+    record_at-put_in p before made w.forest k r.in_order can (index_place (children_of w.forest p) before index refl)
+    ∙ ap (option_map (linked_in p behind before made k)) old.1 in
     ap (λ (x : Working). next_of x.forest k) (sym a.1)
     ∙ (IsRecordOf-record_at (put_in p before made w.forest) k (linked_in p behind before made k old.0) new).next
-    ∙ linked_behind (eqb k made) (is_named behind k) before made old.0.next (grind (arith, other, eqb_tells k made)) (ap (λ o. is_named o k) at ∙ grind (arith, eqb_tells k k)) where
-      linked_behind : (own behind : Bool) (before : Option ℕ) (made : ℕ) (next : Option ℕ) → own ≡ false → behind ≡ true → cond own before (cond behind (Some made) next) ≡ Some made
+    ∙ linked_behind (eqb k made) (is_named behind k) before made old.0.next (grind (arith, other, eqb_tells k made))
+    (ap (λ o. is_named o k) at ∙ grind (arith, eqb_tells k k)) where
+      linked_behind : (own behind : Bool) (before : Option ℕ) (made : ℕ) (next : Option ℕ) → own ≡ false → behind ≡ true
+          → cond own before (cond behind (Some made) next) ≡ Some made
       linked_behind own behind before made next e f = rw (e, f) refl
 
 last_index : (b : Option ℕ) (xs : List ℕ) (i k : ℕ) → slice_get xs i ≡ Some k → slice_get xs (suc i) ≡ None → last_from b xs ≡ Some k
@@ -231,7 +252,8 @@ Changes : ℕ → Working → Working → Type 0
 Changes k w v = spot v.forest k ≡ spot w.forest k → record_at v.forest k ≡ record_at w.forest k → is_attached v.forest k ≡ true → ⊥
 
 -- a node that is below nothing now
-pub gone : (k : ℕ) (w v : Working) (x : View) → IsReady w → IsReady v → view_of w.forest k ≡ Some x → is_root x.kind ≡ false → parent_of v.forest k ≡ None → is_attached v.forest k ≡ true → ⊥
+pub gone : (k : ℕ) (w v : Working) (x : View) → IsReady w → IsReady v → view_of w.forest k ≡ Some x → is_root x.kind ≡ false → parent_of v.forest k ≡ None
+    → is_attached v.forest k ≡ true → ⊥
 gone k w v x r s seen other top there = grind (arith, root_at w.forest k x r.in_order (top_root v.forest k s.in_order top there) seen, other)
 
 -- a node that is below a new one now
@@ -242,7 +264,8 @@ below_new k w v r up same =
 
 pub above_new : (k : ℕ) (w v : Working) → IsReady w → IsReady v → parent_of v.forest w.next_key ≡ Some k → spot v.forest k ≡ spot w.forest k → ⊥
 above_new k w v r s up same =
-    let among : is_among w.next_key (children_of v.forest k) ≡ true = is_among-children_of v.forest w.next_key k s.in_order ∙ ap (λ o. is_named o k) up ∙ grind (arith, eqb_tells k k) in
+    let among : is_among w.next_key (children_of v.forest k) ≡ true =
+    is_among-children_of v.forest w.next_key k s.in_order ∙ ap (λ o. is_named o k) up ∙ grind (arith, eqb_tells k k) in
     let was : is_among w.next_key (children_of w.forest k) ≡ true = ap (λ o. is_among w.next_key (children_at o)) (sym same) ∙ among in
     new_child w.forest k w.next_key r.in_order (r.free w.next_key (omega arith)) was where
       new_child : (f : Forest) (k made : ℕ) → IsForest f → has made f ≡ false → is_among made (children_of f k) ≡ true → ⊥
@@ -269,8 +292,10 @@ kept_ready true k made w v r e = children_path ready_path k made w v r (λ c amo
 pub replace_top : (k made : ℕ) (keep : Bool) (w v : Working) → IsReady w → replace_step k made keep w ≡ Ok v → parent_of v.forest k ≡ None
 unfolding replace_step
 replace_top k made keep w v r e =
-    allowed_by w v (replace_fault k made keep w.forest) (λ a. after (put_before_step made k a) (λ b. after (kept keep k made b) (λ c. remove_step k (texts_pointed k made c)))) (λ f.
-    ends w v (put_before_step made k w) (λ b. after (kept keep k made b) (λ c. remove_step k (texts_pointed k made c))) (λ b g. put_before_path ready_path made k tt w b r g)
+    allowed_by w v (replace_fault k made keep w.forest)
+    (λ a. after (put_before_step made k a) (λ b. after (kept keep k made b) (λ c. remove_step k (texts_pointed k made c)))) (λ f.
+    ends w v (put_before_step made k w) (λ b. after (kept keep k made b) (λ c. remove_step k (texts_pointed k made c)))
+    (λ b g. put_before_path ready_path made k tt w b r g)
     (λ b s g. ends b v (kept keep k made b) (λ c. remove_step k (texts_pointed k made c)) (λ c h. kept_ready keep k made b c s h)
     (λ c t h. remove_top k (texts_pointed k made c) v (texts_pointed_path ready_path k made c t) h) g) f) e
 
@@ -282,14 +307,17 @@ pub unwrap_top : (k : ℕ) (w v : Working) → IsReady w → unwrap_step k w ≡
 unfolding unwrap_step
 unwrap_top k w v r e =
     allowed_by w v (unwrap_fault k w.forest) (unwrapped k) (λ f.
-    ends w v (in_turn (moved_before k) (children_of w.forest k) w) (λ u. remove_step k (brought_up k (parent_of w.forest k) (index_of w.forest k) (ends_of w.selection) u))
+    ends w v (in_turn (moved_before k) (children_of w.forest k) w)
+    (λ u. remove_step k (brought_up k (parent_of w.forest k) (index_of w.forest k) (ends_of w.selection) u))
     (λ u g. turns ready_path (moved_before k) (children_of w.forest k) (λ c among. moved_before_path ready_path k c tt) w u r g)
-    (λ u s g. remove_top k (brought_up k (parent_of w.forest k) (index_of w.forest k) (ends_of w.selection) u) v (brought_ready k (parent_of w.forest k) (index_of w.forest k) (ends_of w.selection) u s) g) f) e
+    (λ u s g. remove_top k (brought_up k (parent_of w.forest k) (index_of w.forest k) (ends_of w.selection) u) v
+    (brought_ready k (parent_of w.forest k) (index_of w.forest k) (ends_of w.selection) u s) g) f) e
 
 end_parent : (parent k : ℕ) (w v : Working) → IsReady w → moved_to_end parent k w ≡ Ok v → parent_of v.forest k ≡ Some parent
 unfolding moved_to_end
 end_parent parent k w v r e =
-    ends w v (take_step k w) (λ u. put_step k parent (size_of u.forest parent) u) (λ u f. (covered-take k w u r f).ready) (λ u s f. put_parent k parent (size_of u.forest parent) u v s f) e
+    ends w v (take_step k w) (λ u. put_step k parent (size_of u.forest parent) u) (λ u f. (covered-take k w u r f).ready)
+    (λ u s f. put_parent k parent (size_of u.forest parent) u v s f) e
 
 pub wrap_parent : (k made : ℕ) (w v : Working) → IsReady w → wrap_step k made w ≡ Ok v → parent_of v.forest k ≡ Some made
 unfolding wrap_step
@@ -297,22 +325,28 @@ wrap_parent k made w v r e =
     allowed_by w v (wrap_fault k made w.forest) (λ a. after (put_before_step made k a) (moved_to_end made k)) (λ f.
     ends w v (put_before_step made k w) (moved_to_end made k) (λ u g. put_before_path ready_path made k tt w u r g) (λ u s g. end_parent made k u v s g) f) e
 
-new_before : (made k : ℕ) (p index : Option ℕ) (w v : Working) → IsReady w → has k w.forest ≡ true → k ≢ made → parent_of w.forest k ≡ p → index_of w.forest k ≡ index → before_at made k p index w ≡ Ok v → previous_of v.forest k ≡ Some made
+new_before : (made k : ℕ) (p index : Option ℕ) (w v : Working) → IsReady w → has k w.forest ≡ true → k ≢ made → parent_of w.forest k ≡ p
+    → index_of w.forest k ≡ index → before_at made k p index w ≡ Ok v → previous_of v.forest k ≡ Some made
 new_before made k (Some p) (Some index) w v r there other up at e =
-    put_previous made p index k w v r there other (slice_get-index_in (children_of w.forest p) k index (ap (λ o. index_in (children_below w.forest o) k) (sym up) ∙ at)) e
+    put_previous made p index k w v r there other
+    (slice_get-index_in (children_of w.forest p) k index (ap (λ o. index_in (children_below w.forest o) k) (sym up) ∙ at)) e
 new_before made k _ _ w v r there other up at e = absurd (cc)
 
-pub put_before_previous : (k made : ℕ) (w v : Working) → IsReady w → has k w.forest ≡ true → k ≢ made → put_before_step made k w ≡ Ok v → previous_of v.forest k ≡ Some made
+pub put_before_previous : (k made : ℕ) (w v : Working) → IsReady w → has k w.forest ≡ true → k ≢ made → put_before_step made k w ≡ Ok v
+    → previous_of v.forest k ≡ Some made
 unfolding put_before_step
 put_before_previous k made w v r there other e = new_before made k (parent_of w.forest k) (index_of w.forest k) w v r there other refl refl e
 
-new_behind : (made k : ℕ) (p index : Option ℕ) (w v : Working) → IsReady w → has k w.forest ≡ true → k ≢ made → parent_of w.forest k ≡ p → index_of w.forest k ≡ index → behind_at made k p index w ≡ Ok v → next_of v.forest k ≡ Some made
+new_behind : (made k : ℕ) (p index : Option ℕ) (w v : Working) → IsReady w → has k w.forest ≡ true → k ≢ made → parent_of w.forest k ≡ p
+    → index_of w.forest k ≡ index → behind_at made k p index w ≡ Ok v → next_of v.forest k ≡ Some made
 new_behind made k (Some p) (Some index) w v r there other up at e =
     put_next made p (index + 1) k w v r there other
-    (behind_index (children_of w.forest p) index k (NoRepeats-children_of w.forest p r.in_order) (slice_get-index_in (children_of w.forest p) k index (ap (λ o. index_in (children_below w.forest o) k) (sym up) ∙ at))) e
+    (behind_index (children_of w.forest p) index k (NoRepeats-children_of w.forest p r.in_order)
+    (slice_get-index_in (children_of w.forest p) k index (ap (λ o. index_in (children_below w.forest o) k) (sym up) ∙ at))) e
 new_behind made k _ _ w v r there other up at e = absurd (cc)
 
-pub put_behind_next : (k made : ℕ) (w v : Working) → IsReady w → has k w.forest ≡ true → k ≢ made → put_behind_step made k w ≡ Ok v → next_of v.forest k ≡ Some made
+pub put_behind_next : (k made : ℕ) (w v : Working) → IsReady w → has k w.forest ≡ true → k ≢ made → put_behind_step made k w ≡ Ok v
+    → next_of v.forest k ≡ Some made
 unfolding put_behind_step
 put_behind_next k made w v r there other e = new_behind made k (parent_of w.forest k) (index_of w.forest k) w v r there other refl refl e
 
@@ -326,7 +360,8 @@ next_of_none f None k n h up e top =
       cc_of e f = cc
 next_of_none f (Some p) k n h up e top = grind (arith, parent_of-next f k n p h up e, top)
 
-pub merge_changes : (k n : ℕ) (w v : Working) → IsReady w → IsReady v → next_of w.forest k ≡ Some n → after (children_step n k w) (remove_step n) ≡ Ok v → record_at v.forest k ≡ record_at w.forest k → ⊥
+pub merge_changes : (k n : ℕ) (w v : Working) → IsReady w → IsReady v → next_of w.forest k ≡ Some n → after (children_step n k w) (remove_step n) ≡ Ok v
+    → record_at v.forest k ≡ record_at w.forest k → ⊥
 merge_changes k n w v r s is e same =
     next_of_none v.forest (parent_of v.forest k) k n s.in_order refl (next_stays w.forest v.forest k same ∙ is)
     (ends w v (children_step n k w) (remove_step n) (λ u f. children_path ready_path n k w u r (λ c among. tt) f) (λ u t f. remove_top n u v t f) e)

@@ -83,7 +83,8 @@ has_place f k x inner t e = place_by f k (parent_of f k) inner refl (ap (λ o. i
 
 -- ---- kinds of several nodes
 
-fit_first : (f : Forest) (test : Kind → Bool) (x : ℕ) (o : Option Kind) (xs : List ℕ) (kind : Kind) → kind_of f x ≡ o → list_all test (with_kind o (kinds_of f xs)) ≡ true → kind_of f x ≡ Some kind → test kind ≡ true
+fit_first : (f : Forest) (test : Kind → Bool) (x : ℕ) (o : Option Kind) (xs : List ℕ) (kind : Kind) → kind_of f x ≡ o
+    → list_all test (with_kind o (kinds_of f xs)) ≡ true → kind_of f x ≡ Some kind → test kind ≡ true
 fit_first f test x None xs kind is e at = absurd (let both : ◌≡◌ {A = Option Kind} None (Some kind) = sym is ∙ at in cc)
 fit_first f test x (Some a) xs kind is e at =
     let same : a ≡ kind = let both : Some a ≡ Some kind = sym is ∙ at in cc in
@@ -93,7 +94,8 @@ fit_later : (test : Kind → Bool) (o : Option Kind) (rest : List Kind) → list
 fit_later test None rest e = e
 fit_later test (Some a) rest e = second_of (test a) (list_all test rest) e
 
-pub all_fit : (f : Forest) (test : Kind → Bool) (ks : List ℕ) → list_all test (kinds_of f ks) ≡ true → (c : ℕ) (kind : Kind) → is_among c ks ≡ true → kind_of f c ≡ Some kind → test kind ≡ true
+pub all_fit : (f : Forest) (test : Kind → Bool) (ks : List ℕ) → list_all test (kinds_of f ks) ≡ true → (c : ℕ) (kind : Kind) → is_among c ks ≡ true
+    → kind_of f c ≡ Some kind → test kind ≡ true
 all_fit f test [] e c kind among at = absurd (cc)
 all_fit f test (x ∷ xs) e c kind among at =
     elim (eqb_tells x c) [
@@ -105,7 +107,8 @@ holds_none : (outer : Option Kind) → holds may_hold outer None ≡ true
 holds_none None = refl
 holds_none (Some outer) = refl
 
-pub fits_by : (outer : Option Kind) (o : Option Kind) → ((kind : Kind) → o ≡ Some kind → holds may_hold outer (Some kind) ≡ true) → holds may_hold outer o ≡ true
+pub fits_by : (outer : Option Kind) (o : Option Kind) → ((kind : Kind) → o ≡ Some kind → holds may_hold outer (Some kind) ≡ true)
+    → holds may_hold outer o ≡ true
 fits_by outer None each = holds_none outer
 fits_by outer (Some kind) each = each kind refl
 
@@ -137,7 +140,8 @@ own_key k = grind (arith, eqb_tells k k)
 
 added_new : (l : Label) (f : Forest) → IsForest f → has l.key f ≡ false → IsAdded l.key f (with_new l f) l.kind
 added_new l f h free =
-    let own : kind_of (with_new l f) l.key ≡ Some l.kind = kind_of-with_new l f l.key h free ∙ ap (λ b. cond b (Some l.kind) (kind_of f l.key)) (own_key l.key) in
+    let own : kind_of (with_new l f) l.key ≡ Some l.kind =
+    kind_of-with_new l f l.key h free ∙ ap (λ b. cond b (Some l.kind) (kind_of f l.key)) (own_key l.key) in
     record {
       free = free;
       there = sym (is_some-kind_of (with_new l f) l.key) ∙ ap is_some own;
@@ -146,7 +150,9 @@ added_new l f h free =
       children = λ q. children_of-with_new l f q h free;
       kinds = λ q there. kind_of-with_new l f q h free ∙ ap (λ b. cond b (Some l.kind) (kind_of f q)) (apart_key f q l.key there free);
       within = λ a q there. is_within-with_new l f a q free ∙ or_left (is_within f a q) (eqb a l.key) (eqb q l.key) (apart_key f a l.key there free);
-      inside = λ q there. is_within-with_new l f l.key q free ∙ or_neither (is_within f l.key q) (eqb l.key l.key) (eqb q l.key) (absent_under f l.key q free) (apart_key f q l.key there free);
+      inside =
+          λ q there. is_within-with_new l f l.key q free
+          ∙ or_neither (is_within f l.key q) (eqb l.key l.key) (eqb q l.key) (absent_under f l.key q free) (apart_key f q l.key there free);
     }
 
 pub added : (kind : Kind) (fields : Fields) (w u : Working) → IsReady w → new_step kind fields w ≡ Ok u → IsAdded w.next_key w.forest u.forest kind
@@ -168,32 +174,39 @@ added_can made p f g kind h a there = record {
   outside = a.inside p there;
 }
 
-pub added_fits : (made p : ℕ) (f g : Forest) (kind : Kind) → IsAdded made f g kind → has p f ≡ true → holds may_hold (kind_of f p) (Some kind) ≡ true → holds may_hold (kind_of g p) (kind_of g made) ≡ true
+pub added_fits : (made p : ℕ) (f g : Forest) (kind : Kind) → IsAdded made f g kind → has p f ≡ true → holds may_hold (kind_of f p) (Some kind) ≡ true
+    → holds may_hold (kind_of g p) (kind_of g made) ≡ true
 added_fits made p f g kind a there fits = ap (λ o. holds may_hold o (kind_of g made)) (a.kinds p there) ∙ ap (holds may_hold (kind_of f p)) a.own ∙ fits
 
 -- ---- before, after, child
 
-pub new_before_exhausts : (new : NewNode) (k : ℕ) (w : Working) → IsReady w → HasPlace w.forest k new.kind → Exhausts (with_made new (λ made. put_before_step made k) w)
+pub new_before_exhausts : (new : NewNode) (k : ℕ) (w : Working) → IsReady w → HasPlace w.forest k new.kind
+    → Exhausts (with_made new (λ made. put_before_step made k) w)
 new_before_exhausts new k w r place =
     let there = has-parent_of w.forest k place.parent place.below in
     exhausts_then (new_step new.kind new.fields w) (put_before_step w.next_key k) (new_exhausts new.kind new.fields w)
     (λ u e. let a = added new.kind new.fields w u r e in
     before_exhausts w.next_key k place.parent u (covered-new new.kind new.fields w u r e).ready.in_order (a.parents k ∙ place.below)
-    (added_can w.next_key place.parent w.forest u.forest new.kind r.in_order a there) (added_fits w.next_key place.parent w.forest u.forest new.kind a there place.fits))
+    (added_can w.next_key place.parent w.forest u.forest new.kind r.in_order a there)
+    (added_fits w.next_key place.parent w.forest u.forest new.kind a there place.fits))
 
-pub new_behind_exhausts : (new : NewNode) (k : ℕ) (w : Working) → IsReady w → HasPlace w.forest k new.kind → Exhausts (with_made new (λ made. put_behind_step made k) w)
+pub new_behind_exhausts : (new : NewNode) (k : ℕ) (w : Working) → IsReady w → HasPlace w.forest k new.kind
+    → Exhausts (with_made new (λ made. put_behind_step made k) w)
 new_behind_exhausts new k w r place =
     let there = has-parent_of w.forest k place.parent place.below in
     exhausts_then (new_step new.kind new.fields w) (put_behind_step w.next_key k) (new_exhausts new.kind new.fields w)
     (λ u e. let a = added new.kind new.fields w u r e in
     behind_exhausts w.next_key k place.parent u (covered-new new.kind new.fields w u r e).ready.in_order (a.parents k ∙ place.below)
-    (added_can w.next_key place.parent w.forest u.forest new.kind r.in_order a there) (added_fits w.next_key place.parent w.forest u.forest new.kind a there place.fits))
+    (added_can w.next_key place.parent w.forest u.forest new.kind r.in_order a there)
+    (added_fits w.next_key place.parent w.forest u.forest new.kind a there place.fits))
 
-pub new_child_exhausts : (new : NewNode) (k : ℕ) (w : Working) → IsReady w → has k w.forest ≡ true → holds may_hold (kind_of w.forest k) (Some new.kind) ≡ true → Exhausts (with_made new (λ made u. put_step made k (size_of u.forest k) u) w)
+pub new_child_exhausts : (new : NewNode) (k : ℕ) (w : Working) → IsReady w → has k w.forest ≡ true → holds may_hold (kind_of w.forest k) (Some new.kind) ≡ true
+    → Exhausts (with_made new (λ made u. put_step made k (size_of u.forest k) u) w)
 new_child_exhausts new k w r there fits =
     exhausts_then (new_step new.kind new.fields w) (λ u. put_step w.next_key k (size_of u.forest k) u) (new_exhausts new.kind new.fields w)
     (λ u e. let a = added new.kind new.fields w u r e in
-    put_exhausts w.next_key k (size_of u.forest k) u (added_can w.next_key k w.forest u.forest new.kind r.in_order a there) (added_fits w.next_key k w.forest u.forest new.kind a there fits) (omega arith))
+    put_exhausts w.next_key k (size_of u.forest k) u (added_can w.next_key k w.forest u.forest new.kind r.in_order a there)
+    (added_fits w.next_key k w.forest u.forest new.kind a there fits) (omega arith))
 
 -- ---- what a put came to
 
@@ -233,7 +246,8 @@ put-has made p q f g h m there = sym (is_some-kind_of g q) ∙ ap is_some (put-k
 
 put-children : (made p q : ℕ) (f g : Forest) → IsForest f → HasPut made p f g → eqb q p ≡ false → children_of g q ≡ children_of f q
 put-children made p q f g h m other =
-    ap (λ x. children_of x q) m.is ∙ children_of-put_in p m.before made f q h m.can ∙ ap (λ b. cond b (names_with m.before (made ∷ []) (children_of f q)) (children_of f q)) other
+    ap (λ x. children_of x q) m.is ∙ children_of-put_in p m.before made f q h m.can
+    ∙ ap (λ b. cond b (names_with m.before (made ∷ []) (children_of f q)) (children_of f q)) other
 
 -- ---- one node for another
 
@@ -246,7 +260,8 @@ pub record CanStand (k made p : ℕ) (f : Forest) : Type 0 where
   pub apart : is_within f k made ≡ false
   pub other : eqb k made ≡ false
 
-pub added_stands : (made k : ℕ) (f g : Forest) (kind : Kind) → IsForest f → IsAdded made f g kind → has k f ≡ true → (place : HasPlace f k kind) → CanStand k made place.parent g
+pub added_stands : (made k : ℕ) (f g : Forest) (kind : Kind) → IsForest f → IsAdded made f g kind → has k f ≡ true → (place : HasPlace f k kind)
+    → CanStand k made place.parent g
 added_stands made k f g kind h a there place =
     let above = has-parent_of f k place.parent place.below in
     record {
@@ -310,18 +325,25 @@ texts_pointed-forest : (k made : ℕ) (w : Working) → (texts_pointed k made w)
 unfolding texts_pointed
 texts_pointed-forest k made w = pointed_by _ _ w refl
 
-pub replace_exhausts : (k made p : ℕ) (keep : Bool) (w : Working) → IsReady w → CanStand k made p w.forest → (keep ≡ true → Keeps k made w.forest) → Exhausts (replace_step k made keep w)
+pub replace_exhausts : (k made p : ℕ) (keep : Bool) (w : Working) → IsReady w → CanStand k made p w.forest → (keep ≡ true → Keeps k made w.forest)
+    → Exhausts (replace_step k made keep w)
 unfolding replace_step
 replace_exhausts k made p keep w r c keeps =
-    exhausts_allowed (replace_fault k made keep w.forest) w (λ a. after (put_before_step made k a) (λ b. after (kept keep k made b) (λ x. remove_step k (texts_pointed k made x))))
+    exhausts_allowed (replace_fault k made keep w.forest) w
+    (λ a. after (put_before_step made k a) (λ b. after (kept keep k made b) (λ x. remove_step k (texts_pointed k made x))))
     (rw (instead_none k made p w.forest c) (keep_none keep k made w.forest keeps))
-    (exhausts_then (put_before_step made k w) (λ b. after (kept keep k made b) (λ x. remove_step k (texts_pointed k made x))) (before_exhausts made k p w r.in_order c.below c.can c.fits)
+    (exhausts_then (put_before_step made k w) (λ b. after (kept keep k made b) (λ x. remove_step k (texts_pointed k made x)))
+    (before_exhausts made k p w r.in_order c.below c.can c.fits)
     (λ b e. let m = before_put made k p w b c.below e in
     let s = put_before_path ready_path made k tt w b r e in
-    exhausts_then (kept keep k made b) (λ x. remove_step k (texts_pointed k made x)) (kept_exhausts keep k made b s (λ t. put_merges k made p w.forest b.forest r.in_order c (keeps t) m))
-    (λ x f. remove_exhausts k p (texts_pointed k made x) (ap (λ g. parent_of g k) (texts_pointed-forest k made x) ∙ kept-parent keep k made b x s f ∙ put-parent made p k w.forest b.forest r.in_order m c.other ∙ c.below))))
+    exhausts_then (kept keep k made b) (λ x. remove_step k (texts_pointed k made x))
+    (kept_exhausts keep k made b s (λ t. put_merges k made p w.forest b.forest r.in_order c (keeps t) m))
+    (λ x f. remove_exhausts k p (texts_pointed k made x)
+    (ap (λ g. parent_of g k) (texts_pointed-forest k made x) ∙ kept-parent keep k made b x s f ∙ put-parent made p k w.forest b.forest r.in_order m c.other
+    ∙ c.below))))
 
-pub wrap_exhausts : (k made p : ℕ) (w : Working) → IsReady w → CanStand k made p w.forest → holds may_hold (kind_of w.forest made) (kind_of w.forest k) ≡ true → Exhausts (wrap_step k made w)
+pub wrap_exhausts : (k made p : ℕ) (w : Working) → IsReady w → CanStand k made p w.forest → holds may_hold (kind_of w.forest made) (kind_of w.forest k) ≡ true
+    → Exhausts (wrap_step k made w)
 unfolding wrap_step
 wrap_exhausts k made p w r c fits =
     exhausts_allowed (wrap_fault k made w.forest) w (λ a. after (put_before_step made k a) (moved_to_end made k))
@@ -332,5 +354,6 @@ wrap_exhausts k made p w r c fits =
     (record {
       below = put-parent made p k w.forest b.forest r.in_order m c.other ∙ c.below;
       apart = put_apart k made p w.forest b.forest r.in_order c m;
-      fits = ap (λ o. holds may_hold o (kind_of b.forest k)) (put-kind made p made w.forest b.forest r.in_order m) ∙ ap (holds may_hold (kind_of w.forest made)) (put-kind made p k w.forest b.forest r.in_order m) ∙ fits;
+      fits = ap (λ o. holds may_hold o (kind_of b.forest k)) (put-kind made p made w.forest b.forest r.in_order m)
+          ∙ ap (holds may_hold (kind_of w.forest made)) (put-kind made p k w.forest b.forest r.in_order m) ∙ fits;
     })))

@@ -40,7 +40,9 @@ use Rattle.lx_settle.proofs.Tests.{first_of, second_of, not_true}
 
 stands : (x : View) (new : NewNode) (rest : Bool) → (may_stand x new && rest) ≡ true → is_root x.kind ≡ false
 stands x new rest e =
-    not_true (is_root x.kind) (first_of (not (is_root x.kind)) (is_held x.parent new.kind) (second_of (is_suited new) (not (is_root x.kind) && is_held x.parent new.kind) (first_of (may_stand x new) rest e)))
+    not_true (is_root x.kind)
+    (first_of (not (is_root x.kind)) (is_held x.parent new.kind)
+    (second_of (is_suited new) (not (is_root x.kind) && is_held x.parent new.kind) (first_of (may_stand x new) rest e)))
 
 -- an attached node is there
 pub there : (f : Forest) (k : ℕ) → is_attached f k ≡ true → has k f ≡ true
@@ -48,7 +50,8 @@ there f k e = grind (arith, e, count-alone-le key_of k 0 f)
 
 -- ---- an edit with work leaves its node otherwise than it was, or out of the tree
 
-chain : {Q : Type 0} (new : NewNode) (next : ℕ → Working → Result Working Cause) (w v : Working) → IsReady w → ((u : Working) → IsReady u → new_step new.kind new.fields w ≡ Ok u → next w.next_key u ≡ Ok v → Q) → with_made new next w ≡ Ok v → Q
+chain : {Q : Type 0} (new : NewNode) (next : ℕ → Working → Result Working Cause) (w v : Working) → IsReady w
+    → ((u : Working) → IsReady u → new_step new.kind new.fields w ≡ Ok u → next w.next_key u ≡ Ok v → Q) → with_made new next w ≡ Ok v → Q
 chain {Q = Q} new next w v r last e = by_made (new_step new.kind new.fields w) refl e where
   by_made : (s : Result Working Cause) → new_step new.kind new.fields w ≡ s → after s (next w.next_key) ≡ Ok v → Q
   by_made (Ok u) is f = last u (covered-new new.kind new.fields w u r is).ready is f
@@ -62,13 +65,15 @@ view_next : (f : Forest) (q : ℕ) (o : Option (Spot Label)) (x : View) → opti
 view_next f q None x e = absurd (cc)
 view_next f q (Some s) x e = cc
 
-merged_changes : (k : ℕ) (o : Option ℕ) (w v : Working) (x : View) → IsReady w → IsReady v → next_of w.forest k ≡ o → view_of w.forest k ≡ Some x → is_kind x.next x.kind ≡ true → merged k o w ≡ Ok v → record_at v.forest k ≡ record_at w.forest k → ⊥
+merged_changes : (k : ℕ) (o : Option ℕ) (w v : Working) (x : View) → IsReady w → IsReady v → next_of w.forest k ≡ o → view_of w.forest k ≡ Some x
+    → is_kind x.next x.kind ≡ true → merged k o w ≡ Ok v → record_at v.forest k ≡ record_at w.forest k → ⊥
 merged_changes k (Some n) w v x r s is seen alike e same = merge_changes k n w v r s is e same
 merged_changes k None w v x r s is seen alike e same =
     let none : is_kind x.next x.kind ≡ false = ap (λ o. is_kind o x.kind) (view_next w.forest k (spot w.forest k) x seen ∙ ap (kind_at w.forest) is) in
     grind (arith, none, alike)
 
-pub act_changes : (edit : SelfEdit) (k : ℕ) (w v : Working) (x : View) → IsReady w → IsReady v → view_of w.forest k ≡ Some x → is_attached w.forest k ≡ true → has_work x edit ≡ true → act_step edit k w ≡ Ok v
+pub act_changes : (edit : SelfEdit) (k : ℕ) (w v : Working) (x : View) → IsReady w → IsReady v → view_of w.forest k ≡ Some x → is_attached w.forest k ≡ true
+    → has_work x edit ≡ true → act_step edit k w ≡ Ok v
     → spot v.forest k ≡ spot w.forest k → record_at v.forest k ≡ record_at w.forest k → is_attached v.forest k ≡ true → ⊥
 unfolding act_step
 act_changes (Set patch) k w v x r s seen here work e same links now =
@@ -84,19 +89,26 @@ act_changes (Replace new) k w v x r s seen here work e same links now =
 act_changes (Wrap new) k w v x r s seen here work e same links now =
     below_new k w v r (chain new (λ made. wrap_step k made) w v r (λ u t f g. wrap_parent k w.next_key u v t g) e) same
 act_changes Unwrap k w v x r s seen here work e same links now =
-    gone k w v x r s seen (not_true (is_root x.kind) (first_of (not (is_root x.kind)) (list_all (is_held x.parent) x.children) (second_of (is_element x.kind) (not (is_root x.kind) && list_all (is_held x.parent) x.children) work))) (unwrap_top k w v r e) now
+    gone k w v x r s seen
+    (not_true (is_root x.kind)
+    (first_of (not (is_root x.kind)) (list_all (is_held x.parent) x.children)
+    (second_of (is_element x.kind) (not (is_root x.kind) && list_all (is_held x.parent) x.children) work))) (unwrap_top k w v r e) now
 act_changes (Before new) k w v x r s seen here work e same links now =
     behind_new k w v r (chain new (λ made. put_before_step made k) w v r
-    (λ u t f g. put_before_previous k w.next_key u v t (there u.forest k (attached-made new.kind new.fields k w u r here f)) (other_key w k r (there w.forest k here)) g) e) links
+    (λ u t f g. put_before_previous k w.next_key u v t (there u.forest k (attached-made new.kind new.fields k w u r here f))
+    (other_key w k r (there w.forest k here)) g) e) links
 act_changes (After new) k w v x r s seen here work e same links now =
     before_new k w v r (chain new (λ made. put_behind_step made k) w v r
-    (λ u t f g. put_behind_next k w.next_key u v t (there u.forest k (attached-made new.kind new.fields k w u r here f)) (other_key w k r (there w.forest k here)) g) e) links
+    (λ u t f g. put_behind_next k w.next_key u v t (there u.forest k (attached-made new.kind new.fields k w u r here f))
+    (other_key w k r (there w.forest k here)) g) e) links
 act_changes (Child new) k w v x r s seen here work e same links now =
-    above_new k w v r s (chain new (λ made u. put_step made k (size_of u.forest k) u) w v r (λ u t f g. put_parent w.next_key k (size_of u.forest k) u v t g) e) same
+    above_new k w v r s (chain new (λ made u. put_step made k (size_of u.forest k) u) w v r (λ u t f g. put_parent w.next_key k (size_of u.forest k) u v t g) e)
+    same
 act_changes MergeNext k w v x r s seen here work e same links now =
     merged_changes k (next_of w.forest k) w v x r s refl seen (second_of (is_element x.kind) (is_kind x.next x.kind) work) e links
 
-act_marks : (edit : SelfEdit) (k : ℕ) (w v : Working) → IsReady w → is_attached w.forest k ≡ true → has_work_at (view_of w.forest k) edit ≡ true → act_step edit k w ≡ Ok v → IsCarried w v → is_attached v.forest k ≡ true → is_due v.fresh k ≡ true
+act_marks : (edit : SelfEdit) (k : ℕ) (w v : Working) → IsReady w → is_attached w.forest k ≡ true → has_work_at (view_of w.forest k) edit ≡ true
+    → act_step edit k w ≡ Ok v → IsCarried w v → is_attached v.forest k ≡ true → is_due v.fresh k ≡ true
 act_marks edit k w v r here work e c now =
     let x = work_at (view_of w.forest k) edit work in
     elim (c.covered.fresh.seen k) [
@@ -113,5 +125,6 @@ acts_are_marked = record {
 }
 
 -- Where all that is marked is still to be handled, settling leaves the forest rested for the marks.
-pub rests : (rules : List Answers) (w v : Working) → IsReady w → ((q : ℕ) → is_due w.marks q ≡ true → is_due w.fresh q ≡ true) → settle_step rules w ≡ Ok v → IsRested rules v.forest v.marks
+pub rests : (rules : List Answers) (w v : Working) → IsReady w → ((q : ℕ) → is_due w.marks q ≡ true → is_due w.fresh q ≡ true) → settle_step rules w ≡ Ok v
+    → IsRested rules v.forest v.marks
 rests rules w v r all e = settled_rests acts_are_marked rules w v r all e

@@ -16,7 +16,8 @@ use Rattle.lx_settle.specs.Settling.{taken, goes_on, round_by, round_step, ended
 
 -- ---- at rest
 
-none_by : (xs : List ℕ) (es : List (ℕ × Bool)) → xs ≡ [] → es ≡ [] → ◌≡◌ {A = Marked} (record { leaves = []; elements = elements_left xs es }) (record { leaves = xs; elements = es })
+none_by : (xs : List ℕ) (es : List (ℕ × Bool)) → xs ≡ [] → es ≡ []
+    → ◌≡◌ {A = Marked} (record { leaves = []; elements = elements_left xs es }) (record { leaves = xs; elements = es })
 none_by [] [] e f = refl
 none_by [] (x ∷ es) e f = absurd (cc)
 none_by (x ∷ xs) es e f = absurd (cc)
@@ -59,7 +60,8 @@ refused : (s : Result Working Cause) (again : Working → Result Working Cause) 
 refused (Ok u) again cause e = absurd (cc)
 refused (Err other) again cause e = let same : other ≡ cause = cc in ap (λ c. Err c) same
 
-on_by : (rules : List Answers) (round : Round) (n : ℕ) (w v : Working) → round_by rules round w ≡ Ok (false, v) → passed rules round (rounds rules n) w ≡ rounds rules n v
+on_by : (rules : List Answers) (round : Round) (n : ℕ) (w v : Working) → round_by rules round w ≡ Ok (false, v)
+    → passed rules round (rounds rules n) w ≡ rounds rules n v
 on_by rules (Leaves ks) n w v e = went_on (leaf_pass rules ks (taken w)) (rounds rules n) v e
 on_by rules (Elements es) n w v e = went_on (element_pass rules es (taken w)) (rounds rules n) v e
 on_by rules Rest n w v e = absurd (no_end v (taken w) (sym e))
@@ -68,7 +70,8 @@ pub round_on : (rules : List Answers) (n : ℕ) (w v : Working) → round_step r
 unfolding rounds round_step
 round_on rules n w v e = on_by rules (round_of w.fresh) n w v e
 
-done_by : (rules : List Answers) (round : Round) (n : ℕ) (w v : Working) → round_of w.fresh ≡ round → round_by rules round w ≡ Ok (true, v) → passed rules round (rounds rules n) w ≡ Ok v
+done_by : (rules : List Answers) (round : Round) (n : ℕ) (w v : Working) → round_of w.fresh ≡ round → round_by rules round w ≡ Ok (true, v)
+    → passed rules round (rounds rules n) w ≡ Ok v
 done_by rules (Leaves ks) n w v is e = absurd (never_done (leaf_pass rules ks (taken w)) v e)
 done_by rules (Elements es) n w v is e = absurd (never_done (element_pass rules es (taken w)) v e)
 done_by rules Rest n w v is e = ap (λ x. Ok x) (sym (rest_taken w is) ∙ ap (λ p. p.1) (same_pair (true, taken w) (true, v) e))
@@ -77,7 +80,8 @@ pub round_done : (rules : List Answers) (n : ℕ) (w v : Working) → round_step
 unfolding rounds round_step
 round_done rules n w v e = done_by rules (round_of w.fresh) n w v refl e
 
-refused_by : (rules : List Answers) (round : Round) (n : ℕ) (w : Working) (cause : Cause) → round_by rules round w ≡ Err cause → passed rules round (rounds rules n) w ≡ Err cause
+refused_by : (rules : List Answers) (round : Round) (n : ℕ) (w : Working) (cause : Cause) → round_by rules round w ≡ Err cause
+    → passed rules round (rounds rules n) w ≡ Err cause
 refused_by rules (Leaves ks) n w cause e = refused (leaf_pass rules ks (taken w)) (rounds rules n) cause e
 refused_by rules (Elements es) n w cause e = refused (element_pass rules es (taken w)) (rounds rules n) cause e
 refused_by rules Rest n w cause e = absurd (cc)
@@ -91,20 +95,25 @@ round_refused rules n w cause e = refused_by rules (round_of w.fresh) n w cause 
 left : (passed : ℕ) → passed < most_rounds → most_rounds - passed ≡ suc (most_rounds - (passed + 1))
 left passed e = omega (arith, e)
 
-pub stops : (rules : List Answers) (passed : ℕ) (w v : Working) (b : Bool) → passed < most_rounds → b ≡ true → round_step rules w ≡ Ok (b, v) → rounds rules (most_rounds - passed) w ≡ Ok v
-stops rules passed w v b within t e = ap (λ n. rounds rules n w) (left passed within) ∙ round_done rules (most_rounds - (passed + 1)) w v (e ∙ ap (λ x. Ok (x, v)) t)
+pub stops : (rules : List Answers) (passed : ℕ) (w v : Working) (b : Bool) → passed < most_rounds → b ≡ true → round_step rules w ≡ Ok (b, v)
+    → rounds rules (most_rounds - passed) w ≡ Ok v
+stops rules passed w v b within t e =
+    ap (λ n. rounds rules n w) (left passed within) ∙ round_done rules (most_rounds - (passed + 1)) w v (e ∙ ap (λ x. Ok (x, v)) t)
 
-pub goes : (rules : List Answers) (passed : ℕ) (w v : Working) (b : Bool) (whole : Result Working Cause) → passed < most_rounds → rounds rules (most_rounds - passed) w ≡ whole → b ≡ false → round_step rules w ≡ Ok (b, v)
+pub goes : (rules : List Answers) (passed : ℕ) (w v : Working) (b : Bool) (whole : Result Working Cause) → passed < most_rounds
+    → rounds rules (most_rounds - passed) w ≡ whole → b ≡ false → round_step rules w ≡ Ok (b, v)
     → rounds rules (most_rounds - (passed + 1)) v ≡ whole
 goes rules passed w v b whole within is f e =
     sym (round_on rules (most_rounds - (passed + 1)) w v (e ∙ ap (λ x. Ok (x, v)) f)) ∙ sym (ap (λ n. rounds rules n w) (left passed within)) ∙ is
 
-pub tells : (rules : List Answers) (passed : ℕ) (w : Working) (whole : Result Working Cause) {fault : Fault} {new : Working} → passed < most_rounds → rounds rules (most_rounds - passed) w ≡ whole
+pub tells : (rules : List Answers) (passed : ℕ) (w : Working) (whole : Result Working Cause) {fault : Fault} {new : Working} → passed < most_rounds
+    → rounds rules (most_rounds - passed) w ≡ whole
     → Refuses (round_step rules w) fault new → Refuses whole fault new
 tells rules passed w whole within is refused =
     refuses_all (λ cause told. sym is ∙ ap (λ n. rounds rules n w) (left passed within) ∙ round_refused rules (most_rounds - (passed + 1)) w cause told) refused
 
-pub last : (rules : List Answers) (passed : ℕ) (w : Working) (whole : Result Working Cause) → most_rounds ≤ passed → rounds rules (most_rounds - passed) w ≡ whole → ended (round_of w.fresh) w ≡ whole
+pub last : (rules : List Answers) (passed : ℕ) (w : Working) (whole : Result Working Cause) → most_rounds ≤ passed
+    → rounds rules (most_rounds - passed) w ≡ whole → ended (round_of w.fresh) w ≡ whole
 unfolding rounds
 last rules passed w whole over is = ap (λ n. rounds rules n w) (none passed over) ∙ is where
   none : (passed : ℕ) → most_rounds ≤ passed → zero ≡ most_rounds - passed

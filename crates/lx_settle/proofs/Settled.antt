@@ -35,7 +35,8 @@ pub record IsUnderWay (rules : List Answers) (todo : List ℕ) (w : Working) : T
   pub ready : IsReady w
 
 -- a node that isn't marked anew is at rest if it was
-rests_still : (rules : List Answers) (w v : Working) (q : ℕ) → IsReady w → IsCarried w v → is_due v.fresh q ≡ false → is_uneasy rules (view_of w.forest q) ≡ false → is_uneasy rules (view_of v.forest q) ≡ false
+rests_still : (rules : List Answers) (w v : Working) (q : ℕ) → IsReady w → IsCarried w v → is_due v.fresh q ≡ false
+    → is_uneasy rules (view_of w.forest q) ≡ false → is_uneasy rules (view_of v.forest q) ≡ false
 rests_still rules w v q r c unmarked rest =
     elim (c.covered.fresh.seen q) [
       | inl same ↦ ap (is_uneasy rules) (view_stays w.forest v.forest q r.in_order c.covered.kinds same.0 same.1) ∙ rest
@@ -51,15 +52,19 @@ was_due w v q c unmarked marked =
     elim (told_due w v q c marked) [ inl was ↦ was | inr new ↦ absurd (grind (arith, unmarked, new)) ]
 
 -- of those that still come, the first has had its turn
-turned_one : (rules : List Answers) (k : ℕ) (todo : List ℕ) (w v : Working) (q : ℕ) → IsTurn rules k w v → is_attached v.forest q ≡ true → is_among q (k ∷ todo) ≡ true
+turned_one : (rules : List Answers) (k : ℕ) (todo : List ℕ) (w v : Working) (q : ℕ) → IsTurn rules k w v → is_attached v.forest q ≡ true
+    → is_among q (k ∷ todo) ≡ true
     → is_due v.fresh q ≡ false → (is_among q todo ≡ true) ⊎ (is_uneasy rules (view_of v.forest q) ≡ false)
 turned_one rules k todo w v q t there among unmarked =
     elim (eqb_tells k q) [
-      | inl own ↦ inr (subst (λ x. is_attached v.forest x ≡ true → is_due v.fresh x ≡ false → is_uneasy rules (view_of v.forest x) ≡ false) own.1 t.handled there unmarked)
+      | inl own ↦
+          inr (subst (λ x. is_attached v.forest x ≡ true → is_due v.fresh x ≡ false → is_uneasy rules (view_of v.forest x) ≡ false) own.1 t.handled there
+          unmarked)
       | inr other ↦ inl (grind (arith, among, other.0))
     ]
 
-waited : (rules : List Answers) (k : ℕ) (todo : List ℕ) (w v : Working) (q : ℕ) → IsTurn rules k w v → is_attached v.forest q ≡ true → is_due v.fresh q ≡ false → Waits (k ∷ todo) w q
+waited : (rules : List Answers) (k : ℕ) (todo : List ℕ) (w v : Working) (q : ℕ) → IsTurn rules k w v → is_attached v.forest q ≡ true → is_due v.fresh q ≡ false
+    → Waits (k ∷ todo) w q
     → Waits todo v q ⊎ (is_uneasy rules (view_of v.forest q) ≡ false)
 waited rules k todo w v q t there unmarked waits =
     elim waits [
@@ -81,7 +86,8 @@ turn_taken rules k todo w v u t = record {
 
 -- ---- passes
 
-over_first : (rules : List Answers) (step : ℕ → Working → Result Working Cause) (k : ℕ) (todo : List ℕ) (w v : Working) (r : Result Working Cause) → IsUnderWay rules (k ∷ todo) w
+over_first : (rules : List Answers) (step : ℕ → Working → Result Working Cause) (k : ℕ) (todo : List ℕ) (w v : Working) (r : Result Working Cause)
+    → IsUnderWay rules (k ∷ todo) w
     → ((u : Working) → r ≡ Ok u → IsTurn rules k w u) → ((u : Working) → IsUnderWay rules todo u → in_turn step todo u ≡ Ok v → IsUnderWay rules [] v)
     → after r (in_turn step todo) ≡ Ok v → IsUnderWay rules [] v
 over_first rules step k todo w v (Ok u) way first second e = second u (turn_taken rules k todo w u way (first u refl)) e
@@ -115,8 +121,10 @@ flagged_among (x ∷ es) q other e =
       later true k q ks e = e
       later false k q ks e = grind (arith, e)
 
-      flagged_by : (k : ℕ) (flag : Bool) (rest : List (ℕ × Bool)) (q : ℕ) (own : Bool) → eqb q 0 ≡ false → eqb q k ≡ own → (is_due_by (flag_in rest q) q ≡ true → is_among q (flagged_first rest) ≡ true)
-          → is_due_by (cond own (Some flag) (flag_in rest q)) q ≡ true → is_among q (cond (flag && not (eqb k 0)) (k ∷ flagged_first rest) (flagged_first rest)) ≡ true
+      flagged_by : (k : ℕ) (flag : Bool) (rest : List (ℕ × Bool)) (q : ℕ) (own : Bool) → eqb q 0 ≡ false → eqb q k ≡ own
+          → (is_due_by (flag_in rest q) q ≡ true → is_among q (flagged_first rest) ≡ true)
+          → is_due_by (cond own (Some flag) (flag_in rest q)) q ≡ true
+          → is_among q (cond (flag && not (eqb k 0)) (k ∷ flagged_first rest) (flagged_first rest)) ≡ true
       flagged_by k flag rest q true other same there e = grind (arith, other, same, e, eqb_tells q k, eqb_tells k q)
       flagged_by k true rest q false other same there e = later (eqb k 0) k q (flagged_first rest) (there e)
       flagged_by k false rest q false other same there e = there e
@@ -136,7 +144,8 @@ flagged_turn es q e =
       last_turn a (Some flag) q root e = grind (arith, root, eqb_tells 0 q)
 
 -- what is handled next, and what is left then
-leaves_taken : (rules : List Answers) (w : Working) (k : ℕ) (ks : List ℕ) → w.fresh.leaves ≡ k ∷ ks → IsUnderWay rules [] w → IsUnderWay rules (k ∷ ks) (taken w)
+leaves_taken : (rules : List Answers) (w : Working) (k : ℕ) (ks : List ℕ) → w.fresh.leaves ≡ k ∷ ks → IsUnderWay rules [] w
+    → IsUnderWay rules (k ∷ ks) (taken w)
 leaves_taken rules w k ks leaves u = record {
   each = λ q there marked. elim (u.each q there marked) [
     | inl waits ↦ elim waits [
@@ -147,7 +156,8 @@ leaves_taken rules w k ks leaves u = record {
   ];
   ready = record { in_order = u.ready.in_order; free = u.ready.free };
 } where
-  by_leaves : (leaves : List ℕ) (k : ℕ) (ks : List ℕ) (o : Option Bool) (es : List (ℕ × Bool)) (q : ℕ) → leaves ≡ k ∷ ks → flag_in es q ≡ o → (is_among q leaves || is_due_by o q) ≡ true
+  by_leaves : (leaves : List ℕ) (k : ℕ) (ks : List ℕ) (o : Option Bool) (es : List (ℕ × Bool)) (q : ℕ) → leaves ≡ k ∷ ks → flag_in es q ≡ o
+      → (is_among q leaves || is_due_by o q) ≡ true
       → (is_among q (k ∷ ks) ≡ true) ⊎ ((is_among q [] || is_due_by (flag_in (elements_left leaves es) q) q) ≡ true)
   by_leaves leaves k ks o es q is flag e =
       elim (cases_Bool (is_among q leaves)) [
@@ -166,12 +176,17 @@ pub no_leaf : (xs : List ℕ) (b : Bool) (q : ℕ) → xs ≡ [] → (is_among q
 no_leaf [] b q is e = e
 no_leaf (x ∷ xs) b q is e = absurd (cc)
 
-elements_taken : (rules : List Answers) (w : Working) (es : List (ℕ × Bool)) → w.fresh.leaves ≡ [] → w.fresh.elements ≡ es → IsUnderWay rules [] w → IsUnderWay rules (turns_of es) (taken w)
+elements_taken : (rules : List Answers) (w : Working) (es : List (ℕ × Bool)) → w.fresh.leaves ≡ [] → w.fresh.elements ≡ es → IsUnderWay rules [] w
+    → IsUnderWay rules (turns_of es) (taken w)
 elements_taken rules w es leaves elements u = record {
   each = λ q there marked. elim (u.each q there marked) [
     | inl waits ↦ elim waits [
       | inl among ↦ absurd (cc)
-      | inr fresh ↦ inl (inl (flagged_turn es q (ap (λ x. is_due_by (flag_in x q) q) (sym elements) ∙ no_leaf w.fresh.leaves (is_due_by (flag_in w.fresh.elements q) q) q leaves (sym (due_either w.fresh q) ∙ fresh))))
+      | inr fresh ↦
+          inl (inl
+          (flagged_turn es q
+          (ap (λ x. is_due_by (flag_in x q) q) (sym elements)
+          ∙ no_leaf w.fresh.leaves (is_due_by (flag_in w.fresh.elements q) q) q leaves (sym (due_either w.fresh q) ∙ fresh))))
     ]
     | inr rest ↦ inr rest
   ];
@@ -194,24 +209,29 @@ all_rest rules w leaves elements u = record {
   none_left (x ∷ xs) es q a b e = cc
   none_left [] (x ∷ es) q a b e = cc
 
-pass_then : (rules : List Answers) (w v : Working) (r : Result Working Cause) (again : Working → Result Working Cause) → ((u : Working) → r ≡ Ok u → IsUnderWay rules [] u)
+pass_then : (rules : List Answers) (w v : Working) (r : Result Working Cause) (again : Working → Result Working Cause)
+    → ((u : Working) → r ≡ Ok u → IsUnderWay rules [] u)
     → ((u : Working) → IsUnderWay rules [] u → again u ≡ Ok v → IsRested rules v.forest v.marks) → after r again ≡ Ok v → IsRested rules v.forest v.marks
 pass_then rules w v (Ok u) again first second e = second u (first u refl) e
 pass_then rules w v (Err cause) again first second e = absurd (cc)
 
-round_by_lists : ActsAreMarked → (rules : List Answers) (leaves : List ℕ) (es : List (ℕ × Bool)) (w v : Working) (again : Working → Result Working Cause) → w.fresh.leaves ≡ leaves → w.fresh.elements ≡ es → IsUnderWay rules [] w
-    → ((u : Working) → IsUnderWay rules [] u → again u ≡ Ok v → IsRested rules v.forest v.marks) → passed rules (round_by leaves es) again w ≡ Ok v → IsRested rules v.forest v.marks
+round_by_lists : ActsAreMarked → (rules : List Answers) (leaves : List ℕ) (es : List (ℕ × Bool)) (w v : Working) (again : Working → Result Working Cause)
+    → w.fresh.leaves ≡ leaves → w.fresh.elements ≡ es → IsUnderWay rules [] w
+    → ((u : Working) → IsUnderWay rules [] u → again u ≡ Ok v → IsRested rules v.forest v.marks) → passed rules (round_by leaves es) again w ≡ Ok v
+    → IsRested rules v.forest v.marks
 unfolding leaf_pass element_pass
 round_by_lists laws rules (k ∷ ks) es w v again leaves elements u next e =
     pass_then rules w v (leaf_pass rules (k ∷ ks) (taken w)) again
     (λ x f. over_all rules (leaf_step rules) (λ q a b s g. leaf_turned laws rules q a b s g) (k ∷ ks) (taken w) x (leaves_taken rules w k ks leaves u) f) next e
 round_by_lists laws rules [] (x ∷ es) w v again leaves elements u next e =
     pass_then rules w v (element_pass rules (x ∷ es) (taken w)) again
-    (λ y f. over_all rules (rules_step rules) (λ q a b s g. rules_turned laws rules q a b s g) (turns_of (x ∷ es)) (taken w) y (elements_taken rules w (x ∷ es) leaves elements u) f) next e
+    (λ y f. over_all rules (rules_step rules) (λ q a b s g. rules_turned laws rules q a b s g) (turns_of (x ∷ es)) (taken w) y
+    (elements_taken rules w (x ∷ es) leaves elements u) f) next e
 round_by_lists laws rules [] [] w v again leaves elements u next e =
     let same : w ≡ v = cc in subst (λ x. IsRested rules x.forest x.marks) same (all_rest rules w leaves elements u)
 
-ended_by_lists : (rules : List Answers) (leaves : List ℕ) (es : List (ℕ × Bool)) (w v : Working) → w.fresh.leaves ≡ leaves → w.fresh.elements ≡ es → IsUnderWay rules [] w
+ended_by_lists : (rules : List Answers) (leaves : List ℕ) (es : List (ℕ × Bool)) (w v : Working) → w.fresh.leaves ≡ leaves → w.fresh.elements ≡ es
+    → IsUnderWay rules [] w
     → ended (round_by leaves es) w ≡ Ok v → IsRested rules v.forest v.marks
 ended_by_lists rules (k ∷ ks) es w v leaves elements u e = absurd (cc)
 ended_by_lists rules [] (x ∷ es) w v leaves elements u e = absurd (cc)

@@ -36,7 +36,8 @@ both_false a b e f = grind (arith, e, f)
 stood_nothing : (k : ℕ) (w v : Working) (P : Type 0) → P → ◌≡◌ {A = Result Working Cause} (Ok w) (Ok v) → Stood k w v P
 stood_nothing k w v P p e = λ there unmarked. (let same : v ≡ w = cc in same, p)
 
-stood_then : {A : Type 0} (busy : Working → A → Bool) (k : ℕ) (a : A) (rest : List A) (w u v : Working) → Stood k w u (busy w a ≡ false) → Stood k u v (list_any (busy u) rest ≡ false)
+stood_then : {A : Type 0} (busy : Working → A → Bool) (k : ℕ) (a : A) (rest : List A) (w u v : Working) → Stood k w u (busy w a ≡ false)
+    → Stood k u v (list_any (busy u) rest ≡ false)
     → Stood k w v (list_any (busy w) (a ∷ rest) ≡ false)
 stood_then busy k a rest w u v first second = λ there unmarked.
     let s = second there unmarked in
@@ -46,7 +47,8 @@ stood_then busy k a rest w u v first second = λ there unmarked.
 carried_nothing : (w v : Working) → IsReady w → ◌≡◌ {A = Result Working Cause} (Ok w) (Ok v) → IsCarried w v
 carried_nothing w v r e = let same : w ≡ v = cc in subst (IsCarried w) same (carried_self w r)
 
-one_then : {A : Type 0} (step : A → Working → Result Working Cause) (busy : Working → A → Bool) (k : ℕ) (a : A) (rest : List A) (w v : Working) (r : Result Working Cause)
+one_then : {A : Type 0} (step : A → Working → Result Working Cause) (busy : Working → A → Bool) (k : ℕ) (a : A) (rest : List A) (w v : Working)
+    (r : Result Working Cause)
     → ((u : Working) → r ≡ Ok u → IsCarried w u × Stood k w u (busy w a ≡ false))
     → ((u : Working) → IsReady u → in_turn step rest u ≡ Ok v → IsCarried u v × Stood k u v (list_any (busy u) rest ≡ false))
     → after r (in_turn step rest) ≡ Ok v → IsCarried w v × Stood k w v (list_any (busy w) (a ∷ rest) ≡ false)
@@ -66,10 +68,12 @@ turns_stood step busy k each (a ∷ rest) w v r e =
 
 -- ---- the rules at a node
 
-edit_by : ActsAreMarked → (k : ℕ) (edit : SelfEdit) (taken : Bool) (w v : Working) → (is_attached w.forest k && has_work_at (view_of w.forest k) edit) ≡ taken → IsReady w
+edit_by : ActsAreMarked → (k : ℕ) (edit : SelfEdit) (taken : Bool) (w v : Working) → (is_attached w.forest k && has_work_at (view_of w.forest k) edit) ≡ taken
+    → IsReady w
     → cond taken (act_step edit k w) (Ok w) ≡ Ok v → IsCarried w v × Stood k w v (has_work_at (view_of w.forest k) edit ≡ false)
 edit_by laws k edit true w v is r e =
-    let a = laws.act edit k w v r (first_of (is_attached w.forest k) (has_work_at (view_of w.forest k) edit) is) (second_of (is_attached w.forest k) (has_work_at (view_of w.forest k) edit) is) e in
+    let a = laws.act edit k w v r (first_of (is_attached w.forest k) (has_work_at (view_of w.forest k) edit) is)
+    (second_of (is_attached w.forest k) (has_work_at (view_of w.forest k) edit) is) e in
     (a.0, λ there unmarked. absurd (grind (arith, a.1 there, unmarked)))
 edit_by laws k edit false w v is r e =
     let same : v ≡ w = cc in
@@ -77,19 +81,23 @@ edit_by laws k edit false w v is r e =
       none_left : (a b : Bool) → (a && b) ≡ false → a ≡ true → b ≡ false
       none_left a b e t = grind (arith, e, t)
 
-edit_turned : ActsAreMarked → (k : ℕ) (edit : SelfEdit) (w v : Working) → IsReady w → edit_step k edit w ≡ Ok v → IsCarried w v × Stood k w v (has_work_at (view_of w.forest k) edit ≡ false)
+edit_turned : ActsAreMarked → (k : ℕ) (edit : SelfEdit) (w v : Working) → IsReady w → edit_step k edit w ≡ Ok v
+    → IsCarried w v × Stood k w v (has_work_at (view_of w.forest k) edit ≡ false)
 unfolding edit_step
 edit_turned laws k edit w v r e = edit_by laws k edit (is_attached w.forest k && has_work_at (view_of w.forest k) edit) w v refl r e
 
 abbrev is_busy : ℕ → Working → Answers → Bool
 is_busy k w rule = list_any (has_work_at (view_of w.forest k)) (answered_at (view_of w.forest k) rule)
 
-rule_turned : ActsAreMarked → (k : ℕ) (rule : Answers) (w v : Working) → IsReady w → rule_step k rule w ≡ Ok v → IsCarried w v × Stood k w v (is_busy k w rule ≡ false)
+rule_turned : ActsAreMarked → (k : ℕ) (rule : Answers) (w v : Working) → IsReady w → rule_step k rule w ≡ Ok v
+    → IsCarried w v × Stood k w v (is_busy k w rule ≡ false)
 unfolding rule_step
 rule_turned laws k rule w v r e =
-    turns_stood (edit_step k) (λ x edit. has_work_at (view_of x.forest k) edit) k (λ edit x y s f. edit_turned laws k edit x y s f) (answered_at (view_of w.forest k) rule) w v r e
+    turns_stood (edit_step k) (λ x edit. has_work_at (view_of x.forest k) edit) k (λ edit x y s f. edit_turned laws k edit x y s f)
+    (answered_at (view_of w.forest k) rule) w v r e
 
-uneasy_by : (rules : List Answers) (o : Option View) → list_any (λ rule. list_any (has_work_at o) (answered_at o rule)) rules ≡ false → is_uneasy rules o ≡ false
+uneasy_by : (rules : List Answers) (o : Option View) → list_any (λ rule. list_any (has_work_at o) (answered_at o rule)) rules ≡ false
+    → is_uneasy rules o ≡ false
 uneasy_by rules None e = refl
 uneasy_by rules (Some v) e = e
 
@@ -110,7 +118,8 @@ rules_turned laws rules k w v r e =
     }
 
 -- a leaf: what came before the rules is carried
-leaf_then : ActsAreMarked → (rules : List Answers) (k : ℕ) (w v : Working) (r : Result Working Cause) → ((u : Working) → r ≡ Ok u → IsCarried w u) → after r (rules_step rules k) ≡ Ok v → IsTurn rules k w v
+leaf_then : ActsAreMarked → (rules : List Answers) (k : ℕ) (w v : Working) (r : Result Working Cause) → ((u : Working) → r ≡ Ok u → IsCarried w u)
+    → after r (rules_step rules k) ≡ Ok v → IsTurn rules k w v
 leaf_then laws rules k w v (Ok u) first e =
     let f = first u refl in
     let t = rules_turned laws rules k u v f.covered.ready e in

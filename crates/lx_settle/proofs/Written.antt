@@ -50,7 +50,9 @@ extra_written (ColSpan col_span) (extra.Cell header row_span old background) = r
 extra_written (Background background) (extra.Cell header row_span col_span old) = refl
 extra_written _ _ = refl
 
-element_written : (m : Member) (old : ElementFields) → element_with_member m (record old { extra = unnumbered old.extra }) ≡ record (element_with_member m old) { extra = unnumbered (element_with_member m old).extra }
+element_written : (m : Member) (old : ElementFields)
+    → element_with_member m (record old { extra = unnumbered old.extra })
+    ≡ record (element_with_member m old) { extra = unnumbered (element_with_member m old).extra }
 unfolding element_with_member
 element_written (Direction d) old = refl
 element_written (Align a) old = refl
@@ -68,7 +70,8 @@ all_written : (ms : List Member) (f : Fields) → with_members ms (seen_fields f
 all_written [] f = refl
 all_written (m ∷ ms) f = ap (with_members ms) (seen_written m f) ∙ all_written ms (with_member m f)
 
-patched_by : (b : Bool) (ms : List Member) (f : Fields) → cond b (Some (with_members ms f)) None ≡ Some f → cond b (Some (with_members ms (seen_fields f))) None ≡ Some (seen_fields f)
+patched_by : (b : Bool) (ms : List Member) (f : Fields) → cond b (Some (with_members ms f)) None ≡ Some f
+    → cond b (Some (with_members ms (seen_fields f))) None ≡ Some (seen_fields f)
 patched_by true ms f e = let same : with_members ms f ≡ f = cc in ap (λ x. Some x) (all_written ms f ∙ ap seen_fields same)
 patched_by false ms f e = absurd (cc)
 
@@ -104,26 +107,31 @@ sees f q v e = sees_by f q (spot f q) v refl e
 set_fields : (k : ℕ) (new old : Fields) (w v : Working) → fields_of w.forest k ≡ Some old → set_step k new w ≡ Ok v → fields_of v.forest k ≡ Some new
 unfolding set_step
 set_fields k new old w v is e =
-    ap (λ (x : Working). fields_of x.forest k) (sym ((answered (option_or (set_fault k new w.forest) (over_limits (characters_of new) w)) (fields_written k new (characters_of new) (set_points k new) w) v e).1))
+    ap (λ (x : Working). fields_of x.forest k)
+    (sym ((answered (option_or (set_fault k new w.forest) (over_limits (characters_of new) w))
+    (fields_written k new (characters_of new) (set_points k new) w) v e).1))
     ∙ fields_of-with_fields k new w.forest k ∙ ap (option_map (λ x. cond (eqb k k) new x)) is ∙ grind (arith, eqb_tells k k)
 
 nothing_differs : (k : Kind) (ms : List Member) (f : Fields) → patched k ms f ≡ Some f → differs (patched k ms (seen_fields f)) (seen_fields f) ≡ false
 nothing_differs k ms f e =
     ap (λ o. differs o (seen_fields f)) (patched_same k ms f e) ∙ ap not ((same_fields-Decides (seen_fields f) (seen_fields f)).1 refl)
 
-set_by : (o : Option Fields) (l : Label) (ms : List Member) (k : ℕ) (w v : Working) → patched l.kind ms l.fields ≡ o → fields_of w.forest k ≡ Some l.fields → written o k w ≡ Ok v
+set_by : (o : Option Fields) (l : Label) (ms : List Member) (k : ℕ) (w v : Working) → patched l.kind ms l.fields ≡ o → fields_of w.forest k ≡ Some l.fields
+    → written o k w ≡ Ok v
     → fields_of v.forest k ≡ Some l.fields → differs (patched l.kind ms (seen_fields l.fields)) (seen_fields l.fields) ≡ false
 set_by None l ms k w v is was e now = ap (λ o. differs o (seen_fields l.fields)) (unpatched l.kind ms l.fields (seen_fields l.fields) is)
 set_by (Some new) l ms k w v is was e now =
     let same : new ≡ l.fields = let both : Some new ≡ Some l.fields = sym (set_fields k new l.fields w v was e) ∙ now in cc in
     nothing_differs l.kind ms l.fields (is ∙ ap (λ x. Some x) same)
 
-pub set_changes : (ms : List Member) (k : ℕ) (w v : Working) (x : View) → view_of w.forest k ≡ Some x → written (patched_in (label_of w.forest k) ms) k w ≡ Ok v → spot v.forest k ≡ spot w.forest k
+pub set_changes : (ms : List Member) (k : ℕ) (w v : Working) (x : View) → view_of w.forest k ≡ Some x → written (patched_in (label_of w.forest k) ms) k w ≡ Ok v
+    → spot v.forest k ≡ spot w.forest k
     → differs (patched x.kind ms x.fields) x.fields ≡ false
 set_changes ms k w v x seen e same =
     let s = sees w.forest k x seen in
     let was : fields_of w.forest k ≡ Some s.label.fields = ap (option_map (λ (l : Label). l.fields)) s.is in
-    let now : fields_of v.forest k ≡ Some s.label.fields = ap (λ o. option_map (λ (l : Label). l.fields) (option_map (λ (t : Spot Label). t.label) o)) same ∙ was in
+    let now : fields_of v.forest k ≡ Some s.label.fields =
+    ap (λ o. option_map (λ (l : Label). l.fields) (option_map (λ (t : Spot Label). t.label) o)) same ∙ was in
     ap (λ a. differs (patched a ms x.fields) x.fields) s.kind ∙ ap (λ a. differs (patched s.label.kind ms a) a) s.fields
     ∙ set_by (patched s.label.kind ms s.label.fields) s.label ms k w v refl was (ap (λ o. written (patched_in o ms) k w) (sym s.is) ∙ e) now
 
@@ -132,7 +140,8 @@ set_changes ms k w v x seen e same =
 longer : (from to : ℕ) (new text : List ℕ) → from ≡ to → has_text new ≡ true → slice_fault text from to ≡ None → spliced_text from to new text ≡ text → ⊥
 longer from to [] text is e fault same = absurd (cc)
 longer from to (c ∷ new) text is e fault same =
-    more (text_length (c ∷ new)) (text_length text) from to is (length-some c new) (ap (λ t. text_length t + to) (sym same) ∙ splice-length from to (c ∷ new) text fault) where
+    more (text_length (c ∷ new)) (text_length text) from to is (length-some c new)
+    (ap (λ t. text_length t + to) (sym same) ∙ splice-length from to (c ∷ new) text fault) where
       more : (n m a b : ℕ) → a ≡ b → 0 < n → m + b ≡ m + n + a → ⊥
       more n m a b is some e = omega (arith, is, some, e)
 
@@ -150,15 +159,21 @@ unfolding splice_step
 splice_fields k n new l w v is e =
     let f : Fields = label_with_piece (label_of w.forest k) n n new in
     let a = answered (option_or (splice_fault k n n w.forest) (over_limits (length new) w)) (fields_written k f (length new) (splice_points k n n new) w) v e in
-    let fault = (both_none (unknown w.forest k) (label_fault (label_of w.forest k) n n) ((both_none (splice_fault k n n w.forest) (over_limits (length new) w) a.0).0)).1 in (
+    let fault =
+    (both_none (unknown w.forest k) (label_fault (label_of w.forest k) n n)
+    ((both_none (splice_fault k n n w.forest) (over_limits (length new) w) a.0).0)).1 in (
       ap (λ o. label_fault o n n) (sym is) ∙ fault,
       ap (λ (x : Working). fields_of x.forest k) (sym a.1) ∙ fields_of-with_fields k f w.forest k
-          ∙ ap (λ o. option_map (λ x. cond (eqb k k) f x) (option_map (λ (y : Label). y.fields) o)) is ∙ own (eqb k k) (grind (arith, eqb_tells k k)) ∙ ap (λ o. Some (label_with_piece o n n new)) is,
+          ∙ ap (λ o. option_map (λ x. cond (eqb k k) f x) (option_map (λ (y : Label). y.fields) o)) is ∙ own (eqb k k) (grind
+          (arith, eqb_tells k k)) ∙ ap (λ o. Some (label_with_piece o n n new)) is,
     ) where
-      own : (b : Bool) → b ≡ true → ◌≡◌ {A = Option Fields} (Some (cond b (label_with_piece (label_of w.forest k) n n new) l.fields)) (Some (label_with_piece (label_of w.forest k) n n new))
+      own : (b : Bool) → b ≡ true
+          → ◌≡◌ {A = Option Fields} (Some (cond b (label_with_piece (label_of w.forest k) n n new) l.fields))
+          (Some (label_with_piece (label_of w.forest k) n n new))
       own b e = ap (λ x. Some (cond x (label_with_piece (label_of w.forest k) n n new) l.fields)) e
 
-add_by : (k : Kind) (f : Fields) (n : ℕ) (new : List ℕ) (t : TextFields) → text_fields k f ≡ Some t → slice_fault t.text n n ≡ None → has_text new ≡ true → with_piece (text_fields k f) n n new ≡ f → ⊥
+add_by : (k : Kind) (f : Fields) (n : ℕ) (new : List ℕ) (t : TextFields) → text_fields k f ≡ Some t → slice_fault t.text n n ≡ None → has_text new ≡ true
+    → with_piece (text_fields k f) n n new ≡ f → ⊥
 add_by k f n new t is fault some same =
     let old : f ≡ fields.Text t = text_in_fields k f t is in
     let both : fields.Text (record t { text = spliced_text n n new t.text }) ≡ fields.Text t = ap (λ o. with_piece o n n new) (sym is) ∙ same ∙ old in
@@ -168,11 +183,14 @@ add_by k f n new t is fault some same =
       text_part (fields.Text u) = u.text
       text_part _ = []
 
-pub add_changes : (n : ℕ) (new : List ℕ) (k : ℕ) (w v : Working) (x : View) → view_of w.forest k ≡ Some x → has_text new ≡ true → splice_step k n n new w ≡ Ok v → spot v.forest k ≡ spot w.forest k → ⊥
+pub add_changes : (n : ℕ) (new : List ℕ) (k : ℕ) (w v : Working) (x : View) → view_of w.forest k ≡ Some x → has_text new ≡ true → splice_step k n n new w ≡ Ok v
+    → spot v.forest k ≡ spot w.forest k → ⊥
 add_changes n new k w v x seen some e same =
     let s = sees w.forest k x seen in
     let p = splice_fields k n new s.label w v s.is e in
     let t = piece_in (text_fields s.label.kind s.label.fields) s.label.kind n p.0 in
-    let now : fields_of v.forest k ≡ Some s.label.fields = ap (λ o. option_map (λ (l : Label). l.fields) (option_map (λ (t : Spot Label). t.label) o)) same ∙ ap (option_map (λ (l : Label). l.fields)) s.is in
-    let fields_same : label_with_piece (Some s.label) n n new ≡ s.label.fields = let both : Some (label_with_piece (Some s.label) n n new) ≡ Some s.label.fields = sym p.1 ∙ now in cc in
+    let now : fields_of v.forest k ≡ Some s.label.fields =
+    ap (λ o. option_map (λ (l : Label). l.fields) (option_map (λ (t : Spot Label). t.label) o)) same ∙ ap (option_map (λ (l : Label). l.fields)) s.is in
+    let fields_same : label_with_piece (Some s.label) n n new ≡ s.label.fields =
+    let both : Some (label_with_piece (Some s.label) n n new) ≡ Some s.label.fields = sym p.1 ∙ now in cc in
     add_by s.label.kind s.label.fields n new t.0 t.1 t.2 some fields_same

@@ -66,7 +66,8 @@ cell_kept (ColSpan col_span) (extra.Cell header row_span old background) ranged 
 cell_kept member (extra.Cell header row_span col_span background) ranged of = of
 cell_kept member _ ranged of = absurd (cc)
 
-extra_kept : (kind : Kind) (member : Member) (old : Extra) → IsInRange member → IsTrue (is_extra_of kind old) → IsTrue (is_extra_of kind (with_extra member old))
+extra_kept : (kind : Kind) (member : Member) (old : Extra) → IsInRange member → IsTrue (is_extra_of kind old)
+    → IsTrue (is_extra_of kind (with_extra member old))
 unfolding is_extra_of
 extra_kept (kind.List type) member old ranged of = list_kept member old ranged of
 extra_kept kind.Item member old ranged of = item_kept member old of
@@ -74,7 +75,8 @@ extra_kept kind.Link member old ranged of = link_kept member old of
 extra_kept kind.Cell member old ranged of = cell_kept member old ranged of
 extra_kept _ member old ranged of = plain_kept member old of
 
-element_kept : (kind : Kind) (member : Member) (old : ElementFields) → IsInRange member → IsTrue (is_extra_of kind old.extra) → IsTrue (is_extra_of kind (element_with_member member old).extra)
+element_kept : (kind : Kind) (member : Member) (old : ElementFields) → IsInRange member → IsTrue (is_extra_of kind old.extra)
+    → IsTrue (is_extra_of kind (element_with_member member old).extra)
 unfolding element_with_member
 element_kept kind (Direction direction) old ranged of = of
 element_kept kind (Align align) old ranged of = of
@@ -90,7 +92,8 @@ unfolding are_text_fields text_with_member is_in_range
 text_kept (Detail detail) old ranged of = ranged
 text_kept member old ranged of = of
 
-tab_kept : (member : Member) (old : TextFields) → IsTrue (has kind.Tab member) → IsTrue (are_tab_fields old) → IsTrue (are_tab_fields (text_with_member member old))
+tab_kept : (member : Member) (old : TextFields) → IsTrue (has kind.Tab member) → IsTrue (are_tab_fields old)
+    → IsTrue (are_tab_fields (text_with_member member old))
 unfolding are_tab_fields text_with_member has is_text
 tab_kept (Text text) old may of = absurd (cc)
 tab_kept (Detail detail) old may of = absurd (cc)
@@ -99,7 +102,8 @@ tab_kept member old may of = of
 
 -- ---- fields
 
-fitting : (kind : Kind) (member : Member) (old : Fields) → IsInRange member → IsTrue (has kind member) → IsTrue (fits_kind kind old) → IsTrue (fits_kind kind (with_member member old))
+fitting : (kind : Kind) (member : Member) (old : Fields) → IsInRange member → IsTrue (has kind member) → IsTrue (fits_kind kind old)
+    → IsTrue (fits_kind kind (with_member member old))
 unfolding fits_kind is_element_of is_text_of are_embed_fields are_bare with_member
 fitting kind.Text member (fields.Text old) ranged may of = text_kept member old ranged of
 fitting kind.Tab member (fields.Text old) ranged may of = tab_kept member old may of
@@ -116,14 +120,17 @@ fitting kind member (fields.Text old) ranged may of = absurd (cc)
 fitting kind member (fields.Embed old) ranged may of = absurd (cc)
 fitting kind member fields.Bare ranged may of = absurd (cc)
 
-pub keeps_kind_with : (kind : Kind) (member : Member) (old : Fields) → IsInRange member → IsTrue (has kind member) → IsOfKind kind old → IsOfKind kind (with_member member old)
+pub keeps_kind_with : (kind : Kind) (member : Member) (old : Fields) → IsInRange member → IsTrue (has kind member) → IsOfKind kind old
+    → IsOfKind kind (with_member member old)
 unfolding is_of_kind
 keeps_kind_with kind member old ranged may of =
     let parts = both (is_possible kind) (fits_kind kind old) of in
     and (is_possible kind) _ parts.0 (fitting kind member old ranged may parts.1)
 
-pub keeps_kind : (kind : Kind) (members : List Member) (old : Fields) → IsOfKind kind old → IsTrue (list_all (has kind) members) → All IsInRange members → IsOfKind kind (with_members members old)
+pub keeps_kind : (kind : Kind) (members : List Member) (old : Fields) → IsOfKind kind old → IsTrue (list_all (has kind) members) → All IsInRange members
+    → IsOfKind kind (with_members members old)
 keeps_kind kind [] old of may ranged = of
 keeps_kind kind (member ∷ members) old of may ranged =
     let parts = both (has kind member) (list_all (has kind) members) may in
-    keeps_kind kind members (with_member member old) (keeps_kind_with kind member old (ranged 0 member (omega arith)) parts.0 of) parts.1 (All-tail IsInRange member members ranged)
+    keeps_kind kind members (with_member member old) (keeps_kind_with kind member old (ranged 0 member (omega arith)) parts.0 of) parts.1
+    (All-tail IsInRange member members ranged)

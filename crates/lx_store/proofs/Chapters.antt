@@ -54,7 +54,9 @@ module _ {X : Type 0} where
 
   at_behind : (es fs : List (ℕ × X)) (q : ℕ) → at es q ≡ None → at (es ++ fs) q ≡ at fs q
   at_behind [] fs q h = refl
-  at_behind (e ∷ es) fs q h = elim (is_at (nat_cmp q) e.0) as (λ b. cond b (Some e.1) (at es q) ≡ None → cond b (Some e.1) (at (es ++ fs) q) ≡ at fs q) [ true ↦ λ none. absurd (grind (arith, none)) | false ↦ λ none. at_behind es fs q none ] h
+  at_behind (e ∷ es) fs q h =
+      elim (is_at (nat_cmp q) e.0) as (λ b. cond b (Some e.1) (at es q) ≡ None → cond b (Some e.1) (at (es ++ fs) q) ≡ at fs q)
+      [ true ↦ λ none. absurd (grind (arith, none)) | false ↦ λ none. at_behind es fs q none ] h
 
   keyed_below : (b q : ℕ) (xs : List (Option X)) → q < b → at (keyed b xs) q ≡ None
   keyed_below b q [] h = refl
@@ -79,7 +81,8 @@ module _ {X : Type 0} where
     | false ↦ λ e. keyed_above (n * 1024) q xs (chapter_above n q (length xs) fits other (grind (arith, e)))
   ] refl
 
-  sorted_keyed : (b : ℕ) (xs : List (Option X)) (rest : List (ℕ × X)) → AllByRecursion (λ y. b + length xs ≤ y) (keys_of rest) → IsStrictlySortedBy nat_cmp (keys_of rest)
+  sorted_keyed : (b : ℕ) (xs : List (Option X)) (rest : List (ℕ × X)) → AllByRecursion (λ y. b + length xs ≤ y) (keys_of rest)
+      → IsStrictlySortedBy nat_cmp (keys_of rest)
       → IsStrictlySortedBy nat_cmp (keys_of (keyed b xs ++ rest)) × AllByRecursion (λ y. b ≤ y) (keys_of (keyed b xs ++ rest))
   unfolding IsStrictlySortedBy
   sorted_keyed b [] rest above sorted = (sorted, all_weaker _ _ (keys_of rest) (λ y h. omega (arith, h)) above)
@@ -102,19 +105,23 @@ same_place k q n i number slot same = elim (is_at (nat_cmp k) q) as (λ b. is_at
   | false ↦ λ e. let two : k ≡ q → ⊥ = no_key k q e in other_key i (q % 1024) (λ f. two (omega (arith, number, slot, same, f)))
 ] refl
 
-slot_written : {X : Type 0} (xs : List (Option X)) (i : ℕ) (u : Option X) (j : ℕ) → i < length xs → slot_at (written xs i u) j ≡ cond (is_at (nat_cmp i) j) u (slot_at xs j)
+slot_written : {X : Type 0} (xs : List (Option X)) (i : ℕ) (u : Option X) (j : ℕ) → i < length xs
+    → slot_at (written xs i u) j ≡ cond (is_at (nat_cmp i) j) u (slot_at xs j)
 slot_written xs i u j h = elim (is_at (nat_cmp i) j) as (λ b. is_at (nat_cmp i) j ≡ b → slot_at (written xs i u) j ≡ cond b u (slot_at xs j)) [
   | true ↦ λ e. ap (slot_at (written xs i u)) (sym (is_key i j e)) ∙ get_or-set_same xs i u None h
   | false ↦ λ e. get_or-set_other xs i j u None (λ f. no_key i j e (sym f))
 ] refl
 
 module _ {X P : Type 0} (slots : P → List (Option X)) (short : (p : P) → length (slots p) ≤ 1024) where
-  pub items_at : (ps : List (ℕ × P)) (q : ℕ) → IsStrictlySortedBy nat_cmp (keys_of ps) → at (items_of slots ps) q ≡ chapter_item slots (at ps (q / 1024)) (q % 1024)
+  pub items_at : (ps : List (ℕ × P)) (q : ℕ) → IsStrictlySortedBy nat_cmp (keys_of ps)
+      → at (items_of slots ps) q ≡ chapter_item slots (at ps (q / 1024)) (q % 1024)
   items_at [] q h = refl
   items_at (p ∷ ps) q h =
       let rest : at (items_of slots ps) q ≡ chapter_item slots (at ps (q / 1024)) (q % 1024) = items_at ps q (sorted_tail nat_cmp p.0 (keys_of ps) h) in
       let fits : length (slots p.1) ≤ 1024 = short p.1 in
-      elim (is_at (nat_cmp (q / 1024)) p.0) as (λ b. is_at (nat_cmp (q / 1024)) p.0 ≡ b → at (keyed (p.0 * 1024) (slots p.1) ++ items_of slots ps) q ≡ chapter_item slots (cond b (Some p.1) (at ps (q / 1024))) (q % 1024)) [
+      elim (is_at (nat_cmp (q / 1024)) p.0) as
+      (λ b. is_at (nat_cmp (q / 1024)) p.0 ≡ b
+      → at (keyed (p.0 * 1024) (slots p.1) ++ items_of slots ps) q ≡ chapter_item slots (cond b (Some p.1) (at ps (q / 1024))) (q % 1024)) [
         | true ↦ λ e. let same : q / 1024 ≡ p.0 = is_key (q / 1024) p.0 e in
             let none : at ps (q / 1024) ≡ None = subst (λ n. at ps n ≡ None) (sym same) (not_after p.0 ps (sorted_head nat_cmp p.0 (keys_of ps) h)) in
             at_first (keyed (p.0 * 1024) (slots p.1)) (items_of slots ps) q (rest ∙ ap (λ o. chapter_item slots o (q % 1024)) none)
@@ -130,8 +137,12 @@ module _ {X P : Type 0} (slots : P → List (Option X)) (short : (p : P) → len
   sorted_items n (p ∷ ps) h above =
       let fits : length (slots p.1) ≤ 1024 = short p.1 in
       let first : n ≤ p.0 = above.0 in
-      let more = sorted_items (p.0 + 1) ps (sorted_tail nat_cmp p.0 (keys_of ps) h) (all_weaker _ _ (keys_of ps) (λ y less. omega (arith, less_is p.0 y less)) (sorted_head nat_cmp p.0 (keys_of ps) h)) in
-      let all = sorted_keyed (p.0 * 1024) (slots p.1) (items_of slots ps) (all_weaker _ _ (keys_of (items_of slots ps)) (λ y low. omega (arith, low, fits)) more.1) more.0 in
+      let more =
+      sorted_items (p.0 + 1) ps (sorted_tail nat_cmp p.0 (keys_of ps) h)
+      (all_weaker _ _ (keys_of ps) (λ y less. omega (arith, less_is p.0 y less)) (sorted_head nat_cmp p.0 (keys_of ps) h)) in
+      let all =
+      sorted_keyed (p.0 * 1024) (slots p.1) (items_of slots ps) (all_weaker _ _ (keys_of (items_of slots ps)) (λ y low. omega (arith, low, fits)) more.1)
+      more.0 in
       (all.0, all_weaker _ _ (keys_of (items_of slots (p ∷ ps))) (λ y low. omega (arith, low, first)) all.1)
 
 module _ {X Z : Type 0} where
@@ -147,12 +158,14 @@ module _ {X Z : Type 0} where
   abbrev pub mapped : List (ℕ × Rc (List (Option X)) Z) → FinMap nat_cmp X
   mapped ps = from_entries {R = nat_cmp} (items_of slots_of ps)
 
-  pub get_none : (ps : List (ℕ × Rc (List (Option X)) Z)) (q n : ℕ) → IsStrictlySortedBy nat_cmp (keys_of ps) → n ≡ q / 1024 → at ps n ≡ None → get (mapped ps) q ≡ None
+  pub get_none : (ps : List (ℕ × Rc (List (Option X)) Z)) (q n : ℕ) → IsStrictlySortedBy nat_cmp (keys_of ps) → n ≡ q / 1024 → at ps n ≡ None
+      → get (mapped ps) q ≡ None
   get_none ps q n sorted number none =
       get-from_held (items_of slots_of ps) q ∙ items_at slots_of at_most_1024 ps q sorted
       ∙ ap (λ o. chapter_item slots_of o (q % 1024)) (ap (at ps) (sym number) ∙ none)
 
-  pub get_chapter : (ps : List (ℕ × Rc (List (Option X)) Z)) (q n i : ℕ) (p : Rc (List (Option X)) Z) (slots : List (Option X)) → IsStrictlySortedBy nat_cmp (keys_of ps) → n ≡ q / 1024 → i ≡ q % 1024 → at ps n ≡ Some p → slots ≡ p.value → get (mapped ps) q ≡ slot_at slots i
+  pub get_chapter : (ps : List (ℕ × Rc (List (Option X)) Z)) (q n i : ℕ) (p : Rc (List (Option X)) Z) (slots : List (Option X))
+      → IsStrictlySortedBy nat_cmp (keys_of ps) → n ≡ q / 1024 → i ≡ q % 1024 → at ps n ≡ Some p → slots ≡ p.value → get (mapped ps) q ≡ slot_at slots i
   get_chapter ps q n i p slots sorted number slot some value =
       get-from_held (items_of slots_of ps) q ∙ items_at slots_of at_most_1024 ps q sorted
       ∙ ap (λ o. chapter_item slots_of o (q % 1024)) (ap (at ps) (sym number) ∙ some)
@@ -160,20 +173,24 @@ module _ {X Z : Type 0} where
       ∙ ap (slot_at p.value) (sym slot) ∙ ap (λ xs. slot_at xs i) (sym value)
 
   -- chapters that have the same in each slot make one map
-  pub same_mapped : (es fs : List (ℕ × Rc (List (Option X)) Z)) → IsStrictlySortedBy nat_cmp (keys_of es) → IsStrictlySortedBy nat_cmp (keys_of fs) → ((m j : ℕ) → j < 1024 → chapter_item slots_of (at fs m) j ≡ chapter_item slots_of (at es m) j) → mapped fs ≡ mapped es
+  pub same_mapped : (es fs : List (ℕ × Rc (List (Option X)) Z)) → IsStrictlySortedBy nat_cmp (keys_of es) → IsStrictlySortedBy nat_cmp (keys_of fs)
+      → ((m j : ℕ) → j < 1024 → chapter_item slots_of (at fs m) j ≡ chapter_item slots_of (at es m) j) → mapped fs ≡ mapped es
   same_mapped es fs was is h = same_map nat_cmp_total nat_cmp-IsAntisymmetric _ _ (λ q.
       get-from_held (items_of slots_of fs) q ∙ items_at slots_of at_most_1024 fs q is
       ∙ h (q / 1024) (q % 1024) (omega arith)
       ∙ sym (get-from_held (items_of slots_of es) q ∙ items_at slots_of at_most_1024 es q was))
 
   -- a chapter that changed in one slot, among others that stay
-  changed : (es fs : List (ℕ × Rc (List (Option X)) Z)) (k n i : ℕ) (w : Option (Rc (List (Option X)) Z)) (u : Option X) → IsStrictlySortedBy nat_cmp (keys_of es) → IsStrictlySortedBy nat_cmp (keys_of fs) → n ≡ k / 1024 → i ≡ k % 1024
+  changed : (es fs : List (ℕ × Rc (List (Option X)) Z)) (k n i : ℕ) (w : Option (Rc (List (Option X)) Z)) (u : Option X)
+      → IsStrictlySortedBy nat_cmp (keys_of es) → IsStrictlySortedBy nat_cmp (keys_of fs) → n ≡ k / 1024 → i ≡ k % 1024
       → ((m : ℕ) → at fs m ≡ cond (is_at (nat_cmp n) m) w (at es m))
       → ((j : ℕ) → j < 1024 → chapter_item slots_of w j ≡ cond (is_at (nat_cmp i) j) u (chapter_item slots_of (at es n) j))
       → (q : ℕ) → at (items_of slots_of fs) q ≡ cond (is_at (nat_cmp k) q) u (at (items_of slots_of es) q)
   changed es fs k n i w u was is number slot chapters slots q =
       items_at slots_of at_most_1024 fs q is
-      ∙ elim (is_at (nat_cmp n) (q / 1024)) as (λ b. is_at (nat_cmp n) (q / 1024) ≡ b → chapter_item slots_of (at fs (q / 1024)) (q % 1024) ≡ cond (is_at (nat_cmp k) q) u (chapter_item slots_of (at es (q / 1024)) (q % 1024))) [
+      ∙ elim (is_at (nat_cmp n) (q / 1024)) as
+      (λ b. is_at (nat_cmp n) (q / 1024) ≡ b
+      → chapter_item slots_of (at fs (q / 1024)) (q % 1024) ≡ cond (is_at (nat_cmp k) q) u (chapter_item slots_of (at es (q / 1024)) (q % 1024))) [
         | true ↦ λ e. let same : n ≡ q / 1024 = is_key n (q / 1024) e in
             ap (λ o. chapter_item slots_of o (q % 1024)) (chapters (q / 1024) ∙ ap (λ b. cond b w (at es (q / 1024))) e)
             ∙ slots (q % 1024) (omega arith)
@@ -186,35 +203,44 @@ module _ {X Z : Type 0} where
       ∙ ap (cond (is_at (nat_cmp k) q) u) (sym (items_at slots_of at_most_1024 es q was))
 
   -- the slots of a chapter after one was written
-  slots_written : (p n : Rc (List (Option X)) Z) (i : ℕ) (u : Option X) → n.value ≡ written p.value i u → length p.value ≡ 1024 → i < 1024 → (j : ℕ) → j < 1024 → slot_at (slots_of n) j ≡ cond (is_at (nat_cmp i) j) u (slot_at (slots_of p) j)
+  slots_written : (p n : Rc (List (Option X)) Z) (i : ℕ) (u : Option X) → n.value ≡ written p.value i u → length p.value ≡ 1024 → i < 1024 → (j : ℕ) → j < 1024
+      → slot_at (slots_of n) j ≡ cond (is_at (nat_cmp i) j) u (slot_at (slots_of p) j)
   slots_written p n i u new size fits j h =
       whole n j h ∙ ap (λ xs. slot_at xs j) new ∙ slot_written p.value i u j (omega (arith, size, fits))
       ∙ ap (cond (is_at (nat_cmp i) j) u) (sym (whole p j h))
 
   -- chapters where the one of the key was changed in the key's slot
-  pub put_mapped : (es fs : List (ℕ × Rc (List (Option X)) Z)) (k n i : ℕ) (p w : Rc (List (Option X)) Z) (v : X) → IsStrictlySortedBy nat_cmp (keys_of es) → IsStrictlySortedBy nat_cmp (keys_of fs) → n ≡ k / 1024 → i ≡ k % 1024
-      → at es n ≡ Some p → ((m : ℕ) → at fs m ≡ cond (is_at (nat_cmp n) m) (Some w) (at es m)) → w.value ≡ written p.value i (Some v) → length p.value ≡ 1024 → mapped fs ≡ insert (mapped es) k v
+  pub put_mapped : (es fs : List (ℕ × Rc (List (Option X)) Z)) (k n i : ℕ) (p w : Rc (List (Option X)) Z) (v : X) → IsStrictlySortedBy nat_cmp (keys_of es)
+      → IsStrictlySortedBy nat_cmp (keys_of fs) → n ≡ k / 1024 → i ≡ k % 1024
+      → at es n ≡ Some p → ((m : ℕ) → at fs m ≡ cond (is_at (nat_cmp n) m) (Some w) (at es m)) → w.value ≡ written p.value i (Some v) → length p.value ≡ 1024
+      → mapped fs ≡ insert (mapped es) k v
   put_mapped es fs k n i p w v was is number slot there chapters new size =
       put_from_held (items_of slots_of es) (items_of slots_of fs) k v (changed es fs k n i (Some w) (Some v) was is number slot chapters (λ j h.
       slots_written p w i (Some v) new size (omega (arith, slot)) j h ∙ ap (λ o. cond (is_at (nat_cmp i) j) (Some v) (chapter_item slots_of o j)) (sym there)))
 
-  pub take_mapped : (es fs : List (ℕ × Rc (List (Option X)) Z)) (k n i : ℕ) (p w : Rc (List (Option X)) Z) → IsStrictlySortedBy nat_cmp (keys_of es) → IsStrictlySortedBy nat_cmp (keys_of fs) → n ≡ k / 1024 → i ≡ k % 1024
-      → at es n ≡ Some p → ((m : ℕ) → at fs m ≡ cond (is_at (nat_cmp n) m) (Some w) (at es m)) → w.value ≡ written p.value i None → length p.value ≡ 1024 → mapped fs ≡ remove (mapped es) k
+  pub take_mapped : (es fs : List (ℕ × Rc (List (Option X)) Z)) (k n i : ℕ) (p w : Rc (List (Option X)) Z) → IsStrictlySortedBy nat_cmp (keys_of es)
+      → IsStrictlySortedBy nat_cmp (keys_of fs) → n ≡ k / 1024 → i ≡ k % 1024
+      → at es n ≡ Some p → ((m : ℕ) → at fs m ≡ cond (is_at (nat_cmp n) m) (Some w) (at es m)) → w.value ≡ written p.value i None → length p.value ≡ 1024
+      → mapped fs ≡ remove (mapped es) k
   take_mapped es fs k n i p w was is number slot there chapters new size =
       take_from_held (items_of slots_of es) (items_of slots_of fs) k (changed es fs k n i (Some w) None was is number slot chapters (λ j h.
       slots_written p w i None new size (omega (arith, slot)) j h ∙ ap (λ o. cond (is_at (nat_cmp i) j) None (chapter_item slots_of o j)) (sym there)))
 
   -- chapters with a new one, where there was none
-  pub add_mapped : (es fs : List (ℕ × Rc (List (Option X)) Z)) (k n i : ℕ) (w : Rc (List (Option X)) Z) (v : X) → IsStrictlySortedBy nat_cmp (keys_of es) → IsStrictlySortedBy nat_cmp (keys_of fs) → n ≡ k / 1024 → i ≡ k % 1024
-      → at es n ≡ None → ((m : ℕ) → at fs m ≡ cond (is_at (nat_cmp n) m) (Some w) (at es m)) → w.value ≡ written (replicate 1024 None) i (Some v) → mapped fs ≡ insert (mapped es) k v
+  pub add_mapped : (es fs : List (ℕ × Rc (List (Option X)) Z)) (k n i : ℕ) (w : Rc (List (Option X)) Z) (v : X) → IsStrictlySortedBy nat_cmp (keys_of es)
+      → IsStrictlySortedBy nat_cmp (keys_of fs) → n ≡ k / 1024 → i ≡ k % 1024
+      → at es n ≡ None → ((m : ℕ) → at fs m ≡ cond (is_at (nat_cmp n) m) (Some w) (at es m)) → w.value ≡ written (replicate 1024 None) i (Some v)
+      → mapped fs ≡ insert (mapped es) k v
   add_mapped es fs k n i w v was is number slot none chapters new =
       put_from_held (items_of slots_of es) (items_of slots_of fs) k v (changed es fs k n i (Some w) (Some v) was is number slot chapters (λ j h.
-      whole w j h ∙ ap (λ xs. slot_at xs j) new ∙ slot_written (replicate 1024 None) i (Some v) j (omega (arith, slot, length-replicate {A = Option X} 1024 None))
+      whole w j h ∙ ap (λ xs. slot_at xs j) new
+      ∙ slot_written (replicate 1024 None) i (Some v) j (omega (arith, slot, length-replicate {A = Option X} 1024 None))
       ∙ ap (cond (is_at (nat_cmp i) j) (Some v)) (get_or-replicate 1024 j None None h)
       ∙ ap (λ o. cond (is_at (nat_cmp i) j) (Some v) (chapter_item slots_of o j)) (sym none)))
 
   -- a chapter that was copied and not changed
-  pub kept_mapped : (es fs : List (ℕ × Rc (List (Option X)) Z)) (n : ℕ) (p w : Rc (List (Option X)) Z) → IsStrictlySortedBy nat_cmp (keys_of es) → IsStrictlySortedBy nat_cmp (keys_of fs)
+  pub kept_mapped : (es fs : List (ℕ × Rc (List (Option X)) Z)) (n : ℕ) (p w : Rc (List (Option X)) Z) → IsStrictlySortedBy nat_cmp (keys_of es)
+      → IsStrictlySortedBy nat_cmp (keys_of fs)
       → at es n ≡ Some p → ((m : ℕ) → at fs m ≡ cond (is_at (nat_cmp n) m) (Some w) (at es m)) → w.value ≡ p.value → mapped fs ≡ mapped es
   kept_mapped es fs n p w was is there chapters same = same_mapped es fs was is (λ m j h.
       elim (is_at (nat_cmp n) m) as (λ b. is_at (nat_cmp n) m ≡ b → chapter_item slots_of (at fs m) j ≡ chapter_item slots_of (at es m) j) [
@@ -225,7 +251,8 @@ module _ {X Z : Type 0} where
       ] refl)
 
   -- a chapter without items that is given up
-  pub give_up_mapped : (es fs : List (ℕ × Rc (List (Option X)) Z)) (n : ℕ) (p : Rc (List (Option X)) Z) → IsStrictlySortedBy nat_cmp (keys_of es) → IsStrictlySortedBy nat_cmp (keys_of fs)
+  pub give_up_mapped : (es fs : List (ℕ × Rc (List (Option X)) Z)) (n : ℕ) (p : Rc (List (Option X)) Z) → IsStrictlySortedBy nat_cmp (keys_of es)
+      → IsStrictlySortedBy nat_cmp (keys_of fs)
       → at es n ≡ Some p → ((m : ℕ) → at fs m ≡ cond (is_at (nat_cmp n) m) None (at es m)) → ((j : ℕ) → slot_at p.value j ≡ None) → mapped fs ≡ mapped es
   give_up_mapped es fs n p was is there chapters free = same_mapped es fs was is (λ m j h.
       elim (is_at (nat_cmp n) m) as (λ b. is_at (nat_cmp n) m ≡ b → chapter_item slots_of (at fs m) j ≡ chapter_item slots_of (at es m) j) [
@@ -245,12 +272,14 @@ absent m k none = same_map nat_cmp_total nat_cmp-IsAntisymmetric _ _ (λ q.
 
 module _ {X Z : Type 0} where
   -- the chapters of a copy of the table
-  pub copied_items : (es fs : List (ℕ × Rc (List (Option X)) Z)) → AllZip (λ p q. (q.0 ≡ p.0) × (q.1.value ≡ p.1.value)) es fs → items_of slots_of fs ≡ items_of slots_of es
+  pub copied_items : (es fs : List (ℕ × Rc (List (Option X)) Z)) → AllZip (λ p q. (q.0 ≡ p.0) × (q.1.value ≡ p.1.value)) es fs
+      → items_of slots_of fs ≡ items_of slots_of es
   copied_items [] [] h = refl
   copied_items [] (f ∷ fs) h = absurd h
   copied_items (e ∷ es) [] h = absurd h
   copied_items (e ∷ es) (f ∷ fs) h =
-      ap (λ n. keyed (n * 1024) (slots_of f.1) ++ items_of slots_of fs) h.0.0 ∙ ap (λ xs. keyed (e.0 * 1024) (take 1024 xs) ++ items_of slots_of fs) h.0.1 ∙ ap (λ rest. keyed (e.0 * 1024) (slots_of e.1) ++ rest) (copied_items es fs h.1)
+      ap (λ n. keyed (n * 1024) (slots_of f.1) ++ items_of slots_of fs) h.0.0 ∙ ap (λ xs. keyed (e.0 * 1024) (take 1024 xs) ++ items_of slots_of fs) h.0.1
+      ∙ ap (λ rest. keyed (e.0 * 1024) (slots_of e.1) ++ rest) (copied_items es fs h.1)
 
   pub copied_keys : (es fs : List (ℕ × Rc (List (Option X)) Z)) → AllZip (λ p q. (q.0 ≡ p.0) × (q.1.value ≡ p.1.value)) es fs → keys_of fs ≡ keys_of es
   copied_keys [] [] h = refl
@@ -272,20 +301,24 @@ module _ {X : Type 0} where
   next_slot b zero (None ∷ xs) = refl
   next_slot b zero (Some x ∷ xs) = ap (λ n. (n, x) ∷ []) (sym (add-zero b))
   next_slot b (suc s) (None ∷ xs) = next_slot (b + 1) s xs ∙ ap (λ n. keyed (b + 1) (take s xs) ++ keyed n (slot_at xs s ∷ [])) (omega arith)
-  next_slot b (suc s) (Some x ∷ xs) = ap (λ es. (b, x) ∷ es) (next_slot (b + 1) s xs ∙ ap (λ n. keyed (b + 1) (take s xs) ++ keyed n (slot_at xs s ∷ [])) (omega arith))
+  next_slot b (suc s) (Some x ∷ xs) =
+      ap (λ es. (b, x) ∷ es) (next_slot (b + 1) s xs ∙ ap (λ n. keyed (b + 1) (take s xs) ++ keyed n (slot_at xs s ∷ [])) (omega arith))
 
   keys_append : (es fs : List (ℕ × X)) → keys_of (es ++ fs) ≡ keys_of es ++ keys_of fs
   keys_append [] fs = refl
   keys_append (e ∷ es) fs = ap (λ ks. e.0 ∷ ks) (keys_append es fs)
 
   -- the keys so far, and that of one more slot
-  pub one_slot : (b s : ℕ) (xs : List (Option X)) (before so_far more : List ℕ) (item : Option X) → so_far ≡ before ++ keys_of (keyed b (take s xs)) → more ≡ so_far ++ keys_of (keyed (b + s) (item ∷ [])) → item ≡ slot_at xs s
+  pub one_slot : (b s : ℕ) (xs : List (Option X)) (before so_far more : List ℕ) (item : Option X) → so_far ≡ before ++ keys_of (keyed b (take s xs))
+      → more ≡ so_far ++ keys_of (keyed (b + s) (item ∷ [])) → item ≡ slot_at xs s
       → more ≡ before ++ keys_of (keyed b (take (s + 1) xs))
   one_slot b s xs before so_far more item was new is =
       new ∙ ap (λ ks. ks ++ keys_of (keyed (b + s) (item ∷ []))) was
       ∙ append_assoc before (keys_of (keyed b (take s xs))) (keys_of (keyed (b + s) (item ∷ [])))
       ∙ ap (λ o. before ++ (keys_of (keyed b (take s xs)) ++ keys_of (keyed (b + s) (o ∷ [])))) is
-      ∙ ap (λ ks. before ++ ks) (sym (keys_append (keyed b (take s xs)) (keyed (b + s) (slot_at xs s ∷ []))) ∙ ap keys_of (sym (next_slot b s xs)) ∙ ap (λ n. keys_of (keyed b (take n xs))) (sym (add-one s)))
+      ∙ ap (λ ks. before ++ ks)
+      (sym (keys_append (keyed b (take s xs)) (keyed (b + s) (slot_at xs s ∷ []))) ∙ ap keys_of (sym (next_slot b s xs))
+      ∙ ap (λ n. keys_of (keyed b (take n xs))) (sym (add-one s)))
 
 all_from_zero : (ks : List ℕ) → AllByRecursion (λ y. 0 ≤ y) ks
 all_from_zero [] = tt
@@ -296,10 +329,13 @@ module _ {X Z : Type 0} where
   keys_mapped es sorted = keys-from_held (items_of slots_of es) (sorted_items slots_of at_most_1024 0 es sorted (all_from_zero (keys_of es))).0
 
   -- the keys so far and those of the chapters that are left
-  pub one_chapter : (all : List ℕ) (left next : List (ℕ × Rc (List (Option X)) Z)) (n : ℕ) (p : Rc (List (Option X)) Z) (xs : List (Option X)) (before after : List ℕ) → before ++ keys_of (items_of slots_of left) ≡ all → left ≡ (n, p) ∷ next
+  pub one_chapter : (all : List ℕ) (left next : List (ℕ × Rc (List (Option X)) Z)) (n : ℕ) (p : Rc (List (Option X)) Z) (xs : List (Option X))
+      (before after : List ℕ) → before ++ keys_of (items_of slots_of left) ≡ all → left ≡ (n, p) ∷ next
       → after ≡ before ++ keys_of (keyed (n * 1024) (take 1024 xs)) → xs ≡ p.value → after ++ keys_of (items_of slots_of next) ≡ all
   one_chapter all left next n p xs before after so_far first new is =
       ap (λ ks. ks ++ keys_of (items_of slots_of next)) new
       ∙ append_assoc before (keys_of (keyed (n * 1024) (take 1024 xs))) (keys_of (items_of slots_of next))
-      ∙ ap (λ ks. before ++ ks) (ap (λ ys. keys_of (keyed (n * 1024) (take 1024 ys)) ++ keys_of (items_of slots_of next)) is ∙ sym (keys_append (keyed (n * 1024) (slots_of p)) (items_of slots_of next)) ∙ ap (λ ps. keys_of (items_of slots_of ps)) (sym first))
+      ∙ ap (λ ks. before ++ ks)
+      (ap (λ ys. keys_of (keyed (n * 1024) (take 1024 ys)) ++ keys_of (items_of slots_of next)) is
+      ∙ sym (keys_append (keyed (n * 1024) (slots_of p)) (items_of slots_of next)) ∙ ap (λ ps. keys_of (items_of slots_of ps)) (sym first))
       ∙ so_far

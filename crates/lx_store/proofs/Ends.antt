@@ -24,7 +24,8 @@ equal_parts a b e = record {
 pub equal_by_parts : (a b : Node) → HasEqualParts a b → a ≡ b
 equal_by_parts a b same = rw (same.kind, same.fields, same.parent, same.previous, same.next, same.first, same.last, same.size) refl
 
-module _ {X Z : Type 0} (es : List (ℕ × Rc (List (Option X)) Z)) (n : ℕ) (e : ℕ × Rc (List (Option X)) Z) (table : IsTable es) (size : length es ≡ n + 1) (read : e ≡ get_or es n e) where
+module _ {X Z : Type 0} (es : List (ℕ × Rc (List (Option X)) Z)) (n : ℕ) (e : ℕ × Rc (List (Option X)) Z) (table : IsTable es) (size : length es ≡ n + 1)
+    (read : e ≡ get_or es n e) where
   last_is : number_at es n e ≡ e.0
   last_is = ap (λ x. x.0) (sym read)
 
@@ -34,7 +35,8 @@ module _ {X Z : Type 0} (es : List (ℕ × Rc (List (Option X)) Z)) (n : ℕ) (e
   below_last : (i : ℕ) → i < length es → number_at es i e ≤ e.0
   below_last i lt = elim (cases_eq i n) [
     | inl same ↦ let h : number_at es i e ≡ e.0 = ap (λ j. number_at es j e) same ∙ last_is in omega (arith, h)
-    | inr other ↦ let h : number_at es i e < number_at es n e = rises es i n e table.0 (omega (arith, lt, size, other)) (omega (arith, size)) in omega (arith, h, last_is)
+    | inr other ↦ let h : number_at es i e < number_at es n e =
+        rises es i n e table.0 (omega (arith, lt, size, other)) (omega (arith, size)) in omega (arith, h, last_is)
   ]
 
   -- after the last chapter there is nothing

@@ -29,12 +29,14 @@ module _ {X : Type 0} where
   get-from_held es q = get-from_entries nat_cmp_total es q ∙ find_at es q
 
   -- entries that differ at one key make maps that differ there
-  pub put_from_held : (es fs : List (ℕ × X)) (k : ℕ) (v : X) → ((q : ℕ) → at fs q ≡ cond (is_at (nat_cmp k) q) (Some v) (at es q)) → from_entries {R = nat_cmp} fs ≡ insert (from_entries es) k v
+  pub put_from_held : (es fs : List (ℕ × X)) (k : ℕ) (v : X) → ((q : ℕ) → at fs q ≡ cond (is_at (nat_cmp k) q) (Some v) (at es q))
+      → from_entries {R = nat_cmp} fs ≡ insert (from_entries es) k v
   put_from_held es fs k v h = same_map nat_cmp_total nat_cmp-IsAntisymmetric _ _ (λ q.
       get-from_held fs q ∙ h q ∙ ap (λ b. cond b (Some v) (at es q)) (same_test k q)
       ∙ sym (get-insert nat_cmp_total (from_entries es) k v q ∙ ap (cond (is_at (nat_cmp q) k) (Some v)) (get-from_held es q)))
 
-  pub take_from_held : (es fs : List (ℕ × X)) (k : ℕ) → ((q : ℕ) → at fs q ≡ cond (is_at (nat_cmp k) q) None (at es q)) → from_entries {R = nat_cmp} fs ≡ remove (from_entries es) k
+  pub take_from_held : (es fs : List (ℕ × X)) (k : ℕ) → ((q : ℕ) → at fs q ≡ cond (is_at (nat_cmp k) q) None (at es q))
+      → from_entries {R = nat_cmp} fs ≡ remove (from_entries es) k
   take_from_held es fs k h = same_map nat_cmp_total nat_cmp-IsAntisymmetric _ _ (λ q.
       get-from_held fs q ∙ h q ∙ ap (λ b. cond b None (at es q)) (same_test k q)
       ∙ sym (get-remove nat_cmp_total (from_entries es) k q ∙ ap (cond (is_at (nat_cmp q) k) None) (get-from_held es q)))

@@ -41,7 +41,8 @@ module _ {P : Type 0} where
   rises (e ∷ es) (suc i) (suc j) d sorted lt fits = rises es i j d (sorted_tail nat_cmp e.0 (keys_of es) sorted) (omega (arith, lt)) (omega (arith, fits))
 
   -- the chapter at a place is the one under its number
-  pub found_at : (es : List (ℕ × P)) (i : ℕ) (d : ℕ × P) → IsStrictlySortedBy nat_cmp (keys_of es) → i < length es → at es (number_at es i d) ≡ Some (get_or es i d).1
+  pub found_at : (es : List (ℕ × P)) (i : ℕ) (d : ℕ × P) → IsStrictlySortedBy nat_cmp (keys_of es) → i < length es
+      → at es (number_at es i d) ≡ Some (get_or es i d).1
   found_at [] i d sorted lt = absurd (omega (arith, lt))
   found_at (e ∷ es) zero d sorted lt = rw (same_key e.0 e.0 refl) refl
   found_at (e ∷ es) (suc i) d sorted lt =
@@ -54,19 +55,27 @@ module _ {P : Type 0} where
   absent_at (e ∷ es) n d h = rw (other_key n e.0 (λ f. h 0 (omega arith) (sym f))) (absent_at es n d (λ i lt. h (suc i) (omega (arith, lt))))
 
   -- two tests, of which one at most holds
-  swapped : (n m k : ℕ) (v : P) (w o : Option P) → (n ≡ k → ⊥) → cond (is_at (nat_cmp m) k) (Some v) (cond (is_at (nat_cmp n) m) w o) ≡ cond (is_at (nat_cmp n) m) w (cond (is_at (nat_cmp m) k) (Some v) o)
-  swapped n m k v w o apart = elim (is_at (nat_cmp m) k) as (λ b. is_at (nat_cmp m) k ≡ b → cond b (Some v) (cond (is_at (nat_cmp n) m) w o) ≡ cond (is_at (nat_cmp n) m) w (cond b (Some v) o)) [
-    | true ↦ λ e. let one : m ≡ k = is_key m k e in rw (other_key n m (λ f. apart (f ∙ one))) refl
-    | false ↦ λ e. refl
-  ] refl
+  swapped : (n m k : ℕ) (v : P) (w o : Option P) → (n ≡ k → ⊥)
+      → cond (is_at (nat_cmp m) k) (Some v) (cond (is_at (nat_cmp n) m) w o) ≡ cond (is_at (nat_cmp n) m) w (cond (is_at (nat_cmp m) k) (Some v) o)
+  swapped n m k v w o apart =
+      elim (is_at (nat_cmp m) k) as
+      (λ b. is_at (nat_cmp m) k ≡ b → cond b (Some v) (cond (is_at (nat_cmp n) m) w o) ≡ cond (is_at (nat_cmp n) m) w (cond b (Some v) o)) [
+        | true ↦ λ e. let one : m ≡ k = is_key m k e in rw (other_key n m (λ f. apart (f ∙ one))) refl
+        | false ↦ λ e. refl
+      ] refl
 
-  covers : (n m : ℕ) (v w : P) (o : Option P) → cond (is_at (nat_cmp m) n) (Some w) o ≡ cond (is_at (nat_cmp n) m) (Some w) (cond (is_at (nat_cmp m) n) (Some v) o)
-  covers n m v w o = rw (turned n m) (elim (is_at (nat_cmp n) m) as (λ b. cond b (Some w) o ≡ cond b (Some w) (cond b (Some v) o)) [ true ↦ refl | false ↦ refl ])
+  covers : (n m : ℕ) (v w : P) (o : Option P)
+      → cond (is_at (nat_cmp m) n) (Some w) o ≡ cond (is_at (nat_cmp n) m) (Some w) (cond (is_at (nat_cmp m) n) (Some v) o)
+  covers n m v w o =
+      rw (turned n m) (elim (is_at (nat_cmp n) m) as (λ b. cond b (Some w) o ≡ cond b (Some w) (cond b (Some v) o)) [ true ↦ refl | false ↦ refl ])
 
   -- a chapter that is changed at its place
-  pub set_at : (es : List (ℕ × P)) (i n : ℕ) (d : ℕ × P) (w : P) → IsStrictlySortedBy nat_cmp (keys_of es) → i < length es → number_at es i d ≡ n → (m : ℕ) → at (set es i (n, w)) m ≡ cond (is_at (nat_cmp n) m) (Some w) (at es m)
+  pub set_at : (es : List (ℕ × P)) (i n : ℕ) (d : ℕ × P) (w : P) → IsStrictlySortedBy nat_cmp (keys_of es) → i < length es → number_at es i d ≡ n → (m : ℕ)
+      → at (set es i (n, w)) m ≡ cond (is_at (nat_cmp n) m) (Some w) (at es m)
   set_at [] i n d w sorted lt is m = absurd (omega (arith, lt))
-  set_at (e ∷ es) zero n d w sorted lt is m = subst (λ k. cond (is_at (nat_cmp m) n) (Some w) (at es m) ≡ cond (is_at (nat_cmp n) m) (Some w) (cond (is_at (nat_cmp m) k) (Some e.1) (at es m))) (sym is) (covers n m e.1 w (at es m))
+  set_at (e ∷ es) zero n d w sorted lt is m =
+      subst (λ k. cond (is_at (nat_cmp m) n) (Some w) (at es m) ≡ cond (is_at (nat_cmp n) m) (Some w) (cond (is_at (nat_cmp m) k) (Some e.1) (at es m)))
+      (sym is) (covers n m e.1 w (at es m))
   set_at (e ∷ es) (suc i) n d w sorted lt is m =
       let less : e.0 < number_at es i d = later e es i d sorted (omega (arith, lt)) in
       ap (cond (is_at (nat_cmp m) e.0) (Some e.1)) (set_at es i n d w (sorted_tail nat_cmp e.0 (keys_of es) sorted) (omega (arith, lt)) is m)
@@ -78,7 +87,8 @@ module _ {P : Type 0} where
   set_keys (e ∷ es) (suc i) n d w lt is = ap (λ ks. e.0 ∷ ks) (set_keys es i n d w (omega (arith, lt)) is)
 
   -- a chapter that comes to its place
-  pub insert_at : (es : List (ℕ × P)) (i n : ℕ) (d : ℕ × P) (w : P) → i ≤ length es → ((j : ℕ) → j < i → number_at es j d < n) → (m : ℕ) → at (insert es i (n, w)) m ≡ cond (is_at (nat_cmp n) m) (Some w) (at es m)
+  pub insert_at : (es : List (ℕ × P)) (i n : ℕ) (d : ℕ × P) (w : P) → i ≤ length es → ((j : ℕ) → j < i → number_at es j d < n) → (m : ℕ)
+      → at (insert es i (n, w)) m ≡ cond (is_at (nat_cmp n) m) (Some w) (at es m)
   insert_at es zero n d w fits below m = ap (λ b. cond b (Some w) (at es m)) (turned n m)
   insert_at [] (suc i) n d w fits below m = absurd (omega (arith, fits))
   insert_at (e ∷ es) (suc i) n d w fits below m =
@@ -101,22 +111,27 @@ module _ {P : Type 0} where
   all_above n [] d h = tt
   all_above n (e ∷ es) d h = (is_less n e.0 (h 0 (omega arith)), all_above n es d (λ j lt. h (suc j) (omega (arith, lt))))
 
-  pub insert_sorted : (es : List (ℕ × P)) (i n : ℕ) (d : ℕ × P) (w : P) → IsStrictlySortedBy nat_cmp (keys_of es) → i ≤ length es → ((j : ℕ) → j < i → number_at es j d < n) → ((j : ℕ) → i ≤ j → j < length es → n < number_at es j d) → IsStrictlySortedBy nat_cmp (keys_of (insert es i (n, w)))
+  pub insert_sorted : (es : List (ℕ × P)) (i n : ℕ) (d : ℕ × P) (w : P) → IsStrictlySortedBy nat_cmp (keys_of es) → i ≤ length es
+      → ((j : ℕ) → j < i → number_at es j d < n) → ((j : ℕ) → i ≤ j → j < length es → n < number_at es j d)
+      → IsStrictlySortedBy nat_cmp (keys_of (insert es i (n, w)))
   unfolding IsStrictlySortedBy
   insert_sorted es zero n d w sorted fits below above = (all_above n es d (λ j lt. above j (omega arith) lt), sorted)
   insert_sorted [] (suc i) n d w sorted fits below above = absurd (omega (arith, fits))
   insert_sorted (e ∷ es) (suc i) n d w sorted fits below above = (
     all_inserted (λ y. nat_cmp e.0 y ≡ Less) es i n w sorted.0 (is_less e.0 n (below 0 (omega arith))),
-    insert_sorted es i n d w sorted.1 (omega (arith, fits)) (λ j lt. below (suc j) (omega (arith, lt))) (λ j le lt. above (suc j) (omega (arith, le)) (omega (arith, lt))),
+    insert_sorted es i n d w sorted.1 (omega (arith, fits)) (λ j lt. below (suc j) (omega (arith, lt))) (λ j le lt. above (suc j) (omega (arith, le))
+        (omega (arith, lt))),
   )
 
   -- a chapter that goes from its place
-  pub remove_at : (es : List (ℕ × P)) (i n : ℕ) (d : ℕ × P) → IsStrictlySortedBy nat_cmp (keys_of es) → i < length es → number_at es i d ≡ n → (m : ℕ) → at (remove es i) m ≡ cond (is_at (nat_cmp n) m) None (at es m)
+  pub remove_at : (es : List (ℕ × P)) (i n : ℕ) (d : ℕ × P) → IsStrictlySortedBy nat_cmp (keys_of es) → i < length es → number_at es i d ≡ n → (m : ℕ)
+      → at (remove es i) m ≡ cond (is_at (nat_cmp n) m) None (at es m)
   remove_at [] i n d sorted lt is m = absurd (omega (arith, lt))
-  remove_at (e ∷ es) zero n d sorted lt is m = elim (is_at (nat_cmp n) m) as (λ b. is_at (nat_cmp n) m ≡ b → at es m ≡ cond b None (cond (is_at (nat_cmp m) e.0) (Some e.1) (at es m))) [
-    | true ↦ λ f. let one : e.0 ≡ m = is ∙ is_key n m f in subst (λ k. at es k ≡ None) one (not_after e.0 es (sorted_head nat_cmp e.0 (keys_of es) sorted))
-    | false ↦ λ f. let two : n ≡ m → ⊥ = no_key n m f in rw (other_key m e.0 (λ g. two (sym (g ∙ is)))) refl
-  ] refl
+  remove_at (e ∷ es) zero n d sorted lt is m =
+      elim (is_at (nat_cmp n) m) as (λ b. is_at (nat_cmp n) m ≡ b → at es m ≡ cond b None (cond (is_at (nat_cmp m) e.0) (Some e.1) (at es m))) [
+        | true ↦ λ f. let one : e.0 ≡ m = is ∙ is_key n m f in subst (λ k. at es k ≡ None) one (not_after e.0 es (sorted_head nat_cmp e.0 (keys_of es) sorted))
+        | false ↦ λ f. let two : n ≡ m → ⊥ = no_key n m f in rw (other_key m e.0 (λ g. two (sym (g ∙ is)))) refl
+      ] refl
   remove_at (e ∷ es) (suc i) n d sorted lt is m =
       let less : e.0 < number_at es i d = later e es i d sorted (omega (arith, lt)) in
       ap (cond (is_at (nat_cmp m) e.0) (Some e.1)) (remove_at es i n d (sorted_tail nat_cmp e.0 (keys_of es) sorted) (omega (arith, lt)) is m)
@@ -137,7 +152,8 @@ module _ {P : Type 0} (es : List (ℕ × P)) (sorted : IsStrictlySortedBy nat_cm
       grind (arith, nat_tests))
 
   -- a binary search ends at the chapter, or where it would go
-  pub searched : (r : Result ℕ ℕ) → IsSearchInRange r (length es) → IsBinarySearchResult (λ chapter. nat_cmp chapter.0 n) es r → IfOk r (λ place. StandsAt es n place) × IfErr r (λ place. GoesAt es n place)
+  pub searched : (r : Result ℕ ℕ) → IsSearchInRange r (length es) → IsBinarySearchResult (λ chapter. nat_cmp chapter.0 n) es r
+      → IfOk r (λ place. StandsAt es n place) × IfErr r (λ place. GoesAt es n place)
   searched (Ok place) fits equal = (record { fits = fits; same = λ d. ranked _ n _ (sym (equal d)) }, tt)
   searched (Err place) fits parted = (
     tt,
@@ -153,7 +169,8 @@ module _ {X Z : Type 0} where
   goes_absent [] n place goes = refl
   goes_absent (e ∷ es) n place goes = absent_at (e ∷ es) n e (λ i lt same. grind (arith, goes.below e i, goes.above e i, lt, same))
 
-  module _ (es : List (ℕ × Rc (List (Option X)) Z)) (n place : ℕ) (e : ℕ × Rc (List (Option X)) Z) (table : IsTable es) (stands : StandsAt es n place) (read : e ≡ get_or es place e) where
+  module _ (es : List (ℕ × Rc (List (Option X)) Z)) (n place : ℕ) (e : ℕ × Rc (List (Option X)) Z) (table : IsTable es) (stands : StandsAt es n place)
+      (read : e ≡ get_or es place e) where
     own : number_at es place e ≡ e.0
     own = ap (λ x. x.0) (sym read)
 
@@ -173,19 +190,27 @@ module _ {X Z : Type 0} where
     after_set : (w : Rc (List (Option X)) Z) (m : ℕ) → at (set es place (e.0, w)) m ≡ cond (is_at (nat_cmp n) m) (Some w) (at es m)
     after_set w m = set_at es place e.0 e w table.0 stands.fits own m ∙ ap (λ k. cond (is_at (nat_cmp k) m) (Some w) (at es m)) number_is
 
-    pub put_stands : (k i : ℕ) (w : Rc (List (Option X)) Z) (v : X) → n ≡ k / 1024 → i ≡ k % 1024 → w.value ≡ written e.1.value i (Some v) → length e.1.value ≡ 1024 → mapped (set es place (e.0, w)) ≡ with_key (mapped es) k v
-    put_stands k i w v number slot new size = put_mapped es (set es place (e.0, w)) k n i e.1 w v table.0 (table_set w).0 number slot stands_found (after_set w) new size
+    pub put_stands : (k i : ℕ) (w : Rc (List (Option X)) Z) (v : X) → n ≡ k / 1024 → i ≡ k % 1024 → w.value ≡ written e.1.value i (Some v)
+        → length e.1.value ≡ 1024 → mapped (set es place (e.0, w)) ≡ with_key (mapped es) k v
+    put_stands k i w v number slot new size =
+        put_mapped es (set es place (e.0, w)) k n i e.1 w v table.0 (table_set w).0 number slot stands_found (after_set w) new size
 
-    pub take_stands : (k i : ℕ) (w : Rc (List (Option X)) Z) → n ≡ k / 1024 → i ≡ k % 1024 → w.value ≡ written e.1.value i None → length e.1.value ≡ 1024 → mapped (set es place (e.0, w)) ≡ without_key (mapped es) k
-    take_stands k i w number slot new size = take_mapped es (set es place (e.0, w)) k n i e.1 w table.0 (table_set w).0 number slot stands_found (after_set w) new size
+    pub take_stands : (k i : ℕ) (w : Rc (List (Option X)) Z) → n ≡ k / 1024 → i ≡ k % 1024 → w.value ≡ written e.1.value i None → length e.1.value ≡ 1024
+        → mapped (set es place (e.0, w)) ≡ without_key (mapped es) k
+    take_stands k i w number slot new size =
+        take_mapped es (set es place (e.0, w)) k n i e.1 w table.0 (table_set w).0 number slot stands_found (after_set w) new size
 
     pub kept_stands : (w : Rc (List (Option X)) Z) → w.value ≡ e.1.value → mapped (set es place (e.0, w)) ≡ mapped es
     kept_stands w same = kept_mapped es (set es place (e.0, w)) n e.1 w table.0 (table_set w).0 stands_found (after_set w) same
 
-    pub edit_stands : (k i : ℕ) (w : Rc (List (Option X)) Z) (edited : X → X) → n ≡ k / 1024 → i ≡ k % 1024 → w.value ≡ written e.1.value i (option_map edited (slot_at e.1.value i)) → length e.1.value ≡ 1024 → mapped (set es place (e.0, w)) ≡ with_edit edited k (mapped es)
+    pub edit_stands : (k i : ℕ) (w : Rc (List (Option X)) Z) (edited : X → X) → n ≡ k / 1024 → i ≡ k % 1024
+        → w.value ≡ written e.1.value i (option_map edited (slot_at e.1.value i)) → length e.1.value ≡ 1024
+        → mapped (set es place (e.0, w)) ≡ with_edit edited k (mapped es)
     edit_stands k i w edited number slot new size =
         (elim (slot_at e.1.value i) as (λ o. slot_at e.1.value i ≡ o → mapped (set es place (e.0, w)) ≡ with_item (mapped es) k (option_map edited o)) [
-          | None ↦ λ none. kept_stands w (new ∙ ap (λ o. written e.1.value i (option_map edited o)) none ∙ ap (written e.1.value i) (sym none) ∙ set-get_or e.1.value i None)
+          | None ↦
+              λ none. kept_stands w
+              (new ∙ ap (λ o. written e.1.value i (option_map edited o)) none ∙ ap (written e.1.value i) (sym none) ∙ set-get_or e.1.value i None)
           | Some item ↦ λ some. put_stands k i w (edited item) number slot (new ∙ ap (λ o. written e.1.value i (option_map edited o)) some) size
         ] refl)
         ∙ ap (λ o. with_item (mapped es) k (option_map edited o)) (sym (read_stands k i e.1.value number slot refl))
@@ -195,7 +220,9 @@ module _ {X Z : Type 0} where
     table_remove = (remove_sorted es place table.0, all_removed (λ n. n < 4194304) es place table.1)
 
     pub give_up_stands : ((j : ℕ) → slot_at e.1.value j ≡ None) → mapped (remove es place) ≡ mapped es
-    give_up_stands free = give_up_mapped es (remove es place) n e.1 table.0 (remove_sorted es place table.0) stands_found (remove_at es place n e table.0 stands.fits (stands.same e)) free
+    give_up_stands free =
+        give_up_mapped es (remove es place) n e.1 table.0 (remove_sorted es place table.0) stands_found
+        (remove_at es place n e table.0 stands.fits (stands.same e)) free
 
   module _ (es : List (ℕ × Rc (List (Option X)) Z)) (n place : ℕ) (table : IsTable es) (goes : GoesAt es n place) where
     pub read_goes : (q : ℕ) → n ≡ q / 1024 → get (mapped es) q ≡ None
@@ -203,10 +230,14 @@ module _ {X Z : Type 0} where
 
     -- the chapters with a new one
     pub table_insert : (w : Rc (List (Option X)) Z) → n < 4194304 → IsTable (insert es place (n, w))
-    table_insert w low = (insert_sorted es place n (n, w) w table.0 goes.fits (goes.below (n, w)) (goes.above (n, w)), all_inserted (λ n. n < 4194304) es place n w table.1 low)
+    table_insert w low =
+        (insert_sorted es place n (n, w) w table.0 goes.fits (goes.below (n, w)) (goes.above (n, w)), all_inserted (λ n. n < 4194304) es place n w table.1 low)
 
-    pub add_goes : (k i : ℕ) (w : Rc (List (Option X)) Z) (v : X) → n < 4194304 → n ≡ k / 1024 → i ≡ k % 1024 → w.value ≡ written (replicate 1024 None) i (Some v) → mapped (insert es place (n, w)) ≡ with_key (mapped es) k v
-    add_goes k i w v low number slot new = add_mapped es (insert es place (n, w)) k n i w v table.0 (table_insert w low).0 number slot (goes_absent es n place goes) (insert_at es place n (n, w) w goes.fits (goes.below (n, w))) new
+    pub add_goes : (k i : ℕ) (w : Rc (List (Option X)) Z) (v : X) → n < 4194304 → n ≡ k / 1024 → i ≡ k % 1024
+        → w.value ≡ written (replicate 1024 None) i (Some v) → mapped (insert es place (n, w)) ≡ with_key (mapped es) k v
+    add_goes k i w v low number slot new =
+        add_mapped es (insert es place (n, w)) k n i w v table.0 (table_insert w low).0 number slot (goes_absent es n place goes)
+        (insert_at es place n (n, w) w goes.fits (goes.below (n, w))) new
 
 pub no_chapters : {P : Type 0} (es : List (ℕ × P)) → es ≡ [] → IsTable es
 unfolding IsStrictlySortedBy

@@ -23,21 +23,27 @@ pub record IsAlike (f g : Forest) (table : ℕ) : Type 0 where
   pub keys : children_of g table ≡ children_of f table
   pub each : (i k : ℕ) → slice_get (children_of f table) i ≡ Some k → IsAlikeRow f g (length (children_of f table) - i) k
 
-same_spot : (f g : Forest) (rows row cell : ℕ) (earlier : List Spot) → column_span g cell ≡ column_span f cell → min (row_span g cell) (rows - row) ≡ min (row_span f cell) (rows - row)
+same_spot : (f g : Forest) (rows row cell : ℕ) (earlier : List Spot) → column_span g cell ≡ column_span f cell
+    → min (row_span g cell) (rows - row) ≡ min (row_span f cell) (rows - row)
     → spot_behind g rows row earlier cell ≡ spot_behind f rows row earlier cell
 same_spot f g rows row cell earlier columns height =
-    ap (λ (n : ℕ). let made : Spot = record { cell = cell; row = row; column = first_free earlier row n; height = min (row_span g cell) (rows - row); width = n } in made) columns
-    ∙ ap (λ (n : ℕ). let made : Spot = record { cell = cell; row = row; column = first_free earlier row (column_span f cell); height = n; width = column_span f cell } in made) height
+    ap (λ (n : ℕ). let made : Spot = record
+    { cell = cell; row = row; column = first_free earlier row n; height = min (row_span g cell) (rows - row); width = n } in made) columns
+    ∙ ap (λ (n : ℕ). let made : Spot = record
+    { cell = cell; row = row; column = first_free earlier row (column_span f cell); height = n; width = column_span f cell } in made) height
 
 same_row : (f g : Forest) (rows row : ℕ) (cells : List ℕ) (earlier : List Spot) → ((q : ℕ) → is_among q cells ≡ true → column_span g q ≡ column_span f q)
-    → ((q : ℕ) → is_among q cells ≡ true → min (row_span g q) (rows - row) ≡ min (row_span f q) (rows - row)) → row_filled g rows row cells earlier ≡ row_filled f rows row cells earlier
+    → ((q : ℕ) → is_among q cells ≡ true → min (row_span g q) (rows - row) ≡ min (row_span f q) (rows - row))
+    → row_filled g rows row cells earlier ≡ row_filled f rows row cells earlier
 same_row f g rows row [] earlier columns heights = refl
 same_row f g rows row (cell ∷ cells) earlier columns heights =
     let first : is_among cell (cell ∷ cells) ≡ true = grind (arith, eqb_tells cell cell) in
     ap (λ (s : Spot). row_filled g rows row cells (earlier ++ s ∷ [])) (same_spot f g rows row cell earlier (columns cell first) (heights cell first))
-    ∙ same_row f g rows row cells (earlier ++ spot_behind f rows row earlier cell ∷ []) (λ q among. columns q (grind (arith, among))) (λ q among. heights q (grind (arith, among)))
+    ∙ same_row f g rows row cells (earlier ++ spot_behind f rows row earlier cell ∷ []) (λ q among. columns q (grind (arith, among)))
+    (λ q among. heights q (grind (arith, among)))
 
-same_rows : (f g : Forest) (rows row : ℕ) (later : List ℕ) (earlier : List Spot) → ((i n k : ℕ) → n ≡ row + i → slice_get later i ≡ Some k → IsAlikeRow f g (rows - n) k)
+same_rows : (f g : Forest) (rows row : ℕ) (later : List ℕ) (earlier : List Spot)
+    → ((i n k : ℕ) → n ≡ row + i → slice_get later i ≡ Some k → IsAlikeRow f g (rows - n) k)
     → filled g [] rows row later earlier ≡ filled f [] rows row later earlier
 same_rows f g rows row [] earlier each = refl
 same_rows f g rows row (key ∷ later) earlier each =
@@ -53,6 +59,7 @@ same_grid f g table alike =
     let keys : List ℕ = children_of f table in
     let spots : spots_of g table ≡ spots_of f table =
     ap (λ (xs : List ℕ). filled g [] (length xs) 0 xs []) alike.keys
-    ∙ same_rows f g (length keys) 0 keys [] (λ i n k is at. let same : i ≡ n = omega (arith, is) in subst (λ m. IsAlikeRow f g (length keys - m) k) same (alike.each i k at)) in
+    ∙ same_rows f g (length keys) 0 keys []
+    (λ i n k is at. let same : i ≡ n = omega (arith, is) in subst (λ m. IsAlikeRow f g (length keys - m) k) same (alike.each i k at)) in
     ap (λ (xs : List ℕ). let made : Grid = record { spots = spots_of g table; rows = length xs; columns = end_column (spots_of g table) } in made) alike.keys
     ∙ ap (λ (zs : List Spot). let made : Grid = record { spots = zs; rows = length keys; columns = end_column zs } in made) spots

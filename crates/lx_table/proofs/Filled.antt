@@ -27,32 +27,38 @@ AreSpots f rows earlier (s ∷ spots) = IsSpot f rows earlier s × AreSpots f ro
 pub one_behind : (earlier : List Spot) (s : Spot) (spots : List Spot) → (earlier ++ s ∷ []) ++ spots ≡ earlier ++ s ∷ spots
 one_behind earlier s spots = append_assoc earlier (s ∷ []) spots
 
-AreSpots-append : (f : Forest) (rows : ℕ) (earlier xs ys : List Spot) → AreSpots f rows earlier xs → AreSpots f rows (earlier ++ xs) ys → AreSpots f rows earlier (xs ++ ys)
+AreSpots-append : (f : Forest) (rows : ℕ) (earlier xs ys : List Spot) → AreSpots f rows earlier xs → AreSpots f rows (earlier ++ xs) ys
+    → AreSpots f rows earlier (xs ++ ys)
 AreSpots-append f rows earlier [] ys a b = subst (λ zs. AreSpots f rows zs ys) (append-nil earlier) b
 AreSpots-append f rows earlier (s ∷ xs) ys a b =
     (a.0, AreSpots-append f rows (earlier ++ s ∷ []) xs ys a.1 (subst (λ zs. AreSpots f rows zs ys) (sym (one_behind earlier s xs)) b))
 
-AreSpots-at : (f : Forest) (rows : ℕ) (earlier spots : List Spot) (i : ℕ) (s : Spot) → AreSpots f rows earlier spots → slice_get spots i ≡ Some s → IsSpot f rows (earlier ++ take i spots) s
+AreSpots-at : (f : Forest) (rows : ℕ) (earlier spots : List Spot) (i : ℕ) (s : Spot) → AreSpots f rows earlier spots → slice_get spots i ≡ Some s
+    → IsSpot f rows (earlier ++ take i spots) s
 AreSpots-at f rows earlier [] i s a e = absurd (cc)
 AreSpots-at f rows earlier (x ∷ spots) zero s a e =
     let is : x ≡ s = cc in subst (λ y. IsSpot f rows (earlier ++ []) y) is (subst (λ zs. IsSpot f rows zs x) (sym (append-nil earlier)) a.0)
 AreSpots-at f rows earlier (x ∷ spots) (suc i) s a e =
     subst (λ zs. IsSpot f rows zs s) (one_behind earlier x (take i spots)) (AreSpots-at f rows (earlier ++ x ∷ []) spots i s a.1 e)
 
-row_filled-are : (f : Forest) (rows row : ℕ) (cells : List ℕ) (earlier : List Spot) → AreSpots f rows [] earlier → AreSpots f rows [] (row_filled f rows row cells earlier)
+row_filled-are : (f : Forest) (rows row : ℕ) (cells : List ℕ) (earlier : List Spot) → AreSpots f rows [] earlier
+    → AreSpots f rows [] (row_filled f rows row cells earlier)
 row_filled-are f rows row [] earlier are = are
 row_filled-are f rows row (cell ∷ cells) earlier are =
     row_filled-are f rows row cells (earlier ++ spot_behind f rows row earlier cell ∷ [])
     (AreSpots-append f rows [] earlier (spot_behind f rows row earlier cell ∷ []) are (spot_behind-is f rows row earlier cell, tt))
 
-filled-are : (f : Forest) (gone : List ℕ) (rows row : ℕ) (keys : List ℕ) (earlier : List Spot) → AreSpots f rows [] earlier → AreSpots f rows [] (filled f gone rows row keys earlier)
+filled-are : (f : Forest) (gone : List ℕ) (rows row : ℕ) (keys : List ℕ) (earlier : List Spot) → AreSpots f rows [] earlier
+    → AreSpots f rows [] (filled f gone rows row keys earlier)
 filled-are f gone rows row [] earlier are = are
 filled-are f gone rows row (key ∷ later) earlier are =
-    filled-are f gone rows (row + 1) later (row_filled f rows row (cells_left f gone key) earlier) (row_filled-are f rows row (cells_left f gone key) earlier are)
+    filled-are f gone rows (row + 1) later (row_filled f rows row (cells_left f gone key) earlier)
+    (row_filled-are f rows row (cells_left f gone key) earlier are)
 
 -- ---- each cell once
 
-cells-row_filled : (f : Forest) (rows row : ℕ) (cells : List ℕ) (earlier : List Spot) → map cell_and_row (row_filled f rows row cells earlier) ≡ map cell_and_row earlier ++ map (in_row row) cells
+cells-row_filled : (f : Forest) (rows row : ℕ) (cells : List ℕ) (earlier : List Spot)
+    → map cell_and_row (row_filled f rows row cells earlier) ≡ map cell_and_row earlier ++ map (in_row row) cells
 cells-row_filled f rows row [] earlier = sym (append-nil (map cell_and_row earlier))
 cells-row_filled f rows row (cell ∷ cells) earlier =
     cells-row_filled f rows row cells (earlier ++ spot_behind f rows row earlier cell ∷ [])
@@ -63,11 +69,13 @@ pub none_gone : (xs : List ℕ) → filter (λ x. not (is_among x [])) xs ≡ xs
 none_gone [] = refl
 none_gone (x ∷ xs) = ap (λ zs. x ∷ zs) (none_gone xs)
 
-cells-filled : (f : Forest) (rows row : ℕ) (keys : List ℕ) (earlier : List Spot) → map cell_and_row (filled f [] rows row keys earlier) ≡ map cell_and_row earlier ++ with_rows f row keys
+cells-filled : (f : Forest) (rows row : ℕ) (keys : List ℕ) (earlier : List Spot)
+    → map cell_and_row (filled f [] rows row keys earlier) ≡ map cell_and_row earlier ++ with_rows f row keys
 cells-filled f rows row [] earlier = sym (append-nil (map cell_and_row earlier))
 cells-filled f rows row (key ∷ later) earlier =
     cells-filled f rows (row + 1) later (row_filled f rows row (cells_left f [] key) earlier)
-    ∙ ap (λ zs. zs ++ with_rows f (row + 1) later) (cells-row_filled f rows row (cells_left f [] key) earlier ∙ ap (λ zs. map cell_and_row earlier ++ map (in_row row) zs) (none_gone (children_of f key)))
+    ∙ ap (λ zs. zs ++ with_rows f (row + 1) later)
+    (cells-row_filled f rows row (cells_left f [] key) earlier ∙ ap (λ zs. map cell_and_row earlier ++ map (in_row row) zs) (none_gone (children_of f key)))
     ∙ append_assoc (map cell_and_row earlier) (map (in_row row) (children_of f key)) (with_rows f (row + 1) later)
 
 -- ---- the grid

@@ -34,7 +34,8 @@ height_is : (f : Forest) (table i k q : ℕ) → IsForest f → slice_get (child
 height_is f table i k q ordered at among =
     let found = spot_in_row f table i k q at among in
     let row : found.spot.row ≡ i = row_of_spot f table i k q found.spot ordered at among found.has found.is in
-    ap (height_at (spots_of f table)) (sym found.is) ∙ height_found f table ordered (spots_of f table) found.index found.spot (spots_own f table) found.has found.at
+    ap (height_at (spots_of f table)) (sym found.is)
+    ∙ height_found f table ordered (spots_of f table) found.index found.spot (spots_own f table) found.has found.at
     ∙ found.has.height ∙ ap (λ c. min (row_span f c) (length (children_of f table) - found.spot.row)) found.is
     ∙ ap (λ r. min (row_span f q) (length (children_of f table) - r)) row
 

@@ -21,17 +21,21 @@ end_behind (y ∷ ys) x = omega (arith, end_behind ys x)
 stands_here : (row : ℕ) (s : Spot) → s.row ≡ row → 1 ≤ s.height → stands_in_row row s ≡ true
 stands_here row s at high = grind (arith, nat_tests, at, high)
 
-pub spot_is : (f : Forest) (rows row cell : ℕ) (spots standing : List Spot) (s : Spot) → IsStanding row spots standing → IsPlaced f rows row cell standing s → s ≡ spot_behind f rows row spots cell
+pub spot_is : (f : Forest) (rows row cell : ℕ) (spots standing : List Spot) (s : Spot) → IsStanding row spots standing → IsPlaced f rows row cell standing s
+    → s ≡ spot_behind f rows row spots cell
 spot_is f rows row cell spots standing s is p =
     let some : 1 ≤ column_span f cell = omega (arith, p.wide, p.width) in
     let column : s.column ≡ first_free spots row (column_span f cell) = p.column ∙ column_is row (column_span f cell) spots standing is some in
     ap (λ (x : ℕ). let made : Spot = record { cell = x; row = s.row; column = s.column; height = s.height; width = s.width } in made) p.of_cell
     ∙ ap (λ (x : ℕ). let made : Spot = record { cell = cell; row = x; column = s.column; height = s.height; width = s.width } in made) p.in_row
     ∙ ap (λ (x : ℕ). let made : Spot = record { cell = cell; row = row; column = x; height = s.height; width = s.width } in made) column
-    ∙ ap (λ (x : ℕ). let made : Spot = record { cell = cell; row = row; column = first_free spots row (column_span f cell); height = x; width = s.width } in made) p.height
-    ∙ ap (λ (x : ℕ). let made : Spot = record { cell = cell; row = row; column = first_free spots row (column_span f cell); height = min (row_span f cell) (rows - row); width = x } in made) p.width
+    ∙ ap (λ (x : ℕ). let made : Spot = record { cell = cell; row = row; column = first_free spots row (column_span f cell); height = x; width = s.width } in
+    made) p.height
+    ∙ ap (λ (x : ℕ). let made : Spot = record
+    { cell = cell; row = row; column = first_free spots row (column_span f cell); height = min (row_span f cell) (rows - row); width = x } in made) p.width
 
-pub filling_on : (f : Forest) (rows row cell : ℕ) (spots standing : List Spot) (s : Spot) → IsFilling row spots standing → IsPlaced f rows row cell standing s → row < rows → rows ≤ most_cells → length spots < most_cells
+pub filling_on : (f : Forest) (rows row cell : ℕ) (spots standing : List Spot) (s : Spot) → IsFilling row spots standing → IsPlaced f rows row cell standing s
+    → row < rows → rows ≤ most_cells → length spots < most_cells
     → IsFilling row (spots ++ s ∷ []) (insert standing (passed_on standing (column_span f cell) 0) s)
 filling_on f rows row cell spots standing s is p inside few room =
     let some : 1 ≤ column_span f cell = omega (arith, p.wide, p.width) in
@@ -68,10 +72,12 @@ one_more : (i : ℕ) → i + 1 ≡ suc i
 one_more i = omega arith
 
 -- a cell more
-pub added_spots : (f : Forest) (rows row cell : ℕ) (spots standing more : List Spot) (s : Spot) → IsFilling row spots standing → IsPlaced f rows row cell standing s → more ≡ spots ++ s ∷ [] → more ≡ spots ++ spot_behind f rows row spots cell ∷ []
+pub added_spots : (f : Forest) (rows row cell : ℕ) (spots standing more : List Spot) (s : Spot) → IsFilling row spots standing
+    → IsPlaced f rows row cell standing s → more ≡ spots ++ s ∷ [] → more ≡ spots ++ spot_behind f rows row spots cell ∷ []
 added_spots f rows row cell spots standing more s is p made = made ∙ ap (λ (x : Spot). spots ++ x ∷ []) (spot_is f rows row cell spots standing s is.stands p)
 
-pub added_on : (f : Forest) (rows row cell : ℕ) (spots standing more left : List Spot) (s : Spot) → IsFilling row spots standing → IsPlaced f rows row cell standing s → row < rows → rows ≤ most_cells → length spots < most_cells
+pub added_on : (f : Forest) (rows row cell : ℕ) (spots standing more left : List Spot) (s : Spot) → IsFilling row spots standing
+    → IsPlaced f rows row cell standing s → row < rows → rows ≤ most_cells → length spots < most_cells
     → more ≡ spots ++ s ∷ [] → left ≡ insert standing (passed_on standing s.width 0) s → IsFilling row more left
 added_on f rows row cell spots standing more left s is p inside few room made put =
     subst (λ (zs : List Spot). IsFilling row zs left) (sym made)
@@ -84,7 +90,8 @@ pub record HasBegun (f : Forest) (gone keys : List ℕ) (spots standing : List S
   pub filled : IsFilled 0 spots standing
   pub few : length spots + cells_among f keys ≤ most_cells
 
-pub begun : (f : Forest) (gone keys : List ℕ) (spots standing : List Spot) → spots ≡ [] → standing ≡ [] → cells_among f keys ≤ most_cells → HasBegun f gone keys spots standing
+pub begun : (f : Forest) (gone keys : List ℕ) (spots standing : List Spot) → spots ≡ [] → standing ≡ [] → cells_among f keys ≤ most_cells
+    → HasBegun f gone keys spots standing
 unfolding spots_over
 begun f gone keys spots standing no_spots none few = record {
   on = ap (filled f gone (length keys) 0 keys) no_spots;

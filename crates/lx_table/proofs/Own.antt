@@ -27,25 +27,31 @@ pub record IsOwn (f : Forest) (keys : List ℕ) (s : Spot) : Type 0 where
   pub height : s.height ≡ min (row_span f s.cell) (length keys - s.row)
   pub width : s.width ≡ column_span f s.cell
 
-row_own : (f : Forest) (keys : List ℕ) (row key : ℕ) (cells : List ℕ) (earlier : List Spot) → slice_get keys row ≡ Some key → ((q : ℕ) → is_among q cells ≡ true → is_among q (children_of f key) ≡ true)
+row_own : (f : Forest) (keys : List ℕ) (row key : ℕ) (cells : List ℕ) (earlier : List Spot) → slice_get keys row ≡ Some key
+    → ((q : ℕ) → is_among q cells ≡ true → is_among q (children_of f key) ≡ true)
     → All (IsOwn f keys) earlier → All (IsOwn f keys) (row_filled f (length keys) row cells earlier)
 row_own f keys row key [] earlier at within own = own
 row_own f keys row key (cell ∷ cells) earlier at within own =
     let s : Spot = spot_behind f (length keys) row earlier cell in
     row_own f keys row key cells (earlier ++ s ∷ []) at (λ q among. within q (grind (arith, among)))
-    (All-push (IsOwn f keys) earlier s own (record { key = key; row = at; among = within cell (grind (arith, eqb_tells cell cell)); height = refl; width = refl }))
+    (All-push (IsOwn f keys) earlier s own
+    (record { key = key; row = at; among = within cell (grind (arith, eqb_tells cell cell)); height = refl; width = refl }))
 
-rows_own : (f : Forest) (keys : List ℕ) (row : ℕ) (later : List ℕ) (earlier : List Spot) → ((i n k : ℕ) → n ≡ row + i → slice_get later i ≡ Some k → slice_get keys n ≡ Some k)
+rows_own : (f : Forest) (keys : List ℕ) (row : ℕ) (later : List ℕ) (earlier : List Spot)
+    → ((i n k : ℕ) → n ≡ row + i → slice_get later i ≡ Some k → slice_get keys n ≡ Some k)
     → All (IsOwn f keys) earlier → All (IsOwn f keys) (filled f [] (length keys) row later earlier)
 rows_own f keys row [] earlier at own = own
 rows_own f keys row (key ∷ later) earlier at own =
     rows_own f keys (row + 1) later (row_filled f (length keys) row (cells_left f [] key) earlier) (λ i n k is e. at (suc i) n k (omega (arith, is)) e)
-    (row_own f keys row key (cells_left f [] key) earlier (at 0 row key (omega arith) refl) (λ q among. subst (λ xs. is_among q xs ≡ true) (none_gone (children_of f key)) among) own)
+    (row_own f keys row key (cells_left f [] key) earlier (at 0 row key (omega arith) refl)
+    (λ q among. subst (λ xs. is_among q xs ≡ true) (none_gone (children_of f key)) among) own)
 
 pub spots_own : (f : Forest) (table : ℕ) → All (IsOwn f (children_of f table)) (spots_of f table)
 unfolding spots_over
 spots_own f table =
-    rows_own f (children_of f table) 0 (children_of f table) [] (λ i n k is e. let same : i ≡ n = omega (arith, is) in subst (λ m. slice_get (children_of f table) m ≡ Some k) same e) (All-nil (IsOwn f (children_of f table)))
+    rows_own f (children_of f table) 0 (children_of f table) []
+    (λ i n k is e. let same : i ≡ n = omega (arith, is) in subst (λ m. slice_get (children_of f table) m ≡ Some k) same e)
+    (All-nil (IsOwn f (children_of f table)))
 
 -- ---- a cell is in one row alone
 
@@ -68,14 +74,17 @@ one_row f table q i j k l ordered at_k at_l in_k in_l =
     cc (same, first, second)
 
 -- so two spots of a cell are as high, in one row
-pub same_row_own : (f : Forest) (table : ℕ) (s t : Spot) → IsForest f → IsOwn f (children_of f table) s → IsOwn f (children_of f table) t → s.cell ≡ t.cell → s.row ≡ t.row
+pub same_row_own : (f : Forest) (table : ℕ) (s t : Spot) → IsForest f → IsOwn f (children_of f table) s → IsOwn f (children_of f table) t → s.cell ≡ t.cell
+    → s.row ≡ t.row
 same_row_own f table s t ordered a b is =
     one_row f table s.cell s.row t.row a.key b.key ordered a.row b.row a.among (subst (λ c. is_among c (children_of f b.key) ≡ true) (sym is) b.among)
 
-pub same_height_own : (f : Forest) (table : ℕ) (s t : Spot) → IsForest f → IsOwn f (children_of f table) s → IsOwn f (children_of f table) t → s.cell ≡ t.cell → s.height ≡ t.height
+pub same_height_own : (f : Forest) (table : ℕ) (s t : Spot) → IsForest f → IsOwn f (children_of f table) s → IsOwn f (children_of f table) t → s.cell ≡ t.cell
+    → s.height ≡ t.height
 same_height_own f table s t ordered a b is =
     let row : s.row ≡ t.row = same_row_own f table s t ordered a b is in
-    a.height ∙ ap (λ c. min (row_span f c) (length (children_of f table) - s.row)) is ∙ ap (λ r. min (row_span f t.cell) (length (children_of f table) - r)) row ∙ sym b.height
+    a.height ∙ ap (λ c. min (row_span f c) (length (children_of f table) - s.row)) is ∙ ap (λ r. min (row_span f t.cell) (length (children_of f table) - r)) row
+    ∙ sym b.height
 
 -- ---- each cell has a spot
 
@@ -98,23 +107,30 @@ or_true true = refl
 or_true false = refl
 
 split_row : (f : Forest) (row key : ℕ) (later : List ℕ) (q : ℕ)
-    → is_among q (map cell_of_pair (map (in_row row) (children_of f key) ++ with_rows f (row + 1) later)) ≡ (is_among q (children_of f key) || is_among q (map cell_of_pair (with_rows f (row + 1) later)))
+    → is_among q (map cell_of_pair (map (in_row row) (children_of f key) ++ with_rows f (row + 1) later))
+    ≡ (is_among q (children_of f key) || is_among q (map cell_of_pair (with_rows f (row + 1) later)))
 split_row f row key later q =
-    ap (is_among q) (map-append cell_of_pair (map (in_row row) (children_of f key)) (with_rows f (row + 1) later) ∙ ap (λ xs. xs ++ map cell_of_pair (with_rows f (row + 1) later)) (row-cells row (children_of f key)))
+    ap (is_among q)
+    (map-append cell_of_pair (map (in_row row) (children_of f key)) (with_rows f (row + 1) later)
+    ∙ ap (λ xs. xs ++ map cell_of_pair (with_rows f (row + 1) later)) (row-cells row (children_of f key)))
     ∙ is_among-append q (children_of f key) (map cell_of_pair (with_rows f (row + 1) later))
 
-among_rows : (f : Forest) (row : ℕ) (keys : List ℕ) (i k q : ℕ) → slice_get keys i ≡ Some k → is_among q (children_of f k) ≡ true → is_among q (map cell_of_pair (with_rows f row keys)) ≡ true
+among_rows : (f : Forest) (row : ℕ) (keys : List ℕ) (i k q : ℕ) → slice_get keys i ≡ Some k → is_among q (children_of f k) ≡ true
+    → is_among q (map cell_of_pair (with_rows f row keys)) ≡ true
 among_rows f row [] i k q at among = absurd (cc)
 among_rows f row (key ∷ later) zero k q at among =
     let is : key ≡ k = cc in
     let here : is_among q (children_of f key) ≡ true = subst (λ x. is_among q (children_of f x) ≡ true) (sym is) among in
     split_row f row key later q ∙ ap (λ b. b || is_among q (map cell_of_pair (with_rows f (row + 1) later))) here
 among_rows f row (key ∷ later) (suc i) k q at among =
-    split_row f row key later q ∙ ap (λ b. is_among q (children_of f key) || b) (among_rows f (row + 1) later i k q at among) ∙ or_true (is_among q (children_of f key))
+    split_row f row key later q ∙ ap (λ b. is_among q (children_of f key) || b) (among_rows f (row + 1) later i k q at among)
+    ∙ or_true (is_among q (children_of f key))
 
-pub among_spots : (f : Forest) (table i k q : ℕ) → slice_get (children_of f table) i ≡ Some k → is_among q (children_of f k) ≡ true → is_among q (cells_in (spots_of f table)) ≡ true
+pub among_spots : (f : Forest) (table i k q : ℕ) → slice_get (children_of f table) i ≡ Some k → is_among q (children_of f k) ≡ true
+    → is_among q (cells_in (spots_of f table)) ≡ true
 among_spots f table i k q at among =
-    ap (is_among q) (sym (pairs-cells (spots_of f table)) ∙ ap (map cell_of_pair) (grid_of-is f table).cells) ∙ among_rows f 0 (children_of f table) i k q at among
+    ap (is_among q) (sym (pairs-cells (spots_of f table)) ∙ ap (map cell_of_pair) (grid_of-is f table).cells)
+    ∙ among_rows f 0 (children_of f table) i k q at among
 
 -- a spot of a cell among some
 pub record HasSpot (P : Spot → Type 0) (spots : List Spot) (q : ℕ) : Type 0 where
@@ -134,10 +150,12 @@ found_spot P (s ∷ spots) q all among =
           record { spot = later.spot; index = suc later.index; at = later.at; has = later.has; is = later.is }
     ]
 
-pub spot_in_row : (f : Forest) (table i k q : ℕ) → slice_get (children_of f table) i ≡ Some k → is_among q (children_of f k) ≡ true → HasSpot (IsOwn f (children_of f table)) (spots_of f table) q
+pub spot_in_row : (f : Forest) (table i k q : ℕ) → slice_get (children_of f table) i ≡ Some k → is_among q (children_of f k) ≡ true
+    → HasSpot (IsOwn f (children_of f table)) (spots_of f table) q
 spot_in_row f table i k q at among = found_spot (IsOwn f (children_of f table)) (spots_of f table) q (spots_own f table) (among_spots f table i k q at among)
 
-pub row_of_spot : (f : Forest) (table i k q : ℕ) (s : Spot) → IsForest f → slice_get (children_of f table) i ≡ Some k → is_among q (children_of f k) ≡ true → IsOwn f (children_of f table) s → s.cell ≡ q → s.row ≡ i
+pub row_of_spot : (f : Forest) (table i k q : ℕ) (s : Spot) → IsForest f → slice_get (children_of f table) i ≡ Some k → is_among q (children_of f k) ≡ true
+    → IsOwn f (children_of f table) s → s.cell ≡ q → s.row ≡ i
 row_of_spot f table i k q s ordered at among own is =
     one_row f table q s.row i own.key k ordered own.row at (subst (λ c. is_among c (children_of f own.key) ≡ true) is own.among) among
 
@@ -152,7 +170,8 @@ abbrev pub height_at : List Spot → ℕ → ℕ
 height_at spots q = height_in (spot_of spots q)
 
 module _ (f : Forest) (table : ℕ) (ordered : IsForest f) where
-  pub height_found : (spots : List Spot) (i : ℕ) (s : Spot) → All (IsOwn f (children_of f table)) spots → IsOwn f (children_of f table) s → slice_get spots i ≡ Some s → height_at spots s.cell ≡ s.height
+  pub height_found : (spots : List Spot) (i : ℕ) (s : Spot) → All (IsOwn f (children_of f table)) spots → IsOwn f (children_of f table) s
+      → slice_get spots i ≡ Some s → height_at spots s.cell ≡ s.height
   height_found [] i s all own at = absurd (cc)
   height_found (x ∷ spots) zero s all own at =
       let is : x ≡ s = cc in
@@ -169,7 +188,8 @@ module _ (f : Forest) (table : ℕ) (ordered : IsForest f) where
       ]
 
   -- among those that pass a test that spots of one cell pass alike
-  none_passes : (test : Spot → Bool) (spots : List Spot) (s : Spot) → All (IsOwn f (children_of f table)) spots → ((t : Spot) → IsOwn f (children_of f table) t → t.cell ≡ s.cell → test t ≡ test s)
+  none_passes : (test : Spot → Bool) (spots : List Spot) (s : Spot) → All (IsOwn f (children_of f table)) spots
+      → ((t : Spot) → IsOwn f (children_of f table) t → t.cell ≡ s.cell → test t ≡ test s)
       → test s ≡ false → is_among s.cell (cells_in (filter test spots)) ≡ false
   none_passes test [] s all alike fails = refl
   none_passes test (x ∷ spots) s all alike fails =
@@ -182,7 +202,8 @@ module _ (f : Forest) (table : ℕ) (ordered : IsForest f) where
         | inr not ↦ rw not rest
       ]
 
-  some_passes : (test : Spot → Bool) (spots : List Spot) (i : ℕ) (s : Spot) → slice_get spots i ≡ Some s → test s ≡ true → is_among s.cell (cells_in (filter test spots)) ≡ true
+  some_passes : (test : Spot → Bool) (spots : List Spot) (i : ℕ) (s : Spot) → slice_get spots i ≡ Some s → test s ≡ true
+      → is_among s.cell (cells_in (filter test spots)) ≡ true
   some_passes test [] i s at passes = absurd (cc)
   some_passes test (x ∷ spots) zero s at passes =
       let is : x ≡ s = cc in
@@ -196,7 +217,8 @@ module _ (f : Forest) (table : ℕ) (ordered : IsForest f) where
         | inr not ↦ rw not rest
       ]
 
-  pub among_passing : (test : Spot → Bool) (spots : List Spot) (i : ℕ) (s : Spot) → All (IsOwn f (children_of f table)) spots → ((t : Spot) → IsOwn f (children_of f table) t → t.cell ≡ s.cell → test t ≡ test s)
+  pub among_passing : (test : Spot → Bool) (spots : List Spot) (i : ℕ) (s : Spot) → All (IsOwn f (children_of f table)) spots
+      → ((t : Spot) → IsOwn f (children_of f table) t → t.cell ≡ s.cell → test t ≡ test s)
       → slice_get spots i ≡ Some s → is_among s.cell (cells_in (filter test spots)) ≡ test s
   among_passing test spots i s all alike at =
       elim (cases_Bool (test s)) [

@@ -85,10 +85,13 @@ module _ {D : Working → Type 0} {R : Working → Working → Type 0} (way : Is
   cell_made_path : (header row index : ℕ) → Leads D R (cell_made header row index)
   unfolding cell_made
   cell_made_path header row index w v r e =
-      chained way (new_step Cell (cell_fields header)) (λ x y. after (new_step Paragraph plain_element y) (λ u. after (put_step y.next_key x.next_key 0 u) (put_step x.next_key row index)))
+      chained way (new_step Cell (cell_fields header))
+      (λ x y. after (new_step Paragraph plain_element y) (λ u. after (put_step y.next_key x.next_key 0 u) (put_step x.next_key row index)))
       (way.new Cell (cell_fields header))
-      (λ x. chained way (new_step Paragraph plain_element) (λ y u. after (put_step y.next_key x.next_key 0 u) (put_step x.next_key row index)) (way.new Paragraph plain_element)
-      (λ y. chained way (put_step y.next_key x.next_key 0) (λ u. put_step x.next_key row index) (puts y.next_key x.next_key 0) (λ u. puts x.next_key row index)))
+      (λ x. chained way (new_step Paragraph plain_element) (λ y u. after (put_step y.next_key x.next_key 0 u) (put_step x.next_key row index))
+      (way.new Paragraph plain_element)
+      (λ y. chained way (put_step y.next_key x.next_key 0) (λ u. put_step x.next_key row index) (puts y.next_key x.next_key 0)
+      (λ u. puts x.next_key row index)))
       w v r e
 
   cells_made_path : (header row index n : ℕ) → Leads D R (cells_made header row index n)
@@ -97,9 +100,11 @@ module _ {D : Working → Type 0} {R : Working → Working → Type 0} (way : Is
   row_made_path : (headers : Bool) (columns table row : ℕ) → Leads D R (row_made headers columns table row)
   unfolding row_made
   row_made_path headers columns table row w v r e =
-      chained way (new_step Row plain_element) (λ x y. after (in_turn (cell_made_at headers row x.next_key) (keys_from 0 columns) y) (put_step x.next_key table row)) (way.new Row plain_element)
+      chained way (new_step Row plain_element)
+      (λ x y. after (in_turn (cell_made_at headers row x.next_key) (keys_from 0 columns) y) (put_step x.next_key table row)) (way.new Row plain_element)
       (λ x. chained way (in_turn (cell_made_at headers row x.next_key) (keys_from 0 columns)) (λ y. put_step x.next_key table row)
-      (every way (cell_made_at headers row x.next_key) (keys_from 0 columns) (λ i. cell_made_path (headers_at headers row i) x.next_key i)) (λ y. puts x.next_key table row))
+      (every way (cell_made_at headers row x.next_key) (keys_from 0 columns) (λ i. cell_made_path (headers_at headers row i) x.next_key i))
+      (λ y. puts x.next_key table row))
       w v r e
 
   caret_in_cell_path : (o : Option ℕ) → Leads D R (caret_in_cell o)
@@ -111,7 +116,8 @@ module _ {D : Working → Type 0} {R : Working → Working → Type 0} (way : Is
   table_made_path rows columns headers place w v r e =
       let last : ℕ → Working → Result Working Cause = λ k put. caret_in_cell (first_cell put.forest k) put in
       let placed : ℕ → Working → Result Working Cause = λ k u. after (put_behind_step k place u) (last k) in
-      chained way (new_step Table plain_element) (λ x y. after (in_turn (row_made headers columns x.next_key) (keys_from 0 rows) y) (placed x.next_key)) (way.new Table plain_element)
+      chained way (new_step Table plain_element) (λ x y. after (in_turn (row_made headers columns x.next_key) (keys_from 0 rows) y) (placed x.next_key))
+      (way.new Table plain_element)
       (λ x. chained way (in_turn (row_made headers columns x.next_key) (keys_from 0 rows)) (λ y. placed x.next_key)
       (every way (row_made headers columns x.next_key) (keys_from 0 rows) (λ i. row_made_path headers columns x.next_key i))
       (λ y. chained way (put_behind_step x.next_key place) (λ u. last x.next_key) (put_behind_path way x.next_key place tt)
@@ -132,7 +138,8 @@ module _ {D : Working → Type 0} {R : Working → Working → Type 0} (way : Is
 
   column_filled_path : (spots above : List Spot) (like key column : ℕ) → Leads D R (column_filled spots above like key column)
   column_filled_path spots above like key column w v r e =
-      either way (list_any (stands_in_column column) above) (λ u. Ok u) (λ u. cell_made (header_at u.forest column_header (spot_at spots like column)) key (size_of u.forest key) u)
+      either way (list_any (stands_in_column column) above) (λ u. Ok u)
+      (λ u. cell_made (header_at u.forest column_header (spot_at spots like column)) key (size_of u.forest key) u)
       (stays way) (λ a b s f. cell_made_path (header_at a.forest column_header (spot_at spots like column)) key (size_of a.forest key) a b s f) w v r e
 
   row_inserted_path : (table : ℕ) (spots : List Spot) (new like : ℕ) → Leads D R (row_inserted table spots new like)
@@ -144,7 +151,8 @@ module _ {D : Working → Type 0} {R : Working → Working → Type 0} (way : Is
       (every way taller (crossing new spots) (λ s. span_path (s.height + 1) s.width s.cell))
       (λ x. chained way (new_step Row plain_element) (λ y. put y.next_key) (way.new Row plain_element)
       (λ y. chained way (put_step y.next_key table new) (λ u. cells y.next_key) (puts y.next_key table new)
-      (λ u. every way (column_filled spots (crossing new spots) like y.next_key) (keys_from 0 (end_column spots)) (λ i. column_filled_path spots (crossing new spots) like y.next_key i))))
+      (λ u. every way (column_filled spots (crossing new spots) like y.next_key) (keys_from 0 (end_column spots))
+      (λ i. column_filled_path spots (crossing new spots) like y.next_key i))))
       w v r e
 
   row_at_path : (behind : Bool) (p : Place) → Leads D R (row_at behind p)
@@ -157,16 +165,20 @@ module _ {D : Working → Type 0} {R : Working → Working → Type 0} (way : Is
 
   column_between_path : (spots : List Spot) (new like row key : ℕ) → Leads D R (column_between spots new like row key)
   column_between_path spots new like row key w v r e =
-      either way (is_bound spots row new) (λ u. cell_made (header_at u.forest row_header (spot_at spots row like)) key (own_index u.forest spots key row new) u) (λ u. Ok u)
-      (λ a b s f. cell_made_path (header_at a.forest row_header (spot_at spots row like)) key (own_index a.forest spots key row new) a b s f) (stays way) w v r e
+      either way (is_bound spots row new) (λ u. cell_made (header_at u.forest row_header (spot_at spots row like)) key (own_index u.forest spots key row new) u)
+      (λ u. Ok u)
+      (λ a b s f. cell_made_path (header_at a.forest row_header (spot_at spots row like)) key (own_index a.forest spots key row new) a b s f) (stays way) w v r
+      e
 
   wider_in_path : (row : ℕ) (s : Spot) → Leads D R (wider_in row s)
-  wider_in_path row s w v r e = either way (s.row == row) (span_step s.height (s.width + 1) s.cell) (λ u. Ok u) (span_path s.height (s.width + 1) s.cell) (stays way) w v r e
+  wider_in_path row s w v r e =
+      either way (s.row == row) (span_step s.height (s.width + 1) s.cell) (λ u. Ok u) (span_path s.height (s.width + 1) s.cell) (stays way) w v r e
 
   column_at_spot_path : (spots : List Spot) (new like row key : ℕ) (o : Option Spot) → Leads D R (column_at_spot spots new like row key o)
   column_at_spot_path spots new like row key None w v r e = column_between_path spots new like row key w v r e
   column_at_spot_path spots new like row key (Some s) w v r e =
-      either way (nat_lt s.column new) (wider_in row s) (column_between spots new like row key) (wider_in_path row s) (column_between_path spots new like row key) w v r e
+      either way (nat_lt s.column new) (wider_in row s) (column_between spots new like row key) (wider_in_path row s)
+      (column_between_path spots new like row key) w v r e
 
   column_in_row_path : (spots : List Spot) (new like row : ℕ) (o : Option ℕ) → Leads D R (column_in_row spots new like row o)
   column_in_row_path spots new like row None w v r e = stays way w v r e
@@ -191,8 +203,10 @@ module _ {D : Working → Type 0} {R : Working → Working → Type 0} (way : Is
   table_replaced_path : (table : ℕ) → Leads D R (table_replaced table)
   unfolding table_replaced
   table_replaced_path table w v r e =
-      chained way (new_step Paragraph plain_element) (λ x y. after (replace_step table x.next_key false y) (caret_step (element_point x.next_key 0))) (way.new Paragraph plain_element)
-      (λ x. chained way (replace_step table x.next_key false) (λ y. caret_step (element_point x.next_key 0)) (replaces table x.next_key) (λ y. caret_path (element_point x.next_key 0)))
+      chained way (new_step Paragraph plain_element) (λ x y. after (replace_step table x.next_key false y) (caret_step (element_point x.next_key 0)))
+      (way.new Paragraph plain_element)
+      (λ x. chained way (replace_step table x.next_key false) (λ y. caret_step (element_point x.next_key 0)) (replaces table x.next_key)
+      (λ y. caret_path (element_point x.next_key 0)))
       w v r e
     where
       replaces : (k with : ℕ) → Leads D R (replace_step k with false)
@@ -206,11 +220,13 @@ module _ {D : Working → Type 0} {R : Working → Working → Type 0} (way : Is
   moved_down_path spots next s w v r e =
       let put : Working → Result Working Cause = λ u. put_step s.cell next (own_index u.forest spots next (s.row + 1) (s.column + 1)) u in
       chained way (lower s) (λ x y. after (take_step s.cell y) put) (lower_path s)
-      (λ x. chained way (take_step s.cell) (λ y. put) (way.take s.cell) (λ y. λ a b t f. puts s.cell next (own_index a.forest spots next (s.row + 1) (s.column + 1)) a b t f)) w v r e
+      (λ x. chained way (take_step s.cell) (λ y. put) (way.take s.cell)
+      (λ y. λ a b t f. puts s.cell next (own_index a.forest spots next (s.row + 1) (s.column + 1)) a b t f)) w v r e
 
   all_moved_down_path : (spots : List Spot) (row : ℕ) (o : Option ℕ) → Leads D R (all_moved_down spots row o)
   all_moved_down_path spots row None w v r e = stays way w v r e
-  all_moved_down_path spots row (Some next) w v r e = every way (moved_down spots next) (filter (goes_below row) spots) (λ s. moved_down_path spots next s) w v r e
+  all_moved_down_path spots row (Some next) w v r e =
+      every way (moved_down spots next) (filter (goes_below row) spots) (λ s. moved_down_path spots next s) w v r e
 
   row_removed_path : (o : Option ℕ) → Leads D R (row_removed o)
   row_removed_path None w v r e = stays way w v r e
@@ -289,8 +305,10 @@ module _ {D : Working → Type 0} {R : Working → Working → Type 0} (way : Is
       let others : List Spot = filter (is_other_in rect first) spots in
       let merged : Working → Result Working Cause = λ u. after (in_turn (merged_into first) others u) (caret_in_step first) in
       chained way (caret_in_step first) (λ x y. after (span_step (rect.bottom - rect.top) (rect.right - rect.left) first y) merged) (caret_in_path first)
-      (λ x. chained way (span_step (rect.bottom - rect.top) (rect.right - rect.left) first) (λ y. merged) (span_path (rect.bottom - rect.top) (rect.right - rect.left) first)
-      (λ y. chained way (in_turn (merged_into first) others) (λ u. caret_in_step first) (every way (merged_into first) others (λ s. merged_into_path first s)) (λ u. caret_in_path first)))
+      (λ x. chained way (span_step (rect.bottom - rect.top) (rect.right - rect.left) first) (λ y. merged)
+      (span_path (rect.bottom - rect.top) (rect.right - rect.left) first)
+      (λ y. chained way (in_turn (merged_into first) others) (λ u. caret_in_step first) (every way (merged_into first) others (λ s. merged_into_path first s))
+      (λ u. caret_in_path first)))
       w v r e
 
   merged_from_path : (spots : List Spot) (rect : Rectangle) (o : Option Spot) → Leads D R (merged_from spots rect o)
@@ -305,7 +323,8 @@ module _ {D : Working → Type 0} {R : Working → Working → Type 0} (way : Is
   merged_between_path : (spots : List Spot) (a b : ℕ) → Leads D R (merged_between spots a b)
   merged_between_path spots a b w v r e =
       by_read way w v (found a (spot_of spots a)) (λ s u. after (found b (spot_of spots b)) (λ t. merged_in spots (rectangle_of spots s t) u))
-      (λ s f. by_read way w v (found b (spot_of spots b)) (λ t u. merged_in spots (rectangle_of spots s t) u) (λ t g. merged_in_path spots (rectangle_of spots s t) w v r g) f) e
+      (λ s f. by_read way w v (found b (spot_of spots b)) (λ t u. merged_in spots (rectangle_of spots s t) u)
+      (λ t g. merged_in_path spots (rectangle_of spots s t) w v r g) f) e
 
   merged_cells_path : (table a b : ℕ) → Leads D R (merged_cells table a b)
   unfolding merged_cells
@@ -327,14 +346,16 @@ module _ {D : Working → Type 0} {R : Working → Working → Type 0} (way : Is
   row_opened_path : (spots : List Spot) (s : Spot) (header row : ℕ) (o : Option ℕ) → Leads D R (row_opened spots s header row o)
   row_opened_path spots s header row None w v r e = stays way w v r e
   row_opened_path spots s header row (Some key) w v r e =
-      either way (row == s.row) (λ u. cells_made header key (behind_cell (index_of u.forest s.cell)) (s.width - 1) u) (λ u. cells_made header key (own_index u.forest spots key row (s.column + 1)) s.width u)
+      either way (row == s.row) (λ u. cells_made header key (behind_cell (index_of u.forest s.cell)) (s.width - 1) u)
+      (λ u. cells_made header key (own_index u.forest spots key row (s.column + 1)) s.width u)
       (λ a b t f. cells_made_path header key (behind_cell (index_of a.forest s.cell)) (s.width - 1) a b t f)
       (λ a b t f. cells_made_path header key (own_index a.forest spots key row (s.column + 1)) s.width a b t f) w v r e
 
   cell_unmerged_path : (p : Place) → Leads D R (cell_unmerged p)
   unfolding cell_unmerged
   cell_unmerged_path p w v r e =
-      chained way (span_step 1 1 p.spot.cell) (λ x. in_turn (row_unmerged p.table p.spots p.spot (header_of w.forest p.spot.cell)) (keys_from p.spot.row p.spot.height)) (span_path 1 1 p.spot.cell)
+      chained way (span_step 1 1 p.spot.cell)
+      (λ x. in_turn (row_unmerged p.table p.spots p.spot (header_of w.forest p.spot.cell)) (keys_from p.spot.row p.spot.height)) (span_path 1 1 p.spot.cell)
       (λ x. every way (row_unmerged p.table p.spots p.spot (header_of w.forest p.spot.cell)) (keys_from p.spot.row p.spot.height)
       (λ row. λ a b s f. row_opened_path p.spots p.spot (header_of w.forest p.spot.cell) row (slice_get (children_of a.forest p.table) row) a b s f)) w v r e
 

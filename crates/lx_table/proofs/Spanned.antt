@@ -43,14 +43,16 @@ spans_after rows columns (fields.Element element) = by_extra element.extra where
   by_extra _ = refl
 spans_after rows columns _ = refl
 
-columns_after : (rows columns : ℕ) (x : Fields) → columns ≡ read_by columns_in 1 (Some x) → read_by columns_in 1 (Some (with_spans rows columns x)) ≡ read_by columns_in 1 (Some x)
+columns_after : (rows columns : ℕ) (x : Fields) → columns ≡ read_by columns_in 1 (Some x)
+    → read_by columns_in 1 (Some (with_spans rows columns x)) ≡ read_by columns_in 1 (Some x)
 columns_after rows columns (fields.Element element) is = by_extra element.extra is where
   by_extra : (e : Extra) → columns ≡ columns_in e → columns_in (spans_in rows columns e) ≡ columns_in e
   by_extra (extra.Cell header old_rows old_columns background) is = is
   by_extra _ is = refl
 columns_after rows columns _ is = refl
 
-rows_after : (rows columns : ℕ) (x : Fields) → read_by rows_in 1 (Some (with_spans rows columns x)) ≡ cond (tell_spans (Some x)) rows (read_by rows_in 1 (Some x))
+rows_after : (rows columns : ℕ) (x : Fields)
+    → read_by rows_in 1 (Some (with_spans rows columns x)) ≡ cond (tell_spans (Some x)) rows (read_by rows_in 1 (Some x))
 rows_after rows columns (fields.Element element) = by_extra element.extra where
   by_extra : (e : Extra) → rows_in (spans_in rows columns e) ≡ cond (is_cell e) rows (rows_in e)
   by_extra (extra.Cell header old_rows old_columns background) = refl
@@ -85,18 +87,21 @@ pub record IsSpanned (f g : Forest) (cells : List ℕ) (rows_at : ℕ → ℕ) :
 turned : (a b : ℕ) → eqb a b ≡ false → eqb b a ≡ false
 turned a b e = grind (arith, eqb_tells a b, eqb_tells b a, e)
 
-one_spanned : (f : Forest) (cell rows columns : ℕ) (x : Fields) (rows_at : ℕ → ℕ) → fields_of f cell ≡ Some x → columns ≡ column_span f cell → rows ≡ rows_at cell
+one_spanned : (f : Forest) (cell rows columns : ℕ) (x : Fields) (rows_at : ℕ → ℕ) → fields_of f cell ≡ Some x → columns ≡ column_span f cell
+    → rows ≡ rows_at cell
     → IsSpanned f (with_fields cell (with_spans rows columns x) f) (cell ∷ []) rows_at
 one_spanned f cell rows columns x rows_at was width height =
     let new : Fields = with_spans rows columns x in
     let g : Forest = with_fields cell new f in
     let here : eqb cell cell ≡ true = grind (arith, eqb_tells cell cell) in
     let column : column_span g cell ≡ column_span f cell =
-    ap (read_by columns_in 1) (fields_here cell new x f was) ∙ columns_after rows columns x (width ∙ ap (read_by columns_in 1) was) ∙ sym (ap (read_by columns_in 1) was) in
+    ap (read_by columns_in 1) (fields_here cell new x f was) ∙ columns_after rows columns x (width ∙ ap (read_by columns_in 1) was)
+    ∙ sym (ap (read_by columns_in 1) was) in
     let span : has_spans g cell ≡ has_spans f cell = ap tell_spans (fields_here cell new x f was) ∙ spans_after rows columns x ∙ sym (ap tell_spans was) in
     let row : row_span g cell ≡ cond (is_among cell (cell ∷ []) && has_spans f cell) (rows_at cell) (row_span f cell) =
     ap (read_by rows_in 1) (fields_here cell new x f was) ∙ rows_after rows columns x ∙ ap (λ o. cond (tell_spans o) rows (read_by rows_in 1 o)) (sym was)
-    ∙ ap (λ n. cond (has_spans f cell) n (row_span f cell)) height ∙ ap (λ b. cond ((b || false) && has_spans f cell) (rows_at cell) (row_span f cell)) (sym here) in
+    ∙ ap (λ n. cond (has_spans f cell) n (row_span f cell)) height
+    ∙ ap (λ b. cond ((b || false) && has_spans f cell) (rows_at cell) (row_span f cell)) (sym here) in
     record {
       children = λ q. children_of-with_fields cell new f q;
       columns = λ q. elim (eqb_tells q cell) [
@@ -138,7 +143,8 @@ first_or_later false true false x y = refl
 first_or_later false false true x y = refl
 first_or_later false false false x y = refl
 
-then_spanned : (f g h : Forest) (cell : ℕ) (cells : List ℕ) (rows_at : ℕ → ℕ) → IsSpanned f g (cell ∷ []) rows_at → IsSpanned g h cells rows_at → IsSpanned f h (cell ∷ cells) rows_at
+then_spanned : (f g h : Forest) (cell : ℕ) (cells : List ℕ) (rows_at : ℕ → ℕ) → IsSpanned f g (cell ∷ []) rows_at → IsSpanned g h cells rows_at
+    → IsSpanned f h (cell ∷ cells) rows_at
 then_spanned f g h cell cells rows_at a b = record {
   children = λ q. b.children q ∙ a.children q;
   columns = λ q. b.columns q ∙ a.columns q;
@@ -149,29 +155,35 @@ then_spanned f g h cell cells rows_at a b = record {
       ∙ first_or_later (eqb cell q) (is_among q cells) (has_spans f q) (rows_at q) (row_span f q);
 }
 
-span_spanned : (rows columns cell : ℕ) (rows_at : ℕ → ℕ) (w v : Working) → columns ≡ column_span w.forest cell → rows ≡ rows_at cell → span_step rows columns cell w ≡ Ok v
+span_spanned : (rows columns cell : ℕ) (rows_at : ℕ → ℕ) (w v : Working) → columns ≡ column_span w.forest cell → rows ≡ rows_at cell
+    → span_step rows columns cell w ≡ Ok v
     → IsSpanned w.forest v.forest (cell ∷ []) rows_at
 unfolding span_step
 span_spanned rows columns cell rows_at w v width height e =
-    allowed (λ (x y : Working). IsSpanned x.forest y.forest (cell ∷ []) rows_at) w v (option_or (over_span rows) (over_span columns)) (λ u. spans_written rows columns cell (fields_of u.forest cell) u)
+    allowed (λ (x y : Working). IsSpanned x.forest y.forest (cell ∷ []) rows_at) w v (option_or (over_span rows) (over_span columns))
+    (λ u. spans_written rows columns cell (fields_of u.forest cell) u)
     (λ taken. by_fields (fields_of w.forest cell) refl taken) e
   where
     by_fields : (o : Option Fields) → fields_of w.forest cell ≡ o → spans_written rows columns cell o w ≡ Ok v → IsSpanned w.forest v.forest (cell ∷ []) rows_at
-    by_fields None was taken = let same : w ≡ v = cc in subst (λ (y : Working). IsSpanned w.forest y.forest (cell ∷ []) rows_at) same (no_node w.forest cell rows_at was)
+    by_fields None was taken = let same : w ≡ v =
+        cc in subst (λ (y : Working). IsSpanned w.forest y.forest (cell ∷ []) rows_at) same (no_node w.forest cell rows_at was)
     by_fields (Some x) was taken =
-        subst (λ g. IsSpanned w.forest g (cell ∷ []) rows_at) (sym (set_forest cell (with_spans rows columns x) w v taken)) (one_spanned w.forest cell rows columns x rows_at was width height)
+        subst (λ g. IsSpanned w.forest g (cell ∷ []) rows_at) (sym (set_forest cell (with_spans rows columns x) w v taken))
+        (one_spanned w.forest cell rows columns x rows_at was width height)
 
 -- what a spot is set to
 pub record IsDue (f : Forest) (rows : Spot → ℕ) (rows_at : ℕ → ℕ) (s : Spot) : Type 0 where
   pub width : s.width ≡ column_span f s.cell
   pub height : rows s ≡ rows_at s.cell
 
-pub spots_spanned : (f : Forest) (rows : Spot → ℕ) (rows_at : ℕ → ℕ) (spots : List Spot) (w v : Working) → ((q : ℕ) → column_span w.forest q ≡ column_span f q) → All (IsDue f rows rows_at) spots
+pub spots_spanned : (f : Forest) (rows : Spot → ℕ) (rows_at : ℕ → ℕ) (spots : List Spot) (w v : Working) → ((q : ℕ) → column_span w.forest q ≡ column_span f q)
+    → All (IsDue f rows rows_at) spots
     → in_turn (λ s. span_step (rows s) s.width s.cell) spots w ≡ Ok v → IsSpanned w.forest v.forest (cells_in spots) rows_at
 unfolding in_turn
 spots_spanned f rows rows_at [] w v columns all e =
     let same : w ≡ v = cc in
-    subst (λ (y : Working). IsSpanned w.forest y.forest [] rows_at) same (record { children = λ q. refl; columns = λ q. refl; spans = λ q. refl; rows = λ q. refl })
+    subst (λ (y : Working). IsSpanned w.forest y.forest [] rows_at) same
+    (record { children = λ q. refl; columns = λ q. refl; spans = λ q. refl; rows = λ q. refl })
 spots_spanned f rows rows_at (s ∷ spots) w v columns all e =
     let parts = first_part (span_step (rows s) s.width s.cell w) (in_turn (λ (t : Spot). span_step (rows t) t.width t.cell) spots) v e in
     let due = All-head (IsDue f rows rows_at) s spots all in

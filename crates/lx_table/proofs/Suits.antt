@@ -43,17 +43,20 @@ plain_within _ e = absurd (cc)
 
 list_within : (x : Extra) → is_list_extra x ≡ true → AreWithin x
 unfolding is_list_extra
-list_within (extra.List start) e = record { some_rows = omega arith; rows = omega arith; some_columns = omega arith; columns = omega arith; header = omega arith }
+list_within (extra.List start) e =
+    record { some_rows = omega arith; rows = omega arith; some_columns = omega arith; columns = omega arith; header = omega arith }
 list_within _ e = absurd (cc)
 
 item_within : (x : Extra) → is_item_extra x ≡ true → AreWithin x
 unfolding is_item_extra
-item_within (extra.Item value checked) e = record { some_rows = omega arith; rows = omega arith; some_columns = omega arith; columns = omega arith; header = omega arith }
+item_within (extra.Item value checked) e =
+    record { some_rows = omega arith; rows = omega arith; some_columns = omega arith; columns = omega arith; header = omega arith }
 item_within _ e = absurd (cc)
 
 link_within : (x : Extra) → is_link_extra x ≡ true → AreWithin x
 unfolding is_link_extra
-link_within (extra.Link rel target title url) e = record { some_rows = omega arith; rows = omega arith; some_columns = omega arith; columns = omega arith; header = omega arith }
+link_within (extra.Link rel target title url) e =
+    record { some_rows = omega arith; rows = omega arith; some_columns = omega arith; columns = omega arith; header = omega arith }
 link_within _ e = absurd (cc)
 
 extra_within : (kind : Kind) (x : Extra) → is_extra_of kind x ≡ true → AreWithin x

@@ -40,24 +40,31 @@ shifted (y ∷ ys) (suc new) x (suc i) k at within =
 
 -- ---- the rows of a cell, as a row comes and goes
 
-crossing_is : (c : Bool) (row height new : ℕ) → (nat_lt row new && is_among_from row height new) ≡ c → (c ≡ true → (row < new) × (new < row + height)) × (c ≡ false → row < new → row + height ≤ new)
-crossing_is c row height new e = (λ is. let t = e ∙ is in (grind (arith, nat_tests, t), grind (arith, nat_tests, t)), λ is low. let t = e ∙ is in grind (arith, nat_tests, t, low))
+crossing_is : (c : Bool) (row height new : ℕ) → (nat_lt row new && is_among_from row height new) ≡ c
+    → (c ≡ true → (row < new) × (new < row + height)) × (c ≡ false → row < new → row + height ≤ new)
+crossing_is c row height new e =
+    (λ is. let t = e ∙ is in (grind (arith, nat_tests, t), grind (arith, nat_tests, t)), λ is low. let t = e ∙ is in grind (arith, nat_tests, t, low))
 
 -- A cell that starts in front of the new row and goes on after it gets a row, and loses it again. Any other stays as high.
-back : (i j new most rows height high again : ℕ) (c d : Bool) → i < most → height ≡ min rows (most - i) → (nat_lt i new && is_among_from i height new) ≡ c → high ≡ cond c (height + 1) height
-    → again ≡ min high (most + 1 - j) → (nat_lt j new && is_among_from j again new) ≡ d → IsShifted new i j → min (cond d (again - 1) again) (most - i) ≡ min rows (most - i)
+back : (i j new most rows height high again : ℕ) (c d : Bool) → i < most → height ≡ min rows (most - i) → (nat_lt i new && is_among_from i height new) ≡ c
+    → high ≡ cond c (height + 1) height
+    → again ≡ min high (most + 1 - j) → (nat_lt j new && is_among_from j again new) ≡ d → IsShifted new i j
+    → min (cond d (again - 1) again) (most - i) ≡ min rows (most - i)
 back i j new most rows height high again c d within is crossed higher lower crossed_again shift =
     let a = crossing_is c i height new crossed in
     let b = crossing_is d j again new crossed_again in
     grind (arith, within, is, higher, lower, a, b, shift)
 
 -- a cell that has no spans stays as it is
-told : (b c d : Bool) (i j new most rows height high again : ℕ) (first second third fourth : ℕ) → i < most → height ≡ min rows (most - i) → (nat_lt i new && is_among_from i height new) ≡ c
+told : (b c d : Bool) (i j new most rows height high again : ℕ) (first second third fourth : ℕ) → i < most → height ≡ min rows (most - i)
+    → (nat_lt i new && is_among_from i height new) ≡ c
     → first ≡ cond b height rows → second ≡ cond (c && b) (height + 1) first → high ≡ second → again ≡ min high (most + 1 - j) → third ≡ cond b again high
-    → (nat_lt j new && is_among_from j again new) ≡ d → fourth ≡ cond (d && b) (again - 1) third → IsShifted new i j → min fourth (most - i) ≡ min rows (most - i)
+    → (nat_lt j new && is_among_from j again new) ≡ d → fourth ≡ cond (d && b) (again - 1) third → IsShifted new i j
+    → min fourth (most - i) ≡ min rows (most - i)
 told true c d i j new most rows height high again first second third fourth within is crossed e1 e2 e3 e4 e5 crossed_again e6 shift =
     ap (λ n. min n (most - i)) (e6 ∙ ap (λ n. cond (d && true) (again - 1) n) e5 ∙ picked d (again - 1) again)
-    ∙ back i j new most rows height high again c d within is crossed (e3 ∙ e2 ∙ ap (λ n. cond (c && true) (height + 1) n) e1 ∙ picked c (height + 1) height) e4 crossed_again shift
+    ∙ back i j new most rows height high again c d within is crossed (e3 ∙ e2 ∙ ap (λ n. cond (c && true) (height + 1) n) e1 ∙ picked c (height + 1) height) e4
+    crossed_again shift
   where
     picked : (d : Bool) (x y : ℕ) → cond (d && true) x y ≡ cond d x y
     picked true x y = refl
@@ -84,7 +91,8 @@ record Seen (f : Forest) (table new i q : ℕ) : Type 0 where
   pub is : height ≡ min (row_span f q) (length (children_of f table) - i)
   pub across : is_among q (cells_in (crossing new (spots_of f table))) ≡ (nat_lt i new && is_among_from i height new)
 
-cell_seen : (f : Forest) (table new i k q : ℕ) → IsForest f → slice_get (children_of f table) i ≡ Some k → is_among q (children_of f k) ≡ true → Seen f table new i q
+cell_seen : (f : Forest) (table new i k q : ℕ) → IsForest f → slice_get (children_of f table) i ≡ Some k → is_among q (children_of f k) ≡ true
+    → Seen f table new i q
 cell_seen f table new i k q ordered at among =
     let found = spot_in_row f table i k q at among in
     let s : Spot = found.spot in
@@ -98,9 +106,14 @@ cell_seen f table new i k q ordered at among =
     record {
       height = s.height;
       among = among_spots f table i k q at among;
-      height_is = sym (ap (height_at (spots_of f table)) found.is) ∙ height_found f table ordered (spots_of f table) found.index s (spots_own f table) found.has found.at;
-      is = found.has.height ∙ ap (λ c. min (row_span f c) (length (children_of f table) - s.row)) found.is ∙ ap (λ r. min (row_span f q) (length (children_of f table) - r)) row;
-      across = sym (ap (λ c. is_among c (cells_in (crossing new (spots_of f table)))) found.is) ∙ across ∙ ap (λ r. nat_lt r new && is_among_from r s.height new) row;
+      height_is =
+          sym (ap (height_at (spots_of f table)) found.is)
+          ∙ height_found f table ordered (spots_of f table) found.index s (spots_own f table) found.has found.at;
+      is = found.has.height ∙ ap (λ c. min (row_span f c) (length (children_of f table) - s.row)) found.is
+          ∙ ap (λ r. min (row_span f q) (length (children_of f table) - r)) row;
+      across =
+          sym (ap (λ c. is_among c (cells_in (crossing new (spots_of f table)))) found.is) ∙ across
+          ∙ ap (λ r. nat_lt r new && is_among_from r s.height new) row;
     }
 
 -- what is known of its rows on the way, read at it
@@ -175,7 +188,8 @@ module _ (f : Forest) (table new row : ℕ) (set grown opened : Forest) (way : H
   pub new_row_at : slice_get (children_of opened table) new ≡ Some row
   new_row_at = ap (λ xs. slice_get xs new) inserted_rows ∙ at_insert (children_of f table) new row within
 
-module _ (f : Forest) (table new row : ℕ) (set grown opened again shrunk : Forest) (way : HasRow f table new row set grown opened) (gone : IsShrunk table new opened again shrunk) where
+module _ (f : Forest) (table new row : ℕ) (set grown opened again shrunk : Forest) (way : HasRow f table new row set grown opened)
+    (gone : IsShrunk table new opened again shrunk) where
   shrunk_children : (q : ℕ) → children_of shrunk q ≡ children_of opened q
   shrunk_children q = gone.lower.children q ∙ gone.reset.children q
 
@@ -184,42 +198,52 @@ module _ (f : Forest) (table new row : ℕ) (set grown opened again shrunk : For
 
   columns_back : (q : ℕ) → q < row → column_span (take_out row shrunk) q ≡ column_span f q
   columns_back q low =
-      ap (read_by columns_in 1) (fields_left q) ∙ gone.lower.columns q ∙ gone.reset.columns q ∙ ap (read_by columns_in 1) (way.made.fields q low) ∙ way.taller.columns q ∙ way.heights.columns q
+      ap (read_by columns_in 1) (fields_left q) ∙ gone.lower.columns q ∙ gone.reset.columns q ∙ ap (read_by columns_in 1) (way.made.fields q low)
+      ∙ way.taller.columns q ∙ way.heights.columns q
 
   length_opened : length (children_of opened table) ≡ length (children_of f table) + 1
-  length_opened = ap length (opened_rows f table new row set grown opened way) ∙ length-names_with (slice_get (children_of f table) new) row (children_of f table)
+  length_opened =
+      ap length (opened_rows f table new row set grown opened way) ∙ length-names_with (slice_get (children_of f table) new) row (children_of f table)
 
-  rows_back : (i k q : ℕ) → slice_get (children_of f table) i ≡ Some k → is_among q (children_of f k) ≡ true → min (row_span (take_out row shrunk) q) (length (children_of f table) - i) ≡ min (row_span f q) (length (children_of f table) - i)
+  rows_back : (i k q : ℕ) → slice_get (children_of f table) i ≡ Some k → is_among q (children_of f k) ≡ true
+      → min (row_span (take_out row shrunk) q) (length (children_of f table) - i) ≡ min (row_span f q) (length (children_of f table) - i)
   rows_back i k q at among =
       let there = was_there f table new row set grown opened way i k at in
       let low : q < row = (way.below k q (ap (is_among q) (grown_children f table new row set grown opened way k) ∙ among)).0 in
       let seen : Seen f table new i q = cell_seen f table new i k q way.in_order at among in
-      let later : Seen opened table new there.index q = cell_seen opened table new there.index k q gone.opened_in_order there.at (ap (is_among q) there.cells ∙ among) in
+      let later : Seen opened table new there.index q =
+      cell_seen opened table new there.index k q gone.opened_in_order there.at (ap (is_among q) there.cells ∙ among) in
       let spans_set : has_spans set q ≡ has_spans f q = way.heights.spans q in
       let spans_opened : has_spans opened q ≡ has_spans f q = ap tell_spans (way.made.fields q low) ∙ way.taller.spans q ∙ spans_set in
       let spans_again : has_spans again q ≡ has_spans f q = gone.reset.spans q ∙ spans_opened in
       let c : Bool = nat_lt i new && is_among_from i seen.height new in
       let d : Bool = nat_lt there.index new && is_among_from there.index later.height new in
-      let high : later.height ≡ min (row_span opened q) (length (children_of f table) + 1 - there.index) = later.is ∙ ap (λ n. min (row_span opened q) (n - there.index)) length_opened in
+      let high : later.height ≡ min (row_span opened q) (length (children_of f table) + 1 - there.index) =
+      later.is ∙ ap (λ n. min (row_span opened q) (n - there.index)) length_opened in
       ap (λ n. min n (length (children_of f table) - i)) (ap (read_by rows_in 1) (fields_left q))
       ∙ told (has_spans f q) c d i there.index new (length (children_of f table)) (row_span f q) seen.height (row_span opened q) later.height
       (row_span set q) (row_span grown q) (row_span again q) (row_span shrunk q)
       (slice_get_within (children_of f table) i k at) seen.is refl
-      (rows_are (is_among q (cells_in (spots_of f table))) true (has_spans f q) (has_spans f q) (height_at (spots_of f table) q) seen.height (row_span f q) (row_span set q) (way.heights.rows q) seen.among refl seen.height_is)
-      (rows_are (is_among q (cells_in (crossing new (spots_of f table)))) c (has_spans set q) (has_spans f q) (height_at (spots_of f table) q + 1) (seen.height + 1) (row_span set q) (row_span grown q) (way.taller.rows q) seen.across spans_set
+      (rows_are (is_among q (cells_in (spots_of f table))) true (has_spans f q) (has_spans f q) (height_at (spots_of f table) q) seen.height (row_span f q)
+      (row_span set q) (way.heights.rows q) seen.among refl seen.height_is)
+      (rows_are (is_among q (cells_in (crossing new (spots_of f table)))) c (has_spans set q) (has_spans f q) (height_at (spots_of f table) q + 1)
+      (seen.height + 1) (row_span set q) (row_span grown q) (way.taller.rows q) seen.across spans_set
       (ap (λ n. n + 1) seen.height_is))
       (ap (read_by rows_in 1) (way.made.fields q low))
       high
-      (rows_are (is_among q (cells_in (spots_of opened table))) true (has_spans opened q) (has_spans f q) (height_at (spots_of opened table) q) later.height (row_span opened q) (row_span again q) (gone.reset.rows q) later.among spans_opened later.height_is)
+      (rows_are (is_among q (cells_in (spots_of opened table))) true (has_spans opened q) (has_spans f q) (height_at (spots_of opened table) q) later.height
+      (row_span opened q) (row_span again q) (gone.reset.rows q) later.among spans_opened later.height_is)
       refl
-      (rows_are (is_among q (cells_in (crossing new (spots_of opened table)))) d (has_spans again q) (has_spans f q) (height_at (spots_of opened table) q - 1) (later.height - 1) (row_span again q) (row_span shrunk q) (gone.lower.rows q) later.across spans_again
+      (rows_are (is_among q (cells_in (crossing new (spots_of opened table)))) d (has_spans again q) (has_spans f q) (height_at (spots_of opened table) q - 1)
+      (later.height - 1) (row_span again q) (row_span shrunk q) (gone.lower.rows q) later.across spans_again
       (ap (λ n. n - 1) later.height_is))
       there.shift
 
   pub alike_again : IsAlike f (take_out row shrunk) table
   alike_again = record {
     keys =
-        children_of-take_out row shrunk table gone.shrunk_in_order ∙ ap (names_without row) (shrunk_children table ∙ opened_rows f table new row set grown opened way)
+        children_of-take_out row shrunk table gone.shrunk_in_order
+        ∙ ap (names_without row) (shrunk_children table ∙ opened_rows f table new row set grown opened way)
         ∙ names_without-names_with (slice_get (children_of f table) new) row (children_of f table) (absent f table new row set grown opened way table);
     each = λ i k at.
         let there = was_there f table new row set grown opened way i k at in

@@ -62,7 +62,8 @@ made_by kind fields w v ready e =
     let is : made kind fields w ≡ v = (answered (over_limits (characters_of fields) w) (made kind fields w) v e).1 in
     let l : Label = record { key = w.next_key; kind = kind; fields = fields } in
     let free : has w.next_key w.forest ≡ false = ready.free w.next_key (omega arith) in
-    let label : (q : ℕ) → label_of v.forest q ≡ cond (eqb q w.next_key) (Some l) (label_of w.forest q) = λ q. rw (← is) (label_of-with_new l w.forest q ready.in_order free) in
+    let label : (q : ℕ) → label_of v.forest q ≡ cond (eqb q w.next_key) (Some l) (label_of w.forest q) =
+    λ q. rw (← is) (label_of-with_new l w.forest q ready.in_order free) in
     let same : eqb w.next_key w.next_key ≡ true = grind (arith, eqb_tells w.next_key w.next_key) in
     record {
       ready = (covered_path.new kind fields w v ready e).ready;
@@ -75,7 +76,9 @@ made_by kind fields w v ready e =
 record IsPut (k p index : ℕ) (w v : Working) : Type 0 where
   pub ready : IsReady v
   pub next : v.next_key ≡ w.next_key
-  pub children : (q : ℕ) → children_of v.forest q ≡ cond (eqb q p) (names_with (slice_get (children_of w.forest p) index) (k ∷ []) (children_of w.forest q)) (children_of w.forest q)
+  pub children : (q : ℕ)
+      → children_of v.forest q
+      ≡ cond (eqb q p) (names_with (slice_get (children_of w.forest p) index) (k ∷ []) (children_of w.forest q)) (children_of w.forest q)
   pub fields : (q : ℕ) → fields_of v.forest q ≡ fields_of w.forest q
   pub within : index ≤ length (children_of w.forest p)
 
@@ -97,7 +100,8 @@ put_by k p index w v ready e =
 put_apart : (k p index : ℕ) (w v : Working) (q : ℕ) → IsPut k p index w v → eqb q p ≡ false → children_of v.forest q ≡ children_of w.forest q
 put_apart k p index w v q put other = put.children q ∙ rw other refl
 
-put_there : (k p index : ℕ) (w v : Working) → IsPut k p index w v → children_of v.forest p ≡ names_with (slice_get (children_of w.forest p) index) (k ∷ []) (children_of w.forest p)
+put_there : (k p index : ℕ) (w v : Working) → IsPut k p index w v
+    → children_of v.forest p ≡ names_with (slice_get (children_of w.forest p) index) (k ∷ []) (children_of w.forest p)
 put_there k p index w v put = let same : eqb p p ≡ true = grind (arith, eqb_tells p p) in put.children p ∙ rw same refl
 
 -- ---- new cells in a row
@@ -110,7 +114,8 @@ record IsFilling (row : ℕ) (f : Forest) (w : Working) : Type 0 where
   pub fields : (q : ℕ) → q < row → fields_of w.forest q ≡ fields_of f q
   pub single : (q : ℕ) → is_among q (children_of w.forest row) ≡ true → row_span w.forest q ≡ 1
 
-cell_fills : (header row index : ℕ) (f : Forest) (w a b c v : Working) → IsFilling row f w → IsMade (cell_fields header) w a → IsMade plain_element a b → IsPut a.next_key w.next_key 0 b c → IsPut w.next_key row index c v
+cell_fills : (header row index : ℕ) (f : Forest) (w a b c v : Working) → IsFilling row f w → IsMade (cell_fields header) w a → IsMade plain_element a b
+    → IsPut a.next_key w.next_key 0 b c → IsPut w.next_key row index c v
     → IsFilling row f v
 cell_fills header row index f w a b c v was cell paragraph inside there =
     let low : row < w.next_key = was.next in
@@ -129,7 +134,8 @@ cell_fills header row index f w a b c v was cell paragraph inside there =
       fields = λ q h. fields q (omega (arith, h, low)) ∙ was.fields q h;
       single = λ q among.
           let either : (is_among q (w.next_key ∷ []) || is_among q (children_of c.forest row)) ≡ true =
-          sym (ap (is_among q) (put_there w.next_key row index c v there) ∙ is_among-names_with (slice_get (children_of c.forest row) index) (w.next_key ∷ []) (children_of c.forest row) q) ∙ among in
+          sym (ap (is_among q) (put_there w.next_key row index c v there)
+          ∙ is_among-names_with (slice_get (children_of c.forest row) index) (w.next_key ∷ []) (children_of c.forest row) q) ∙ among in
           elim (eqb_tells w.next_key q) [
             | inl same ↦ subst (λ x. row_span v.forest x ≡ 1) same.1 new
             | inr other ↦
@@ -142,7 +148,8 @@ cell_fills header row index f w a b c v was cell paragraph inside there =
 cell_kept : (header row index : ℕ) (f : Forest) (w v : Working) → IsFilling row f w → cell_made header row index w ≡ Ok v → IsFilling row f v
 unfolding cell_made
 cell_kept header row index f w v was e =
-    let a = first_part (new_step Cell (cell_fields header) w) (λ x. after (new_step Paragraph plain_element x) (λ u. after (put_step x.next_key w.next_key 0 u) (put_step w.next_key row index))) v e in
+    let a = first_part (new_step Cell (cell_fields header) w)
+    (λ x. after (new_step Paragraph plain_element x) (λ u. after (put_step x.next_key w.next_key 0 u) (put_step w.next_key row index))) v e in
     let b = first_part (new_step Paragraph plain_element a.0) (λ u. after (put_step a.0.next_key w.next_key 0 u) (put_step w.next_key row index)) v a.2 in
     let c = first_part (put_step a.0.next_key w.next_key 0 b.0) (put_step w.next_key row index) v b.2 in
     let cell = made_by Cell (cell_fields header) w a.0 was.ready a.1 in
@@ -150,17 +157,20 @@ cell_kept header row index f w v was e =
     let inside = put_by a.0.next_key w.next_key 0 b.0 c.0 paragraph.ready c.1 in
     cell_fills header row index f w a.0 b.0 c.0 v was cell paragraph inside (put_by w.next_key row index c.0 v inside.ready c.2)
 
-column_kept : (taken : Bool) (header row index : ℕ) (f : Forest) (w v : Working) → IsFilling row f w → cond taken (Ok w) (cell_made header row index w) ≡ Ok v → IsFilling row f v
+column_kept : (taken : Bool) (header row index : ℕ) (f : Forest) (w v : Working) → IsFilling row f w → cond taken (Ok w) (cell_made header row index w) ≡ Ok v
+    → IsFilling row f v
 column_kept true header row index f w v was e = let same : w ≡ v = cc in subst (IsFilling row f) same was
 column_kept false header row index f w v was e = cell_kept header row index f w v was e
 
-columns_kept : (spots above : List Spot) (like row : ℕ) (columns : List ℕ) (f : Forest) (w v : Working) → IsFilling row f w → in_turn (column_filled spots above like row) columns w ≡ Ok v → IsFilling row f v
+columns_kept : (spots above : List Spot) (like row : ℕ) (columns : List ℕ) (f : Forest) (w v : Working) → IsFilling row f w
+    → in_turn (column_filled spots above like row) columns w ≡ Ok v → IsFilling row f v
 unfolding in_turn
 columns_kept spots above like row [] f w v was e = let same : w ≡ v = cc in subst (IsFilling row f) same was
 columns_kept spots above like row (column ∷ columns) f w v was e =
     let parts = first_part (column_filled spots above like row column w) (in_turn (column_filled spots above like row) columns) v e in
     columns_kept spots above like row columns f parts.0 v
-    (column_kept (list_any (stands_in_column column) above) (header_at w.forest column_header (spot_at spots like column)) row (size_of w.forest row) f w parts.0 was parts.1) parts.2
+    (column_kept (list_any (stands_in_column column) above) (header_at w.forest column_header (spot_at spots like column)) row (size_of w.forest row) f w
+    parts.0 was parts.1) parts.2
 
 -- ---- the row
 
@@ -185,12 +195,15 @@ row_opened table index spots above like columns w u p v ready low made_e put_e f
       fields = λ q h. refl;
       single = λ q among.
           let old : is_among q (children_of w.forest w.next_key) ≡ true =
-          sym (ap (is_among q) (put_apart w.next_key table index u p w.next_key put (let above : eqb w.next_key table ≡ false = grind (arith, eqb_tells w.next_key table, low) in above) ∙ made.children w.next_key)) ∙ among in
+          sym (ap (is_among q)
+          (put_apart w.next_key table index u p w.next_key put
+          (let above : eqb w.next_key table ≡ false = grind (arith, eqb_tells w.next_key table, low) in above) ∙ made.children w.next_key)) ∙ among in
           let clash : w.next_key < w.next_key = parent_below w q w.next_key ready old in absurd (omega (arith, clash));
     } in
     let filled = columns_kept spots above like w.next_key columns p.forest p v begun filled_e in (
       record {
-        rows = filled.children table low ∙ put_there w.next_key table index u p put ∙ ap (λ xs. names_with (slice_get xs index) (w.next_key ∷ []) xs) (made.children table);
+        rows = filled.children table low ∙ put_there w.next_key table index u p put
+            ∙ ap (λ xs. names_with (slice_get xs index) (w.next_key ∷ []) xs) (made.children table);
         within = subst (λ xs. index ≤ length xs) (made.children table) put.within;
         others = λ q h other. filled.children q h ∙ put_apart w.next_key table index u p q put other ∙ made.children q;
         fields = λ q h. filled.fields q h ∙ put.fields q ∙ made.others q h;

@@ -69,7 +69,8 @@ told_past o n text e small past = by_test (is_offset o text) refl where
       let other : eqb o n ≡ false = grind (arith, eqb_tells o n, is, e, small, offset_end text) in other ∙ sym is
 
 -- as many characters as code units: no pairs
-pub told_plain : (o m n : ℕ) (text : List ℕ) → m ≡ capped (length text) → n ≡ capped (text_length text) → m ≡ n → n < 18446744073709551615 → o < n → true ≡ is_offset o text
+pub told_plain : (o m n : ℕ) (text : List ℕ) → m ≡ capped (length text) → n ≡ capped (text_length text) → m ≡ n → n < 18446744073709551615 → o < n
+    → true ≡ is_offset o text
 unfolding capped
 told_plain o m n text many e same small within =
     let plain : text_length text ≡ length text = omega (arith, many, e, same, small) in

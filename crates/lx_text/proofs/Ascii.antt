@@ -30,7 +30,8 @@ pub ascii_by : (text : List ℕ) → units text ≡ length (encode_utf8_all text
 unfolding units
 ascii_by [] e = none_ascii
 ascii_by (c ∷ text) e =
-    let sum : length (encode_utf8 c ++ encode_utf8_all text) ≡ length (encode_utf8 c) + length (encode_utf8_all text) = length-append (encode_utf8 c) (encode_utf8_all text) in
+    let sum : length (encode_utf8 c ++ encode_utf8_all text) ≡ length (encode_utf8 c) + length (encode_utf8_all text) =
+    length-append (encode_utf8 c) (encode_utf8_all text) in
     let plain : c < 128 = small c (omega (arith, e, sum, length-encode c, units-le_encoded text)) in
     let rest : units text ≡ length (encode_utf8_all text) = omega (arith, e, sum, length-encode c, units-le_encoded text, few_units c) in
     let first : IsAscii (encode_utf8 c) = subst (λ bs. IsAscii bs) (sym (encode_ascii c plain)) (one_ascii c plain) in
@@ -46,17 +47,21 @@ module _ (o : ℕ) (text : List ℕ) (plain : units text ≡ length text) (withi
   unfolding text_length
   front_characters =
       let place : units (front_of o text) ≡ o = offset_is o text plain-place in
-      let sums : units (front_of o text) + units (rest_of o text) ≡ units text = sym (units-append (front_of o text) (rest_of o text)) ∙ ap units (parts o text) in
-      let lengths : length (front_of o text) + length (rest_of o text) ≡ length text = sym (length-append (front_of o text) (rest_of o text)) ∙ ap length (parts o text) in
+      let sums : units (front_of o text) + units (rest_of o text) ≡ units text =
+      sym (units-append (front_of o text) (rest_of o text)) ∙ ap units (parts o text) in
+      let lengths : length (front_of o text) + length (rest_of o text) ≡ length text =
+      sym (length-append (front_of o text) (rest_of o text)) ∙ ap length (parts o text) in
       omega (arith, place, sums, lengths, plain, units-many (front_of o text), units-many (rest_of o text))
 
   pub plain-take : take o text ≡ front_of o text
   plain-take =
-      ap (λ n. take n text) (sym front_characters) ∙ ap (take (length (front_of o text))) (sym (parts o text)) ∙ take-append_seam (front_of o text) (rest_of o text)
+      ap (λ n. take n text) (sym front_characters) ∙ ap (take (length (front_of o text))) (sym (parts o text))
+      ∙ take-append_seam (front_of o text) (rest_of o text)
 
   pub plain-drop : drop o text ≡ rest_of o text
   plain-drop =
-      ap (λ n. drop n text) (sym front_characters) ∙ ap (drop (length (front_of o text))) (sym (parts o text)) ∙ drop-append_seam (front_of o text) (rest_of o text)
+      ap (λ n. drop n text) (sym front_characters) ∙ ap (drop (length (front_of o text))) (sym (parts o text))
+      ∙ drop-append_seam (front_of o text) (rest_of o text)
 
 -- the bytes of a text that has as many code units as bytes may be cut at an offset, and the parts are the text's
 module _ (bytes : List ℕ) (o : ℕ) (utf8 : IsUtf8 bytes) (plain : units (chars bytes) ≡ length bytes) (within : o ≤ length bytes) where
@@ -90,6 +95,7 @@ module _ (bytes : List ℕ) (o : ℕ) (utf8 : IsUtf8 bytes) (plain : units (char
       omega (arith, ap length (chars-IsAscii (drop o bytes) rest), units-many (chars (drop o bytes)), units-le_bytes (drop o bytes) (IsUtf8-from_ascii (drop o bytes) rest))
 
 -- a text of which a machine counts as many code units as bytes
-pub ascii-counted : (bytes : List ℕ) → IsUtf8 bytes → length bytes < 18446744073709551616 → capped (units (chars bytes)) ≡ length bytes → units (chars bytes) ≡ length bytes
+pub ascii-counted : (bytes : List ℕ) → IsUtf8 bytes → length bytes < 18446744073709551616 → capped (units (chars bytes)) ≡ length bytes
+    → units (chars bytes) ≡ length bytes
 unfolding capped
 ascii-counted bytes utf8 fits e = omega (arith, e, fits, units-le_bytes bytes utf8)

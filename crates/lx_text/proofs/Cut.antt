@@ -25,7 +25,8 @@ encode-one_more cs more c =
     ∙ append_assoc (encode_utf8_all cs) (encode_utf8 c) more
 
 -- one more character
-pub passed_more : (text rest more : List ℕ) (offset left c : ℕ) → IsPassed text offset left rest → rest ≡ encode_utf8 c ++ more → units_of c ≤ left → IsPassed text offset (left - units_of c) more
+pub passed_more : (text rest more : List ℕ) (offset left c : ℕ) → IsPassed text offset left rest → rest ≡ encode_utf8 c ++ more → units_of c ≤ left
+    → IsPassed text offset (left - units_of c) more
 passed_more text rest more offset left c p next fits =
     let first : chars rest ≡ c ∷ chars more = chars_past_char rest more c p.utf8 next in
     record {
@@ -45,7 +46,8 @@ encode_block cs block behind utf8 =
     ap (λ bs. bs ++ behind) (encodes-append cs (chars block) ∙ ap (λ bs. encode_utf8_all cs ++ bs) (encodes-chars block utf8))
     ∙ append_assoc (encode_utf8_all cs) block behind
 
-pub passed_block : (text rest block behind : List ℕ) (offset left : ℕ) → IsPassed text offset left rest → IsUtf8 block → IsUtf8 behind → rest ≡ block ++ behind → text_length (chars block) ≤ left → IsPassed text offset (left - text_length (chars block)) behind
+pub passed_block : (text rest block behind : List ℕ) (offset left : ℕ) → IsPassed text offset left rest → IsUtf8 block → IsUtf8 behind → rest ≡ block ++ behind
+    → text_length (chars block) ≤ left → IsPassed text offset (left - text_length (chars block)) behind
 passed_block text rest block behind offset left p utf8 after next fits =
     let first : chars rest ≡ chars block ++ chars behind = ap chars next ∙ chars-append block behind utf8 in
     let less = left - text_length (chars block) in
@@ -65,12 +67,14 @@ passed_block text rest block behind offset left p utf8 after next fits =
     }
 
 -- as many code units as were counted
-pub passed_counted : (text rest block behind : List ℕ) (offset left n : ℕ) → IsPassed text offset left rest → IsUtf8 block → IsUtf8 behind → rest ≡ block ++ behind → n ≡ units (chars block) → n ≤ left → IsPassed text offset (left - n) behind
+pub passed_counted : (text rest block behind : List ℕ) (offset left n : ℕ) → IsPassed text offset left rest → IsUtf8 block → IsUtf8 behind
+    → rest ≡ block ++ behind → n ≡ units (chars block) → n ≤ left → IsPassed text offset (left - n) behind
 unfolding text_length
 passed_counted text rest block behind offset left n p utf8 after next is fits =
     subst (λ m. IsPassed text offset (left - m) behind) (sym is) (passed_block text rest block behind offset left p utf8 after next (omega (arith, is, fits)))
 
-stopped_by : (text rest : List ℕ) (offset left : ℕ) → IsPassed text offset left rest → front_of left (chars rest) ≡ [] → rest_of left (chars rest) ≡ chars rest → IsStopped text offset left (length rest)
+stopped_by : (text rest : List ℕ) (offset left : ℕ) → IsPassed text offset left rest → front_of left (chars rest) ≡ [] → rest_of left (chars rest) ≡ chars rest
+    → IsStopped text offset left (length rest)
 stopped_by text rest offset left p none all =
     let front : front_of offset (chars text) ≡ p.front = p.front_is ∙ ap (λ cs. p.front ++ cs) none ∙ append-nil p.front in
     record {
@@ -85,10 +89,12 @@ stopped_by text rest offset left p none all =
     }
 
 -- a character that is too long for what is left
-pub stopped_before : (text rest more : List ℕ) (offset left c : ℕ) → IsPassed text offset left rest → rest ≡ encode_utf8 c ++ more → left < units_of c → IsStopped text offset left (length rest)
+pub stopped_before : (text rest more : List ℕ) (offset left c : ℕ) → IsPassed text offset left rest → rest ≡ encode_utf8 c ++ more → left < units_of c
+    → IsStopped text offset left (length rest)
 stopped_before text rest more offset left c p next long =
     let first : chars rest ≡ c ∷ chars more = chars_past_char rest more c p.utf8 next in
-    stopped_by text rest offset left p (ap (front_of left) first ∙ front-stopped left c (chars more) long) (ap (rest_of left) first ∙ rest-stopped left c (chars more) long ∙ sym first)
+    stopped_by text rest offset left p (ap (front_of left) first ∙ front-stopped left c (chars more) long)
+    (ap (rest_of left) first ∙ rest-stopped left c (chars more) long ∙ sym first)
 
 no_length : (xs : List ℕ) → length xs ≡ 0 → xs ≡ []
 no_length [] e = refl
@@ -125,10 +131,13 @@ front_bytes text front rest n is behind =
     ap (λ m. take (length text - m) text) (sym behind) ∙ ap (λ m. take m text) (front_length text front rest is)
     ∙ ap (take (length (encode_utf8_all front))) (sym is) ∙ take-append_seam (encode_utf8_all front) rest
 
-pub chars-front : (text front rest : List ℕ) (n : ℕ) → IsUtf8 text → IsUtf8 rest → encode_utf8_all front ++ rest ≡ text → length rest ≡ n → chars (take (length text - n) text) ≡ front
+pub chars-front : (text front rest : List ℕ) (n : ℕ) → IsUtf8 text → IsUtf8 rest → encode_utf8_all front ++ rest ≡ text → length rest ≡ n
+    → chars (take (length text - n) text) ≡ front
 chars-front text front rest n utf8 rest_utf8 is behind =
-    let boundary : IsCharBoundary text (length text - n) = subst (λ m. IsCharBoundary text (length text - m)) behind (front_boundary text front rest rest_utf8 is) in
-    sym (chars_from_encodes front (take (length text - n) text) (IsUtf8-take text (length text - n) utf8 boundary) (sym (front_bytes text front rest n is behind)))
+    let boundary : IsCharBoundary text (length text - n) =
+    subst (λ m. IsCharBoundary text (length text - m)) behind (front_boundary text front rest rest_utf8 is) in
+    sym (chars_from_encodes front (take (length text - n) text) (IsUtf8-take text (length text - n) utf8 boundary)
+    (sym (front_bytes text front rest n is behind)))
 
 pub chars-back : (text front rest : List ℕ) (n : ℕ) → encode_utf8_all front ++ rest ≡ text → length rest ≡ n → drop (length text - n) text ≡ rest
 chars-back text front rest n is behind =

@@ -11,8 +11,10 @@ fault_turned from to cs first second order = grind (arith, nat_tests, first, sec
 pub fault_second : (from to : ℕ) (cs : List ℕ) → is_offset from cs ≡ true → is_offset to cs ≡ false → slice_fault cs from to ≡ Some (BadPlace to)
 fault_second from to cs first none = grind (arith, nat_tests, first, none)
 
-pub fault_behind : (from to : ℕ) (cs : List ℕ) → is_offset from cs ≡ true → from ≤ to → is_offset (to - from) (rest_of from cs) ≡ false → slice_fault cs from to ≡ Some (BadPlace to)
+pub fault_behind : (from to : ℕ) (cs : List ℕ) → is_offset from cs ≡ true → from ≤ to → is_offset (to - from) (rest_of from cs) ≡ false
+    → slice_fault cs from to ≡ Some (BadPlace to)
 fault_behind from to cs first order none = grind (arith, nat_tests, first, none, offset-further from to cs first order)
 
-pub no_fault : (from to : ℕ) (cs : List ℕ) → is_offset from cs ≡ true → from ≤ to → is_offset (to - from) (rest_of from cs) ≡ true → slice_fault cs from to ≡ None
+pub no_fault : (from to : ℕ) (cs : List ℕ) → is_offset from cs ≡ true → from ≤ to → is_offset (to - from) (rest_of from cs) ≡ true
+    → slice_fault cs from to ≡ None
 no_fault from to cs first order some = grind (arith, nat_tests, first, some, offset-further from to cs first order)

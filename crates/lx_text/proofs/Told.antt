@@ -56,7 +56,8 @@ pub offset-behind : (offset : ℕ) (front back : List ℕ) → is_offset (text_l
 unfolding is_offset
 offset-behind offset front back =
     ap (λ n. eqb n (text_length front + offset))
-    (within_is (text_length front + offset) (front ++ back) ∙ ap text_length (front-behind offset front back) ∙ length-append front (front_of offset back) ∙ ap (λ n. text_length front + n) (sym (within_is offset back)))
+    (within_is (text_length front + offset) (front ++ back) ∙ ap text_length (front-behind offset front back) ∙ length-append front (front_of offset back)
+    ∙ ap (λ n. text_length front + n) (sym (within_is offset back)))
     ∙ same_past (text_length front) (within back offset) offset
 
 pub offset-front : (offset : ℕ) (front back : List ℕ) → is_offset offset front ≡ true → is_offset offset (front ++ back) ≡ true
@@ -65,23 +66,27 @@ offset-front offset front back e =
     (sym (ap (λ cs. cs ++ back) (parts offset front)) ∙ append_assoc (front_of offset front) (rest_of offset front) back) (offset_is offset front e)
 
 -- an offset of a text, in what comes before another one, and in what comes after it
-pub front-further : (o from : ℕ) (text : List ℕ) → is_offset o text ≡ true → o ≤ from → front_of from text ≡ front_of o text ++ front_of (from - o) (rest_of o text)
+pub front-further : (o from : ℕ) (text : List ℕ) → is_offset o text ≡ true → o ≤ from
+    → front_of from text ≡ front_of o text ++ front_of (from - o) (rest_of o text)
 front-further o from text e order =
     let here : text_length (front_of o text) ≡ o = offset_is o text e in
     let along : from ≡ text_length (front_of o text) + (from - o) = omega (arith, here, order) in
-    ap (front_of from) (sym (parts o text)) ∙ ap (λ n. front_of n (front_of o text ++ rest_of o text)) along ∙ front-behind (from - o) (front_of o text) (rest_of o text)
+    ap (front_of from) (sym (parts o text)) ∙ ap (λ n. front_of n (front_of o text ++ rest_of o text)) along
+    ∙ front-behind (from - o) (front_of o text) (rest_of o text)
 
 pub rest-further : (o from : ℕ) (text : List ℕ) → is_offset o text ≡ true → o ≤ from → rest_of (from - o) (rest_of o text) ≡ rest_of from text
 rest-further o from text e order =
     let here : text_length (front_of o text) ≡ o = offset_is o text e in
     let along : text_length (front_of o text) + (from - o) ≡ from = omega (arith, here, order) in
-    sym (rest-behind (from - o) (front_of o text) (rest_of o text)) ∙ ap (λ n. rest_of n (front_of o text ++ rest_of o text)) along ∙ ap (rest_of from) (parts o text)
+    sym (rest-behind (from - o) (front_of o text) (rest_of o text)) ∙ ap (λ n. rest_of n (front_of o text ++ rest_of o text)) along
+    ∙ ap (rest_of from) (parts o text)
 
 pub offset-further : (o from : ℕ) (text : List ℕ) → is_offset o text ≡ true → o ≤ from → is_offset (from - o) (rest_of o text) ≡ is_offset from text
 offset-further o from text e order =
     let here : text_length (front_of o text) ≡ o = offset_is o text e in
     let along : text_length (front_of o text) + (from - o) ≡ from = omega (arith, here, order) in
-    sym (offset-behind (from - o) (front_of o text) (rest_of o text)) ∙ ap (λ n. is_offset n (front_of o text ++ rest_of o text)) along ∙ ap (is_offset from) (parts o text)
+    sym (offset-behind (from - o) (front_of o text) (rest_of o text)) ∙ ap (λ n. is_offset n (front_of o text ++ rest_of o text)) along
+    ∙ ap (is_offset from) (parts o text)
 
 pub offset-nearer : (o from : ℕ) (text : List ℕ) → is_offset o text ≡ true → o ≤ from → is_offset o (front_of from text) ≡ true
 offset-nearer o from text e order =
@@ -103,17 +108,20 @@ pub within-last : (offset place : ℕ) (text : List ℕ) → is_offset place tex
 within-last offset place text e order =
     let here : text_length (front_of place text) ≡ place = offset_is place text e in
     let further : within text offset ≡ text_length (front_of place text) + text_length (front_of (offset - place) (rest_of place text)) =
-    within_is offset text ∙ ap text_length (front-further place offset text e order) ∙ length-append (front_of place text) (front_of (offset - place) (rest_of place text)) in
+    within_is offset text ∙ ap text_length (front-further place offset text e order)
+    ∙ length-append (front_of place text) (front_of (offset - place) (rest_of place text)) in
     omega (arith, here, further)
 
 -- an offset that is so far past the last place
 pub found_at : (offset behind : ℕ) (text : List ℕ) → within text offset + behind ≡ offset → behind ≡ 0 → true ≡ is_offset offset text
 unfolding is_offset
-found_at offset behind text e none = let same : within text offset ≡ offset = omega (arith, e, none) in grind (arith, same, eqb_tells (within text offset) offset)
+found_at offset behind text e none = let same : within text offset ≡ offset =
+    omega (arith, e, none) in grind (arith, same, eqb_tells (within text offset) offset)
 
 pub missed_at : (offset behind : ℕ) (text : List ℕ) → within text offset + behind ≡ offset → 0 < behind → false ≡ is_offset offset text
 unfolding is_offset
-missed_at offset behind text e some = let other : within text offset < offset = omega (arith, e, some) in grind (arith, other, eqb_tells (within text offset) offset)
+missed_at offset behind text e some = let other : within text offset < offset =
+    omega (arith, e, some) in grind (arith, other, eqb_tells (within text offset) offset)
 
 -- ---- the end, as an offset can say it
 
@@ -197,7 +205,8 @@ pub splice-parts : (from to : ℕ) (new text : List ℕ) → slice_fault text fr
 unfolding spliced_text
 splice-parts from to new text e =
     let piece = piece_of from to text e in
-    sym (ap (λ cs. cs ++ new ++ slice_of to (text_length text) text) (slice-front from text) ∙ ap (λ cs. front_of from text ++ new ++ cs) (slice-back to text piece.second))
+    sym (ap (λ cs. cs ++ new ++ slice_of to (text_length text) text) (slice-front from text)
+    ∙ ap (λ cs. front_of from text ++ new ++ cs) (slice-back to text piece.second))
 
 pub splice-length : (from to : ℕ) (new text : List ℕ) → slice_fault text from to ≡ None →
     text_length (spliced_text from to new text) + to ≡ text_length text + text_length new + from
@@ -208,7 +217,8 @@ splice-length from to new text e =
 
 -- ---- offsets after a splice
 
-pub splice-before : (from to : ℕ) (new text : List ℕ) (o : ℕ) → IsPiece from to text → is_offset o text ≡ true → o ≤ from → is_offset o (spliced_text from to new text) ≡ true
+pub splice-before : (from to : ℕ) (new text : List ℕ) (o : ℕ) → IsPiece from to text → is_offset o text ≡ true → o ≤ from
+    → is_offset o (spliced_text from to new text) ≡ true
 unfolding spliced_text
 splice-before from to new text o piece e order =
     offset-front o (front_of from text ++ new) (rest_of to text) (offset-front o (front_of from text) new (offset-nearer o from text e order))
@@ -219,7 +229,8 @@ splice-between from to new text piece =
     offset_at (from + text_length new) (front_of from text ++ new) (rest_of to text) _ refl
     (length-append (front_of from text) new ∙ ap (λ n. n + text_length new) (offset_is from text piece.first))
 
-pub splice-behind : (from to : ℕ) (new text : List ℕ) (o : ℕ) → IsPiece from to text → is_offset o text ≡ true → to ≤ o → is_offset (o - (to - from) + text_length new) (spliced_text from to new text) ≡ true
+pub splice-behind : (from to : ℕ) (new text : List ℕ) (o : ℕ) → IsPiece from to text → is_offset o text ≡ true → to ≤ o
+    → is_offset (o - (to - from) + text_length new) (spliced_text from to new text) ≡ true
 unfolding spliced_text
 splice-behind from to new text o piece e order =
     let along : o - (to - from) + text_length new ≡ text_length (front_of from text ++ new) + (o - to) =

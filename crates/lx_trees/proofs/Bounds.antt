@@ -20,7 +20,8 @@ module _ {A : Type 0} (name : A → ℕ) where
   either None p m n h k = omega (arith, k)
   either (Some s) p m n h k = omega (arith, h)
 
-  first_case : (a : A) (r : Option ℕ) (below rest : Trees A) (o : Option (Spot A)) (b : Bool) → length (children_at o) ≤ total below + total rest → length (children_at (cond b (Some (record { label = a; parent = r; children = names name below })) o)) ≤ 1 + total below + total rest
+  first_case : (a : A) (r : Option ℕ) (below rest : Trees A) (o : Option (Spot A)) (b : Bool) → length (children_at o) ≤ total below + total rest
+      → length (children_at (cond b (Some (record { label = a; parent = r; children = names name below })) o)) ≤ 1 + total below + total rest
   first_case a r below rest o true h = omega (arith, length-names-le below)
   first_case a r below rest o false h = omega (arith, h)
 
@@ -28,7 +29,8 @@ module _ {A : Type 0} (name : A → ℕ) where
   length-children-le r nil q = omega arith
   length-children-le r (tree a below rest) q =
       first_case a r below rest (option_or (spot_below name (Some (name a)) below q) (spot_below name r rest q)) (eqb (name a) q)
-      (either (spot_below name (Some (name a)) below q) (spot_below name r rest q) (total below) (total rest) (length-children-le (Some (name a)) below q) (length-children-le r rest q))
+      (either (spot_below name (Some (name a)) below q) (spot_below name r rest q) (total below) (total rest) (length-children-le (Some (name a)) below q)
+      (length-children-le r rest q))
 
   pub size_of-le : (f : Trees A) (q : ℕ) → size_of name f q ≤ total f
   size_of-le f q = length-children-le None f q

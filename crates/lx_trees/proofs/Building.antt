@@ -16,7 +16,8 @@ module _ {A : Type 0} (name : A → ℕ) where
   inserted_last new (tree m below rest) = ap (tree m below) (inserted_last new rest)
 
   -- a new label that is put at once
-  pub put_in-with_new : (p : ℕ) (l : A) (f : Trees A) → has name (name l) f ≡ false → put_in name p None (name l) (with_new name l f) ≡ last_below name p (tree l nil nil) f
+  pub put_in-with_new : (p : ℕ) (l : A) (f : Trees A) → has name (name l) f ≡ false
+      → put_in name p None (name l) (with_new name l f) ≡ last_below name p (tree l nil nil) f
   unfolding put_in with_new
   put_in-with_new p l f free =
       let absent : count name (name l) f ≡ 0 = grind (arith, free) in
@@ -36,7 +37,8 @@ module _ {A : Type 0} (name : A → ℕ) where
   below_made l s = rw (own_name l) refl
 
   -- a label that was just put there, and then trees below it
-  pub last_below-within : (p : ℕ) (l : A) (s f : Trees A) → has name (name l) f ≡ false → p ≢ name l → last_below name (name l) s (last_below name p (tree l nil nil) f) ≡ last_below name p (tree l s nil) f
+  pub last_below-within : (p : ℕ) (l : A) (s f : Trees A) → has name (name l) f ≡ false → p ≢ name l
+      → last_below name (name l) s (last_below name p (tree l nil nil) f) ≡ last_below name p (tree l s nil) f
   last_below-within p l s nil free other = refl
   last_below-within p l s (tree m below rest) free other =
       grind (arith, free, other, eqb_tells (name m) p, eqb_tells (name m) (name l), last_below-within p l s below, last_below-within p l s rest, inserted_last (tree l nil nil) below, inserted_last (tree l s nil) below, below_last (name l) s below (tree l nil nil), below_made l s)
@@ -46,7 +48,8 @@ module _ {A : Type 0} (name : A → ℕ) where
   inserted_twice new more (tree m below rest) = ap (tree m below) (inserted_twice new more rest)
 
   -- more after them
-  pub last_below-twice : (p : ℕ) (new more f : Trees A) → has name p new ≡ false → last_below name p more (last_below name p new f) ≡ last_below name p (joined new more) f
+  pub last_below-twice : (p : ℕ) (new more f : Trees A) → has name p new ≡ false
+      → last_below name p more (last_below name p new f) ≡ last_below name p (joined new more) f
   last_below-twice p new more nil free = refl
   last_below-twice p new more (tree m below rest) free =
       grind (arith, free, eqb_tells (name m) p, inserted_twice new more below, last_below-twice p new more below free, last_below-twice p new more rest free)

@@ -22,13 +22,19 @@ module _ {A : Type 0} (name : A → ℕ) where
   front_here : (after : List ℕ) (a : A) (below rest : Trees A) → count name (name a) rest ≡ 0 → IsFront after (tree a below rest) (name a) []
   front_here after a below rest gone =
       let own : eqb (name a) (name a) ≡ true = grind (arith, eqb_tells (name a) (name a)) in
-      record { split = rw (own, alone-absent name (name a) rest gone) (ap (λ ks. name a ∷ ks) (append_assoc (preorder name below) (preorder name rest) after ∙ ap (λ ks. ks ++ (preorder name rest ++ after)) (sym (append-nil (preorder name below))))) }
+      record {
+        split = rw (own, alone-absent name (name a) rest gone)
+            (ap (λ ks. name a ∷ ks)
+            (append_assoc (preorder name below) (preorder name rest) after
+            ∙ ap (λ ks. ks ++ (preorder name rest ++ after)) (sym (append-nil (preorder name below)))));
+      }
 
   -- where the name is below the first label, and where it comes after
   front_below : (after : List ℕ) (q : ℕ) (a : A) (below rest : Trees A) (front : List ℕ) → count name q (tree a below rest) < 2 → 0 < count name q below →
       IsFront (preorder name rest ++ after) below q front → IsFront after (tree a below rest) q (name a ∷ front)
   front_below after q a below rest front once some lower =
-      let tree_of : alone name q (tree a below rest) ≡ alone name q below = grind (arith, once, some, eqb_tells (name a) q, alone-absent name q rest, joined-nil (alone name q below)) in
+      let tree_of : alone name q (tree a below rest) ≡ alone name q below =
+      grind (arith, once, some, eqb_tells (name a) q, alone-absent name q rest, joined-nil (alone name q below)) in
       record {
         split = rw (tree_of, behind_before-below name after a below rest q once some)
             (ap (λ ks. name a ∷ ks) (append_assoc (preorder name below) (preorder name rest) after ∙ lower.split));
@@ -40,7 +46,9 @@ module _ {A : Type 0} (name : A → ℕ) where
       let tree_of : alone name q (tree a below rest) ≡ alone name q rest = grind (arith, once, some, eqb_tells (name a) q, alone-absent name q below) in
       record {
         split = rw (tree_of, behind_before-rest name after a below rest q once some)
-            (ap (λ ks. name a ∷ ks) (append_assoc (preorder name below) (preorder name rest) after ∙ ap (λ ks. preorder name below ++ ks) later.split ∙ sym (append_assoc (preorder name below) front (from_before after rest q))));
+            (ap (λ ks. name a ∷ ks)
+            (append_assoc (preorder name below) (preorder name rest) after ∙ ap (λ ks. preorder name below ++ ks) later.split
+            ∙ sym (append_assoc (preorder name below) front (from_before after rest q))));
       }
 
   front_of : (after : List ℕ) (t : Trees A) (q : ℕ) → IsDistinct name t → 0 < count name q t → (front : List ℕ) × IsFront after t q front

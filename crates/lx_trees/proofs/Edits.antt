@@ -38,7 +38,8 @@ module _ {A : Type 0} (name : A → ℕ) where
   total-among_roots k new nil = omega arith
   total-among_roots k new (tree l below rest) = grind (arith, total-among_roots k new rest, total-joined new (tree l below rest))
 
-  pub spot-among_roots : (k : ℕ) (new f : Trees A) (q : ℕ) → count name q new + count name q f < 2 → spot name (among_roots name k new f) q ≡ option_or (spot name new q) (spot name f q)
+  pub spot-among_roots : (k : ℕ) (new f : Trees A) (q : ℕ) → count name q new + count name q f < 2
+      → spot name (among_roots name k new f) q ≡ option_or (spot name new q) (spot name f q)
   spot-among_roots k new nil q once = sym (option_or-None (spot name new q))
   spot-among_roots k new (tree l below rest) q once =
       grind (arith, spot-among_roots k new rest q, spot_below-joined name None new (tree l below rest) q, spot_below-absent name None new q, spot_below-absent name (Some (name l)) below q)
@@ -55,7 +56,8 @@ module _ {A : Type 0} (name : A → ℕ) where
   pub outside_once : (p k : ℕ) (f : Trees A) → IsOrdered name f → has name p f ≡ true → is_within name f k p ≡ false → count name p (without name k f) ≡ 1
   outside_once p k f h there outside = grind (arith, h.once p, count-without-alone name p k f)
 
-  pub count-put_in : (q p : ℕ) (before : Option ℕ) (k : ℕ) (f : Trees A) → IsOrdered name f → has name p f ≡ true → is_within name f k p ≡ false → count name q (put_in name p before k f) ≡ count name q f
+  pub count-put_in : (q p : ℕ) (before : Option ℕ) (k : ℕ) (f : Trees A) → IsOrdered name f → has name p f ≡ true → is_within name f k p ≡ false
+      → count name q (put_in name p before k f) ≡ count name q f
   unfolding put_in
   count-put_in q p before k f h there outside =
       omega (arith, count-put_below name q p before (alone name k f) (without name k f) (outside_once p k f h there outside), count-without-alone name q k f)
@@ -68,7 +70,8 @@ module _ {A : Type 0} (name : A → ℕ) where
   unfolding take_out
   total-take_out k f = omega (arith, total-among_roots k (alone name k f) (without name k f), total-without-alone name k f)
 
-  pub total-put_in : (p : ℕ) (before : Option ℕ) (k : ℕ) (f : Trees A) → IsOrdered name f → has name p f ≡ true → is_within name f k p ≡ false → total (put_in name p before k f) ≡ total f
+  pub total-put_in : (p : ℕ) (before : Option ℕ) (k : ℕ) (f : Trees A) → IsOrdered name f → has name p f ≡ true → is_within name f k p ≡ false
+      → total (put_in name p before k f) ≡ total f
   unfolding put_in
   total-put_in p before k f h there outside =
       omega (arith, total-put_below name p before (alone name k f) (without name k f) (outside_once p k f h there outside), total-without-alone name k f)
@@ -82,7 +85,8 @@ module _ {A : Type 0} (name : A → ℕ) where
   pub spot-with_new : (l : A) (f : Trees A) (q : ℕ) → IsOrdered name f → has name (name l) f ≡ false →
       spot name (with_new name l f) q ≡ cond (eqb q (name l)) (Some (record { label = l; parent = None; children = [] })) (spot name f q)
   unfolding with_new
-  spot-with_new l f q h free = grind (arith, h.once q, spot-among_roots (name l) (tree l nil nil) f q, eqb_tells q (name l), eqb_tells (name l) q, spot_below-absent name None f q)
+  spot-with_new l f q h free =
+      grind (arith, h.once q, spot-among_roots (name l) (tree l nil nil) f q, eqb_tells q (name l), eqb_tells (name l) q, spot_below-absent name None f q)
 
   -- what is outside the tree of k isn't k
   left_taken : (k : ℕ) (f : Trees A) (q : ℕ) (s : Spot A) → count name q (alone name k f) ≡ 0 → spot name f q ≡ Some s → left_by k s ≡ taken k q s
@@ -91,7 +95,8 @@ module _ {A : Type 0} (name : A → ℕ) where
   pub spot-take_out : (k : ℕ) (f : Trees A) (q : ℕ) → IsOrdered name f → spot name (take_out name k f) q ≡ option_map (taken k q) (spot name f q)
   unfolding take_out
   spot-take_out k f q h =
-      let split : spot name (among_roots name k (alone name k f) (without name k f)) q ≡ option_or (spot name (alone name k f) q) (spot name (without name k f) q) =
+      let split : spot name (among_roots name k (alone name k f) (without name k f)) q
+      ≡ option_or (spot name (alone name k f) q) (spot name (without name k f) q) =
       spot-among_roots k (alone name k f) (without name k f) q (omega (arith, h.once q, count-without-alone name q k f)) in
       elim (cases_lt 0 (count name q (alone name k f))) [
         | inl inside ↦
@@ -109,43 +114,51 @@ module _ {A : Type 0} (name : A → ℕ) where
       ]
 
   -- a name without a parent is nobody's child
-  pub nobodys_child : (f : Trees A) (q k : ℕ) (s : Spot A) → IsOrdered name f → parent_of name f k ≡ None → spot name f q ≡ Some s → names_without k s.children ≡ s.children
+  pub nobodys_child : (f : Trees A) (q k : ℕ) (s : Spot A) → IsOrdered name f → parent_of name f k ≡ None → spot name f q ≡ Some s
+      → names_without k s.children ≡ s.children
   nobodys_child f q k s h detached e =
       names_without-absent_list k s.children (grind (arith, detached, e, is_among-children name None f k q h.once refl))
 
-  inside_placed : (p : ℕ) (before : Option ℕ) (k : ℕ) (f : Trees A) (q : ℕ) (s : Spot A) → IsOrdered name f → CanPut name p k f → 0 < count name q (alone name k f) → spot name f q ≡ Some s →
+  inside_placed : (p : ℕ) (before : Option ℕ) (k : ℕ) (f : Trees A) (q : ℕ) (s : Spot A) → IsOrdered name f → CanPut name p k f
+      → 0 < count name q (alone name k f) → spot name f q ≡ Some s →
       moved (Some p) k q s ≡ placed p before k q s
   inside_placed p before k f q s h c inside e = grind (arith, eqb_tells q p, c.outside, nobodys_child f q k s h c.detached e)
 
-  outside_placed : (p : ℕ) (before : Option ℕ) (k : ℕ) (f : Trees A) (q : ℕ) (s : Spot A) → IsOrdered name f → CanPut name p k f → count name q (alone name k f) ≡ 0 → spot name f q ≡ Some s →
+  outside_placed : (p : ℕ) (before : Option ℕ) (k : ℕ) (f : Trees A) (q : ℕ) (s : Spot A) → IsOrdered name f → CanPut name p k f
+      → count name q (alone name k f) ≡ 0 → spot name f q ≡ Some s →
       joined_by p before (k ∷ []) q (left_by k s) ≡ placed p before k q s
   outside_placed p before k f q s h c gone e =
       grind (arith, eqb_tells q k, count-alone_self name k f, spot_below-absent name None f q, nobodys_child f q k s h c.detached e)
 
-  pub spot-put_in : (p : ℕ) (before : Option ℕ) (k : ℕ) (f : Trees A) (q : ℕ) → IsOrdered name f → CanPut name p k f → spot name (put_in name p before k f) q ≡ option_map (placed p before k q) (spot name f q)
+  pub spot-put_in : (p : ℕ) (before : Option ℕ) (k : ℕ) (f : Trees A) (q : ℕ) → IsOrdered name f → CanPut name p k f
+      → spot name (put_in name p before k f) q ≡ option_map (placed p before k q) (spot name f q)
   unfolding put_in
   spot-put_in p before k f q h c =
       let one : count name k f ≡ 1 = grind (arith, h.once k, c.there) in
       let there : count name p (without name k f) ≡ 1 = outside_once p k f h c.parent c.outside in
       let first : names name (alone name k f) ≡ k ∷ [] = names-alone name k f one in
-      let split : spot_below name None (put_below name p before (alone name k f) (without name k f)) q ≡ option_or (spot_below name (Some p) (alone name k f) q) (option_map (joined_by p before (k ∷ []) q) (spot name (without name k f) q)) =
+      let split : spot_below name None (put_below name p before (alone name k f) (without name k f)) q
+      ≡ option_or (spot_below name (Some p) (alone name k f) q) (option_map (joined_by p before (k ∷ []) q) (spot name (without name k f) q)) =
       spot_below-put_below name None p before (alone name k f) (without name k f) q there (omega (arith, h.once q, count-without-alone name q k f))
       ∙ ap (λ ks. option_or (spot_below name (Some p) (alone name k f) q) (option_map (joined_by p before ks q) (spot name (without name k f) q))) first in
       elim (cases_lt 0 (count name q (alone name k f))) [
         | inl inside ↦
             let gone : count name q (without name k f) ≡ 0 = omega (arith, h.once q, count-without-alone name q k f) in
             split
-            ∙ ap (λ o. option_or (spot_below name (Some p) (alone name k f) q) (option_map (joined_by p before (k ∷ []) q) o)) (spot_below-absent name None (without name k f) q gone)
+            ∙ ap (λ o. option_or (spot_below name (Some p) (alone name k f) q) (option_map (joined_by p before (k ∷ []) q) o))
+            (spot_below-absent name None (without name k f) q gone)
             ∙ option_or-None (spot_below name (Some p) (alone name k f) q)
             ∙ spot_below-alone name None (Some p) k f q (h.once k) gone
             ∙ option_map-agree (moved (Some p) k q) (placed p before k q) (spot name f q) (λ s e. inside_placed p before k f q s h c inside e)
         | inr outside ↦
             let gone : count name q (alone name k f) ≡ 0 = omega arith in
             split
-            ∙ ap (λ o. option_or o (option_map (joined_by p before (k ∷ []) q) (spot name (without name k f) q))) (spot_below-absent name (Some p) (alone name k f) q gone)
+            ∙ ap (λ o. option_or o (option_map (joined_by p before (k ∷ []) q) (spot name (without name k f) q)))
+            (spot_below-absent name (Some p) (alone name k f) q gone)
             ∙ ap (option_map (joined_by p before (k ∷ []) q)) (spot_below-without name None k f q gone)
             ∙ option_map-map (joined_by p before (k ∷ []) q) (left_by k) (spot name f q)
-            ∙ option_map-agree (λ s. joined_by p before (k ∷ []) q (left_by k s)) (placed p before k q) (spot name f q) (λ s e. outside_placed p before k f q s h c gone e)
+            ∙ option_map-agree (λ s. joined_by p before (k ∷ []) q (left_by k s)) (placed p before k q) (spot name f q)
+            (λ s e. outside_placed p before k f q s h c gone e)
       ]
 
   pub has-root : (f : Trees A) → IsOrdered name f → has name 0 f ≡ true
@@ -160,7 +173,8 @@ module _ {A : Type 0} (name : A → ℕ) where
 
   root_moved : (f : Trees A) (q : ℕ) (s : Spot A) → IsOrdered name f → spot name f q ≡ Some s → moved None 0 q s ≡ s
   root_moved f q s h e =
-      same_spot s (cond (eqb q 0) None s.parent) (names_without 0 s.children) (grind (arith, eqb_tells q 0, parent_of-root f h)) (nobodys_child f q 0 s h (parent_of-root f h) e)
+      same_spot s (cond (eqb q 0) None s.parent) (names_without 0 s.children) (grind (arith, eqb_tells q 0, parent_of-root f h))
+      (nobodys_child f q 0 s h (parent_of-root f h) e)
 
   -- the root's tree alone has each attached name where it was
   pub spot-alone_root : (f : Trees A) (q : ℕ) → IsOrdered name f → spot name (alone name 0 f) q ≡ cond (is_attached name f q) (spot name f q) None
@@ -181,14 +195,18 @@ module _ {A : Type 0} (name : A → ℕ) where
   spot-mapped g keeps f q = spot_below-mapped name g keeps None f q
 
   -- what is in no tree of k, once that tree is gone
-  pub spot-without : (k : ℕ) (f : Trees A) (q : ℕ) → IsOrdered name f → parent_of name f k ≡ None → spot name (without name k f) q ≡ cond (is_within name f k q) None (spot name f q)
+  pub spot-without : (k : ℕ) (f : Trees A) (q : ℕ) → IsOrdered name f → parent_of name f k ≡ None
+      → spot name (without name k f) q ≡ cond (is_within name f k q) None (spot name f q)
   spot-without k f q h top =
       elim (cases_lt 0 (count name q (alone name k f))) [
         | inl inside ↦ grind (arith, h.once q, count-without-alone name q k f, spot_below-absent name None (without name k f) q)
         | inr outside ↦
             let gone : count name q (alone name k f) ≡ 0 = omega arith in
             let rest : spot name (without name k f) q ≡ option_map (left_by k) (spot name f q) = spot_below-without name None k f q gone in
-            let same : option_map (left_by k) (spot name f q) ≡ spot name f q = option_map-agree (left_by k) (λ s. s) (spot name f q) (λ s e. same_spot s s.parent (names_without k s.children) refl (nobodys_child f q k s h top e)) ∙ option_map-same (λ (s : Spot A). s) (λ s. refl) (spot name f q) in
+            let same : option_map (left_by k) (spot name f q) ≡ spot name f q =
+            option_map-agree (left_by k) (λ s. s) (spot name f q)
+            (λ s e. same_spot s s.parent (names_without k s.children) refl (nobodys_child f q k s h top e))
+            ∙ option_map-same (λ (s : Spot A). s) (λ s. refl) (spot name f q) in
             let no : is_within name f k q ≡ false = grind (arith, gone) in
             rw (no) (rest ∙ same)
       ]

@@ -26,7 +26,8 @@ order_between-next (Some i) None = refl
 order_between-next (Some i) (Some j) = grind (arith, nat_tests)
 
 -- an index after the first is greater, whichever it is
-first_before : (o r : Option ℕ) → is_some o ≡ is_some r → order_between (Some 0) (option_map (λ i. i + 1) o) ≡ order_between (Some 0) (option_map (λ i. i + 1) r)
+first_before : (o r : Option ℕ) → is_some o ≡ is_some r
+    → order_between (Some 0) (option_map (λ i. i + 1) o) ≡ order_between (Some 0) (option_map (λ i. i + 1) r)
 first_before None None e = refl
 first_before None (Some j) e = absurd (grind arith)
 first_before (Some i) None e = absurd (grind arith)
@@ -44,7 +45,8 @@ no_first None (Some j) e = (refl, refl)
 no_first (Some i) r e = absurd (grind arith)
 
 -- lists that begin alike and order the names after that alike
-same_first : (x : ℕ) (xs ys : List ℕ) (a b : ℕ) → is_among a xs ≡ is_among a ys → is_among b xs ≡ is_among b ys → order_between (index_in xs a) (index_in xs b) ≡ order_between (index_in ys a) (index_in ys b) →
+same_first : (x : ℕ) (xs ys : List ℕ) (a b : ℕ) → is_among a xs ≡ is_among a ys → is_among b xs ≡ is_among b ys
+    → order_between (index_in xs a) (index_in xs b) ≡ order_between (index_in ys a) (index_in ys b) →
     order_between (index_in (x ∷ xs) a) (index_in (x ∷ xs) b) ≡ order_between (index_in (x ∷ ys) a) (index_in (x ∷ ys) b)
 same_first x xs ys a b there_a there_b same =
     grind (arith, eqb_tells x a, eqb_tells x b, is_some-index_in xs a, is_some-index_in ys a, is_some-index_in xs b, is_some-index_in ys b, first_before (index_in xs b) (index_in ys b), first_after (index_in xs a) (index_in ys a), order_between-next (index_in xs a) (index_in xs b), order_between-next (index_in ys a) (index_in ys b))
@@ -53,21 +55,27 @@ is_among-filter : (keep : ℕ → Bool) (xs : List ℕ) (q : ℕ) → is_among q
 is_among-filter keep [] q = grind arith
 is_among-filter keep (x ∷ xs) q = grind (arith, eqb_tells x q, is_among-filter keep xs q)
 
-order_kept : (keep : ℕ → Bool) (xs : List ℕ) (a b : ℕ) → keep a ≡ true → keep b ≡ true → order_between (index_in (filter keep xs) a) (index_in (filter keep xs) b) ≡ order_between (index_in xs a) (index_in xs b)
+order_kept : (keep : ℕ → Bool) (xs : List ℕ) (a b : ℕ) → keep a ≡ true → keep b ≡ true
+    → order_between (index_in (filter keep xs) a) (index_in (filter keep xs) b) ≡ order_between (index_in xs a) (index_in xs b)
 order_kept keep [] a b kept_a kept_b = refl
 order_kept keep (x ∷ xs) a b kept_a kept_b =
     elim (cases_Bool (keep x)) [
-      | inl kept ↦ rw kept (same_first x (filter keep xs) xs a b (is_among-filter keep xs a ∙ rw kept_a refl) (is_among-filter keep xs b ∙ rw kept_b refl) (order_kept keep xs a b kept_a kept_b))
-      | inr gone ↦ grind (arith, gone, kept_a, kept_b, eqb_tells x a, eqb_tells x b, order_kept keep xs a b kept_a kept_b, order_between-next (index_in xs a) (index_in xs b))
+      | inl kept ↦
+          rw kept (same_first x (filter keep xs) xs a b (is_among-filter keep xs a ∙ rw kept_a refl) (is_among-filter keep xs b ∙ rw kept_b refl)
+          (order_kept keep xs a b kept_a kept_b))
+      | inr gone ↦
+          grind (arith, gone, kept_a, kept_b, eqb_tells x a, eqb_tells x b, order_kept keep xs a b kept_a kept_b, order_between-next (index_in xs a) (index_in xs b))
     ]
 
 -- names that are kept keep their order, and one that isn't has no place
-pub order-filter : (keep : ℕ → Bool) (xs : List ℕ) (a b : ℕ) → order_between (index_in (filter keep xs) a) (index_in (filter keep xs) b) ≡ cond (keep a && keep b) (order_between (index_in xs a) (index_in xs b)) None
+pub order-filter : (keep : ℕ → Bool) (xs : List ℕ) (a b : ℕ)
+    → order_between (index_in (filter keep xs) a) (index_in (filter keep xs) b) ≡ cond (keep a && keep b) (order_between (index_in xs a) (index_in xs b)) None
 order-filter keep xs a b =
     grind (arith, cases_Bool (keep a), cases_Bool (keep b), order_kept keep xs a b, is_some-index_in (filter keep xs) a, is_some-index_in (filter keep xs) b, is_among-filter keep xs a, is_among-filter keep xs b, no_first (index_in (filter keep xs) a) (index_in (filter keep xs) b), no_first (index_in (filter keep xs) b) (index_in (filter keep xs) a))
 
 -- so do others where new names come
-pub order-names_with : (before : Option ℕ) (new xs : List ℕ) (a b : ℕ) → is_among a new ≡ false → is_among b new ≡ false → order_between (index_in (names_with before new xs) a) (index_in (names_with before new xs) b) ≡ order_between (index_in xs a) (index_in xs b)
+pub order-names_with : (before : Option ℕ) (new xs : List ℕ) (a b : ℕ) → is_among a new ≡ false → is_among b new ≡ false
+    → order_between (index_in (names_with before new xs) a) (index_in (names_with before new xs) b) ≡ order_between (index_in xs a) (index_in xs b)
 order-names_with before new [] a b far_a far_b = grind (arith, no_first (index_in new a) (index_in new b), is_some-index_in new a)
 order-names_with before new (x ∷ xs) a b far_a far_b =
     elim (cases_Bool (is_named before x)) [
@@ -75,11 +83,16 @@ order-names_with before new (x ∷ xs) a b far_a far_b =
           let at_a : index_in (new ++ x ∷ xs) a ≡ option_map (λ i. length new + i) (index_in (x ∷ xs) a) = index_in-append new (x ∷ xs) a ∙ rw far_a refl in
           let at_b : index_in (new ++ x ∷ xs) b ≡ option_map (λ i. length new + i) (index_in (x ∷ xs) b) = index_in-append new (x ∷ xs) b ∙ rw far_b refl in
           rw (here, at_a, at_b) (order_between-later (length new) (index_in (x ∷ xs) a) (index_in (x ∷ xs) b))
-      | inr other ↦ rw other (same_first x (names_with before new xs) xs a b (is_among-names_with before new xs a ∙ rw far_a refl) (is_among-names_with before new xs b ∙ rw far_b refl) (order-names_with before new xs a b far_a far_b))
+      | inr other ↦
+          rw other
+          (same_first x (names_with before new xs) xs a b (is_among-names_with before new xs a ∙ rw far_a refl)
+          (is_among-names_with before new xs b ∙ rw far_b refl) (order-names_with before new xs a b far_a far_b))
     ]
 
 -- the new names keep the order that they had
-pub order-names_with_new : (before : Option ℕ) (new xs : List ℕ) (a b : ℕ) → is_among a new ≡ true → is_among b new ≡ true → is_among a xs ≡ false → is_among b xs ≡ false → order_between (index_in (names_with before new xs) a) (index_in (names_with before new xs) b) ≡ order_between (index_in new a) (index_in new b)
+pub order-names_with_new : (before : Option ℕ) (new xs : List ℕ) (a b : ℕ) → is_among a new ≡ true → is_among b new ≡ true → is_among a xs ≡ false
+    → is_among b xs ≡ false
+    → order_between (index_in (names_with before new xs) a) (index_in (names_with before new xs) b) ≡ order_between (index_in new a) (index_in new b)
 order-names_with_new before new [] a b there_a there_b far_a far_b = refl
 order-names_with_new before new (x ∷ xs) a b there_a there_b far_a far_b =
     grind (arith, eqb_tells x a, eqb_tells x b, index_in-append new (x ∷ xs) a, index_in-append new (x ∷ xs) b, order-names_with_new before new xs a b, order_between-next (index_in (names_with before new xs) a) (index_in (names_with before new xs) b))
@@ -97,12 +110,14 @@ order_between-reversed (Some i) (Some j) = ap (λ c. Some c) (reversed i j)
 
 -- ---- one in the middle of a list, and one ahead of that or after it
 
-order_places : (o r : Option ℕ) (n : ℕ) → is_some o ≡ true → ((i : ℕ) → o ≡ Some i → i < n) → order_between o (option_map (λ j. n + j) r) ≡ cond (is_some r) (Some Less) None
+order_places : (o r : Option ℕ) (n : ℕ) → is_some o ≡ true → ((i : ℕ) → o ≡ Some i → i < n)
+    → order_between o (option_map (λ j. n + j) r) ≡ cond (is_some r) (Some Less) None
 order_places None r n e short = absurd (grind (arith, e))
 order_places (Some i) None n e short = refl
 order_places (Some i) (Some j) n e short = let l : i < n = short i refl in grind (arith, l, nat_tests)
 
-order_ahead : (mid rest : List ℕ) (a b : ℕ) → is_among a mid ≡ true → is_among b mid ≡ false → order_between (index_in (mid ++ rest) a) (index_in (mid ++ rest) b) ≡ cond (is_among b rest) (Some Less) None
+order_ahead : (mid rest : List ℕ) (a b : ℕ) → is_among a mid ≡ true → is_among b mid ≡ false
+    → order_between (index_in (mid ++ rest) a) (index_in (mid ++ rest) b) ≡ cond (is_among b rest) (Some Less) None
 order_ahead mid rest a b in_a far_b =
     let at_a : index_in (mid ++ rest) a ≡ index_in mid a = index_in-append mid rest a ∙ rw in_a refl in
     let at_b : index_in (mid ++ rest) b ≡ option_map (λ i. length mid + i) (index_in rest b) = index_in-append mid rest b ∙ rw far_b refl in
@@ -118,7 +133,8 @@ order_first (Some i) = grind (arith, nat_tests)
 abbrev pub from_middle : List ℕ → List ℕ → ℕ → Option Ordering
 from_middle front rest q = cond (is_among q front) (Some Greater) (cond (is_among q rest) (Some Less) None)
 
-pub order_middle : (front mid rest : List ℕ) (a b : ℕ) → is_among a front ≡ false → is_among a mid ≡ true → is_among b mid ≡ false → order_between (index_in (front ++ (mid ++ rest)) a) (index_in (front ++ (mid ++ rest)) b) ≡ from_middle front rest b
+pub order_middle : (front mid rest : List ℕ) (a b : ℕ) → is_among a front ≡ false → is_among a mid ≡ true → is_among b mid ≡ false
+    → order_between (index_in (front ++ (mid ++ rest)) a) (index_in (front ++ (mid ++ rest)) b) ≡ from_middle front rest b
 order_middle [] mid rest a b far_a in_a far_b = order_ahead mid rest a b in_a far_b
 order_middle (x ∷ front) mid rest a b far_a in_a far_b =
     grind (arith, far_a, in_a, far_b, eqb_tells x a, eqb_tells x b, order_middle front mid rest a b, order_between-next (index_in (front ++ (mid ++ rest)) a) (index_in (front ++ (mid ++ rest)) b), order_first (index_in (front ++ (mid ++ rest)) a), is_some-index_in (front ++ (mid ++ rest)) a, is_among-append a front (mid ++ rest), is_among-append a mid rest)
@@ -161,7 +177,8 @@ names_with-between new (x ∷ front) (y ∷ rest) u =
 
 -- a new one, and another: as the one before which it comes is to that, which itself it is before
 pub order-come_before : (xs new : List ℕ) (c a b : ℕ) → is_among c xs ≡ true → is_among a new ≡ true → is_among a xs ≡ false → is_among b new ≡ false →
-    order_between (index_in (names_with (Some c) new xs) a) (index_in (names_with (Some c) new xs) b) ≡ cond (eqb b c) (Some Less) (order_between (index_in xs c) (index_in xs b))
+    order_between (index_in (names_with (Some c) new xs) a) (index_in (names_with (Some c) new xs) b)
+    ≡ cond (eqb b c) (Some Less) (order_between (index_in xs c) (index_in xs b))
 order-come_before xs new c a b there in_a far_a far_b =
     let cut = cut_at c new xs there in
     let front : List ℕ = cut.0 in
@@ -181,15 +198,19 @@ front_apart : (xs ys : List ℕ) (q : ℕ) → NoRepeats (xs ++ ys) → is_among
 front_apart [] ys q once e = refl
 front_apart (x ∷ xs) ys q once e = grind (arith, once.0, e, eqb_tells x q, is_among-append x xs ys, front_apart xs ys q once.1 e)
 
-come_behind : (front own rest new : List ℕ) (p a b : ℕ) → NoRepeats (front ++ (own ++ rest)) → is_among p own ≡ true → is_among a new ≡ true → is_among a (front ++ (own ++ rest)) ≡ false → is_among b new ≡ false →
+come_behind : (front own rest new : List ℕ) (p a b : ℕ) → NoRepeats (front ++ (own ++ rest)) → is_among p own ≡ true → is_among a new ≡ true
+    → is_among a (front ++ (own ++ rest)) ≡ false → is_among b new ≡ false →
     order_between (index_in (names_with (first_of rest) new (front ++ (own ++ rest))) a) (index_in (names_with (first_of rest) new (front ++ (own ++ rest))) b)
     ≡ cond (is_among b own) (Some Greater) (order_between (index_in (front ++ (own ++ rest)) p) (index_in (front ++ (own ++ rest)) b))
 come_behind front own rest new p a b once in_p in_a far_a far_b =
     let far_p : is_among p front ≡ false = front_apart front (own ++ rest) p once (grind (arith, in_p, is_among-append p own rest)) in
-    let ahead : is_among a (front ++ own) ≡ false = grind (arith, far_a, is_among-append a front own, is_among-append a front (own ++ rest), is_among-append a own rest) in
+    let ahead : is_among a (front ++ own) ≡ false =
+    grind (arith, far_a, is_among-append a front own, is_among-append a front (own ++ rest), is_among-append a own rest) in
     let come : names_with (first_of rest) new (front ++ (own ++ rest)) ≡ (front ++ own) ++ (new ++ rest) =
-    ap (names_with (first_of rest) new) (sym (append_assoc front own rest)) ∙ names_with-between new (front ++ own) rest (subst NoRepeats (sym (append_assoc front own rest)) once) in
-    let new_one : order_between (index_in (names_with (first_of rest) new (front ++ (own ++ rest))) a) (index_in (names_with (first_of rest) new (front ++ (own ++ rest))) b) ≡ from_middle (front ++ own) rest b =
+    ap (names_with (first_of rest) new) (sym (append_assoc front own rest))
+    ∙ names_with-between new (front ++ own) rest (subst NoRepeats (sym (append_assoc front own rest)) once) in
+    let new_one : order_between (index_in (names_with (first_of rest) new (front ++ (own ++ rest))) a)
+    (index_in (names_with (first_of rest) new (front ++ (own ++ rest))) b) ≡ from_middle (front ++ own) rest b =
     ap (λ ks. order_between (index_in ks a) (index_in ks b)) come ∙ order_middle (front ++ own) new rest a b ahead in_a far_b in
     elim (cases_Bool (is_among b own)) [
       | inl inside ↦ rw inside (new_one ∙ grind (arith, inside, is_among-append b front own))
@@ -197,8 +218,12 @@ come_behind front own rest new p a b once in_p in_a far_a far_b =
     ]
 
 -- one that comes right after others, and one that is elsewhere: after those, and else as each of those is to it
-pub order-come_behind : (xs front own rest new : List ℕ) (p a b : ℕ) → xs ≡ front ++ (own ++ rest) → NoRepeats xs → is_among p own ≡ true → is_among a new ≡ true → is_among a xs ≡ false → is_among b new ≡ false →
-    order_between (index_in (names_with (first_of rest) new xs) a) (index_in (names_with (first_of rest) new xs) b) ≡ cond (is_among b own) (Some Greater) (order_between (index_in xs p) (index_in xs b))
+pub order-come_behind : (xs front own rest new : List ℕ) (p a b : ℕ) → xs ≡ front ++ (own ++ rest) → NoRepeats xs → is_among p own ≡ true
+    → is_among a new ≡ true → is_among a xs ≡ false → is_among b new ≡ false →
+    order_between (index_in (names_with (first_of rest) new xs) a) (index_in (names_with (first_of rest) new xs) b)
+    ≡ cond (is_among b own) (Some Greater) (order_between (index_in xs p) (index_in xs b))
 order-come_behind xs front own rest new p a b split once in_p in_a far_a far_b =
-    subst (λ ks. NoRepeats ks → is_among a ks ≡ false → order_between (index_in (names_with (first_of rest) new ks) a) (index_in (names_with (first_of rest) new ks) b) ≡ cond (is_among b own) (Some Greater) (order_between (index_in ks p) (index_in ks b)))
+    subst (λ ks. NoRepeats ks → is_among a ks ≡ false
+    → order_between (index_in (names_with (first_of rest) new ks) a) (index_in (names_with (first_of rest) new ks) b)
+    ≡ cond (is_among b own) (Some Greater) (order_between (index_in ks p) (index_in ks b)))
     (sym split) (λ single apart. come_behind front own rest new p a b single in_p in_a apart far_b) once far_a

@@ -20,7 +20,8 @@ few : (n : ℕ) (xs : List ℕ) → NoRepeats xs → ((q : ℕ) → is_among q x
 few zero [] u h = omega arith
 few zero (x ∷ xs) u h = absurd (omega (arith, h x (grind (arith, eqb_tells x x))))
 few (suc n) xs u h =
-    let fewer : length (names_without n xs) ≤ n = few n (names_without n xs) (NoRepeats-names_without n xs u) (λ q among. grind (arith, among, is_among-names_without n q xs, h q, eqb_tells q n)) in
+    let fewer : length (names_without n xs) ≤ n =
+    few n (names_without n xs) (NoRepeats-names_without n xs u) (λ q among. grind (arith, among, is_among-names_without n q xs, h q, eqb_tells q n)) in
     grind (arith, fewer, length-names_without n xs u)
 
 module _ {A : Type 0} (name : A → ℕ) where

@@ -33,7 +33,8 @@ module _ {A : Type 0} (name : A → ℕ) where
   pub parent_of-self : (f : Trees A) (q : ℕ) → IsOrdered name f → is_named (parent_of name f q) q ≡ false
   parent_of-self f q h = sym (is_among-children_of f q q h) ∙ is_among-children_self name None f q h.once
 
-  pub alone-spot : (f : Trees A) (k : ℕ) (s : Spot A) → IsOrdered name f → spot name f k ≡ Some s → alone name k f ≡ tree s.label (gathered name f s.children) nil
+  pub alone-spot : (f : Trees A) (k : ℕ) (s : Spot A) → IsOrdered name f → spot name f k ≡ Some s
+      → alone name k f ≡ tree s.label (gathered name f s.children) nil
   alone-spot f k s h e = alone-spot_below name None f k s h.once e
 
   -- all are the trees of the first names
@@ -46,10 +47,12 @@ module _ {A : Type 0} (name : A → ℕ) where
       same_length ks (named.preorder name f) unrepeated (NoRepeats-preorder name f h.once) (λ q. same q ∙ sym (is_among-preorder name q f))
       ∙ length-preorder name f
 
-  pub parent_of-with_new : (l : A) (f : Trees A) (q : ℕ) → IsOrdered name f → has name (name l) f ≡ false → parent_of name (with_new name l f) q ≡ parent_of name f q
+  pub parent_of-with_new : (l : A) (f : Trees A) (q : ℕ) → IsOrdered name f → has name (name l) f ≡ false
+      → parent_of name (with_new name l f) q ≡ parent_of name f q
   parent_of-with_new l f q h free = grind (arith, spot-with_new name l f q h free, eqb_tells q (name l), is_some-spot name f q)
 
-  pub children_of-with_new : (l : A) (f : Trees A) (q : ℕ) → IsOrdered name f → has name (name l) f ≡ false → children_of name (with_new name l f) q ≡ children_of name f q
+  pub children_of-with_new : (l : A) (f : Trees A) (q : ℕ) → IsOrdered name f → has name (name l) f ≡ false
+      → children_of name (with_new name l f) q ≡ children_of name f q
   children_of-with_new l f q h free = grind (arith, spot-with_new name l f q h free, eqb_tells q (name l), is_some-spot name f q)
 
   pub parent_of-take_out : (k : ℕ) (f : Trees A) (q : ℕ) → IsOrdered name f → parent_of name (take_out name k f) q ≡ cond (eqb q k) None (parent_of name f q)
@@ -58,8 +61,10 @@ module _ {A : Type 0} (name : A → ℕ) where
   pub children_of-take_out : (k : ℕ) (f : Trees A) (q : ℕ) → IsOrdered name f → children_of name (take_out name k f) q ≡ names_without k (children_of name f q)
   children_of-take_out k f q h = grind (arith, spot-take_out name k f q h)
 
-  pub parent_of-put_in : (p : ℕ) (before : Option ℕ) (k : ℕ) (f : Trees A) (q : ℕ) → IsOrdered name f → CanPut name p k f → parent_of name (put_in name p before k f) q ≡ cond (eqb q k) (Some p) (parent_of name f q)
+  pub parent_of-put_in : (p : ℕ) (before : Option ℕ) (k : ℕ) (f : Trees A) (q : ℕ) → IsOrdered name f → CanPut name p k f
+      → parent_of name (put_in name p before k f) q ≡ cond (eqb q k) (Some p) (parent_of name f q)
   parent_of-put_in p before k f q h c = grind (arith, spot-put_in name p before k f q h c, eqb_tells q k, c.there, is_some-spot name f k)
 
-  pub children_of-put_in : (p : ℕ) (before : Option ℕ) (k : ℕ) (f : Trees A) (q : ℕ) → IsOrdered name f → CanPut name p k f → children_of name (put_in name p before k f) q ≡ cond (eqb q p) (names_with before (k ∷ []) (children_of name f q)) (children_of name f q)
+  pub children_of-put_in : (p : ℕ) (before : Option ℕ) (k : ℕ) (f : Trees A) (q : ℕ) → IsOrdered name f → CanPut name p k f
+      → children_of name (put_in name p before k f) q ≡ cond (eqb q p) (names_with before (k ∷ []) (children_of name f q)) (children_of name f q)
   children_of-put_in p before k f q h c = grind (arith, spot-put_in name p before k f q h c, eqb_tells q p, c.parent, is_some-spot name f p)

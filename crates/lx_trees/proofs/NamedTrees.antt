@@ -49,7 +49,8 @@ module _ {A : Type 0} (name : A → ℕ) where
   alone-joined k nil t = refl
   alone-joined k (tree a below rest) t = grind (arith, alone-joined k rest t, joined-assoc {A = A})
 
-  pub put_below-joined : (p : ℕ) (before : Option ℕ) (new s t : Trees A) → put_below name p before new (joined s t) ≡ joined (put_below name p before new s) (put_below name p before new t)
+  pub put_below-joined : (p : ℕ) (before : Option ℕ) (new s t : Trees A)
+      → put_below name p before new (joined s t) ≡ joined (put_below name p before new s) (put_below name p before new t)
   put_below-joined p before new nil t = refl
   put_below-joined p before new (tree a below rest) t =
       ap (tree a (cond (eqb (name a) p) (inserted name before new below) (put_below name p before new below))) (put_below-joined p before new rest t)
@@ -96,7 +97,8 @@ module _ {A : Type 0} (name : A → ℕ) where
   count-inserted q before new (tree a below rest) =
       grind (arith, count-inserted q before new rest, count-joined q new (tree a below rest))
 
-  pub count-put_below : (q p : ℕ) (before : Option ℕ) (new t : Trees A) → count name p t ≡ 1 → count name q (put_below name p before new t) ≡ count name q new + count name q t
+  pub count-put_below : (q p : ℕ) (before : Option ℕ) (new t : Trees A) → count name p t ≡ 1
+      → count name q (put_below name p before new t) ≡ count name q new + count name q t
   count-put_below q p before new nil once = absurd (omega arith)
   count-put_below q p before new (tree a below rest) once =
       grind (arith, count-put_below q p before new below, count-put_below q p before new rest, count-inserted q before new below, put_below-absent p before new below, put_below-absent p before new rest)
@@ -105,7 +107,8 @@ module _ {A : Type 0} (name : A → ℕ) where
   count-mapped change kept q nil = refl
   count-mapped change kept q (tree a below rest) = rw (kept a, count-mapped change kept q below, count-mapped change kept q rest)
 
-  pub alone-mapped : (change : A → A) → ((a : A) → name (change a) ≡ name a) → (k : ℕ) (t : Trees A) → alone name k (mapped change t) ≡ mapped change (alone name k t)
+  pub alone-mapped : (change : A → A) → ((a : A) → name (change a) ≡ name a) → (k : ℕ) (t : Trees A)
+      → alone name k (mapped change t) ≡ mapped change (alone name k t)
   alone-mapped change kept k nil = refl
   alone-mapped change kept k (tree a below rest) =
       grind (arith, kept a, alone-mapped change kept k below, alone-mapped change kept k rest, mapped-joined change (alone name k below) (alone name k rest))
@@ -185,5 +188,6 @@ module _ {A : Type 0} (name : A → ℕ) where
   NoRepeats-preorder nil once = tt
   NoRepeats-preorder (tree a below rest) once = (
     grind (arith, once (name a), eqb_tells (name a) (name a), is_among-append (name a) (preorder name below) (preorder name rest), is_among-preorder (name a) below, is_among-preorder (name a) rest),
-    NoRepeats-append (preorder name below) (preorder name rest) (NoRepeats-preorder below (λ q. omega (arith, once q))) (NoRepeats-preorder rest (λ q. omega (arith, once q))) (λ q. grind (arith, once q, is_among-preorder q below, is_among-preorder q rest)),
+    NoRepeats-append (preorder name below) (preorder name rest) (NoRepeats-preorder below (λ q. omega (arith, once q))) (NoRepeats-preorder rest
+        (λ q. omega (arith, once q))) (λ q. grind (arith, once q, is_among-preorder q below, is_among-preorder q rest)),
   )

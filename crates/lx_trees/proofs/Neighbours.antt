@@ -19,7 +19,8 @@ module _ {A : Type 0} (name : A → ℕ) where
       let among : is_among n (children_of name f p) ≡ true = next_in-among (children_of name f p) q n (rw up at e) in
       grind (arith, among, is_among-children_of name f n p h, is_named_tells (parent_of name f n) p)
 
-  pub parent_of-previous : (f : Trees A) (q n p : ℕ) → IsOrdered name f → parent_of name f q ≡ Some p → previous_of name f q ≡ Some n → parent_of name f n ≡ Some p
+  pub parent_of-previous : (f : Trees A) (q n p : ℕ) → IsOrdered name f → parent_of name f q ≡ Some p → previous_of name f q ≡ Some n
+      → parent_of name f n ≡ Some p
   parent_of-previous f q n p h up e =
       let among : is_among n (children_of name f p) ≡ true = previous_from-among None (children_of name f p) q n (rw up at e) in
       grind (arith, among, is_among-children_of name f n p h, is_named_tells (parent_of name f n) p)
@@ -30,7 +31,8 @@ module _ {A : Type 0} (name : A → ℕ) where
     below None = tt
     below (Some p) = NoRepeats-children_of name f p h
 
-  pub siblings-agree : (f g : Trees A) (q : ℕ) → parent_of name g q ≡ parent_of name f q → ((p : ℕ) → parent_of name f q ≡ Some p → children_of name g p ≡ children_of name f p) → siblings name g q ≡ siblings name f q
+  pub siblings-agree : (f g : Trees A) (q : ℕ) → parent_of name g q ≡ parent_of name f q
+      → ((p : ℕ) → parent_of name f q ≡ Some p → children_of name g p ≡ children_of name f p) → siblings name g q ≡ siblings name f q
   siblings-agree f g q e same =
       elim (cases_option (parent_of name f q)) [
         | inl none ↦ rw (e, none)
@@ -41,10 +43,13 @@ module _ {A : Type 0} (name : A → ℕ) where
   pub place_behind-previous_of : (f : Trees A) (p b : ℕ) → parent_of name f b ≡ Some p → place_behind (Some b) (children_of name f p) ≡ previous_of name f b
   place_behind-previous_of f p b up = rw up
 
-  pub siblings-with_new : (l : A) (f : Trees A) (q : ℕ) → IsOrdered name f → has name (name l) f ≡ false → siblings name (with_new name l f) q ≡ siblings name f q
-  siblings-with_new l f q h free = siblings-agree f (with_new name l f) q (parent_of-with_new name l f q h free) (λ p up. children_of-with_new name l f p h free)
+  pub siblings-with_new : (l : A) (f : Trees A) (q : ℕ) → IsOrdered name f → has name (name l) f ≡ false
+      → siblings name (with_new name l f) q ≡ siblings name f q
+  siblings-with_new l f q h free =
+      siblings-agree f (with_new name l f) q (parent_of-with_new name l f q h free) (λ p up. children_of-with_new name l f p h free)
 
-  pub siblings-take_out : (k : ℕ) (f : Trees A) (q : ℕ) → IsOrdered name f → eqb q k ≡ false → siblings name (take_out name k f) q ≡ names_without k (siblings name f q)
+  pub siblings-take_out : (k : ℕ) (f : Trees A) (q : ℕ) → IsOrdered name f → eqb q k ≡ false
+      → siblings name (take_out name k f) q ≡ names_without k (siblings name f q)
   siblings-take_out k f q h d =
       elim (cases_option (parent_of name f q)) [
         | inl none ↦ rw (parent_of-take_out name k f q h, d, none)
@@ -56,15 +61,20 @@ module _ {A : Type 0} (name : A → ℕ) where
       let own : eqb k k ≡ true = grind (arith, eqb_tells k k) in
       rw (parent_of-take_out name k f k h, own)
 
-  pub siblings-put_in_self : (p : ℕ) (before : Option ℕ) (k : ℕ) (f : Trees A) → IsOrdered name f → CanPut name p k f → siblings name (put_in name p before k f) k ≡ names_with before (k ∷ []) (children_of name f p)
+  pub siblings-put_in_self : (p : ℕ) (before : Option ℕ) (k : ℕ) (f : Trees A) → IsOrdered name f → CanPut name p k f
+      → siblings name (put_in name p before k f) k ≡ names_with before (k ∷ []) (children_of name f p)
   siblings-put_in_self p before k f h c =
       let own : eqb k k ≡ true = grind (arith, eqb_tells k k) in
       let there : eqb p p ≡ true = grind (arith, eqb_tells p p) in
       rw (parent_of-put_in name p before k f k h c, own) (children_of-put_in name p before k f p h c ∙ rw there)
 
-  pub siblings-put_in : (p : ℕ) (before : Option ℕ) (k : ℕ) (f : Trees A) (q : ℕ) → IsOrdered name f → CanPut name p k f → eqb q k ≡ false → siblings name (put_in name p before k f) q ≡ cond (is_named (parent_of name f q) p) (names_with before (k ∷ []) (siblings name f q)) (siblings name f q)
+  pub siblings-put_in : (p : ℕ) (before : Option ℕ) (k : ℕ) (f : Trees A) (q : ℕ) → IsOrdered name f → CanPut name p k f → eqb q k ≡ false
+      → siblings name (put_in name p before k f) q ≡ cond (is_named (parent_of name f q) p) (names_with before (k ∷ []) (siblings name f q)) (siblings name f q)
   siblings-put_in p before k f q h c d =
       elim (cases_option (parent_of name f q)) [
         | inl none ↦ rw (parent_of-put_in name p before k f q h c, d, none)
-        | inr (r, some) ↦ rw (parent_of-put_in name p before k f q h c, d, some) (children_of-put_in name p before k f r h c ∙ ap (λ b. cond b (names_with before (k ∷ []) (children_of name f r)) (children_of name f r)) (eqb-comm r p))
+        | inr (r, some) ↦
+            rw (parent_of-put_in name p before k f q h c, d, some)
+            (children_of-put_in name p before k f r h c
+            ∙ ap (λ b. cond b (names_with before (k ∷ []) (children_of name f r)) (children_of name f r)) (eqb-comm r p))
       ]

@@ -60,8 +60,11 @@ same_rising low [] [] e f same = refl
 same_rising low [] (y ∷ ys) e f same = absurd (grind (arith, same y, eqb_tells y y))
 same_rising low (x ∷ xs) [] e f same = absurd (grind (arith, same x, eqb_tells x x))
 same_rising low (x ∷ xs) (y ∷ ys) e f same =
-    let firsts : x ≡ y = grind (arith, same x, same y, eqb_tells x x, eqb_tells y y, eqb_tells x y, eqb_tells y x, rises_from-absent x y xs, rises_from-absent y x ys) in
-    let rests : xs ≡ ys = same_rising x xs ys (grind arith) (grind arith) (λ q. grind (arith, firsts, same q, eqb_tells x q, eqb_tells y q, rises_from-absent x q xs, rises_from-absent y q ys)) in
+    let firsts : x ≡ y =
+    grind (arith, same x, same y, eqb_tells x x, eqb_tells y y, eqb_tells x y, eqb_tells y x, rises_from-absent x y xs, rises_from-absent y x ys) in
+    let rests : xs ≡ ys =
+    same_rising x xs ys (grind arith) (grind arith)
+    (λ q. grind (arith, firsts, same q, eqb_tells x q, eqb_tells y q, rises_from-absent x q xs, rises_from-absent y q ys)) in
     cc
 
 same_roots : (xs ys : List ℕ) → rises xs ≡ true → rises ys ≡ true → ((q : ℕ) → is_among q xs ≡ is_among q ys) → xs ≡ ys
@@ -69,7 +72,9 @@ same_roots [] ys e f same = absurd (grind arith)
 same_roots (x ∷ xs) [] e f same = absurd (grind arith)
 same_roots (x ∷ xs) (y ∷ ys) e f same =
     let firsts : x ≡ y = grind (arith, eqb_tells x 0, eqb_tells y 0) in
-    let rests : xs ≡ ys = same_rising 0 xs ys (grind arith) (grind arith) (λ q. grind (arith, firsts, same q, eqb_tells x q, eqb_tells x 0, rises_from-absent 0 q xs, rises_from-absent 0 q ys)) in
+    let rests : xs ≡ ys =
+    same_rising 0 xs ys (grind arith) (grind arith)
+    (λ q. grind (arith, firsts, same q, eqb_tells x q, eqb_tells x 0, rises_from-absent 0 q xs, rises_from-absent 0 q ys)) in
     cc
 
 module _ {A : Type 0} (name : A → ℕ) where
@@ -86,13 +91,16 @@ module _ {A : Type 0} (name : A → ℕ) where
 
   roots_new : (l : A) (f : Trees A) → IsOrdered name f → has name (name l) f ≡ false → rises (names name (with_new name l f)) ≡ true
   unfolding with_new
-  roots_new l f h free = rw (roots-among_roots (name l) (tree l nil nil) f refl) (rises-with_key (name l) (names name f) h.rising (absent_from f (name l) h free))
+  roots_new l f h free =
+      rw (roots-among_roots (name l) (tree l nil nil) f refl) (rises-with_key (name l) (names name f) h.rising (absent_from f (name l) h free))
 
   roots_taken : (k : ℕ) (f : Trees A) → IsOrdered name f → rises (names name (take_out name k f)) ≡ true
   unfolding take_out
   roots_taken k f h =
       elim (cases_lt 0 (count name k f)) [
-        | inl some ↦ rw (roots-among_roots k (alone name k f) (without name k f) (names-alone name k f (omega (arith, h.once k))), names-without name k f) (rises-again k (names name f) h.rising)
+        | inl some ↦
+            rw (roots-among_roots k (alone name k f) (without name k f) (names-alone name k f (omega (arith, h.once k))), names-without name k f)
+            (rises-again k (names name f) h.rising)
         | inr none ↦
             let gone : count name k f ≡ 0 = omega arith in
             rw (alone-absent name k f gone, without-absent name k f gone, among_roots-nil k f) h.rising
@@ -126,7 +134,8 @@ module _ {A : Type 0} (name : A → ℕ) where
   pub same_forest : (f g : Trees A) → IsOrdered name f → IsOrdered name g → ((q : ℕ) → spot name f q ≡ spot name g q) → f ≡ g
   same_forest f g h i same =
       same_trees name f g h.once i.once
-      (same_roots (names name f) (names name g) h.rising i.rising (λ q. grind (arith, same q, is_among-firsts name f q h.once, is_among-firsts name g q i.once, is_some-spot name f q, is_some-spot name g q)))
+      (same_roots (names name f) (names name g) h.rising i.rising
+      (λ q. grind (arith, same q, is_among-firsts name f q h.once, is_among-firsts name g q i.once, is_some-spot name f q, is_some-spot name g q)))
       same
 
   pub IsOrdered-mapped : (g : A → A) → ((a : A) → name (g a) ≡ name a) → (f : Trees A) → IsOrdered name f → IsOrdered name (mapped g f)

@@ -15,7 +15,8 @@ use Rattle.lx_trees.specs.Edits.{take_out, CanPut, taken}
 
 module _ {A : Type 0} (name : A → ℕ) where
   -- a tree that was taken out may be put below each node outside it
-  pub CanPut-take_out : (p k : ℕ) (f : Trees A) → IsOrdered name f → k ≢ 0 → has name k f ≡ true → has name p f ≡ true → is_within name f k p ≡ false → CanPut name p k (take_out name k f)
+  pub CanPut-take_out : (p k : ℕ) (f : Trees A) → IsOrdered name f → k ≢ 0 → has name k f ≡ true → has name p f ≡ true → is_within name f k p ≡ false
+      → CanPut name p k (take_out name k f)
   CanPut-take_out p k f h other there parent outside = record {
     other = other;
     there = grind (arith, count-take_out name k k f, there);
@@ -30,5 +31,7 @@ module _ {A : Type 0} (name : A → ℕ) where
       same_forest name (take_out name k f) f (IsOrdered-take_out name k f h) h
       (λ q.
       spot-take_out name k f q h
-      ∙ option_map-agree (taken k q) (λ s. s) (spot name f q) (λ s e. same_spot name s (cond (eqb q k) None s.parent) (names_without k s.children) (grind (arith, eqb_tells q k, e, top)) (nobodys_child name f q k s h top e))
+      ∙ option_map-agree (taken k q) (λ s. s) (spot name f q)
+      (λ s e. same_spot name s (cond (eqb q k) None s.parent) (names_without k s.children) (grind (arith, eqb_tells q k, e, top))
+      (nobodys_child name f q k s h top e))
       ∙ option_map-same (λ (s : Spot A). s) (λ s. refl) (spot name f q))

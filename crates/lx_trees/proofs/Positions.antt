@@ -133,5 +133,6 @@ same_length [] (y ∷ ys) u v same = absurd (grind (arith, same y, eqb_tells y y
 same_length (x ∷ xs) ys u v same =
     let there : is_among x ys ≡ true = grind (arith, same x, eqb_tells x x) in
     let rest : length xs ≡ length (names_without x ys) =
-    same_length xs (names_without x ys) u.1 (NoRepeats-names_without x ys v) (λ q. grind (arith, u.0, same q, is_among-names_without x q ys, eqb_tells x q, eqb_tells q x)) in
+    same_length xs (names_without x ys) u.1 (NoRepeats-names_without x ys v)
+    (λ q. grind (arith, u.0, same q, is_among-names_without x q ys, eqb_tells x q, eqb_tells q x)) in
     grind (arith, there, rest, length-names_without x ys v)

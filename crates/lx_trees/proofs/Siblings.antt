@@ -97,13 +97,16 @@ is_none-next_in (x ∷ y ∷ xs) k u e =
     ]
 
 -- lists that begin alike and go on alike are equal
-pub same_names : (xs ys : List ℕ) → NoRepeats xs → NoRepeats ys → first_of xs ≡ first_of ys → ((q : ℕ) → is_among q xs ≡ true → next_in xs q ≡ next_in ys q) → xs ≡ ys
+pub same_names : (xs ys : List ℕ) → NoRepeats xs → NoRepeats ys → first_of xs ≡ first_of ys → ((q : ℕ) → is_among q xs ≡ true → next_in xs q ≡ next_in ys q)
+    → xs ≡ ys
 same_names [] [] u v e same = refl
 same_names [] (y ∷ ys) u v e same = absurd (grind arith)
 same_names (x ∷ xs) [] u v e same = absurd (grind arith)
 same_names (x ∷ xs) (y ∷ ys) u v e same =
     let firsts : x ≡ y = grind arith in
-    let rests : xs ≡ ys = same_names xs ys u.1 v.1 (grind (arith, same x, firsts, eqb_tells x x, eqb_tells y x)) (λ q among. grind (arith, among, same q, firsts, u.0, eqb_tells x q, eqb_tells y q)) in
+    let rests : xs ≡ ys =
+    same_names xs ys u.1 v.1 (grind (arith, same x, firsts, eqb_tells x x, eqb_tells y x))
+    (λ q among. grind (arith, among, same q, firsts, u.0, eqb_tells x q, eqb_tells y q)) in
     cc
 
 -- ---- k leaves
@@ -143,10 +146,12 @@ next_in-apart (x ∷ []) k q f = grind arith
 next_in-apart (x ∷ y ∷ xs) k q f = grind (arith, next_in-apart (y ∷ xs) k q, eqb_tells y q, eqb_tells q y)
 
 -- a name before the list has no next one in it
-no_next : (b o : Option ℕ) (xs : List ℕ) (q : ℕ) → (is_named b q ≡ true → is_among q xs ≡ false) → next_in xs q ≡ cond (is_named b q && is_among q xs) o (next_in xs q)
+no_next : (b o : Option ℕ) (xs : List ℕ) (q : ℕ) → (is_named b q ≡ true → is_among q xs ≡ false)
+    → next_in xs q ≡ cond (is_named b q && is_among q xs) o (next_in xs q)
 no_next b o xs q e = grind arith
 
-next_from-first_without : (b : Option ℕ) (k q x : ℕ) (xs : List ℕ) → eqb x k ≡ true → eqb x q ≡ false → is_among k xs ≡ false → (is_named b q ≡ true → is_among q xs ≡ false) →
+next_from-first_without : (b : Option ℕ) (k q x : ℕ) (xs : List ℕ) → eqb x k ≡ true → eqb x q ≡ false → is_among k xs ≡ false
+    → (is_named b q ≡ true → is_among q xs ≡ false) →
     next_in (names_without k (x ∷ xs)) q ≡ cond (is_named (previous_from b (x ∷ xs) k) q && is_among q (x ∷ xs)) (next_in (x ∷ xs) k) (next_in (x ∷ xs) q)
 next_from-first_without b k q x xs h g n e = rw (h, g, names_without-absent_list k xs n) (no_next b (first_of xs) xs q e)
 
@@ -164,7 +169,10 @@ next_from-names_without b k q (x ∷ y ∷ xs) u d e =
     elim (eqb_tells x k) [
       | inl h ↦ next_from-first_without b k q x (y ∷ xs) h.0 (grind (arith, h, eqb_tells x q, eqb_tells q k)) (grind (arith, h)) (grind arith)
       | inr h ↦ elim (eqb_tells x q) [
-        | inl g ↦ subst (λ z. next_in (names_without k (x ∷ y ∷ xs)) z ≡ cond (is_named (previous_from b (x ∷ y ∷ xs) k) z && is_among z (x ∷ y ∷ xs)) (next_in (x ∷ y ∷ xs) k) (next_in (x ∷ y ∷ xs) z)) g.1 (grind (arith, h, eqb_tells x x, next_from-own_without b k x (y ∷ xs)))
+        | inl g ↦
+            subst (λ z. next_in (names_without k (x ∷ y ∷ xs)) z
+            ≡ cond (is_named (previous_from b (x ∷ y ∷ xs) k) z && is_among z (x ∷ y ∷ xs)) (next_in (x ∷ y ∷ xs) k) (next_in (x ∷ y ∷ xs) z)) g.1
+            (grind (arith, h, eqb_tells x x, next_from-own_without b k x (y ∷ xs)))
         | inr g ↦ grind (arith, h, g, next_from-names_without (Some x) k q (y ∷ xs), eqb_tells q x)
       ]
     ]
@@ -215,11 +223,13 @@ next_in-names_with_last k q (x ∷ y ∷ xs) u d =
       | inr g ↦ grind (arith, g, next_in-names_with_last k q (y ∷ xs))
     ]
 
-next_from-first_with : (c : ℕ) (b : Option ℕ) (k q x : ℕ) (xs : List ℕ) → eqb x c ≡ true → eqb k q ≡ false → (is_named b q ≡ true → is_among q (x ∷ xs) ≡ false) →
+next_from-first_with : (c : ℕ) (b : Option ℕ) (k q x : ℕ) (xs : List ℕ) → eqb x c ≡ true → eqb k q ≡ false → (is_named b q ≡ true → is_among q (x ∷ xs) ≡ false)
+    →
     next_in (names_with (Some c) (k ∷ []) (x ∷ xs)) q ≡ cond (is_named (previous_from b (x ∷ xs) c) q && is_among q (x ∷ xs)) (Some k) (next_in (x ∷ xs) q)
 next_from-first_with c b k q x xs h g e = rw (h, g) (no_next b (Some k) (x ∷ xs) q e)
 
-next_in-names_with_before : (c : ℕ) (b : Option ℕ) (k q : ℕ) (xs : List ℕ) → NoRepeats xs → is_among c xs ≡ true → eqb q k ≡ false → (is_named b q ≡ true → is_among q xs ≡ false) →
+next_in-names_with_before : (c : ℕ) (b : Option ℕ) (k q : ℕ) (xs : List ℕ) → NoRepeats xs → is_among c xs ≡ true → eqb q k ≡ false
+    → (is_named b q ≡ true → is_among q xs ≡ false) →
     next_in (names_with (Some c) (k ∷ []) xs) q ≡ cond (is_named (previous_from b xs c) q && is_among q xs) (Some k) (next_in xs q)
 next_in-names_with_before c b k q [] u n d e = absurd (grind arith)
 next_in-names_with_before c b k q (x ∷ []) u n d e = grind (arith, eqb_tells x c, eqb_tells x q, eqb_tells k q, eqb_tells q k)

@@ -127,8 +127,10 @@ module _ {A : Type 0} (name : A → ℕ) where
   Tells-spot_below at p nil once same = tt
   Tells-spot_below at p (tree a below rest) once same = (
     grind (arith, same (name a), eqb_tells (name a) (name a)),
-    Tells-spot_below at (Some (name a)) below (λ q. omega (arith, once q)) (λ q some. grind (arith, same q, once q, eqb_tells (name a) q, is_some-spot_below (Some (name a)) below q)),
-    Tells-spot_below at p rest (λ q. omega (arith, once q)) (λ q some. grind (arith, same q, once q, eqb_tells (name a) q, spot_below-absent (Some (name a)) below q)),
+    Tells-spot_below at (Some (name a)) below (λ q. omega (arith, once q)) (λ q some. grind
+        (arith, same q, once q, eqb_tells (name a) q, is_some-spot_below (Some (name a)) below q)),
+    Tells-spot_below at p rest (λ q. omega (arith, once q)) (λ q some. grind
+        (arith, same q, once q, eqb_tells (name a) q, spot_below-absent (Some (name a)) below q)),
   )
 
   same_from_Tells : (at : ℕ → Option (Spot A)) (p : Option ℕ) (s t : Trees A) → names name s ≡ names name t → Tells at p s → Tells at p t → s ≡ t
@@ -137,7 +139,8 @@ module _ {A : Type 0} (name : A → ℕ) where
   same_from_Tells at p (tree a below rest) nil e x y = absurd (grind arith)
   same_from_Tells at p (tree a below rest) (tree b under more) e x y =
       let first : name a ≡ name b = cc in
-      let spots : ◌≡◌ {A = Option (Spot A)} (Some (record { label = a; parent = p; children = names name below })) (Some (record { label = b; parent = p; children = names name under })) = sym x.0 ∙ ap at first ∙ y.0 in
+      let spots : ◌≡◌ {A = Option (Spot A)} (Some (record { label = a; parent = p; children = names name below }))
+      (Some (record { label = b; parent = p; children = names name under })) = sym x.0 ∙ ap at first ∙ y.0 in
       let label : ◌≡◌ {A = Option A} (Some a) (Some b) = ap (option_map (λ (s : Spot A). s.label)) spots in
       let kids : ◌≡◌ {A = Option (List ℕ)} (Some (names name below)) (Some (names name under)) = ap (option_map (λ (s : Spot A). s.children)) spots in
       let labels : a ≡ b = cc in
@@ -148,7 +151,8 @@ module _ {A : Type 0} (name : A → ℕ) where
 
   pub same_trees : (s t : Trees A) → IsDistinct name s → IsDistinct name t → names name s ≡ names name t → ((q : ℕ) → spot name s q ≡ spot name t q) → s ≡ t
   same_trees s t once once' firsts same =
-      same_from_Tells (spot name s) None s t firsts (Tells-spot_below (spot name s) None s once (λ q some. refl)) (Tells-spot_below (spot name s) None t once' (λ q some. same q))
+      same_from_Tells (spot name s) None s t firsts (Tells-spot_below (spot name s) None s once (λ q some. refl))
+      (Tells-spot_below (spot name s) None t once' (λ q some. same q))
 
   -- ---- parents and children
 
@@ -166,7 +170,9 @@ module _ {A : Type 0} (name : A → ℕ) where
   NoRepeats-children r (tree a below rest) q once =
       elim (eqb_tells (name a) q) [
         | inl h ↦ rw h.0 (NoRepeats-names below (λ x. omega (arith, once x)))
-        | inr h ↦ rw h.0 (NoRepeats-either (spot_below name (Some (name a)) below q) (spot_below name r rest q) (NoRepeats-children (Some (name a)) below q (λ x. omega (arith, once x))) (NoRepeats-children r rest q (λ x. omega (arith, once x))))
+        | inr h ↦
+            rw h.0 (NoRepeats-either (spot_below name (Some (name a)) below q) (spot_below name r rest q)
+            (NoRepeats-children (Some (name a)) below q (λ x. omega (arith, once x))) (NoRepeats-children r rest q (λ x. omega (arith, once x))))
       ]
 
   -- a child is in the trees
@@ -176,12 +182,14 @@ module _ {A : Type 0} (name : A → ℕ) where
       grind (arith, count-child (Some (name a)) below q c, count-child r rest q c, is_among-names below c)
 
   -- so does a parent, unless all the trees are below it
-  pub parent-absent : (r : Option ℕ) (t : Trees A) (q p : ℕ) → count name p t ≡ 0 → is_named r p ≡ false → is_named (parent_at (spot_below name r t q)) p ≡ false
+  pub parent-absent : (r : Option ℕ) (t : Trees A) (q p : ℕ) → count name p t ≡ 0 → is_named r p ≡ false
+      → is_named (parent_at (spot_below name r t q)) p ≡ false
   parent-absent r nil q p e n = refl
   parent-absent r (tree a below rest) q p e n =
       grind (arith, eqb_tells (name a) p, eqb_tells p (name a), parent-absent (Some (name a)) below q p, parent-absent r rest q p)
 
-  parent_of_first : (t : Trees A) (q p : ℕ) → IsDistinct name t → count name p t ≡ 0 → is_named (parent_at (spot_below name (Some p) t q)) p ≡ is_among q (names name t)
+  parent_of_first : (t : Trees A) (q p : ℕ) → IsDistinct name t → count name p t ≡ 0
+      → is_named (parent_at (spot_below name (Some p) t q)) p ≡ is_among q (names name t)
   parent_of_first nil q p once e = refl
   parent_of_first (tree a below rest) q p once e =
       grind (arith, once q, eqb_tells (name a) q, eqb_tells (name a) p, eqb_tells p (name a), eqb_tells p p, parent_of_first rest q p (λ x. omega (arith, once x)), parent-absent (Some (name a)) below q p, is_among-names rest q, is_some-spot_below (Some (name a)) below q)
@@ -192,8 +200,10 @@ module _ {A : Type 0} (name : A → ℕ) where
   is_among-children r nil q p once n = refl
   is_among-children r (tree a below rest) q p once n =
       elim (eqb_tells (name a) p) [
-        | inl h ↦ grind (arith, h, once q, once p, eqb_tells (name a) q, parent_of_first below q (name a) (λ x. omega (arith, once x)), parent-absent r rest q (name a), is_among-names below q, spot_below-absent (Some (name a)) below q, is_some-spot_below (Some (name a)) below q)
-        | inr h ↦ grind (arith, h, once q, once p, eqb_tells (name a) q, eqb_tells p (name a), is_among-children (Some (name a)) below q p (λ x. omega (arith, once x)), is_among-children r rest q p (λ x. omega (arith, once x)), spot_below-absent (Some (name a)) below q, is_some-spot_below (Some (name a)) below q, is_some-spot_below (Some (name a)) below p, is_some-spot_below r rest q, spot_below-absent (Some (name a)) below p, spot_below-absent r rest p, spot_below-absent r rest q, count-child (Some (name a)) below p q, count-child r rest p q, parent-absent r rest q p, parent-absent (Some (name a)) below q p)
+        | inl h ↦
+            grind (arith, h, once q, once p, eqb_tells (name a) q, parent_of_first below q (name a) (λ x. omega (arith, once x)), parent-absent r rest q (name a), is_among-names below q, spot_below-absent (Some (name a)) below q, is_some-spot_below (Some (name a)) below q)
+        | inr h ↦
+            grind (arith, h, once q, once p, eqb_tells (name a) q, eqb_tells p (name a), is_among-children (Some (name a)) below q p (λ x. omega (arith, once x)), is_among-children r rest q p (λ x. omega (arith, once x)), spot_below-absent (Some (name a)) below q, is_some-spot_below (Some (name a)) below q, is_some-spot_below (Some (name a)) below p, is_some-spot_below r rest q, spot_below-absent (Some (name a)) below p, spot_below-absent r rest p, spot_below-absent r rest q, count-child (Some (name a)) below p q, count-child r rest p q, parent-absent r rest q p, parent-absent (Some (name a)) below q p)
       ]
 
   -- below a parent each name has a parent

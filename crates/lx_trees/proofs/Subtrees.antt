@@ -57,7 +57,8 @@ module _ {A : Type 0} (name : A → ℕ) where
   count-alone-le q k t = omega (arith, count-without-alone name q k t)
 
   -- what is in a tree that is in another is in that one
-  pub count-alone_trans : (q p k : ℕ) (t : Trees A) → count name p t < 2 → 0 < count name p (alone name k t) → count name q (alone name p t) ≤ count name q (alone name k t)
+  pub count-alone_trans : (q p k : ℕ) (t : Trees A) → count name p t < 2 → 0 < count name p (alone name k t)
+      → count name q (alone name p t) ≤ count name q (alone name k t)
   count-alone_trans q p k t once some =
       let e = alone-alone p k t (omega (arith, count-without-alone name p k t)) in
       omega (arith, ap (count name q) e, count-alone-le q p (alone name k t))
@@ -71,7 +72,8 @@ module _ {A : Type 0} (name : A → ℕ) where
   walk_up a r (tree x below rest) q p once up other =
       grind (arith, eqb_tells (name x) q, eqb_tells (name x) a, eqb_tells (name x) p, once q, once p, walk_up a (Some (name x)) below q p (λ y. omega (arith, once y)), walk_up a r rest q p (λ y. omega (arith, once y)), count-joined name q (alone name a below) (alone name a rest), count-joined name p (alone name a below) (alone name a rest), count-alone-le q a below, count-alone-le q a rest, count-alone-le p a below, count-alone-le p a rest, spot_below-absent name (Some (name x)) below q, is_some-spot_below name (Some (name x)) below q, is_some-spot_below name r rest q)
 
-  pub count-alone_up : (a : ℕ) (t : Trees A) (q p : ℕ) → IsDistinct name t → parent_at (spot name t q) ≡ Some p → q ≢ a → count name q (alone name a t) ≡ count name p (alone name a t)
+  pub count-alone_up : (a : ℕ) (t : Trees A) (q p : ℕ) → IsDistinct name t → parent_at (spot name t q) ≡ Some p → q ≢ a
+      → count name q (alone name a t) ≡ count name p (alone name a t)
   count-alone_up a t q p once up other = grind (arith, walk_up a None t q p once up, eqb_tells q a)
 
   -- a parent is in the trees
@@ -93,7 +95,8 @@ module _ {A : Type 0} (name : A → ℕ) where
   alone-antisym p k t once some more =
       let e = alone-alone p k t (omega (arith, once p, count-without-alone name p k t)) in
       let f = alone-alone k p t (omega (arith, once k, count-without-alone name k p t)) in
-      let none : total (without name p (alone name k t)) ≡ 0 = omega (arith, ap total e, ap total f, total-without-alone name p (alone name k t), total-without-alone name k (alone name p t)) in
+      let none : total (without name p (alone name k t)) ≡ 0 =
+      omega (arith, ap total e, ap total f, total-without-alone name p (alone name k t), total-without-alone name k (alone name p t)) in
       let one : count name k t ≡ 1 = omega (arith, once k, count-alone-le k p t) in
       grind (arith, names-none (without name p (alone name k t)) none, names-without name p (alone name k t), names-alone name k t one, eqb_tells k p)
 
@@ -122,18 +125,22 @@ module _ {A : Type 0} (name : A → ℕ) where
 
   -- ---- a tree is its label above the trees of its children
 
-  alone_part_below : (x : A) (below rest : Trees A) (k : ℕ) → count name k (tree x below rest) < 2 → 0 < count name k below → alone name k (tree x below rest) ≡ alone name k below
+  alone_part_below : (x : A) (below rest : Trees A) (k : ℕ) → count name k (tree x below rest) < 2 → 0 < count name k below
+      → alone name k (tree x below rest) ≡ alone name k below
   alone_part_below x below rest k once some = grind (arith, alone-absent name k rest, joined-nil (alone name k below))
 
-  alone_part_behind : (x : A) (below rest : Trees A) (k : ℕ) → count name k (tree x below rest) < 2 → 0 < count name k rest → alone name k (tree x below rest) ≡ alone name k rest
+  alone_part_behind : (x : A) (below rest : Trees A) (k : ℕ) → count name k (tree x below rest) < 2 → 0 < count name k rest
+      → alone name k (tree x below rest) ≡ alone name k rest
   alone_part_behind x below rest k once some = grind (arith, alone-absent name k below)
 
-  gathered_below : (x : A) (below rest : Trees A) (ks : List ℕ) → IsDistinct name (tree x below rest) → ((c : ℕ) → is_among c ks ≡ true → 0 < count name c below) → gathered name (tree x below rest) ks ≡ gathered name below ks
+  gathered_below : (x : A) (below rest : Trees A) (ks : List ℕ) → IsDistinct name (tree x below rest)
+      → ((c : ℕ) → is_among c ks ≡ true → 0 < count name c below) → gathered name (tree x below rest) ks ≡ gathered name below ks
   gathered_below x below rest [] once some = refl
   gathered_below x below rest (k ∷ ks) once some =
       rw (alone_part_below x below rest k (once k) (some k (grind (arith, eqb_tells k k))), gathered_below x below rest ks once (λ c among. some c (grind (arith, among))))
 
-  gathered_behind : (x : A) (below rest : Trees A) (ks : List ℕ) → IsDistinct name (tree x below rest) → ((c : ℕ) → is_among c ks ≡ true → 0 < count name c rest) → gathered name (tree x below rest) ks ≡ gathered name rest ks
+  gathered_behind : (x : A) (below rest : Trees A) (ks : List ℕ) → IsDistinct name (tree x below rest)
+      → ((c : ℕ) → is_among c ks ≡ true → 0 < count name c rest) → gathered name (tree x below rest) ks ≡ gathered name rest ks
   gathered_behind x below rest [] once some = refl
   gathered_behind x below rest (k ∷ ks) once some =
       rw (alone_part_behind x below rest k (once k) (some k (grind (arith, eqb_tells k k))), gathered_behind x below rest ks once (λ c among. some c (grind (arith, among))))
@@ -145,11 +152,13 @@ module _ {A : Type 0} (name : A → ℕ) where
       let own : eqb (name x) (name x) ≡ true = grind (arith, eqb_tells (name x) (name x)) in
       let none : count name (name x) rest ≡ 0 = grind (arith, once (name x), own) in
       let rest_of : gathered name (tree x below rest) (names name rest) ≡ rest =
-      gathered_behind x below rest (names name rest) once (λ c among. grind (arith, among, is_among-names name rest c)) ∙ gathered-names rest (λ q. omega (arith, once q)) in
+      gathered_behind x below rest (names name rest) once (λ c among. grind (arith, among, is_among-names name rest c))
+      ∙ gathered-names rest (λ q. omega (arith, once q)) in
       rw (rest_of, own, alone-absent name (name x) rest none)
 
   -- a tree is its label above the trees of its children
-  pub alone-spot_below : (r : Option ℕ) (t : Trees A) (k : ℕ) (s : Spot A) → IsDistinct name t → spot_below name r t k ≡ Some s → alone name k t ≡ tree s.label (gathered name t s.children) nil
+  pub alone-spot_below : (r : Option ℕ) (t : Trees A) (k : ℕ) (s : Spot A) → IsDistinct name t → spot_below name r t k ≡ Some s
+      → alone name k t ≡ tree s.label (gathered name t s.children) nil
   alone-spot_below r nil k s once e = absurd (grind arith)
   alone-spot_below r (tree x below rest) k s once e =
       elim (eqb_tells (name x) k) [
@@ -157,8 +166,10 @@ module _ {A : Type 0} (name : A → ℕ) where
             let at : ◌≡◌ {A = Spot A} (record { label = x; parent = r; children = names name below }) s = same_Some _ _ (rw own.0 at e) in
             let none : count name k rest ≡ 0 = grind (arith, once k, own) in
             let kids : gathered name (tree x below rest) (names name below) ≡ below =
-            gathered_below x below rest (names name below) once (λ c among. grind (arith, among, is_among-names name below c)) ∙ gathered-names below (λ q. omega (arith, once q)) in
-            rw (own.0, alone-absent name k rest none) (subst (λ (z : Spot A). tree x below nil ≡ tree z.label (gathered name (tree x below rest) z.children) nil) at (rw kids))
+            gathered_below x below rest (names name below) once (λ c among. grind (arith, among, is_among-names name below c))
+            ∙ gathered-names below (λ q. omega (arith, once q)) in
+            rw (own.0, alone-absent name k rest none)
+            (subst (λ (z : Spot A). tree x below nil ≡ tree z.label (gathered name (tree x below rest) z.children) nil) at (rw kids))
         | inr other ↦ elim (cases_lt 0 (count name k below)) [
           | inl inside ↦
               let at : spot_below name (Some (name x)) below k ≡ Some s = grind (arith, other, e, is_some-spot_below name (Some (name x)) below k) in

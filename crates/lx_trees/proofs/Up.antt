@@ -27,7 +27,8 @@ module _ {A : Type 0} (name : A → ℕ) where
 
   -- ---- where the parents are the same
 
-  agree_within : (n : ℕ) (f g : Trees A) (q : ℕ) → IsOrdered name f → IsOrdered name g → length (ancestors name f q) ≤ n → ((x : ℕ) → is_among x (q ∷ ancestors name f q) ≡ true → parent_of name g x ≡ parent_of name f x) → ancestors name g q ≡ ancestors name f q
+  agree_within : (n : ℕ) (f g : Trees A) (q : ℕ) → IsOrdered name f → IsOrdered name g → length (ancestors name f q) ≤ n
+      → ((x : ℕ) → is_among x (q ∷ ancestors name f q) ≡ true → parent_of name g x ≡ parent_of name f x) → ancestors name g q ≡ ancestors name f q
   agree_within zero f g q h i short same =
       elim (cases_option (parent_of name f q)) [
         | inl none ↦ walks.ancestors-top name g q (same q (grind (arith, eqb_tells q q)) ∙ none) ∙ sym (walks.ancestors-top name f q none)
@@ -39,51 +40,67 @@ module _ {A : Type 0} (name : A → ℕ) where
         | inr (p, some) ↦
             let step : ancestors name f q ≡ p ∷ ancestors name f p = ancestors-step f q p h some in
             ancestors-step g q p i (same q (grind (arith, eqb_tells q q)) ∙ some)
-            ∙ ap (λ ks. p ∷ ks) (agree_within n f g p h i (omega (arith, ap length step)) (λ x among. same x (rw step (or_right (eqb q x) (is_among x (p ∷ ancestors name f p)) among))))
+            ∙ ap (λ ks. p ∷ ks)
+            (agree_within n f g p h i (omega (arith, ap length step))
+            (λ x among. same x (rw step (or_right (eqb q x) (is_among x (p ∷ ancestors name f p)) among))))
             ∙ sym step
       ]
 
   -- where the parents are the same from q on, so are the ancestors
-  pub ancestors-agree : (f g : Trees A) (q : ℕ) → IsOrdered name f → IsOrdered name g → ((x : ℕ) → is_among x (q ∷ ancestors name f q) ≡ true → parent_of name g x ≡ parent_of name f x) → ancestors name g q ≡ ancestors name f q
+  pub ancestors-agree : (f g : Trees A) (q : ℕ) → IsOrdered name f → IsOrdered name g
+      → ((x : ℕ) → is_among x (q ∷ ancestors name f q) ≡ true → parent_of name g x ≡ parent_of name f x) → ancestors name g q ≡ ancestors name f q
   ancestors-agree f g q h i same = agree_within (length (ancestors name f q)) f g q h i (omega arith) same
 
   -- ---- new and set change no ancestors
 
-  pub ancestors-with_new : (l : A) (f : Trees A) (q : ℕ) → IsOrdered name f → has name (name l) f ≡ false → ancestors name (with_new name l f) q ≡ ancestors name f q
-  ancestors-with_new l f q h free = ancestors-agree f (with_new name l f) q h (IsOrdered-with_new name l f h free) (λ x among. parent_of-with_new name l f x h free)
+  pub ancestors-with_new : (l : A) (f : Trees A) (q : ℕ) → IsOrdered name f → has name (name l) f ≡ false
+      → ancestors name (with_new name l f) q ≡ ancestors name f q
+  ancestors-with_new l f q h free =
+      ancestors-agree f (with_new name l f) q h (IsOrdered-with_new name l f h free) (λ x among. parent_of-with_new name l f x h free)
 
   -- ---- take and put
 
-  not_above : (f : Trees A) (k q x : ℕ) → IsOrdered name f → has name q f ≡ true → is_within name f k q ≡ false → is_among x (q ∷ ancestors name f q) ≡ true → x ≡ k → ⊥
+  not_above : (f : Trees A) (k q x : ℕ) → IsOrdered name f → has name q f ≡ true → is_within name f k q ≡ false → is_among x (q ∷ ancestors name f q) ≡ true
+      → x ≡ k → ⊥
   not_above f k q x h there outside among e = grind (arith, e, among, outside, is_within-ancestors f k q h there)
 
   -- the ancestors of a name outside the tree that is taken out or put in stay
-  pub ancestors-take_out_outside : (k : ℕ) (f : Trees A) (q : ℕ) → IsOrdered name f → is_within name f k q ≡ false → ancestors name (take_out name k f) q ≡ ancestors name f q
+  pub ancestors-take_out_outside : (k : ℕ) (f : Trees A) (q : ℕ) → IsOrdered name f → is_within name f k q ≡ false
+      → ancestors name (take_out name k f) q ≡ ancestors name f q
   ancestors-take_out_outside k f q h outside =
       elim (cases_Bool (has name q f)) [
-        | inl there ↦ ancestors-agree f (take_out name k f) q h (IsOrdered-take_out name k f h) (λ x among. grind (arith, parent_of-take_out name k f x h, eqb_tells x k, not_above f k q x h there outside among))
+        | inl there ↦
+            ancestors-agree f (take_out name k f) q h (IsOrdered-take_out name k f h)
+            (λ x among. grind (arith, parent_of-take_out name k f x h, eqb_tells x k, not_above f k q x h there outside among))
         | inr absent ↦
             let none : parent_of name f q ≡ None = no_parent name f q absent in
             walks.ancestors-top name (take_out name k f) q (grind (arith, none, parent_of-take_out name k f q h)) ∙ sym (walks.ancestors-top name f q none)
       ]
 
-  pub ancestors-put_in_outside : (p : ℕ) (before : Option ℕ) (k : ℕ) (f : Trees A) (q : ℕ) → IsOrdered name f → CanPut name p k f → is_within name f k q ≡ false → ancestors name (put_in name p before k f) q ≡ ancestors name f q
+  pub ancestors-put_in_outside : (p : ℕ) (before : Option ℕ) (k : ℕ) (f : Trees A) (q : ℕ) → IsOrdered name f → CanPut name p k f → is_within name f k q ≡ false
+      → ancestors name (put_in name p before k f) q ≡ ancestors name f q
   ancestors-put_in_outside p before k f q h c outside =
       elim (cases_Bool (has name q f)) [
-        | inl there ↦ ancestors-agree f (put_in name p before k f) q h (IsOrdered-put_in name p before k f h c) (λ x among. grind (arith, parent_of-put_in name p before k f x h c, eqb_tells x k, not_above f k q x h there outside among))
+        | inl there ↦
+            ancestors-agree f (put_in name p before k f) q h (IsOrdered-put_in name p before k f h c)
+            (λ x among. grind (arith, parent_of-put_in name p before k f x h c, eqb_tells x k, not_above f k q x h there outside among))
         | inr absent ↦
             let none : parent_of name f q ≡ None = no_parent name f q absent in
             let other : eqb q k ≡ false = grind (arith, eqb_tells q k, c.there, absent) in
-            walks.ancestors-top name (put_in name p before k f) q (parent_of-put_in name p before k f q h c ∙ rw other none) ∙ sym (walks.ancestors-top name f q none)
+            walks.ancestors-top name (put_in name p before k f) q (parent_of-put_in name p before k f q h c ∙ rw other none)
+            ∙ sym (walks.ancestors-top name f q none)
       ]
 
-  put_own : (p : ℕ) (before : Option ℕ) (k : ℕ) (f : Trees A) → IsOrdered name f → CanPut name p k f → ancestors name (put_in name p before k f) k ≡ ancestors name f k ++ p ∷ ancestors name f p
+  put_own : (p : ℕ) (before : Option ℕ) (k : ℕ) (f : Trees A) → IsOrdered name f → CanPut name p k f
+      → ancestors name (put_in name p before k f) k ≡ ancestors name f k ++ p ∷ ancestors name f p
   put_own p before k f h c =
-      ancestors-step (put_in name p before k f) k p (IsOrdered-put_in name p before k f h c) (grind (arith, parent_of-put_in name p before k f k h c, eqb_tells k k))
+      ancestors-step (put_in name p before k f) k p (IsOrdered-put_in name p before k f h c)
+      (grind (arith, parent_of-put_in name p before k f k h c, eqb_tells k k))
       ∙ ap (λ ks. p ∷ ks) (ancestors-put_in_outside p before k f p h c c.outside)
       ∙ rw (walks.ancestors-top name f k c.detached)
 
-  put_above : (n p : ℕ) (before : Option ℕ) (k : ℕ) (f : Trees A) (q : ℕ) → IsOrdered name f → CanPut name p k f → is_within name f k q ≡ true → length (ancestors name f q) < n → ancestors name (put_in name p before k f) q ≡ ancestors name f q ++ p ∷ ancestors name f p
+  put_above : (n p : ℕ) (before : Option ℕ) (k : ℕ) (f : Trees A) (q : ℕ) → IsOrdered name f → CanPut name p k f → is_within name f k q ≡ true
+      → length (ancestors name f q) < n → ancestors name (put_in name p before k f) q ≡ ancestors name f q ++ p ∷ ancestors name f p
   put_above zero p before k f q h c inside short = absurd (omega arith)
   put_above (suc n) p before k f q h c inside short =
       elim (cases_eq q k) [
@@ -92,13 +109,15 @@ module _ {A : Type 0} (name : A → ℕ) where
           | inl none ↦ absurd (grind (arith, inside, is_within-top name f k q h none other))
           | inr (r, some) ↦
               let step : ancestors name f q ≡ r ∷ ancestors name f r = ancestors-step f q r h some in
-              ancestors-step (put_in name p before k f) q r (IsOrdered-put_in name p before k f h c) (grind (arith, parent_of-put_in name p before k f q h c, eqb_tells q k))
+              ancestors-step (put_in name p before k f) q r (IsOrdered-put_in name p before k f h c)
+              (grind (arith, parent_of-put_in name p before k f q h c, eqb_tells q k))
               ∙ ap (λ ks. r ∷ ks) (put_above n p before k f r h c (sym (is_within-up name f k q r h some other) ∙ inside) (omega (arith, ap length step)))
               ∙ ap (λ ks. ks ++ p ∷ ancestors name f p) (sym step)
         ]
       ]
 
-  take_above : (n k : ℕ) (f : Trees A) (q : ℕ) → IsOrdered name f → is_within name f k q ≡ true → length (ancestors name f q) < n → ancestors name f q ≡ ancestors name (take_out name k f) q ++ ancestors name f k
+  take_above : (n k : ℕ) (f : Trees A) (q : ℕ) → IsOrdered name f → is_within name f k q ≡ true → length (ancestors name f q) < n
+      → ancestors name f q ≡ ancestors name (take_out name k f) q ++ ancestors name f k
   take_above zero k f q h inside short = absurd (omega arith)
   take_above (suc n) k f q h inside short =
       elim (cases_eq q k) [
@@ -109,26 +128,31 @@ module _ {A : Type 0} (name : A → ℕ) where
               let step : ancestors name f q ≡ r ∷ ancestors name f r = ancestors-step f q r h some in
               step
               ∙ ap (λ ks. r ∷ ks) (take_above n k f r h (sym (is_within-up name f k q r h some other) ∙ inside) (omega (arith, ap length step)))
-              ∙ ap (λ ks. ks ++ ancestors name f k) (sym (ancestors-step (take_out name k f) q r (IsOrdered-take_out name k f h) (grind (arith, parent_of-take_out name k f q h, eqb_tells q k))))
+              ∙ ap (λ ks. ks ++ ancestors name f k)
+              (sym (ancestors-step (take_out name k f) q r (IsOrdered-take_out name k f h) (grind (arith, parent_of-take_out name k f q h, eqb_tells q k))))
         ]
       ]
 
   -- inside it, the place and its ancestors come on top
-  pub ancestors-put_in_inside : (p : ℕ) (before : Option ℕ) (k : ℕ) (f : Trees A) (q : ℕ) → IsOrdered name f → CanPut name p k f → is_within name f k q ≡ true → ancestors name (put_in name p before k f) q ≡ ancestors name f q ++ p ∷ ancestors name f p
+  pub ancestors-put_in_inside : (p : ℕ) (before : Option ℕ) (k : ℕ) (f : Trees A) (q : ℕ) → IsOrdered name f → CanPut name p k f → is_within name f k q ≡ true
+      → ancestors name (put_in name p before k f) q ≡ ancestors name f q ++ p ∷ ancestors name f p
   ancestors-put_in_inside p before k f q h c inside = put_above (suc (length (ancestors name f q))) p before k f q h c inside (omega arith)
 
   -- the ancestors of a name in a tree that is taken out end with the tree's own name
-  pub ancestors-take_out_inside : (k : ℕ) (f : Trees A) (q : ℕ) → IsOrdered name f → is_within name f k q ≡ true → ancestors name f q ≡ ancestors name (take_out name k f) q ++ ancestors name f k
+  pub ancestors-take_out_inside : (k : ℕ) (f : Trees A) (q : ℕ) → IsOrdered name f → is_within name f k q ≡ true
+      → ancestors name f q ≡ ancestors name (take_out name k f) q ++ ancestors name f k
   ancestors-take_out_inside k f q h inside = take_above (suc (length (ancestors name f q))) k f q h inside (omega arith)
 
-  pub ancestors-take_out : (k : ℕ) (f : Trees A) (q : ℕ) → IsOrdered name f → ancestors name f q ≡ ancestors name (take_out name k f) q ++ cond (is_within name f k q) (ancestors name f k) []
+  pub ancestors-take_out : (k : ℕ) (f : Trees A) (q : ℕ) → IsOrdered name f
+      → ancestors name f q ≡ ancestors name (take_out name k f) q ++ cond (is_within name f k q) (ancestors name f k) []
   ancestors-take_out k f q h =
       elim (cases_Bool (is_within name f k q)) [
         | inl inside ↦ rw inside (ancestors-take_out_inside k f q h inside)
         | inr outside ↦ rw (outside, append-nil (ancestors name (take_out name k f) q)) (sym (ancestors-take_out_outside k f q h outside))
       ]
 
-  pub ancestors-put_in : (p : ℕ) (before : Option ℕ) (k : ℕ) (f : Trees A) (q : ℕ) → IsOrdered name f → CanPut name p k f → ancestors name (put_in name p before k f) q ≡ ancestors name f q ++ cond (is_within name f k q) (p ∷ ancestors name f p) []
+  pub ancestors-put_in : (p : ℕ) (before : Option ℕ) (k : ℕ) (f : Trees A) (q : ℕ) → IsOrdered name f → CanPut name p k f
+      → ancestors name (put_in name p before k f) q ≡ ancestors name f q ++ cond (is_within name f k q) (p ∷ ancestors name f p) []
   ancestors-put_in p before k f q h c =
       elim (cases_Bool (is_within name f k q)) [
         | inl inside ↦ rw inside (ancestors-put_in_inside p before k f q h c inside)
@@ -154,15 +178,19 @@ module _ {A : Type 0} (name : A → ℕ) where
   pub depth-with_new : (l : A) (f : Trees A) (q : ℕ) → IsOrdered name f → has name (name l) f ≡ false → depth name (with_new name l f) q ≡ depth name f q
   depth-with_new l f q h free = rw (is_attached-with_new name l f q h free, ancestors-with_new l f q h free)
 
-  pub depth-take_out : (k : ℕ) (f : Trees A) (q : ℕ) → IsOrdered name f → k ≢ 0 → depth name (take_out name k f) q ≡ cond (is_within name f k q) None (depth name f q)
+  pub depth-take_out : (k : ℕ) (f : Trees A) (q : ℕ) → IsOrdered name f → k ≢ 0
+      → depth name (take_out name k f) q ≡ cond (is_within name f k q) None (depth name f q)
   depth-take_out k f q h other = grind (arith, is_attached-take_out name k f q h other, ancestors-take_out_outside k f q h)
 
   -- a detached tree has no attached name
-  pub detached_inside : (f : Trees A) (k q : ℕ) → IsOrdered name f → k ≢ 0 → parent_of name f k ≡ None → is_within name f k q ≡ true → is_attached name f q ≡ false
+  pub detached_inside : (f : Trees A) (k q : ℕ) → IsOrdered name f → k ≢ 0 → parent_of name f k ≡ None → is_within name f k q ≡ true
+      → is_attached name f q ≡ false
   detached_inside f k q h other detached inside =
       grind (arith, inside, is_attached-top name f k h detached other, is_within-top name f k 0 h (parent_of-root name f h) (λ e. other (sym e)), is_within-apart name f k 0 q h)
 
-  pub depth-put_in : (p : ℕ) (before : Option ℕ) (k : ℕ) (f : Trees A) (q : ℕ) → IsOrdered name f → CanPut name p k f → depth name (put_in name p before k f) q ≡ cond (is_within name f k q) (option_map (λ d. length (ancestors name f q) + 1 + d) (depth name f p)) (depth name f q)
+  pub depth-put_in : (p : ℕ) (before : Option ℕ) (k : ℕ) (f : Trees A) (q : ℕ) → IsOrdered name f → CanPut name p k f
+      → depth name (put_in name p before k f) q
+      ≡ cond (is_within name f k q) (option_map (λ d. length (ancestors name f q) + 1 + d) (depth name f p)) (depth name f q)
   depth-put_in p before k f q h c =
       elim (cases_Bool (is_within name f k q)) [
         | inl inside ↦

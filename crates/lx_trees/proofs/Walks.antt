@@ -44,14 +44,16 @@ module _ {A : Type 0} (name : A → ℕ) where
 
   -- ---- up
 
-  ancestors_step : (r : Option ℕ) (top : List ℕ) (t : Trees A) (q p : ℕ) → IsDistinct name t → ((x : ℕ) → r ≡ Some x → count name x t ≡ 0) → parent_at (spot_below name r t q) ≡ Some p →
+  ancestors_step : (r : Option ℕ) (top : List ℕ) (t : Trees A) (q p : ℕ) → IsDistinct name t → ((x : ℕ) → r ≡ Some x → count name x t ≡ 0)
+      → parent_at (spot_below name r t q) ≡ Some p →
       ancestors_below name (over r top) t q ≡ Some (p ∷ unwrap_or (ancestors_below name (over r top) t p) top)
   unfolding over
   ancestors_step r top nil q p once apart up = absurd (grind arith)
   ancestors_step r top (tree a below rest) q p once apart up =
       elim (eqb_tells (name a) q) [
         | inl h ↦ grind (arith, h, over-Some r top p, apart p, ancestors_below-absent (over r top) (tree a below rest) p)
-        | inr h ↦ grind (arith, h, once q, once p, eqb_tells (name a) p, ancestors_step (Some (name a)) (over r top) below q p (λ x. omega (arith, once x)) (λ x e. grind (arith, once x, eqb_tells (name a) x)), ancestors_step r top rest q p (λ x. omega (arith, once x)) (λ x e. omega (arith, apart x e)), over-Some r top p, apart p, is_some-ancestors_below (name a ∷ over r top) below q, is_some-ancestors_below (name a ∷ over r top) below p, is_some-ancestors_below (over r top) rest p, ancestors_below-absent (name a ∷ over r top) below q, ancestors_below-absent (name a ∷ over r top) below p, ancestors_below-absent (over r top) rest p, is_some-spot_below name (Some (name a)) below q, parent-absent name (Some (name a)) below q p, parent-absent name r rest q p, is_named_tells r p, eqb_tells p (name a))
+        | inr h ↦
+            grind (arith, h, once q, once p, eqb_tells (name a) p, ancestors_step (Some (name a)) (over r top) below q p (λ x. omega (arith, once x)) (λ x e. grind (arith, once x, eqb_tells (name a) x)), ancestors_step r top rest q p (λ x. omega (arith, once x)) (λ x e. omega (arith, apart x e)), over-Some r top p, apart p, is_some-ancestors_below (name a ∷ over r top) below q, is_some-ancestors_below (name a ∷ over r top) below p, is_some-ancestors_below (over r top) rest p, ancestors_below-absent (name a ∷ over r top) below q, ancestors_below-absent (name a ∷ over r top) below p, ancestors_below-absent (over r top) rest p, is_some-spot_below name (Some (name a)) below q, parent-absent name (Some (name a)) below q p, parent-absent name r rest q p, is_named_tells r p, eqb_tells p (name a))
       ]
 
   ancestors_top : (r : Option ℕ) (above : List ℕ) (t : Trees A) (q : ℕ) → 0 < count name q t → parent_at (spot_below name r t q) ≡ None →
@@ -115,17 +117,20 @@ module _ {A : Type 0} (name : A → ℕ) where
 
   from_first : (after : List ℕ) (t : Trees A) (c : ℕ) → IsDistinct name t → first_of (names name t) ≡ Some c → from_before after t c ≡ preorder name t ++ after
   from_first after nil c once e = absurd (grind arith)
-  from_first after (tree a below rest) c once e = grind (arith, from_before-first after a below rest, once (name a), append_assoc (preorder name below) (preorder name rest) after)
+  from_first after (tree a below rest) c once e =
+      grind (arith, from_before-first after a below rest, once (name a), append_assoc (preorder name below) (preorder name rest) after)
 
   preorder-none : (t : Trees A) → names name t ≡ [] → preorder name t ≡ []
   preorder-none nil e = refl
   preorder-none (tree a below rest) e = absurd (grind arith)
 
-  behind_sibling : (after : List ℕ) (t : Trees A) (q n : ℕ) → IsDistinct name t → next_in (names name t) q ≡ Some n → behind_before name after t q ≡ Some (from_before after t n)
+  behind_sibling : (after : List ℕ) (t : Trees A) (q n : ℕ) → IsDistinct name t → next_in (names name t) q ≡ Some n
+      → behind_before name after t q ≡ Some (from_before after t n)
   behind_sibling after nil q n once e = absurd (grind arith)
   behind_sibling after (tree a below rest) q n once e =
       elim (eqb_tells (name a) q) [
-        | inl h ↦ grind (arith, h, once n, from_before-rest after a below rest n, from_first after rest n (λ x. omega (arith, once x)), first_of-among (names name rest) n, is_among-names name rest n)
+        | inl h ↦
+            grind (arith, h, once n, from_before-rest after a below rest n, from_first after rest n (λ x. omega (arith, once x)), first_of-among (names name rest) n, is_among-names name rest n)
         | inr h ↦
             let later : next_in (names name rest) q ≡ Some n = grind (arith, h) in
             let there : 0 < count name n rest = grind (arith, next_in-among (names name rest) q n, is_among-names name rest n) in
@@ -135,12 +140,14 @@ module _ {A : Type 0} (name : A → ℕ) where
             ∙ ap (λ xs. Some xs) (sym (from_before-rest after a below rest n (once n) there))
       ]
 
-  behind_last_sibling : (after : List ℕ) (t : Trees A) (q : ℕ) → IsDistinct name t → is_among q (names name t) ≡ true → next_in (names name t) q ≡ None → behind_before name after t q ≡ Some after
+  behind_last_sibling : (after : List ℕ) (t : Trees A) (q : ℕ) → IsDistinct name t → is_among q (names name t) ≡ true → next_in (names name t) q ≡ None
+      → behind_before name after t q ≡ Some after
   behind_last_sibling after nil q once c e = absurd (grind arith)
   behind_last_sibling after (tree a below rest) q once c e =
       elim (eqb_tells (name a) q) [
         | inl h ↦ grind (arith, h, preorder-none rest, first_of-none (names name rest))
-        | inr h ↦ grind (arith, h, once q, behind_before-rest after a below rest q, behind_last_sibling after rest q (λ x. omega (arith, once x)), is_among-names name rest q)
+        | inr h ↦
+            grind (arith, h, once q, behind_before-rest after a below rest q, behind_last_sibling after rest q (λ x. omega (arith, once x)), is_among-names name rest q)
       ]
 
   -- a name, and then its first child, or else what comes after it
@@ -149,8 +156,10 @@ module _ {A : Type 0} (name : A → ℕ) where
   from_child r after nil q c once e = absurd (grind arith)
   from_child r after (tree a below rest) q c once e =
       elim (eqb_tells (name a) q) [
-        | inl h ↦ grind (arith, h, once q, once c, from_before-first after a below rest, from_before-below after a below rest c, from_first (preorder name rest ++ after) below c (λ x. omega (arith, once x)), is_among-names name below c, first_of-among (names name below) c)
-        | inr h ↦ grind (arith, h, once q, once c, is_some-spot_below name (Some (name a)) below q, is_some-spot_below name r rest q, spot_below-absent name (Some (name a)) below q, spot_below-absent name r rest q, from_before-below after a below rest q, from_before-below after a below rest c, from_before-rest after a below rest q, from_before-rest after a below rest c, from_child (Some (name a)) (preorder name rest ++ after) below q c (λ x. omega (arith, once x)), from_child r after rest q c (λ x. omega (arith, once x)), count-child name (Some (name a)) below q c, count-child name r rest q c, first_of-among (children_at (spot_below name (Some (name a)) below q)) c, first_of-among (children_at (spot_below name r rest q)) c)
+        | inl h ↦
+            grind (arith, h, once q, once c, from_before-first after a below rest, from_before-below after a below rest c, from_first (preorder name rest ++ after) below c (λ x. omega (arith, once x)), is_among-names name below c, first_of-among (names name below) c)
+        | inr h ↦
+            grind (arith, h, once q, once c, is_some-spot_below name (Some (name a)) below q, is_some-spot_below name r rest q, spot_below-absent name (Some (name a)) below q, spot_below-absent name r rest q, from_before-below after a below rest q, from_before-below after a below rest c, from_before-rest after a below rest q, from_before-rest after a below rest c, from_child (Some (name a)) (preorder name rest ++ after) below q c (λ x. omega (arith, once x)), from_child r after rest q c (λ x. omega (arith, once x)), count-child name (Some (name a)) below q c, count-child name r rest q c, first_of-among (children_at (spot_below name (Some (name a)) below q)) c, first_of-among (children_at (spot_below name r rest q)) c)
       ]
 
   from_leaf : (r : Option ℕ) (after : List ℕ) (t : Trees A) (q : ℕ) → IsDistinct name t → 0 < count name q t → children_at (spot_below name r t q) ≡ [] →
@@ -159,7 +168,8 @@ module _ {A : Type 0} (name : A → ℕ) where
   from_leaf r after (tree a below rest) q once some e =
       elim (eqb_tells (name a) q) [
         | inl h ↦ grind (arith, h, once q, from_before-first after a below rest, preorder-none below)
-        | inr h ↦ grind (arith, h, once q, is_some-spot_below name (Some (name a)) below q, is_some-spot_below name r rest q, spot_below-absent name (Some (name a)) below q, from_before-below after a below rest q, from_before-rest after a below rest q, behind_before-below after a below rest q, behind_before-rest after a below rest q, from_leaf (Some (name a)) (preorder name rest ++ after) below q (λ x. omega (arith, once x)), from_leaf r after rest q (λ x. omega (arith, once x)))
+        | inr h ↦
+            grind (arith, h, once q, is_some-spot_below name (Some (name a)) below q, is_some-spot_below name r rest q, spot_below-absent name (Some (name a)) below q, from_before-below after a below rest q, from_before-rest after a below rest q, behind_before-below after a below rest q, behind_before-rest after a below rest q, from_leaf (Some (name a)) (preorder name rest ++ after) below q (λ x. omega (arith, once x)), from_leaf r after rest q (λ x. omega (arith, once x)))
       ]
 
   -- after a name comes its next sibling, or else what comes after the parent
@@ -168,17 +178,22 @@ module _ {A : Type 0} (name : A → ℕ) where
   behind_next r after nil q n p once e = absurd (grind arith)
   behind_next r after (tree a below rest) q n p once e =
       elim (eqb_tells (name a) p) [
-        | inl h ↦ grind (arith, h, once q, once n, eqb_tells (name a) q, behind_before-below after a below rest q, from_before-below after a below rest n, behind_sibling (preorder name rest ++ after) below q n (λ x. omega (arith, once x)), is_among-names name below q, is_among-names name below n, next_in-among (names name below) q n, next_in-absent (names name below) q)
-        | inr h ↦ grind (arith, h, once q, once n, is_some-spot_below name (Some (name a)) below p, spot_below-absent name (Some (name a)) below p, spot_below-absent name r rest p, behind_before-below after a below rest q, behind_before-rest after a below rest q, from_before-below after a below rest n, from_before-rest after a below rest n, behind_next (Some (name a)) (preorder name rest ++ after) below q n p (λ x. omega (arith, once x)), behind_next r after rest q n p (λ x. omega (arith, once x)), count-child name (Some (name a)) below p q, count-child name r rest p q, count-child name (Some (name a)) below p n, count-child name r rest p n, next_in-among (children_at (spot_below name (Some (name a)) below p)) q n, next_in-absent (children_at (spot_below name (Some (name a)) below p)) q, next_in-among (children_at (spot_below name r rest p)) q n, next_in-absent (children_at (spot_below name r rest p)) q)
+        | inl h ↦
+            grind (arith, h, once q, once n, eqb_tells (name a) q, behind_before-below after a below rest q, from_before-below after a below rest n, behind_sibling (preorder name rest ++ after) below q n (λ x. omega (arith, once x)), is_among-names name below q, is_among-names name below n, next_in-among (names name below) q n, next_in-absent (names name below) q)
+        | inr h ↦
+            grind (arith, h, once q, once n, is_some-spot_below name (Some (name a)) below p, spot_below-absent name (Some (name a)) below p, spot_below-absent name r rest p, behind_before-below after a below rest q, behind_before-rest after a below rest q, from_before-below after a below rest n, from_before-rest after a below rest n, behind_next (Some (name a)) (preorder name rest ++ after) below q n p (λ x. omega (arith, once x)), behind_next r after rest q n p (λ x. omega (arith, once x)), count-child name (Some (name a)) below p q, count-child name r rest p q, count-child name (Some (name a)) below p n, count-child name r rest p n, next_in-among (children_at (spot_below name (Some (name a)) below p)) q n, next_in-absent (children_at (spot_below name (Some (name a)) below p)) q, next_in-among (children_at (spot_below name r rest p)) q n, next_in-absent (children_at (spot_below name r rest p)) q)
       ]
 
-  behind_last : (r : Option ℕ) (after : List ℕ) (t : Trees A) (q p : ℕ) → IsDistinct name t → is_among q (children_at (spot_below name r t p)) ≡ true → next_in (children_at (spot_below name r t p)) q ≡ None →
+  behind_last : (r : Option ℕ) (after : List ℕ) (t : Trees A) (q p : ℕ) → IsDistinct name t → is_among q (children_at (spot_below name r t p)) ≡ true
+      → next_in (children_at (spot_below name r t p)) q ≡ None →
       behind_before name after t q ≡ behind_before name after t p
   behind_last r after nil q p once c e = absurd (grind arith)
   behind_last r after (tree a below rest) q p once c e =
       elim (eqb_tells (name a) p) [
-        | inl h ↦ grind (arith, h, once q, once p, eqb_tells (name a) q, behind_before-below after a below rest q, behind_last_sibling (preorder name rest ++ after) below q (λ x. omega (arith, once x)), is_among-names name below q)
-        | inr h ↦ grind (arith, h, once q, once p, is_some-spot_below name (Some (name a)) below p, spot_below-absent name (Some (name a)) below p, spot_below-absent name r rest p, is_some-spot_below name r rest p, behind_before-below after a below rest q, behind_before-rest after a below rest q, behind_before-below after a below rest p, behind_before-rest after a below rest p, behind_last (Some (name a)) (preorder name rest ++ after) below q p (λ x. omega (arith, once x)), behind_last r after rest q p (λ x. omega (arith, once x)), count-child name (Some (name a)) below p q, count-child name r rest p q)
+        | inl h ↦
+            grind (arith, h, once q, once p, eqb_tells (name a) q, behind_before-below after a below rest q, behind_last_sibling (preorder name rest ++ after) below q (λ x. omega (arith, once x)), is_among-names name below q)
+        | inr h ↦
+            grind (arith, h, once q, once p, is_some-spot_below name (Some (name a)) below p, spot_below-absent name (Some (name a)) below p, spot_below-absent name r rest p, is_some-spot_below name r rest p, behind_before-below after a below rest q, behind_before-rest after a below rest q, behind_before-below after a below rest p, behind_before-rest after a below rest p, behind_last (Some (name a)) (preorder name rest ++ after) below q p (λ x. omega (arith, once x)), behind_last r after rest q p (λ x. omega (arith, once x)), count-child name (Some (name a)) below p q, count-child name r rest p q)
       ]
 
   -- ---- the same of trees that are below nothing and that nothing follows
@@ -217,7 +232,8 @@ module _ {A : Type 0} (name : A → ℕ) where
   behind-next t q n p once e = ap (λ o. unwrap_or o []) (behind_next None [] t q n p once e)
 
   -- after a last child comes what comes after its parent
-  pub behind-last : (t : Trees A) (q p : ℕ) → IsDistinct name t → is_among q (children_at (spot name t p)) ≡ true → next_in (children_at (spot name t p)) q ≡ None → behind name t q ≡ behind name t p
+  pub behind-last : (t : Trees A) (q p : ℕ) → IsDistinct name t → is_among q (children_at (spot name t p)) ≡ true
+      → next_in (children_at (spot name t p)) q ≡ None → behind name t q ≡ behind name t p
   behind-last t q p once c e = ap (λ o. unwrap_or o []) (behind_last None [] t q p once c e)
 
   -- after a last first name comes nothing
@@ -225,7 +241,8 @@ module _ {A : Type 0} (name : A → ℕ) where
   behind-top t q once c e = ap (λ o. unwrap_or o []) (behind_last_sibling [] t q once c e)
 
   -- fewer names are above one than there are
-  ancestors_short : (above : List ℕ) (t : Trees A) (q : ℕ) → 0 < count name q t → length (unwrap_or (ancestors_below name above t q) []) < length above + total t
+  ancestors_short : (above : List ℕ) (t : Trees A) (q : ℕ) → 0 < count name q t
+      → length (unwrap_or (ancestors_below name above t q) []) < length above + total t
   ancestors_short above nil q some = absurd (omega arith)
   ancestors_short above (tree a below rest) q some =
       grind (arith, ancestors_short (name a ∷ above) below q, ancestors_short above rest q, is_some-ancestors_below (name a ∷ above) below q, ancestors_below-absent (name a ∷ above) below q)
@@ -258,14 +275,17 @@ module _ {A : Type 0} (name : A → ℕ) where
   place-below (tree a below rest) q k once some other =
       grind (arith, once q, once k, eqb_tells (name a) k, eqb_tells (name a) q, place-below below q k (λ x. omega (arith, once x)), place-below rest q k (λ x. omega (arith, once x)), count-joined name q (alone name k below) (alone name k rest), count-alone-le name q k below, count-alone-le name q k rest, alone-absent name k below, alone-absent name k rest)
 
-  place_rest : (a : A) (below rest : Trees A) (q : ℕ) → count name q (tree a below rest) < 2 → 0 < count name q rest → place (tree a below rest) q ≡ 1 + total below + place rest q
+  place_rest : (a : A) (below rest : Trees A) (q : ℕ) → count name q (tree a below rest) < 2 → 0 < count name q rest
+      → place (tree a below rest) q ≡ 1 + total below + place rest q
   unfolding place
   place_rest a below rest q once some = grind arith
 
-  in_rest : (a : A) (below rest : Trees A) (k q : ℕ) → count name k (tree a below rest) < 2 → 0 < count name k rest → 0 < count name q (alone name k (tree a below rest)) → 0 < count name q (alone name k rest)
+  in_rest : (a : A) (below rest : Trees A) (k q : ℕ) → count name k (tree a below rest) < 2 → 0 < count name k rest
+      → 0 < count name q (alone name k (tree a below rest)) → 0 < count name q (alone name k rest)
   in_rest a below rest k q once some u = grind (arith, alone-absent name k below)
 
-  place-first : (a : A) (below rest : Trees A) (x y q r : ℕ) → IsDistinct name (tree a below rest) → name a ≡ x → 0 < count name y rest → 0 < count name q (alone name x (tree a below rest)) → 0 < count name r (alone name y (tree a below rest)) →
+  place-first : (a : A) (below rest : Trees A) (x y q r : ℕ) → IsDistinct name (tree a below rest) → name a ≡ x → 0 < count name y rest
+      → 0 < count name q (alone name x (tree a below rest)) → 0 < count name r (alone name y (tree a below rest)) →
       place (tree a below rest) q < place (tree a below rest) r
   unfolding place
   place-first a below rest x y q r once e there u v =
@@ -273,7 +293,8 @@ module _ {A : Type 0} (name : A → ℕ) where
       rw (place_rest a below rest r (once r) r_in) (grind (arith, once x, eqb_tells (name a) x, alone-absent name x rest, place-lt below q))
 
   -- and what is in the tree of a sibling comes before what is in that of a later one
-  place-sibling : (t : Trees A) (x y q r i j : ℕ) → IsDistinct name t → index_in (names name t) x ≡ Some i → index_in (names name t) y ≡ Some j → i < j → 0 < count name q (alone name x t) → 0 < count name r (alone name y t) → place t q < place t r
+  place-sibling : (t : Trees A) (x y q r i j : ℕ) → IsDistinct name t → index_in (names name t) x ≡ Some i → index_in (names name t) y ≡ Some j → i < j
+      → 0 < count name q (alone name x t) → 0 < count name r (alone name y t) → place t q < place t r
   unfolding place
   place-sibling nil x y q r i j once e f l u v = absurd (grind arith)
   place-sibling (tree a below rest) x y q r i j once e f l u v =
@@ -284,7 +305,8 @@ module _ {A : Type 0} (name : A → ℕ) where
         | inr other ↦
             let x_later : index_in (names name rest) x ≡ Some (i - 1) = (index_before (index_in (names name rest) x) i (grind (arith, other))).0 in
             let some : 0 < i = (index_before (index_in (names name rest) x) i (grind (arith, other))).1 in
-            let y_later : index_in (names name rest) y ≡ Some (j - 1) = (index_before (index_in (names name rest) y) j (grind (arith, eqb_tells (name a) y))).0 in
+            let y_later : index_in (names name rest) y ≡ Some (j - 1) =
+            (index_before (index_in (names name rest) y) j (grind (arith, eqb_tells (name a) y))).0 in
             let x_there : 0 < count name x rest = grind (arith, is_some-index_in (names name rest) x, is_among-names name rest x) in
             let y_there : 0 < count name y rest = grind (arith, is_some-index_in (names name rest) y, is_among-names name rest y) in
             let q_in : 0 < count name q (alone name x rest) = in_rest a below rest x q (once x) x_there u in
@@ -293,17 +315,20 @@ module _ {A : Type 0} (name : A → ℕ) where
             rw (place_rest a below rest q (once q) (omega (arith, count-alone-le name q x rest)), place_rest a below rest r (once r) (omega (arith, count-alone-le name r y rest))) (omega arith)
       ]
 
-  place_below : (a : A) (below rest : Trees A) (q : ℕ) → count name q (tree a below rest) < 2 → 0 < count name q below → place (tree a below rest) q ≡ 1 + place below q
+  place_below : (a : A) (below rest : Trees A) (q : ℕ) → count name q (tree a below rest) < 2 → 0 < count name q below
+      → place (tree a below rest) q ≡ 1 + place below q
   unfolding place
   place_below a below rest q once some = grind arith
 
-  in_below : (a : A) (below rest : Trees A) (k q : ℕ) → count name k (tree a below rest) < 2 → 0 < count name k below → 0 < count name q (alone name k (tree a below rest)) → 0 < count name q (alone name k below)
+  in_below : (a : A) (below rest : Trees A) (k q : ℕ) → count name k (tree a below rest) < 2 → 0 < count name k below
+      → 0 < count name q (alone name k (tree a below rest)) → 0 < count name q (alone name k below)
   in_below a below rest k q once some u = grind (arith, alone-absent name k rest, joined-nil (alone name k below))
 
   child_there : (r : Option ℕ) (t : Trees A) (p x i : ℕ) → index_in (children_at (spot_below name r t p)) x ≡ Some i → 0 < count name x t
   child_there r t p x i e = grind (arith, is_some-index_in (children_at (spot_below name r t p)) x, count-child name r t p x)
 
-  place-children : (r : Option ℕ) (t : Trees A) (p x y i j q s : ℕ) → IsDistinct name t → index_in (children_at (spot_below name r t p)) x ≡ Some i → index_in (children_at (spot_below name r t p)) y ≡ Some j → i < j → 0 < count name q (alone name x t) → 0 < count name s (alone name y t) →
+  place-children : (r : Option ℕ) (t : Trees A) (p x y i j q s : ℕ) → IsDistinct name t → index_in (children_at (spot_below name r t p)) x ≡ Some i
+      → index_in (children_at (spot_below name r t p)) y ≡ Some j → i < j → 0 < count name q (alone name x t) → 0 < count name s (alone name y t) →
       place t q < place t s
   place-children r nil p x y i j q s once e f l u v = absurd (grind arith)
   place-children r (tree a below rest) p x y i j q s once e f l u v =
@@ -319,7 +344,8 @@ module _ {A : Type 0} (name : A → ℕ) where
             rw (place_below a below rest q (once q) (omega (arith, count-alone-le name q x below)), place_below a below rest s (once s) (omega (arith, count-alone-le name s y below))) (omega arith)
         | inr other ↦ elim (cases_lt 0 (count name p below)) [
           | inl inside ↦
-              let same : spot_below name r (tree a below rest) p ≡ spot_below name (Some (name a)) below p = grind (arith, other, is_some-spot_below name (Some (name a)) below p) in
+              let same : spot_below name r (tree a below rest) p ≡ spot_below name (Some (name a)) below p =
+              grind (arith, other, is_some-spot_below name (Some (name a)) below p) in
               let x_at : index_in (children_at (spot_below name (Some (name a)) below p)) x ≡ Some i = rw same at e in
               let y_at : index_in (children_at (spot_below name (Some (name a)) below p)) y ≡ Some j = rw same at f in
               let q_in = in_below a below rest x q (once x) (child_there (Some (name a)) below p x i x_at) u in
@@ -327,7 +353,8 @@ module _ {A : Type 0} (name : A → ℕ) where
               let lower = place-children (Some (name a)) below p x y i j q s (λ z. omega (arith, once z)) x_at y_at l q_in s_in in
               rw (place_below a below rest q (once q) (omega (arith, count-alone-le name q x below)), place_below a below rest s (once s) (omega (arith, count-alone-le name s y below))) (omega arith)
           | inr outside ↦
-              let same : spot_below name r (tree a below rest) p ≡ spot_below name r rest p = grind (arith, other, spot_below-absent name (Some (name a)) below p) in
+              let same : spot_below name r (tree a below rest) p ≡ spot_below name r rest p =
+              grind (arith, other, spot_below-absent name (Some (name a)) below p) in
               let x_at : index_in (children_at (spot_below name r rest p)) x ≡ Some i = rw same at e in
               let y_at : index_in (children_at (spot_below name r rest p)) y ≡ Some j = rw same at f in
               let q_in = in_rest a below rest x q (once x) (child_there r rest p x i x_at) u in
@@ -349,7 +376,8 @@ module _ {A : Type 0} (name : A → ℕ) where
       }
 
   -- what is in the tree of a child comes before what is in that of a later child
-  pub ComesBefore-children : (t : Trees A) (p x y q s : ℕ) → IsDistinct name t → ComesBefore (children_at (spot name t p)) x y → 0 < count name q (alone name x t) → 0 < count name s (alone name y t) → ComesBefore (preorder name t) q s
+  pub ComesBefore-children : (t : Trees A) (p x y q s : ℕ) → IsDistinct name t → ComesBefore (children_at (spot name t p)) x y
+      → 0 < count name q (alone name x t) → 0 < count name s (alone name y t) → ComesBefore (preorder name t) q s
   ComesBefore-children t p x y q s once c u v =
       record {
         first = place t q;

@@ -48,7 +48,8 @@ module _ (p : Parse json.Json) (takes : Takes p) where
   members_alike (suc n) zero (t ∷ ts) le le' = absurd (omega (arith, le'))
   members_alike (suc n) (suc m) (t ∷ ts) le le' =
       and_then_alike (read_key (t ∷ ts)) _ _
-      (λ q e. member_alike n m (t ∷ ts) q.0 q.1 (read_key-shorter (t ∷ ts) q.0 q.1 e) (λ r less. members_alike n m r (omega (arith, less, le)) (omega (arith, less, le'))))
+      (λ q e. member_alike n m (t ∷ ts) q.0 q.1 (read_key-shorter (t ∷ ts) q.0 q.1 e)
+      (λ r less. members_alike n m r (omega (arith, less, le)) (omega (arith, less, le'))))
 
 -- ---- as data
 
@@ -57,7 +58,8 @@ passed f r None = refl
 passed f r (Some a) = refl
 
 -- what follows a value goes on after it, if it is one
-onward : {B : Type 0} (next : Data → List Token → Option B) (r : List Token) (o : Option Data) → option_and_then (λ d. next d r) o ≡ option_and_then (λ (q : Data × List Token). next q.0 q.1) (option_map (λ d. (d, r)) o)
+onward : {B : Type 0} (next : Data → List Token → Option B) (r : List Token) (o : Option Data)
+    → option_and_then (λ d. next d r) o ≡ option_and_then (λ (q : Data × List Token). next q.0 q.1) (option_map (λ d. (d, r)) o)
 onward next r None = refl
 onward next r (Some d) = refl
 
@@ -69,7 +71,8 @@ item_kept j (Some d) e None = refl
 item_kept j (Some d) e (Some y) = rw e (passed (item d) y.1 (of_items y.0))
 
 item_converted : (o : Option (json.Json × List Token)) (more rest : Parse json.Items) → ((q : json.Json × List Token) → o ≡ Some q → more q.1 ≡ rest q.1)
-    → converted of_items (option_and_then (λ q. parse_map (json.item q.0) (more q.1)) o) ≡ option_and_then (λ q. parse_map (item q.0) (converted of_items (rest q.1))) (converted of_json o)
+    → converted of_items (option_and_then (λ q. parse_map (json.item q.0) (more q.1)) o)
+    ≡ option_and_then (λ q. parse_map (item q.0) (converted of_items (rest q.1))) (converted of_json o)
 item_converted None more rest alike = refl
 item_converted (Some q) more rest alike =
     ap (λ x. converted of_items (parse_map (json.item q.0) x)) (alike q refl) ∙ item_kept q.0 (of_json q.0) refl (rest q.1)
@@ -82,7 +85,8 @@ member_kept k found j None e (Some y) = rw e
 member_kept k found j (Some d) e None = refl
 member_kept k found j (Some d) e (Some y) = rw e
 
-member_converted : (k : List ℕ) (found : Members) (o : Option (json.Json × List Token)) (more rest : Parse json.Members) → ((q : json.Json × List Token) → o ≡ Some q → more q.1 ≡ rest q.1)
+member_converted : (k : List ℕ) (found : Members) (o : Option (json.Json × List Token)) (more rest : Parse json.Members)
+    → ((q : json.Json × List Token) → o ≡ Some q → more q.1 ≡ rest q.1)
     → converted (λ ms. of_members ms found) (option_and_then (λ q. parse_map (json.member k q.0) (more q.1)) o)
     ≡ option_and_then (λ q. converted (λ ms. of_members ms (put k q.0 found)) (rest q.1)) (converted of_json o)
 member_converted k found None more rest alike = refl
@@ -97,19 +101,23 @@ module _ (depth : ℕ) where
   items_over ts r closed = ap (converted of_items) (items_end (json.value depth) (length ts) ts r (omega arith) closed)
 
   item_turn : (ts : List Token) → after_end_array ts ≡ None
-      → items (json.value depth) (length ts) ts ≡ option_and_then (λ q. parse_map (json.item q.0) (items (json.value depth) (length ts) q.1)) (json.value depth ts)
+      → items (json.value depth) (length ts) ts
+      ≡ option_and_then (λ q. parse_map (json.item q.0) (items (json.value depth) (length ts) q.1)) (json.value depth ts)
   unfolding items
   item_turn ts going =
       items_alike (json.value depth) (skip_value-shorter depth) (length ts) (suc (length ts)) ts (omega arith) (omega arith)
       ∙ ap (items_step (json.value depth) (items (json.value depth) (length ts)) ts) going
 
-  items_go : (ts : List Token) → after_end_array ts ≡ None → items_from depth ts ≡ option_and_then (λ q. parse_map (item q.0) (items_from depth q.1)) (value_ahead depth ts)
+  items_go : (ts : List Token) → after_end_array ts ≡ None
+      → items_from depth ts ≡ option_and_then (λ q. parse_map (item q.0) (items_from depth q.1)) (value_ahead depth ts)
   items_go ts going =
       ap (converted of_items) (item_turn ts going)
       ∙ item_converted (json.value depth ts) (items (json.value depth) (length ts)) (λ r. items (json.value depth) (length r) r)
-      (λ q e. let less = skip_value-shorter depth ts q.1 (ap left e) in items_alike (json.value depth) (skip_value-shorter depth) (length ts) (length q.1) q.1 (omega (arith, less)) (omega arith))
+      (λ q e. let less = skip_value-shorter depth ts q.1 (ap left e) in items_alike (json.value depth) (skip_value-shorter depth) (length ts) (length q.1) q.1
+      (omega (arith, less)) (omega arith))
 
-  pub item_read : (ts r : List Token) (d : Data) → after_end_array ts ≡ None → value_ahead depth ts ≡ Some (d, r) → items_from depth ts ≡ parse_map (item d) (items_from depth r)
+  pub item_read : (ts r : List Token) (d : Data) → after_end_array ts ≡ None → value_ahead depth ts ≡ Some (d, r)
+      → items_from depth ts ≡ parse_map (item d) (items_from depth r)
   item_read ts r d going is = items_go ts going ∙ ap (option_and_then (λ (q : Data × List Token). parse_map (item q.0) (items_from depth q.1))) is
 
   pub item_refused : (ts : List Token) → after_end_array ts ≡ None → value_ahead depth ts ≡ None → items_from depth ts ≡ None
@@ -123,7 +131,8 @@ module _ (depth : ℕ) where
     members_refused ts none = ap (converted (λ ms. of_members ms found)) (members_no_key (json.value depth) (length ts) ts none)
 
     member_turn : (k : List ℕ) (ts s : List Token) → read_key ts ≡ Some (Some k, s)
-        → members (json.value depth) (length ts) ts ≡ option_and_then (λ q. parse_map (json.member k q.0) (members (json.value depth) (length ts) q.1)) (json.value depth s)
+        → members (json.value depth) (length ts) ts
+        ≡ option_and_then (λ q. parse_map (json.member k q.0) (members (json.value depth) (length ts) q.1)) (json.value depth s)
     unfolding members
     member_turn k ts s named =
         members_alike (json.value depth) (skip_value-shorter depth) (length ts) (suc (length ts)) ts (omega arith) (omega arith)
@@ -139,7 +148,8 @@ module _ (depth : ℕ) where
         let key = read_key-shorter ts (Some k) s named in
         members_alike (json.value depth) (skip_value-shorter depth) (length ts) (length q.1) q.1 (omega (arith, less, key)) (omega arith))
 
-    pub member_read : (k : List ℕ) (ts s r : List Token) (d : Data) → read_key ts ≡ Some (Some k, s) → value_ahead depth s ≡ Some (d, r) → members_from depth found ts ≡ members_from depth (put k d found) r
+    pub member_read : (k : List ℕ) (ts s r : List Token) (d : Data) → read_key ts ≡ Some (Some k, s) → value_ahead depth s ≡ Some (d, r)
+        → members_from depth found ts ≡ members_from depth (put k d found) r
     member_read k ts s r d named is = members_go k ts s named ∙ ap (option_and_then (λ (q : Data × List Token). members_from depth (put k q.0 found) q.1)) is
 
     pub member_refused : (k : List ℕ) (ts s : List Token) → read_key ts ≡ Some (Some k, s) → value_ahead depth s ≡ None → members_from depth found ts ≡ None

@@ -22,7 +22,8 @@ array_passed : (o : Option (json.Items × List spec.Token)) → converted of_jso
 array_passed None = refl
 array_passed (Some q) = passed array q.1 (of_items q.0)
 
-object_passed : (o : Option (json.Members × List spec.Token)) → converted of_json (parse_map json.object o) ≡ parse_map object (converted (λ ms. of_members ms no_members) o)
+object_passed : (o : Option (json.Members × List spec.Token))
+    → converted of_json (parse_map json.object o) ≡ parse_map object (converted (λ ms. of_members ms no_members) o)
 object_passed None = refl
 object_passed (Some q) = passed object q.1 (of_members q.0 no_members)
 
@@ -67,14 +68,16 @@ behind-last : (vs : List Value) (v : Value) (rest : Items) → behind vs (item (
 behind-last [] v rest = refl
 behind-last (w ∷ vs) v rest = ap (item (view w)) (behind-last vs v rest)
 
-pub one_more : (vs : List Value) (v : Value) (o : Option (Items × List spec.Token)) → parse_map (behind vs) (parse_map (item (view v)) o) ≡ parse_map (behind (vs ++ v ∷ [])) o
+pub one_more : (vs : List Value) (v : Value) (o : Option (Items × List spec.Token))
+    → parse_map (behind vs) (parse_map (item (view v)) o) ≡ parse_map (behind (vs ++ v ∷ [])) o
 one_more vs v None = refl
 one_more vs v (Some q) = ap (λ ds. Some (ds, q.1)) (behind-last vs v q.0)
 
 -- ---- outcomes
 
 -- what is refused inside is refused outside
-pub refused_outside : {B D : Type 0} (inner : Option B) (outer : Option D) (unread : Unread) → (inner ≡ None → outer ≡ None) → Refuses inner unread → Refuses outer unread
+pub refused_outside : {B D : Type 0} (inner : Option B) (outer : Option D) (unread : Unread) → (inner ≡ None → outer ≡ None) → Refuses inner unread
+    → Refuses outer unread
 refused_outside inner outer NoJson goes refused = goes refused
 refused_outside inner outer Memory goes refused = tt
 

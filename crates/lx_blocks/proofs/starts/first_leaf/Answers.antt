@@ -10,10 +10,12 @@ pub loop-child-preserved : goal.loop-child-preserved
 loop-child-preserved c = record {
   there = first_there c.args.links.now c.loop-child.at c.in-Some.child c.first.ensures.sound (sym c.first.ensures.first ∙ c.in-Some.is);
   same =
-      first_on c.args.links.now c.loop-child.at c.in-Some.child c.first.ensures.sound (living c.args.links.now c.args.key c.requires) (sym c.first.ensures.first ∙ c.in-Some.is)
+      first_on c.args.links.now c.loop-child.at c.in-Some.child c.first.ensures.sound (living c.args.links.now c.args.key c.requires)
+      (sym c.first.ensures.first ∙ c.in-Some.is)
       ∙ c.loop-child.invariant.same;
 }
 
 pub returns : goal.returns
 returns c =
-    first_found c.args.links.now c.loop-child.at _ c.first.ensures.sound (living c.args.links.now c.args.key c.requires) c.loop-child.invariant.there (sym c.first.ensures.first ∙ c.in_default.is) c.loop-child.invariant.same
+    first_found c.args.links.now c.loop-child.at _ c.first.ensures.sound (living c.args.links.now c.args.key c.requires) c.loop-child.invariant.there
+    (sym c.first.ensures.first ∙ c.in_default.is) c.loop-child.invariant.same

@@ -8,4 +8,5 @@ use Rattle.lx_blocks.proofs.starts.start_within.Goals as goal
 pub returns-else-has : goal.returns-else-has
 returns-else-has c =
     let absent : has c.args.key c.args.draft.now.forest ≡ false = sym (c.if-has.ensures.has ∙ ap (has c.args.key) c.links-links.ensures.forest) in
-    c.element_point.ensures ∙ ap (λ k. element_point k 0) c.root.ensures ∙ sym (ap (start_at c.args.draft.now.forest) (no_leaf c.args.draft.now.forest c.args.key absent))
+    c.element_point.ensures ∙ ap (λ k. element_point k 0) c.root.ensures
+    ∙ sym (ap (start_at c.args.draft.now.forest) (no_leaf c.args.draft.now.forest c.args.key absent))

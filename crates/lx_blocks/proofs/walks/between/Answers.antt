@@ -8,5 +8,6 @@ pub returns-clause-covered : goal.returns-clause-covered
 returns-clause-covered c =
     let f = c.args.links.now in
     subst (λ ks. IfOk c.collect.result (λ keys. keys.items ≡ filter (λ k. not (is_within f k c.args.end.now.key)) ks))
-    (left_until f c.args.start.now c.args.end.now c.first_behind-from.result c.first_behind-stop.result c.first_behind-stop.ensures.at c.first_behind-from.ensures.left c.first_behind-stop.ensures.left)
+    (left_until f c.args.start.now c.args.end.now c.first_behind-from.result c.first_behind-stop.result c.first_behind-stop.ensures.at
+    c.first_behind-from.ensures.left c.first_behind-stop.ensures.left)
     c.collect.ensures

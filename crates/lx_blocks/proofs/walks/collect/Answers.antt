@@ -7,5 +7,7 @@ use Rattle.lx_blocks.proofs.walks.collect.Goals as goal
 pub loop-at-preserved : goal.loop-at-preserved
 loop-at-preserved c =
     let test : ℕ → Bool = λ k. not (is_within c.args.links.now k c.args.held) in
-    way_on test (key_of_step c.args.stop) c.loop-at.at c.next_in_tree-next.result c.args.links.now _ c.in-Some.depth c.loop-at.keys.items _ _ c.loop-at.invariant
-    c.next_in_tree-next.ensures.next c.next_in_tree-next.ensures.last c.next_in_tree-next.ensures.depth (sym c.is_stop.ensures ∙ c.if-is_stop.false) c.in_ok-keep.ensures (search rules)
+    way_on test (key_of_step c.args.stop) c.loop-at.at c.next_in_tree-next.result c.args.links.now _ c.in-Some.depth c.loop-at.keys.items _ _
+    c.loop-at.invariant
+    c.next_in_tree-next.ensures.next c.next_in_tree-next.ensures.last c.next_in_tree-next.ensures.depth (sym c.is_stop.ensures ∙ c.if-is_stop.false)
+    c.in_ok-keep.ensures (search rules)

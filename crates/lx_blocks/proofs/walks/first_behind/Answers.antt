@@ -8,4 +8,5 @@ overflow_add-result c =
 
 pub returns-in-Some-clause-at : goal.returns-in-Some-clause-at
 returns-in-Some-clause-at c =
-    (child_at c.args.links.now c.args.point.now.key c.in-Some.child c.args.point.now.offset c.in_ok-depth.depth c.child_at.ensures.sound (sym c.in_ok-depth.ensures.depth) (sym c.in-Some.ensures.child)).deeper
+    (child_at c.args.links.now c.args.point.now.key c.in-Some.child c.args.point.now.offset c.in_ok-depth.depth c.child_at.ensures.sound
+    (sym c.in_ok-depth.ensures.depth) (sym c.in-Some.ensures.child)).deeper

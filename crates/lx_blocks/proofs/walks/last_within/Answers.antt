@@ -12,4 +12,5 @@ loop-child-preserved c =
 
 pub returns-clause-last : goal.returns-clause-last
 returns-clause-last c =
-    sym (c.loop-child.invariant.1 ∙ last_reached c.args.links.now c.loop-child.at c.last.result c.last.ensures.sound c.loop-child.invariant.0 c.last.ensures.last c.in_default.not-Some)
+    sym (c.loop-child.invariant.1
+    ∙ last_reached c.args.links.now c.loop-child.at c.last.result c.last.ensures.sound c.loop-child.invariant.0 c.last.ensures.last c.in_default.not-Some)

@@ -8,4 +8,5 @@ pub returns : goal.returns
 returns c =
     let f = c.args.links.now in
     let test : ℕ → Bool = λ k. unwrap_or (option_map (λ p. is_within f p c.args.start.now.key || is_within f p c.args.end.now.key) (parent_of f k)) true in
-    c.keep_outermost.ensures ∙ ap (filter test) c.in_ok-keys.ensures.covered ∙ outer_tie f c.args.start.now c.args.end.now c.between.ensures.sound c.requires.start
+    c.keep_outermost.ensures ∙ ap (filter test) c.in_ok-keys.ensures.covered
+    ∙ outer_tie f c.args.start.now c.args.end.now c.between.ensures.sound c.requires.start

@@ -10,7 +10,8 @@ pub returns-in-Some : goal.returns-in-Some
 returns-in-Some c =
     let f = c.args.links.now in
     let is : Some c.last_within.result ≡ node_before f c.args.key =
-    sibling_before f c.args.key c.in-Some.previous c.last_within.result c.previous.ensures.sound c.requires (sym c.in-Some.ensures.previous) c.last_within.ensures.last in
+    sibling_before f c.args.key c.in-Some.previous c.last_within.result c.previous.ensures.sound c.requires (sym c.in-Some.ensures.previous)
+    c.last_within.ensures.last in
     record {
       before = is;
       others = before_others f c.args.key (Some c.last_within.result) c.previous.ensures.sound c.requires is;

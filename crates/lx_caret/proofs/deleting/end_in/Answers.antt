@@ -5,4 +5,5 @@ use Rattle.lx_caret.proofs.deleting.end_in.Goals as goal
 
 pub reach-requires : goal.reach-requires
 reach-requires c =
-    ap (is_offset c.args.at) c.as_str.ensures.text ∙ offset_of c.args.draft.now.forest c.args.key c.args.at c.in-Some.text.now (sym c.in-Some.ensures) c.requires
+    ap (is_offset c.args.at) c.as_str.ensures.text
+    ∙ offset_of c.args.draft.now.forest c.args.key c.args.at c.in-Some.text.now (sym c.in-Some.ensures) c.requires

@@ -5,7 +5,8 @@ use Rattle.lx_caret.proofs.deleting.leaf_before.Goals as goal
 
 pub loop-at-init : goal.loop-at-init
 loop-at-init c =
-    leaf_starts c.last_before-at.result c.args.links.now c.args.block c.args.point.now c.last_before-at.ensures.before c.last_before-at.ensures.none c.last_before-at.ensures.attached
+    leaf_starts c.last_before-at.result c.args.links.now c.args.block c.args.point.now c.last_before-at.ensures.before c.last_before-at.ensures.none
+    c.last_before-at.ensures.attached
 
 pub returns-then-is_leaf_before : goal.returns-then-is_leaf_before
 returns-then-is_leaf_before c =
@@ -23,11 +24,13 @@ previous_in_tree-at-requires c =
 
 pub loop-at-smaller : goal.loop-at-smaller
 loop-at-smaller c =
-    back_shorter c.loop-at.at c.previous_in_tree-at.result c.args.links.now c.in-Some.key c.previous_in_tree-at.ensures.others c.previous_in_tree-at.ensures.first c.in-Some.is
+    back_shorter c.loop-at.at c.previous_in_tree-at.result c.args.links.now c.in-Some.key c.previous_in_tree-at.ensures.others
+    c.previous_in_tree-at.ensures.first c.in-Some.is
 
 pub loop-at-preserved : goal.loop-at-preserved
 loop-at-preserved c =
-    back_on (is_leaf_before c.args.links.now c.args.block c.args.point.now) c.loop-at.at c.previous_in_tree-at.result c.args.links.now c.in-Some.key _ c.loop-at.invariant
+    back_on (is_leaf_before c.args.links.now c.args.block c.args.point.now) c.loop-at.at c.previous_in_tree-at.result c.args.links.now c.in-Some.key _
+    c.loop-at.invariant
     c.previous_in_tree-at.ensures.others c.previous_in_tree-at.ensures.first c.previous_in_tree-at.ensures.attached
     (sym c.is_leaf_before.ensures.leaf ∙ c.if-is_leaf_before.false) c.in-Some.is
 

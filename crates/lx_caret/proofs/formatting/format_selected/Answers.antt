@@ -9,7 +9,8 @@ pub format_pieces-requires : goal.format_pieces-requires
 format_pieces-requires c i p here behind =
     let start = c.in_order-start.ensures.start ∙ ap (λ f. start_of f c.in_ok-range.range) c.links.ensures.forest in
     let end = c.in_order-start.ensures.end ∙ ap (λ f. end_of f c.in_ok-range.range) c.links.ensures.forest in
-    let are : c.deref.result.now ≡ pieces c.args.draft.now.forest (start_of c.args.draft.now.forest c.in_ok-range.range) (end_of c.args.draft.now.forest c.in_ok-range.range) =
+    let are : c.deref.result.now
+    ≡ pieces c.args.draft.now.forest (start_of c.args.draft.now.forest c.in_ok-range.range) (end_of c.args.draft.now.forest c.in_ok-range.range) =
     c.deref.ensures.value ∙ c.in_ok-pieces.ensures
     ∙ ap (λ x. pieces c.args.draft.now.forest x c.in_order-start.result.1) start
     ∙ ap (λ x. pieces c.args.draft.now.forest (start_of c.args.draft.now.forest c.in_ok-range.range) x) end in

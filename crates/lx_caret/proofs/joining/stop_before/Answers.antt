@@ -7,7 +7,8 @@ use Rattle.lx_caret.proofs.joining.stop_before.Goals as goal
 
 pub loop-at-init : goal.loop-at-init
 loop-at-init c =
-    back_starts (is_stop c.args.links.now (frame_of c.args.links.now c.args.block)) c.previous_in_tree-at.result c.args.links.now (nodes_before c.args.links.now c.args.block)
+    back_starts (is_stop c.args.links.now (frame_of c.args.links.now c.args.block)) c.previous_in_tree-at.result c.args.links.now
+    (nodes_before c.args.links.now c.args.block)
     c.previous_in_tree-at.ensures.others c.previous_in_tree-at.ensures.first c.previous_in_tree-at.ensures.attached
 
 pub returns-then-is_stop : goal.returns-then-is_stop
@@ -17,15 +18,18 @@ returns-then-is_stop c =
 
 pub previous_in_tree-at-requires-in-Some : goal.previous_in_tree-at-requires-in-Some
 previous_in_tree-at-requires-in-Some c =
-    up_attached (is_stop c.args.links.now (frame_of c.args.links.now c.args.block)) c.loop-at.at c.args.links.now c.in-Some.key _ c.loop-at.invariant c.in-Some.is
+    up_attached (is_stop c.args.links.now (frame_of c.args.links.now c.args.block)) c.loop-at.at c.args.links.now c.in-Some.key _ c.loop-at.invariant
+    c.in-Some.is
 
 pub loop-at-smaller : goal.loop-at-smaller
 loop-at-smaller c =
-    back_shorter c.loop-at.at c.previous_in_tree-at-in-Some.result c.args.links.now c.in-Some.key c.previous_in_tree-at-in-Some.ensures.others c.previous_in_tree-at-in-Some.ensures.first c.in-Some.is
+    back_shorter c.loop-at.at c.previous_in_tree-at-in-Some.result c.args.links.now c.in-Some.key c.previous_in_tree-at-in-Some.ensures.others
+    c.previous_in_tree-at-in-Some.ensures.first c.in-Some.is
 
 pub loop-at-preserved : goal.loop-at-preserved
 loop-at-preserved c =
-    back_on (is_stop c.args.links.now (frame_of c.args.links.now c.args.block)) c.loop-at.at c.previous_in_tree-at-in-Some.result c.args.links.now c.in-Some.key _ c.loop-at.invariant
+    back_on (is_stop c.args.links.now (frame_of c.args.links.now c.args.block)) c.loop-at.at c.previous_in_tree-at-in-Some.result c.args.links.now c.in-Some.key
+    _ c.loop-at.invariant
     c.previous_in_tree-at-in-Some.ensures.others c.previous_in_tree-at-in-Some.ensures.first c.previous_in_tree-at-in-Some.ensures.attached
     (ap (λ within. is_stop c.args.links.now within c.in-Some.key) (sym c.frame-within.ensures.frame) ∙ sym c.is_stop.ensures ∙ c.if-is_stop.false) c.in-Some.is
 

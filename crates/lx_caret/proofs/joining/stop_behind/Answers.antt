@@ -17,24 +17,30 @@ pub returns-then-is_other_stop : goal.returns-then-is_other_stop
 returns-then-is_other_stop c =
     let test : ℕ → Bool = is_other (is_stop c.args.links.now (frame_of c.args.links.now c.args.block)) c.args.block in
     record {
-      stop = forth_found test c.loop-at.at c.next_in_tree-next.result c.args.links.now _ c.in-Some.depth _ c.loop-at.invariant c.next_in_tree-next.ensures.next c.next_in_tree-next.ensures.last
-          (stop_told c.args.links.now c.args.block _ c.frame-within.result c.is_other_stop.result _ c.frame-within.ensures.frame c.is_other_stop.ensures c.if-is_other_stop.true) (search rules);
+      stop = forth_found test c.loop-at.at c.next_in_tree-next.result c.args.links.now _ c.in-Some.depth _ c.loop-at.invariant c.next_in_tree-next.ensures.next
+          c.next_in_tree-next.ensures.last
+          (stop_told c.args.links.now c.args.block _ c.frame-within.result c.is_other_stop.result _ c.frame-within.ensures.frame c.is_other_stop.ensures
+          c.if-is_other_stop.true) (search rules);
       attached = forth_attached test c.loop-at.at c.args.links.now _ c.in-Some.depth _ c.loop-at.invariant (search rules);
     }
 
 pub loop-at-smaller : goal.loop-at-smaller
 loop-at-smaller c =
-    forth_shorter c.loop-at.at c.next_in_tree-next.result c.args.links.now _ c.in-Some.depth c.next_in_tree-next.ensures.next c.next_in_tree-next.ensures.last (search rules)
+    forth_shorter c.loop-at.at c.next_in_tree-next.result c.args.links.now _ c.in-Some.depth c.next_in_tree-next.ensures.next c.next_in_tree-next.ensures.last
+    (search rules)
 
 pub loop-at-preserved : goal.loop-at-preserved
 loop-at-preserved c =
-    forth_on (is_other (is_stop c.args.links.now (frame_of c.args.links.now c.args.block)) c.args.block) c.loop-at.at c.next_in_tree-next.result c.args.links.now _ c.in-Some.depth _ c.loop-at.invariant
+    forth_on (is_other (is_stop c.args.links.now (frame_of c.args.links.now c.args.block)) c.args.block) c.loop-at.at c.next_in_tree-next.result
+    c.args.links.now _ c.in-Some.depth _ c.loop-at.invariant
     c.next_in_tree-next.ensures.next c.next_in_tree-next.ensures.last c.next_in_tree-next.ensures.depth
-    (stop_told c.args.links.now c.args.block _ c.frame-within.result c.is_other_stop.result _ c.frame-within.ensures.frame c.is_other_stop.ensures c.if-is_other_stop.false) (search rules)
+    (stop_told c.args.links.now c.args.block _ c.frame-within.result c.is_other_stop.result _ c.frame-within.ensures.frame c.is_other_stop.ensures
+    c.if-is_other_stop.false) (search rules)
 
 pub returns : goal.returns
 returns c =
     record {
-      stop = forth_ends (is_other (is_stop c.args.links.now (frame_of c.args.links.now c.args.block)) c.args.block) c.loop-at.at c.args.links.now _ c.loop-at.invariant c.in_default.is;
+      stop = forth_ends (is_other (is_stop c.args.links.now (frame_of c.args.links.now c.args.block)) c.args.block) c.loop-at.at c.args.links.now _
+          c.loop-at.invariant c.in_default.is;
       attached = tt;
     }

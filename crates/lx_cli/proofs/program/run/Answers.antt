@@ -43,7 +43,8 @@ returns-in-Generate g c =
     let words = map string_bytes c.args.words.now in
     let asked = c.in-Ok.ensures.ok.1 in
     let mode : (asked_for words).mode ≡ Generate c.in-Generate.session = ap (λ (o : Options). o.mode) (sym asked) ∙ c.in-Generate.is in
-    let run = c.generate.ensures words (source_seen g.S.Source.left g.S.Source.faults g.S.Source.reads c.args.source.now) (ap (λ (o : Options). o.delay) asked) in
+    let run =
+    c.generate.ensures words (source_seen g.S.Source.left g.S.Source.faults g.S.Source.reads c.args.source.now) (ap (λ (o : Options). o.delay) asked) in
     ([], run.0, RunsAsAsked-taken (Generate c.in-Generate.session) c.generate.result _ c.in-Ok.ensures.ok.0 mode run.1)
 
 pub returns-in-Err-Usage : goal.returns-in-Err-Usage

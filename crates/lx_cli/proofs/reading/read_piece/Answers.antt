@@ -16,8 +16,10 @@ unanswered : (g : Over) (c : After-take_piece g) (why : Unanswered)
     → BytesEnd (Err why) (take c.min-within.result c.read.new.into) c.args.session.now c.take_piece.new.self
     (sink_seen g.K.Sink.taken g.K.Sink.faults g.K.Sink.writes c.args.sink.now) (sink_seen g.K.Sink.taken g.K.Sink.faults g.K.Sink.writes c.take_piece.new.sink)
     → IsUnanswered why c.args.may_come (take c.in-Ok.count c.read.new.into)
-    (moment c.args.session.now (source_seen g.S.Source.left g.S.Source.faults g.S.Source.reads c.args.source.now) (sink_seen g.K.Sink.taken g.K.Sink.faults g.K.Sink.writes c.args.sink.now))
-    (moment c.take_piece.new.self (source_seen g.S.Source.left g.S.Source.faults g.S.Source.reads c.read.new.self) (sink_seen g.K.Sink.taken g.K.Sink.faults g.K.Sink.writes c.take_piece.new.sink))
+    (moment c.args.session.now (source_seen g.S.Source.left g.S.Source.faults g.S.Source.reads c.args.source.now)
+    (sink_seen g.K.Sink.taken g.K.Sink.faults g.K.Sink.writes c.args.sink.now))
+    (moment c.take_piece.new.self (source_seen g.S.Source.left g.S.Source.faults g.S.Source.reads c.read.new.self)
+    (sink_seen g.K.Sink.taken g.K.Sink.faults g.K.Sink.writes c.take_piece.new.sink))
 unanswered g c why told =
     let cut = length-take c.min-room.result c.args.buffer.now in
     IsUnanswered-one why _ c.in-Ok.count c.min-within.result c.read.new.into _ _
@@ -37,7 +39,8 @@ returns-in-Err-clause-stopped g c = record {
 pub returns-in-Err-WriteFault-clause-stopped : goal.returns-in-Err-WriteFault-clause-stopped
 returns-in-Err-WriteFault-clause-stopped g c = record {
   bytes = take c.in-Ok.count c.read.new.into;
-  stops = unanswered g (goal.at.returns-in-Err-WriteFault-clause-stopped g c).After-take_piece WriteFault (rw c.in-Err-WriteFault.field-0-is at c.in-Err-WriteFault.ensures);
+  stops = unanswered g (goal.at.returns-in-Err-WriteFault-clause-stopped g c).After-take_piece WriteFault
+      (rw c.in-Err-WriteFault.field-0-is at c.in-Err-WriteFault.ensures);
 }
 
 pub returns-in-Err-Memory-clause-stopped : goal.returns-in-Err-Memory-clause-stopped

@@ -27,7 +27,8 @@ kind c = is_kind is_inline c.args.links.now c.args.key c.in-Some.node.now (sym (
 pub cover-returns-in-Text-clause-written : goal.cover-returns-in-Text-clause-written
 cover-returns-in-Text-clause-written t c =
     as_written c.text_cover.result (covers (seen c.args.extent.now) (alone c.args.key c.args.links.now)) _
-    (text_read (seen c.args.extent.now) c.args.links.now c.args.key c.in-Some.node.now c.in-Text.text (read (goal.at.cover-returns-in-Text-clause-written t c).In-Some) c.in-Text.is) c.text_cover.ensures
+    (text_read (seen c.args.extent.now) c.args.links.now c.args.key c.in-Some.node.now c.in-Text.text
+    (read (goal.at.cover-returns-in-Text-clause-written t c).In-Some) c.in-Text.is) c.text_cover.ensures
 
 pub cover-returns-in-Text-clause-inline : goal.cover-returns-in-Text-clause-inline
 cover-returns-in-Text-clause-inline t c =
@@ -43,22 +44,26 @@ cover-returns-in-Ok-clause-written t c =
     let f = c.args.links.now in
     as_written c.element_cover.result (covers e (alone c.args.key f)) _
     (element_read e f c.args.key c.in-Some.node.now c.in-Element.field-0 (read (goal.at.cover-returns-in-Ok-clause-written t c).In-Some) c.in-Element.is)
-    (as_element c.element_cover.result e (label_for c.args.key c.in-Some.node.now) c.in-Ok.below.values.items (slices.covers_below e f c.args.key) c.in-Ok.ensures.written c.element_cover.ensures)
+    (as_element c.element_cover.result e (label_for c.args.key c.in-Some.node.now) c.in-Ok.below.values.items (slices.covers_below e f c.args.key)
+    c.in-Ok.ensures.written c.element_cover.ensures)
 
 pub cover-returns-in-Ok-clause-inline : goal.cover-returns-in-Ok-clause-inline
 cover-returns-in-Ok-clause-inline t c =
     let e = seen c.args.extent.now in
     let f = c.args.links.now in
     let node = (goal.at.cover-returns-in-Ok-clause-inline t c).In-Some in
-    as_inline c.element_cover.result c.in-Some.node.now.kind (covers e (alone c.args.key f)) _ (kind_read e f c.args.key c.in-Some.node.now (read node)) (kind node)
+    as_inline c.element_cover.result c.in-Some.node.now.kind (covers e (alone c.args.key f)) _ (kind_read e f c.args.key c.in-Some.node.now (read node))
+    (kind node)
     (as_written c.element_cover.result (covers e (alone c.args.key f)) _
     (element_read e f c.args.key c.in-Some.node.now c.in-Element.field-0 (read node) c.in-Element.is)
-    (as_element c.element_cover.result e (label_for c.args.key c.in-Some.node.now) c.in-Ok.below.values.items (slices.covers_below e f c.args.key) c.in-Ok.ensures.written c.element_cover.ensures))
+    (as_element c.element_cover.result e (label_for c.args.key c.in-Some.node.now) c.in-Ok.below.values.items (slices.covers_below e f c.args.key)
+    c.in-Ok.ensures.written c.element_cover.ensures))
 
 pub cover-returns-in_default-fields-clause-written : goal.cover-returns-in_default-fields-clause-written
 cover-returns-in_default-fields-clause-written t c =
     as_written c.leaf_cover.result (covers (seen c.args.extent.now) (alone c.args.key c.args.links.now)) _
-    (leaf_read (seen c.args.extent.now) c.args.links.now c.args.key c.in-Some.node.now (read (goal.at.cover-returns-in_default-fields-clause-written t c).In-Some) c.in_default-fields.not-Text
+    (leaf_read (seen c.args.extent.now) c.args.links.now c.args.key c.in-Some.node.now
+    (read (goal.at.cover-returns-in_default-fields-clause-written t c).In-Some) c.in_default-fields.not-Text
     c.in_default-fields.not-Element)
     c.leaf_cover.ensures
 
@@ -68,7 +73,8 @@ cover-returns-in_default-fields-clause-inline t c =
     as_inline c.leaf_cover.result c.in-Some.node.now.kind (covers (seen c.args.extent.now) (alone c.args.key c.args.links.now)) _
     (kind_read (seen c.args.extent.now) c.args.links.now c.args.key c.in-Some.node.now (read node)) (kind node)
     (as_written c.leaf_cover.result (covers (seen c.args.extent.now) (alone c.args.key c.args.links.now)) _
-    (leaf_read (seen c.args.extent.now) c.args.links.now c.args.key c.in-Some.node.now (read node) c.in_default-fields.not-Text c.in_default-fields.not-Element) c.leaf_cover.ensures)
+    (leaf_read (seen c.args.extent.now) c.args.links.now c.args.key c.in-Some.node.now (read node) c.in_default-fields.not-Text c.in_default-fields.not-Element)
+    c.leaf_cover.ensures)
 
 -- ---- the children
 
@@ -76,31 +82,38 @@ pub covers_below-cover-requires : goal.covers_below-cover-requires
 covers_below-cover-requires t c =
     let first : c.loop-child.child-iterator ≡ c.in-Some.child ∷ c.next.new.self = search rules in
     let h =
-    child_left (seen c.args.extent.now) c.args.links.now c.args.key c.in-Some.child c.into_iter-child-iterator.result c.loop-child.child-iterator c.next.new.self c.loop-child.covered.values.items
-    c.loop-child.covered.inline c.children-child-items.ensures.sound (c.into_iter-child-iterator.ensures.into_iter_gives ∙ c.children-child-items.ensures.children) c.loop-child.invariant first in
+    child_left (seen c.args.extent.now) c.args.links.now c.args.key c.in-Some.child c.into_iter-child-iterator.result c.loop-child.child-iterator
+    c.next.new.self c.loop-child.covered.values.items
+    c.loop-child.covered.inline c.children-child-items.ensures.sound
+    (c.into_iter-child-iterator.ensures.into_iter_gives ∙ c.children-child-items.ensures.children) c.loop-child.invariant first in
     (omega (arith, h.smaller), h.there)
 
 pub covers_below-loop-child-preserved-in-Ok : goal.covers_below-loop-child-preserved-in-Ok
 covers_below-loop-child-preserved-in-Ok t c =
     let first : c.loop-child.child-iterator ≡ c.in-Some.child ∷ c.next.new.self = search rules in
-    covered_more (seen c.args.extent.now) c.args.links.now c.into_iter-child-iterator.result c.loop-child.child-iterator c.next.new.self c.in-Some.child c.loop-child.covered.values.items _
+    covered_more (seen c.args.extent.now) c.args.links.now c.into_iter-child-iterator.result c.loop-child.child-iterator c.next.new.self c.in-Some.child
+    c.loop-child.covered.values.items _
     c.loop-child.covered.inline _ c.in-Ok-Some.value c.loop-child.invariant first c.in-Ok.ensures.values c.in-Ok.ensures.inline
-    (c.in-Ok-Some.ensures.written ∙ ap (λ o. item_if (option_map view o)) c.in-Ok-Some.field-0-is) (some_kind c.in-Ok-Some.field-0 c.in-Ok-Some.value c.in-Ok-Some.field-0-is c.in-Ok-Some.ensures.inline)
+    (c.in-Ok-Some.ensures.written ∙ ap (λ o. item_if (option_map view o)) c.in-Ok-Some.field-0-is)
+    (some_kind c.in-Ok-Some.field-0 c.in-Ok-Some.value c.in-Ok-Some.field-0-is c.in-Ok-Some.ensures.inline)
 
 pub covers_below-loop-child-preserved : goal.covers_below-loop-child-preserved
 covers_below-loop-child-preserved t c =
     let first : c.loop-child.child-iterator ≡ c.in-Some.child ∷ c.next.new.self = search rules in
-    covered_past (seen c.args.extent.now) c.args.links.now c.into_iter-child-iterator.result c.loop-child.child-iterator c.next.new.self c.in-Some.child c.loop-child.covered.values.items
+    covered_past (seen c.args.extent.now) c.args.links.now c.into_iter-child-iterator.result c.loop-child.child-iterator c.next.new.self c.in-Some.child
+    c.loop-child.covered.values.items
     c.loop-child.covered.inline c.loop-child.invariant first (c.in-Ok-None.ensures.written ∙ ap (λ o. item_if (option_map view o)) c.in-Ok-None.field-0-is)
 
 pub covers_below-returns-clause-written : goal.covers_below-returns-clause-written
 covers_below-returns-clause-written t c =
     let none : c.loop-child.child-iterator ≡ [] = search rules in
-    all_covered (seen c.args.extent.now) c.args.links.now c.args.key c.into_iter-child-iterator.result c.loop-child.child-iterator c.loop-child.covered.values.items c.loop-child.covered.inline
+    all_covered (seen c.args.extent.now) c.args.links.now c.args.key c.into_iter-child-iterator.result c.loop-child.child-iterator
+    c.loop-child.covered.values.items c.loop-child.covered.inline
     (c.into_iter-child-iterator.ensures.into_iter_gives ∙ c.children-child-items.ensures.children) none c.loop-child.invariant
 
 pub covers_below-returns-clause-inline : goal.covers_below-returns-clause-inline
 covers_below-returns-clause-inline t c =
     let none : c.loop-child.child-iterator ≡ [] = search rules in
-    all_inline (seen c.args.extent.now) c.args.links.now c.args.key c.into_iter-child-iterator.result c.loop-child.child-iterator c.loop-child.covered.values.items c.loop-child.covered.inline
+    all_inline (seen c.args.extent.now) c.args.links.now c.args.key c.into_iter-child-iterator.result c.loop-child.child-iterator
+    c.loop-child.covered.values.items c.loop-child.covered.inline
     (c.into_iter-child-iterator.ensures.into_iter_gives ∙ c.children-child-items.ensures.children) none c.loop-child.invariant

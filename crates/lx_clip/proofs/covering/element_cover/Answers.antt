@@ -14,6 +14,8 @@ returns c f below =
     (elim c.else-is_empty.branch [
       | else-is_empty-via-then-is_empty+else-not-is_between w ↦
           lies_between (seen c.args.extent.now) (label_for c.args.key c.args.node.now) f (sym w.is_between.ensures ∙ w.if-not-is_between.false)
-      | else-is_empty-via-else-is_empty w ↦ has_some (seen c.args.extent.now) (label_for c.args.key c.args.node.now) f c.args.below.items (vec_len c.args.below) count below (sym c.is_empty.ensures ∙ w.if-is_empty.false)
+      | else-is_empty-via-else-is_empty w ↦
+          has_some (seen c.args.extent.now) (label_for c.args.key c.args.node.now) f c.args.below.items (vec_len c.args.below) count below
+          (sym c.is_empty.ensures ∙ w.if-is_empty.false)
     ])
     (c.in_ok-value.ensures.written ∙ ap (node_data c.args.node.now.kind c.args.node.now.fields) below)

@@ -9,7 +9,8 @@ pub node_value-requires : goal.node_value-requires
 node_value-requires c = record {
   of_kind =
       subst (IsOfKind c.args.node.now.kind) (sym c.in_ok-cut-in-Some.ensures)
-      (piece_suits c.args.node.now.kind c.args.node.now.fields c.in-Some.text.now (slice_of c.args.from c.args.to c.in-Some.text.now.text) c.requires (sym (c.normal_text.ensures 0) ∙ ap option_copied c.in-Some.is));
+      (piece_suits c.args.node.now.kind c.args.node.now.fields c.in-Some.text.now (slice_of c.args.from c.args.to c.in-Some.text.now.text) c.requires
+      (sym (c.normal_text.ensures 0) ∙ ap option_copied c.in-Some.is));
 }
 
 pub returns-in_ok-cut-in-Some : goal.returns-in_ok-cut-in-Some

@@ -6,5 +6,6 @@ use Rattle.lx_clip.proofs.covering.text_cover.Goals as goal
 
 pub returns-else-is_met : goal.returns-else-is_met
 returns-else-is_met c =
-    uncovered (seen c.args.extent.now) c.args.text.now (label_for c.args.key c.args.node.now) c.is_met.result c.from_in-from.result c.to_in-to.result c.is_met.ensures c.from_in-from.ensures
+    uncovered (seen c.args.extent.now) c.args.text.now (label_for c.args.key c.args.node.now) c.is_met.result c.from_in-from.result c.to_in-to.result
+    c.is_met.ensures c.from_in-from.ensures
     (c.to_in-to.ensures ∙ ap (to_in (seen c.args.extent.now) c.args.key) c.length_of.ensures) c.else-is_met.either

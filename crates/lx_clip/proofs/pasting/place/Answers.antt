@@ -12,5 +12,6 @@ some_placed inline (k ∷ ks) w some = refl
 pub returns : goal.returns
 returns c =
     subst (λ whole. Does whole c.place_at.new.draft c.place_at.result)
-    (sym (some_placed c.args.inline c.args.keys.now c.args.draft.now (grind (arith, c.is_empty.ensures, c.if-is_empty.false)) ∙ c.in_ok-range.ensures.ok (placed_at c.args.inline c.args.keys.now)))
+    (sym (some_placed c.args.inline c.args.keys.now c.args.draft.now (grind (arith, c.is_empty.ensures, c.if-is_empty.false))
+    ∙ c.in_ok-range.ensures.ok (placed_at c.args.inline c.args.keys.now)))
     (c.place_at.ensures c.in_ok-range.range.format)

@@ -10,5 +10,7 @@ pub returns : goal.returns
 returns c =
     let e = slices.extent c.args.links.now c.args.start.now c.args.end.now in
     as_items c.covers_in.result (λ values. items_view values.items) _ _
-    (ap trees_data (in-alike c.common_block-block.result (seen c.in_ok-extent.extent) e c.args.links.now c.in_ok-extent.ensures ∙ ap (λ block. slices.covers_in block e c.args.links.now) c.common_block-block.ensures))
+    (ap trees_data
+    (in-alike c.common_block-block.result (seen c.in_ok-extent.extent) e c.args.links.now c.in_ok-extent.ensures
+    ∙ ap (λ block. slices.covers_in block e c.args.links.now) c.common_block-block.ensures))
     c.covers_in.ensures

@@ -8,4 +8,5 @@ returns-in_ok-mark_among-in-Some-Some-2-clause-covered c =
     let first = c.in_ok-mark_among-in-Some-Some.ensures in
     let later = c.in_ok-mark_among-in-Some-Some-2.ensures in
     covered c.args.old.now c.args.new.now c.mark_among-in-Some-Some.new.marks c.requires.old_order c.requires.new_order later.founded
-    (all_among c.args.old.now c.args.new.now c.mark_among.new.marks c.mark_among-in-Some-Some.new.marks c.args.places.now c.args.since.now _ _ (sym c.in-Some-Some.ensures) (sym c.in-Some-Some.ensures') c.requires.told first.settled later.grows later.settled)
+    (all_among c.args.old.now c.args.new.now c.mark_among.new.marks c.mark_among-in-Some-Some.new.marks c.args.places.now c.args.since.now _ _
+    (sym c.in-Some-Some.ensures) (sym c.in-Some-Some.ensures') c.requires.told first.settled later.grows later.settled)

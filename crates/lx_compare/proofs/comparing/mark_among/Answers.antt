@@ -13,5 +13,7 @@ loop-key-preserved c =
     record {
       founded = made.founded;
       grows = λ q e. made.grows q (c.loop-key.invariant.grows q e);
-      settled = among_more c.args.old.now c.args.new.now c.loop-key.marks c.settle.new.marks _ front c.key-item.result push c.loop-key.invariant.settled made.grows made.settled;
+      settled =
+          among_more c.args.old.now c.args.new.now c.loop-key.marks c.settle.new.marks _ front c.key-item.result push c.loop-key.invariant.settled made.grows
+          made.settled;
     }

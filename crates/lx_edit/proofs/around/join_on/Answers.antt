@@ -17,21 +17,26 @@ on-smaller-in-Ok c =
 
 pub on-preserved-in-Ok : goal.on-preserved-in-Ok
 on-preserved-in-Ok c =
-    on_removed c.args.key c.in-Empty.other c.on.draft c.remove.new.draft (join_on enough c.args.key c.args.draft.now) c.in-Empty.ensures.counts c.in-Empty.ensures.found c.in-Ok.ensures c.on.invariant
+    on_removed c.args.key c.in-Empty.other c.on.draft c.remove.new.draft (join_on enough c.args.key c.args.draft.now) c.in-Empty.ensures.counts
+    c.in-Empty.ensures.found c.in-Ok.ensures c.on.invariant
 
 pub returns-in-Err : goal.returns-in-Err
 returns-in-Err c =
-    on_removing c.args.key c.in-Empty.other c.on.draft (join_on enough c.args.key c.args.draft.now) c.in-Empty.ensures.counts c.in-Empty.ensures.found c.in-Err.ensures c.on.invariant
+    on_removing c.args.key c.in-Empty.other c.on.draft (join_on enough c.args.key c.args.draft.now) c.in-Empty.ensures.counts c.in-Empty.ensures.found
+    c.in-Err.ensures c.on.invariant
 
 pub on-smaller : goal.on-smaller
 on-smaller c =
-    let g : Grows c.on.draft c.join_texts.new.draft = join_grows c.args.key c.in-Alike.other c.on.draft c.join_texts.new.draft c.in-Ok-join_texts.ensures c.in-Alike.ensures.counts in
+    let g : Grows c.on.draft c.join_texts.new.draft =
+    join_grows c.args.key c.in-Alike.other c.on.draft c.join_texts.new.draft c.in-Ok-join_texts.ensures c.in-Alike.ensures.counts in
     omega (arith, g.more, g.within)
 
 pub on-preserved : goal.on-preserved
 on-preserved c =
-    on_joined c.args.key c.in-Alike.other c.on.draft c.join_texts.new.draft (join_on enough c.args.key c.args.draft.now) c.in-Alike.ensures.counts c.in-Alike.ensures.found c.in-Ok-join_texts.ensures c.on.invariant
+    on_joined c.args.key c.in-Alike.other c.on.draft c.join_texts.new.draft (join_on enough c.args.key c.args.draft.now) c.in-Alike.ensures.counts
+    c.in-Alike.ensures.found c.in-Ok-join_texts.ensures c.on.invariant
 
 pub returns-in-Err-join_texts : goal.returns-in-Err-join_texts
 returns-in-Err-join_texts c =
-    on_joining c.args.key c.in-Alike.other c.on.draft (join_on enough c.args.key c.args.draft.now) c.in-Alike.ensures.counts c.in-Alike.ensures.found c.in-Err-join_texts.ensures c.on.invariant
+    on_joining c.args.key c.in-Alike.other c.on.draft (join_on enough c.args.key c.args.draft.now) c.in-Alike.ensures.counts c.in-Alike.ensures.found
+    c.in-Err-join_texts.ensures c.on.invariant

@@ -15,5 +15,6 @@ loop-offset-preserved c = record {
   utf8 = search rules;
   passed =
       one_passed _ _ _ _ _ c.loop-offset.invariant.passed c.loop-offset-test.true c.if-offset-low.false
-      (subst (λ n. get_or c.args.offsets.now c.loop-offset.offset-index 0 < n) c.requires c.if-offset-length.false) _ (sym c.in-Some.ensures.found) c.in-Some.ensures.rest;
+      (subst (λ n. get_or c.args.offsets.now c.loop-offset.offset-index 0 < n) c.requires c.if-offset-length.false) _ (sym c.in-Some.ensures.found)
+      c.in-Some.ensures.rest;
 }

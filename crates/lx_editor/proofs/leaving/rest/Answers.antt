@@ -17,7 +17,8 @@ pub returns-in-Ok-new-clause-stands : goal.returns-in-Ok-new-clause-stands
 returns-in-Ok-new-clause-stands c =
     let frozen = c.in-Ok-freeze.frozen in
     subst (λ (f : Frozen). IsLeftOf c.args.draft (left_of c.args.rules.now f)) (sym c.in-Ok-new.ensures.ok)
-    (λ u fresh covers. left_stands c.args.rules.now u c.args.draft c.settle.new.draft c.number.new.draft frozen.state.links frozen.state.selection frozen.marks frozen.next_key
+    (λ u fresh covers. left_stands c.args.rules.now u c.args.draft c.settle.new.draft c.number.new.draft frozen.state.links frozen.state.selection frozen.marks
+    frozen.next_key
     fresh covers c.in-Ok.ensures.does c.in-Ok-number.ensures.does c.in-Ok-number.ensures.numbered c.in-Ok-freeze.ensures.ok c.in-Ok-freeze.ensures.start)
 
 pub returns-in-Ok-new-clause-imported : goal.returns-in-Ok-new-clause-imported

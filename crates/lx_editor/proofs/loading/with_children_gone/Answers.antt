@@ -14,4 +14,5 @@ pub returns : goal.returns
 returns c =
     let none : c.loop-child.child-iterator ≡ [] = search rules in
     sym (ap (λ ks. with_leaves ks c.loop-child.shown) none) ∙ c.loop-child.invariant
-    ∙ ap (λ ks. with_leaves ks c.args.marks.now) (c.into_iter-child-iterator.ensures.into_iter_gives ∙ c.children-child-items.ensures.children ∙ ap (children_of c.args.old.now) c.root.ensures)
+    ∙ ap (λ ks. with_leaves ks c.args.marks.now)
+    (c.into_iter-child-iterator.ensures.into_iter_gives ∙ c.children-child-items.ensures.children ∙ ap (children_of c.args.old.now) c.root.ensures)

@@ -26,16 +26,20 @@ returns-clause-fault c =
     let was = read_alone c.args.old.now c.new-before.result.forest c.new-before.ensures.forest c.requires.old c.requires.one_before in
     let is = read_alone c.args.new.now c.new-after.result.forest c.new-after.ensures.forest c.requires.new c.requires.one_after in
     let count : c.in_ok-more.more ≡ unkept c.args.old.now None c.args.new.now =
-    subst (λ f. c.in_ok-more.more ≡ unkept f None c.args.new.now) was (subst (λ g. c.in_ok-more.more ≡ unkept (alone 0 c.new-before.result.forest) None g) is (ok_same _ _ c.in_ok-more.ensures.count))
+    subst (λ f. c.in_ok-more.more ≡ unkept f None c.args.new.now) was
+    (subst (λ g. c.in_ok-more.more ≡ unkept (alone 0 c.new-before.result.forest) None g) is (ok_same _ _ c.in_ok-more.ensures.count))
     in
     c.over.ensures
-    ∙ ids_counted c.args.old.now c.args.new.now c.args.view.now.tree c.next_id-next.result c.in_ok-more.more c.next_id-next.ensures.next c.next_id-next.type_inv c.requires.few count
+    ∙ ids_counted c.args.old.now c.args.new.now c.args.view.now.tree c.next_id-next.result c.in_ok-more.more c.next_id-next.ensures.next c.next_id-next.type_inv
+    c.requires.few count
 
 pub returns-clause-room : goal.returns-clause-room
 returns-clause-room c none =
     let was = read_alone c.args.old.now c.new-before.result.forest c.new-before.ensures.forest c.requires.old c.requires.one_before in
     let is = read_alone c.args.new.now c.new-after.result.forest c.new-after.ensures.forest c.requires.new c.requires.one_after in
     let count : c.in_ok-more.more ≡ unkept c.args.old.now None c.args.new.now =
-    subst (λ f. c.in_ok-more.more ≡ unkept f None c.args.new.now) was (subst (λ g. c.in_ok-more.more ≡ unkept (alone 0 c.new-before.result.forest) None g) is (ok_same _ _ c.in_ok-more.ensures.count))
+    subst (λ f. c.in_ok-more.more ≡ unkept f None c.args.new.now) was
+    (subst (λ g. c.in_ok-more.more ≡ unkept (alone 0 c.new-before.result.forest) None g) is (ok_same _ _ c.in_ok-more.ensures.count))
     in
-    room_counted c.args.old.now c.args.new.now c.args.view.now.tree c.next_id-next.result c.in_ok-more.more c.next_id-next.ensures.next count (sym c.over.ensures ∙ none)
+    room_counted c.args.old.now c.args.new.now c.args.view.now.tree c.next_id-next.result c.in_ok-more.more c.next_id-next.ensures.next count
+    (sym c.over.ensures ∙ none)

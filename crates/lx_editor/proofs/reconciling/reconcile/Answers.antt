@@ -37,11 +37,13 @@ returns-clause-allowed c =
     let was = read_alone c.args.old.now c.new-before.result.forest c.new-before.ensures.forest c.requires.old c.requires.one_before in
     let is = read_alone c.args.new.now c.new-after.result.forest c.new-after.ensures.forest c.requires.new c.requires.one_after in
     subst (λ f. IsAllowed f c.args.new.now (marking c.args.marks.now) c.args.view.now.tree c.in_ok-operations.field-0.ops) was
-    (subst (λ g. IsAllowed (alone 0 c.new-before.result.forest) g (marking c.args.marks.now) c.args.view.now.tree c.in_ok-operations.field-0.ops) is c.in_ok-operations.ensures.allowed)
+    (subst (λ g. IsAllowed (alone 0 c.new-before.result.forest) g (marking c.args.marks.now) c.args.view.now.tree c.in_ok-operations.field-0.ops) is
+    c.in_ok-operations.ensures.allowed)
 
 pub returns-clause-few : goal.returns-clause-few
 returns-clause-few c =
     let was = read_alone c.args.old.now c.new-before.result.forest c.new-before.ensures.forest c.requires.old c.requires.one_before in
     let is = read_alone c.args.new.now c.new-after.result.forest c.new-after.ensures.forest c.requires.new c.requires.one_after in
     subst (λ f. c.in_ok-operations.field-0.reads ≤ most_reads f c.args.new.now (is_noted c.args.marks.now)) was
-    (subst (λ g. c.in_ok-operations.field-0.reads ≤ most_reads (alone 0 c.new-before.result.forest) g (is_noted c.args.marks.now)) is c.in_ok-operations.ensures.bounded)
+    (subst (λ g. c.in_ok-operations.field-0.reads ≤ most_reads (alone 0 c.new-before.result.forest) g (is_noted c.args.marks.now)) is
+    c.in_ok-operations.ensures.bounded)

@@ -6,5 +6,6 @@ use Rattle.lx_generator.proofs.lines.letter.Goals as goal
 
 pub returns : goal.returns
 returns c =
-    let bytes : string_bytes c.push.new.self ≡ letter c.args.number = cc (c.in_ok-push.ensures.bytes, c.new-text.ensures.bytes, c.in_ok-push.ensures.ascii (omega arith)) in
+    let bytes : string_bytes c.push.new.self ≡ letter c.args.number =
+    cc (c.in_ok-push.ensures.bytes, c.new-text.ensures.bytes, c.in_ok-push.ensures.ascii (omega arith)) in
     c.of.ensures ∙ spelled (string_bytes c.push.new.self) c.args.number c.requires bytes

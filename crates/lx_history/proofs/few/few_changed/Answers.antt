@@ -2,4 +2,6 @@ use Rattle.lx_history.proofs.Finding.{found}
 use Rattle.lx_history.proofs.few.few_changed.Goals as goal
 
 pub returns : goal.returns
-returns c = found c.args.links.now c.args.marks.now c.leaves.result.now c.with_leaves-few.result c.with_elements.result c.leaves.ensures.leaves c.with_leaves-few.ensures c.with_elements.ensures
+returns c =
+    found c.args.links.now c.args.marks.now c.leaves.result.now c.with_leaves-few.result c.with_elements.result c.leaves.ensures.leaves
+    c.with_leaves-few.ensures c.with_elements.ensures

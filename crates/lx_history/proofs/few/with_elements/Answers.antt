@@ -11,5 +11,6 @@ pub returns-then-is_several : goal.returns-then-is_several
 returns-then-is_several c =
     let is : c.with_element-few.result ≡ Several = search (rules, c.if-is_several.ensures) in
     let goes : with_keys (filter (λ k. has k c.args.links.now) (marked_elements c.next.new.self)) c.with_element-few.result
-    ≡ with_keys (filter (λ k. has k c.args.links.now) (marked_elements c.args.marks.now.elements)) c.args.few = grind (arith, common_steps, c.loop-key.invariant, c.in-Some.ensures.steps, c.with_element-few.ensures) in
+    ≡ with_keys (filter (λ k. has k c.args.links.now) (marked_elements c.args.marks.now.elements)) c.args.few =
+    grind (arith, common_steps, c.loop-key.invariant, c.in-Some.ensures.steps, c.with_element-few.ensures) in
     stopped (filter (λ k. has k c.args.links.now) (marked_elements c.next.new.self)) c.with_element-few.result _ is goes

@@ -8,7 +8,8 @@ use Rattle.lx_host.proofs.scan.least_shown.Goals as goal
 pub loop-place-preserved : goal.loop-place-preserved
 loop-place-preserved c =
     let grove = c.args.grove.now in
-    ap (λ o. lesser o (least_in (shows_attached c.args.key grove.hosts) (drop (c.loop-place.place + 1) grove.ids))) (c.lesser_of-least.ensures ∙ ap (lesser c.loop-place.least) c.shown_at-own.ensures)
+    ap (λ o. lesser o (least_in (shows_attached c.args.key grove.hosts) (drop (c.loop-place.place + 1) grove.ids)))
+    (c.lesser_of-least.ensures ∙ ap (lesser c.loop-place.least) c.shown_at-own.ensures)
     ∙ least_step (shows_attached c.args.key grove.hosts) c.loop-place.place grove.ids c.loop-place.least
     ∙ c.loop-place.invariant
 

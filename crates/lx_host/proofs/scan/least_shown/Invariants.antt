@@ -5,4 +5,5 @@ use Rattle.lx_host.proofs.scan.least_shown.Given as goal
 
 -- the least so far with the least of the ids that are left is the least of all
 abbrev pub invariant-loop-place : goal.invariant-loop-place
-invariant-loop-place l = lesser l.least (least_in (shows_attached l.key l.grove.hosts) (drop l.place l.grove.ids)) ≡ least_in (shows_attached l.key l.grove.hosts) l.grove.ids
+invariant-loop-place l =
+    lesser l.least (least_in (shows_attached l.key l.grove.hosts) (drop l.place l.grove.ids)) ≡ least_in (shows_attached l.key l.grove.hosts) l.grove.ids

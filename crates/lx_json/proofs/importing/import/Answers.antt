@@ -21,10 +21,13 @@ drafted-requires c =
 
 pub returns-in-Ok-drafted-clause-ok : goal.returns-in-Ok-drafted-clause-ok
 returns-in-Ok-drafted-clause-ok c =
-    import_within (view c.args.document.now) c.args.next_key c.in-Ok.growth c.in-Ok-drafted.draft c.in-Ok.ensures.ok (sym c.limits_fault.ensures ∙ c.in_default.is) c.in-Ok-drafted.ensures
+    import_within (view c.args.document.now) c.args.next_key c.in-Ok.growth c.in-Ok-drafted.draft c.in-Ok.ensures.ok
+    (sym c.limits_fault.ensures ∙ c.in_default.is) c.in-Ok-drafted.ensures
 
 pub returns-in-Ok-drafted-clause-made : goal.returns-in-Ok-drafted-clause-made
 returns-in-Ok-drafted-clause-made c =
     let none : limits_fault c.in-Ok.growth.links c.in-Ok.growth.next ≡ None = sym c.limits_fault.ensures ∙ c.in_default.is in
-    let start = may_start c.in-Ok.growth c.in-Ok.ensures.growing (whole_growth (view c.args.document.now) c.args.next_key c.in-Ok.growth c.in-Ok.ensures.ok) none in
-    is_imported (view c.args.document.now) c.args.next_key c.in-Ok.growth c.in-Ok-drafted.draft c.in-Ok.ensures.ok c.in-Ok.ensures.growing start c.in-Ok-drafted.ensures
+    let start =
+    may_start c.in-Ok.growth c.in-Ok.ensures.growing (whole_growth (view c.args.document.now) c.args.next_key c.in-Ok.growth c.in-Ok.ensures.ok) none in
+    is_imported (view c.args.document.now) c.args.next_key c.in-Ok.growth c.in-Ok-drafted.draft c.in-Ok.ensures.ok c.in-Ok.ensures.growing start
+    c.in-Ok-drafted.ensures

@@ -9,7 +9,8 @@ use Rattle.lx_json.proofs.nodes.+make.Goals.{make_children-After-deref}
 
 -- ---- the list of the children
 
-list : {t : ℕ} (c : make_children-After-deref t) → option_and_then as_array (get (codes "children") (view c.args.object.now)) ≡ Some (items_view c.deref.result.now)
+list : {t : ℕ} (c : make_children-After-deref t)
+    → option_and_then as_array (get (codes "children") (view c.args.object.now)) ≡ Some (items_view c.deref.result.now)
 list c = sym c.in-Some.ensures ∙ ap (λ vs. Some (items_view vs)) (sym c.deref.ensures.value)
 
 pub make_children-make_each-requires : goal.make_children-make_each-requires
@@ -20,11 +21,14 @@ make_children-returns-then-not-is_element-clause-ok t c = given-leaf _ _ _ _ c.i
 
 pub make_children-returns-in-Ok-clause-ok : goal.make_children-returns-in-Ok-clause-ok
 make_children-returns-in-Ok-clause-ok t c =
-    given-list _ _ _ _ _ c.is_element.ensures c.if-not-is_element.false (list (goal.at.make_children-returns-in-Ok-clause-ok t c).After-deref) ∙ c.in-Ok.ensures.ok
+    given-list _ _ _ _ _ c.is_element.ensures c.if-not-is_element.false (list (goal.at.make_children-returns-in-Ok-clause-ok t c).After-deref)
+    ∙ c.in-Ok.ensures.ok
 
 pub make_children-returns-in-Err-clause-err : goal.make_children-returns-in-Err-clause-err
 make_children-returns-in-Err-clause-err t c =
-    tells_same c.in-Err.fault _ _ (given-list _ _ _ _ _ c.is_element.ensures c.if-not-is_element.false (list (goal.at.make_children-returns-in-Err-clause-err t c).After-deref)) c.in-Err.ensures.err
+    tells_same c.in-Err.fault _ _
+    (given-list _ _ _ _ _ c.is_element.ensures c.if-not-is_element.false (list (goal.at.make_children-returns-in-Err-clause-err t c).After-deref))
+    c.in-Err.ensures.err
 
 pub make_children-returns-in-None-clause-ok : goal.make_children-returns-in-None-clause-ok
 make_children-returns-in-None-clause-ok t c = given-none _ _ _ _ c.is_element.ensures c.if-not-is_element.false (sym c.in-None.ensures)
@@ -38,11 +42,13 @@ pub make_node-returns-in-Err-make-clause-err : goal.make_node-returns-in-Err-mak
 make_node-returns-in-Err-make-clause-err t c = node_refused _ _ _ _ _ c.in-Err-make.fault c.in-Ok.ensures.ok c.in-Err-make.ensures.err
 
 pub make_node-returns-in-Ok-make_children-clause-ok : goal.make_node-returns-in-Ok-make_children-clause-ok
-make_node-returns-in-Ok-make_children-clause-ok t c = node_done _ _ _ _ _ _ _ _ c.in-Ok.ensures.ok c.in-Ok-make.ensures.ok c.in-Ok-make.ensures.key c.in-Ok-make_children.ensures.ok
+make_node-returns-in-Ok-make_children-clause-ok t c =
+    node_done _ _ _ _ _ _ _ _ c.in-Ok.ensures.ok c.in-Ok-make.ensures.ok c.in-Ok-make.ensures.key c.in-Ok-make_children.ensures.ok
 
 pub make_node-returns-in-Err-make_children-clause-err : goal.make_node-returns-in-Err-make_children-clause-err
 make_node-returns-in-Err-make_children-clause-err t c =
-    below_refused _ _ _ _ _ _ _ c.in-Err-make_children.fault c.in-Ok.ensures.ok c.in-Ok-make.ensures.ok c.in-Ok-make.ensures.key c.in-Err-make_children.ensures.err
+    below_refused _ _ _ _ _ _ _ c.in-Err-make_children.fault c.in-Ok.ensures.ok c.in-Ok-make.ensures.ok c.in-Ok-make.ensures.key
+    c.in-Err-make_children.ensures.err
 
 -- ---- items
 
@@ -52,7 +58,8 @@ make_each-make_node-requires t c = omega (arith, depth-item c.args.items.now c.l
 pub make_each-returns-in-Err-clause-err : goal.make_each-returns-in-Err-clause-err
 make_each-returns-in-Err-clause-err t c =
     made_told c.args.items.now c.loop-index.index _ c.args.kind c.args.parent _ c.in-Err.fault c.under_child.result _
-    (item_at c.args.items.now c.loop-index.index _ c.loop-index-test.true c.index-items-index.is) c.loop-index.invariant c.under_child.ensures c.in-Err.ensures.err
+    (item_at c.args.items.now c.loop-index.index _ c.loop-index-test.true c.index-items-index.is) c.loop-index.invariant c.under_child.ensures
+    c.in-Err.ensures.err
 
 pub make_each-loop-index-preserved : goal.make_each-loop-index-preserved
 make_each-loop-index-preserved t c =

@@ -8,5 +8,6 @@ use Rattle.lx_json.proofs.pieces.fields_told.Goals as goal
 
 pub returns-then-is_bad-clause-err : goal.returns-then-is_bad-clause-err
 returns-then-is_bad-clause-err c =
-    tells_at (member_place (codes "children")) (member_place (chars (codes "children"))) c.bad_member.result _ (ap member_place chars-children) c.bad_member.ensures
+    tells_at (member_place (codes "children")) (member_place (chars (codes "children"))) c.bad_member.result _ (ap member_place chars-children)
+    c.bad_member.ensures
     (bad_children _ _ c.in-Ok.fields (sym c.has_bad_children-is_bad.ensures ∙ c.if-is_bad.true) c.in-Ok.ensures.ok)

@@ -24,4 +24,5 @@ returns-else-may_hold-clause-err c =
     tells_at (codes "/type") (chars (codes "/type")) c.bad_state-else-may_hold.result _ chars-type c.bad_state-else-may_hold.ensures
     (ap (λ o. placed_kind o (kind_of_type c.args.text.now) c.args.text.now (view c.args.object.now)) c.in-Some-above.is
     ∙ ap (λ o. placed_kind (Some c.in-Some-above.parent) o c.args.text.now (view c.args.object.now)) (sym c.in-Some.ensures)
-    ∙ ap (λ b. if b then Ok (kind_told c.in-Some.kind (view c.args.object.now)) else Err (BadState (codes "/type"))) (sym c.may_hold.ensures ∙ c.if-may_hold.false))
+    ∙ ap (λ b. if b then Ok (kind_told c.in-Some.kind (view c.args.object.now)) else Err (BadState (codes "/type")))
+    (sym c.may_hold.ensures ∙ c.if-may_hold.false))

@@ -13,7 +13,8 @@ use Rattle.lx_json.proofs.reading.+read.Goals.{read_children-After-deref}
 -- ---- the list of the children
 
 -- the object has a list of them
-list : {t : ℕ} (c : read_children-After-deref t) → option_and_then as_array (get (codes "children") (view c.args.object.now)) ≡ Some (items_view c.deref.result.now)
+list : {t : ℕ} (c : read_children-After-deref t)
+    → option_and_then as_array (get (codes "children") (view c.args.object.now)) ≡ Some (items_view c.deref.result.now)
 list c = sym c.in-Some.ensures ∙ ap (λ vs. Some (items_view vs)) (sym c.deref.ensures.value)
 
 -- so it gives the trees of that list's items
@@ -24,17 +25,20 @@ pub read_children-returns-then-not-is_element-clause-ok : goal.read_children-ret
 read_children-returns-then-not-is_element-clause-ok t c = grown_by-none _ _ _ (children_told-leaf _ _ c.is_element.ensures c.if-not-is_element.true)
 
 pub read_children-read_nodes-requires : goal.read_children-read_nodes-requires
-read_children-read_nodes-requires t c = (omega (arith, depth-listed (codes "children") (view c.args.object.now) (items_view c.deref.result.now) (list c)), (c.requires.growing, c.requires.below))
+read_children-read_nodes-requires t c =
+    (omega (arith, depth-listed (codes "children") (view c.args.object.now) (items_view c.deref.result.now) (list c)), (c.requires.growing, c.requires.below))
 
 pub read_children-returns-in-Ok-clause-ok : goal.read_children-returns-in-Ok-clause-ok
 read_children-returns-in-Ok-clause-ok t c =
     ap (λ r. grown_by c.args.parent r c.args.growth.now) (told (goal.at.read_children-returns-in-Ok-clause-ok t c).After-deref) ∙ c.in-Ok.ensures.ok
 
 pub read_children-returns-in-Err-clause-err : goal.read_children-returns-in-Err-clause-err
-read_children-returns-in-Err-clause-err t c = tells_same c.in-Err.fault _ _ (told (goal.at.read_children-returns-in-Err-clause-err t c).After-deref) c.in-Err.ensures.err
+read_children-returns-in-Err-clause-err t c =
+    tells_same c.in-Err.fault _ _ (told (goal.at.read_children-returns-in-Err-clause-err t c).After-deref) c.in-Err.ensures.err
 
 pub read_children-returns-in-None-clause-ok : goal.read_children-returns-in-None-clause-ok
-read_children-returns-in-None-clause-ok t c = grown_by-none _ _ _ (children_told-none _ _ c.is_element.ensures c.if-not-is_element.false (sym c.in-None.ensures))
+read_children-returns-in-None-clause-ok t c =
+    grown_by-none _ _ _ (children_told-none _ _ c.is_element.ensures c.if-not-is_element.false (sym c.in-None.ensures))
 
 -- ---- a node
 
@@ -51,20 +55,24 @@ read_node-returns-in-Err-read_children-clause-err t c =
     (tells_on c.in-Err-read_children.fault _ _ c.in-Err-read_children.ensures.err)
 
 pub read_node-returns-in-Err-clause-err : goal.read_node-returns-in-Err-clause-err
-read_node-returns-in-Err-clause-err t c = tells_same c.in-Err.fault _ _ (tree_of-node _ _) (tells_on c.in-Err.fault _ (with_children (view c.args.value.now)) c.in-Err.ensures.err)
+read_node-returns-in-Err-clause-err t c =
+    tells_same c.in-Err.fault _ _ (tree_of-node _ _) (tells_on c.in-Err.fault _ (with_children (view c.args.value.now)) c.in-Err.ensures.err)
 
 -- ---- nodes one after another
 
 pub read_nodes-read_node-requires : goal.read_nodes-read_node-requires
-read_nodes-read_node-requires t c = (omega (arith, depth-item c.args.items.now c.loop-index.index _ c.loop-index-test.true c.index-items-index.is), (c.loop-index.invariant.growing, c.loop-index.invariant.below))
+read_nodes-read_node-requires t c =
+    (omega (arith, depth-item c.args.items.now c.loop-index.index _ c.loop-index-test.true c.index-items-index.is), (c.loop-index.invariant.growing, c.loop-index.invariant.below))
 
 pub read_nodes-returns-in-Err-clause-err : goal.read_nodes-returns-in-Err-clause-err
 read_nodes-returns-in-Err-clause-err t c =
-    tells_all c.args.items.now c.loop-index.index c.loop-index.index c.args.kind c.in-Err.fault c.under_child.result c.loop-index.invariant (item_at c.args.items.now c.loop-index.index _ c.loop-index-test.true c.index-items-index.is) c.under_child.ensures c.in-Err.ensures.err
+    tells_all c.args.items.now c.loop-index.index c.loop-index.index c.args.kind c.in-Err.fault c.under_child.result c.loop-index.invariant
+    (item_at c.args.items.now c.loop-index.index _ c.loop-index-test.true c.index-items-index.is) c.under_child.ensures c.in-Err.ensures.err
 
 pub read_nodes-loop-index-preserved : goal.read_nodes-loop-index-preserved
 read_nodes-loop-index-preserved t c =
-    read_on c.args.items.now c.loop-index.index c.loop-index.index c.args.kind c.loop-index.invariant (item_at c.args.items.now c.loop-index.index _ c.loop-index-test.true c.index-items-index.is) c.in-Ok.ensures.ok c.in-Ok.ensures.growing
+    read_on c.args.items.now c.loop-index.index c.loop-index.index c.args.kind c.loop-index.invariant
+    (item_at c.args.items.now c.loop-index.index _ c.loop-index-test.true c.index-items-index.is) c.in-Ok.ensures.ok c.in-Ok.ensures.growing
 
 pub read_nodes-returns-clause-ok : goal.read_nodes-returns-clause-ok
 read_nodes-returns-clause-ok t c = sym c.loop-index.invariant.same ∙ grown_by-none _ _ _ (none_left _ _ _ _ c.loop-index-test.false)

@@ -15,4 +15,5 @@ abbrev pub decreases-read_nodes : goal.decreases-read_nodes
 decreases-read_nodes l = 3 * items_depth (items_view l.items.now) + 2
 
 abbrev pub invariant-read_nodes-loop-index : goal.invariant-read_nodes-loop-index
-invariant-read_nodes-loop-index l = IsReadTo l.parent (trees_of (items_view (drop l.index l.items)) l.index l.kind) l.growth (trees_of (items_view l.items) 0 l.kind) l.initial.growth
+invariant-read_nodes-loop-index l =
+    IsReadTo l.parent (trees_of (items_view (drop l.index l.items)) l.index l.kind) l.growth (trees_of (items_view l.items) 0 l.kind) l.initial.growth

@@ -10,16 +10,19 @@ use Rattle.lx_json.proofs.reading.read_document.Goals as goal
 
 pub returns-then-not-is_object-clause-err : goal.returns-then-not-is_object-clause-err
 returns-then-not-is_object-clause-err c =
-    tells_at [] (chars (codes "")) c.bad_state.result _ chars-nothing c.bad_state.ensures (document_of-other (view c.args.document.now) (sym c.is_object.ensures ∙ c.if-not-is_object.true))
+    tells_at [] (chars (codes "")) c.bad_state.result _ chars-nothing c.bad_state.ensures
+    (document_of-other (view c.args.document.now) (sym c.is_object.ensures ∙ c.if-not-is_object.true))
 
 pub returns-in-Ok-clause-ok : goal.returns-in-Ok-clause-ok
 returns-in-Ok-clause-ok c =
-    ap (rooted_by c.args.next_key) (document_of-object (view c.args.document.now) (sym c.is_object.ensures ∙ c.if-not-is_object.false) ∙ ap root_in (sym c.in-Some.ensures))
+    ap (rooted_by c.args.next_key)
+    (document_of-object (view c.args.document.now) (sym c.is_object.ensures ∙ c.if-not-is_object.false) ∙ ap root_in (sym c.in-Some.ensures))
     ∙ rooted_up (codes "/root") c.args.next_key _ c.in-Ok.growth c.in-Ok.ensures.ok
 
 pub returns-in-Err-clause-err : goal.returns-in-Err-clause-err
 returns-in-Err-clause-err c =
-    tells_same c.under.result _ _ (document_of-object (view c.args.document.now) (sym c.is_object.ensures ∙ c.if-not-is_object.false) ∙ ap root_in (sym c.in-Some.ensures))
+    tells_same c.under.result _ _
+    (document_of-object (view c.args.document.now) (sym c.is_object.ensures ∙ c.if-not-is_object.false) ∙ ap root_in (sym c.in-Some.ensures))
     (tells_up (codes "/root") c.in-Err.fault c.under.result _ (rw chars-root at c.under.ensures) c.in-Err.ensures.err)
 
 pub returns-in-None-clause-err : goal.returns-in-None-clause-err

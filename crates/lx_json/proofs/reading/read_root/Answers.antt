@@ -23,14 +23,19 @@ pub returns-in-Err-clause-err : goal.returns-in-Err-clause-err
 returns-in-Err-clause-err c = root_refused _ c.in-Err.fault (sym c.is_object.ensures ∙ c.if-not-is_object.false) c.in-Err.ensures.err
 
 pub read_children-requires-clause-below : goal.read_children-requires-clause-below
-read_children-requires-clause-below c = omega (arith, c.root.ensures, c.requires, rooted_next c.args.next_key _ c.in_ok-growth.growth c.in_ok-growth.ensures.grown)
+read_children-requires-clause-below c =
+    omega (arith, c.root.ensures, c.requires, rooted_next c.args.next_key _ c.in_ok-growth.growth c.in_ok-growth.ensures.grown)
 
 pub returns-in-Err-read_children-clause-err : goal.returns-in-Err-read_children-clause-err
-returns-in-Err-read_children-clause-err c = below_refused _ _ c.in-Err-read_children.fault (told (goal.at.returns-in-Err-read_children-clause-err c).In-Ok) c.in-Err-read_children.ensures.err
+returns-in-Err-read_children-clause-err c =
+    below_refused _ _ c.in-Err-read_children.fault (told (goal.at.returns-in-Err-read_children-clause-err c).In-Ok) c.in-Err-read_children.ensures.err
 
 pub returns-then-growth-next_key-clause-err : goal.returns-then-growth-next_key-clause-err
 returns-then-growth-next_key-clause-err c =
-    root_empty _ _ _ (told (goal.at.returns-then-growth-next_key-clause-err c).In-Ok) c.in_ok-growth.ensures.grown c.root.ensures c.in-Ok-read_children.ensures.ok c.if-growth-next_key.true
+    root_empty _ _ _ (told (goal.at.returns-then-growth-next_key-clause-err c).In-Ok) c.in_ok-growth.ensures.grown c.root.ensures
+    c.in-Ok-read_children.ensures.ok c.if-growth-next_key.true
 
 pub returns-clause-ok : goal.returns-clause-ok
-returns-clause-ok c = root_grown _ _ _ (told (goal.at.returns-clause-ok c).In-Ok) c.in_ok-growth.ensures.grown c.root.ensures c.in-Ok-read_children.ensures.ok c.if-growth-next_key.false
+returns-clause-ok c =
+    root_grown _ _ _ (told (goal.at.returns-clause-ok c).In-Ok) c.in_ok-growth.ensures.grown c.root.ensures c.in-Ok-read_children.ensures.ok
+    c.if-growth-next_key.false

@@ -14,7 +14,8 @@ returns-in-Ok-clause-answers c =
     IfOk-weaker c.pass_line.result
     (λ bytes. RepliesToLine c.args.editor.now c.in-Ok.line bytes.items c.pass_line.new.editor)
     (λ bytes. (line : List ℕ) → IsJson line (data_of c.args.value) → Answers c.args.editor.now line bytes.items c.pass_line.new.editor)
-    (λ bytes replies line is. answers_line c.args.editor.now c.pass_line.new.editor line bytes.items (data_of c.args.value) c.in-Ok.line is c.in-Ok.ensures.makes replies)
+    (λ bytes replies line is. answers_line c.args.editor.now c.pass_line.new.editor line bytes.items (data_of c.args.value) c.in-Ok.line is
+    c.in-Ok.ensures.makes replies)
     c.pass_line.ensures.replies
 
 pub returns-in-Err-Cause-clause-answers : goal.returns-in-Err-Cause-clause-answers

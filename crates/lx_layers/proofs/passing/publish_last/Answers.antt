@@ -12,5 +12,6 @@ pub returns-in_ok-ops-in-Some-clause-level : goal.returns-in_ok-ops-in-Some-clau
 returns-in_ok-ops-in-Some-clause-level c =
     let last : Some c.in-Some.batch.now ≡ c.args.editor.now.last = c.in-Some.ensures.last in
     on_ok_weaker c.publish.result
-    (level_ahead c.args.editor.now c.args.hub.now c.publish.new.self c.in-Some.batch.now c.in_ok-ops-in-Some.ops c.requires.ahead last c.in_ok-ops-in-Some.ensures)
+    (level_ahead c.args.editor.now c.args.hub.now c.publish.new.self c.in-Some.batch.now c.in_ok-ops-in-Some.ops c.requires.ahead last
+    c.in_ok-ops-in-Some.ensures)
     c.publish.ensures.published

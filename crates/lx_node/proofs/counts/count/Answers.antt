@@ -15,5 +15,8 @@ loop-character-preserved c = λ few.
 pub returns : goal.returns
 returns c =
     let text : c.loop-character.yielded ≡ chars c.args.text.now =
-    sym (map-id c.loop-character.yielded) ∙ (YieldsList-end (YieldsList-from_chars c.args.text.now c.utf8.text cc) c.loop-character.yielded _ c.loop-character.yielded_by _ _ c.in-None.is c.next.ensures.steps).0 in
-    subst (AreCounted c.loop-character.counts) text (c.loop-character.invariant (omega (arith, ap units text, units-le_bytes c.args.text.now c.utf8.text, c.well_formed.0.0)))
+    sym (map-id c.loop-character.yielded)
+    ∙ (YieldsList-end (YieldsList-from_chars c.args.text.now c.utf8.text cc) c.loop-character.yielded _ c.loop-character.yielded_by _ _ c.in-None.is
+    c.next.ensures.steps).0 in
+    subst (AreCounted c.loop-character.counts) text
+    (c.loop-character.invariant (omega (arith, ap units text, units-le_bytes c.args.text.now c.utf8.text, c.well_formed.0.0)))

@@ -10,4 +10,5 @@ unfolding units_of
 told c n few many = grind (arith, nat_tests, few, many)
 
 pub returns : goal.returns
-returns c = counted-one c.args.character c.len_utf16.result (told c.args.character c.len_utf16.result c.len_utf16.ensures.bmp c.len_utf16.ensures.surrogate_pair)
+returns c =
+    counted-one c.args.character c.len_utf16.result (told c.args.character c.len_utf16.result c.len_utf16.ensures.bmp c.len_utf16.ensures.surrogate_pair)

@@ -9,6 +9,8 @@ use Rattle.lx_outline.proofs.applying.renew.Given as goal
 abbrev pub invariant-loop-key : goal.invariant-loop-key
 invariant-loop-key g l = record {
   same : g.R.Records.forest l.records ≡ g.R.Records.forest l.fn.records;
-  headings : (q : ℕ) → lookup (nat_eq q) l.headings ≡ cond (is_among q (take l.key-index l.keys)) (heading_at (g.R.Records.forest l.fn.records) q) (lookup (nat_eq q) l.fn.headings);
+  headings : (q : ℕ)
+      → lookup (nat_eq q) l.headings
+      ≡ cond (is_among q (take l.key-index l.keys)) (heading_at (g.R.Records.forest l.fn.records) q) (lookup (nat_eq q) l.fn.headings);
   reads : g.R.Records.count l.records ≤ g.R.Records.count l.fn.records + sum_by (heading_reads (g.R.Records.forest l.fn.records)) (take l.key-index l.keys);
 }

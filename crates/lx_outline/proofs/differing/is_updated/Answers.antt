@@ -25,4 +25,5 @@ pub returns-else-not-is_same_node : goal.returns-else-not-is_same_node
 returns-else-not-is_same_node c =
     let s = seen_in c.node.result c.in-Some.old c.args.before.now c.args.key c.node.ensures.node c.in-Some.is in
     let t = seen_in c.node-2.result c.in-Some-node.new c.args.after.now c.args.key c.node-2.ensures.node c.in-Some-node.is in
-    updated_by_children c.args.before.now c.args.after.now c.args.key _ _ c.is_same_node.result c.has_same_children.result s t c.is_same_node.ensures c.if-not-is_same_node.false c.has_same_children.ensures
+    updated_by_children c.args.before.now c.args.after.now c.args.key _ _ c.is_same_node.result c.has_same_children.result s t c.is_same_node.ensures
+    c.if-not-is_same_node.false c.has_same_children.ensures

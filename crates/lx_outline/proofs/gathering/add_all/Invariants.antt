@@ -10,7 +10,8 @@ abbrev pub invariant-loop-at : goal.invariant-loop-at
 invariant-loop-at g l = record {
   same : g.R.Records.forest l.records ≡ g.R.Records.forest l.fn.records;
   way : IsOnWay (g.R.Records.forest l.fn.records) l.fn.parent (with_below (g.R.Records.forest l.fn.records)) l.fn.text l.text l.at;
-  reads : g.R.Records.count l.records + sum_by (reads_of (g.R.Records.forest l.fn.records)) (from_name l.at (children_of (g.R.Records.forest l.fn.records) l.fn.parent))
+  reads : g.R.Records.count l.records
+      + sum_by (reads_of (g.R.Records.forest l.fn.records)) (from_name l.at (children_of (g.R.Records.forest l.fn.records) l.fn.parent))
       ≤ g.R.Records.count l.fn.records + sum_by (reads_of (g.R.Records.forest l.fn.records)) (children_of (g.R.Records.forest l.fn.records) l.fn.parent);
 }
 

@@ -28,15 +28,18 @@ loop-at-preserved g c =
     let ch = children_of f c.args.parent in
     let sound : Sound f = subst Sound c.loop-at.invariant.same c.add_piece.ensures.sound in
     let next : c.in_ok-at.at ≡ next_of f c.in-Some.key = c.in_ok-at.ensures.next ∙ ap (λ (f : Forest). next_of f c.in-Some.key) c.loop-at.invariant.same in
-    let text : c.add_piece.new.text ≡ c.loop-at.text ++ piece_at f c.in-Some.key = c.in_ok-at.ensures.text ∙ ap (λ (f : Forest). c.loop-at.text ++ piece_at f c.in-Some.key) c.loop-at.invariant.same in
+    let text : c.add_piece.new.text ≡ c.loop-at.text ++ piece_at f c.in-Some.key =
+    c.in_ok-at.ensures.text ∙ ap (λ (f : Forest). c.loop-at.text ++ piece_at f c.in-Some.key) c.loop-at.invariant.same in
     record {
       same = c.in_ok-at.ensures.same ∙ c.loop-at.invariant.same;
-      way = way_more f c.args.parent (piece_at f) c.args.text.now c.loop-at.text c.add_piece.new.text c.loop-at.at c.in_ok-at.at c.in-Some.key sound c.loop-at.invariant.way c.in-Some.is next text;
+      way = way_more f c.args.parent (piece_at f) c.args.text.now c.loop-at.text c.add_piece.new.text c.loop-at.at c.in_ok-at.at c.in-Some.key sound
+          c.loop-at.invariant.way c.in-Some.is next text;
       reads = omega (
         arith,
         c.loop-at.invariant.reads,
         c.in_ok-at.ensures.reads,
-        way_cost f c.args.parent (piece_at f) c.args.text.now c.loop-at.text c.loop-at.at c.in-Some.key (λ (k : ℕ). 1) sound c.loop-at.invariant.way c.in-Some.is,
+        way_cost f c.args.parent (piece_at
+            f) c.args.text.now c.loop-at.text c.loop-at.at c.in-Some.key (λ (k : ℕ). 1) sound c.loop-at.invariant.way c.in-Some.is,
         ap (λ o. sum_by (λ (k : ℕ). 1) (from_name o ch)) next,
       );
     }

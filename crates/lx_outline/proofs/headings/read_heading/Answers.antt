@@ -11,8 +11,10 @@ returns-clause-heading g c =
     let f = g.R.Records.forest c.args.records.now in
     let read = g.R.Records.forest c.read.new.self in
     let key = c.args.key in
-    let text : c.into_text.result ≡ c.new-text.result ++ gathered (with_below read) (children_of read key) = c.into_text.ensures ∙ c.in_ok-add_all.ensures.text in
-    heading_read f key c.in-Some.node.now c.in-Some-level_of.level c.into_text.result c.read.ensures.sound (seen_in c.read.result c.in-Some.node f key c.read.ensures.found c.in-Some.is)
+    let text : c.into_text.result ≡ c.new-text.result ++ gathered (with_below read) (children_of read key) =
+    c.into_text.ensures ∙ c.in_ok-add_all.ensures.text in
+    heading_read f key c.in-Some.node.now c.in-Some-level_of.level c.into_text.result c.read.ensures.sound
+    (seen_in c.read.result c.in-Some.node f key c.read.ensures.found c.in-Some.is)
     (sym c.level_of.ensures ∙ c.in-Some-level_of.is)
     (text ∙ ap (λ t. t ++ gathered (with_below read) (children_of read key)) c.new-text.ensures
     ∙ ap (λ (f : Forest). gathered (with_below f) (children_of f key)) c.read.ensures.same)

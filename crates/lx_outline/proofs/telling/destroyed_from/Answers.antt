@@ -14,5 +14,6 @@ loop-key-preserved c =
     take_more marked c.loop-key.key-index c.key-item.result c.loop-key-test.true ∙ ap (λ k. front ++ k ∷ []) (sym c.key-item.is) in
     record {
       gone = c.in_ok-add_what_left.ensures.gone;
-      told = λ q e. left_more old new c.loop-key.keys c.add_what_left.new.keys front c.key-item.result c.loop-key.invariant.told c.in_ok-add_what_left.ensures.grows c.in_ok-add_what_left.ensures.told q (sym (ap (is_among q) push) ∙ e);
+      told = λ q e. left_more old new c.loop-key.keys c.add_what_left.new.keys front c.key-item.result c.loop-key.invariant.told
+          c.in_ok-add_what_left.ensures.grows c.in_ok-add_what_left.ensures.told q (sym (ap (is_among q) push) ∙ e);
     }

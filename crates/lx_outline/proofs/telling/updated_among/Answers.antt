@@ -13,4 +13,5 @@ loop-key-preserved c =
     let push : take (c.loop-key.key-index + 1) marked ≡ front ++ c.key-item.result ∷ [] =
     take_more marked c.loop-key.key-index c.key-item.result c.loop-key-test.true ∙ ap (λ k. front ++ k ∷ []) (sym c.key-item.is) in
     subst (λ ks. IsPart P ks c.insert_if.new.self) (sym push)
-    (part_more P front c.loop-key.keys c.insert_if.new.self c.key-item.result c.is_changed.result c.loop-key.invariant c.is_changed.ensures c.in_ok-insert_if.ensures)
+    (part_more P front c.loop-key.keys c.insert_if.new.self c.key-item.result c.is_changed.result c.loop-key.invariant c.is_changed.ensures
+    c.in_ok-insert_if.ensures)

@@ -10,7 +10,8 @@ returns-clause-told g c =
     let count = g.R.Records.count in
     let forest = λ (x : _). alone 0 (g.R.Records.forest x) in
     let noted = (marking c.args.marks.now).noted in
-    let told : count c.reconcile_root.new.before.source.now + count c.reconcile_root.new.after.source.now ≤ count c.args.before.now + count c.args.after.now + c.saturating_add-reads.result =
+    let told : count c.reconcile_root.new.before.source.now + count c.reconcile_root.new.after.source.now
+    ≤ count c.args.before.now + count c.args.after.now + c.saturating_add-reads.result =
     omega (
       arith,
       c.reconcile_root.ensures.fits,
@@ -46,4 +47,5 @@ reconcile_root-requires-clause-rooted_after g c =
 
 pub reconcile_root-requires-clause-alone_after : goal.reconcile_root-requires-clause-alone_after
 reconcile_root-requires-clause-alone_after g c =
-    tree_alone (g.R.Records.forest c.new-second.result.source.now) (ap (λ x. has 0 (g.R.Records.forest x)) c.new-second.ensures.source ∙ c.requires.rooted_after)
+    tree_alone (g.R.Records.forest c.new-second.result.source.now)
+    (ap (λ x. has 0 (g.R.Records.forest x)) c.new-second.ensures.source ∙ c.requires.rooted_after)

@@ -20,7 +20,9 @@ invariant-create_children-loop-at g l = record {
   same : g.L.Look.forest l.source ≡ g.L.Look.forest l.initial.source;
   made : IsMadeUpTo (g.L.Look.forest l.initial.source) l.fn.key l.host l.initial.ops.items l.at l.id l.ops.items;
   backing : Stays (g.L.Look.backing l.initial.source) (g.L.Look.backing l.source);
-  reads : g.L.Look.count l.source + 2 * total (trees_of (g.L.Look.forest l.initial.source) (from_name l.at (children_of (g.L.Look.forest l.initial.source) l.fn.key))) ≤ g.L.Look.count l.initial.source + 2 * total (trees_of (g.L.Look.forest l.initial.source) (children_of (g.L.Look.forest l.initial.source) l.fn.key));
+  reads : g.L.Look.count l.source
+      + 2 * total (trees_of (g.L.Look.forest l.initial.source) (from_name l.at (children_of (g.L.Look.forest l.initial.source) l.fn.key)))
+      ≤ g.L.Look.count l.initial.source + 2 * total (trees_of (g.L.Look.forest l.initial.source) (children_of (g.L.Look.forest l.initial.source) l.fn.key));
 }
 
 abbrev pub decreases-create_children-loop-at : goal.decreases-create_children-loop-at

@@ -22,10 +22,16 @@ loop-order-preserved c =
     elim c.if-not-are_equal.branch [
       | then-not-are_equal+in_ok-push_given-in-Equal w ↦ rw w.ops-is (
           written_at c.args.host c.args.old.now c.args.new.now c.loop-order.i c.loop-order.j _ _ _ c.loop-order.invariant
-          c.index-old-i-in-Equal.result w.index-new-j-then-not-are_equal.result both.0 both.1 c.index-old-i-in-Equal.is w.index-new-j-then-not-are_equal.is e (λ x. absurd (let same = c.are_equal.ensures.1 (x ∙ same_place c.args.new.now c.loop-order.j w.index-new-j-then-not-are_equal.result c.index-new-j-in-Equal.result both.1 w.index-new-j-then-not-are_equal.is c.index-new-j-in-Equal.is) in let h = w.if-not-are_equal.true in grind arith)) w.in_ok-push_given-in-Equal.ensures
+          c.index-old-i-in-Equal.result w.index-new-j-then-not-are_equal.result both.0 both.1 c.index-old-i-in-Equal.is w.index-new-j-then-not-are_equal.is e
+          (λ x. absurd
+          (let same = c.are_equal.ensures.1
+          (x ∙ same_place c.args.new.now c.loop-order.j w.index-new-j-then-not-are_equal.result c.index-new-j-in-Equal.result both.1
+          w.index-new-j-then-not-are_equal.is c.index-new-j-in-Equal.is) in let h =
+          w.if-not-are_equal.true in grind arith)) w.in_ok-push_given-in-Equal.ensures
           )
       | else-not-are_equal w ↦ rw w.ops-is (
           equal_at c.args.host c.args.old.now c.args.new.now c.loop-order.i c.loop-order.j _ _ c.loop-order.ops.items c.loop-order.invariant
-          c.index-old-i-in-Equal.result c.index-new-j-in-Equal.result both.0 both.1 c.index-old-i-in-Equal.is c.index-new-j-in-Equal.is (c.are_equal.ensures.0 (let h = w.if-not-are_equal.false in grind arith))
+          c.index-old-i-in-Equal.result c.index-new-j-in-Equal.result both.0 both.1 c.index-old-i-in-Equal.is c.index-new-j-in-Equal.is
+          (c.are_equal.ensures.0 (let h = w.if-not-are_equal.false in grind arith))
           )
     ]

@@ -22,7 +22,8 @@ loop-key-preserved c =
       | in-Some+in_ok-add_child w ↦
           subst (λ ks. AreFamilies v ks c.match-host_above.made) (sym push)
           (subst (AreFamilies v (front ++ c.key-item.result ∷ [])) (sym w.made-is)
-          (families_more v c.key-item.result w.in-Some.host front c.loop-key.made w.add_child.new.families (sym c.host_above.ensures ∙ w.in-Some.is) c.loop-key.invariant w.in_ok-add_child.ensures.each))
+          (families_more v c.key-item.result w.in-Some.host front c.loop-key.made w.add_child.new.families (sym c.host_above.ensures ∙ w.in-Some.is)
+          c.loop-key.invariant w.in_ok-add_child.ensures.each))
       | in_default w ↦
           subst (λ ks. AreFamilies v ks c.match-host_above.made) (sym push)
           (subst (AreFamilies v (front ++ c.key-item.result ∷ [])) (sym w.made-is)

@@ -24,8 +24,12 @@ abbrev pub invariant-make_moves-loop-step : goal.invariant-make_moves-loop-step
 invariant-make_moves-loop-step g l = record {
   before : g.O.Look.forest l.before ≡ g.O.Look.forest l.initial.before;
   after : g.N.Look.forest l.after ≡ g.N.Look.forest l.initial.after;
-  made : MakesMoves (g.O.Look.forest l.initial.before) (g.N.Look.forest l.initial.after) (marking l.given.marks.now) l.given.hosts.now.tree l.parent.key (take l.step-index l.moves) l.initial.written.next l.initial.written.ops.items l.written.ops.items l.written.next;
+  made : MakesMoves (g.O.Look.forest l.initial.before) (g.N.Look.forest l.initial.after) (marking l.given.marks.now) l.given.hosts.now.tree l.parent.key
+      (take l.step-index l.moves) l.initial.written.next l.initial.written.ops.items l.written.ops.items l.written.next;
   backing_before : Stays (g.O.Look.backing l.initial.before) (g.O.Look.backing l.before);
   backing_after : Stays (g.N.Look.backing l.initial.after) (g.N.Look.backing l.after);
-  reads : g.O.Look.count l.before + g.N.Look.count l.after ≤ g.O.Look.count l.initial.before + g.N.Look.count l.initial.after + reads_in (g.O.Look.forest l.initial.before) (marking l.given.marks.now).noted (Some l.parent.key) (trees_of (g.N.Look.forest l.initial.after) (standing (take l.step-index l.moves)));
+  reads : g.O.Look.count l.before + g.N.Look.count l.after
+      ≤ g.O.Look.count l.initial.before + g.N.Look.count l.initial.after
+      + reads_in (g.O.Look.forest l.initial.before) (marking l.given.marks.now).noted (Some l.parent.key)
+      (trees_of (g.N.Look.forest l.initial.after) (standing (take l.step-index l.moves)));
 }

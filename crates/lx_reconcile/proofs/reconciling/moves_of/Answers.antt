@@ -19,14 +19,16 @@ family g c =
     is_family _ _ _ _ c.requires.between _ _ c.requires.families _ _ c.requires.there_before found
 
 -- the window is the run of the marked children
-marks : (g : Over) (c : After-window-2-1 g) → IsWindowOfMarks (marking c.args.given.now.marks.now).noted (children_of (g.O.Look.forest c.args.before.now) c.args.parent.now.key) c.match-get.window
+marks : (g : Over) (c : After-window-2-1 g)
+    → IsWindowOfMarks (marking c.args.given.now.marks.now).noted (children_of (g.O.Look.forest c.args.before.now) c.args.parent.now.key) c.match-get.window
 marks g c =
     let IsRun = IsWindowOfMarks (marking c.args.given.now.marks.now).noted (children_of (g.O.Look.forest c.args.before.now) c.args.parent.now.key) in
     elim c.match-get.branch [
       | in-Some+in_ok-window-in-Some w ↦ subst IsRun (sym w.window-is) w.in_ok-window-in-Some.ensures.window
       | in-None w ↦
           let none = no_children _ c.args.was c.requires.was (w.is_none.ensures ∙ ap not w.if-is_none.true) in
-          subst IsRun (sym w.window-is) (none_window _ _ w.empty-window.result none w.empty-window.ensures.before w.empty-window.ensures.keys w.empty-window.ensures.behind)
+          subst IsRun (sym w.window-is)
+          (none_window _ _ w.empty-window.result none w.empty-window.ensures.before w.empty-window.ensures.keys w.empty-window.ensures.behind)
     ]
 
 -- ---- the family of the node
@@ -49,7 +51,8 @@ returns-in-None-2-clause-part g c =
     let none = sym (ap (get nat_eq c.args.given.now.families.now) c.requires.host) ∙ sym c.in-None-2.ensures.value in
     let first = some_child _ c.args.was c.requires.was c.if-is_none.ensures in
     let plain = no_family _ _ _ _ between _ _ c.requires.families key c.requires.there_before none in
-    subst (IsPart (marking c.args.given.now.marks.now).noted (children_of (g.O.Look.forest c.args.before.now) key) (children_of (g.N.Look.forest c.args.after.now) key)) (sym c.new.ensures.items)
+    subst (IsPart (marking c.args.given.now.marks.now).noted (children_of (g.O.Look.forest c.args.before.now) key)
+    (children_of (g.N.Look.forest c.args.after.now) key)) (sym c.new.ensures.items)
     (plain_part _ _ _ _ between key c.requires.there_after first.0 first.1 plain)
 
 -- ---- the run of the marked children
@@ -65,4 +68,5 @@ moves_in-requires-clause-first g c =
 pub returns-clause-part : goal.returns-clause-part
 returns-clause-part g c =
     let run = marks g (goal.at.returns-clause-part g c).After-window-2-1 in
-    IfOk-weaker c.moves_in.result _ _ (λ moves walk. window_part _ _ _ _ c.requires.between _ c.requires.there_after _ run _ moves.items c.requires.now walk) c.moves_in.ensures.walk
+    IfOk-weaker c.moves_in.result _ _ (λ moves walk. window_part _ _ _ _ c.requires.between _ c.requires.there_after _ run _ moves.items c.requires.now walk)
+    c.moves_in.ensures.walk

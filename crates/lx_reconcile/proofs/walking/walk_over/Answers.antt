@@ -4,7 +4,8 @@ use Rattle.lx_reconcile.proofs.walking.walk_over.Goals as goal
 
 pub loop-walk-init : goal.loop-walk-init
 loop-walk-init c =
-    along-begun c.args.old.now c.args.new.now c.new-walk.result c.requires.old c.requires.new c.new-walk.ensures.passed c.new-walk.ensures.reached c.new-walk.ensures.at
+    along-begun c.args.old.now c.args.new.now c.new-walk.result c.requires.old c.requires.new c.new-walk.ensures.passed c.new-walk.ensures.reached
+    c.new-walk.ensures.at
     c.new-walk.ensures.handled c.new-walk.ensures.moves
 
 pub returns : goal.returns

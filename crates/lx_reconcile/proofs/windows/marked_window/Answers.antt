@@ -10,6 +10,9 @@ returns-clause-window g c =
     let children = children_of (g.L.Look.forest c.args.source.now) c.args.key in
     let noted = (marking c.args.marks.now).noted in
     elim c.loop-left-test.branch [
-      | then-loop-left-test+else-is_open w ↦ all_of noted children c.loop-left.window c.loop-left.invariant.is (sym w.if-is_open.ensures) c.loop-left.invariant.some
-      | else-loop-left-test w ↦ all_in noted children c.loop-left.window c.loop-left.invariant.is (omega (arith, c.loop-left.invariant.left, w.loop-left-test)) c.loop-left.invariant.some
+      | then-loop-left-test+else-is_open w ↦
+          all_of noted children c.loop-left.window c.loop-left.invariant.is (sym w.if-is_open.ensures) c.loop-left.invariant.some
+      | else-loop-left-test w ↦
+          all_in noted children c.loop-left.window c.loop-left.invariant.is (omega (arith, c.loop-left.invariant.left, w.loop-left-test))
+          c.loop-left.invariant.some
     ]

@@ -13,4 +13,5 @@ returns-then-is_empty c =
 pub returns-else-is_empty : goal.returns-else-is_empty
 returns-else-is_empty c =
     let some : chars c.args.text.now ≢ [] = some_chars c.args.text.now c.utf8.text (grind (arith, c.is_empty.ensures, c.if-is_empty.false)) in
-    subst (λ whole. Does whole c.append_text.new.draft c.append_text.result) (sym (filled_with (chars c.args.text.now) c.args.parent c.args.draft.now some)) c.append_text.ensures
+    subst (λ whole. Does whole c.append_text.new.draft c.append_text.result) (sym (filled_with (chars c.args.text.now) c.args.parent c.args.draft.now some))
+    c.append_text.ensures

@@ -21,7 +21,8 @@ decreases-offer_all l = 5 * l.left + 4
 -- those that are left, after those that have run, come to what all come to
 abbrev pub invariant-run_all-loop-step : goal.invariant-run_all-loop-step
 invariant-run_all-loop-step l = record {
-  same : steps_in (dispatched l.left l.bus) l.sent (drop l.step-index l.steps) l.running ≡ steps_in (dispatched l.fn.left l.fn.bus) l.fn.sent l.fn.steps l.fn.running;
+  same : steps_in (dispatched l.left l.bus) l.sent (drop l.step-index l.steps) l.running
+      ≡ steps_in (dispatched l.fn.left l.fn.bus) l.fn.sent l.fn.steps l.fn.running;
 }
 
 -- those that are left, after those that were offered the command, come to what all come to
@@ -30,5 +31,6 @@ invariant-offer_all-loop-listener l = record {
   can_next : (goal.iterator-offer_all-loop-listener).can_next l.listener-iterator;
   is_finite : (goal.iterator-offer_all-loop-listener).is_finite l.listener-iterator;
   sound : All IsSoundListener l.listener-iterator;
-  same : offered (dispatched l.left l.bus) l.payload l.listener-iterator l.running ≡ offered (dispatched l.fn.left l.fn.bus) l.fn.payload l.fn.offers l.fn.running;
+  same : offered (dispatched l.left l.bus) l.payload l.listener-iterator l.running
+      ≡ offered (dispatched l.fn.left l.fn.bus) l.fn.payload l.fn.offers l.fn.running;
 }

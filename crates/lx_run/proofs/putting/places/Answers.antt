@@ -5,21 +5,25 @@ use Rattle.lx_run.proofs.putting.places.Goals as goal
 
 pub overflow_sub-result : goal.overflow_sub-result
 overflow_sub-result c =
-    let above : parent_of c.args.links.now c.args.key ≡ Some c.args.parent = parent_told _ _ c.in-Some.above c.args.parent c.eq.result c.parent.ensures.parent c.in-Some.is c.eq.ensures c.if-eq.true in
+    let above : parent_of c.args.links.now c.args.key ≡ Some c.args.parent =
+    parent_told _ _ c.in-Some.above c.args.parent c.eq.result c.parent.ensures.parent c.in-Some.is c.eq.ensures c.if-eq.true in
     let all = beside_child c.args.links.now c.args.key c.args.parent c.parent.ensures.sound above in
     omega (arith, all, c.size-size.ensures.size)
 
 pub returns-then-eq : goal.returns-then-eq
 returns-then-eq c =
-    let above : parent_of c.args.links.now c.args.key ≡ Some c.args.parent = parent_told _ _ c.in-Some.above c.args.parent c.eq.result c.parent.ensures.parent c.in-Some.is c.eq.ensures c.if-eq.true in
+    let above : parent_of c.args.links.now c.args.key ≡ Some c.args.parent =
+    parent_told _ _ c.in-Some.above c.args.parent c.eq.result c.parent.ensures.parent c.in-Some.is c.eq.ensures c.if-eq.true in
     let all = beside_child c.args.links.now c.args.key c.args.parent c.parent.ensures.sound above in
     omega (arith, all, c.size-size.ensures.size)
 
 pub returns-else-eq : goal.returns-else-eq
 returns-else-eq c =
     c.size-size.ensures.size
-    ∙ beside_other c.args.links.now c.args.key c.args.parent c.parent.ensures.sound (other_told _ _ c.in-Some.above c.args.parent c.eq.result c.parent.ensures.parent c.in-Some.is c.eq.ensures c.if-eq.false)
+    ∙ beside_other c.args.links.now c.args.key c.args.parent c.parent.ensures.sound
+    (other_told _ _ c.in-Some.above c.args.parent c.eq.result c.parent.ensures.parent c.in-Some.is c.eq.ensures c.if-eq.false)
 
 pub returns-in-None : goal.returns-in-None
 returns-in-None c =
-    c.size-size.ensures.size ∙ beside_other c.args.links.now c.args.key c.args.parent c.parent.ensures.sound (no_parent_told _ _ c.args.parent c.parent.ensures.parent c.in-None.is)
+    c.size-size.ensures.size
+    ∙ beside_other c.args.links.now c.args.key c.args.parent c.parent.ensures.sound (no_parent_told _ _ c.args.parent c.parent.ensures.parent c.in-None.is)

@@ -24,5 +24,7 @@ pub members-preserved : goal.members-preserved
 members-preserved c =
     let e : Entry = (c.in-Some.name.now, c.in-Some.value.now) in
     let text = c.as_str-text.result.now in
-    let is : Some c.in-Some-2.member ≡ patch_member (word_in names (string_bytes e.0)) (string_bytes e.0) (view e.1) = cc (c.in_ok-member.ensures, c.as_str-text.ensures.value) in
-    rw c.in_ok-push-in-Some-2.ensures.items (taken c.members.made.items c.in-Some-2.member e c.next.new.self c.members.name-iterator _ is c.in-Some.ensures.steps c.members.invariant)
+    let is : Some c.in-Some-2.member ≡ patch_member (word_in names (string_bytes e.0)) (string_bytes e.0) (view e.1) =
+    cc (c.in_ok-member.ensures, c.as_str-text.ensures.value) in
+    rw c.in_ok-push-in-Some-2.ensures.items
+    (taken c.members.made.items c.in-Some-2.member e c.next.new.self c.members.name-iterator _ is c.in-Some.ensures.steps c.members.invariant)

@@ -18,7 +18,8 @@ member_script-returns-in-Ok t c =
     ∙ sym (member-listed c.args.inside c.args.name.now (view c.args.value.now))
 
 pub member_script-returns-in-None : goal.member_script-returns-in-None
-member_script-returns-in-None t c = ap (option_and_then (script_from c.args.inside)) c.in-None.ensures ∙ sym (member-listed c.args.inside c.args.name.now (view c.args.value.now))
+member_script-returns-in-None t c =
+    ap (option_and_then (script_from c.args.inside)) c.in-None.ensures ∙ sym (member-listed c.args.inside c.args.name.now (view c.args.value.now))
 
 pub script_of-step_of-requires : goal.script_of-step_of-requires
 script_of-step_of-requires t c =
@@ -37,10 +38,14 @@ script_of-returns t c =
 pub step_of-returns-in-Ok : goal.step_of-returns-in-Ok
 step_of-returns-in-Ok t c =
     c.in-Ok.ensures
-    ∙ ap (option_and_then (λ verb. step_for c.args.inside verb (view c.args.value.now) (required (script_in c.args.inside) (codes "later") (view c.args.value.now)))) c.in-Some.ensures
+    ∙ ap (option_and_then
+    (λ verb. step_for c.args.inside verb (view c.args.value.now) (required (script_in c.args.inside) (codes "later") (view c.args.value.now))))
+    c.in-Some.ensures
     ∙ sym (step_of-found c.args.inside (view c.args.value.now))
 
 pub step_of-returns-in-None : goal.step_of-returns-in-None
 step_of-returns-in-None t c =
-    ap (option_and_then (λ verb. step_for c.args.inside verb (view c.args.value.now) (required (script_in c.args.inside) (codes "later") (view c.args.value.now)))) c.in-None.ensures
+    ap (option_and_then
+    (λ verb. step_for c.args.inside verb (view c.args.value.now) (required (script_in c.args.inside) (codes "later") (view c.args.value.now))))
+    c.in-None.ensures
     ∙ sym (step_of-found c.args.inside (view c.args.value.now))

@@ -5,7 +5,9 @@ use Rattle.lx_store.proofs.differing.next_difference.Given as goal
 
 -- the keys so far have equal items
 abbrev pub invariant-loop-number : goal.invariant-loop-number
-invariant-loop-number g l = (first_after l.fn.after ≤ l.number * 1024 + l.slot) × (l.slot < 1024) × AreSame (map.get l.a) (map.get l.b) (first_after l.fn.after) (l.number * 1024 + l.slot)
+invariant-loop-number g l =
+    (first_after l.fn.after ≤ l.number * 1024 + l.slot) × (l.slot < 1024)
+    × AreSame (map.get l.a) (map.get l.b) (first_after l.fn.after) (l.number * 1024 + l.slot)
 
 abbrev pub decreases-loop-number : goal.decreases-loop-number
 decreases-loop-number g l = l.end - l.number

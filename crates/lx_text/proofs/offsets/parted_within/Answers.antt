@@ -13,18 +13,24 @@ loop-character-init c = (
 pub stopped-requires : goal.stopped-requires
 stopped-requires c =
     subst (λ n. IsStopped c.args.text.now c.args.offset c.loop-character.left n) (sym c.loop-character.invariant.1)
-    (stopped_before c.args.text.now (chars_rest c.loop-character.characters) (chars_rest c.next.new.self) c.args.offset c.loop-character.left c.in-Some.character c.loop-character.invariant.0 c.in-Some.ensures.steps.0
-    (long_told c.in-Some.character c.len_utf16-units.result c.loop-character.left c.len_utf16-units.ensures.bmp c.len_utf16-units.ensures.surrogate_pair c.if-left-units.true))
+    (stopped_before c.args.text.now (chars_rest c.loop-character.characters) (chars_rest c.next.new.self) c.args.offset c.loop-character.left
+    c.in-Some.character c.loop-character.invariant.0 c.in-Some.ensures.steps.0
+    (long_told c.in-Some.character c.len_utf16-units.result c.loop-character.left c.len_utf16-units.ensures.bmp c.len_utf16-units.ensures.surrogate_pair
+    c.if-left-units.true))
 
 pub loop-character-preserved : goal.loop-character-preserved
 loop-character-preserved c = (
-  subst (λ n. IsPassed c.args.text.now c.args.offset (c.loop-character.left - n) (chars_rest c.next.new.self)) (sym (units_told c.in-Some.character c.len_utf16-units.result c.len_utf16-units.ensures.bmp c.len_utf16-units.ensures.surrogate_pair))
-      (passed_more c.args.text.now (chars_rest c.loop-character.characters) (chars_rest c.next.new.self) c.args.offset c.loop-character.left c.in-Some.character c.loop-character.invariant.0 c.in-Some.ensures.steps.0
-      (fits_told c.in-Some.character c.len_utf16-units.result c.loop-character.left c.len_utf16-units.ensures.bmp c.len_utf16-units.ensures.surrogate_pair c.if-left-units.false)),
+  subst (λ n. IsPassed c.args.text.now c.args.offset (c.loop-character.left - n) (chars_rest c.next.new.self))
+      (sym (units_told c.in-Some.character c.len_utf16-units.result c.len_utf16-units.ensures.bmp c.len_utf16-units.ensures.surrogate_pair))
+      (passed_more c.args.text.now (chars_rest c.loop-character.characters) (chars_rest c.next.new.self) c.args.offset c.loop-character.left c.in-Some.character
+      c.loop-character.invariant.0 c.in-Some.ensures.steps.0
+      (fits_told c.in-Some.character c.len_utf16-units.result c.loop-character.left c.len_utf16-units.ensures.bmp c.len_utf16-units.ensures.surrogate_pair
+      c.if-left-units.false)),
   ap length c.as_str-rest.ensures,
 )
 
 pub stopped-requires-2 : goal.stopped-requires-2
 stopped-requires-2 c =
     subst (λ n. IsStopped c.args.text.now c.args.offset c.loop-character.left n) (sym c.loop-character.invariant.1)
-    (stopped_at_end c.args.text.now (chars_rest c.loop-character.characters) c.args.offset c.loop-character.left c.loop-character.invariant.0 c.in_default.ensures.steps.0.0)
+    (stopped_at_end c.args.text.now (chars_rest c.loop-character.characters) c.args.offset c.loop-character.left c.loop-character.invariant.0
+    c.in_default.ensures.steps.0.0)

@@ -11,7 +11,8 @@ split_at-requires c =
 pub returns-clause-front : goal.returns-clause-front
 returns-clause-front c =
     ap chars c.split_at.ensures.front
-    ∙ chars-front c.args.text.now c.requires.front c.requires.back c.args.rest c.utf8.text c.requires.utf8 c.requires.bytes c.requires.rest_is ∙ c.requires.front_of_is
+    ∙ chars-front c.args.text.now c.requires.front c.requires.back c.args.rest c.utf8.text c.requires.utf8 c.requires.bytes c.requires.rest_is
+    ∙ c.requires.front_of_is
 
 pub returns-clause-rest : goal.returns-clause-rest
 returns-clause-rest c =

@@ -31,14 +31,16 @@ next_array-returns-in-Err-clause-gives t c =
     let depth = c.args.depth - 1 in
     let going : (after_end_array l.reader ≡ None) × (c.take_end_array.new.self ≡ l.reader) = grind arith in
     refused_outside (value_ahead depth c.take_end_array.new.self) (items_ahead c.args.depth c.args.reader.now) c.in-Err.unread
-    (λ none. l.invariant.1 ∙ ap (parse_map (behind l.found.items)) (item_refused depth l.reader going.0 (ap (value_ahead depth) (sym going.1) ∙ none))) c.in-Err.ensures.gives
+    (λ none. l.invariant.1 ∙ ap (parse_map (behind l.found.items)) (item_refused depth l.reader going.0 (ap (value_ahead depth) (sym going.1) ∙ none)))
+    c.in-Err.ensures.gives
 
 pub next_array-returns-clause-gives : goal.next_array-returns-clause-gives
 next_array-returns-clause-gives t c =
     let l = c.items in
     let r = c.take_end_array.new.self in
     let closed : after_end_array l.reader ≡ Some r = grind arith in
-    l.invariant.1 ∙ ap (parse_map (behind l.found.items)) (items_over (c.args.depth - 1) l.reader r closed) ∙ ap (λ ds. Some (ds, r)) (behind-none l.found.items)
+    l.invariant.1 ∙ ap (parse_map (behind l.found.items)) (items_over (c.args.depth - 1) l.reader r closed)
+    ∙ ap (λ ds. Some (ds, r)) (behind-none l.found.items)
 
 pub next_object-members-preserved : goal.next_object-members-preserved
 next_object-members-preserved t c =
@@ -52,7 +54,8 @@ next_object-members-preserved t c =
     let named : read_key l.reader ≡ Some (Some k, s) = grind arith in
     let copied : string_bytes c.in_ok-name-in-Ok-Some.name ≡ k = search rules in
     let inserted : members_view c.insert.new.self.entries ≡ put k (view v) old =
-    ap members_view c.in_ok-insert-in-Ok.ensures.entries ∙ members_view-insert_entry l.found.entries c.in_ok-name-in-Ok-Some.name v ∙ ap (λ name. put name (view v) old) copied in
+    ap members_view c.in_ok-insert-in-Ok.ensures.entries ∙ members_view-insert_entry l.found.entries c.in_ok-name-in-Ok-Some.name v
+    ∙ ap (λ name. put name (view v) old) copied in
     let less : length r < length s = c.in-Ok.ensures.shorter in (
       l.invariant.0,
       l.invariant.1 ∙ member_read depth old k l.reader s r (view v) named c.in-Ok.ensures.gives ∙ ap (λ found. members_from depth found r) (sym inserted),
@@ -101,7 +104,8 @@ next_value-returns-in-Err-clause-gives t c =
     let behind_it = c.next.new.self in
     let first : c.args.reader.now ≡ token_of c.in-Some.token ∷ behind_it = grind arith in
     let opened = ap (value_ahead depth) (first ∙ ap (λ k. token_of k ∷ behind_it) c.in-BeginArray.is) ∙ ahead_array depth behind_it in
-    refused_outside (items_ahead depth behind_it) (value_ahead depth c.args.reader.now) c.in-Err.unread (λ none. opened ∙ ap (parse_map array) none) c.in-Err.ensures.gives
+    refused_outside (items_ahead depth behind_it) (value_ahead depth c.args.reader.now) c.in-Err.unread (λ none. opened ∙ ap (parse_map array) none)
+    c.in-Err.ensures.gives
 
 pub next_value-returns-in-Ok-next_object-clause-gives :
     goal.next_value-returns-in-Ok-next_object-clause-gives
@@ -110,7 +114,8 @@ next_value-returns-in-Ok-next_object-clause-gives t c =
     let behind_it = c.next.new.self in
     let first : c.args.reader.now ≡ token_of c.in-Some.token ∷ behind_it = grind arith in
     let opened = ap (value_ahead depth) (first ∙ ap (λ k. token_of k ∷ behind_it) c.in-BeginObject.is) ∙ ahead_object depth behind_it in
-    opened ∙ ap (parse_map object) c.in-Ok-next_object.ensures.gives ∙ ap (λ d. Some (d, c.next_object.new.reader)) (sym (view-Object c.in-Ok-next_object.members))
+    opened ∙ ap (parse_map object) c.in-Ok-next_object.ensures.gives
+    ∙ ap (λ d. Some (d, c.next_object.new.reader)) (sym (view-Object c.in-Ok-next_object.members))
 
 pub next_value-returns-in-Err-next_object-clause-gives :
     goal.next_value-returns-in-Err-next_object-clause-gives
@@ -119,7 +124,8 @@ next_value-returns-in-Err-next_object-clause-gives t c =
     let behind_it = c.next.new.self in
     let first : c.args.reader.now ≡ token_of c.in-Some.token ∷ behind_it = grind arith in
     let opened = ap (value_ahead depth) (first ∙ ap (λ k. token_of k ∷ behind_it) c.in-BeginObject.is) ∙ ahead_object depth behind_it in
-    refused_outside (members_ahead depth behind_it) (value_ahead depth c.args.reader.now) c.in-Err-next_object.unread (λ none. opened ∙ ap (parse_map object) none) c.in-Err-next_object.ensures.gives
+    refused_outside (members_ahead depth behind_it) (value_ahead depth c.args.reader.now) c.in-Err-next_object.unread
+    (λ none. opened ∙ ap (parse_map object) none) c.in-Err-next_object.ensures.gives
 
 pub next_value-returns-in_default-token : goal.next_value-returns-in_default-token
 next_value-returns-in_default-token t c =

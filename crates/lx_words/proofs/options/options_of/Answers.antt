@@ -15,7 +15,8 @@ returns-in-Ok-try_get_matches_from-clause-ok c =
 
 pub returns-in-Ok-try_get_matches_from-clause-usage : goal.returns-in-Ok-try_get_matches_from-clause-usage
 returns-in-Ok-try_get_matches_from-clause-usage c =
-    usage_is c.options_in.result _ _ c.in-Ok-try_get_matches_from.matches c.in-Ok.ensures c.in-Ok-try_get_matches_from.ensures.matches c.options_in.ensures.usage
+    usage_is c.options_in.result _ _ c.in-Ok-try_get_matches_from.matches c.in-Ok.ensures c.in-Ok-try_get_matches_from.ensures.matches
+    c.options_in.ensures.usage
 
 pub returns-in-Err-try_get_matches_from-clause-usage : goal.returns-in-Err-try_get_matches_from-clause-usage
 returns-in-Err-try_get_matches_from-clause-usage c =

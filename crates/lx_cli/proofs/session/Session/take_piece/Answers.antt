@@ -30,7 +30,8 @@ returns-in-Err g c =
     let piece = c.args.piece.now in
     let at = c.loop-byte.byte-index in
     let old = c.args.self.now in
-    subst (λ (bytes : List ℕ). AreUnanswered c.in-Err.unanswered (ended (old.pending.items ++ bytes)) old.served (seen c.args.sink.now) (seen c.take_byte.new.sink))
+    subst (λ (bytes : List ℕ). AreUnanswered c.in-Err.unanswered (ended (old.pending.items ++ bytes)) old.served (seen c.args.sink.now)
+    (seen c.take_byte.new.sink))
     (ap (λ front. front ++ drop (at + 1) piece) (sym (take_more piece at 0 c.loop-byte-test.true)) ∙ take-append-drop (at + 1) piece)
     (AreUnanswered-push c.in-Err.unanswered old c.loop-byte.self
     (seen c.args.sink.now) (seen c.loop-byte.sink) (seen c.take_byte.new.sink)

@@ -11,4 +11,6 @@ returns-then-not-counts_children c =
     let w : Working = working_of c.self.inside in
     let away : has_point_counting c.in-Some.parent w.selection ≡ false = search rules in
     subst (λ (v : Working). v ≡ record v { selection = take_points (parent_of v.forest c.args.key) (index_of v.forest c.args.key) v.selection }) c.self.view_is
-    (ap (λ s. record w { selection = s }) (sym (no_points_taken (parent_of w.forest c.args.key) (index_of w.forest c.args.key) c.in-Some.parent w.selection (sym c.parent.ensures.parent ∙ c.in-Some.is) away)))
+    (ap (λ s. record w { selection = s })
+    (sym (no_points_taken (parent_of w.forest c.args.key) (index_of w.forest c.args.key) c.in-Some.parent w.selection
+    (sym c.parent.ensures.parent ∙ c.in-Some.is) away)))

@@ -13,4 +13,5 @@ invariant_of-self-2 c =
     let l : Label = record { key = w.next_key; kind = c.args.kind; fields = c.args.fields } in
     let order : IsForest w.forest = subst (λ (v : Working). IsForest v.forest) (sym (c.self.view_is ∙ c.note_edit.ensures.noted)) c.requires.order in
     let room : HasRoom w = subst (λ v. HasRoom v) (sym c.self.view_is) c.note_edit.ensures.room in
-    drafted_new w c.insert_new.new.self l c.self.inside.loose c.loosen.new.loose order c.self.invariant room refl c.in_ok-loosen.ensures.noted (c.in_ok-insert_new.ensures.added ∙ ap (with_new l) c.in_ok-loosen.ensures.same)
+    drafted_new w c.insert_new.new.self l c.self.inside.loose c.loosen.new.loose order c.self.invariant room refl c.in_ok-loosen.ensures.noted
+    (c.in_ok-insert_new.ensures.added ∙ ap (with_new l) c.in_ok-loosen.ensures.same)

@@ -12,5 +12,7 @@ pub returns-else-has_point_on : goal.returns-else-has_point_on
 returns-else-has_point_on c =
     let w : Working = working_of c.self.inside in
     let away : has_point_on c.args.parent w.selection ≡ false = search rules in
-    subst (λ (v : Working). v ≡ record v { selection = each_point (put_moves c.args.parent (gap_index c.args.before (children_of v.forest c.args.parent))) v.selection }) c.self.view_is
+    subst (λ (v : Working). v
+    ≡ record v { selection = each_point (put_moves c.args.parent (gap_index c.args.before (children_of v.forest c.args.parent))) v.selection })
+    c.self.view_is
     (ap (λ s. record w { selection = s }) (sym (put-apart c.args.parent (gap_index c.args.before (children_of w.forest c.args.parent)) w.selection away)))

@@ -33,7 +33,8 @@ pub invariant_of-self : goal.invariant_of-self
 invariant_of-self c =
     let at = may (goal.at.invariant_of-self c).After-place in
     let told = c.mark_both_near.ensures in
-    drafted_put_both c.mark_both_near.result (working_of c.self.inside) _ c.args.parent c.args.before c.args.key _ _ _ _ _ _ at.order at.can c.in-Ok.ensures.placed.1
+    drafted_put_both c.mark_both_near.result (working_of c.self.inside) _ c.args.parent c.args.before c.args.key _ _ _ _ _ _ at.order at.can
+    c.in-Ok.ensures.placed.1
     told.same told.marks told.fresh told.failed c.self.invariant
 
 pub invariant_of-self-in-Err : goal.invariant_of-self-in-Err
@@ -45,5 +46,7 @@ pub returns-clause-failed : goal.returns-clause-failed
 returns-clause-failed c =
     elim c.match-place.branch [
       | in-Ok b ↦ failed_told _ _ _ _ b.result-is b.self-is b.mark_both_near.ensures.failed
-      | in-Err b ↦ failed_told _ _ _ _ b.result-is b.self-is (subst (λ r. OnErr r (c.place.new.self ≡ nil)) b.in-Err.is (lost (goal.at.returns-clause-failed c).After-place))
+      | in-Err b ↦
+          failed_told _ _ _ _ b.result-is b.self-is
+          (subst (λ r. OnErr r (c.place.new.self ≡ nil)) b.in-Err.is (lost (goal.at.returns-clause-failed c).After-place))
     ]

@@ -24,8 +24,12 @@ invariant_of-self c =
     let P : Forest → Type 0 = λ f. IsDrafted (record w { forest = f }) c.self.inside.loose.leaves in
     let placed : IsPlaced c.args.key c.args.piece w.forest = subst (λ v. IsPlaced c.args.key c.args.piece v.forest) (sym c.self.view_is) c.requires.placed in
     let order : IsForest w.forest = subst (λ v. IsForest v.forest) (sym c.self.view_is) c.requires.order in
-    elim (replaced_or c.splice.result c.args.key c.args.piece (chars c.args.new.now) w.forest c.splice.new.self placed c.splice.ensures.spliced c.splice.ensures.failed) [
-      | inl made ↦ subst P (sym made) (drafted_set w c.self.inside.loose.leaves c.args.key (label_with_piece (label_of w.forest c.args.key) c.args.piece.from c.args.piece.to (chars c.args.new.now)) order c.self.invariant)
+    elim (replaced_or c.splice.result c.args.key c.args.piece (chars c.args.new.now) w.forest c.splice.new.self placed c.splice.ensures.spliced
+    c.splice.ensures.failed) [
+      | inl made ↦
+          subst P (sym made)
+          (drafted_set w c.self.inside.loose.leaves c.args.key
+          (label_with_piece (label_of w.forest c.args.key) c.args.piece.from c.args.piece.to (chars c.args.new.now)) order c.self.invariant)
       | inr failed ↦ subst P (sym failed) (drafted_nil w c.self.inside.loose.leaves c.self.inside.loose.leaves c.self.invariant)
     ]
 
@@ -34,6 +38,8 @@ returns-clause-replaced c =
     let w : Working = working_of c.self.inside in
     let new = chars c.args.new.now in
     let placed : IsPlaced c.args.key c.args.piece w.forest = subst (λ v. IsPlaced c.args.key c.args.piece v.forest) (sym c.self.view_is) c.requires.placed in
-    subst (λ (v : Working). OnOk c.splice.result (◌≡◌ {A = Working} (record w { forest = c.splice.new.self }) (record v { forest = with_fields c.args.key (label_with_piece (label_of v.forest c.args.key) c.args.piece.from c.args.piece.to new) v.forest })))
+    subst (λ (v : Working). OnOk c.splice.result
+    (◌≡◌ {A = Working} (record w { forest = c.splice.new.self })
+    (record v { forest = with_fields c.args.key (label_with_piece (label_of v.forest c.args.key) c.args.piece.from c.args.piece.to new) v.forest })))
     c.self.view_is
     (replaced_ok c.splice.result c.args.key c.args.piece new w c.splice.new.self placed c.splice.ensures.spliced)

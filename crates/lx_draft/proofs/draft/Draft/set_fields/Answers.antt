@@ -14,9 +14,11 @@ pub invariant_of-self : goal.invariant_of-self
 invariant_of-self c =
     let w : Working = working_of c.self.inside in
     let P : Forest → Type 0 = λ f. IsDrafted (record w { forest = f }) c.self.inside.loose.leaves in
-    let none : set_fault c.args.key c.args.fields w.forest ≡ None = subst (λ v. set_fault c.args.key c.args.fields v.forest ≡ None) (sym c.self.view_is) c.requires.fault in
+    let none : set_fault c.args.key c.args.fields w.forest ≡ None =
+    subst (λ v. set_fault c.args.key c.args.fields v.forest ≡ None) (sym c.self.view_is) c.requires.fault in
     let order : IsForest w.forest = subst (λ v. IsForest v.forest) (sym c.self.view_is) c.requires.order in
-    elim (after_call c.set.result w.forest c.set.new.self (with_fields c.args.key c.args.fields w.forest) (set_fault c.args.key c.args.fields w.forest) none c.set.ensures.set c.set.ensures.refused) [
+    elim (after_call c.set.result w.forest c.set.new.self (with_fields c.args.key c.args.fields w.forest) (set_fault c.args.key c.args.fields w.forest) none
+    c.set.ensures.set c.set.ensures.refused) [
       | inl made ↦ subst P (sym made) (drafted_set w c.self.inside.loose.leaves c.args.key c.args.fields order c.self.invariant)
       | inr failed ↦ subst P (sym failed) (drafted_nil w c.self.inside.loose.leaves c.self.inside.loose.leaves c.self.invariant)
     ]

@@ -18,4 +18,5 @@ pub returns-in-None-clause-refused : goal.returns-in-None-clause-refused
 returns-in-None-clause-refused c =
     let w : Working = working_of c.self.inside in
     subst (λ (v : Working). (from to : ℕ) → splice_fault c.args.key from to v.forest ≡ Some (WrongKind c.in-Some.node.now.kind)) c.self.view_is
-    (no_text w.forest c.args.key c.in-Some.node.now (sym c.node.ensures.node ∙ ap option_copied c.in-Some.is) (sym c.text_fields.ensures ∙ ap option_copied c.in-None.is))
+    (no_text w.forest c.args.key c.in-Some.node.now (sym c.node.ensures.node ∙ ap option_copied c.in-Some.is)
+    (sym c.text_fields.ensures ∙ ap option_copied c.in-None.is))

@@ -8,5 +8,7 @@ returns-then-not-self c = unasked c.args.self.now.asked c.args.batch.now.ops c.a
 pub returns : goal.returns
 returns c =
     let before = c.in_ok-before.before in
-    noted_as c.args.self.now.asked c.args.batch.now.ops c.args.before.now c.args.marks.value c.set.new.self.change (record { ops = c.into_vec-ops.result; before = before; marks = c.into_inner-marks.result }) c.set.ensures.change
-    (c.into_vec-ops.ensures ∙ c.in_ok-copy_ops.ensures) (state_is before c.args.before.now c.in_ok-before.ensures.links c.in_ok-before.ensures.selection) c.into_inner-marks.ensures
+    noted_as c.args.self.now.asked c.args.batch.now.ops c.args.before.now c.args.marks.value c.set.new.self.change
+    (record { ops = c.into_vec-ops.result; before = before; marks = c.into_inner-marks.result }) c.set.ensures.change
+    (c.into_vec-ops.ensures ∙ c.in_ok-copy_ops.ensures) (state_is before c.args.before.now c.in_ok-before.ensures.links c.in_ok-before.ensures.selection)
+    c.into_inner-marks.ensures

@@ -14,7 +14,8 @@ use Rattle.lx_editor.proofs.Updated.{allowed_fit, recorded_same, still_valid, co
 use Rattle.lx_editor.proofs.editor.Editor.commit.Goals as goal
 
 -- what came out of its box may be committed as it was
-still_may : (e : Editor) (boxed frozen : Frozen) (batch : Told) → frozen ≡ boxed → MayCommit e (left_of e.rules boxed) batch → MayCommit e (left_of e.rules frozen) batch
+still_may : (e : Editor) (boxed frozen : Frozen) (batch : Told) → frozen ≡ boxed → MayCommit e (left_of e.rules boxed) batch
+    → MayCommit e (left_of e.rules frozen) batch
 still_may e boxed frozen batch is may = subst (λ (f : Frozen). MayCommit e (left_of e.rules f) batch) (sym is) may
 
 pub follow-requires : goal.follow-requires
@@ -34,9 +35,12 @@ invariant_of-self-2 c =
     let ops = c.args.batch.ops in
     let history = c.note.new.self.history in
     let is : history ≡ recorded e c.args.how left =
-    recorded_same (state_with e.tree e.selection) (state_with left.tree left.selection) c.in_ok-entry.entry left.marks c.args.how e.history c.stray.new.self.history history
+    recorded_same (state_with e.tree e.selection) (state_with left.tree left.selection) c.in_ok-entry.entry left.marks c.args.how e.history
+    c.stray.new.self.history history
     c.in_ok-entry.ensures.links c.in_ok-entry.ensures.selection (c.stray.ensures.same ∙ c.prepare.ensures.same) c.note.ensures.noted in
-    let may : MayCommit e left c.args.batch = subst (λ (d : Editor). MayCommit d (left_of d.rules c.into_inner-frozen.result) c.args.batch) (sym c.self.view_is) (still_may c.args.self.now c.args.frozen.value c.into_inner-frozen.result c.args.batch c.into_inner-frozen.ensures c.requires.may) in
+    let may : MayCommit e left c.args.batch =
+    subst (λ (d : Editor). MayCommit d (left_of d.rules c.into_inner-frozen.result) c.args.batch) (sym c.self.view_is)
+    (still_may c.args.self.now c.args.frozen.value c.into_inner-frozen.result c.args.batch c.into_inner-frozen.ensures c.requires.may) in
     let leads : Leads e.view ops view = subst (λ ops. Leads e.view ops view) c.in_ok-ops.ensures c.in_ok-follow.ensures.leads in
     let new : Editor = made e c.args.how left view history is ops may.allowed leads c.args.batch.reads in
     record {
@@ -55,14 +59,22 @@ returns-clause-committed c =
     let reads = c.args.batch.reads in
     let history = c.note.new.self.history in
     let is : history ≡ recorded e c.args.how left =
-    recorded_same (state_with e.tree e.selection) (state_with left.tree left.selection) c.in_ok-entry.entry left.marks c.args.how e.history c.stray.new.self.history history
+    recorded_same (state_with e.tree e.selection) (state_with left.tree left.selection) c.in_ok-entry.entry left.marks c.args.how e.history
+    c.stray.new.self.history history
     c.in_ok-entry.ensures.links c.in_ok-entry.ensures.selection (c.stray.ensures.same ∙ c.prepare.ensures.same) c.note.ensures.noted in
-    let may : MayCommit e left c.args.batch = subst (λ (d : Editor). MayCommit d (left_of d.rules c.into_inner-frozen.result) c.args.batch) (sym c.self.view_is) (still_may c.args.self.now c.args.frozen.value c.into_inner-frozen.result c.args.batch c.into_inner-frozen.ensures c.requires.may) in
+    let may : MayCommit e left c.args.batch =
+    subst (λ (d : Editor). MayCommit d (left_of d.rules c.into_inner-frozen.result) c.args.batch) (sym c.self.view_is)
+    (still_may c.args.self.now c.args.frozen.value c.into_inner-frozen.result c.args.batch c.into_inner-frozen.ensures c.requires.may) in
     let leads : Leads e.view ops view = subst (λ ops. Leads e.view ops view) c.in_ok-ops.ensures c.in_ok-follow.ensures.leads in
     let new : Editor = made e c.args.how left view history is ops may.allowed leads reads in
-    let done = committed e c.args.how left view history is ops may.allowed leads reads may.stands.state.joined may.stands.state.numbered may.anew may.ids may.few in
-    let told = subst (λ (p : Option (Box Pending)). IsCommitted e c.args.how left (e.commits + 1) ops (record new { pending = unboxed p })) (sym c.forget.ensures) done in
+    let done =
+    committed e c.args.how left view history is ops may.allowed leads reads may.stands.state.joined may.stands.state.numbered may.anew may.ids may.few in
+    let told =
+    subst (λ (p : Option (Box Pending)). IsCommitted e c.args.how left (e.commits + 1) ops (record new { pending = unboxed p })) (sym c.forget.ensures)
+    done in
     let out =
-    subst (λ (d : Editor). IsCommitted d c.args.how (left_of d.rules c.into_inner-frozen.result) (d.commits + 1) ops (record new { pending = unboxed c.forget.new.pending })) c.self.view_is told
+    subst (λ (d : Editor). IsCommitted d c.args.how (left_of d.rules c.into_inner-frozen.result) (d.commits + 1) ops
+    (record new { pending = unboxed c.forget.new.pending })) c.self.view_is told
     in
-    subst (λ (f : Frozen). IsCommitted c.args.self.now c.args.how (left_of c.args.self.now.rules f) (c.args.self.now.commits + 1) ops (record new { pending = unboxed c.forget.new.pending })) c.into_inner-frozen.ensures out
+    subst (λ (f : Frozen). IsCommitted c.args.self.now c.args.how (left_of c.args.self.now.rules f) (c.args.self.now.commits + 1) ops
+    (record new { pending = unboxed c.forget.new.pending })) c.into_inner-frozen.ensures out

@@ -31,16 +31,22 @@ invariant_of-self-2 c =
     let view = c.follow.new.view.tree in
     let batch = c.args.batch in
     let history = c.turn-turned.new.self.history in
-    let may : MayTurn e c.args.turn c.into_inner-state.result batch = subst (λ (d : Editor). MayTurn d c.args.turn c.into_inner-state.result batch) (sym c.self.view_is) (still_may c.args.self.now c.args.turn c.args.state.value c.into_inner-state.result batch c.into_inner-state.ensures c.requires.may) in
+    let may : MayTurn e c.args.turn c.into_inner-state.result batch =
+    subst (λ (d : Editor). MayTurn d c.args.turn c.into_inner-state.result batch) (sym c.self.view_is)
+    (still_may c.args.self.now c.args.turn c.args.state.value c.into_inner-state.result batch c.into_inner-state.ensures c.requires.may) in
     let leads : Leads e.view batch.ops view = subst (λ ops. Leads e.view ops view) c.in_ok-ops.ensures c.in_ok-follow.ensures.leads in
-    let turns = has_turned c.turn-turned.result c.args.turn c.args.moment e.history c.prepare.new.self.history history c.into_inner-state.result may.next c.prepare.ensures.same c.turn-turned.ensures.turned in
+    let turns =
+    has_turned c.turn-turned.result c.args.turn c.args.moment e.history c.prepare.new.self.history history c.into_inner-state.result may.next
+    c.prepare.ensures.same c.turn-turned.ensures.turned in
     let new : Editor = made e c.args.turn c.args.moment c.into_inner-state.result batch may c.self.invariant.valid view leads history turns in
     record {
       valid =
           subst (λ (p : Option (Box Pending)). IsValid (record new { pending = unboxed p })) (sym c.forget.ensures)
           (still_valid e c.args.turn c.args.moment c.into_inner-state.result batch may c.self.invariant.valid view leads history turns);
-      told = turned_away c.turn-turned.result c.args.turn c.args.moment e.history c.prepare.new.self.history history c.into_inner-state.result c.turn-turned.new.self.strays may.next c.prepare.ensures.same
-          c.turn-turned.ensures.turned c.turn-turned.ensures.strays (comes_to c.args.turn c.args.moment e.history history c.into_inner-state.result may.next turns);
+      told = turned_away c.turn-turned.result c.args.turn c.args.moment e.history c.prepare.new.self.history history c.into_inner-state.result
+          c.turn-turned.new.self.strays may.next c.prepare.ensures.same
+          c.turn-turned.ensures.turned c.turn-turned.ensures.strays
+          (comes_to c.args.turn c.args.moment e.history history c.into_inner-state.result may.next turns);
     }
 
 pub returns-clause-turned : goal.returns-clause-turned
@@ -49,10 +55,17 @@ returns-clause-turned c =
     let view = c.follow.new.view.tree in
     let batch = c.args.batch in
     let history = c.turn-turned.new.self.history in
-    let may : MayTurn e c.args.turn c.into_inner-state.result batch = subst (λ (d : Editor). MayTurn d c.args.turn c.into_inner-state.result batch) (sym c.self.view_is) (still_may c.args.self.now c.args.turn c.args.state.value c.into_inner-state.result batch c.into_inner-state.ensures c.requires.may) in
+    let may : MayTurn e c.args.turn c.into_inner-state.result batch =
+    subst (λ (d : Editor). MayTurn d c.args.turn c.into_inner-state.result batch) (sym c.self.view_is)
+    (still_may c.args.self.now c.args.turn c.args.state.value c.into_inner-state.result batch c.into_inner-state.ensures c.requires.may) in
     let leads : Leads e.view batch.ops view = subst (λ ops. Leads e.view ops view) c.in_ok-ops.ensures c.in_ok-follow.ensures.leads in
-    let turns = has_turned c.turn-turned.result c.args.turn c.args.moment e.history c.prepare.new.self.history history c.into_inner-state.result may.next c.prepare.ensures.same c.turn-turned.ensures.turned in
+    let turns =
+    has_turned c.turn-turned.result c.args.turn c.args.moment e.history c.prepare.new.self.history history c.into_inner-state.result may.next
+    c.prepare.ensures.same c.turn-turned.ensures.turned in
     let new : Editor = made e c.args.turn c.args.moment c.into_inner-state.result batch may c.self.invariant.valid view leads history turns in
     let done = is_turned e c.args.turn c.args.moment c.into_inner-state.result batch may c.self.invariant.valid view leads history turns in
-    let told = subst (λ (p : Option (Box Pending)). IsTurned c.args.turn c.args.moment e (e.commits + 1) batch.ops (record new { pending = unboxed p })) (sym c.forget.ensures) done in
-    subst (λ (d : Editor). IsTurned c.args.turn c.args.moment d (d.commits + 1) batch.ops (record new { pending = unboxed c.forget.new.pending })) c.self.view_is told
+    let told =
+    subst (λ (p : Option (Box Pending)). IsTurned c.args.turn c.args.moment e (e.commits + 1) batch.ops (record new { pending = unboxed p }))
+    (sym c.forget.ensures) done in
+    subst (λ (d : Editor). IsTurned c.args.turn c.args.moment d (d.commits + 1) batch.ops (record new { pending = unboxed c.forget.new.pending }))
+    c.self.view_is told

@@ -12,5 +12,6 @@ use Rattle.lx_editor.proofs.editor.Editor.export.Goals as goal
 pub returns-clause-back : goal.returns-clause-back
 returns-clause-back c =
     let e : Editor = editor_of c.self.inside in
-    subst (λ (d : Editor). (next : ℕ) → 0 < next → next + total d.tree ≤ most_key + 1 → children_of d.tree 0 ≢ [] → IfOk c.export.result (λ document. ReadsBack (view document) next d.tree)) c.self.view_is
+    subst (λ (d : Editor). (next : ℕ) → 0 < next → next + total d.tree ≤ most_key + 1 → children_of d.tree 0 ≢ []
+    → IfOk c.export.result (λ document. ReadsBack (view document) next d.tree)) c.self.view_is
     (λ next first room some. c.export.ensures.back next first room some (within_first e.tree e.next_key c.self.invariant.valid.state.within))

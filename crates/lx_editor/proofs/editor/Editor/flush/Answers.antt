@@ -13,5 +13,6 @@ pub returns-clause-flushed : goal.returns-clause-flushed
 unfolding IsFlushed
 returns-clause-flushed c =
     told c.conclude.result _ _ c.conclude.ensures.concluded
-    (λ outcome done. taken_in (λ e w. rested_by e.rules w) c.args.self.now c.take_draft.new.self c.in_ok-draft.draft (recording c.args.tags c.args.moment) c.recording-how.result c.in_ok-verdict.verdict outcome
+    (λ outcome done. taken_in (λ e w. rested_by e.rules w) c.args.self.now c.take_draft.new.self c.in_ok-draft.draft (recording c.args.tags c.args.moment)
+    c.recording-how.result c.in_ok-verdict.verdict outcome
     c.conclude.new.self c.take_draft.ensures.taken c.in_ok-draft.ensures.begun c.recording-how.ensures c.in_ok-verdict.ensures.judged done)

@@ -35,5 +35,6 @@ returns-in-Err c =
     in
     record {
       judged =
-          c.verdict_of.ensures.judged (left_by e.rules e.listeners steps c.args.draft) e (steps_refused e.rules e.listeners steps c.args.draft c.in-Err.refusal tells);
+          c.verdict_of.ensures.judged (left_by e.rules e.listeners steps c.args.draft) e
+          (steps_refused e.rules e.listeners steps c.args.draft c.in-Err.refusal tells);
     }

@@ -20,4 +20,5 @@ returns-in_ok-verdict-in-Err c =
     subst (λ ls. TellsRefusal c.in-Err.refusal (dispatch_run ls command c.args.draft)) (ap (λ (d : Editor). d.listeners) c.self.view_is) c.in-Err.ensures.err
     in
     let told = c.in_ok-verdict-in-Err.ensures in
-    answer_refused c.args.gathering (dispatch_run e.listeners command c.args.draft) c.in-Err.refusal e c.in_ok-verdict-in-Err.verdict tells told.for_cause told.judged
+    answer_refused c.args.gathering (dispatch_run e.listeners command c.args.draft) c.in-Err.refusal e c.in_ok-verdict-in-Err.verdict tells told.for_cause
+    told.judged

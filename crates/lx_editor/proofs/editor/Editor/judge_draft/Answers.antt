@@ -33,12 +33,15 @@ returns-in-Ok c =
     let e : Editor = c.args.self.now in
     let same : c.as_slice.result.now ≡ e.rules = c.as_slice.ensures.value ∙ ap (λ (d : Editor). d.rules) c.self.view_is in
     let valid : IsValid e = subst IsValid c.self.view_is c.self.invariant.valid in
-    let leaves : LeavesAtRest c.args.draft (left_of e.rules c.in-Ok.frozen.value) = subst (λ (rules : List AnyRule). LeavesAtRest c.args.draft (left_of rules c.in-Ok.frozen.value)) same c.in-Ok.ensures.left in
+    let leaves : LeavesAtRest c.args.draft (left_of e.rules c.in-Ok.frozen.value) =
+    subst (λ (rules : List AnyRule). LeavesAtRest c.args.draft (left_of rules c.in-Ok.frozen.value)) same c.in-Ok.ensures.left in
     let settles : IsSettledOf c.args.draft (left_of e.rules c.in-Ok.frozen.value) =
-    subst (λ (rules : List AnyRule). IsSettledOf c.args.draft (left_of rules c.in-Ok.frozen.value)) same (c.in-Ok.ensures.stands _ (fresh_started e valid) c.requires.covered).3
+    subst (λ (rules : List AnyRule). IsSettledOf c.args.draft (left_of rules c.in-Ok.frozen.value)) same
+    (c.in-Ok.ensures.stands _ (fresh_started e valid) c.requires.covered).3
     in
     record {
       judged =
           told c.weigh.result _ _ c.weigh.ensures.weighed
-          (λ verdict weighed. subst (λ r. IsJudged r e verdict) (sym leaves.1) (settles (record { left = left_of e.rules c.in-Ok.frozen.value; marks = leaves.0 }) leaves.1, weighed));
+          (λ verdict weighed. subst (λ r. IsJudged r e verdict) (sym leaves.1)
+          (settles (record { left = left_of e.rules c.in-Ok.frozen.value; marks = leaves.0 }) leaves.1, weighed));
     }

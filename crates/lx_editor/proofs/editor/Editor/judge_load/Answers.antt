@@ -23,7 +23,8 @@ same c = c.as_slice.ensures.value ∙ ap (λ (e : Editor). e.rules) c.self.view_
 left : (c : After-as_slice) → left_by_load c.args.self.now (view c.args.document.now) ≡ rested_by c.as_slice.result.now c.in-Ok.draft
 left c =
     let d = view c.args.document.now in
-    let made : imported d c.args.self.now.next_key ≡ Ok c.in-Ok.draft = subst (λ (e : Editor). imported d e.next_key ≡ Ok c.in-Ok.draft) c.self.view_is c.in-Ok.ensures.ok in
+    let made : imported d c.args.self.now.next_key ≡ Ok c.in-Ok.draft =
+    subst (λ (e : Editor). imported d e.next_key ≡ Ok c.in-Ok.draft) c.self.view_is c.in-Ok.ensures.ok in
     load_left c.args.self.now d c.in-Ok.draft made ∙ ap (λ (rules : List AnyRule). rested_by rules c.in-Ok.draft) (sym (same c))
 
 pub import-requires-clause-first : goal.import-requires-clause-first
@@ -50,7 +51,8 @@ weigh_load-requires c =
     let valid : IsValid now = subst IsValid c.self.view_is c.self.invariant.valid in
     let import : IsImported now.next_key draft = subst (λ (e : Editor). IsImported e.next_key draft) c.self.view_is c.in-Ok.ensures.made in
     let at = same (goal.at.weigh_load-requires c).After-as_slice in
-    let stands = subst (λ (rules : List AnyRule). IsLeftOfImport draft (left_of rules c.in-Ok-rest.frozen.value)) at c.in-Ok-rest.ensures.imported now.next_key import in
+    let stands =
+    subst (λ (rules : List AnyRule). IsLeftOfImport draft (left_of rules c.in-Ok-rest.frozen.value)) at c.in-Ok-rest.ensures.imported now.next_key import in
     let place = stands.3 now.tree (may_give_way now valid) in
     record { left = stands.0; shown = place.0; grown = place.1; anew = stands.1 }
 
@@ -60,12 +62,15 @@ returns-in-Ok-rest-clause-judged c =
     let now : Editor = c.args.self.now in
     let draft = c.in-Ok.draft in
     let import : IsImported now.next_key draft = subst (λ (e : Editor). IsImported e.next_key draft) c.self.view_is c.in-Ok.ensures.made in
-    let leaves : LeavesAtRest draft (left_of now.rules c.in-Ok-rest.frozen.value) = subst (λ (rules : List AnyRule). LeavesAtRest draft (left_of rules c.in-Ok-rest.frozen.value)) (same at) c.in-Ok-rest.ensures.left in
+    let leaves : LeavesAtRest draft (left_of now.rules c.in-Ok-rest.frozen.value) =
+    subst (λ (rules : List AnyRule). LeavesAtRest draft (left_of rules c.in-Ok-rest.frozen.value)) (same at) c.in-Ok-rest.ensures.left in
     let settles : IsSettledOf draft (left_of now.rules c.in-Ok-rest.frozen.value) =
-    subst (λ (rules : List AnyRule). IsSettledOf draft (left_of rules c.in-Ok-rest.frozen.value)) (same at) (c.in-Ok-rest.ensures.imported now.next_key import).2 in
+    subst (λ (rules : List AnyRule). IsSettledOf draft (left_of rules c.in-Ok-rest.frozen.value)) (same at)
+    (c.in-Ok-rest.ensures.imported now.next_key import).2 in
     let is = left at ∙ ap (λ (rules : List AnyRule). rested_by rules draft) (same at) ∙ leaves.1 in
     told c.weigh_load.result _ _ c.weigh_load.ensures.weighed
-    (λ verdict weighed. subst (λ r. IsJudged r now verdict) (sym is) (settles (record { left = left_of now.rules c.in-Ok-rest.frozen.value; marks = leaves.0 }) leaves.1, weighed))
+    (λ verdict weighed. subst (λ r. IsJudged r now verdict) (sym is)
+    (settles (record { left = left_of now.rules c.in-Ok-rest.frozen.value; marks = leaves.0 }) leaves.1, weighed))
 
 pub returns-in-Err-rest-clause-judged : goal.returns-in-Err-rest-clause-judged
 returns-in-Err-rest-clause-judged c =

@@ -17,7 +17,8 @@ returns-in-Ok c =
     record {
       judged =
           told c.judge_draft.result _ _ c.judge_draft.ensures.judged
-          (λ verdict judged. subst (λ r. IsJudged r e verdict) (sym (marked_left e.rules c.args.on c.args.draft c.mark_type.new.draft c.in-Ok.ensures.ok)) judged);
+          (λ verdict judged. subst (λ r. IsJudged r e verdict) (sym (marked_left e.rules c.args.on c.args.draft c.mark_type.new.draft c.in-Ok.ensures.ok))
+          judged);
     }
 
 pub returns-in-Err : goal.returns-in-Err

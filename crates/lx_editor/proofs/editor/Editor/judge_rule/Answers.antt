@@ -20,7 +20,8 @@ pub returns-clause-judged : goal.returns-clause-judged
 returns-clause-judged c =
     let at = (goal.at.returns-clause-judged c).After-judge_behind in
     told c.judge_behind.result _ _ c.judge_behind.ensures.judged
-    (λ verdict judged. rule_judged_in c.args.self.now c.take_draft.new.self c.args.rule c.in_ok-draft.draft verdict (fits at) c.take_draft.ensures.taken c.in_ok-draft.ensures.begun judged)
+    (λ verdict judged. rule_judged_in c.args.self.now c.take_draft.new.self c.args.rule c.in_ok-draft.draft verdict (fits at) c.take_draft.ensures.taken
+    c.in_ok-draft.ensures.begun judged)
 
 pub returns-clause-rules : goal.returns-clause-rules
 returns-clause-rules c =

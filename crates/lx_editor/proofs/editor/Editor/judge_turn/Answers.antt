@@ -20,7 +20,8 @@ states_of o = option_map (λ e. e.now.state) o
 next : (c : After-deref) → entry_of c.args.turn (editor_of c.self.inside).history ≡ Some c.deref.result.now
 next c =
     next_copied c.args.turn _ (states_of c.entry_at.result) c.in-Some.entry.now.state c.deref.result.now c.entry_at.ensures.state (ap states_of c.in-Some.is)
-    (ap (λ (s : State). s.links) c.deref.ensures ∙ c.in_ok-state.ensures.links) (ap (λ (s : State). s.selection) c.deref.ensures ∙ c.in_ok-state.ensures.selection)
+    (ap (λ (s : State). s.links) c.deref.ensures ∙ c.in_ok-state.ensures.links)
+    (ap (λ (s : State). s.selection) c.deref.ensures ∙ c.in_ok-state.ensures.selection)
 
 -- so it may be committed, and its nodes have the kinds of their keys
 kept : (c : After-deref) → IsEntry (editor_of c.self.inside).next_key c.deref.result.now × HasKinds c.self.invariant.valid.kept.kinds c.deref.result.now.links
@@ -37,7 +38,8 @@ pub differences_at-requires-clause-told : goal.differences_at-requires-clause-to
 differences_at-requires-clause-told c =
     let links = ap (λ (s : State). s.links) c.deref.ensures ∙ c.in_ok-state.ensures.links in
     λ q first later. subst (λ f. IsAsBefore c.self.inside.state.links f q) (sym links)
-    (told_between c.self.inside.history.history.current c.in-Some.entry.now.places c.strays-strays.result.now c.self.inside.state.links c.in-Some.entry.now.state.links c.in-Some.ensures.told
+    (told_between c.self.inside.history.history.current c.in-Some.entry.now.places c.strays-strays.result.now c.self.inside.state.links
+    c.in-Some.entry.now.state.links c.in-Some.ensures.told
     (subst (λ p. IsAway c.self.inside.history.history.current p c.self.inside.state.links) (sym c.strays-strays.ensures) c.self.invariant.told) q first later)
 
 pub reconcile-requires-clause-new : goal.reconcile-requires-clause-new
@@ -70,9 +72,11 @@ returns-in-Ok c =
       allowed = known_allowed _ _ _ c.in_ok-marks.ensures.known _ batch.ops c.in-Ok.ensures.allowed;
       few = known_few _ _ _ c.in_ok-marks.ensures.known batch.reads c.in-Ok.ensures.few;
     } in
-    let covered : IsCoveredBy (editor_of c.self.inside) state.links marks = c.in_ok-marks.ensures.covered (keeps_kinds kinds.kinds _ _ kinds.now (kept at).1) in (
+    let covered : IsCoveredBy (editor_of c.self.inside) state.links marks =
+    c.in_ok-marks.ensures.covered (keeps_kinds kinds.kinds _ _ kinds.now (kept at).1) in (
       refl,
       subst (λ (s : State). MayTurn old turn s batch) c.deref.ensures (subst (λ (e : Editor). MayTurn e turn state batch) c.self.view_is may),
       subst (λ (m : Marked). IsCoveredBy old c.in_ok-state.state.value.links m) (sym c.in_ok-marks-in-Ok.ensures.ok)
-          (subst (λ (s : State). IsCoveredBy old s.links marks) c.deref.ensures (subst (λ (e : Editor). IsCoveredBy e state.links marks) c.self.view_is covered)),
+          (subst (λ (s : State). IsCoveredBy old s.links marks) c.deref.ensures
+          (subst (λ (e : Editor). IsCoveredBy e state.links marks) c.self.view_is covered)),
     )

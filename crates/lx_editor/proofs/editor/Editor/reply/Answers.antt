@@ -28,7 +28,8 @@ returns-in_ok-commit-in-Commit-clause-replies c =
       subst (λ v. IsConcluded old c.args.how v outcome new) (sym c.in-Commit.is) done,
       c.in_ok-reply-in-Commit.ensures
           ∙ ap (λ (f : Frozen). reply_text (Committed (old.commits + 1) batch.ops c.args.handled (html_told old.tells_view f.state.links))) c.deref.ensures
-          ∙ ap (λ html. reply_text (Committed (old.commits + 1) batch.ops c.args.handled html)) (sym (committed_view old c.args.how left (old.commits + 1) batch.ops new done)),
+          ∙ ap (λ html. reply_text (Committed (old.commits + 1) batch.ops c.args.handled html)) (sym
+          (committed_view old c.args.how left (old.commits + 1) batch.ops new done)),
     )
 
 pub returns-in_ok-commit_entry-in-Turned-clause-replies : goal.returns-in_ok-commit_entry-in-Turned-clause-replies
@@ -46,7 +47,8 @@ returns-in_ok-commit_entry-in-Turned-clause-replies c =
       subst (λ v. IsConcluded old c.args.how v outcome new) (sym c.in-Turned.is) done,
       c.in_ok-reply-in-Turned.ensures
           ∙ ap (λ (s : State). reply_text (Committed (old.commits + 1) batch.ops c.args.handled (html_told old.tells_view s.links))) c.deref-in-Turned.ensures
-          ∙ ap (λ html. reply_text (Committed (old.commits + 1) batch.ops c.args.handled html)) (sym (turned_view turn moment old state.value (old.commits + 1) batch.ops new may.0.next done)),
+          ∙ ap (λ html. reply_text (Committed (old.commits + 1) batch.ops c.args.handled html)) (sym
+          (turned_view turn moment old state.value (old.commits + 1) batch.ops new may.0.next done)),
     )
 
 pub returns-in-Refused-clause-replies : goal.returns-in-Refused-clause-replies
@@ -67,8 +69,10 @@ returns-in_ok-commit-in-Commit-clause-change c =
     let may : MayConclude old (Commit frozen batch shown) = subst (MayConclude old) c.in-Commit.is c.requires.may in
     let noted : IsNoted asked batch.ops (state_of old) (covering frozen.value shown) change =
     subst (λ (e : Editor). IsNoted asked batch.ops (state_of e) (covering frozen.value shown) change) c.self.view_is
-    (subst (λ (f : Frozen). IsNoted asked batch.ops (state_of (editor_of c.self.inside)) (covering f shown) change) c.deref-in-Commit.ensures c.in_ok-note_frozen-in-Commit.ensures) in
-    committed_told asked old c.args.how (left_of old.rules frozen.value) (old.commits + 1) batch.ops c.commit.new.self (covering frozen.value shown) change c.in_ok-commit-in-Commit.ensures.committed may.1 noted
+    (subst (λ (f : Frozen). IsNoted asked batch.ops (state_of (editor_of c.self.inside)) (covering f shown) change) c.deref-in-Commit.ensures
+    c.in_ok-note_frozen-in-Commit.ensures) in
+    committed_told asked old c.args.how (left_of old.rules frozen.value) (old.commits + 1) batch.ops c.commit.new.self (covering frozen.value shown) change
+    c.in_ok-commit-in-Commit.ensures.committed may.1 noted
 
 pub returns-in_ok-commit_entry-in-Turned-clause-change : goal.returns-in_ok-commit_entry-in-Turned-clause-change
 returns-in_ok-commit_entry-in-Turned-clause-change c =
@@ -82,16 +86,19 @@ returns-in_ok-commit_entry-in-Turned-clause-change c =
     let may : MayConclude old (Turned turn state batch marks) = subst (MayConclude old) c.in-Turned.is c.requires.may in
     let noted : IsNoted asked batch.ops (state_of old) marks.value change =
     subst (λ (e : Editor). IsNoted asked batch.ops (state_of e) marks.value change) c.self-in-Turned.view_is c.in_ok-note-in-Turned.ensures in
-    turned_told asked turn c.args.how.moment old state.value (old.commits + 1) batch.ops c.commit_entry.new.self marks.value change may.0.next c.in_ok-commit_entry-in-Turned.ensures.turned may.1 noted
+    turned_told asked turn c.args.how.moment old state.value (old.commits + 1) batch.ops c.commit_entry.new.self marks.value change may.0.next
+    c.in_ok-commit_entry-in-Turned.ensures.turned may.1 noted
 
 pub returns-in-Refused-clause-change : goal.returns-in-Refused-clause-change
 returns-in-Refused-clause-change c =
     let old = c.args.self.now in
     let told = c.args.told.now in
-    told_of c.write_reply.result _ _ c.write_reply.ensures (λ bytes text. none_told told.asked old told.change old c.requires.untold (uncommitted_same old old refl))
+    told_of c.write_reply.result _ _ c.write_reply.ensures
+    (λ bytes text. none_told told.asked old told.change old c.requires.untold (uncommitted_same old old refl))
 
 pub returns-in-Idle-clause-change : goal.returns-in-Idle-clause-change
 returns-in-Idle-clause-change c =
     let old = c.args.self.now in
     let told = c.args.told.now in
-    told_of c.write_reply-in-Idle.result _ _ c.write_reply-in-Idle.ensures (λ bytes text. none_told told.asked old told.change old c.requires.untold (uncommitted_same old old refl))
+    told_of c.write_reply-in-Idle.result _ _ c.write_reply-in-Idle.ensures
+    (λ bytes text. none_told told.asked old told.change old c.requires.untold (uncommitted_same old old refl))

@@ -11,7 +11,8 @@ use Rattle.lx_editor.proofs.editor.Editor.reply_to_dispatch.Goals as goal
 pub reply-requires-clause-may : goal.reply-requires-clause-may
 reply-requires-clause-may c =
     let mid = c.take_draft.new.self in
-    may_conclude_answer (answer_by (nat_lt 0 c.gathered-gathering.result) mid.listeners c.args.command.now c.in_ok-draft.draft) mid c.in_ok-verdict.verdict c.in_ok-verdict.handled c.in_ok-verdict.ensures
+    may_conclude_answer (answer_by (nat_lt 0 c.gathered-gathering.result) mid.listeners c.args.command.now c.in_ok-draft.draft) mid c.in_ok-verdict.verdict
+    c.in_ok-verdict.handled c.in_ok-verdict.ensures
 
 pub returns-clause-replies : goal.returns-clause-replies
 unfolding IsDispatched
@@ -21,8 +22,10 @@ returns-clause-replies c =
     (λ bytes (outcome, done, text). (
       outcome,
       unless_refused outcome handled,
-      answer_taken_in c.args.command.now c.args.self.now c.take_draft.new.self c.in_ok-draft.draft c.args.how c.recording-all.result (nat_lt 0 c.gathered-gathering.result) c.in_ok-verdict.verdict handled outcome c.reply.new.self
-          c.take_draft.ensures.taken c.in_ok-draft.ensures.begun c.recording-all.ensures (gathering_told c.args.self.now c.gathered-gathering.result c.gathered-gathering.ensures) c.in_ok-verdict.ensures done,
+      answer_taken_in c.args.command.now c.args.self.now c.take_draft.new.self c.in_ok-draft.draft c.args.how c.recording-all.result
+          (nat_lt 0 c.gathered-gathering.result) c.in_ok-verdict.verdict handled outcome c.reply.new.self
+          c.take_draft.ensures.taken c.in_ok-draft.ensures.begun c.recording-all.ensures (gathering_told c.args.self.now c.gathered-gathering.result
+          c.gathered-gathering.ensures) c.in_ok-verdict.ensures done,
       text ∙ ap reply_text (handled_told outcome (view_told c.reply.new.self) handled),
     ))
 

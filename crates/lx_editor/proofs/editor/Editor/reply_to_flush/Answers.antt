@@ -15,7 +15,8 @@ returns-clause-replies c =
     told c.reply.result _ _ c.reply.ensures.replies
     (λ bytes (outcome, done, text). (
       outcome,
-      taken_in (λ e w. rested_by e.rules w) c.args.self.now c.take_draft.new.self c.in_ok-draft.draft c.args.how c.recording-all.result c.in_ok-verdict.verdict outcome c.reply.new.self c.take_draft.ensures.taken
+      taken_in (λ e w. rested_by e.rules w) c.args.self.now c.take_draft.new.self c.in_ok-draft.draft c.args.how c.recording-all.result c.in_ok-verdict.verdict
+          outcome c.reply.new.self c.take_draft.ensures.taken
           c.in_ok-draft.ensures.begun c.recording-all.ensures c.in_ok-verdict.ensures.judged done,
       text,
     ))

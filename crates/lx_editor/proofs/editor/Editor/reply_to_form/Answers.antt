@@ -8,14 +8,16 @@ returns-in-Defer-clause-change c =
     let old = c.args.self.now in
     let told = c.args.told.now in
     told_of c.reply_to_defer.result _ _ c.reply_to_defer.ensures.replies
-    (λ bytes reply. none_told told.asked old told.change c.reply_to_defer.new.self c.requires.untold (uncommitted_deferred old _ c.args.tags _ c.reply_to_defer.new.self reply))
+    (λ bytes reply. none_told told.asked old told.change c.reply_to_defer.new.self c.requires.untold
+    (uncommitted_deferred old _ c.args.tags _ c.reply_to_defer.new.self reply))
 
 pub returns-in-Listener-clause-change : goal.returns-in-Listener-clause-change
 returns-in-Listener-clause-change c =
     let old = c.args.self.now in
     let told = c.args.told.now in
     told_of c.reply_to_listener.result _ _ c.reply_to_listener.ensures.replies
-    (λ bytes reply. none_told told.asked old told.change c.reply_to_listener.new.self c.requires.untold (uncommitted_listener old _ _ c.reply_to_listener.new.self reply))
+    (λ bytes reply. none_told told.asked old told.change c.reply_to_listener.new.self c.requires.untold
+    (uncommitted_listener old _ _ c.reply_to_listener.new.self reply))
 
 pub returns-in-Show-clause-change : goal.returns-in-Show-clause-change
 returns-in-Show-clause-change c =

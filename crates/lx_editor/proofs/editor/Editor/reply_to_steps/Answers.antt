@@ -15,7 +15,8 @@ returns-clause-replies c =
     told c.reply.result _ _ c.reply.ensures.replies
     (λ bytes (outcome, done, text). (
       outcome,
-      taken_in (λ e w. left_by e.rules e.listeners c.args.steps.now w) c.args.self.now c.take_draft.new.self c.in_ok-draft.draft c.args.how c.recording-all.result c.in_ok-verdict.verdict outcome c.reply.new.self
+      taken_in (λ e w. left_by e.rules e.listeners c.args.steps.now w) c.args.self.now c.take_draft.new.self c.in_ok-draft.draft c.args.how
+          c.recording-all.result c.in_ok-verdict.verdict outcome c.reply.new.self
           c.take_draft.ensures.taken c.in_ok-draft.ensures.begun c.recording-all.ensures c.in_ok-verdict.ensures.judged done,
       text,
     ))

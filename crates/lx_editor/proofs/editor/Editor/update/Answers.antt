@@ -13,5 +13,7 @@ pub returns-clause-updated : goal.returns-clause-updated
 unfolding IsUpdated
 returns-clause-updated c =
     told c.conclude.result _ _ c.conclude.ensures.concluded
-    (λ outcome done. taken_in (λ e w. left_by e.rules e.listeners c.args.steps.now w) c.args.self.now c.take_draft.new.self c.in_ok-draft.draft (recording c.args.tags c.args.moment) c.recording-how.result
-    c.in_ok-verdict.verdict outcome c.conclude.new.self c.take_draft.ensures.taken c.in_ok-draft.ensures.begun c.recording-how.ensures c.in_ok-verdict.ensures.judged done)
+    (λ outcome done. taken_in (λ e w. left_by e.rules e.listeners c.args.steps.now w) c.args.self.now c.take_draft.new.self c.in_ok-draft.draft
+    (recording c.args.tags c.args.moment) c.recording-how.result
+    c.in_ok-verdict.verdict outcome c.conclude.new.self c.take_draft.ensures.taken c.in_ok-draft.ensures.begun c.recording-how.ensures
+    c.in_ok-verdict.ensures.judged done)

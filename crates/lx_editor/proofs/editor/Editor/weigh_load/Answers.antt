@@ -19,7 +19,8 @@ returns-in-Ok-clause-weighed c =
     let batch = c.in-Ok.batch in
     let marks = c.in_ok-shown.shown in
     let is : c.as_ref-left.result.now ≡ frozen = c.as_ref-left.ensures in
-    let shown : marks ≡ with_leaves (children_of e.tree 0) frozen.marks = c.in_ok-shown.ensures ∙ ap (λ (f : Frozen). with_leaves (children_of e.tree 0) f.marks) is in
+    let shown : marks ≡ with_leaves (children_of e.tree 0) frozen.marks =
+    c.in_ok-shown.ensures ∙ ap (λ (f : Frozen). with_leaves (children_of e.tree 0) f.marks) is in
     let ids : hosts_fault now.tree links now.view ≡ None = subst (λ (d : Editor). hosts_fault d.tree links d.view ≡ None) c.self.view_is
     (subst (λ (f : Frozen). hosts_fault e.tree f.state.links e.view ≡ None) is c.in-Ok.ensures.ids) in
     let allowed : IsAllowed now.tree links (marking (with_leaves (children_of now.tree 0) frozen.marks)) now.view batch.ops =
@@ -33,7 +34,8 @@ returns-in-Ok-clause-weighed c =
     let gone : c.in_ok-shown-in-Ok.shown.value ≡ with_leaves (children_of now.tree 0) frozen.marks =
     c.in_ok-shown-in-Ok.ensures.ok ∙ shown ∙ ap (λ (d : Editor). with_leaves (children_of d.tree 0) frozen.marks) c.self.view_is in (
       refl,
-      may_commit now (left_of now.rules frozen) (with_leaves (children_of now.tree 0) frozen.marks) batch c.requires.left c.requires.anew c.requires.shown ids c.requires.grown allowed few,
+      may_commit now (left_of now.rules frozen) (with_leaves (children_of now.tree 0)
+          frozen.marks) batch c.requires.left c.requires.anew c.requires.shown ids c.requires.grown allowed few,
       subst (IsCoveredBy now links) (sym gone) c.requires.shown.covered,
     )
 

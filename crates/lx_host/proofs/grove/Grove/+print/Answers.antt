@@ -15,17 +15,21 @@ print-returns-in_default t c =
 
 pub print-returns-then-is_void : goal.print-returns-then-is_void
 print-returns-then-is_void t c =
-    void_printed c.args.page.now (one_found c.args.id c.host.ensures.ordered c.host.ensures.host c.in-Some.is) (sym c.if-is_void.ensures) (rw c.items.ensures at c.in_ok-open.ensures)
+    void_printed c.args.page.now (one_found c.args.id c.host.ensures.ordered c.host.ensures.host c.in-Some.is) (sym c.if-is_void.ensures)
+    (rw c.items.ensures at c.in_ok-open.ensures)
 
 pub print-returns : goal.print-returns
 print-returns t c =
     let below = html_of (shape_of (below_of c.args.self.now.hosts c.args.id)) in
     let one = one_found c.args.id c.host.ensures.ordered c.host.ensures.host c.in-Some.is in
     let inside : c.match-host-2.page ≡ c.open.new.self ++ inside_html c.in-Some.host.now.text below = elim c.match-host-2.branch [
-      | print-in-Some-text+in_ok-push_text-in-Some-text w ↦ rw w.in-Some-text.is (w.page-is ∙ w.in_ok-push_text-in-Some-text.ensures ∙ ap (λ t. c.open.new.self ++ text_html t) w.as_str.ensures.text)
+      | print-in-Some-text+in_ok-push_text-in-Some-text w ↦
+          rw w.in-Some-text.is (w.page-is ∙ w.in_ok-push_text-in-Some-text.ensures ∙ ap (λ t. c.open.new.self ++ text_html t) w.as_str.ensures.text)
       | print-in-None+in_ok-print_children-in-None w ↦ rw w.in-None.is (w.page-is ∙ w.in_ok-print_children-in-None.ensures)
     ] in
-    on_ok_weaker c.close.result (full_printed c.args.page.now one (sym c.if-is_void.ensures) (rw c.items.ensures at c.in_ok-open.ensures) inside c.in_ok-push_ending.ensures) c.close.ensures
+    on_ok_weaker c.close.result
+    (full_printed c.args.page.now one (sym c.if-is_void.ensures) (rw c.items.ensures at c.in_ok-open.ensures) inside c.in_ok-push_ending.ensures)
+    c.close.ensures
 
 pub print_children-loop-at-init : goal.print_children-loop-at-init
 print_children-loop-at-init t c =

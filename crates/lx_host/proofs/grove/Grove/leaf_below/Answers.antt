@@ -11,7 +11,9 @@ pub loop-child-smaller : goal.loop-child-smaller
 loop-child-smaller c = child_smaller c.args.self.now.hosts c.loop-child.at c.in-Some.child c.first.ensures.ordered (sym c.first.ensures.first ∙ c.in-Some.is)
 
 pub loop-child-preserved : goal.loop-child-preserved
-loop-child-preserved c = child_within c.args.self.now.hosts c.args.id c.loop-child.at c.in-Some.child c.first.ensures.ordered c.loop-child.invariant (sym c.first.ensures.first ∙ c.in-Some.is)
+loop-child-preserved c =
+    child_within c.args.self.now.hosts c.args.id c.loop-child.at c.in-Some.child c.first.ensures.ordered c.loop-child.invariant
+    (sym c.first.ensures.first ∙ c.in-Some.is)
 
 pub returns-clause-leaf : goal.returns-clause-leaf
 returns-clause-leaf c = no_child c.args.self.now.hosts c.loop-child.at (sym c.first.ensures.first ∙ c.in_default.is)

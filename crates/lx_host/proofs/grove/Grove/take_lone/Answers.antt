@@ -8,11 +8,15 @@ pub invariant_of-self-inside : goal.invariant_of-self-inside
 invariant_of-self-inside c = (
   record {
     hosts = without c.args.id c.args.self.now.hosts;
-    stands = gone_stands c.self.inside.table c.swap_remove.new.self c.args.self.now.hosts c.args.id (stood_now _ c.self.inside.stands c.args.self.now _ _ c.self.view_is) c.requires.other c.requires.top c.requires.leaf c.swap_remove.ensures.updates.0;
+    stands =
+        gone_stands c.self.inside.table c.swap_remove.new.self c.args.self.now.hosts c.args.id
+        (stood_now _ c.self.inside.stands c.args.self.now _ _ c.self.view_is) c.requires.other c.requires.top c.requires.leaf c.swap_remove.ensures.updates.0;
   },
   tt,
 )
 
 pub returns-clause-taken : goal.returns-clause-taken
 returns-clause-taken c =
-    hosts_in-is _ _ _ (gone_stands c.self.inside.table c.swap_remove.new.self c.args.self.now.hosts c.args.id (stood_now _ c.self.inside.stands c.args.self.now _ _ c.self.view_is) c.requires.other c.requires.top c.requires.leaf c.swap_remove.ensures.updates.0)
+    hosts_in-is _ _ _
+    (gone_stands c.self.inside.table c.swap_remove.new.self c.args.self.now.hosts c.args.id
+    (stood_now _ c.self.inside.stands c.args.self.now _ _ c.self.view_is) c.requires.other c.requires.top c.requires.leaf c.swap_remove.ensures.updates.0)

@@ -13,7 +13,8 @@ invariant_of-self c =
 pub invariant_of-self-in-Err : goal.invariant_of-self-in-Err
 invariant_of-self-in-Err c =
     let is = subst (λ (l : List (Name × List ℕ)). IsWrittenAt c.args.name l c.in-Err.at c.in-Err.at) c.deref.ensures.value c.in-Err.ensures in
-    subst AreAttributes (sym (c.in_ok-insert-in-Err.ensures.items ∙ written_insert c.args.name _ _ c.args.value is)) (attributes_with c.args.name (Some c.args.value) _ c.self.invariant)
+    subst AreAttributes (sym (c.in_ok-insert-in-Err.ensures.items ∙ written_insert c.args.name _ _ c.args.value is))
+    (attributes_with c.args.name (Some c.args.value) _ c.self.invariant)
 
 pub returns-in-Ok-clause-ok : goal.returns-in-Ok-clause-ok
 returns-in-Ok-clause-ok c =

@@ -18,7 +18,8 @@ insert_within-requires-clause-few c =
 pub invariant_of-self-in-Err : goal.invariant_of-self-in-Err
 invariant_of-self-in-Err c =
     let is = subst (λ (l : List (Name × List ℕ)). IsWrittenAt c.args.name l c.in-Err.at c.in-Err.at) c.deref.ensures.value c.in-Err.ensures in
-    subst AreAttributes (sym (c.insert_within.ensures.items ∙ written_insert c.args.name _ _ c.args.value is)) (attributes_with c.args.name (Some c.args.value) _ c.self.invariant)
+    subst AreAttributes (sym (c.insert_within.ensures.items ∙ written_insert c.args.name _ _ c.args.value is))
+    (attributes_with c.args.name (Some c.args.value) _ c.self.invariant)
 
 pub returns-in-Ok-clause-given : goal.returns-in-Ok-clause-given
 returns-in-Ok-clause-given c =

@@ -9,4 +9,5 @@ unfolding chars
 returns c =
     let page = c.args.self.now in
     let word = chars c.args.word.now in
-    on_ok_weaker c.push-3.result (behind page (codes "</" ++ word) (codes ">") (behind page (codes "</") word c.in_ok-push.ensures c.in_ok-push-2.ensures)) c.push-3.ensures
+    on_ok_weaker c.push-3.result (behind page (codes "</" ++ word) (codes ">") (behind page (codes "</") word c.in_ok-push.ensures c.in_ok-push-2.ensures))
+    c.push-3.ensures

@@ -27,5 +27,6 @@ returns-in_ok-push-in_default c =
     let a = c.args.character in
     let written = string_bytes c.self.inside.written in
     ap chars c.in_ok-push-in_default.ensures.bytes ∙ chars-append written _ (IsUtf8-string_bytes c.self.inside.written)
-    ∙ ap (λ end. chars written ++ end) (chars_of_one a c.ranges.character.0 ∙ sym (escaped_other a (λ e. omega arith) (λ e. omega arith) (λ e. omega arith) (λ e. omega arith)))
+    ∙ ap (λ end. chars written ++ end)
+    (chars_of_one a c.ranges.character.0 ∙ sym (escaped_other a (λ e. omega arith) (λ e. omega arith) (λ e. omega arith) (λ e. omega arith)))
     ∙ ap (λ page. page ++ escaped a) c.self.view_is

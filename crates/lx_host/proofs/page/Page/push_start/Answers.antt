@@ -11,4 +11,7 @@ returns c =
     let page = c.args.self.now in
     let begun = codes "<" ++ chars c.args.word.now in
     let attributes = attributes_html c.args.attributes.now in
-    on_ok_weaker c.push-3.result (behind page (begun ++ attributes) (codes ">") (behind page begun attributes (behind page (codes "<") (chars c.args.word.now) c.in_ok-push.ensures c.in_ok-push-2.ensures) c.in_ok-push_attributes.ensures)) c.push-3.ensures
+    on_ok_weaker c.push-3.result
+    (behind page (begun ++ attributes) (codes ">")
+    (behind page begun attributes (behind page (codes "<") (chars c.args.word.now) c.in_ok-push.ensures c.in_ok-push-2.ensures)
+    c.in_ok-push_attributes.ensures)) c.push-3.ensures

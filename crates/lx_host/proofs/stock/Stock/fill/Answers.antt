@@ -10,7 +10,8 @@ loop-preserved c =
     let more = pushed (is_ok c.push.result) _ _ _ (ap is_ok (sym c.in_ok-push.was)) c.push.ensures.items in
     let longer = ap length more ∙ length-append had (c.in_ok-roomy.roomy ∷ []) in
     record {
-      roomy = subst AreRoomy (sym more) (roomy_more had c.in_ok-roomy.roomy c.loop.invariant.roomy c.in_ok-roomy.ensures.items (omega (arith, c.in_ok-roomy.ensures.exact)));
+      roomy = subst AreRoomy (sym more)
+          (roomy_more had c.in_ok-roomy.roomy c.loop.invariant.roomy c.in_ok-roomy.ensures.items (omega (arith, c.in_ok-roomy.ensures.exact)));
       filled = omega (arith, longer, c.loop.invariant.filled);
       kept = omega (arith, longer, c.loop.invariant.kept);
     }

@@ -16,15 +16,18 @@ create-requires-clause-below c =
 
 pub add_shown-requires-clause-small : goal.add_shown-requires-clause-small
 add_shown-requires-clause-small c = λ s e.
-    small_entry c.self.inside.keys c.self.inside.next_id _ c.args.id c.self.inside.grove.hosts s c.create.ensures.ordered c.self.invariant (fits_now _ c.self.view_is c.requires.fits) e
+    small_entry c.self.inside.keys c.self.inside.next_id _ c.args.id c.self.inside.grove.hosts s c.create.ensures.ordered c.self.invariant
+    (fits_now _ c.self.view_is c.requires.fits) e
 
 pub overflow_add-self : goal.overflow_add-self
 overflow_add-self c = omega (arith, (fits_now _ c.self.view_is c.requires.fits).below)
 
 pub invariant_of-self : goal.invariant_of-self
 invariant_of-self c =
-    kept_created c.self.inside.keys c.add_shown.new.keys c.self.inside.next_id _ c.args.id _ c.self.inside.grove.hosts c.create.new.self.hosts c.create.ensures.created c.self.invariant (fits_now _ c.self.view_is c.requires.fits).is_next c.number.ensures c.add_shown.ensures.each
+    kept_created c.self.inside.keys c.add_shown.new.keys c.self.inside.next_id _ c.args.id _ c.self.inside.grove.hosts c.create.new.self.hosts
+    c.create.ensures.created c.self.invariant (fits_now _ c.self.view_is c.requires.fits).is_next c.number.ensures c.add_shown.ensures.each
 
 pub returns-clause-created : goal.returns-clause-created
 returns-clause-created c =
-    created_tree _ _ c.args.self.now.tree c.self.inside.grove.hosts c.create.new.self.hosts c.self.inside.next_id (ap (λ (v : Held). v.tree) c.self.view_is) c.create.ensures.created
+    created_tree _ _ c.args.self.now.tree c.self.inside.grove.hosts c.create.new.self.hosts c.self.inside.next_id (ap (λ (v : Held). v.tree) c.self.view_is)
+    c.create.ensures.created

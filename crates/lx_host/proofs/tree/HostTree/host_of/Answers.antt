@@ -23,12 +23,18 @@ pub returns-then-is_within : goal.returns-then-is_within
 returns-then-is_within c =
     let at = ap (λ k. get nat_eq c.self.inside.keys k) (sym c.number.ensures) ∙ sym c.get.ensures.value ∙ ap option_copied c.in-Some.is in
     let few = few_shown c.self.inside.keys c.self.inside.next_id c.args.key c.self.inside.grove.hosts c.in-Some.shown.now c.self.invariant (omega arith) at in
-    let is = host_one c.self.inside.keys c.self.inside.next_id c.args.key c.self.inside.grove.hosts c.in-Some.shown.now c.is_within.ensures.ordered c.self.invariant few at in
-    sym (ap (λ (v : Held). host_of c.args.key (first_tree v.tree.hosts)) (sym c.self.view_is) ∙ is ∙ ap (λ b. cond b (Some c.in-Some.shown.now.ids) None) (sym c.is_within.ensures.within ∙ c.if-is_within.true))
+    let is =
+    host_one c.self.inside.keys c.self.inside.next_id c.args.key c.self.inside.grove.hosts c.in-Some.shown.now c.is_within.ensures.ordered c.self.invariant
+    few at in
+    sym (ap (λ (v : Held). host_of c.args.key (first_tree v.tree.hosts)) (sym c.self.view_is) ∙ is
+    ∙ ap (λ b. cond b (Some c.in-Some.shown.now.ids) None) (sym c.is_within.ensures.within ∙ c.if-is_within.true))
 
 pub returns-else-is_within : goal.returns-else-is_within
 returns-else-is_within c =
     let at = ap (λ k. get nat_eq c.self.inside.keys k) (sym c.number.ensures) ∙ sym c.get.ensures.value ∙ ap option_copied c.in-Some.is in
     let few = few_shown c.self.inside.keys c.self.inside.next_id c.args.key c.self.inside.grove.hosts c.in-Some.shown.now c.self.invariant (omega arith) at in
-    let is = host_one c.self.inside.keys c.self.inside.next_id c.args.key c.self.inside.grove.hosts c.in-Some.shown.now c.is_within.ensures.ordered c.self.invariant few at in
-    sym (ap (λ (v : Held). host_of c.args.key (first_tree v.tree.hosts)) (sym c.self.view_is) ∙ is ∙ ap (λ b. cond b (Some c.in-Some.shown.now.ids) None) (sym c.is_within.ensures.within ∙ c.if-is_within.false))
+    let is =
+    host_one c.self.inside.keys c.self.inside.next_id c.args.key c.self.inside.grove.hosts c.in-Some.shown.now c.is_within.ensures.ordered c.self.invariant
+    few at in
+    sym (ap (λ (v : Held). host_of c.args.key (first_tree v.tree.hosts)) (sym c.self.view_is) ∙ is
+    ∙ ap (λ b. cond b (Some c.in-Some.shown.now.ids) None) (sym c.is_within.ensures.within ∙ c.if-is_within.false))

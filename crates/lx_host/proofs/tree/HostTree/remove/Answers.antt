@@ -11,7 +11,11 @@ pub remove_tree-requires-clause-there : goal.remove_tree-requires-clause-there
 remove_tree-requires-clause-there c = (fits_now _ c.self.view_is c.requires.fits).there
 
 pub invariant_of-self : goal.invariant_of-self
-invariant_of-self c = kept_dropped c.remove_tree.new.keys c.self.inside.next_id c.args.id c.self.inside.grove.hosts c.remove_tree.new.grove.hosts c.remove_tree.ensures.taken c.self.invariant.below c.remove_tree.ensures.keyed
+invariant_of-self c =
+    kept_dropped c.remove_tree.new.keys c.self.inside.next_id c.args.id c.self.inside.grove.hosts c.remove_tree.new.grove.hosts c.remove_tree.ensures.taken
+    c.self.invariant.below c.remove_tree.ensures.keyed
 
 pub returns-clause-dropped : goal.returns-clause-dropped
-returns-clause-dropped c = dropped_tree c.args.id c.args.self.now.tree c.self.inside.grove.hosts c.remove_tree.new.grove.hosts c.self.inside.next_id (ap (λ (v : Held). v.tree) c.self.view_is) c.remove_tree.ensures.taken
+returns-clause-dropped c =
+    dropped_tree c.args.id c.args.self.now.tree c.self.inside.grove.hosts c.remove_tree.new.grove.hosts c.self.inside.next_id
+    (ap (λ (v : Held). v.tree) c.self.view_is) c.remove_tree.ensures.taken

@@ -19,5 +19,7 @@ returns-in-Some-clause-detached c =
 
 pub invariant_of-self : goal.invariant_of-self
 invariant_of-self c =
-    let now = detached_now (hub_of c.self.inside) c.args.self.now c.args.view c.in-Some.at c.in-Some.ensures.0 _ c.self.view_is c.in-Some.ensures.1 c.remove.ensures.items in
+    let now =
+    detached_now (hub_of c.self.inside) c.args.self.now c.args.view c.in-Some.at c.in-Some.ensures.0 _ c.self.view_is c.in-Some.ensures.1
+    c.remove.ensures.items in
     subst IsHub (sym now) (detached_hub c.args.self.now c.args.view (subst IsHub c.self.view_is c.self.invariant))

@@ -12,13 +12,15 @@ loop-passed-init c = record {
 
 pub loop-passed-preserved : goal.loop-passed-preserved
 loop-passed-preserved c = record {
-  here = one_back c.args.self.now c.args.parent c.loop-passed.passed c.args.behind c.in_ok-key.key c.loop-passed.at _ c.previous-at.ensures.sound c.requires c.loop-passed-test.true c.loop-passed.invariant.here c.in_ok-key.was c.previous-at.ensures.previous;
+  here = one_back c.args.self.now c.args.parent c.loop-passed.passed c.args.behind c.in_ok-key.key c.loop-passed.at _ c.previous-at.ensures.sound c.requires
+      c.loop-passed-test.true c.loop-passed.invariant.here c.in_ok-key.was c.previous-at.ensures.previous;
   most = omega arith;
 }
 
 pub returns-in_err-key : goal.returns-in_err-key
 returns-in_err-key c =
-    absurd (back_is_there c.args.self.now c.args.parent c.loop-passed.passed c.args.behind c.loop-passed.at c.requires c.loop-passed-test.true c.loop-passed.invariant.here c.in_err-key.was)
+    absurd (back_is_there c.args.self.now c.args.parent c.loop-passed.passed c.args.behind c.loop-passed.at c.requires c.loop-passed-test.true
+    c.loop-passed.invariant.here c.in_err-key.was)
 
 pub returns : goal.returns
 returns c =

@@ -9,13 +9,16 @@ loop-passed-init c = record { here = at_front c.args.self.now c.args.parent _ c.
 
 pub loop-passed-preserved : goal.loop-passed-preserved
 loop-passed-preserved c = record {
-  here = one_on c.args.self.now c.args.parent c.loop-passed.passed c.in_ok-key.key c.loop-passed.at _ c.next-at.ensures.sound c.loop-passed.invariant.here c.in_ok-key.was c.next-at.ensures.next;
+  here = one_on c.args.self.now c.args.parent c.loop-passed.passed c.in_ok-key.key c.loop-passed.at _ c.next-at.ensures.sound c.loop-passed.invariant.here
+      c.in_ok-key.was c.next-at.ensures.next;
   most = omega arith;
 }
 
 pub returns-in_err-key : goal.returns-in_err-key
 returns-in_err-key c =
-    c.from_residual.ensures ∙ none_on c.args.self.now c.args.parent c.loop-passed.passed c.args.before c.loop-passed.at c.loop-passed.invariant.here c.in_err-key.was c.loop-passed.invariant.most
+    c.from_residual.ensures
+    ∙ none_on c.args.self.now c.args.parent c.loop-passed.passed c.args.before c.loop-passed.at c.loop-passed.invariant.here c.in_err-key.was
+    c.loop-passed.invariant.most
 
 pub returns : goal.returns
 returns c =

@@ -6,7 +6,8 @@ pub overflow_add-index : goal.overflow_add-index
 overflow_add-index c =
     omega (
       arith,
-      (step_back c.args.self.now c.args.key c.loop-previous.at c.in-Some-previous.previous c.in-Some.field-0 c.previous.ensures.sound (sym c.parent.ensures.parent ∙ c.in-Some.is) c.loop-previous.invariant.sibling (sym c.previous.ensures.previous ∙ c.in-Some-previous.is)).place,
+      (step_back c.args.self.now c.args.key c.loop-previous.at c.in-Some-previous.previous c.in-Some.field-0 c.previous.ensures.sound
+          (sym c.parent.ensures.parent ∙ c.in-Some.is) c.loop-previous.invariant.sibling (sym c.previous.ensures.previous ∙ c.in-Some-previous.is)).place,
       c.loop-previous.invariant.place,
       few_siblings c.args.self.now c.args.key c.in-Some.field-0 c.previous.ensures.sound (sym c.parent.ensures.parent ∙ c.in-Some.is),
     )
@@ -17,11 +18,15 @@ loop-previous-smaller c =
 
 pub loop-previous-preserved : goal.loop-previous-preserved
 loop-previous-preserved c = record {
-  sibling = still_sibling c.args.self.now c.args.key c.loop-previous.at c.in-Some-previous.previous c.in-Some.field-0 c.previous.ensures.sound (sym c.parent.ensures.parent ∙ c.in-Some.is) c.loop-previous.invariant.sibling (sym c.previous.ensures.previous ∙ c.in-Some-previous.is);
+  sibling =
+      still_sibling c.args.self.now c.args.key c.loop-previous.at c.in-Some-previous.previous c.in-Some.field-0 c.previous.ensures.sound
+      (sym c.parent.ensures.parent ∙ c.in-Some.is) c.loop-previous.invariant.sibling (sym c.previous.ensures.previous ∙ c.in-Some-previous.is);
   place =
       omega (arith, (step_back c.args.self.now c.args.key c.loop-previous.at c.in-Some-previous.previous c.in-Some.field-0 c.previous.ensures.sound (sym c.parent.ensures.parent ∙ c.in-Some.is) c.loop-previous.invariant.sibling (sym c.previous.ensures.previous ∙ c.in-Some-previous.is)).place, c.loop-previous.invariant.place);
 }
 
 pub returns-clause-index : goal.returns-clause-index
 returns-clause-index c =
-    counted_back c.args.self.now c.args.key c.loop-previous.at c.in-Some.field-0 c.loop-previous.index c.previous.ensures.sound (sym c.parent.ensures.parent ∙ c.in-Some.is) c.loop-previous.invariant.sibling (sym c.previous.ensures.previous ∙ c.in_default-previous.is) c.loop-previous.invariant.place
+    counted_back c.args.self.now c.args.key c.loop-previous.at c.in-Some.field-0 c.loop-previous.index c.previous.ensures.sound
+    (sym c.parent.ensures.parent ∙ c.in-Some.is) c.loop-previous.invariant.sibling (sym c.previous.ensures.previous ∙ c.in_default-previous.is)
+    c.loop-previous.invariant.place

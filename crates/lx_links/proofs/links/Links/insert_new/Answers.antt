@@ -14,7 +14,9 @@ holds c = stood_by _ c.self.inside.stands _ c.in-Some.store c.self.view_is (sym 
 
 -- and with the node that was put there, for the forest with the new one
 stands : (c : In_ok-put_node) → Holds c.put_node.new.store (with_new (record { key = c.args.key; kind = c.args.kind; fields = c.args.fields }) c.args.self.now)
-stands c = put_stands _ _ _ _ _ _ _ (holds (goal.at.In_ok-put_node c).In-Some) c.requires.free c.requires.room c.requires.of_kind c.lone_node.ensures c.in_ok-put_node.ensures
+stands c =
+    put_stands _ _ _ _ _ _ _ (holds (goal.at.In_ok-put_node c).In-Some) c.requires.free c.requires.room c.requires.of_kind c.lone_node.ensures
+    c.in_ok-put_node.ensures
 
 pub returns-in_default-clause-failed : goal.returns-in_default-clause-failed
 returns-in_default-clause-failed c = fails _ _ c.take.ensures.after

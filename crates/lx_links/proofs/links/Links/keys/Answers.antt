@@ -5,7 +5,8 @@ use Rattle.lx_links.proofs.Stood.{stood_by}
 use Rattle.lx_links.proofs.Swept.{is_among-keys, NoRepeats-keys}
 use Rattle.lx_links.proofs.links.Links.keys.Goals as goal
 
-of_keys : {E : Type 0} (r : Result (Vec ℕ Global) E) (ks : List ℕ) (P : List ℕ → Type 0) → IfOk r (λ keys. keys.items ≡ ks) → P ks → IfOk r (λ keys. P keys.items)
+of_keys : {E : Type 0} (r : Result (Vec ℕ Global) E) (ks : List ℕ) (P : List ℕ → Type 0) → IfOk r (λ keys. keys.items ≡ ks) → P ks
+    → IfOk r (λ keys. P keys.items)
 of_keys (Ok keys) ks P e h = subst P (sym e) h
 of_keys (Err e) ks P h p = tt
 

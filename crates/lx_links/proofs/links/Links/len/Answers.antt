@@ -7,7 +7,8 @@ use Rattle.lx_links.proofs.links.Links.len.Goals as goal
 pub returns-in-Some : goal.returns-in-Some
 returns-in-Some c =
     record {
-      len = c.len.ensures ∙ all_held c.in-Some.store c.args.self.now (stood_by c.self.inside.held c.self.inside.stands _ c.in-Some.store c.self.view_is c.in-Some.is);
+      len = c.len.ensures
+          ∙ all_held c.in-Some.store c.args.self.now (stood_by c.self.inside.held c.self.inside.stands _ c.in-Some.store c.self.view_is c.in-Some.is);
       sound = sound c.self.inside.held c.self.inside.stands _ c.self.view_is;
     }
 

@@ -12,10 +12,15 @@ pub put_node-requires : goal.put_node-requires
 put_node-requires c = omega (arith, ap len c.in_ok-store.ensures, len-empty nat_cmp Node)
 
 pub invariant_of-result : goal.invariant_of-result
-invariant_of-result c = (record { forest = root_alone; stands = new_stands _ _ _ _ _ c.in_ok-store.ensures c.root.ensures c.lone_node.ensures c.plain_element-fields.ensures c.in_ok-put_node.ensures }, tt)
+invariant_of-result c =
+    (record { forest = root_alone; stands = new_stands _ _ _ _ _ c.in_ok-store.ensures c.root.ensures c.lone_node.ensures c.plain_element-fields.ensures c.in_ok-put_node.ensures }, tt)
 
 pub returns : goal.returns
-returns c = is_now _ _ root_alone (new_stands _ _ _ _ _ c.in_ok-store.ensures c.root.ensures c.lone_node.ensures c.plain_element-fields.ensures c.in_ok-put_node.ensures)
+returns c =
+    is_now _ _ root_alone
+    (new_stands _ _ _ _ _ c.in_ok-store.ensures c.root.ensures c.lone_node.ensures c.plain_element-fields.ensures c.in_ok-put_node.ensures)
 
 pub invariant_of-result-2 : goal.invariant_of-result-2
-invariant_of-result-2 c = counts_now _ _ _ root_alone (new_stands _ _ _ _ _ c.in_ok-store.ensures c.root.ensures c.lone_node.ensures c.plain_element-fields.ensures c.in_ok-put_node.ensures) root_counts
+invariant_of-result-2 c =
+    counts_now _ _ _ root_alone
+    (new_stands _ _ _ _ _ c.in_ok-store.ensures c.root.ensures c.lone_node.ensures c.plain_element-fields.ensures c.in_ok-put_node.ensures) root_counts

@@ -20,8 +20,10 @@ returns-in-Some-clause-depth c =
 
 pub returns-in-None-clause-next : goal.returns-in-None-clause-next
 returns-in-None-clause-next c =
-    next_of_leaf c.next_behind.result c.args.self.now c.args.key c.args.depth c.first.ensures.sound c.requires (sym c.first.ensures.first ∙ c.in-None.is) c.next_behind.ensures.next
+    next_of_leaf c.next_behind.result c.args.self.now c.args.key c.args.depth c.first.ensures.sound c.requires (sym c.first.ensures.first ∙ c.in-None.is)
+    c.next_behind.ensures.next
 
 pub returns-in-None-clause-last : goal.returns-in-None-clause-last
 returns-in-None-clause-last c =
-    last_leaf c.next_behind.result c.args.self.now c.args.key c.args.depth c.first.ensures.sound c.requires (sym c.first.ensures.first ∙ c.in-None.is) c.next_behind.ensures.last
+    last_leaf c.next_behind.result c.args.self.now c.args.key c.args.depth c.first.ensures.sound c.requires (sym c.first.ensures.first ∙ c.in-None.is)
+    c.next_behind.ensures.last

@@ -32,7 +32,8 @@ sums c =
 
 pub returns-in_default-clause-refused : goal.returns-in_default-clause-refused
 returns-in_default-clause-refused c =
-    refused_by _ _ _ _ _ c.unknown.ensures c.in_ok-living.ensures.living (set_missing _ c.args.fields _ (absent_in _ _ c.args.key c.node.ensures.node c.in_default.is)) refl
+    refused_by _ _ _ _ _ c.unknown.ensures c.in_ok-living.ensures.living
+    (set_missing _ c.args.fields _ (absent_in _ _ c.args.key c.node.ensures.node c.in_default.is)) refl
 
 pub returns-then-not-is_of_kind-clause-refused : goal.returns-then-not-is_of_kind-clause-refused
 returns-then-not-is_of_kind-clause-refused c =
@@ -44,7 +45,8 @@ returns-in_default-take-clause-refused c = (λ lives. fine (goal.at.returns-in_d
 
 pub returns-in_err-change_node-clause-refused : goal.returns-in_err-change_node-clause-refused
 returns-in_err-change_node-clause-refused c =
-    failed_by_memory _ _ _ _ c.from_residual-in_err-change_node.ensures.1 (fine (goal.at.returns-in_err-change_node-clause-refused c).After-take) (fails _ _ c.take.ensures.after)
+    failed_by_memory _ _ _ _ c.from_residual-in_err-change_node.ensures.1 (fine (goal.at.returns-in_err-change_node-clause-refused c).After-take)
+    (fails _ _ c.take.ensures.after)
 
 pub invariant_of-self-inside-2 : goal.invariant_of-self-inside-2
 invariant_of-self-inside-2 c = (record { forest = _; stands = stands (goal.at.invariant_of-self-inside-2 c).In_ok-change_node }, tt)

@@ -40,18 +40,21 @@ stands_now c = stands c c.requires.text c.requires.cut.before c.requires.cut.wit
 
 -- what the node has of the sums then
 more : (c : After-node_sums-more)
-    → c.node_sums-more.result ≡ own_sums (node (goal.at.After-node_sums-more c).In-Some).node.kind (fields_now (goal.at.After-node_sums-more c).In_ok-splice_node)
+    → c.node_sums-more.result
+    ≡ own_sums (node (goal.at.After-node_sums-more c).In-Some).node.kind (fields_now (goal.at.After-node_sums-more c).In_ok-splice_node)
 unfolding fields_now
 more c =
     let n = node (goal.at.After-node_sums-more c).In-Some in
     let cut = c.requires.cut in
     c.node_sums-more.ensures _
     (node_refielded c.in-Some.store c.splice_node.new.store c.args.key n.node _
-    (c.in_ok-splice_node.ensures n.node c.requires.text cut.before cut.within cut.behind n.there (text_of_node _ _ _ c.requires.text n c.requires.fields_is) cut.cuts) n.there)
+    (c.in_ok-splice_node.ensures n.node c.requires.text cut.before cut.within cut.behind n.there (text_of_node _ _ _ c.requires.text n c.requires.fields_is)
+    cut.cuts) n.there)
 
 -- the sums with these are those of the forest afterwards with what the node had
 sums : (c : After-node_sums-more)
-    → plus c.self.inside.sums c.node_sums-more.result ≡ plus (sums_of (with_fields c.args.key (fields_now (goal.at.After-node_sums-more c).In_ok-splice_node) c.args.self.now)) c.node_sums-old.result
+    → plus c.self.inside.sums c.node_sums-more.result
+    ≡ plus (sums_of (with_fields c.args.key (fields_now (goal.at.After-node_sums-more c).In_ok-splice_node) c.args.self.now)) c.node_sums-old.result
 sums c =
     let at = (goal.at.After-node_sums-more c).In-Some in
     let n = node at in
@@ -73,7 +76,8 @@ pub invariant_of-self-inside-2 : goal.invariant_of-self-inside-2
 invariant_of-self-inside-2 c = (record { forest = _; stands = stands_now (goal.at.invariant_of-self-inside-2 c).In_ok-splice_node }, tt)
 
 pub returns-clause-spliced : goal.returns-clause-spliced
-returns-clause-spliced c = λ t before within behind is cuts. is_now _ _ _ (stands (goal.at.returns-clause-spliced c).In_ok-splice_node t before within behind is cuts)
+returns-clause-spliced c =
+    λ t before within behind is cuts. is_now _ _ _ (stands (goal.at.returns-clause-spliced c).In_ok-splice_node t before within behind is cuts)
 
 pub returns-clause-living : goal.returns-clause-living
 returns-clause-living c = held_living _ _ (holds (goal.at.returns-clause-living c).In-Some)

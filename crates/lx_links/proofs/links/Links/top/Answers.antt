@@ -8,7 +8,8 @@ overflow_add-steps c =
     omega (arith, few_up c.args.self.now c.args.key c.parent.ensures.sound, c.loop-parent.invariant.steps)
 
 pub loop-parent-smaller : goal.loop-parent-smaller
-loop-parent-smaller c = omega (arith, one_up c.args.self.now c.loop-parent.at c.in-Some.parent c.parent.ensures.sound (sym c.parent.ensures.parent ∙ c.in-Some.is))
+loop-parent-smaller c =
+    omega (arith, one_up c.args.self.now c.loop-parent.at c.in-Some.parent c.parent.ensures.sound (sym c.parent.ensures.parent ∙ c.in-Some.is))
 
 pub loop-parent-preserved : goal.loop-parent-preserved
 loop-parent-preserved c =

@@ -11,7 +11,8 @@ use Rattle.lx_node.proofs.text.Txt.splice.Goals.{After-count_piece-gone}
 utf8 : (c : After-count_piece-gone) → IsUtf8 (string_bytes c.self.inside.text)
 utf8 c = subst (λ bs. IsUtf8 bs) c.as_str.ensures.value c.as_str.utf8
 
-cuts : (c : After-count_piece-gone) → Cuts c.args.front c.args.piece c.requires.before c.requires.within c.requires.behind (chars (string_bytes c.self.inside.text))
+cuts : (c : After-count_piece-gone)
+    → Cuts c.args.front c.args.piece c.requires.before c.requires.within c.requires.behind (chars (string_bytes c.self.inside.text))
 cuts c =
     subst (λ text. Cuts c.args.front c.args.piece c.requires.before c.requires.within c.requires.behind text) (sym c.self.view_is)
     c.requires.cuts
@@ -27,7 +28,8 @@ overflow_add-front c =
 
 pub replace_range-requires-clause-in_bounds : goal.replace_range-requires-clause-in_bounds
 replace_range-requires-clause-in_bounds c =
-    let i : c.args.front + c.args.piece ≤ length (string_bytes c.self.inside.text) = inside (goal.at.replace_range-requires-clause-in_bounds c).After-count_piece-gone in
+    let i : c.args.front + c.args.piece ≤ length (string_bytes c.self.inside.text) =
+    inside (goal.at.replace_range-requires-clause-in_bounds c).After-count_piece-gone in
     search (rules, i)
 
 pub replace_range-requires-clause-start_boundary : goal.replace_range-requires-clause-start_boundary
@@ -54,7 +56,8 @@ invariant_of-self-2 c =
     let text : chars (string_bytes c.replace_range.new.self) ≡ before ++ new ++ behind =
     ap chars bytes ∙ chars-spliced old (utf8 at) c.args.front c.args.piece before within behind (cuts at) c.args.new.now c.utf8.new in
     let gone : AreCounted c.count_piece-gone.result within =
-    c.count_piece-gone.ensures before within behind (subst (λ bs. Cuts c.args.front c.args.piece before within behind (chars bs)) (sym c.as_str.ensures.value) (cuts at)) in
+    c.count_piece-gone.ensures before within behind
+    (subst (λ bs. Cuts c.args.front c.args.piece before within behind (chars bs)) (sym c.as_str.ensures.value) (cuts at)) in
     let few : units (before ++ new ++ behind) < 2 ^ 64 =
     omega (
       arith,

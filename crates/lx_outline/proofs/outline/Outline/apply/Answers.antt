@@ -14,15 +14,19 @@ between : (g : Over) (c : After-look-2 g) → AreBetween (g.R.Records.forest c.a
 between g c = are_between _ _ _ c.look.ensures.sound c.look-2.ensures.sound c.requires.events
 
 -- what the two numbers become
-nodes : (g : Over) (c : After-touched_by g) → IsMoved c.self.inside.nodes c.sums_of-gone.result.nodes c.sums_of-come.result.nodes (total (g.R.Records.forest c.args.after.now))
+nodes : (g : Over) (c : After-touched_by g)
+    → IsMoved c.self.inside.nodes c.sums_of-gone.result.nodes c.sums_of-come.result.nodes (total (g.R.Records.forest c.args.after.now))
 nodes g c =
-    nodes_moved _ _ _ (between g (goal.at.After-touched_by g c).After-look-2) _ _ _ _ _ c.look.ensures.same c.look-2.ensures.same c.requires.few_before c.requires.few_after
+    nodes_moved _ _ _ (between g (goal.at.After-touched_by g c).After-look-2) _ _ _ _ _ c.look.ensures.same c.look-2.ensures.same c.requires.few_before
+    c.requires.few_after
     (ap (λ (o : OutlineView). o.nodes) c.self.view_is ∙ c.requires.outline.nodes) c.sums_of-gone.ensures.nodes c.sums_of-come.ensures.nodes
 
 characters : (g : Over) (c : After-touched_by g)
-    → IsMoved c.self.inside.characters c.sums_of-gone.result.characters c.sums_of-come.result.characters (weight characters_in (g.R.Records.forest c.args.after.now))
+    → IsMoved c.self.inside.characters c.sums_of-gone.result.characters c.sums_of-come.result.characters
+    (weight characters_in (g.R.Records.forest c.args.after.now))
 characters g c =
-    characters_moved _ _ _ (between g (goal.at.After-touched_by g c).After-look-2) _ _ _ _ _ c.look.ensures.same c.look-2.ensures.same c.requires.short_before c.requires.short_after
+    characters_moved _ _ _ (between g (goal.at.After-touched_by g c).After-look-2) _ _ _ _ _ c.look.ensures.same c.look-2.ensures.same c.requires.short_before
+    c.requires.short_after
     (ap (λ (o : OutlineView). o.characters) c.self.view_is ∙ c.requires.outline.characters) c.sums_of-gone.ensures.characters c.sums_of-come.ensures.characters
 
 -- no more is read than that
@@ -67,9 +71,12 @@ returns-clause-outline g c =
     record {
       nodes = (nodes g at).left;
       characters = (characters g at).left;
-      heading = headings_are _ _ _ (between g (goal.at.returns-clause-outline g c).After-look-2) _ _ _ _ c.self.inside.headings _ _ at_come (c.touched_by.ensures.same ∙ at_come)
+      heading =
+          headings_are _ _ _ (between g (goal.at.returns-clause-outline g c).After-look-2) _ _ _ _ c.self.inside.headings _ _ at_come
+          (c.touched_by.ensures.same ∙ at_come)
           (c.as_slice.ensures.value ∙ c.in_ok-keys.ensures.keys) c.in_ok-touched.ensures.keys
-          (λ q. ap (λ (o : OutlineView). lookup (nat_eq q) o.headings) c.self.view_is ∙ c.requires.outline.heading q) c.forget.ensures c.in_ok-renew.ensures.headings;
+          (λ q. ap (λ (o : OutlineView). lookup (nat_eq q) o.headings) c.self.view_is ∙ c.requires.outline.heading q) c.forget.ensures
+          c.in_ok-renew.ensures.headings;
     }
 
 pub returns-clause-reads : goal.returns-clause-reads

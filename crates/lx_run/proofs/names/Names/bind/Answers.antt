@@ -9,5 +9,6 @@ pub returns : goal.returns
 returns c =
     ap (λ entries. map.from_entries (as_texts entries)) c.in_ok-insert.ensures.entries
     ∙ set_text c.in_ok-name.name c.args.key c.self.inside.held.entries
-    ∙ ap (λ name. map.insert (map.from_entries (as_texts c.self.inside.held.entries)) name c.args.key) (ap chars c.in_ok-name.ensures.ok ∙ c.as_str.ensures.text)
+    ∙ ap (λ name. map.insert (map.from_entries (as_texts c.self.inside.held.entries)) name c.args.key)
+    (ap chars c.in_ok-name.ensures.ok ∙ c.as_str.ensures.text)
     ∙ ap (λ (names : Naming). map.insert names c.args.name.now c.args.key) c.self.view_is

@@ -9,4 +9,5 @@ pub returns-clause-steps : goal.returns-clause-steps
 returns-clause-steps c = c.as_slice.ensures.value ∙ sym (steps_of-script_of _) ∙ ap steps_of c.self.view_is
 
 pub returns-clause-sound : goal.returns-clause-sound
-returns-clause-sound c sound = subst (All IsSound) (sym (c.as_slice.ensures.value ∙ sym (steps_of-script_of _) ∙ ap steps_of c.self.view_is)) (steps_sound _ sound)
+returns-clause-sound c sound =
+    subst (All IsSound) (sym (c.as_slice.ensures.value ∙ sym (steps_of-script_of _) ∙ ap steps_of c.self.view_is)) (steps_sound _ sound)

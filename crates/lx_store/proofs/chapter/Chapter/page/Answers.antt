@@ -7,6 +7,7 @@ use Rattle.lx_store.proofs.chapter.Chapter.page.Goals as goal
 pub returns : goal.returns
 returns g c slot low =
     c.page.ensures slot
-    ∙ ap (λ page. slot_at page slot) (get_or_read_under c.self.inside.leaves.items c.args.place 32 c.index.result.now [] c.index.ensures c.requires (sym c.self.invariant))
+    ∙ ap (λ page. slot_at page slot)
+    (get_or_read_under c.self.inside.leaves.items c.args.place 32 c.index.result.now [] c.index.ensures c.requires (sym c.self.invariant))
     ∙ sym (slot_joined c.self.inside.leaves.items c.args.place slot low)
     ∙ ap (λ slots. slot_at slots (c.args.place * 32 + slot)) c.self.view_is

@@ -13,6 +13,7 @@ invariant_of-self g c =
 pub returns-then-is_empty : goal.returns-then-is_empty
 returns-then-is_empty g c =
     ap mapped c.remove.ensures.items
-    ∙ give_up_stands c.self.inside.chapters.items c.args.number c.in-Ok.place c.index.result.now c.self.invariant (subst (λ es. StandsAt es c.args.number c.in-Ok.place) c.deref.ensures.value c.in-Ok.ensures.stands) c.index.ensures
+    ∙ give_up_stands c.self.inside.chapters.items c.args.number c.in-Ok.place c.index.result.now c.self.invariant
+    (subst (λ es. StandsAt es c.args.number c.in-Ok.place) c.deref.ensures.value c.in-Ok.ensures.stands) c.index.ensures
     (λ slot. ap (λ xs. slot_at xs slot) (sym c.deref-2.ensures) ∙ c.is_empty.ensures (grind (arith, c.if-is_empty.true)) slot)
     ∙ c.self.view_is
