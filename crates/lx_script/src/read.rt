@@ -81,6 +81,10 @@ fn update_with(steps: Steps, defer: bool) -> Form
 fn update_of(alloc: Global, value: &Value) -> Result<Option<Form>, NoMemory>
     ensures { IfOk result (λ made. made ≡ grammar.update_of (view value.now)) }
 {
+    // It is looked for first, so that another line costs no more than that.
+    if value.get("update").is_none() {
+        return Ok(None);
+    }
     if !has_only(&["at", "tags", "update", "defer"], value) {
         return Ok(None);
     }
@@ -96,13 +100,13 @@ fn update_of(alloc: Global, value: &Value) -> Result<Option<Form>, NoMemory>
 fn flush_of(value: &Value) -> Option<Form>
     ensures { result ≡ grammar.flush_of (view value.now) }
 {
+    let Some(true) = value.get("flush").and_then(Value::as_bool) else {
+        return None;
+    };
     if !has_only(&["at", "tags", "flush"], value) {
         return None;
     }
-    match value.get("flush").and_then(Value::as_bool) {
-        Some(true) => Some(Form::Flush),
-        _ => None,
-    }
+    Some(Form::Flush)
 }
 
 /// A command that is dispatched.
@@ -122,12 +126,12 @@ fn dispatch_form_of(alloc: Global, value: &Value) -> Result<Option<Form>, NoMemo
 fn rule_form_of(alloc: Global, value: &Value) -> Result<Option<Form>, NoMemory>
     ensures { IfOk result (λ made. made ≡ grammar.rule_form_of (view value.now)) }
 {
-    if !has_only(&["at", "rule"], value) {
-        return Ok(None);
-    }
     let Some(rule) = value.get("rule") else {
         return Ok(None);
     };
+    if !has_only(&["at", "rule"], value) {
+        return Ok(None);
+    }
     match rule_of(alloc, rule)? {
         Some(rule) => Ok(Some(Form::Rule(rule))),
         None => Ok(None),
@@ -138,12 +142,12 @@ fn rule_form_of(alloc: Global, value: &Value) -> Result<Option<Form>, NoMemory>
 fn listener_form_of(alloc: Global, value: &Value) -> Result<Option<Form>, NoMemory>
     ensures { IfOk result (λ made. made ≡ grammar.listener_form_of (view value.now)) }
 {
-    if !has_only(&["at", "listener"], value) {
-        return Ok(None);
-    }
     let Some(listener) = value.get("listener") else {
         return Ok(None);
     };
+    if !has_only(&["at", "listener"], value) {
+        return Ok(None);
+    }
     match listener_of(alloc, listener)? {
         Some(listener) => Ok(Some(Form::Listener(listener))),
         None => Ok(None),
@@ -154,26 +158,24 @@ fn listener_form_of(alloc: Global, value: &Value) -> Result<Option<Form>, NoMemo
 fn show_of(value: &Value) -> Option<Form>
     ensures { result ≡ grammar.show_of (view value.now) }
 {
+    let shown = value.get("show").and_then(shown_of)?;
     if !has_only(&["at", "show"], value) {
         return None;
     }
-    match value.get("show").and_then(shown_of) {
-        Some(shown) => Some(Form::Show(shown)),
-        None => None,
-    }
+    Some(Form::Show(shown))
 }
 
 /// What clears the history.
 fn clear_of(value: &Value) -> Option<Form>
     ensures { result ≡ grammar.clear_of (view value.now) }
 {
+    let Some("history") = value.get("clear").and_then(Value::as_str) else {
+        return None;
+    };
     if !has_only(&["at", "clear"], value) {
         return None;
     }
-    match value.get("clear").and_then(Value::as_str) {
-        Some("history") => Some(Form::Clear),
-        _ => None,
-    }
+    Some(Form::Clear)
 }
 
 /// The form of a line.
