@@ -74,7 +74,7 @@ pub enum Step {
     Later(Steps),
 }
 
-/// A list of steps.
+/// A list of steps. It isn't a `Sequence`, since a step may hold such a list: contracts see it as a script.
 #[cycle(step)]
 #[derive(Debug, Drop)]
 pub struct Steps {
