@@ -1,43 +1,9 @@
 use crate::draft::Draft;
-use lx_node::{Key, NoMemory};
+use lx_node::{Key, NoMemory, Sequence};
 use lx_select::Keys;
-use std::marker::Model;
 
 /// A list of elements, each with its flag.
-#[derive(Drop)]
-pub struct Flags {
-    flags: Vec<(Key, bool)>,
-}
-
-impl Model for Flags {
-    ghost use Rattle.std.specs.Prelude.{List, ℕ, Bool};
-
-    ghost Value = { List (ℕ × Bool) };
-
-    ghost view = { λ f. f.flags.items };
-}
-
-impl Flags {
-    ghost use Rattle.std.specs.Prelude.{◌≡◌};
-
-    pub fn of(items: Vec<(Key, bool)>) -> Flags
-        ensures { result ≡ items.items }
-    {
-        Flags { flags: items }
-    }
-
-    pub fn items(&self) -> &[(Key, bool)]
-        ensures { result.now ≡ self.now }
-    {
-        self.flags.as_slice()
-    }
-
-    pub fn into_vec(self) -> Vec<(Key, bool)>
-        ensures { result.items ≡ self }
-    {
-        self.flags
-    }
-}
+pub type Flags = Sequence<(Key, bool)>;
 
 /// What is to be handled next: leaves, or elements with their flags, or nothing any more.
 #[derive(Drop)]

@@ -14,7 +14,6 @@ mod joints;
 mod keys;
 mod linked;
 mod op;
-mod ops;
 mod page;
 mod removal;
 mod room;
@@ -23,7 +22,6 @@ mod stock;
 mod tag;
 mod tree;
 
-pub use op::{Attrs, Op};
-pub use ops::Ops;
+pub use op::{Attrs, Op, Ops};
 pub use tag::{Inner, Name, Outer, Tag};
 pub use tree::HostTree;

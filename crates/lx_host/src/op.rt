@@ -1,6 +1,6 @@
 use crate::stock::{Stock, insert_within};
 use crate::tag::{Name, Tag};
-use lx_node::{Key, NoMemory, Txt};
+use lx_node::{Copied, Key, NoMemory, Sequence, Txt};
 use std::alloc::Global;
 use std::cmp::Ordering;
 use std::marker::Model;
@@ -177,13 +177,12 @@ pub enum Op {
     },
 }
 
-impl Op {
-    ghost use Rattle.std.specs.Prelude.{◌≡◌, IfOk};
+/// Operations in their order.
+pub type Ops = Sequence<Op>;
 
+impl Copied for Op {
     /// An equal operation. It takes memory for its texts and attributes.
-    pub fn copy(&self, alloc: Global) -> Result<Op, NoMemory>
-        ensures { IfOk result (λ made. made ≡ self.now) }
-    {
+    fn copy(&self, alloc: Global) -> Result<Op, NoMemory> {
         match self {
             Op::Create {
                 id,

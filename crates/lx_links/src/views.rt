@@ -47,7 +47,6 @@ impl Links {
         ensures { IfOk result (λ kinds. kinds ≡ views.kinds_of self.now (lookups.children_of self.now key)) }
     {
         let mut kinds = Vec::new(self.alloc);
-        let _size = self.size(key);
         for child in self.children(key) {
             if let Some(kind) = self.kind(child) {
                 kinds.push(kind)?;

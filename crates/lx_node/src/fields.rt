@@ -4,7 +4,7 @@ ghost use Rattle.lx_node.specs.Plain as plain;
 
 use crate::kind::Kind;
 use crate::memory::NoMemory;
-use crate::text::Txt;
+use crate::text::{Txt, copy_optional};
 use std::alloc::Global;
 
 /// How a text takes part in editing: as any text, as a whole, or word by word.
@@ -132,16 +132,6 @@ impl TextFields {
     }
 }
 
-/// The same text, where there is one.
-fn copy_optional(text: &Option<Txt>, alloc: Global) -> Result<Option<Txt>, NoMemory>
-    ensures { IfOk result (λ made. made ≡ text.now) }
-{
-    match text {
-        None => Ok(None),
-        Some(text) => Ok(Some(text.copy(alloc)?)),
-    }
-}
-
 /// Whether a cell may span so many rows or columns.
 #[tactic(auto, unfolding(crate::specs::OfKind::is_span))]
 fn is_span(span: u16) -> bool
@@ -168,9 +158,9 @@ impl Extra {
                 title,
                 url,
             } => Ok(Extra::Link {
-                rel: copy_optional(rel, alloc)?,
-                target: copy_optional(target, alloc)?,
-                title: copy_optional(title, alloc)?,
+                rel: copy_optional(alloc, rel)?,
+                target: copy_optional(alloc, target)?,
+                title: copy_optional(alloc, title)?,
                 url: url.copy(alloc)?,
             }),
             Extra::Cell {
@@ -182,7 +172,7 @@ impl Extra {
                 header: *header,
                 row_span: *row_span,
                 col_span: *col_span,
-                background: copy_optional(background, alloc)?,
+                background: copy_optional(alloc, background)?,
             }),
         }
     }

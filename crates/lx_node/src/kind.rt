@@ -1,3 +1,5 @@
+use crate::sequence::Sequence;
+
 /// How a list numbers its items.
 #[derive(Clone, Copy, Debug, PartialEq, Eq)]
 pub enum ListType {
@@ -25,6 +27,9 @@ pub enum Kind {
     Rule,
     Embed,
 }
+
+/// A list of kinds.
+pub type Kinds = Sequence<Kind>;
 
 impl Kind {
     ghost use Rattle.std.specs.Prelude.{◌≡◌};

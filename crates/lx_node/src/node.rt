@@ -2,8 +2,7 @@ ghost use Rattle.std.specs.Prelude.{◌≡◌, IfOk};
 
 use crate::fields::Fields;
 use crate::key::Key;
-use crate::kind::Kind;
-use crate::kinds::Kinds;
+use crate::kind::{Kind, Kinds};
 use crate::memory::NoMemory;
 use std::alloc::Global;
 

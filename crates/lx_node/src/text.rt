@@ -155,3 +155,15 @@ impl Txt {
         self.as_str() == "\t"
     }
 }
+
+ghost use Rattle.std.specs.Prelude.{◌≡◌, IfOk};
+
+/// The same text, where there is one.
+pub fn copy_optional(alloc: Global, text: &Option<Txt>) -> Result<Option<Txt>, NoMemory>
+    ensures { IfOk result (λ made. made ≡ text.now) }
+{
+    match text {
+        None => Ok(None),
+        Some(text) => Ok(Some(text.copy(alloc)?)),
+    }
+}

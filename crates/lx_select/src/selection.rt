@@ -1,4 +1,4 @@
-use crate::keys::Keys;
+use crate::keys::{Keys, are_equal};
 use crate::rules;
 use lx_node::{Key, NoMemory, Point, SelectionKind};
 use std::alloc::Global;
@@ -48,7 +48,10 @@ impl Selection {
                 focus: *focus,
                 format: *format,
             }),
-            Selection::Nodes(keys) => Ok(Selection::Nodes(keys.copy(alloc)?)),
+            Selection::Nodes(keys) => Ok(Selection::Nodes(Keys::of(Vec::from_slice(
+                alloc,
+                keys.items(),
+            )?))),
             Selection::Cells {
                 table,
                 anchor,
@@ -86,7 +89,7 @@ impl Selection {
                     format: other_format,
                 },
             ) => anchor == other_anchor && focus == other_focus && format == other_format,
-            (Selection::Nodes(keys), Selection::Nodes(other_keys)) => keys.is_equal(other_keys),
+            (Selection::Nodes(keys), Selection::Nodes(other_keys)) => are_equal(keys, other_keys),
             (
                 Selection::Cells {
                     table,

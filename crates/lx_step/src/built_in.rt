@@ -1,7 +1,8 @@
 //! Commands that are built in.
 
-ghost use Rattle.std.specs.Prelude.{◌≡◌, chars};
+ghost use Rattle.std.specs.Prelude.{◌≡◌, map, chars};
 ghost use Rattle.lx_node.specs.Same.{same_text};
+ghost use Rattle.lx_step.specs.BuiltIns as built_ins;
 
 /// Which way the history goes.
 #[derive(Clone, Copy, Debug)]
@@ -63,6 +64,44 @@ pub enum BuiltIn {
     Table(TableCommand),
 }
 
+/// The names of the commands of the history.
+static TURNS: [(&str, Turn); 2] = [("undo", Turn::Undo), ("redo", Turn::Redo)];
+
+/// The names of the caret commands.
+static CARET_COMMANDS: [(&str, CaretCommand); 11] = [
+    ("insert-text", CaretCommand::InsertText),
+    ("remove-text", CaretCommand::RemoveText),
+    ("insert-paragraph", CaretCommand::InsertParagraph),
+    ("insert-line-break", CaretCommand::InsertLineBreak),
+    ("insert-tab", CaretCommand::InsertTab),
+    ("delete-character", CaretCommand::DeleteCharacter),
+    ("delete-word", CaretCommand::DeleteWord),
+    ("format-text", CaretCommand::FormatText),
+    ("select-all", CaretCommand::SelectAll),
+    ("cut", CaretCommand::RemoveText),
+    ("paste", CaretCommand::Paste),
+];
+
+/// The names of the commands of lists.
+static LIST_COMMANDS: [(&str, ListCommand); 5] = [
+    ("make-list", ListCommand::MakeList),
+    ("remove-list", ListCommand::RemoveList),
+    ("indent", ListCommand::Indent),
+    ("outdent", ListCommand::Outdent),
+    ("toggle-checked", ListCommand::ToggleChecked),
+];
+
+/// The names of the commands of tables.
+static TABLE_COMMANDS: [(&str, TableCommand); 7] = [
+    ("insert-table", TableCommand::InsertTable),
+    ("insert-row", TableCommand::InsertRow),
+    ("insert-column", TableCommand::InsertColumn),
+    ("delete-row", TableCommand::DeleteRow),
+    ("delete-column", TableCommand::DeleteColumn),
+    ("merge-cells", TableCommand::MergeCells),
+    ("unmerge", TableCommand::Unmerge),
+];
+
 impl BuiltIn {
     ghost use Rattle.lx_step.specs.BuiltIns.{built_in};
 
@@ -87,118 +126,47 @@ impl BuiltIn {
 }
 
 impl Turn {
-    ghost use Rattle.lx_step.specs.BuiltIns.{row_of, turns};
-
     fn named(name: &str) -> Option<Turn>
-        ensures { result ≡ row_of turns (chars name.now) }
+        ensures { result ≡ built_ins.row_of built_ins.turns (chars name.now) }
     {
-        if is_word("undo", name) {
-            return Some(Turn::Undo);
-        }
-        if is_word("redo", name) {
-            return Some(Turn::Redo);
-        }
-        None
+        row_of(&TURNS, name)
     }
 }
 
 impl CaretCommand {
-    ghost use Rattle.lx_step.specs.BuiltIns.{row_of, caret_commands};
-
     fn named(name: &str) -> Option<CaretCommand>
-        ensures { result ≡ row_of caret_commands (chars name.now) }
+        ensures { result ≡ built_ins.row_of built_ins.caret_commands (chars name.now) }
     {
-        if is_word("insert-text", name) {
-            return Some(CaretCommand::InsertText);
-        }
-        if is_word("remove-text", name) {
-            return Some(CaretCommand::RemoveText);
-        }
-        if is_word("insert-paragraph", name) {
-            return Some(CaretCommand::InsertParagraph);
-        }
-        if is_word("insert-line-break", name) {
-            return Some(CaretCommand::InsertLineBreak);
-        }
-        if is_word("insert-tab", name) {
-            return Some(CaretCommand::InsertTab);
-        }
-        if is_word("delete-character", name) {
-            return Some(CaretCommand::DeleteCharacter);
-        }
-        if is_word("delete-word", name) {
-            return Some(CaretCommand::DeleteWord);
-        }
-        if is_word("format-text", name) {
-            return Some(CaretCommand::FormatText);
-        }
-        if is_word("select-all", name) {
-            return Some(CaretCommand::SelectAll);
-        }
-        if is_word("cut", name) {
-            return Some(CaretCommand::RemoveText);
-        }
-        if is_word("paste", name) {
-            return Some(CaretCommand::Paste);
-        }
-        None
+        row_of(&CARET_COMMANDS, name)
     }
 }
 
 impl ListCommand {
-    ghost use Rattle.lx_step.specs.BuiltIns.{row_of, list_commands};
-
     fn named(name: &str) -> Option<ListCommand>
-        ensures { result ≡ row_of list_commands (chars name.now) }
+        ensures { result ≡ built_ins.row_of built_ins.list_commands (chars name.now) }
     {
-        if is_word("make-list", name) {
-            return Some(ListCommand::MakeList);
-        }
-        if is_word("remove-list", name) {
-            return Some(ListCommand::RemoveList);
-        }
-        if is_word("indent", name) {
-            return Some(ListCommand::Indent);
-        }
-        if is_word("outdent", name) {
-            return Some(ListCommand::Outdent);
-        }
-        if is_word("toggle-checked", name) {
-            return Some(ListCommand::ToggleChecked);
-        }
-        None
+        row_of(&LIST_COMMANDS, name)
     }
 }
 
 impl TableCommand {
-    ghost use Rattle.lx_step.specs.BuiltIns.{row_of, table_commands};
-
     fn named(name: &str) -> Option<TableCommand>
-        ensures { result ≡ row_of table_commands (chars name.now) }
+        ensures { result ≡ built_ins.row_of built_ins.table_commands (chars name.now) }
     {
-        if is_word("insert-table", name) {
-            return Some(TableCommand::InsertTable);
-        }
-        if is_word("insert-row", name) {
-            return Some(TableCommand::InsertRow);
-        }
-        if is_word("insert-column", name) {
-            return Some(TableCommand::InsertColumn);
-        }
-        if is_word("delete-row", name) {
-            return Some(TableCommand::DeleteRow);
-        }
-        if is_word("delete-column", name) {
-            return Some(TableCommand::DeleteColumn);
-        }
-        if is_word("merge-cells", name) {
-            return Some(TableCommand::MergeCells);
-        }
-        if is_word("unmerge", name) {
-            return Some(TableCommand::Unmerge);
-        }
-        None
+        row_of(&TABLE_COMMANDS, name)
     }
+}
+
+/// What a table of names says of a name.
+pub fn row_of<T: Copy>(rows: &[(&str, T)], name: &str) -> Option<T>
+    ensures { result ≡ built_ins.row_of (map (λ row. (chars row.0.now, row.1)) rows.now) (chars name.now) }
+{
+    'rows: for (word, meaning) in rows {
+        if is_word(word, name) {
+            return Some(*meaning);
+        }
+    }
+    None
 }
 
 fn is_word(word: &str, name: &str) -> bool

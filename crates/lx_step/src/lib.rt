@@ -6,30 +6,20 @@
 
 mod built_in;
 mod command;
-mod conditions;
 mod line;
 mod listener;
 mod member;
-mod members;
-mod offsets;
 mod patch;
 mod reference;
-mod references;
 mod rule;
-mod self_edits;
 mod step;
 
 pub use built_in::{BuiltIn, CaretCommand, ListCommand, TableCommand, Turn};
 pub use command::{Command, Payload};
-pub use conditions::Conditions;
 pub use line::{Form, Line, Shown, Tags};
 pub use listener::{Listener, When};
-pub use member::Member;
-pub use members::Members;
-pub use offsets::Offsets;
+pub use member::{Member, Members};
 pub use patch::Patch;
-pub use reference::{PointRef, Reference, SelectionRef};
-pub use references::References;
-pub use rule::{Condition, NewNode, Rule, SelfEdit, TypeRow};
-pub use self_edits::SelfEdits;
-pub use step::{Step, Steps};
+pub use reference::{PointRef, Reference, References, SelectionRef};
+pub use rule::{Condition, Conditions, NewNode, Rule, SelfEdit, SelfEdits, TypeRow};
+pub use step::{Offsets, Step, Steps};

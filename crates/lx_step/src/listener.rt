@@ -1,8 +1,7 @@
 ghost use Rattle.std.specs.Prelude.{◌≡◌, IfOk};
 
-use crate::member::copy_optional;
 use crate::step::Steps;
-use lx_node::{NoMemory, Txt};
+use lx_node::{NoMemory, Txt, copy_optional};
 use std::alloc::Global;
 
 /// What has to hold for a listener to run its steps: each of these that it has. A word that names no kind of selection,

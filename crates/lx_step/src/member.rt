@@ -1,7 +1,7 @@
 ghost use Rattle.std.specs.Prelude.{◌≡◌, IfOk};
 ghost use Rattle.lx_step.specs.Patches as patches;
 
-use lx_node::{Align, Direction, Kind, Mode, NoMemory, Txt};
+use lx_node::{Align, Copied, Direction, Kind, Mode, NoMemory, Sequence, Txt, copy_optional};
 use std::alloc::Global;
 
 /// A member of a node's fields, with the value that it is to get. Which kinds have which members:
@@ -40,21 +40,12 @@ pub enum Member {
     Other(Txt),
 }
 
-/// The same text, where there is one.
-pub(crate) fn copy_optional(alloc: Global, text: &Option<Txt>) -> Result<Option<Txt>, NoMemory>
-    ensures { IfOk result (λ made. made ≡ text.now) }
-{
-    match text {
-        None => Ok(None),
-        Some(text) => Ok(Some(text.copy(alloc)?)),
-    }
-}
+/// A list of members.
+pub type Members = Sequence<Member>;
 
-impl Member {
+impl Copied for Member {
     /// An equal member. It takes memory for its text, where it has one.
-    pub fn copy(&self, alloc: Global) -> Result<Member, NoMemory>
-        ensures { IfOk result (λ made. made ≡ self.now) }
-    {
+    fn copy(&self, alloc: Global) -> Result<Member, NoMemory> {
         match self {
             Member::Direction(new) => Ok(Member::Direction(*new)),
             Member::Align(new) => Ok(Member::Align(*new)),
@@ -80,7 +71,9 @@ impl Member {
             Member::Other(name) => Ok(Member::Other(name.copy(alloc)?)),
         }
     }
+}
 
+impl Member {
     /// Whether the member can be set on nodes of the kind.
     #[tactic(auto, unfolding(crate::specs::Patches::has, lx_node::specs::Kinds::is_text, lx_node::specs::Kinds::is_embed, lx_node::specs::Kinds::is_list, lx_node::specs::Kinds::is_item, lx_node::specs::Kinds::is_link, lx_node::specs::Kinds::is_cell))]
     pub fn is_of(&self, kind: Kind) -> bool

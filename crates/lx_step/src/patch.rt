@@ -4,9 +4,10 @@ ghost use Rattle.lx_node.specs.OfKind.{IsOfKind};
 ghost use Rattle.lx_step.specs.Patches as patches;
 ghost use Rattle.lx_step.specs.Patches.{patched, RefusesKind, IsInRange};
 
-use crate::member::{Member, copy_optional};
-use crate::members::Members;
-use lx_node::{Cause, ElementFields, Extra, Fault, Fields, Kind, NoMemory, TextFields, Txt};
+use crate::member::{Member, Members};
+use lx_node::{
+    Cause, ElementFields, Extra, Fault, Fields, Kind, NoMemory, TextFields, Txt, copy_optional,
+};
 use std::alloc::Global;
 
 /// Members that are written into a node's fields in their order, so that of two that are alike the later

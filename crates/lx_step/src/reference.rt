@@ -1,7 +1,6 @@
 ghost use Rattle.std.specs.Prelude.{◌≡◌, IfOk};
 
-use crate::references::References;
-use lx_node::{Key, NoMemory, PointKind, Txt};
+use lx_node::{Copied, Key, NoMemory, PointKind, Sequence, Txt};
 use std::alloc::Global;
 
 /// How a step names a node.
@@ -17,6 +16,9 @@ pub enum Reference {
     /// The node to which an earlier step of the line gave the name.
     Name(Txt),
 }
+
+/// A list of references.
+pub type References = Sequence<Reference>;
 
 /// How a step names a point: a node, an offset in it (in UTF-16 code units of a text, or in children of an
 /// element), and which of the two the offset counts.
@@ -45,11 +47,9 @@ pub enum SelectionRef {
     },
 }
 
-impl Reference {
+impl Copied for Reference {
     /// An equal reference. It takes memory for its name, where it is one.
-    pub fn copy(&self, alloc: Global) -> Result<Reference, NoMemory>
-        ensures { IfOk result (λ made. made ≡ self.now) }
-    {
+    fn copy(&self, alloc: Global) -> Result<Reference, NoMemory> {
         match self {
             Reference::Key(key) => Ok(Reference::Key(*key)),
             Reference::Anchor => Ok(Reference::Anchor),

@@ -1,9 +1,7 @@
 ghost use Rattle.std.specs.Prelude.{◌≡◌, IfOk};
 
-use crate::conditions::Conditions;
 use crate::patch::Patch;
-use crate::self_edits::SelfEdits;
-use lx_node::{Fields, Kind, NoMemory, Txt};
+use lx_node::{Copied, Fields, Kind, NoMemory, Sequence, Txt};
 use std::alloc::Global;
 
 /// A type of nodes, by its row in the table of kinds, from 0 to 14: root, paragraph, heading, quote, list, item, link,
@@ -68,6 +66,9 @@ pub enum Condition {
     Childless,
 }
 
+/// A list of conditions.
+pub type Conditions = Sequence<Condition>;
+
 /// A node that an edit of a rule makes.
 #[derive(Debug, Drop)]
 pub struct NewNode {
@@ -100,6 +101,9 @@ pub enum SelfEdit {
     MergeNext,
 }
 
+/// A list of edits.
+pub type SelfEdits = Sequence<SelfEdit>;
+
 impl NewNode {
     /// An equal one. It takes memory for the texts in its fields.
     pub fn copy(&self, alloc: Global) -> Result<NewNode, NoMemory>
@@ -112,11 +116,9 @@ impl NewNode {
     }
 }
 
-impl SelfEdit {
+impl Copied for SelfEdit {
     /// An equal edit. It takes memory for the texts in it, and for the list of members of a patch.
-    pub fn copy(&self, alloc: Global) -> Result<SelfEdit, NoMemory>
-        ensures { IfOk result (λ made. made ≡ self.now) }
-    {
+    fn copy(&self, alloc: Global) -> Result<SelfEdit, NoMemory> {
         match self {
             SelfEdit::Set(patch) => Ok(SelfEdit::Set(patch.copy(alloc)?)),
             SelfEdit::Add(text) => Ok(SelfEdit::Add(text.copy(alloc)?)),

@@ -1,13 +1,14 @@
 ghost use Rattle.std.specs.Prelude.{◌≡◌, IfOk};
 
 use crate::command::Command;
-use crate::member::copy_optional;
-use crate::offsets::Offsets;
 use crate::patch::Patch;
 use crate::reference::{Reference, SelectionRef};
-use lx_node::{Fields, Kind, NoMemory, Txt};
+use lx_node::{Copied, Fields, Kind, NoMemory, Sequence, Txt, copy_optional};
 use std::alloc::Global;
 use std::marker::Model;
+
+/// A list of offsets in a text.
+pub type Offsets = Sequence<u64>;
 
 /// One step of a script.
 #[cycle(step)]
@@ -73,7 +74,7 @@ pub enum Step {
     Later(Steps),
 }
 
-/// A list of steps.
+/// A list of steps. It isn't a `Sequence`, since a step may hold such a list: contracts see it as a script.
 #[cycle(step)]
 #[derive(Debug, Drop)]
 pub struct Steps {
@@ -175,7 +176,7 @@ impl Step {
                 name,
             } => Ok(Step::Split {
                 node: node.copy(alloc)?,
-                offsets: offsets.copy(alloc)?,
+                offsets: Offsets::of(Vec::from_slice(alloc, offsets.items())?),
                 name: copy_optional(alloc, name)?,
             }),
             Step::Join { node, with } => Ok(Step::Join {

@@ -1,7 +1,7 @@
 //! Host trees: changes one after another, which of them fit, what is looked up, and copies.
 
 use lx_host::{Attrs, HostTree, Inner, Name, Op, Ops, Tag};
-use lx_node::{Key, NoMemory, Txt};
+use lx_node::{Copied, Key, NoMemory, Txt};
 use std::alloc::Global;
 use std::test::Fail;
 
