@@ -26,6 +26,7 @@ use Rattle.lx_trees.proofs.Lookups.{is_among-children_of, parent_of-take_out, ch
 use Rattle.lx_trees.proofs.Order.{IsOrdered-with_new, IsOrdered-without}
 use Rattle.lx_trees.proofs.Records.{record_at-with_new, record_at-without, is_some-record_at}
 use Rattle.lx_trees.proofs.Within.{is_within-self, is_within-up, is_within-top, is_within-parent}
+use Rattle.lx_joints.proofs.Stands as joints
 use Rattle.lx_host.specs.declared.tag.Name.{Name}
 use Rattle.lx_host.specs.declared.linked.Linked.{Linked}
 use Rattle.lx_host.specs.Stands.{record_of, linked_of, Stands}
@@ -56,23 +57,9 @@ last_new : (id : ℕ) (face : Face) (f : Trees Host) → ((q : ℕ) → id < q +
 unfolding with_new
 last_new id face f above = among_roots-last id_of id (one_host id face) f above
 
-inserted_record : (id q : ℕ) (face : Face) (o : Option Linked) (r : Option (Record Host)) → option_map (record_of q) o ≡ r
-    → option_map (record_of q) (cond (nat_eq id q) (Some (lone_host face)) o) ≡ cond (eqb q id) (Some (lone (record { id = id; face = face }))) r
-inserted_record id q face o r e = elim (eqb_tells q id) [
-  | inl here ↦ grind (arith, here, eqb_tells id q)
-  | inr other ↦ grind (arith, other, e, eqb_tells id q)
-]
-
-is_some-copied : (o : Option (Bor Linked)) → is_some (option_copied o) ≡ is_some o
-is_some-copied None = refl
-is_some-copied (Some n) = refl
-
-pub is_some-map : {A B : Type 0} (g : A → B) (o : Option A) → is_some (option_map g o) ≡ is_some o
-is_some-map g None = refl
-is_some-map g (Some x) = refl
-
-pub is_some_in : (o : Option (Bor Linked)) (f : Trees Host) (q : ℕ) → option_copied o ≡ option_map linked_of (record_at id_of f q) → is_some o ≡ has q f
-is_some_in o f q e = sym (is_some-copied o) ∙ ap is_some e ∙ is_some-map linked_of (record_at id_of f q) ∙ is_some-record_at id_of f q
+-- the same test, of the other from the one
+turned : (k q : ℕ) (x o : Option Linked) → cond (nat_eq k q) x o ≡ cond (eqb q k) x o
+turned k q x o = ap (λ b. cond b x o) (grind (arith, eqb_tells k q, eqb_tells q k))
 
 gone_record : (k q : ℕ) (f : Trees Host) (o : Option Linked) → IsOrdered id_of f → children_of id_of f k ≡ [] → option_map (record_of q) o ≡ record_at id_of f q
     → option_map (record_of q) (cond (nat_eq k q) None o) ≡ cond (is_within id_of f k q) None (record_at id_of f q)
@@ -91,12 +78,9 @@ module _ {S : Type 0} where
   created_stands old new f id face s above below put =
       let l : Host = record { id = id; face = face } in
       let free : has id f ≡ false = grind (arith, above id) in
-      let made : Stands new (with_new id_of l f) = record {
-        in_order = IsOrdered-with_new id_of l f s.in_order free;
-        same = λ q. ap (option_map (record_of q)) (put q) ∙ inserted_record id q face (get nat_eq old q) (record_at id_of f q) (s.same q)
-            ∙ sym (record_at-with_new id_of l f q s.in_order free);
-        small = omega (arith, total-with_new id_of l f, total-numbered id_of id f s.in_order above, below);
-      } in
+      let made : Stands new (with_new id_of l f) =
+      joints.new_stands id_of record_of (get nat_eq old) (get nat_eq new) f l (lone_host face) s free
+      (omega (arith, total-numbered id_of id f s.in_order above, below)) refl (λ q. put q ∙ turned id q (Some (lone_host face)) (get nat_eq old q)) in
       subst (Stands new) (last_new id face f above) made
 
   pub gone_stands : (old new : HashMap ℕ Linked S) (f : Trees Host) (k : ℕ) → Stands old f → k ≢ 0 → parent_of id_of f k ≡ None → children_of id_of f k ≡ []
@@ -195,25 +179,6 @@ not_root f q p h up e = none_some (parent_of id_of f q) (ap (parent_of id_of f) 
 pub none_within : (f : Trees Host) (k q : ℕ) → IsOrdered id_of f → is_within id_of f k q ≡ true → q ≢ k → parent_of id_of f q ≡ None → ⊥
 none_within f k q h inside other top = grind (arith, inside, not_top f k q h other top)
 
--- host 0 alone
-root_record : (q : ℕ) (o : Option Linked) → o ≡ None
-    → option_map (record_of q) (cond (nat_eq 0 q) (Some (lone_host root_face)) o) ≡ record_at id_of (one_host 0 root_face) q
-root_record q o none = rw none (by (eqb 0 q) refl) where
-  by : (b : Bool) → eqb 0 q ≡ b → option_map (record_of q) (cond (nat_eq 0 q) (Some (lone_host root_face)) None) ≡ record_at id_of (one_host 0 root_face) q
-  by true e =
-      let own : 0 ≡ q = grind (arith, e, eqb_tells 0 q) in
-      let P : ℕ → Type 0 = λ x. option_map (record_of x) (cond (nat_eq 0 x) (Some (lone_host root_face)) None) ≡ record_at id_of (one_host 0 root_face) x in
-      subst P own refl
-  by false e = rw e refl
-
-root_stands : {S : Type 0} (new : HashMap ℕ Linked S) (n : Linked) → n ≡ lone_host root_face → ((q : ℕ) → get nat_eq new q ≡ cond (nat_eq 0 q) (Some n) None)
-    → Stands new (one_host 0 root_face)
-root_stands new n is put = record {
-  in_order = record { once = λ q. grind (arith, eqb_tells 0 q); rising = refl };
-  same = λ q. ap (option_map (record_of q)) (put q ∙ ap (λ m. cond (nat_eq 0 q) (Some m) None) is) ∙ root_record q None refl;
-  small = omega arith;
-}
-
 pub ok_was : {T E P : Type 0} (r : Result T E) (x : T) → r ≡ Ok x → OnOk r P → P
 ok_was (Ok y) x e p = p
 ok_was (Err z) x e p = cc
@@ -227,4 +192,6 @@ root_linked key attrs items k a i = let e : attrs ≡ [] = a ∙ i in rw (k, e) 
 
 pub made_root : {S : Type 0} (old new : HashMap ℕ Linked S) (n : Linked) → n ≡ lone_host root_face → old.entries ≡ []
     → ((q : ℕ) → get nat_eq new q ≡ cond (nat_eq 0 q) (Some n) (get nat_eq old q)) → Stands new (one_host 0 root_face)
-made_root old new n is empty put = root_stands new n is (λ q. put q ∙ ap (λ o. cond (nat_eq 0 q) (Some n) o) (none_in old q empty))
+made_root old new n is empty put =
+    joints.root_stands id_of record_of (get nat_eq new) (record { id = 0; face = root_face }) n refl (ap (record_of 0) is)
+    (λ q. put q ∙ turned 0 q (Some n) (get nat_eq old q) ∙ ap (cond (eqb q 0) (Some n)) (none_in old q empty))

@@ -9,7 +9,7 @@ use Rattle.lx_trees.specs.Siblings.{is_among}
 use Rattle.lx_host.specs.Hosts.{Host, id_of, has}
 use Rattle.lx_host.specs.Stands.{record_of, Stands}
 use Rattle.lx_host.specs.declared.linked.Linked.{Linked}
-use Rattle.lx_host.proofs.Changed.{is_some-map}
+use Rattle.lx_joints.proofs.Stands.{is_some-map}
 use Rattle.lx_trees.proofs.Records.{is_some-record_at}
 
 is_among-keys : (q : ℕ) (es : List (ℕ × Linked)) → is_among q (keys_of es) ≡ is_some (lookup (nat_eq q) es)

@@ -1,13 +1,13 @@
 //! The hosts, by id. It knows no operation, no next id and no table of keys.
 
 use crate::copying::copy_hosts;
-use crate::joints::{Gap, link_in, unlink};
-use crate::linked::{Change, Face, Linked, change_host, write_attribute};
+use crate::linked::{Change, Face, Hosts, Linked, change_host, write_attribute};
 use crate::op::Attrs;
 use crate::page::Page;
 use crate::stock::Stock;
 use crate::tag::{Name, Tag};
 use indexmap::IndexMap;
+use lx_joints::{Gap, link_in, unlink};
 use lx_node::{Key, NoMemory, Txt};
 use std::alloc::Global;
 use std::marker::Model;
@@ -319,7 +319,7 @@ impl Grove {
             prev: host.prev,
             next: host.next,
         };
-        unlink(&mut self.table, id, parent, &gap);
+        let Ok(()) = unlink::<Hosts>(&mut self.table, id, parent, &gap);
     }
 
     /// The gap before that child of the parent, or at the end.
@@ -348,7 +348,7 @@ impl Grove {
         ensures room { self.new.room ≡ self.old.room }
     {
         let gap = self.gap(parent, before);
-        link_in(&mut self.table, id, parent, &gap);
+        let Ok(()) = link_in::<Hosts>(&mut self.table, id, parent, &gap);
     }
 
     /// Places a host, with all below it, among the children of a parent. The room stays.
@@ -392,7 +392,7 @@ impl Grove {
         ensures changed { self.new.hosts ≡ changed id (with_text text) self.old.hosts }
         ensures room { self.new.room ≡ self.old.room }
     {
-        change_host(&mut self.table, Some(id), Change::Text(text));
+        change_host(&mut self.table, id, Change::Text(text));
     }
 
     /// Has a line break end a host, or none. The room stays.
@@ -400,7 +400,7 @@ impl Grove {
         ensures changed { self.new.hosts ≡ changed id (with_ending ending) self.old.hosts }
         ensures room { self.new.room ≡ self.old.room }
     {
-        change_host(&mut self.table, Some(id), Change::Break(ending));
+        change_host(&mut self.table, id, Change::Break(ending));
     }
 
     /// Gives an attribute of a host this value, or takes it away. The room stays, and a value takes a vector of the

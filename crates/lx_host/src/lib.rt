@@ -10,7 +10,6 @@
 
 mod copying;
 mod grove;
-mod joints;
 mod keys;
 mod linked;
 mod op;

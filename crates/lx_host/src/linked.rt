@@ -1,17 +1,19 @@
 //! The table of hosts by their ids, and what an edit changes in one of them, in its place. The room stays.
 
-ghost use Rattle.std.specs.Prelude.{◌≡◌, ℕ, nat_eq, true, None, Some};
+ghost use Rattle.std.specs.Prelude.{◌≡◌, nat_eq, true};
 ghost use Rattle.indexmap.specs.IndexMap.{spare, get};
-ghost use Rattle.lx_trees.specs.Siblings.{is_named};
-ghost use Rattle.lx_host.specs.declared.linked.Linked.{Linked};
-ghost use Rattle.lx_host.specs.Links.{changed, Fits, Differs};
+ghost use Rattle.lx_joints.specs.Changes.{Differs};
+ghost use Rattle.lx_host.specs.Links.{changed};
 
 use crate::op::{Attrs, copy_text};
 use crate::stock::Stock;
 use crate::tag::{Name, Tag};
 use indexmap::IndexMap;
+use lx_joints as joints;
+use lx_joints::{Keeper, Links};
 use lx_node::{Key, NoMemory, Txt};
 use std::alloc::Global;
+use std::convert::Infallible;
 
 /// What a host shows, beside its children: a node's key, an element with its attributes, a text or none, and whether
 /// a line break ends it.
@@ -64,81 +66,97 @@ impl Linked {
     }
 }
 
-/// What of one host an edit changes.
+impl Linked {
+    ghost use Rattle.lx_joints.specs.Changes.{changed as relinked, Fits};
+    ghost use Rattle.lx_host.specs.Links.{links_of, with_links};
+
+    /// Makes a change of the host's links.
+    fn relink(&mut self, change: joints::Change)
+        requires { Fits change (links_of self.old) }
+        ensures { self.new ≡ with_links (relinked change true (links_of self.old)) self.old }
+    {
+        let mut links = Links {
+            parent: self.parent,
+            prev: self.prev,
+            next: self.next,
+            first: self.first,
+            last: self.last,
+            size: self.size,
+        };
+        links.change(change);
+        self.parent = links.parent;
+        self.prev = links.prev;
+        self.next = links.next;
+        self.first = links.first;
+        self.last = links.last;
+        self.size = links.size;
+    }
+}
+
+/// The table of hosts, as one whose entries have links. It never wants memory for a change of them.
+pub struct Hosts;
+
+impl Keeper for Hosts {
+    ghost use Rattle.std.specs.Prelude.{nat_eq, refl};
+    ghost use Rattle.indexmap.specs.IndexMap.{get, spare};
+    ghost use Rattle.lx_host.specs.Links.{links_of, with_links};
+
+    type Table = IndexMap<u32, Linked>;
+
+    type Entry = Linked;
+
+    type Error = Infallible;
+
+    ghost at = { get nat_eq };
+
+    ghost room = { spare };
+
+    ghost links = { links_of };
+
+    ghost relinked = { with_links };
+
+    fn change(
+        table: &mut IndexMap<u32, Linked>,
+        name: u32,
+        change: joints::Change,
+    ) -> Result<(), Infallible> {
+        if let Some(host) = table.get_mut(&name) {
+            host.relink(change);
+        }
+        Ok(())
+    }
+
+    ghost given = { λ l e. refl };
+
+    ghost again = { λ l m e. refl };
+
+    ghost own = { λ e. refl };
+}
+
+/// What of what one host shows an edit changes.
 #[derive(Drop)]
 pub enum Change {
     /// It shows this text.
     Text(Txt),
     /// A line break ends it, or none does.
     Break(bool),
-    /// This one comes right after it.
-    Next(Option<u32>),
-    /// This one comes right before it.
-    Prev(Option<u32>),
-    /// It goes below a parent, or below none, between these neighbours.
-    Place {
-        parent: Option<u32>,
-        prev: Option<u32>,
-        next: Option<u32>,
-    },
-    /// A child that came between these has left it.
-    Left {
-        prev: Option<u32>,
-        next: Option<u32>,
-    },
-    /// This child has come below it, between these.
-    Joined {
-        id: u32,
-        behind: Option<u32>,
-        before: Option<u32>,
-    },
 }
 
 /// Changes a host.
 fn apply(change: Change, host: &mut Linked)
-    requires { Fits change host.old }
     ensures { host.new ≡ changed change true host.old }
 {
     match change {
         Change::Text(text) => host.text = Some(text),
         Change::Break(ending) => host.ending = ending,
-        Change::Next(next) => host.next = next,
-        Change::Prev(prev) => host.prev = prev,
-        Change::Place { parent, prev, next } => {
-            host.parent = parent;
-            host.prev = prev;
-            host.next = next;
-        }
-        Change::Left { prev, next } => {
-            if prev.is_none() {
-                host.first = next;
-            }
-            if next.is_none() {
-                host.last = prev;
-            }
-            host.size = host.size.saturating_sub(1);
-        }
-        Change::Joined { id, behind, before } => {
-            if behind.is_none() {
-                host.first = Some(id);
-            }
-            if before.is_none() {
-                host.last = Some(id);
-            }
-            host.size += 1;
-        }
     }
 }
 
-/// Changes the host of an id in place, where one is given and there is one. The room stays.
-pub fn change_host(table: &mut IndexMap<u32, Linked>, at: Option<u32>, change: Change)
-    requires { (k : ℕ) (n : Linked) → at ≡ Some k → get nat_eq table.old k ≡ Some n → Fits change n }
-    ensures differs { Differs (λ q. changed change (is_named at q)) table.old table.new }
+/// Changes what the host of an id shows in place, where there is one. The room stays.
+pub fn change_host(table: &mut IndexMap<u32, Linked>, id: u32, change: Change)
+    ensures differs { Differs (λ q. changed change (q == id)) (get nat_eq table.old) (get nat_eq table.new) }
     ensures room { spare table.new ≡ spare table.old }
 {
-    let Some(id) = at else {
-        return;
-    };
     if let Some(host) = table.get_mut(&id) {
         apply(change, host);
     }
@@ -158,7 +176,7 @@ pub fn write_attribute(
     value: Option<Txt>,
 )
     requires { one_for value ≤ stock.old }
-    ensures differs { Differs (λ q. attributed name value (q == id)) table.old table.new }
+    ensures differs { Differs (λ q. attributed name value (q == id)) (get nat_eq table.old) (get nat_eq table.new) }
     ensures room { spare table.new ≡ spare table.old }
     ensures left { stock.old ≤ stock.new + one_for value }
 {

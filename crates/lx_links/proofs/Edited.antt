@@ -21,7 +21,6 @@ use Rattle.lx_forest.specs.Records as recs
 use Rattle.lx_forest.proofs.Records.{record_at-with_new, record_at-with_fields, record_at-take_out, is_some-record_at}
 use Rattle.lx_forest.proofs.Edits.{total-with_new, total-with_fields, total-take_out}
 use Rattle.lx_forest.proofs.Order.{IsForest-with_new, IsForest-with_fields, IsForest-take_out}
-use Rattle.lx_links.specs.declared.changes.Change.TheVariants.{Content}
 use Rattle.lx_node.specs.Kinds.{may_hold}
 use Rattle.lx_node.specs.OfKind.{IsOfKind}
 use Rattle.lx_node.specs.Plain.{plain_element}
@@ -29,10 +28,12 @@ use Rattle.lx_forest.proofs.Held.{IsHeld-root_alone, IsHeld-with_new, IsHeld-wit
 use Rattle.lx_forest.proofs.Suited.{IsSuited-root_alone, IsSuited-with_new, IsSuited-with_fields, IsSuited-take_out}
 use Rattle.lx_links.specs.Faults.{set_fault}
 use Rattle.lx_links.specs.Stands.{Nodes, Holds, node_of, record_of, records, lone_node}
-use Rattle.lx_links.specs.Changes.{node_after, Differs, node_unlinked}
+use Rattle.lx_joints.specs.Changes.{Differs, on_links, unlinked}
+use Rattle.lx_joints.proofs.Stands as joints
+use Rattle.lx_links.specs.Changes.{links_of, with_links, with_content}
 use Rattle.lx_links.proofs.Maps.{insert_at, remove_at}
 use Rattle.lx_links.proofs.Seen.{is_some-map}
-use Rattle.lx_links.proofs.Stood.{get_stands}
+use Rattle.lx_links.proofs.Stood.{are, rooted, get_stands}
 
 -- ---- a map has at most as many keys as the forest has nodes
 
@@ -97,23 +98,11 @@ all_in m f s =
 
 -- ---- links of the root alone
 
-other_root : (q : ℕ) → eqb 0 q ≡ false → record_at root_alone q ≡ None
-other_root q e = ap (λ b. option_map (linked (siblings root_alone q) q) (cond b (Some (record { label = root_label; parent = None; children = [] })) None)) e
-
 pub root_stands : StandsFor (records (insert empty 0 (lone_node Root plain_element))) root_alone
-root_stands = record {
-  in_order = record { once = λ q. grind (arith, eqb_tells 0 q); rising = refl; root = refl };
-  same = λ q. ap (option_map (record_of q))
-      (insert_at empty 0 (lone_node Root plain_element) q ∙ ap (cond (eqb q 0) (Some (lone_node Root plain_element))) (get-empty nat_cmp q))
-      ∙ elim (eqb_tells q 0) [
-        | inl here ↦ let P : ℕ → Type 0 =
-            λ x. option_map (record_of x) (cond (eqb x 0) (Some (lone_node Root plain_element)) None) ≡ record_at root_alone x in subst P (sym here.1) refl
-        | inr other ↦
-            ap (λ b. option_map (record_of q) (cond b (Some (lone_node Root plain_element)) None)) other.0
-            ∙ sym (other_root q (grind (arith, other, eqb_tells 0 q)))
-      ];
-  small = omega arith;
-}
+root_stands =
+    let alone = joints.root_stands key_of record_of (get (insert empty 0 (lone_node Root plain_element))) root_label (lone_node Root plain_element) refl refl
+    (λ q. insert_at empty 0 (lone_node Root plain_element) q ∙ ap (cond (eqb q 0) (Some (lone_node Root plain_element))) (get-empty nat_cmp q)) in
+    record { in_order = record { once = alone.in_order.once; rising = alone.in_order.rising; root = refl }; same = alone.same; small = alone.small }
 
 pub new_records : (start new : Nodes) (k : ℕ) (n : Node) (fields : Fields) → start ≡ empty → k ≡ 0 → n ≡ lone_node Root fields → fields ≡ plain_element
     → new ≡ insert start k n → StandsFor (records new) root_alone
@@ -124,71 +113,31 @@ new_records start new k n fields empty_is root node plain put =
 
 -- ---- edits
 
--- the record of a key whose node is seen
-pub record_by : (m : Nodes) (f : Forest) (k : ℕ) (n : Node) → StandsFor (records m) f → Some n ≡ option_map node_of (record_at f k)
-    → record_at f k ≡ Some (record_of k n)
-record_by m f k n s e = sym (s.same k) ∙ ap (option_map (record_of k)) (get_stands m f k s ∙ sym e)
-
-mapped_over : (change : ℕ → Node → Node) (law : ℕ → Record → Record) (q : ℕ) (o : Option Node) → ((n : Node) → record_of q (change q n) ≡ law q (record_of q n))
-    → option_map (record_of q) (option_map (change q) o) ≡ option_map (law q) (option_map (record_of q) o)
-mapped_over change law q None h = refl
-mapped_over change law q (Some n) h = ap (λ r. Some r) (h n)
-
--- what changes in each node changes in its record
-pub records_after : (old new : Nodes) (f : Forest) (change : ℕ → Node → Node) (law : ℕ → Record → Record) (q : ℕ) → StandsFor (records old) f
-    → Differs change old new → ((n : Node) → record_of q (change q n) ≡ law q (record_of q n)) → records new q ≡ option_map (law q) (record_at f q)
-records_after old new f change law q s d h =
-    ap (option_map (record_of q)) (d.each q) ∙ mapped_over change law q (get old q) h ∙ ap (option_map (law q)) (s.same q)
-
-inserted_record : (k q : ℕ) (kind : Kind) (fields : Fields) (o : Option Node) (r : Option Record) → option_map (record_of q) o ≡ r
-    → option_map (record_of q) (cond (eqb q k) (Some (lone_node kind fields)) o)
-    ≡ cond (eqb q k) (Some (lone (record { key = k; kind = kind; fields = fields }))) r
-inserted_record k q kind fields o r e = elim (eqb_tells q k) [
-  | inl here ↦ ap (λ b. option_map (record_of q) (cond b (Some (lone_node kind fields)) o)) here.0
-      ∙ ap (λ x. Some (record_of x (lone_node kind fields))) here.1
-      ∙ sym (ap (λ b. cond b (Some (lone (record { key = k; kind = kind; fields = fields }))) r) here.0)
-  | inr other ↦ ap (λ b. option_map (record_of q) (cond b (Some (lone_node kind fields)) o)) other.0 ∙ e
-      ∙ sym (ap (λ b. cond b (Some (lone (record { key = k; kind = kind; fields = fields }))) r) other.0)
-]
-
 pub inserted_stands : (m : Nodes) (f : Forest) (k : ℕ) (kind : Kind) (fields : Fields) → StandsFor (records m) f → has k f ≡ false → total f < 4294967295
     → StandsFor (records (insert m k (lone_node kind fields))) (with_new (record { key = k; kind = kind; fields = fields }) f)
+unfolding with_new
 inserted_stands m f k kind fields s free room =
     let l : Label = record { key = k; kind = kind; fields = fields } in
-    record {
-      in_order = IsForest-with_new l f s.in_order free;
-      same = λ q. ap (option_map (record_of q)) (insert_at m k (lone_node kind fields) q) ∙ inserted_record k q kind fields (get m q) (record_at f q) (s.same q)
-          ∙ sym (record_at-with_new l f q s.in_order free);
-      small = omega (arith, total-with_new l f, room);
-    }
+    let made = joints.new_stands key_of record_of (get m) (get (insert m k (lone_node kind fields))) f l (lone_node kind fields) (rooted m f s) free
+    (omega (arith, room)) refl (insert_at m k (lone_node kind fields)) in
+    record { in_order = IsForest-with_new l f s.in_order free; same = made.same; small = made.small }
 
 pub set_records : (old new : Nodes) (f : Forest) (k : ℕ) (fields : Fields) → StandsFor (records old) f
-    → Differs (λ q. node_after (Content fields) (is_named (Some k) q)) old new → StandsFor (records new) (with_fields k fields f)
+    → Differs (λ q. with_content fields (eqb q k)) (get old) (get new) → StandsFor (records new) (with_fields k fields f)
 set_records old new f k fields s d = record {
   in_order = IsForest-with_fields k fields f s.in_order;
-  same = λ q. records_after old new f (λ q. node_after (Content fields) (is_named (Some k) q)) (refielded k fields) q s d (λ n. refl)
+  same = λ q. joints.records_after key_of record_of (get old) (get new) f (λ q. with_content fields (eqb q k)) (refielded k fields) q (s.same q) d (λ n. refl)
       ∙ sym (record_at-with_fields k fields f q);
   small = omega (arith, total-with_fields k fields f, s.small);
 }
 
-same_unlinked : (k p q : ℕ) (n m : Node) → n.parent ≡ Some p
-    → record_of q (node_unlinked k p n.prev n.next q m) ≡ recs.unlinked k (record_of k n) q (record_of q m)
-same_unlinked k p q n m e =
-    let G : Option ℕ → Record = λ up. record (record_of q (node_unlinked k p n.prev n.next q m)) {
-      first = cond (is_named up q && is_none n.prev) n.next m.first;
-      last = cond (is_named up q && is_none n.next) n.prev m.last;
-      size = cond (is_named up q) (m.size - 1) m.size;
-    } in
-    ap G (sym e)
-
 pub taken_records : (old new : Nodes) (f : Forest) (k p : ℕ) (n : Node) → StandsFor (records old) f → Some n ≡ option_map node_of (record_at f k)
-    → n.parent ≡ Some p → Differs (node_unlinked k p n.prev n.next) old new → StandsFor (records new) (take_out k f)
-taken_records old new f k p n s e up d = record {
-  in_order = IsForest-take_out k f s.in_order;
-  same = λ q. records_after old new f (node_unlinked k p n.prev n.next) (recs.unlinked k (record_of k n)) q s d (λ m. same_unlinked k p q n m up)
-      ∙ sym (record_at-take_out k f (record_of k n) q s.in_order (record_by old f k n s e));
-  small = omega (arith, total-take_out k f, s.small);
-}
+    → n.parent ≡ Some p → Differs (on_links links_of with_links (unlinked k p n.prev n.next)) (get old) (get new) → StandsFor (records new) (take_out k f)
+unfolding take_out
+taken_records old new f k p n s e up d =
+    let taken = joints.taken_stands key_of record_of links_of with_links node_of are (get old) (get new) f k p n (rooted old f s)
+    (get_stands old f k s ∙ sym e) up d in
+    record { in_order = IsForest-take_out k f s.in_order; same = taken.same; small = taken.small }
 
 pub put_records : (old new : Nodes) (f : Forest) (k : ℕ) (kind : Kind) (fields : Fields) (n : Node) → StandsFor (records old) f → has k f ≡ false
     → total f < 4294967295 → n ≡ lone_node kind fields → new ≡ insert old k n
@@ -224,7 +173,7 @@ right_fields : (f : Forest) (k : ℕ) (fields : Fields) (kind : Kind) → set_fa
 right_fields f k fields kind none e = grind (arith, none, e)
 
 pub set_stands : (old new : Nodes) (f : Forest) (k : ℕ) (fields : Fields) → Holds old f → set_fault k fields f ≡ None
-    → Differs (λ q. node_after (Content fields) (is_named (Some k) q)) old new → Holds new (with_fields k fields f)
+    → Differs (λ q. with_content fields (eqb q k)) (get old) (get new) → Holds new (with_fields k fields f)
 set_stands old new f k fields h none d = record {
   stands = set_records old new f k fields h.stands d;
   held = IsHeld-with_fields may_hold f h.stands.in_order h.held k fields;
@@ -232,6 +181,6 @@ set_stands old new f k fields h none d = record {
 }
 
 pub taken_stands : (old new : Nodes) (f : Forest) (k p : ℕ) (n : Node) → Holds old f → Some n ≡ option_map node_of (record_at f k) → n.parent ≡ Some p
-    → Differs (node_unlinked k p n.prev n.next) old new → Holds new (take_out k f)
+    → Differs (on_links links_of with_links (unlinked k p n.prev n.next)) (get old) (get new) → Holds new (take_out k f)
 taken_stands old new f k p n h e up d =
     record { stands = taken_records old new f k p n h.stands e up d; held = IsHeld-take_out may_hold f h.stands.in_order h.held k; suited = IsSuited-take_out f k h.stands.in_order h.suited }

@@ -10,25 +10,21 @@ use Rattle.lx_node.specs.declared.node.Node.{Node}
 use Rattle.lx_node.specs.declared.cause.Cause.TheVariants.{UnknownNode, WrongKind, BadPlace}
 use Rattle.lx_node.specs.declared.cause.Named.TheVariants.{Key}
 use Rattle.lx_forest.specs.Forest.{Forest}
-use Rattle.lx_forest.specs.Lookups.{has, kind_of, parent_of, children_of, children_below, previous_of, holds}
+use Rattle.lx_forest.specs.Lookups.{key_of, has, kind_of, parent_of, children_of, children_below, previous_of, holds}
 use Rattle.lx_forest.specs.Edits.{put_in, CanPut}
-use Rattle.lx_forest.specs.Records.{StandsFor, record_at}
-use Rattle.lx_forest.specs.Records as recs
-use Rattle.lx_forest.proofs.Bounds.{size_of-lt}
-use Rattle.lx_forest.proofs.Edits.{total-put_in}
+use Rattle.lx_forest.specs.Records.{StandsFor}
 use Rattle.lx_forest.proofs.Lookups.{is_among-children_of}
 use Rattle.lx_forest.proofs.Order.{IsForest-put_in}
-use Rattle.lx_forest.proofs.Records.{record_at-put_in}
-use Rattle.lx_links.specs.Changes.{Differs, node_linked}
+use Rattle.lx_joints.specs.Changes.{Differs, on_links, linked_in}
+use Rattle.lx_joints.proofs.Stands as joints
+use Rattle.lx_links.specs.Changes.{links_of, with_links}
 use Rattle.lx_links.specs.Faults.{misfit, no_child, place_fault}
 use Rattle.lx_node.specs.Kinds.{may_hold}
 use Rattle.lx_node.specs.declared.kind.Kind.{Kind}
 use Rattle.lx_forest.proofs.Suited.{IsSuited-put_in}
 use Rattle.lx_forest.proofs.Held.{IsHeld-put_in}
-use Rattle.lx_links.specs.Stands.{Nodes, Holds, Sound, records}
-use Rattle.lx_links.proofs.Edited.{records_after}
-use Rattle.lx_links.proofs.Seen.{seen}
-use Rattle.lx_links.proofs.Stood.{get_stands}
+use Rattle.lx_links.specs.Stands.{Nodes, Holds, Sound, record_of, node_of, records}
+use Rattle.lx_links.proofs.Stood.{are, rooted}
 
 -- a child of a parent is a node whose parent that is
 pub child_named : (f : Forest) (q p : ℕ) → Sound f → is_among q (children_of f p) ≡ is_named (parent_of f q) p
@@ -103,22 +99,18 @@ placing p before k f e =
 
 pub room_below : (m : Nodes) (f : Forest) (p : ℕ) (before : Option ℕ) (k : ℕ) (n : Node) → StandsFor (records m) f → place_fault p before k f ≡ None
     → get m p ≡ Some n → n.size + 1 < 2 ^ 32
-room_below m f p before k n s none e =
-    let size = (seen f p n (sym e ∙ get_stands m f p s)).size in
-    omega (arith, size, size_of-lt p k f s.in_order (placing p before k f none).can, s.small)
+room_below m f p before k n s none there =
+    joints.room_below key_of record_of links_of with_links node_of are (get m) f p k n (rooted m f s) (placing p before k f none).can there
 
 pub placed_records : (old new : Nodes) (f : Forest) (p k : ℕ) (before prev next : Option ℕ) → StandsFor (records old) f → place_fault p before k f ≡ None
-    → prev ≡ place_behind before (children_of f p) → next ≡ before → Differs (node_linked k p prev next) old new → StandsFor (records new) (put_in p before k f)
+    → prev ≡ place_behind before (children_of f p) → next ≡ before
+    → Differs (on_links links_of with_links (linked_in k p prev next)) (get old) (get new) → StandsFor (records new) (put_in p before k f)
+unfolding put_in
 placed_records old new f p k before prev next s none behind is d =
     let h = placing p before k f none in
-    record {
-      in_order = IsForest-put_in p before k f s.in_order h.can;
-      same = λ q. records_after old new f (node_linked k p prev next) (recs.linked_in p prev next k) q s d (λ n. refl)
-          ∙ ap (λ o. option_map (recs.linked_in p o next k q) (record_at f q)) behind
-          ∙ ap (λ o. option_map (recs.linked_in p (place_behind before (children_of f p)) o k q) (record_at f q)) is
-          ∙ sym (record_at-put_in p before k f q s.in_order h.can h.place);
-      small = omega (arith, total-put_in p before k f s.in_order h.can.parent h.can.outside, s.small);
-    }
+    let made = joints.placed_stands key_of record_of links_of with_links node_of are (get old) (get new) f p k before prev next (rooted old f s) h.can h.place
+    behind is d in
+    record { in_order = IsForest-put_in p before k f s.in_order h.can; same = made.same; small = made.small }
 
 fitting : (o r : Option Kind) → misfit o r ≡ None → holds may_hold o r ≡ true
 fitting None r e = refl
@@ -133,7 +125,8 @@ pub place_room : (m : Nodes) (f : Forest) (p : ℕ) (before : Option ℕ) (k : �
 place_room m f p before k n h none e = room_below m f p before k n h.stands none e
 
 pub placed_stands : (old new : Nodes) (f : Forest) (p k : ℕ) (before prev next : Option ℕ) → Holds old f → place_fault p before k f ≡ None
-    → prev ≡ place_behind before (children_of f p) → next ≡ before → Differs (node_linked k p prev next) old new → Holds new (put_in p before k f)
+    → prev ≡ place_behind before (children_of f p) → next ≡ before
+    → Differs (on_links links_of with_links (linked_in k p prev next)) (get old) (get new) → Holds new (put_in p before k f)
 placed_stands old new f p k before prev next h none behind is d =
     let free = placing p before k f none in
     record {

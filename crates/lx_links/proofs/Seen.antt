@@ -5,10 +5,11 @@ use Rattle.lx_trees.specs.Spots.{Spot, parent_at, children_at}
 use Rattle.lx_trees.specs.Siblings.{first_of, last_of}
 use Rattle.lx_node.specs.declared.node.Node.{Node}
 use Rattle.lx_forest.specs.Forest.{Forest, Label}
-use Rattle.lx_forest.specs.Lookups.{spot, has, kind_of, fields_of, parent_of, children_of, size_of, previous_of, next_of, first_child, last_child, siblings}
+use Rattle.lx_forest.specs.Lookups.{key_of, spot, has, kind_of, fields_of, parent_of, children_of, size_of, previous_of, next_of, first_child, last_child, siblings}
 use Rattle.lx_forest.specs.Records.{record_at, linked}
-use Rattle.lx_forest.proofs.Records.{is_some-record_at}
 use Rattle.lx_forest.proofs.Edits.{is_some-spot}
+pub use Rattle.lx_joints.proofs.Stands.{is_some-map}
+use Rattle.lx_joints.proofs.Stands as stands
 use Rattle.lx_links.specs.Stands.{node_of}
 
 pub record Seen (f : Forest) (q : ℕ) (n : Node) : Type 0 where
@@ -57,16 +58,8 @@ seen f q n e =
 pub seen_in : (o : Option (Bor Node)) (n : Bor Node) (f : Forest) (q : ℕ) → option_copied o ≡ option_map node_of (record_at f q) → o ≡ Some n → Seen f q n.now
 seen_in o n f q e h = seen f q n.now (sym (ap option_copied h) ∙ e)
 
-is_some-copied : (o : Option (Bor Node)) → is_some (option_copied o) ≡ is_some o
-is_some-copied None = refl
-is_some-copied (Some n) = refl
-
-pub is_some-map : {A B : Type 0} (g : A → B) (o : Option A) → is_some (option_map g o) ≡ is_some o
-is_some-map g None = refl
-is_some-map g (Some x) = refl
-
 pub is_some_in : (o : Option (Bor Node)) (f : Forest) (q : ℕ) → option_copied o ≡ option_map node_of (record_at f q) → is_some o ≡ has q f
-is_some_in o f q e = sym (is_some-copied o) ∙ ap is_some e ∙ is_some-map node_of (record_at f q) ∙ is_some-record_at f q
+is_some_in = stands.is_some_in key_of node_of
 
 -- where a key isn't in a forest, nothing is said of it
 none_of : {A : Type 0} (o : Option A) → is_some o ≡ false → o ≡ None

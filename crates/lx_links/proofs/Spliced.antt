@@ -7,7 +7,6 @@ use Rattle.std.proofs.lemmas.Bool.Decides.{nat_tests, eqb_tells}
 use Rattle.std.proofs.lemmas.Str.{length-encode, encodes-append}
 use Rattle.lx_node.specs.Cuts.{Cuts, IsCut}
 use Rattle.lx_node.specs.OfKind.{is_of_kind, fits_kind, is_text_of, are_text_fields}
-use Rattle.lx_trees.specs.Siblings.{is_named}
 use Rattle.lx_node.specs.declared.kind.Kind.{Kind}
 use Rattle.lx_node.specs.declared.kind.Kind.TheVariants.{Text}
 use Rattle.lx_node.specs.declared.fields.TextFields.{TextFields}
@@ -22,9 +21,9 @@ use Rattle.lx_forest.specs.Edits.{with_fields}
 use Rattle.lx_forest.specs.Records.{record_at, linked}
 use Rattle.lx_forest.specs.Suited.{is_suited}
 use Rattle.lx_forest.proofs.Walks.{cases_option}
-use Rattle.lx_links.specs.declared.changes.Change.TheVariants.{Content}
 use Rattle.lx_links.specs.declared.splices.TextSplice.{TextSplice}
-use Rattle.lx_links.specs.Changes.{node_after, Differs}
+use Rattle.lx_joints.specs.Changes.{Differs}
+use Rattle.lx_links.specs.Changes.{with_content}
 use Rattle.lx_links.specs.Faults.{set_fault}
 use Rattle.lx_links.specs.Splices.{before_byte, from_byte, text_spliced, fields_spliced, node_spliced, FitsSplice, FitsFields, MaySplice}
 use Rattle.lx_links.specs.Stands.{Nodes, Holds, node_of}
@@ -87,21 +86,21 @@ spliced_is splice text before within behind cut =
     (ap (from_byte (splice.front + splice.piece)) cut.whole ∙ from_seam (splice.front + splice.piece) (before ++ within) behind both)
 
 same_node : (splice : TextSplice) (n : Node) (old : TextFields) (text : List ℕ) → n.fields ≡ fields.Text old → text_spliced splice old.text ≡ text
-    → node_spliced splice n ≡ node_after (Content (fields.Text (record old { text = text }))) true n
+    → node_spliced splice n ≡ with_content (fields.Text (record old { text = text })) true n
 same_node splice n old text is e =
     ap (λ x. record n { fields = fields_spliced splice x }) is ∙ ap (λ cs. record n { fields = fields.Text (record old { text = cs }) }) e
 
 pub spliced_differs : (old new : Nodes) (k : ℕ) (splice : TextSplice) (n : Node) (t : TextFields) (before within behind : List ℕ)
     → get old k ≡ Some n → n.fields ≡ fields.Text t → Cuts splice.front splice.piece before within behind t.text
     → new ≡ with_edit (node_spliced splice) k old
-    → Differs (λ q. node_after (Content (fields.Text (record t { text = before ++ chars splice.text.now ++ behind }))) (is_named (Some k) q)) old new
+    → Differs (λ q. with_content (fields.Text (record t { text = before ++ chars splice.text.now ++ behind })) (eqb q k)) (get old) (get new)
 spliced_differs old new k splice n t before within behind there is cut e =
     let x : Fields = fields.Text (record t { text = before ++ chars splice.text.now ++ behind }) in
-    node_differs old new (Some k) (Content x) k refl
+    node_differs old new k (with_content x) (λ n. refl)
     (e ∙ ap (λ o. with_item old k (option_map (node_spliced splice) o)) there
     ∙ ap (λ m. with_item old k (Some m))
     (same_node splice n t (before ++ chars splice.text.now ++ behind) is (spliced_is splice t.text before within behind cut))
-    ∙ ap (λ o. with_item old k (option_map (node_after (Content x) true) o)) (sym there))
+    ∙ ap (λ o. with_item old k (option_map (with_content x true) o)) (sym there))
 
 -- the edit itself
 pub edited_in_place : {T E : Type 0} (r : Result T E) (splice : TextSplice) (n : Node) (old : TextFields) (text : List ℕ) → n.fields ≡ fields.Text old
@@ -116,12 +115,12 @@ edited_in_place (Ok x) splice n old text is fits made =
 edited_in_place (Err e) splice n old text is fits made = tt
 
 -- what is under the key then
-pub node_refielded : (old new : Nodes) (k : ℕ) (n : Node) (x : Fields) → Differs (λ q. node_after (Content x) (is_named (Some k) q)) old new
+pub node_refielded : (old new : Nodes) (k : ℕ) (n : Node) (x : Fields) → Differs (λ q. with_content x (eqb q k)) (get old) (get new)
     → get old k ≡ Some n
     → get new k ≡ Some (record n { fields = x })
 node_refielded old new k n x d there =
     let own : eqb k k ≡ true = grind (arith, eqb_tells k k) in
-    d.each k ∙ ap (option_map (node_after (Content x) (eqb k k))) there ∙ ap (λ b. Some (record n { fields = cond b x n.fields })) own
+    d.each k ∙ ap (option_map (with_content x (eqb k k))) there ∙ ap (λ b. Some (record n { fields = cond b x n.fields })) own
 
 -- ---- the forest
 
@@ -167,7 +166,7 @@ splice_fine m f k t text h kind is n told same =
 
 pub splice_stands : (old new : Nodes) (f : Forest) (k : ℕ) (t : TextFields) (text : List ℕ) → Holds old f → kind_of f k ≡ Some Text
     → fields_of f k ≡ Some (fields.Text t)
-    → TextNode old f k → Differs (λ q. node_after (Content (fields.Text (record t { text = text }))) (is_named (Some k) q)) old new
+    → TextNode old f k → Differs (λ q. with_content (fields.Text (record t { text = text })) (eqb q k)) (get old) (get new)
     → Holds new (with_fields k (fields.Text (record t { text = text })) f)
 splice_stands old new f k t text h kind is n d =
     set_stands old new f k (fields.Text (record t { text = text })) h (splice_fine old f k t text h kind is n.node n.told n.kind_is) d

@@ -5,10 +5,15 @@ use Rattle.lx_trees.specs.Trees.{nil}
 use Rattle.lx_trees.specs.NamedTrees.{total}
 use Rattle.lx_node.specs.declared.node.Node.{Node}
 use Rattle.lx_forest.specs.Forest.{Forest}
-use Rattle.lx_forest.specs.Lookups.{kind_of, IsHeld}
+use Rattle.lx_forest.specs.Lookups.{key_of, kind_of, IsHeld}
+use Rattle.lx_forest.proofs.Ordered.{ordered}
+use Rattle.lx_joints.specs.Stands as joints
+use Rattle.lx_joints.specs.Stands.{AreRecords}
+use Rattle.lx_joints.proofs.Stands as stands
+use Rattle.lx_links.specs.Changes.{links_of, with_links}
 use Rattle.lx_node.specs.Kinds.{may_hold}
 use Rattle.lx_node.specs.declared.kind.Kind.TheVariants.{Root}
-use Rattle.lx_forest.specs.Records.{Record, record_at, StandsFor}
+use Rattle.lx_forest.specs.Records.{record_at, StandsFor}
 use Rattle.lx_forest.specs.Suited.{IsSuited}
 use Rattle.lx_forest.proofs.Suited.{IsSuited-nil}
 use Rattle.lx_store.specs.Differing.{AreSameTo}
@@ -24,12 +29,15 @@ stood_by held s f m e h = subst (λ x. Stands x f) h (stood held s f e)
 pub failed_by : (held : Option Nodes) (s : Standing held) (f : Forest) → forest_in held s ≡ f → held ≡ None → f ≡ nil
 failed_by held s f e h = subst (λ x. Stands x f) h (stood held s f e)
 
-node_again : (q : ℕ) (o : Option Node) (r : Option Record) → option_map (record_of q) o ≡ r → o ≡ option_map node_of r
-node_again q None r e = ap (option_map node_of) e
-node_again q (Some n) r e = ap (option_map node_of) e
+pub are : AreRecords links_of with_links record_of node_of
+are = record { linked = λ q n. refl; relinked_is = λ q l n. refl; back = λ q n. refl }
+
+-- a map that stands for a forest stands for its trees
+pub rooted : (m : Nodes) (f : Forest) → StandsFor (records m) f → joints.Stands record_of key_of (get m) f
+rooted m f s = record { in_order = ordered s.in_order; same = s.same; small = s.small }
 
 pub get_stands : (m : Nodes) (f : Forest) (q : ℕ) → StandsFor (records m) f → get m q ≡ option_map node_of (record_at f q)
-get_stands m f q s = node_again q (get m q) (record_at f q) (s.same q)
+get_stands m f q s = stands.get_stands key_of record_of links_of with_links node_of are (get m) f q (s.same q)
 
 pub node_by : (held : Option Nodes) (s : Standing held) (f : Forest) (m : Nodes) (q : ℕ) → forest_in held s ≡ f → held ≡ Some m
     → get m q ≡ option_map node_of (record_at f q)

@@ -3,11 +3,13 @@ use Rattle.std.specs.Prelude.{Bool, ℕ, ◌^◌, ◌<◌, ◌≡◌, ◌≢◌,
 use Rattle.std.specs.Ordering.{nat_cmp}
 use Rattle.std.specs.Coded.{Coded-set, coded_bool, codes, le_prop}
 use Rattle.std.specs.FinMap.{FinMap, get}
-use Rattle.std.proofs.Common.{sym, ap, ◌∙◌, subst}
+use Rattle.std.proofs.Common.{sym, ◌∙◌}
 use Rattle.lx_node.specs.declared.kind.Kind.{Kind}
 use Rattle.lx_node.specs.declared.fields.Fields.{Fields}
 use Rattle.lx_trees.specs.Trees.{nil, trees_code}
 use Rattle.lx_trees.specs.NamedTrees.{total}
+use Rattle.lx_joints.specs.Standing as standing
+use Rattle.lx_joints.specs.Stands as joints
 use Rattle.lx_node.specs.declared.node.Node.{Node}
 use Rattle.lx_forest.specs.Forest.{Forest}
 use Rattle.lx_forest.specs.Lookups.{IsForest, IsHeld}
@@ -58,7 +60,7 @@ lone_node kind fields =
 
 -- the records of a map of nodes
 abbrev pub records : Nodes → ℕ → Option Record
-records m q = option_map (record_of q) (get m q)
+records m = joints.records record_of (get m)
 
 -- a map of nodes stands for a forest in which each child is of a kind that its parent's may hold, and all fields are of
 -- their kinds
@@ -73,9 +75,8 @@ Stands None f = f ≡ nil
 Stands (Some m) f = Holds m f
 
 -- a forest for which something stands
-pub record Standing (held : Option Nodes) : Type 0 where
-  pub forest : Forest
-  pub stands : Stands held forest
+abbrev pub Standing : Option Nodes → Type 0
+Standing held = standing.Standing (Stands held)
 
 Stands-unique : (held : Option Nodes) (f g : Forest) → Stands held f → Stands held g → f ≡ g
 Stands-unique None f g h k = h ∙ sym k
@@ -100,16 +101,13 @@ Stands-prop : (held : Option Nodes) (f : Forest) → IsProp (Stands held f)
 Stands-prop None f = Forest-set f nil
 Stands-prop (Some m) f = Holds-prop m f
 
-same_standing : (held : Option Nodes) (x : Standing held) (f : Forest) (h : Stands held f) → x.forest ≡ f → x ≡ record { forest = f; stands = h }
-same_standing held x f h e = let P : Forest → Type 0 = λ g. (k : Stands held g) → x ≡ record { forest = g; stands = k } in subst P e (λ k. ap (λ k. record { forest = x.forest; stands = k }) (Stands-prop held x.forest x.stands k)) h
-
 -- what is held stands for one forest at most, and in one way
 pub Standing-prop : (held : Option Nodes) → IsProp (Standing held)
-Standing-prop held x y = same_standing held x y.forest y.stands (Stands-unique held x.forest y.forest x.stands y.stands)
+Standing-prop held = standing.Standing-prop (Stands held) (Stands-prop held) (Stands-unique held)
 
 -- the forest of what is held, as a name that doesn't unfold
 pub forest_in : (held : Option Nodes) → Standing held → Forest
-forest_in held s = s.forest
+forest_in held s = s.value
 
 -- what is held stands for the forest that is said to be held
 pub forest_in-stands : (held : Option Nodes) (s : Standing held) → Stands held (forest_in held s)

@@ -1,11 +1,11 @@
 ghost use Rattle.lx_node.specs.Limits.{last_u32};
 
-use crate::changes::{Change, change_node, put_node};
-use crate::joints::{Gap, link_in, unlink};
+use crate::changes::{link_in, number_of, put_node, set_fields, unlink};
 use crate::links::Links;
 use crate::nodes::{bad_place, lone_node, unknown};
 use crate::splices::{TextSplice, node_sums, splice_node};
 use crate::sums::Sums;
+use lx_joints::Gap;
 use lx_node::{Cause, Fault, Fields, Key, Kind, NoMemory};
 
 impl Links {
@@ -63,7 +63,7 @@ impl Links {
         let Some(mut store) = self.held.take() else {
             return Err(Fault::Memory);
         };
-        change_node(&mut store, Some(key), Change::Content(fields))?;
+        set_fields(&mut store, key, fields)?;
         self.held = Some(store);
         self.sums = self.sums.plus(new).less(old);
         Ok(())
@@ -113,14 +113,12 @@ impl Links {
         let Some(parent) = node.parent else {
             return Err(bad_place(key));
         };
-        let gap = Gap {
-            prev: node.prev,
-            next: node.next,
-        };
+        let prev = node.prev;
+        let next = node.next;
         let Some(mut store) = self.held.take() else {
             return Err(Fault::Memory);
         };
-        unlink(&mut store, key, parent, &gap)?;
+        unlink(&mut store, key, parent, prev, next)?;
         self.held = Some(store);
         Ok(())
     }
@@ -155,11 +153,11 @@ impl Links {
     {
         match before {
             Some(before) => Gap {
-                prev: self.previous(*before),
-                next: Some(*before),
+                prev: number_of(self.previous(*before)),
+                next: Some(before.number()),
             },
             None => Gap {
-                prev: self.last(parent),
+                prev: number_of(self.last(parent)),
                 next: None,
             },
         }

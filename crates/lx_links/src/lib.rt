@@ -6,7 +6,6 @@ mod child_at;
 mod children;
 mod edits;
 mod faults;
-mod joints;
 mod links;
 mod nodes;
 mod order;

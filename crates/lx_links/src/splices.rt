@@ -1,14 +1,13 @@
-ghost use Rattle.std.specs.Prelude.{◌≡◌, ◌++◌, ℕ, List, chars, OnOk, Some};
+ghost use Rattle.std.specs.Prelude.{◌≡◌, ◌==◌, ◌++◌, ℕ, List, chars, OnOk, Some};
 ghost use Rattle.std.specs.FinMap as map;
 ghost use Rattle.lx_node.specs.Cuts.{Cuts};
-ghost use Rattle.lx_trees.specs.Siblings.{is_named};
 ghost use Rattle.lx_node.specs.declared.fields.Fields.TheVariants as fields;
 ghost use Rattle.lx_node.specs.declared.fields.TextFields.{TextFields};
 ghost use Rattle.lx_node.specs.declared.node.Node.{Node};
-ghost use Rattle.lx_links.specs.Changes.{node_after, Differs};
+ghost use Rattle.lx_joints.specs.Changes.{Differs};
+ghost use Rattle.lx_links.specs.Changes.{with_content};
 ghost use Rattle.lx_links.specs.Splices.{node_spliced, FitsSplice};
 ghost use Rattle.lx_links.specs.Sums.{own_sums};
-ghost use Rattle.lx_links.specs.declared.changes.Change.TheVariants.{Content};
 
 use crate::sums::Sums;
 use lx_node::{Fields, Key, NoMemory, Node};
@@ -43,7 +42,7 @@ pub fn splice_node(
     splice: TextSplice<'_>,
 ) -> Result<(), NoMemory>
     requires { (n : Node) → map.get store.old key ≡ Some n → FitsSplice splice n }
-    ensures { OnOk result ((n : Node) (old : TextFields) (before within behind : List ℕ) → map.get store.old key ≡ Some n → n.fields ≡ fields.Text old → Cuts splice.entry.front splice.entry.piece before within behind old.text → Differs (λ q. node_after (Content (fields.Text (record old { text = before ++ chars splice.entry.text.now ++ behind }))) (is_named (Some key) q)) store.old store.new) }
+    ensures { OnOk result ((n : Node) (old : TextFields) (before within behind : List ℕ) → map.get store.old key ≡ Some n → n.fields ≡ fields.Text old → Cuts splice.entry.front splice.entry.piece before within behind old.text → Differs (λ q. with_content (fields.Text (record old { text = before ++ chars splice.entry.text.now ++ behind })) (q == key)) (map.get store.old) (map.get store.new)) }
 {
     let mut copies = Copies::new();
     store.change(key, splice, &mut copies)?;

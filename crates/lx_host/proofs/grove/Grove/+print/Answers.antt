@@ -3,7 +3,7 @@ use Rattle.std.proofs.lemmas.Result.{on_ok_weaker}
 use Rattle.lx_host.specs.Below.{below_of}
 use Rattle.lx_host.specs.Hosts.{shape_of}
 use Rattle.lx_host.specs.Html.{text_html, inside_html, html_of}
-use Rattle.lx_host.proofs.Changed.{is_some_in}
+use Rattle.lx_host.proofs.Stood.{is_some_in}
 use Rattle.lx_host.proofs.Listed.{one_found, listing_starts, passed, listing_goes_on, listing_ends}
 use Rattle.lx_host.proofs.Printed.{void_printed, full_printed}
 use Rattle.lx_host.proofs.grove.Grove.+print.Goals as goal

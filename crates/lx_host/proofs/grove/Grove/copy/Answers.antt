@@ -6,7 +6,7 @@ use Rattle.lx_host.proofs.grove.Grove.copy.Goals as goal
 pub invariant_of-result : goal.invariant_of-result
 invariant_of-result c = (
   record {
-    hosts = hosts_in c.self.inside.table c.self.inside.stands;
+    value = hosts_in c.self.inside.table c.self.inside.stands;
     stands = stands_again c.self.inside.table c.in_ok-table.table c.self.inside.stands c.in_ok-table.ensures;
   },
   tt,

@@ -10,7 +10,7 @@ invariant_of-self-inside c =
     let face : Face =
     record { key = c.args.face.key; tag = c.args.face.tag; attrs = c.args.face.attrs; text = c.args.face.text; ending = c.args.face.ending } in (
       record {
-        hosts = joined c.args.self.now.hosts (one_host c.args.id face);
+        value = joined c.args.self.now.hosts (one_host c.args.id face);
         stands =
             created_stands c.self.inside.table c.insert.new.self c.args.self.now.hosts c.args.id face
             (stood_now _ c.self.inside.stands c.args.self.now _ _ c.self.view_is) c.requires.above c.requires.below

@@ -3,7 +3,7 @@ use Rattle.std.specs.Option.{option_copied}
 use Rattle.lx_host.specs.Hosts.{id_of}
 use Rattle.lx_trees.specs.Edits.{take_out}
 use Rattle.lx_host.specs.Stands.{hosts_in-is}
-use Rattle.lx_host.proofs.Stood.{stood_now, absent_stays, top_stays, taken_stands}
+use Rattle.lx_host.proofs.Stood.{always, stood_now, absent_stays, top_stays, taken_stands}
 use Rattle.lx_host.proofs.grove.Grove.detach.Goals as goal
 
 pub returns-in_default-clause-taken : goal.returns-in_default-clause-taken
@@ -25,11 +25,11 @@ returns-in_default-parent-clause-ordered c = (stood_now _ c.self.inside.stands c
 pub invariant_of-self-inside : goal.invariant_of-self-inside
 invariant_of-self-inside c = (
   record {
-    hosts = take_out id_of c.args.id c.args.self.now.hosts;
+    value = take_out id_of c.args.id c.args.self.now.hosts;
     stands =
         taken_stands c.self.inside.table c.unlink.new.table c.args.self.now.hosts c.args.id c.in-Some-parent.parent c.in-Some.host.now
         (stood_now _ c.self.inside.stands c.args.self.now _ _ c.self.view_is) (sym c.get.ensures.value ∙ ap option_copied c.in-Some.is) c.in-Some-parent.is
-        c.unlink.ensures.differs;
+        (always c.unlink.result c.unlink.ensures.differs);
   },
   tt,
 )
@@ -39,7 +39,7 @@ returns-clause-taken c =
     hosts_in-is _ _ _
     (taken_stands c.self.inside.table c.unlink.new.table c.args.self.now.hosts c.args.id c.in-Some-parent.parent c.in-Some.host.now
     (stood_now _ c.self.inside.stands c.args.self.now _ _ c.self.view_is) (sym c.get.ensures.value ∙ ap option_copied c.in-Some.is) c.in-Some-parent.is
-    c.unlink.ensures.differs)
+    (always c.unlink.result c.unlink.ensures.differs))
 
 pub returns-clause-ordered : goal.returns-clause-ordered
 returns-clause-ordered c = (stood_now _ c.self.inside.stands c.args.self.now _ _ c.self.view_is).in_order

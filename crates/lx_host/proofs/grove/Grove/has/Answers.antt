@@ -1,5 +1,5 @@
 use Rattle.std.proofs.Common.{◌∙◌}
-use Rattle.lx_host.proofs.Changed.{is_some_in}
+use Rattle.lx_host.proofs.Stood.{is_some_in}
 use Rattle.lx_host.proofs.grove.Grove.has.Goals as goal
 
 pub returns-clause-has : goal.returns-clause-has

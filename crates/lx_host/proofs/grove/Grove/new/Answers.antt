@@ -6,7 +6,7 @@ use Rattle.lx_host.proofs.grove.Grove.new.Goals as goal
 pub invariant_of-result : goal.invariant_of-result
 invariant_of-result c = (
   record {
-    hosts = one_host 0 root_face;
+    value = one_host 0 root_face;
     stands =
         made_root c.new-table.result c.insert.new.self _
         (root_linked c.root.result c.of.result c.new.result.items c.root.ensures c.of.ensures c.new.ensures.items) c.new-table.ensures.empty

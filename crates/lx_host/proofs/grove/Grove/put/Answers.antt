@@ -1,7 +1,7 @@
 use Rattle.lx_host.specs.Hosts.{id_of}
 use Rattle.lx_trees.specs.Edits.{put_in}
 use Rattle.lx_host.specs.Stands.{hosts_in-is}
-use Rattle.lx_host.proofs.Stood.{stood_now, room_below, placed_stands}
+use Rattle.lx_host.proofs.Stood.{always, stood_now, room_below, placed_stands}
 use Rattle.lx_host.proofs.grove.Grove.put.Goals as goal
 
 pub link_in-requires : goal.link_in-requires
@@ -12,11 +12,11 @@ link_in-requires c = λ n e.
 pub invariant_of-self-inside : goal.invariant_of-self-inside
 invariant_of-self-inside c = (
   record {
-    hosts = put_in id_of c.args.parent c.args.before c.args.id c.args.self.now.hosts;
+    value = put_in id_of c.args.parent c.args.before c.args.id c.args.self.now.hosts;
     stands =
         placed_stands c.self.inside.table c.link_in.new.table c.args.self.now.hosts c.args.parent c.args.id c.args.before c.gap-gap.result.prev
         c.gap-gap.result.next (stood_now _ c.self.inside.stands c.args.self.now _ _ c.self.view_is) c.requires.can c.requires.place c.gap-gap.ensures.prev
-        c.gap-gap.ensures.next c.link_in.ensures.differs;
+        c.gap-gap.ensures.next (always c.link_in.result c.link_in.ensures.differs);
   },
   tt,
 )
@@ -26,4 +26,4 @@ returns-clause-put c =
     hosts_in-is _ _ _
     (placed_stands c.self.inside.table c.link_in.new.table c.args.self.now.hosts c.args.parent c.args.id c.args.before c.gap-gap.result.prev
     c.gap-gap.result.next (stood_now _ c.self.inside.stands c.args.self.now _ _ c.self.view_is) c.requires.can c.requires.place c.gap-gap.ensures.prev
-    c.gap-gap.ensures.next c.link_in.ensures.differs)
+    c.gap-gap.ensures.next (always c.link_in.result c.link_in.ensures.differs))

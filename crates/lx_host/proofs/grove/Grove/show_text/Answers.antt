@@ -7,7 +7,7 @@ use Rattle.lx_host.proofs.grove.Grove.show_text.Goals as goal
 pub invariant_of-self-inside : goal.invariant_of-self-inside
 invariant_of-self-inside c = (
   record {
-    hosts = changed c.args.id (with_text c.args.text) c.args.self.now.hosts;
+    value = changed c.args.id (with_text c.args.text) c.args.self.now.hosts;
     stands =
         text_stands c.self.inside.table c.change_host.new.table c.args.self.now.hosts c.args.id
         (stood_now _ c.self.inside.stands c.args.self.now _ _ c.self.view_is) c.args.text c.change_host.ensures.differs;

@@ -7,7 +7,7 @@ use Rattle.lx_host.proofs.grove.Grove.write.Goals as goal
 pub invariant_of-self-inside : goal.invariant_of-self-inside
 invariant_of-self-inside c = (
   record {
-    hosts = changed c.args.id (with_value c.args.name c.args.value) c.args.self.now.hosts;
+    value = changed c.args.id (with_value c.args.name c.args.value) c.args.self.now.hosts;
     stands =
         attribute_stands c.self.inside.table c.write_attribute.new.table c.args.self.now.hosts c.args.id
         (stood_now _ c.self.inside.stands c.args.self.now _ _ c.self.view_is) c.args.name c.args.value c.write_attribute.ensures.differs;

@@ -36,7 +36,7 @@ pub returns-in_err-take_all-clause-failed : goal.returns-in_err-take_all-clause-
 returns-in_err-take_all-clause-failed c = any_err c.from_residual-in_err-take_all.result (fails _ _ c.take.ensures.after)
 
 pub invariant_of-self-inside-2 : goal.invariant_of-self-inside-2
-invariant_of-self-inside-2 c = (record { forest = _; stands = stands (goal.at.invariant_of-self-inside-2 c).In_ok-take_all }, tt)
+invariant_of-self-inside-2 c = (record { value = _; stands = stands (goal.at.invariant_of-self-inside-2 c).In_ok-take_all }, tt)
 
 pub returns-clause-dropped : goal.returns-clause-dropped
 returns-clause-dropped c = is_now _ _ _ (stands (goal.at.returns-clause-dropped c).In_ok-take_all)

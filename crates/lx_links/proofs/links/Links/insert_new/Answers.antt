@@ -28,7 +28,7 @@ pub returns-in_err-put_node-clause-failed : goal.returns-in_err-put_node-clause-
 returns-in_err-put_node-clause-failed c = any_err c.from_residual.result (fails _ _ c.take.ensures.after)
 
 pub invariant_of-self-inside-2 : goal.invariant_of-self-inside-2
-invariant_of-self-inside-2 c = (record { forest = _; stands = stands (goal.at.invariant_of-self-inside-2 c).In_ok-put_node }, tt)
+invariant_of-self-inside-2 c = (record { value = _; stands = stands (goal.at.invariant_of-self-inside-2 c).In_ok-put_node }, tt)
 
 pub returns-clause-added : goal.returns-clause-added
 returns-clause-added c = is_now _ _ _ (stands (goal.at.returns-clause-added c).In_ok-put_node)

@@ -13,7 +13,7 @@ put_node-requires c = omega (arith, ap len c.in_ok-store.ensures, len-empty nat_
 
 pub invariant_of-result : goal.invariant_of-result
 invariant_of-result c =
-    (record { forest = root_alone; stands = new_stands _ _ _ _ _ c.in_ok-store.ensures c.root.ensures c.lone_node.ensures c.plain_element-fields.ensures c.in_ok-put_node.ensures }, tt)
+    (record { value = root_alone; stands = new_stands _ _ _ _ _ c.in_ok-store.ensures c.root.ensures c.lone_node.ensures c.plain_element-fields.ensures c.in_ok-put_node.ensures }, tt)
 
 pub returns : goal.returns
 returns c =

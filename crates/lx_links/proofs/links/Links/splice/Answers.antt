@@ -73,7 +73,7 @@ pub returns-in_err-splice_node-clause-failed : goal.returns-in_err-splice_node-c
 returns-in_err-splice_node-clause-failed c = any_err c.from_residual.result (fails _ _ c.take.ensures.after)
 
 pub invariant_of-self-inside-2 : goal.invariant_of-self-inside-2
-invariant_of-self-inside-2 c = (record { forest = _; stands = stands_now (goal.at.invariant_of-self-inside-2 c).In_ok-splice_node }, tt)
+invariant_of-self-inside-2 c = (record { value = _; stands = stands_now (goal.at.invariant_of-self-inside-2 c).In_ok-splice_node }, tt)
 
 pub returns-clause-spliced : goal.returns-clause-spliced
 returns-clause-spliced c =
