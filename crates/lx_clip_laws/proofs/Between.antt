@@ -96,7 +96,16 @@ put_came k p index before behind w v ready was many e =
 
 came_none : (p : ℕ) (before behind : List ℕ) (w : Working) → IsReady w → children_of w.forest p ≡ before ++ behind → Came p before [] behind w w
 came_none p before behind w ready was =
-    record { was = was; now = was; others = λ q other. refl; labels = λ q. refl; trees = λ a out. refl; within = λ a. refl; outside = λ k among. absurd (cc); covered = covered-self w ready }
+    record {
+      was = was;
+      now = was;
+      others = λ q other. refl;
+      labels = λ q. refl;
+      trees = λ a out. refl;
+      within = λ a. refl;
+      outside = λ k among. absurd (cc);
+      covered = covered-self w ready;
+    }
 
 pub came_then : (p : ℕ) (before keys more behind : List ℕ) (w u v : Working) → Came p before keys behind w u → Came p (before ++ keys) more behind u v
     → Came p before (keys ++ more) behind w v

@@ -335,7 +335,15 @@ trees_make (tree l below rest) i kind n u good parent =
 below_among : (l : Label) (s f : Forest) → count l.key f ≡ 0 → last_below l.key s (among_roots l.key (tree l nil nil) f) ≡ among_roots l.key (tree l s nil) f
 below_among l s nil free = grind (arith, eqb_tells l.key l.key)
 below_among l s (tree m below rest) free =
-    grind (arith, free, eqb_tells l.key l.key, eqb_tells m.key l.key, put_below-absent key_of l.key None s below, put_below-absent key_of l.key None s rest, below_among l s rest)
+    grind (
+      arith,
+      free,
+      eqb_tells l.key l.key,
+      eqb_tells m.key l.key,
+      put_below-absent key_of l.key None s below,
+      put_below-absent key_of l.key None s rest,
+      below_among l s rest,
+    )
 
 new_among : (l : Label) (f : Forest) → with_new l f ≡ among_roots l.key (tree l nil nil) f
 unfolding with_new rooted.with_new

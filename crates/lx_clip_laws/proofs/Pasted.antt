@@ -62,7 +62,13 @@ last_ends o (y ∷ xs) x = last_ends (Some y) xs x
 came_by : (k : ℕ) (p : Point) (kind : PointKind) (w v : Working) → IsReady w → put_by k p kind w ≡ Ok v → CameBy p kind k w v
 came_by k p point.Element w v ready e =
     let s = put_stands k p.key p.offset w v e in
-    record { parent = p.key; before = s.before; rest = s.behind; place = (refl, s.so_many); came = put_came k p.key p.offset s.before s.behind w v ready s.are s.so_many e }
+    record {
+      parent = p.key;
+      before = s.before;
+      rest = s.behind;
+      place = (refl, s.so_many);
+      came = put_came k p.key p.offset s.before s.behind w v ready s.are s.so_many e;
+    }
 came_by k p point.Text w v ready e = elim (cases_Bool (eqb p.offset 0)) [
   | inl is ↦
       let put : put_before_step k p.key w ≡ Ok v = rw is at e in

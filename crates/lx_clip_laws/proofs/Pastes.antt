@@ -245,7 +245,11 @@ insert_pasted f s c w v kept is ready known e =
     let made : Made = first.0 in
     let copied : IsCopied c w made = record { tree = f; selection = s; kept = kept; covered = is; ready = ready; read = first.1.0 } in
     let now = (nodes_read_path (known_making w.forest) (codes "/nodes") (array (trees_data c)) (holder inline) w made tt first.1.0).points known in
-    record { made = made; read = first.1.0; same = still_same c w made v copied (placed_same c w made inline v made.keys (copied_made c w made copied) ready now refl first.1.1) }
+    record {
+      made = made;
+      read = first.1.0;
+      same = still_same c w made v copied (placed_same c w made inline v made.keys (copied_made c w made copied) ready now refl first.1.1);
+    }
 
 lying_known : (f : Forest) (p : Point) → IsForest f → lies f p ≡ true → IsKnown f p
 lying_known f p h lying = attached_known f p.key h (both (is_attached f p.key) (lies_in f p) lying).0

@@ -113,7 +113,10 @@ keeps_pointed : (a k : ℕ) (moved : Point → Point) (w u v : Working) → Keep
     → Keeps a k w v
 keeps_pointed a k moved w u v x e =
     ok (Keeps a k) w (pointed moved u) v
-    (record { same = x.same; apart = record { ready = record { in_order = x.apart.ready.in_order; free = x.apart.ready.free }; there = x.apart.there; out = x.apart.out } }) e
+    (record {
+      same = x.same;
+      apart = record { ready = record { in_order = x.apart.ready.in_order; free = x.apart.ready.free }; there = x.apart.there; out = x.apart.out };
+    }) e
 
 keeps_tail : (a k offset : ℕ) (w v : Working) → IsApart a k w → tail_made k offset w ≡ Ok v → Keeps a k w v
 unfolding tail_made

@@ -68,6 +68,7 @@ pub record PastedStandBetween : Type 0 where
   pub inlines : (p : Point) (keys : List ℕ) (w v : Working) → IsReady w → keys ≢ [] → nodes_added p keys w ≡ Ok v → AreAdded p keys w v
   pub around : (block : ℕ) (keys moved : List ℕ) (w v : Working) → IsReady w → keys ≢ [] → put_around block keys moved w ≡ Ok v → AreAround block keys moved w v
   -- around a block too the trees are as they were made, also once the block is gone
-  pub trees : (block : ℕ) (keys moved : List ℕ) (w v : Working) → IsReady w → ((k : ℕ) → is_among k keys ≡ true → IsOutside k block moved w.forest) → put_around block keys moved w ≡ Ok v
+  pub trees : (block : ℕ) (keys moved : List ℕ) (w v : Working) → IsReady w → ((k : ℕ) → is_among k keys ≡ true → IsOutside k block moved w.forest)
+      → put_around block keys moved w ≡ Ok v
       → (k : ℕ) → is_among k keys ≡ true → alone k v.forest ≡ alone k w.forest
   pub beyond : (outer : ℕ) (keys : List ℕ) (w v : Working) → IsReady w → keys ≢ [] → put_beyond outer keys w ≡ Ok v → AreBeyond outer keys w v

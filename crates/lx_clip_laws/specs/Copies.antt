@@ -60,6 +60,9 @@ pub record IsReadBack (c : Forest) (w : Working) (made : Made) : Type 0 where
 -- A slice of a document, and any draft: it is read back, or a limit refuses it, so its form is always right. And a slice is put
 -- in by reading it and placing what was made.
 pub record SlicesAreReadBack : Type 0 where
-  pub back : (f : Forest) (s : Selection) (c : Forest) (w : Working) (made : Made) → IsKept f → sliced f s ≡ Some c → IsReady w → slice_read c w ≡ Ok made → IsReadBack c w made
-  pub refused : (f : Forest) (s : Selection) (c : Forest) (w : Working) (cause : Cause) → IsKept f → sliced f s ≡ Some c → IsReady w → slice_read c w ≡ Err cause → is_limit cause ≡ true
-  pub inserted : (c : Forest) (w : Working) → insert_step (slice_data c) w ≡ after (slice_read c w) (λ made. placed (begins_inline (trees_data c)) made.keys made.draft)
+  pub back : (f : Forest) (s : Selection) (c : Forest) (w : Working) (made : Made) → IsKept f → sliced f s ≡ Some c → IsReady w → slice_read c w ≡ Ok made
+      → IsReadBack c w made
+  pub refused : (f : Forest) (s : Selection) (c : Forest) (w : Working) (cause : Cause) → IsKept f → sliced f s ≡ Some c → IsReady w
+      → slice_read c w ≡ Err cause → is_limit cause ≡ true
+  pub inserted : (c : Forest) (w : Working)
+      → insert_step (slice_data c) w ≡ after (slice_read c w) (λ made. placed (begins_inline (trees_data c)) made.keys made.draft)

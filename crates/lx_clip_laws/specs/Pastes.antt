@@ -39,16 +39,20 @@ pub record IsPasted (c : Forest) (w v : Working) : Type 0 where
 -- after nodes of a slice were put in, they have the trees that were covered, but for their keys
 pub record CopiesArePasted : Type 0 where
   -- at a point of a node that was there before
-  pub inlines : (c : Forest) (w : Working) (made : Made) (p : Point) (v : Working) → IsCopied c w made → has p.key w.forest ≡ true → nodes_added p made.keys made.draft ≡ Ok v
+  pub inlines : (c : Forest) (w : Working) (made : Made) (p : Point) (v : Working) → IsCopied c w made → has p.key w.forest ≡ true
+      → nodes_added p made.keys made.draft ≡ Ok v
       → pieces_of (trees_of v.forest made.keys) ≡ pieces_of c
   -- between the parts of a block that is parted at a point, where the block and the point's node were there before
-  pub around : (c : Forest) (w : Working) (made : Made) (block : ℕ) (p : Point) (v : Working) → IsCopied c w made → has block w.forest ≡ true → has p.key w.forest ≡ true → block_opened block p made.keys made.draft ≡ Ok v
+  pub around : (c : Forest) (w : Working) (made : Made) (block : ℕ) (p : Point) (v : Working) → IsCopied c w made → has block w.forest ≡ true
+      → has p.key w.forest ≡ true → block_opened block p made.keys made.draft ≡ Ok v
       → pieces_of (trees_of v.forest made.keys) ≡ pieces_of c
   -- after a node
   pub beyond : (c : Forest) (w : Working) (made : Made) (outer : ℕ) (v : Working) → IsCopied c w made → put_beyond outer made.keys made.draft ≡ Ok v
       → pieces_of (trees_of v.forest made.keys) ≡ pieces_of c
   -- whichever way the step goes, where the points of a range are at nodes that were there before
-  pub inserted : (f : Forest) (s : Selection) (c : Forest) (w v : Working) → IsKept f → sliced f s ≡ Some c → IsReady w → EachPoint (λ p. has p.key w.forest ≡ true) w.selection → insert_step (slice_data c) w ≡ Ok v → IsInserted c w v
+  pub inserted : (f : Forest) (s : Selection) (c : Forest) (w v : Working) → IsKept f → sliced f s ≡ Some c → IsReady w
+      → EachPoint (λ p. has p.key w.forest ≡ true) w.selection → insert_step (slice_data c) w ≡ Ok v → IsInserted c w v
   -- from a text that is the JSON of the slice, in place of what is selected
-  pub pasted : (f : Forest) (s : Selection) (c : Forest) (text : List ℕ) (w v : Working) → IsKept f → sliced f s ≡ Some c → json_of text ≡ Ok (slice_data c) → IsReady w → IsHeld may_hold w.forest → TextsAreShort w → paste_step text w ≡ Ok v
+  pub pasted : (f : Forest) (s : Selection) (c : Forest) (text : List ℕ) (w v : Working) → IsKept f → sliced f s ≡ Some c → json_of text ≡ Ok (slice_data c)
+      → IsReady w → IsHeld may_hold w.forest → TextsAreShort w → paste_step text w ≡ Ok v
       → IsPasted c w v

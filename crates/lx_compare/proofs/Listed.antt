@@ -25,20 +25,8 @@ use Rattle.lx_compare.specs.Places.{IsAsBefore, IsOutside, AreKept, IsListed}
 
 -- ---- lists that grow
 
-among_front : (q : ℕ) (xs ys : List ℕ) → is_among q xs ≡ true → is_among q (xs ++ ys) ≡ true
-among_front q xs ys e = grind (arith, is_among-append q xs ys, e)
-
 among_back : (q : ℕ) (xs ys : List ℕ) → is_among q ys ≡ true → is_among q (xs ++ ys) ≡ true
 among_back q xs ys e = grind (arith, is_among-append q xs ys, e)
-
-pub kept_front : (a b more : List ℕ) → b ≡ a ++ more → AreKept a b
-kept_front a b more is q e = ap (is_among q) is ∙ among_front q a more e
-
-pub among_last : (k : ℕ) (a b : List ℕ) → b ≡ a ++ k ∷ [] → is_among k b ≡ true
-among_last k a b is = ap (is_among k) is ∙ is_among-append k a (k ∷ []) ∙ grind (arith, eqb_tells k k)
-
-pub listed_still : (old new : Forest) (a b : List ℕ) (k : ℕ) → AreKept a b → IsListed old new a k → IsListed old new b k
-listed_still old new a b k grows listed = record { itself = grows k listed.itself; below = λ out q inside. grows q (listed.below out q inside) }
 
 -- ---- what is below a node
 

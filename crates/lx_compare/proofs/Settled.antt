@@ -15,6 +15,7 @@ use Rattle.lx_forest.proofs.Records.{is_some-record_at}
 use Rattle.lx_store.specs.Differing.{AreSameTo}
 use Rattle.lx_links.specs.Stands.{node_at, node_of}
 use Rattle.lx_links.proofs.Seen.{seen, is_some-map}
+use Rattle.lx_compare.specs.Differing.{Differs}
 use Rattle.lx_compare.specs.Places.{IsAsBefore, IsOutside}
 use Rattle.lx_compare.specs.Marking.{AreFounded, Grows, IsTold, IsSettled}
 use Rattle.lx_compare.proofs.SameNode.{unchanged_by}
@@ -27,7 +28,7 @@ told_still old new m n q grows told = record {
   after = λ p up. grows p (told.after p up);
 }
 
-pub settled_still : (old new : Forest) (m n : Marked) (q : ℕ) → Grows m n → IsSettled old new m q → IsSettled old new n q
+settled_still : (old new : Forest) (m n : Marked) (q : ℕ) → Grows m n → IsSettled old new m q → IsSettled old new n q
 settled_still old new m n q grows (inl absent) = inl absent
 settled_still old new m n q grows (inr (inl same)) = inr (inl same)
 settled_still old new m n q grows (inr (inr told)) = inr (inr (told_still old new m n q grows told))
@@ -68,6 +69,19 @@ compared_all old new m from so_far same q = elim (nat_lt q from) as (λ b. nat_l
   | true ↦ λ e. so_far.settled q (grind (arith, e))
   | false ↦ λ e. settled_same old new m q (node_at new q) (same q (grind (arith, e))) refl
 ] refl
+
+-- a node that isn't as before differs
+pub differs_by : (old new : Forest) (q : ℕ) → (IsAsBefore old new q → ⊥) → Differs old new q
+differs_by old new q other = record {
+  there = elim (cases_Bool (has q old)) [
+    | inl was ↦ grind (arith, was)
+    | inr out ↦ elim (cases_Bool (has q new)) [
+      | inl is ↦ grind (arith, is)
+      | inr gone ↦ absurd (other (inl (out, gone)))
+    ]
+  ];
+  other = λ same. other (inr same);
+}
 
 -- a tree of the root has nodes
 pub living : (f : Forest) → roots f ≡ 0 ∷ [] → f ≢ nil

@@ -9,7 +9,7 @@ ghost use Rattle.lx_trees.specs.Siblings.{is_among};
 
 use crate::marking::mark_difference;
 use crate::places::Places;
-use crate::same::is_unchanged;
+use crate::same::is_as_before;
 use lx_links::Links;
 use lx_marks::Marks;
 use lx_node::{Key, NoMemory};
@@ -91,17 +91,16 @@ fn mark_differences(marks: &mut Marks, old: &Links, new: &Links) -> Result<(), N
     Ok(())
 }
 
-/// Marks a node that differs. Where two nodes have other children alone, these differ and not the two.
+/// Marks the node at a key, if it differs. Where two nodes have other children alone, these differ and not the two.
+#[tactic(auto, using(crate::proofs::Settled::differs_by))]
 fn settle(marks: &mut Marks, old: &Links, new: &Links, key: Key) -> Result<(), NoMemory>
     requires founded { AreFounded old.now new.now marks.old }
     ensures founded { OnOk result (AreFounded old.now new.now marks.new) }
     ensures grows { OnOk result (Grows marks.old marks.new) }
     ensures settled { OnOk result (IsSettled old.now new.now marks.new key) }
 {
-    let is_there = old.has(key) || new.has(key);
-    if is_there && !is_unchanged(old, new, key) {
-        mark_difference(marks, old, new, key)
-    } else {
-        Ok(())
+    if is_as_before(old, new, key) {
+        return Ok(());
     }
+    mark_difference(marks, old, new, key)
 }

@@ -14,7 +14,7 @@ use std::alloc::Global;
 use std::marker::Model;
 use std::mem::replace;
 
-/// With more keys than these it isn't told any more at which the trees may differ.
+/// Where more keys than these are told already, or more leaves than these are marked, the trees may differ anywhere.
 const MOST_KEYS: usize = 4096;
 
 /// The keys at which two trees may differ, unless they may differ anywhere. A key may be there more than once.
@@ -33,7 +33,6 @@ impl Model for Places {
 }
 
 impl Places {
-    ghost use Rattle.std.specs.Option.{option_copied};
     ghost use Rattle.std.specs.Prelude.{Some, option_map};
     ghost use Rattle.lx_compare.specs.Places.{IsOutside, IsAsBefore, IsJoined};
 

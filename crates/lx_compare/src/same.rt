@@ -1,21 +1,20 @@
 ghost use Rattle.std.specs.Prelude.{◌≡◌, ◌↔◌, IsTrue};
-ghost use Rattle.lx_compare.specs.Differing.{IsSameNode, IsUnchanged};
+ghost use Rattle.lx_compare.specs.Differing.{IsSameNode};
+ghost use Rattle.lx_compare.specs.Places.{IsAsBefore};
 
 use lx_links::Links;
 use lx_node::{Key, Node};
 
-/// Whether both trees have the node, with the same fields, the same parent and the same neighbours. It looks at
-/// the node once in each tree.
-pub(crate) fn is_unchanged(old: &Links, new: &Links, key: Key) -> bool
-    ensures { IsTrue result ↔ IsUnchanged old.now new.now key }
+/// Whether neither tree has a node, or both have it with the same fields, the same parent and the same neighbours. It
+/// looks at the node once in each tree.
+pub(crate) fn is_as_before(old: &Links, new: &Links, key: Key) -> bool
+    ensures { IsTrue result ↔ IsAsBefore old.now new.now key }
 {
-    let Some(before) = old.node(key) else {
-        return false;
-    };
-    let Some(after) = new.node(key) else {
-        return false;
-    };
-    is_same_node(before, after)
+    match (old.node(key), new.node(key)) {
+        (Some(before), Some(after)) => is_same_node(before, after),
+        (None, None) => true,
+        _ => false,
+    }
 }
 
 /// Whether the fields are the same, the parent and the neighbours. Texts are compared last.

@@ -89,7 +89,14 @@ module _ (first second : ℕ) (w v : Working) (h : IsForest w.forest) (j : AreJo
       → offset_sum (length_at w.forest first) o ≡ length_at w.forest first + o
   unfolding offset_sum
   place_second o fits within =
-      omega (arith, fits, within, length-append (text_at w.forest first) (text_at w.forest second), length_within (text_in (label_of w.forest first)), length_within (text_in (label_of w.forest second)))
+      omega (
+        arith,
+        fits,
+        within,
+        length-append (text_at w.forest first) (text_at w.forest second),
+        length_within (text_in (label_of w.forest first)),
+        length_within (text_in (label_of w.forest second)),
+      )
 
   keeps_place : text_length (text_at w.forest first ++ text_at w.forest second) ≤ last_u32 → (x : Point) → is_among x.key (first ∷ second ∷ []) ≡ true
       → x.offset ≤ length_at w.forest x.key

@@ -69,7 +69,10 @@ tail_is k offset w b e =
     (λ v. after (new_step kinds.Text (tail_of v.forest k offset) v) (λ made. Ok (pointed (split_moves k offset v.next_key) made))) e in
     let part = first_part (new_step kinds.Text x w) (λ made. Ok (pointed (split_moves k offset w.next_key) made)) b allowed.1 in
     let told = answered (over_limits (characters_of x) w) (made kinds.Text x w) part.0 part.1 in
-    record { piece = allowed.0; is = ap (pointed (split_moves k offset w.next_key)) told.1 ∙ was_same (pointed (split_moves k offset w.next_key) part.0) b part.2 }
+    record {
+      piece = allowed.0;
+      is = ap (pointed (split_moves k offset w.next_key)) told.1 ∙ was_same (pointed (split_moves k offset w.next_key) part.0) b part.2;
+    }
 
 splice_is : (k from to : ℕ) (new : List ℕ) (b c : Working) → splice_step k from to new b ≡ Ok c
     → fields_written k (label_with_piece (label_of b.forest k) from to new) (length new) (splice_points k from to new) b ≡ c

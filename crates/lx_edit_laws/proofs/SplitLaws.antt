@@ -54,7 +54,11 @@ pub cut_up : (k : ℕ) (list : List ℕ) (w v : Working) → split_step k list w
 unfolding split_step
 cut_up k list w v e =
     let a = was_allowed (split_fault k list w.forest) w v (cut_at k 0 list) e in
-    record { kind_is = kind_by (kind_of w.forest k) (is_some-kind_of w.forest k ∙ grind (arith, a.0)) (grind (arith, a.0)); allowed = grind (arith, a.0); cut = a.1 }
+    record {
+      kind_is = kind_by (kind_of w.forest k) (is_some-kind_of w.forest k ∙ grind (arith, a.0)) (grind (arith, a.0));
+      allowed = grind (arith, a.0);
+      cut = a.1;
+    }
 
 -- ---- what is left
 

@@ -91,8 +91,10 @@ was_moved k p before w u v e can put =
 pub still_there : (k other p : ℕ) (w v : Working) → IsForest w.forest → parent_of w.forest other ≡ Some p → other ≢ k → take_step k w ≡ Ok v
     → IsForest v.forest × (parent_of v.forest other ≡ Some p)
 still_there k other p w v h up apart e =
-    let taken = was_taken k w v e in
-    (subst IsForest (sym taken.0) (IsForest-take_out k w.forest h), ap (λ f. parent_of f other) taken.0 ∙ parent_of-take_out k w.forest other h ∙ grind (arith, up, apart, eqb_tells other k))
+    let taken = was_taken k w v e in (
+      subst IsForest (sym taken.0) (IsForest-take_out k w.forest h),
+      ap (λ f. parent_of f other) taken.0 ∙ parent_of-take_out k w.forest other h ∙ grind (arith, up, apart, eqb_tells other k),
+    )
 
 pub was_moved_to_end : (to k : ℕ) (w v : Working) → moved_to_end to k w ≡ Ok v → WasMoved w.forest v.forest to k None
 unfolding moved_to_end

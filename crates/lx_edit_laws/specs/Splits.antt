@@ -50,5 +50,6 @@ pub record SplitsAreTold : Type 0 where
   -- each point in the text keeps its place in it
   pub points : (k : ℕ) (offsets pieces : List ℕ) (w v : Working) → IsSplit k offsets pieces w v → PlacesAreKept (k ∷ []) pieces w v
   -- and below any other node the same is read, where each node holds what it may, so that a text has nothing below it
-  pub read : (k : ℕ) (offsets pieces : List ℕ) (w v : Working) (b : ℕ) → IsSplit k offsets pieces w v → IsHeld may_hold w.forest → has b w.forest ≡ true → b ≢ k →
+  pub read : (k : ℕ) (offsets pieces : List ℕ) (w v : Working) (b : ℕ) → IsSplit k offsets pieces w v → IsHeld may_hold w.forest → has b w.forest ≡ true
+      → b ≢ k →
       read_below v.forest b ≡ read_below w.forest b

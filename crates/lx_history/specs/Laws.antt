@@ -26,5 +26,7 @@ pub record HistoriesTurn : Type 0 where
   pub push_undone : (before after state : State) (marks : Marked) (tags : Tags) (moment later : ℕ) (h : History) → h.current ≡ Some state
       → action_of h before after marks tags moment ≡ Push → (g : History) × GoesBack later (noted before after marks tags moment h) g × (g.current ≡ Some state)
   -- what is undone is redone, and what is redone is undone
-  pub undo_redone : (state : State) (moment later : ℕ) (h mid g : History) → h.current ≡ Some state → GoesBack moment h mid → GoesForth later mid g → IsBackAt state h g
-  pub redo_undone : (state : State) (moment later : ℕ) (h mid g : History) → h.current ≡ Some state → GoesForth moment h mid → GoesBack later mid g → IsBackAt state h g
+  pub undo_redone : (state : State) (moment later : ℕ) (h mid g : History) → h.current ≡ Some state → GoesBack moment h mid → GoesForth later mid g
+      → IsBackAt state h g
+  pub redo_undone : (state : State) (moment later : ℕ) (h mid g : History) → h.current ≡ Some state → GoesForth moment h mid → GoesBack later mid g
+      → IsBackAt state h g

@@ -42,7 +42,8 @@ impl History {
     }
 
     /// Notes a commit that led from one state to the other at a time, in milliseconds. The marks say what the update
-    /// marked, and the tags what was asked for the commit. It takes no memory.
+    /// marked, and the tags what was asked for the commit. It can't fail: where there is no memory for the keys at
+    /// which an entry may differ, it may differ anywhere.
     #[tactic(auto, unfolding(crate::specs::History::noted, crate::specs::History::action_of))]
     pub fn note(&mut self, before: &State, after: State, marks: &Marks, tags: Tags, moment: u64)
         requires prepared { IsPrepared self.old }

@@ -7,7 +7,7 @@ use Rattle.lx_host.specs.Hosts.{HostTree, new_tree, shape_of}
 use Rattle.lx_hub.specs.declared.hub.Attached.TheVariants as attached_as
 use Rattle.lx_hub.specs.declared.hub.Delivery.{Delivery}
 use Rattle.lx_hub.specs.declared.hub.Delivery.TheVariants.{Applied, Level, Behind}
-use Rattle.lx_hub.specs.Hub.{View, Hub, effects, is_full, next_view, is_numbered, view_in, changed_at, without_view, advanced, taken, taken_if, delivery_to, delivery_if, delivery, is_kept, oldest}
+use Rattle.lx_hub.specs.Hub.{View, Hub, effects, is_full, attached, next_view, is_numbered, view_in, changed_at, without_view, advanced, taken, taken_if, delivery_to, delivery_if, delivery, is_kept, oldest}
 use Rattle.lx_hub.specs.Standing.{all_effects}
 use Rattle.lx_hub.specs.Events.{Event, publish, attach, deliver, detach, hub_after, batches, tree_at, is_view, is_applied, come_to, IsAt, Lag}
 use Rattle.lx_hub.proofs.Kept.{take_take, all_map, all_behind}
@@ -26,13 +26,16 @@ abbrev IsBelow : ℕ → View → Type 0
 IsBelow made v = v.number ≤ made
 
 -- all that is known of a hub after these events
-record Known (events : List Event) : Type 0 where
-  commits : (hub_after events).commits ≡ length (batches events)
-  tip : (hub_after events).tip ≡ all_effects (batches events) new_tree
-  kept : (hub_after events).kept ≡ take 100 (batches events)
-  views : AllByRecursion (IsAt events) (hub_after events).views
-  below : AllByRecursion (IsBelow (hub_after events).made) (hub_after events).views
-  apart : AreApart (hub_after events).views
+record IsKnown (events : List Event) (h : Hub) : Type 0 where
+  commits : h.commits ≡ length (batches events)
+  tip : h.tip ≡ all_effects (batches events) new_tree
+  kept : h.kept ≡ take 100 (batches events)
+  views : AllByRecursion (IsAt events) h.views
+  below : AllByRecursion (IsBelow h.made) h.views
+  apart : AreApart h.views
+
+abbrev Known : List Event → Type 0
+Known events = IsKnown events (hub_after events)
 
 -- ---- host trees of commits
 
@@ -153,45 +156,34 @@ apart_behind (v ∷ vs) made w is below apart =
     let other : eqb w.number v.number ≡ false = grind (arith, below.0, is, eqb_tells w.number v.number) in
     (all_behind (HasOther v.number) vs w apart.0 other, apart_behind vs made w is below.1 apart.1)
 
+-- the hub with one view more
+abbrev with_next : Hub → Hub
+with_next h = record h { views = h.views ++ next_view h ∷ []; made = h.made + 1 }
+
 known_attached : (es : List Event) → Known es → Known (attach ∷ es)
 known_attached es k = go (is_full (hub_after es)) refl
   where
-    go : (b : Bool) → is_full (hub_after es) ≡ b → Known (attach ∷ es)
-    go true full =
-        let same : cond (is_full (hub_after es)) (hub_after es)
-        (record (hub_after es) { views = (hub_after es).views ++ next_view (hub_after es) ∷ []; made = (hub_after es).made + 1 }) ≡ hub_after es =
-        ap (λ b. cond b (hub_after es)
-        (record (hub_after es) { views = (hub_after es).views ++ next_view (hub_after es) ∷ []; made = (hub_after es).made + 1 })) full in
-        record {
-          commits = ap (λ (g : Hub). g.commits) same ∙ k.commits;
-          tip = ap (λ (g : Hub). g.tip) same ∙ k.tip;
-          kept = ap (λ (g : Hub). g.kept) same ∙ k.kept;
-          views = subst (λ (g : Hub). AllByRecursion (IsAt (attach ∷ es)) g.views) (sym same)
-              (all_map (IsAt es) (IsAt (attach ∷ es)) (hub_after es).views (λ v. at_full es v full) k.views);
-          below = subst (λ (g : Hub). AllByRecursion (IsBelow g.made) g.views) (sym same) k.below;
-          apart = subst (λ (g : Hub). AreApart g.views) (sym same) k.apart;
-        }
-    go false room =
-        let same : cond (is_full (hub_after es)) (hub_after es)
-        (record (hub_after es) { views = (hub_after es).views ++ next_view (hub_after es) ∷ []; made = (hub_after es).made + 1 })
-        ≡ record (hub_after es) { views = (hub_after es).views ++ next_view (hub_after es) ∷ []; made = (hub_after es).made + 1 } =
-        ap (λ b. cond b (hub_after es)
-        (record (hub_after es) { views = (hub_after es).views ++ next_view (hub_after es) ∷ []; made = (hub_after es).made + 1 })) room in
-        record {
-          commits = ap (λ (g : Hub). g.commits) same ∙ k.commits;
-          tip = ap (λ (g : Hub). g.tip) same ∙ k.tip;
-          kept = ap (λ (g : Hub). g.kept) same ∙ k.kept;
-          views = subst (λ (g : Hub). AllByRecursion (IsAt (attach ∷ es)) g.views) (sym same)
-              (all_behind (IsAt (attach ∷ es)) (hub_after es).views (next_view (hub_after es))
-              (all_both (IsBelow (hub_after es).made) (IsAt es) (IsAt (attach ∷ es)) (hub_after es).views (λ v. at_attached es v room) k.below k.views)
-              (new_at es room k));
-          below = subst (λ (g : Hub). AllByRecursion (IsBelow g.made) g.views) (sym same)
-              (all_behind (IsBelow ((hub_after es).made + 1)) (hub_after es).views (next_view (hub_after es))
-              (all_map (IsBelow (hub_after es).made) (IsBelow ((hub_after es).made + 1)) (hub_after es).views (λ v below. omega (arith, below)) k.below)
-              (omega arith));
-          apart = subst (λ (g : Hub). AreApart g.views) (sym same)
-              (apart_behind (hub_after es).views (hub_after es).made (next_view (hub_after es)) refl k.below k.apart);
-        }
+    go : (b : Bool) → is_full (hub_after es) ≡ b → IsKnown (attach ∷ es) (attached (hub_after es))
+    go true full = subst (IsKnown (attach ∷ es)) (sym (ap (λ b. cond b (hub_after es) (with_next (hub_after es))) full)) (record {
+      commits = k.commits;
+      tip = k.tip;
+      kept = k.kept;
+      views = all_map (IsAt es) (IsAt (attach ∷ es)) (hub_after es).views (λ v. at_full es v full) k.views;
+      below = k.below;
+      apart = k.apart;
+    })
+    go false room = subst (IsKnown (attach ∷ es)) (sym (ap (λ b. cond b (hub_after es) (with_next (hub_after es))) room)) (record {
+      commits = k.commits;
+      tip = k.tip;
+      kept = k.kept;
+      views = all_behind (IsAt (attach ∷ es)) (hub_after es).views (next_view (hub_after es))
+          (all_both (IsBelow (hub_after es).made) (IsAt es) (IsAt (attach ∷ es)) (hub_after es).views (λ v. at_attached es v room) k.below k.views)
+          (new_at es room k);
+      below = all_behind (IsBelow ((hub_after es).made + 1)) (hub_after es).views (next_view (hub_after es))
+          (all_map (IsBelow (hub_after es).made) (IsBelow ((hub_after es).made + 1)) (hub_after es).views (λ v below. omega (arith, below)) k.below)
+          (omega arith);
+      apart = apart_behind (hub_after es).views (hub_after es).made (next_view (hub_after es)) refl k.below k.apart;
+    })
 
 -- ---- deliveries
 
@@ -208,7 +200,11 @@ record IsAtBy (m : ℕ) (answer : Delivery) (es : List Event) (v : View) : Type 
 not_meant : (m : ℕ) (answer : Delivery) (es : List Event) (v : View) → eqb v.number m ≡ false → IsAt es v → IsAtBy m answer es v
 not_meant m answer es v other is =
     let flipped : eqb m v.number ≡ false = grind (arith, eqb_tells m v.number, eqb_tells v.number m) in
-    record { within = is.within; reached = is.reached ∙ sym (ap (λ b. cond (b && is_applied answer) (come_to v.number es + 1) (come_to v.number es)) flipped); tree = is.tree }
+    record {
+      within = is.within;
+      reached = is.reached ∙ sym (ap (λ b. cond (b && is_applied answer) (come_to v.number es + 1) (come_to v.number es)) flipped);
+      tree = is.tree;
+    }
 
 -- a delivery that isn't applied leaves the view
 left_at : (m : ℕ) (answer : Delivery) (es : List Event) (v : View) → is_applied answer ≡ false → IsAt es v → IsAtBy m answer es v
@@ -297,6 +293,14 @@ all_delivered m es (v ∷ vs) k all apart = go (is_numbered m v) refl (all_deliv
         (cond b (advanced (hub_after es) v ∷ vs) (v ∷ changed_at m (advanced (hub_after es)) vs))) (sym other)
         (not_meant m (delivery_if (hub_after es) (view_in m vs)) es v other all.0, later)
 
+taken_number : (o : Option (List Op)) (v : View) → (taken_if o v).number ≡ v.number
+taken_number None v = refl
+taken_number (Some ops) v = refl
+
+-- a delivery leaves a view's number
+same_number : (h : Hub) (v : View) → (advanced h v).number ≡ v.number
+same_number h v = taken_number (if eqb v.reached h.commits then None else slice_get h.kept (h.commits - v.reached - 1)) v
+
 numbers_stay : (P : ℕ → Type 0) (h : Hub) (m : ℕ) (vs : List View) → AllByRecursion (λ v. P v.number) vs
     → AllByRecursion (λ v. P v.number) (changed_at m (advanced h) vs)
 numbers_stay P h m [] all = tt
@@ -305,13 +309,6 @@ numbers_stay P h m (v ∷ vs) all =
       | true ↦ (subst P (sym (same_number h v)) all.0, all.1)
       | false ↦ (all.0, numbers_stay P h m vs all.1)
     ]
-  where
-    taken_number : (o : Option (List Op)) (v : View) → (taken_if o v).number ≡ v.number
-    taken_number None v = refl
-    taken_number (Some ops) v = refl
-
-    same_number : (h : Hub) (v : View) → (advanced h v).number ≡ v.number
-    same_number h v = taken_number (if eqb v.reached h.commits then None else slice_get h.kept (h.commits - v.reached - 1)) v
 
 apart_stay : (h : Hub) (m : ℕ) (vs : List View) → AreApart vs → AreApart (changed_at m (advanced h) vs)
 apart_stay h m [] apart = tt
@@ -320,13 +317,6 @@ apart_stay h m (v ∷ vs) apart =
       | true ↦ (subst (λ n. AllByRecursion (HasOther n) vs) (sym (same_number h v)) apart.0, apart.1)
       | false ↦ (numbers_stay (λ n. eqb n v.number ≡ false) h m vs apart.0, apart_stay h m vs apart.1)
     ]
-  where
-    taken_number : (o : Option (List Op)) (v : View) → (taken_if o v).number ≡ v.number
-    taken_number None v = refl
-    taken_number (Some ops) v = refl
-
-    same_number : (h : Hub) (v : View) → (advanced h v).number ≡ v.number
-    same_number h v = taken_number (if eqb v.reached h.commits then None else slice_get h.kept (h.commits - v.reached - 1)) v
 
 known_delivered : (m : ℕ) (es : List Event) → Known es → Known (deliver m ∷ es)
 known_delivered m es k = record {

@@ -253,8 +253,10 @@ unfolding outdented
 wrapped_and_back x w v u s None top e =
     let same : w ≡ v = was_same w v e in
     let again : outdented x w ≡ Ok u = ap (outdented x) same ∙ s.up in
-    let stays : w ≡ u = was_same w u (rw (s.item, top) at again) in
-    (ap (λ (z : Working). drop_detached z.forest) (sym stays), λ points. (ap (λ (z : Working). z.selection) (sym same), ap (λ (z : Working). z.selection) (sym stays)))
+    let stays : w ≡ u = was_same w u (rw (s.item, top) at again) in (
+      ap (λ (z : Working). drop_detached z.forest) (sym stays),
+      λ points. (ap (λ (z : Working). z.selection) (sym same), ap (λ (z : Working). z.selection) (sym stays)),
+    )
 wrapped_and_back x w v u s (Some p) up e =
     let f : Forest = w.forest in
     let h : IsForest f = s.ready.in_order in
@@ -268,8 +270,11 @@ wrapped_and_back x w v u s (Some p) up e =
           let off_p : has_point_on p w.selection ≡ false = off p (is_within-parent f x p h up) in
           let off_item : has_point_on down.item.key w.selection ≡ false = off down.item.key (absent f x down.item.key down.item_free) in
           let off_list : has_point_on down.list.key w.selection ≡ false = off down.list.key (absent f x down.list.key down.list_new) in
-          let first : v.selection ≡ w.selection = down.stays off_p off_item off_list in
-          (first, goes.1 (ap (has_point_on p) first ∙ off_p) (ap (has_point_on down.item.key) first ∙ off_item) (ap (has_point_on down.list.key) first ∙ off_list) ∙ first),
+          let first : v.selection ≡ w.selection = down.stays off_p off_item off_list in (
+            first,
+            goes.1 (ap (has_point_on p) first ∙ off_p) (ap (has_point_on down.item.key) first ∙ off_item) (ap (has_point_on down.list.key) first ∙ off_list)
+                ∙ first,
+          ),
     )
 
 pub alone_and_back : (x : ℕ) (w v u : Working) → GoesAndComes x w v u → nested_before w.forest x ≡ None → nested_behind w.forest x ≡ None

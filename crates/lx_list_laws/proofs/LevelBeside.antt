@@ -111,8 +111,13 @@ module _ (x list p holder : ℕ) (w v : Working) (s : WentIn x list p holder w v
   list_not_p : list ≢ p
   list_not_p e =
       let above : parent_of f p ≡ Some holder = sym (ap (parent_of f) e) ∙ list_up in
-      absurd (grind
-      (arith, is_within-parent f holder p s.in_order s.holder_up, is_within-up f holder p holder s.in_order above p_not_holder, is_within-self f holder, has-child f holder p s.holder_up))
+      absurd (grind (
+        arith,
+        is_within-parent f holder p s.in_order s.holder_up,
+        is_within-up f holder p holder s.in_order above p_not_holder,
+        is_within-self f holder,
+        has-child f holder p s.holder_up,
+      ))
 
   -- x isn't the list, which is in the neighbour
   list_not_x : list ≢ x

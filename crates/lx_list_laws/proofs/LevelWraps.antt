@@ -130,7 +130,21 @@ module _ (f g : Forest) (p x item list : ℕ) (s : HasSunk f g p x item list) wh
         let away = not_child f x p q h s.may.up (λ e. other.1 (sym e)) in
         let gone : (c : ℕ) → is_among c (children_of f q) ≡ false → names_without c (children_of f q) ≡ children_of f q =
         λ c. names_without-absent_list c (children_of f q) in
-        grind (arith, other.0, nested_children q, nobodys q, away, s.item_empty, x_not_list, eqb_tells q item, eqb_tells list list, eqb_tells list x, gone x, gone list, gone item)
+        grind (
+          arith,
+          other.0,
+          nested_children q,
+          nobodys q,
+          away,
+          s.item_empty,
+          x_not_list,
+          eqb_tells q item,
+          eqb_tells list list,
+          eqb_tells list x,
+          gone x,
+          gone list,
+          gone item,
+        )
   ]
 
   module _ (r : Forest) (up : WasMoved g r p x (Some item)) where
@@ -149,6 +163,16 @@ module _ (f g : Forest) (p x item list : ℕ) (s : HasSunk f g p x item list) wh
         same_reads (take_out item (take_out list r)) f (IsForest-take_out item (take_out list r) mid) h
         (λ q. label_of-take_out item (take_out list r) q mid ∙ label_of-take_out list r q order ∙ now_label r p (Some item) risen q)
         (λ q. parent_of-take_out item (take_out list r) q mid
-        ∙ grind (arith, out q, now_parent r p (Some item) risen q, s.may.can.detached, s.may.up, list_detached, eqb_tells q item, eqb_tells q list, eqb_tells q x))
+        ∙ grind (
+          arith,
+          out q,
+          now_parent r p (Some item) risen q,
+          s.may.can.detached,
+          s.may.up,
+          list_detached,
+          eqb_tells q item,
+          eqb_tells q list,
+          eqb_tells q x,
+        ))
         (λ q. children_of-take_out item (take_out list r) q mid ∙ ap (names_without item) (children_of-take_out list r q order)
         ∙ ap (λ ks. names_without item (names_without list ks)) (now_children r p (Some item) risen q) ∙ left q)

@@ -24,7 +24,11 @@ all-same s t (x ∷ xs) each = rw (each x (grind (arith, eqb_tells x x)), all-sa
 pub first-same : (s t : ℕ → Bool) (xs : List ℕ) → ((q : ℕ) → is_among q xs ≡ true → s q ≡ t q) → stand_first s xs ≡ stand_first t xs
 first-same s t [] each = refl
 first-same s t (x ∷ xs) each =
-    rw (each x (grind (arith, eqb_tells x x)), first-same s t xs (λ q among. each q (grind (arith, among))), any-same s t xs (λ q among. each q (grind (arith, among)))) refl
+    rw (
+      each x (grind (arith, eqb_tells x x)),
+      first-same s t xs (λ q among. each q (grind (arith, among))),
+      any-same s t xs (λ q among. each q (grind (arith, among))),
+    ) refl
 
 -- ---- what is left where some leave
 

@@ -164,7 +164,11 @@ reads_le f c s there =
 
 heading_le : (f : Forest) (q : ℕ) → Sound f → has q f ≡ true → heading_reads f q ≤ total (alone q f)
 heading_le f q s there =
-    omega (arith, total-alone f q (in_order_at f q s there) there, sum_le (reads_of f) (λ c. total (alone c f)) (children_of f q) (λ c among. reads_le f c s (child_there f q c s among)))
+    omega (
+      arith,
+      total-alone f q (in_order_at f q s there) there,
+      sum_le (reads_of f) (λ c. total (alone c f)) (children_of f q) (λ c among. reads_le f c s (child_there f q c s among)),
+    )
 
 nothing_within : (f : Forest) (q r : ℕ) → has q f ≡ false → is_within f q r ≡ false
 nothing_within f q r out = ap (has r) (alone-absent key_of q f (grind (arith, nat_tests, out)))
@@ -187,8 +191,17 @@ module _ (old new : Forest) (events : List Event) (after : Sound new) (told : Ar
       let tree_is = alone-spot new q x.at h x.at_is in
       let one : has_one test (alone q new) ≡ true = has_one_in test (alone q new) r.0 over.inside (told.changed r.0 r.1 over.here) in
       let kind_is : x.at.label.kind ≡ kind.Heading over.level = same_Some _ _ (sym x.kind_is ∙ over.kind_is) in
-      let full = full_worth test x.at.label (trees_of new x.at.children) over.level kind_is (sym (ap (has_one test) tree_is) ∙ one) in
-      (there, omega (arith, heading_le new q after there, worth_alone (heading_worth test) new q (h.once q), ap (head_worth (heading_worth test)) tree_is, ap total tree_is, full))
+      let full = full_worth test x.at.label (trees_of new x.at.children) over.level kind_is (sym (ap (has_one test) tree_is) ∙ one) in (
+        there,
+        omega (
+          arith,
+          heading_le new q after there,
+          worth_alone (heading_worth test) new q (h.once q),
+          ap (head_worth (heading_worth test)) tree_is,
+          ap total tree_is,
+          full,
+        ),
+      )
 
   pub few_reads : (keys : List ℕ) → NoRepeats keys → ((q : ℕ) → is_among q keys ≡ is_over_one new events q)
       → sum_by (heading_reads new) keys ≤ headings_size (is_changed events) new

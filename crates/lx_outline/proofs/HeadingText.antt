@@ -114,7 +114,11 @@ pub record IsInline (f : Forest) (q : ℕ) : Type 0 where
 pub below_heading : (f : Forest) (q c level : ℕ) → Sound f → kind_of f q ≡ Some (kind.Heading level) → parent_of f c ≡ Some q → IsInline f c
 below_heading f q c level s is up =
     let child = is_there f c (has-child f c q up) in
-    record { kind = child.at.label.kind; kind_is = child.kind_is; inline = heading_holds level child.at.label.kind (held_by f c q (kind.Heading level) child.at.label.kind s up is child.kind_is) }
+    record {
+      kind = child.at.label.kind;
+      kind_is = child.kind_is;
+      inline = heading_holds level child.at.label.kind (held_by f c q (kind.Heading level) child.at.label.kind s up is child.kind_is);
+    }
 
 -- the parent of a child of an inline node is a link, and has no children itself
 pub record IsInLink (f : Forest) (c g : ℕ) : Type 0 where

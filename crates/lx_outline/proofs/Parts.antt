@@ -1,39 +1,13 @@
 -- The parts of a list of events, key by key.
-use Rattle.std.proofs.Common.{◌≡◌, ◌∙◌, ◌⊎◌, ℕ, Bool, true, false, ◌||◌, ◌&&◌, eqb, List, [], ◌∷◌, ◌++◌, Some, refl, sym, ap, arith, inl, inr, subst}
-use Rattle.std.specs.Prelude.{IsTrue, ◌↔◌}
-use Rattle.std.proofs.lemmas.Bool.{cases_Bool}
+use Rattle.std.proofs.Common.{◌≡◌, ◌∙◌, ◌⊎◌, ℕ, Bool, true, false, ◌||◌, eqb, List, [], ◌∷◌, Some, refl, sym, ap, arith, inl, inr, subst}
 use Rattle.std.proofs.lemmas.Bool.Decides.{eqb_tells}
 use Rattle.lx_trees.specs.Siblings.{is_among, is_named}
-use Rattle.lx_trees.proofs.Siblings.{is_among-append}
 use Rattle.lx_forest.specs.Forest.{Forest}
 use Rattle.lx_forest.specs.Lookups.{has, parent_of, children_of}
 use Rattle.lx_links.specs.Stands.{Sound}
 use Rattle.lx_links.proofs.Placed.{child_named, parent_of-child}
 use Rattle.lx_outline.specs.Events.{IsDestroyed}
-use Rattle.lx_outline.specs.Parts.{IsPart, AreGone, HasLeft, Grows}
-
--- one marked key more, which is put there if the test says so
-pub part_more : (P : ℕ → Type 0) (marked keys more : List ℕ) (k : ℕ) (passed : Bool) → IsPart P marked keys → (IsTrue passed ↔ P k)
-    → ((q : ℕ) → is_among q more ≡ (is_among q keys || (passed && eqb q k))) → IsPart P (marked ++ k ∷ []) more
-part_more P marked keys more k passed part test added = record { each = each; all = all } where
-  each : (q : ℕ) → is_among q more ≡ true → P q
-  each q e = elim (eqb_tells q k) [
-    | inl own ↦ elim (cases_Bool passed) [
-      | inl passing ↦ subst P (sym own.1) (test.0 passing)
-      | inr failing ↦ part.each q (grind (arith, e, added q, failing))
-    ]
-    | inr other ↦ part.each q (grind (arith, e, added q, other.0))
-  ]
-
-  all : (q : ℕ) → is_among q (marked ++ k ∷ []) ≡ true → P q → is_among q more ≡ true
-  all q e p = elim (eqb_tells q k) [
-    | inl own ↦
-        let passing : passed ≡ true = test.1 (subst P own.1 p) in
-        grind (arith, added q, passing, own.0)
-    | inr other ↦
-        let before : is_among q marked ≡ true = grind (arith, e, is_among-append q marked (k ∷ []), eqb_tells k q, other.1) in
-        grind (arith, added q, part.all q before p)
-  ]
+use Rattle.lx_outline.specs.Parts.{AreGone, Grows}
 
 -- ---- what is gone
 
@@ -86,16 +60,3 @@ taken_all old new start keys more all left k sound there out is none taken added
       | inr other ↦ absurd (cc)
     ]
   ]
-
--- what has left its parent is there once what it took along is
-pub left_more : (old new : Forest) (keys more marked : List ℕ) (k : ℕ) → ((q : ℕ) → is_among q marked ≡ true → HasLeft old new q → is_among q keys ≡ true)
-    → Grows keys more → (HasLeft old new k → is_among k more ≡ true) → (q : ℕ) → is_among q (marked ++ k ∷ []) ≡ true → HasLeft old new q
-    → is_among q more ≡ true
-left_more old new keys more marked k told grows own q e left =
-    elim (either_of (is_among q marked) (is_among q (k ∷ [])) (sym (is_among-append q marked (k ∷ [])) ∙ e)) [
-      | inl before ↦ grows q (told q before left)
-      | inr last ↦ elim (eqb_tells k q) [
-        | inl same ↦ subst (λ x. HasLeft old new x → is_among x more ≡ true) same.1 own left
-        | inr other ↦ absurd (grind (arith, last, other.0))
-      ]
-    ]

@@ -55,7 +55,12 @@ total_weight (tree l below rest) = omega (arith, total_weight below, total_weigh
 pub among_keys : (of : Label → ℕ) (f : Forest) (events : List Event) → weight_among of f events ≡ sum_by (own_weight of f) (map key_in events)
 among_keys of f [] = refl
 among_keys of f (event ∷ events) =
-    omega (arith, sum_by-cons (λ (e : Event). own_weight of f (key_in e)) event events, sum_by-cons (own_weight of f) (key_in event) (map key_in events), among_keys of f events)
+    omega (
+      arith,
+      sum_by-cons (λ (e : Event). own_weight of f (key_in e)) event events,
+      sum_by-cons (own_weight of f) (key_in event) (map key_in events),
+      among_keys of f events,
+    )
 
 module _ (old new : Forest) (events : List Event) (before : Sound old) (after : Sound new) (told : AreFollowed old new events) where
   top : ℕ
@@ -72,12 +77,22 @@ module _ (old new : Forest) (events : List Event) (before : Sound old) (after : 
   pub old_part : (of : Label → ℕ) → weight_among of old events ≤ weight of old
   unfolding top
   old_part of =
-      omega (arith, among_keys of old events, with_others (own_weight of old) (map key_in events) top told.once within, weight_by_keys of old top before (omega arith))
+      omega (
+        arith,
+        among_keys of old events,
+        with_others (own_weight of old) (map key_in events) top told.once within,
+        weight_by_keys of old top before (omega arith),
+      )
 
   pub new_part : (of : Label → ℕ) → weight_among of new events ≤ weight of new
   unfolding top
   new_part of =
-      omega (arith, among_keys of new events, with_others (own_weight of new) (map key_in events) top told.once within, weight_by_keys of new top after (omega arith))
+      omega (
+        arith,
+        among_keys of new events,
+        with_others (own_weight of new) (map key_in events) top told.once within,
+        weight_by_keys of new top after (omega arith),
+      )
 
   same_others : (of : Label → ℕ) → ((q : ℕ) → IsSame old new q → own_weight of old q ≡ own_weight of new q) → (q : ℕ)
       → others (map key_in events) (own_weight of old) q ≡ others (map key_in events) (own_weight of new) q

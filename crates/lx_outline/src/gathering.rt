@@ -54,23 +54,24 @@ impl Gathered {
     }
 }
 
-/// Adds the piece of a node, and answers its next sibling.
+/// Adds the piece of a node, and answers its first child and its next sibling.
 fn add_piece<'a, R: Records<'a>>(
     records: &mut R,
     key: Key,
     text: &mut Gathered,
-) -> Result<Option<Key>, NoMemory>
+) -> Result<(Option<Key>, Option<Key>), NoMemory>
     ensures text { OnOk result (text.new ≡ text.old ++ piece_at (R.forest records.old) key) }
-    ensures next { IfOk result (λ next. next ≡ next_of (R.forest records.old) key) }
+    ensures first { IfOk result (λ ends. ends.0 ≡ first_child (R.forest records.old) key) }
+    ensures next { IfOk result (λ ends. ends.1 ≡ next_of (R.forest records.old) key) }
     ensures same { R.forest records.new ≡ R.forest records.old }
     ensures sound { Sound (R.forest records.old) }
     ensures reads { R.count records.new ≤ R.count records.old + 1 }
 {
     let Some(node) = records.read(key) else {
-        return Ok(None);
+        return Ok((None, None));
     };
     text.push(piece_of(node))?;
-    Ok(node.next)
+    Ok((node.first, node.next))
 }
 
 /// Adds the pieces of the children of a node, of which this is the first.
@@ -87,7 +88,8 @@ fn add_children<'a, R: Records<'a>>(
 {
     let mut at = first;
     while let Some(key) = at {
-        at = add_piece(records, key, text)?;
+        let (_, next) = add_piece(records, key, text)?;
+        at = next;
     }
     Ok(())
 }
@@ -104,12 +106,9 @@ fn add_with_children<'a, R: Records<'a>>(
     ensures sound { Sound (R.forest records.old) }
     ensures reads { R.count records.new ≤ R.count records.old + reads_of (R.forest records.old) key }
 {
-    let Some(node) = records.read(key) else {
-        return Ok(None);
-    };
-    text.push(piece_of(node))?;
-    add_children(records, key, node.first, text)?;
-    Ok(node.next)
+    let (first, next) = add_piece(records, key, text)?;
+    add_children(records, key, first, text)?;
+    Ok(next)
 }
 
 /// Adds all that the text of a heading has: the pieces of its children, of which this is the first, and of theirs.

@@ -81,8 +81,10 @@ along-gone olds news p q o a met on =
     alike a.walking (drop_from olds p.passed o says.0) refl refl refl refl in
     let v = step-gone o olds news (drop (p.passed + 1) olds) (drop p.reached news) _ p.handled.keys p.moves.items
     (gone-known olds news _ p.handled.keys p o w says.1) w in
-    let within = get_within olds p.passed o says.0 in
-    (goes-on olds news _ p.handled.keys p q (Leave o) (p.passed + 1) p.reached (p.passed + 1) a on v refl within a.reached_within within, omega (arith, within, on.passed_is, on.reached_is))
+    let within = get_within olds p.passed o says.0 in (
+      goes-on olds news _ p.handled.keys p q (Leave o) (p.passed + 1) p.reached (p.passed + 1) a on v refl within a.reached_within within,
+      omega (arith, within, on.passed_is, on.reached_is),
+    )
 
 -- the next child after is new, also where none before is left
 new-known : (olds news back done : List ℕ) (p : Progress) (n : ℕ)

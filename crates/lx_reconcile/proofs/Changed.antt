@@ -45,7 +45,12 @@ changes_then host a b c start mid end first then = record {
 pub changes_ending : (host : ℕ) (face : Face) (ending : Bool) (start end : List Op) → face.ending ≢ ending → end ≡ start ++ Break host ending ∷ []
     → Changes host face (with_ending ending face) start end
 changes_ending host face ending start end other is =
-    record { pushed = Break host ending ∷ []; list = is; only = (is_break ending, tt); leads = λ kids n. at_break host (record { id = host; face = face }) kids n ending refl (λ e. other (sym (ap (λ (f : Face). f.ending) e))) }
+    record {
+      pushed = Break host ending ∷ [];
+      list = is;
+      only = (is_break ending, tt);
+      leads = λ kids n. at_break host (record { id = host; face = face }) kids n ending refl (λ e. other (sym (ap (λ (f : Face). f.ending) e)));
+    }
 
 pub unequal_ending : (face : Face) (old new : Bool) → face.ending ≡ old → beq old new ≡ false → face.ending ≢ new
 unequal_ending face old new is differ e = grind (arith, is, differ, e)

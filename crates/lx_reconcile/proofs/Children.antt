@@ -268,8 +268,14 @@ made_child f g key host start child id at next next_id ops new same s here m nex
           ∙ made_one f host id child rest ops c.ordered c.there
           ∙ sym (ap (λ ks. ops ++ creations host id (trees_of f ks)) left)
           ∙ m.made;
-      next = omega
-          (arith, m.next, id_after, ap (λ ks. total (trees_of f ks)) then, ap (λ ks. total (trees_of f ks)) left, total-joined (alone child f) (trees_of f rest));
+      next = omega (
+        arith,
+        m.next,
+        id_after,
+        ap (λ ks. total (trees_of f ks)) then,
+        ap (λ ks. total (trees_of f ks)) left,
+        total-joined (alone child f) (trees_of f rest),
+      );
     }
 
 -- what the call for a child needs
@@ -303,7 +309,11 @@ pub fewer_left : (f g : Forest) (key child : ℕ) (at next : Option ℕ) → g �
 fewer_left f g key child at next same s here place next_is =
     let kids = children_of f key in
     let c = child_left f key child s (sym (ap (λ o. is_place o kids) here) ∙ place) in
-    omega (arith, ap length (ap (λ o. from_name o kids) (next_is ∙ ap (λ f. next_of f child) same ∙ c.next)), ap length (ap (λ o. from_name o kids) here ∙ c.left))
+    omega (
+      arith,
+      ap length (ap (λ o. from_name o kids) (next_is ∙ ap (λ f. next_of f child) same ∙ c.next)),
+      ap length (ap (λ o. from_name o kids) here ∙ c.left),
+    )
 
 -- how much is left, before a child and after it
 pub left_with : (f g : Forest) (key child : ℕ) (at next : Option ℕ) → g ≡ f → Sound f → at ≡ Some child → is_place at (children_of f key) ≡ true
@@ -315,4 +325,10 @@ left_with f g key child at next same s here place next_is =
     let rest = from_name (next_in kids child) kids in
     let left : from_name at kids ≡ child ∷ rest = ap (λ o. from_name o kids) here ∙ c.left in
     let then : from_name next kids ≡ rest = ap (λ o. from_name o kids) (next_is ∙ ap (λ f. next_of f child) same ∙ c.next) in
-    omega (arith, ap (λ f. total (alone child f)) same, ap (λ ks. total (trees_of f ks)) left, ap (λ ks. total (trees_of f ks)) then, total-joined (alone child f) (trees_of f rest))
+    omega (
+      arith,
+      ap (λ f. total (alone child f)) same,
+      ap (λ ks. total (trees_of f ks)) left,
+      ap (λ ks. total (trees_of f ks)) then,
+      total-joined (alone child f) (trees_of f rest),
+    )

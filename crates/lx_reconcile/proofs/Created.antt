@@ -68,7 +68,15 @@ put_below-nil p (tree h below rest) =
 pub put_below-twice : (p : ℕ) (new more t : Trees Host) → put_below p None more (put_below p None new t) ≡ put_below p None (joined new more) t
 put_below-twice p new more nil = refl
 put_below-twice p new more (tree h below rest) =
-    grind (arith, put_below-twice p new more below, put_below-twice p new more rest, inserted-None new below, inserted-None more (joined below new), inserted-None (joined new more) below, joined-assoc below new more)
+    grind (
+      arith,
+      put_below-twice p new more below,
+      put_below-twice p new more rest,
+      inserted-None new below,
+      inserted-None more (joined below new),
+      inserted-None (joined new more) below,
+      joined-assoc below new more,
+    )
 
 -- what new hosts need: the ids from the next one on are free, there are so many, and the parent is there once
 pub record IsReadyFor (parent more : ℕ) (hosts : Trees Host) (next : ℕ) : Type 0 where
@@ -201,10 +209,19 @@ ready_behind parent next hosts label below rest ready =
     let before = parent_before parent (total (tree label below rest)) hosts next ready in
     let counted = λ (q : ℕ). trees.count-put_below id_of q parent None new hosts ready.once in
     record {
-      free = λ q h. omega
-          (arith, h, ready.free q (omega (arith, h)), counted q, count_other q next face inner (omega (arith, h)) (count-numbered_behind q (next + 1) (render below) (omega (arith, h, total-render below))));
-      once = omega
-          (arith, ready.once, counted parent, count_other parent next face inner (omega (arith, before)) (count-numbered_before parent (next + 1) (render below) (omega (arith, before))));
+      free = λ q h. omega (
+        arith,
+        h,
+        ready.free q (omega (arith, h)),
+        counted q,
+        count_other q next face inner (omega (arith, h)) (count-numbered_behind q (next + 1) (render below) (omega (arith, h, total-render below))),
+      );
+      once = omega (
+        arith,
+        ready.once,
+        counted parent,
+        count_other parent next face inner (omega (arith, before)) (count-numbered_before parent (next + 1) (render below) (omega (arith, before))),
+      );
       room = omega (arith, ready.room);
     }
 

@@ -360,7 +360,15 @@ placed_child h c before a kids w p k =
     let hosts = replaced h left w.hosts in
     let at : IsAt h left = record { host = a; below = without c kids; is = refl; id = p.id } in
     let once : count h hosts ≡ 1 =
-    omega (arith, ap (count h) (sym (without_child h c a kids w p k)), count-without-alone h c w.hosts, p.once, p.apart, ap (count h) (alone_child h c a kids w p k), count-without-alone h c kids) in
+    omega (
+      arith,
+      ap (count h) (sym (without_child h c a kids w p k)),
+      count-without-alone h c w.hosts,
+      p.once,
+      p.apart,
+      ap (count h) (alone_child h c a kids w p k),
+      count-without-alone h c kids,
+    ) in
     let inner : replaced h to left ≡ to = rw (eq-eqb a.id h p.id) refl in
     ap (λ new. put_below h before new (without c w.hosts)) (alone_child h c a kids w p k)
     ∙ ap (put_below h before (alone c kids)) (without_child h c a kids w p k)

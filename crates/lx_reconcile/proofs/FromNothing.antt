@@ -128,7 +128,8 @@ module _ (f : Forest) (ops : List Op) (view : HostTree) (s : Sound f) (living : 
     view_is =
         let these : Leads new_tree (fresh_ops (tree root.label root.below nil)) view =
         subst (λ o. Leads new_tree o view) (is ∙ ap fresh_ops root.tree_is) leads in
-        Leads-same (fresh_ops (tree root.label root.below nil)) new_tree view (shown_by root.label root.below) these (fresh_leads root.label root.below root.room)
+        Leads-same (fresh_ops (tree root.label root.below nil)) new_tree view (shown_by root.label root.below) these
+        (fresh_leads root.label root.below root.room)
 
     pub fresh_shows : Shows view (alone 0 f)
     fresh_shows =

@@ -299,7 +299,18 @@ module _ {old new : Forest} {mk : Marking} {v : HostTree} {k c n : ℕ} {before 
   -- where a child was placed, it stays next
   pub placed_next : IsNext old new v k (Stay c) n
   placed_next =
-      record { more = x.more; are = record { from = x.are.from; ops = _; a = x.are.a; walk = walk_place b.view x.are.walk; behind = x.are.behind; room = x.are.room; there = x.are.there } }
+      record {
+        more = x.more;
+        are = record {
+          from = x.are.from;
+          ops = _;
+          a = x.are.a;
+          walk = walk_place b.view x.are.walk;
+          behind = x.are.behind;
+          room = x.are.room;
+          there = x.are.there;
+        };
+      }
 
   -- a child is placed, so the children don't keep their order, and differ
   placed_order : KeepsOrder old new k → ⊥
@@ -370,8 +381,15 @@ module _ {old new : Forest} {mk : Marking} {v : HostTree} {k : ℕ} where
       subst (λ z. IsInWalk old new v k x.are.from x.are.ops x.are.a z n) split x.are.walk in
       record {
         more = behind;
-        are = record
-            { from = x.are.from; ops = x.are.ops ++ made.pushed; a = x.are.a; walk = made.leads x.are.from x.are.ops x.are.a (s ∷ behind) walk; behind = x.are.behind; room = x.are.room; there = x.are.there };
+        are = record {
+          from = x.are.from;
+          ops = x.are.ops ++ made.pushed;
+          a = x.are.a;
+          walk = made.leads x.are.from x.are.ops x.are.a (s ∷ behind) walk;
+          behind = x.are.behind;
+          room = x.are.room;
+          there = x.are.there;
+        };
       }
 
 -- ---- how many reads go to some of the moves

@@ -34,7 +34,13 @@ at_kids h a kids n ops to m given =
 pub no_repeats : (ids : ℕ → ℕ) (family : ℕ → Trees Host) (cs : List ℕ) → AreAt ids family cs → ((q : ℕ) → count q (flat family cs) < 2) → NoRepeats cs
 no_repeats ids family [] at once = tt
 no_repeats ids family (k ∷ ks) at once = (
-  grind (arith, once (ids k), count-joined (ids k) (family k) (flat family ks), count-at (ids k) (family k) (at k (among_first k ks)), count-flat (ids k) k family ks),
+  grind (
+    arith,
+    once (ids k),
+    count-joined (ids k) (family k) (flat family ks),
+    count-at (ids k) (family k) (at k (among_first k ks)),
+    count-flat (ids k) k family ks,
+  ),
   no_repeats ids family ks (λ c e. at c (among_rest c k ks e)) (λ q. omega (arith, once q, count-joined q (family k) (flat family ks))),
 )
 

@@ -48,7 +48,15 @@ module _ (old new : Forest) (mk : Marking) (v : HostTree) (b : IsBetween old new
   pub skip_next : (k : ℕ) (front : List ℕ) (more : List Move) (n : ℕ) → ArePlain mk.noted front → AreNext old new v k (map Stay front ++ more) n
       → AreNext old new v k more n
   skip_next k front more n plain x =
-      record { from = x.from; ops = x.ops; a = x.a; walk = skip_all k x.from x.ops x.a front more n plain x.walk; behind = x.behind; room = x.room; there = x.there }
+      record {
+        from = x.from;
+        ops = x.ops;
+        a = x.a;
+        walk = skip_all k x.from x.ops x.a front more n plain x.walk;
+        behind = x.behind;
+        room = x.room;
+        there = x.there;
+      }
 
   -- its moves are made by no operation
   pub makes_plain : (k : ℕ) (front : List ℕ) (n : ℕ) (start : List Op) → ArePlain mk.noted front → MakesMoves old new mk v k (map Stay front) n start start n

@@ -165,7 +165,12 @@ pub reads_append : (old new : Forest) (noted : ℕ → Bool) (p : Option ℕ) (x
     → reads_in old noted p (trees_of new (xs ++ ys)) ≡ reads_in old noted p (trees_of new xs) + reads_in old noted p (trees_of new ys)
 reads_append old new noted p [] ys = omega arith
 reads_append old new noted p (x ∷ xs) ys =
-    omega (arith, reads-joined old noted p (alone x new) (trees_of new (xs ++ ys)), reads-joined old noted p (alone x new) (trees_of new xs), reads_append old new noted p xs ys)
+    omega (
+      arith,
+      reads-joined old noted p (alone x new) (trees_of new (xs ++ ys)),
+      reads-joined old noted p (alone x new) (trees_of new xs),
+      reads_append old new noted p xs ys,
+    )
 
 pub reads-alone : (old new : Forest) (noted : ℕ → Bool) (p : Option ℕ) (c : ℕ)
     → reads_in old noted p (trees_of new (c ∷ [])) ≡ reads_in old noted p (alone c new)

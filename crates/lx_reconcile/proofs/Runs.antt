@@ -3,8 +3,9 @@ use Rattle.std.proofs.Common.{◌≡◌, ◌∙◌, ◌+◌, ◌≤◌, ◌<◌,
 use Rattle.std.proofs.lemmas.Bool.Decides.{eqb_tells}
 use Rattle.lx_trees.specs.Siblings.{is_among, NoRepeats, first_of, last_of, next_in, previous_in}
 use Rattle.lx_trees.proofs.Siblings.{is_among-append, first_of-among}
+use Rattle.lx_node.specs.declared.node.Node.{Node}
 use Rattle.lx_reconcile.specs.declared.windows.Window.{Window}
-use Rattle.lx_reconcile.specs.Windows.{IsWindow, marked_among, Takes, IsWindowOfMarks}
+use Rattle.lx_reconcile.specs.Windows.{IsWindow, marked_among, beside, IsGrown, Takes, IsWindowOfMarks}
 use Rattle.lx_reconcile.proofs.Lists.{NoRepeats-right, apart, last_of-among}
 use Rattle.lx_reconcile.proofs.Shared.{next_in-behind, previous_from-first, last_is}
 
@@ -36,18 +37,18 @@ marked-none noted (x ∷ xs) none k e = grind (arith, none, e, eqb_tells x k, ma
 
 -- ---- one more child
 
-pub before_among : (children : List ℕ) (w : Window) (child : ℕ) → IsWindow children w → w.before ≡ Some child → is_among child children ≡ true
+before_among : (children : List ℕ) (w : Window) (child : ℕ) → IsWindow children w → w.before ≡ Some child → is_among child children ≡ true
 before_among children w child is here =
     ap (is_among child) is.list
     ∙ is_among-append child is.front (w.keys.items ++ is.back)
     ∙ ap (λ b. b || is_among child (w.keys.items ++ is.back)) (last_of-among is.front child (sym is.before ∙ here))
 
-pub behind_among : (children : List ℕ) (w : Window) (child : ℕ) → IsWindow children w → w.behind ≡ Some child → is_among child children ≡ true
+behind_among : (children : List ℕ) (w : Window) (child : ℕ) → IsWindow children w → w.behind ≡ Some child → is_among child children ≡ true
 behind_among children w child is here =
     let last : is_among child is.back ≡ true = first_of-among is.back child (sym is.behind ∙ here) in
     grind (arith, ap (is_among child) is.list, is_among-append child is.front (w.keys.items ++ is.back), is_among-append child w.keys.items is.back, last)
 
-pub taken_before : (noted : ℕ → Bool) (children : List ℕ) (old new : Window) (child : ℕ) (marked : Bool) → NoRepeats children → IsWindow children old
+taken_before : (noted : ℕ → Bool) (children : List ℕ) (old new : Window) (child : ℕ) (marked : Bool) → NoRepeats children → IsWindow children old
     → old.before ≡ Some child
     → new.before ≡ previous_in children child → new.keys.items ≡ child ∷ old.keys.items → new.behind ≡ old.behind → marked ≡ noted child
     → Takes noted children old new marked
@@ -69,7 +70,7 @@ taken_before noted children old new child marked once w here before keys behind 
       one = ap length keys ∙ omega arith;
     }
 
-pub taken_behind : (noted : ℕ → Bool) (children : List ℕ) (old new : Window) (child : ℕ) (marked : Bool) → NoRepeats children → IsWindow children old
+taken_behind : (noted : ℕ → Bool) (children : List ℕ) (old new : Window) (child : ℕ) (marked : Bool) → NoRepeats children → IsWindow children old
     → old.behind ≡ Some child
     → new.before ≡ old.before → new.keys.items ≡ old.keys.items ++ child ∷ [] → new.behind ≡ next_in children child → marked ≡ noted child
     → Takes noted children old new marked
@@ -80,7 +81,12 @@ taken_behind noted children old new child marked once w here before keys behind 
     let keys_once : NoRepeats (old.keys.items ++ child ∷ split.0) = NoRepeats-right w.front (old.keys.items ++ child ∷ split.0) list_once in
     let out_keys : is_among child old.keys.items ≡ false = grind (arith, apart old.keys.items (child ∷ split.0) child keys_once, eqb_tells child child) in
     let out_front : is_among child w.front ≡ false =
-    grind (arith, apart w.front (old.keys.items ++ child ∷ split.0) child list_once, eqb_tells child child, is_among-append child old.keys.items (child ∷ split.0)) in
+    grind (
+      arith,
+      apart w.front (old.keys.items ++ child ∷ split.0) child list_once,
+      eqb_tells child child,
+      is_among-append child old.keys.items (child ∷ split.0),
+    ) in
     record {
       is = record {
         front = w.front;
@@ -97,6 +103,19 @@ taken_behind noted children old new child marked once w here before keys behind 
       marks = ap (marked_among noted) keys ∙ marked-append noted old.keys.items (child ∷ []) ∙ grind (arith, told);
       one = ap length keys ∙ length-append old.keys.items (child ∷ []);
     }
+
+pub beside_among : (behind : Bool) (children : List ℕ) (w : Window) (child : ℕ) → IsWindow children w → beside behind w ≡ Some child
+    → is_among child children ≡ true
+beside_among true = behind_among
+beside_among false = before_among
+
+pub taken : (noted : ℕ → Bool) (children : List ℕ) (old new : Window) (behind : Bool) (child : ℕ) (node : Node) (marked : Bool) → NoRepeats children
+    → IsWindow children old → beside behind old ≡ Some child → node.prev ≡ previous_in children child → node.next ≡ next_in children child
+    → IsGrown behind child node old new → marked ≡ noted child → Takes noted children old new marked
+taken noted children old new true child node marked once w here prev next grown told =
+    taken_behind noted children old new child marked once w here grown.before grown.keys (grown.behind_is ∙ next) told
+taken noted children old new false child node marked once w here prev next grown told =
+    taken_before noted children old new child marked once w here (grown.before ∙ prev) grown.keys grown.behind_is told
 
 -- ---- the first child
 

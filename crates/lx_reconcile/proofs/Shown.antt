@@ -138,7 +138,14 @@ hosts_of-one q t e = list_one (hosts_of q t) (length-hosts_of q t ∙ e)
 pub count-hosts_of : (k i : ℕ) (t : Trees Host) → is_among i (hosts_of k t) ≡ true → 0 < count i t
 count-hosts_of k i nil e = absurd (cc)
 count-hosts_of k i (tree h b r) e =
-    grind (arith, e, is_among-append i (cond (eqb h.face.key k) (h.id ∷ []) [] ++ hosts_of k b) (hosts_of k r), is_among-append i (cond (eqb h.face.key k) (h.id ∷ []) []) (hosts_of k b), count-hosts_of k i b, count-hosts_of k i r)
+    grind (
+      arith,
+      e,
+      is_among-append i (cond (eqb h.face.key k) (h.id ∷ []) [] ++ hosts_of k b) (hosts_of k r),
+      is_among-append i (cond (eqb h.face.key k) (h.id ∷ []) []) (hosts_of k b),
+      count-hosts_of k i b,
+      count-hosts_of k i r,
+    )
 
 pub among_one : (i : ℕ) (xs : List ℕ) → xs ≡ i ∷ [] → is_among i xs ≡ true
 among_one i xs e = rw (e, eq-eqb i i refl) refl

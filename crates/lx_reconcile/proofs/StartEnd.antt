@@ -183,7 +183,14 @@ shown_same old new v k h shows n there same =
       keeps = λ q kept inside.
           let in_old : 0 < forest.count q (forest.alone k old) = ltb-true 0 (forest.count q (forest.alone k old)) (sym (ap (forest.has q) same) ∙ inside) in
           let out : named.count key_in q (named.without key_in k v.hosts) ≡ 0 =
-          omega (arith, in_old, h.once q, count-shown q v.hosts old shows, count-shown q (named.alone key_in k v.hosts) (forest.alone k old) shape, trees.count-without-alone key_in q k v.hosts) in
+          omega (
+            arith,
+            in_old,
+            h.once q,
+            count-shown q v.hosts old shows,
+            count-shown q (named.alone key_in k v.hosts) (forest.alone k old) shape,
+            trees.count-without-alone key_in q k v.hosts,
+          ) in
           sym (ap (hosts_of q) keyed) ∙ hosts_of-alone q k v.hosts out;
     }
 

@@ -125,7 +125,10 @@ step-same k olds news old new back done moves news_once w =
       suited = All-push (λ m. suits_children olds m ≡ true) moves (Stay k) w.suited in_olds;
       unhandled = unhandled-push w (Stay k) (λ b e. absurd (cc));
       kept_order =
-          λ same. (kept_order-same k old new news olds in_news in_olds (w.kept_order same).0, list_any-append is_placing moves (Stay k ∷ []) ∙ ap (λ b. b || false) (w.kept_order same).1);
+          λ same. (
+            kept_order-same k old new news olds in_news in_olds (w.kept_order same).0,
+            list_any-append is_placing moves (Stay k ∷ []) ∙ ap (λ b. b || false) (w.kept_order same).1,
+          );
     }
 
 -- ---- the next child before is none of those after: it leaves, and the cursor goes to where it was
@@ -183,7 +186,10 @@ step-gone o olds news old new back done moves gone w =
       suited = All-push (λ m. suits_children olds m ≡ true) moves (Leave o) w.suited in_olds;
       unhandled = unhandled-push w (Leave o) (λ b e. absurd (cc));
       kept_order =
-          λ same. (sym (common-out o old news gone) ∙ (w.kept_order same).0, list_any-append is_placing moves (Leave o ∷ []) ∙ ap (λ b. b || false) (w.kept_order same).1);
+          λ same. (
+            sym (common-out o old news gone) ∙ (w.kept_order same).0,
+            list_any-append is_placing moves (Leave o ∷ []) ∙ ap (λ b. b || false) (w.kept_order same).1,
+          );
     }
 
 -- ---- the next child after is none of those before: it is made at the cursor
@@ -229,7 +235,10 @@ step-made n olds news old new back done moves news_once none w =
       suited = All-push (λ m. suits_children olds m ≡ true) moves (Make n (first_of back)) w.suited (ap not none);
       unhandled = unhandled-push w (Make n (first_of back)) (first_of-among back);
       kept_order =
-          λ same. ((w.kept_order same).0 ∙ common-out n new olds none, list_any-append is_placing moves (Make n (first_of back) ∷ []) ∙ ap (λ b. b || false) (w.kept_order same).1);
+          λ same. (
+            (w.kept_order same).0 ∙ common-out n new olds none,
+            list_any-append is_placing moves (Make n (first_of back) ∷ []) ∙ ap (λ b. b || false) (w.kept_order same).1,
+          );
     } in
     subst (λ xs. IsWalking olds news old new xs (done ++ n ∷ []) (moves ++ Make n (first_of back) ∷ [])) (sym (names_without-absent_list n back n_back)) walked
 
@@ -324,4 +333,14 @@ step-placed o n olds news old new back done moves news_once o_news n_olds other 
     can (first_of-among back) to (common-names_without n w.front done undone ∙ w.in_order)
     (grind (arith, is_among-names_without n n w.front, eqb_tells n n))
     (λ q. is_among-append q (names_without n w.front ++ n ∷ []) (names_without n back)
-    ∙ grind (arith, n_children, is_among-append q (names_without n w.front) (n ∷ []), is_among-names_without n q w.front, is_among-names_without n q back, is_among-append q w.front back, is_among-append n w.front back, eqb_tells n q, eqb_tells q n))
+    ∙ grind (
+      arith,
+      n_children,
+      is_among-append q (names_without n w.front) (n ∷ []),
+      is_among-names_without n q w.front,
+      is_among-names_without n q back,
+      is_among-append q w.front back,
+      is_among-append n w.front back,
+      eqb_tells n q,
+      eqb_tells q n,
+    ))

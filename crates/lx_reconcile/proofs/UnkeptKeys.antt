@@ -263,7 +263,8 @@ told_tree old new l b g h whole key kind =
     let inside : (q : ℕ) → is_among q keys ≡ true → 0 < count q b = λ q e. grind (arith, e, unkept_keys-absent old (Some 0) b q) in
     let stays = root_here old l g key kind in
     let same : unkept old None new ≡ unkept old (Some 0) b =
-    ap (unkept old None) whole ∙ ap (λ c. cond c (unkept old (Some l.key) b) (1 + total b) + 0) stays ∙ ap (λ k. unkept old (Some k) b + 0) key ∙ omega arith in (
+    ap (unkept old None) whole ∙ ap (λ c. cond c (unkept old (Some l.key) b) (1 + total b) + 0) stays ∙ ap (λ k. unkept old (Some k) b + 0) key
+    ∙ omega arith in (
       keys,
       record {
         each = λ q. (

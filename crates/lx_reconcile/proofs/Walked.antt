@@ -174,7 +174,13 @@ module _ (old new : Forest) where
       → unkept old (Some c) (trees_of new (children_of new c)) ≤ unkept old (Some k) (forest.alone c new)
   child_unkept k c h there =
       let s = stands_there new c h there in
-      omega (arith, ap (unkept old (Some k)) s.tree_is, ap (λ q. unkept old (Some q) s.below) s.key, ap (unkept old (Some c)) s.below_is, unkept-below old (Some k) s.label s.below)
+      omega (
+        arith,
+        ap (unkept old (Some k)) s.tree_is,
+        ap (λ q. unkept old (Some q) s.below) s.key,
+        ap (unkept old (Some c)) s.below_is,
+        unkept-below old (Some k) s.label s.below,
+      )
 
   -- all in the tree of a child that wasn't one, or was another element
   pub made_unkept : (k c : ℕ) → IsForest old → IsForest new → forest.has c new ≡ true → is_among c (children_of old k) ≡ false

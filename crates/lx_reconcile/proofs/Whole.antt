@@ -101,7 +101,15 @@ module _ (old new : Forest) (mk : Marking) (v : HostTree) (k n : ℕ) (was now :
   children_coming {moves} h start end id behind room p face =
       let c = written h start end id face in
       part_coming old new mk v b k (children_of old k) (children_of new k) moves n p
-      (record { from = n; ops = c.pushed; a = showing v k mid_face; walk = face_walk start end p c; behind = behind; room = room; there = there_read new k now after_read })
+      (record {
+        from = n;
+        ops = c.pushed;
+        a = showing v k mid_face;
+        walk = face_walk start end p c;
+        behind = behind;
+        room = room;
+        there = there_read new k now after_read;
+      })
 
   last_face : (ended : Bool) → tag_of was.kind was.fields ≡ tag_of now.kind now.fields → ended ≡ needs_break now.kind (kind_at new now.last)
       → with_ending ended mid_face ≡ face_of (label_from k now) (last_kind (trees_of new (children_of new k)))
@@ -220,7 +228,13 @@ pub root_unkept : (old f : Forest) → IsTree f → unkept old (Some 0) (trees_o
 root_unkept old f t =
     let h = tree_ordered f t in
     let s = stands_there f 0 h (has-root f h) in
-    omega (arith, ap (unkept old None) (sym (one_tree f h t.alone) ∙ s.tree_is), ap (λ q. unkept old (Some q) s.below) s.key, ap (unkept old (Some 0)) s.below_is, unkept-below old None s.label s.below)
+    omega (
+      arith,
+      ap (unkept old None) (sym (one_tree f h t.alone) ∙ s.tree_is),
+      ap (λ q. unkept old (Some q) s.below) s.key,
+      ap (unkept old (Some 0)) s.below_is,
+      unkept-below old None s.label s.below,
+    )
 
 pub all_allowed : (old new : Forest) (mk : Marking) (v : HostTree) (start ops : List Op) (m : ℕ) → IsTree old → IsTree new → IsBetween old new mk v → start ≡ []
     → Reconciles old new mk v 0 v.next start ops m → IsAllowed old new mk v ops
@@ -290,7 +304,15 @@ nothing_allowed old new mk v k ops e none was is b plain =
 pub root_room : (v : HostTree) (old old_now f f_now : Forest) (k n : ℕ) → k ≡ 0 → n ≡ v.next → old_now ≡ old → f_now ≡ f → IsTree f
     → v.next + unkept old None f ≤ last_u32 → n + unkept old_now (Some k) (trees_of f_now (children_of f_now k)) ≤ last_u32
 root_room v old old_now f f_now k n e is c d t room =
-    omega (arith, room, is, root_unkept old f t, ap (λ k. unkept old_now (Some k) (trees_of f_now (children_of f_now k))) e, ap (λ f. unkept old_now (Some 0) (trees_of f (children_of f 0))) d, ap (λ o. unkept o (Some 0) (trees_of f (children_of f 0))) c)
+    omega (
+      arith,
+      room,
+      is,
+      root_unkept old f t,
+      ap (λ k. unkept old_now (Some k) (trees_of f_now (children_of f_now k))) e,
+      ap (λ f. unkept old_now (Some 0) (trees_of f (children_of f 0))) d,
+      ap (λ o. unkept o (Some 0) (trees_of f (children_of f 0))) c,
+    )
 
 pub root_allowed : (old old_now new new_now : Forest) (mk : Marking) (v : HostTree) (k n : ℕ) (start ops : List Op) (m : ℕ) → k ≡ 0 → n ≡ v.next → start ≡ []
     → old_now ≡ old → new_now ≡ new → IsTree old → IsTree new → IsBetween old new mk v

@@ -13,7 +13,7 @@ use Rattle.lx_host.specs.declared.op.Op.TheVariants.{Create, Place, Drop, Text, 
 use Rattle.lx_host.specs.Hosts as hosts
 use Rattle.lx_host.specs.Hosts.{Host, HostTree, shape_of, effect, Leads}
 use Rattle.lx_forest.specs.Forest.{Forest}
-use Rattle.lx_forest.specs.Lookups.{has, kind_of, fields_of, parent_of, previous_of, next_of, children_of, roots}
+use Rattle.lx_forest.specs.Lookups.{has, parent_of, children_of, roots}
 use Rattle.lx_render.specs.Render.{tag_of, render}
 
 -- The host tree shows this tree and nothing else: it has the shape of its rendering, so no host is left unplaced.
@@ -76,7 +76,8 @@ subject_of (Break id ending) = id
 pub data MayChange (old new : Forest) (touched : ℕ → Bool) (before : HostTree) : ℕ → Type 0 where
   new_host : (id : ℕ) → hosts.has id before.hosts ≡ false → MayChange old new touched before id
   of_touched : (id key : ℕ) → is_among id (hosts_of key before.hosts) ≡ true → touched key ≡ true → MayChange old new touched before id
-  of_child : (id key parent : ℕ) → is_among id (hosts_of key before.hosts) ≡ true → parent_of old key ≡ Some parent → has parent new ≡ true → touched parent ≡ true → MayChange old new touched before id
+  of_child : (id key parent : ℕ) → is_among id (hosts_of key before.hosts) ≡ true → parent_of old key ≡ Some parent → has parent new ≡ true
+      → touched parent ≡ true → MayChange old new touched before id
 
 -- those of the first list that are in the second too
 abbrev pub common : List ℕ → List ℕ → List ℕ

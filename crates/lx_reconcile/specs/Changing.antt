@@ -65,4 +65,5 @@ pub record Changes (host : ℕ) (from to : Face) (start end : List Op) : Type 0 
   pub pushed : List Op
   pub list : end ≡ start ++ pushed
   pub only : AllByRecursion (IsWriteAt host) pushed
-  pub leads : (kids : Trees Host) (n : ℕ) → LeadsAt host (tree (record { id = host; face = from }) kids nil) n pushed (tree (record { id = host; face = to }) kids nil) n
+  pub leads : (kids : Trees Host) (n : ℕ)
+      → LeadsAt host (tree (record { id = host; face = from }) kids nil) n pushed (tree (record { id = host; face = to }) kids nil) n

@@ -37,7 +37,8 @@ pub record MakesMoves (old new : Forest) (mk : Marking) (v : HostTree) (k : ℕ)
   pub pushed : List Op
   pub list : end ≡ start ++ pushed
   pub due : AllByRecursion (IsDue old new mk.touched v) pushed
-  pub leads : (from : ℕ) (ops : List Op) (a : Host) (more : List Move) → IsInWalk old new v k from ops a (moves ++ more) n → IsInWalk old new v k from (ops ++ pushed) a more m
+  pub leads : (from : ℕ) (ops : List Op) (a : Host) (more : List Move) → IsInWalk old new v k from ops a (moves ++ more) n
+      → IsInWalk old new v k from (ops ++ pushed) a more m
 
 -- Some operations have led to where these moves of the children of k are to come, and the next id is n. There are ids for
 -- all of them.

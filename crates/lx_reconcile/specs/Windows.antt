@@ -1,6 +1,7 @@
 -- A run of children of a node, and what is beside it. Only this crate's own contracts cite it.
-use Rattle.std.specs.Prelude.{ℕ, ◌≡◌, ◌+◌, ◌++◌, Bool, false, true, is_none, if◌then◌else◌, List, [], length, map, filter, Option, None, Some}
+use Rattle.std.specs.Prelude.{ℕ, ◌≡◌, ◌+◌, ◌++◌, Bool, false, true, is_none, if◌then◌else◌, List, [], ◌∷◌, length, map, filter, Option, None, Some}
 use Rattle.lx_trees.specs.Siblings.{is_among, first_of, last_of, from_name, up_to_name}
+use Rattle.lx_node.specs.declared.node.Node.{Node}
 use Rattle.lx_reconcile.specs.declared.moves.Move.{Move}
 use Rattle.lx_reconcile.specs.declared.windows.Window.{Window}
 use Rattle.lx_reconcile.specs.Walk.{toward, IsWalk}
@@ -18,6 +19,16 @@ pub record IsWindow (children : List ℕ) (w : Window) : Type 0 where
 -- how many of these carry a mark
 abbrev pub marked_among : (ℕ → Bool) → List ℕ → ℕ
 marked_among noted keys = length (filter noted keys)
+
+-- the child right after a run, or else the one right before it
+abbrev pub beside : Bool → Window → Option ℕ
+beside behind w = if behind then w.behind else w.before
+
+-- a child was added to a run: the one right after it, or else the one right before it
+pub record IsGrown (behind : Bool) (child : ℕ) (node : Node) (old new : Window) : Type 0 where
+  pub keys : new.keys.items ≡ (if behind then old.keys.items ++ child ∷ [] else child ∷ old.keys.items)
+  pub before : new.before ≡ (if behind then old.before else node.prev)
+  pub behind_is : new.behind ≡ (if behind then node.next else old.behind)
 
 -- One more child was taken into a run, and it is said whether it carries a mark.
 pub record Takes (noted : ℕ → Bool) (children : List ℕ) (old new : Window) (marked : Bool) : Type 0 where

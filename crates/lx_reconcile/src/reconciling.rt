@@ -2,11 +2,11 @@
 //! trees side by side.
 
 ghost use Rattle.lx_node.specs.Limits.{last_u32, last_u64};
-ghost use Rattle.std.specs.Prelude.{◌≡◌, ◌≢◌, ◌+◌, ◌*◌, ◌<◌, ◌≤◌, ◌↔◌, ◌++◌, ◌∷◌, [], ℕ, true, length, IsTrue, None, Some, option_map, IfOk, OnOk};
+ghost use Rattle.std.specs.Prelude.{◌≡◌, ◌+◌, ◌*◌, ◌<◌, ◌≤◌, ◌↔◌, ◌++◌, ◌∷◌, [], ℕ, true, length, IsTrue, None, Some, option_map, IfOk, OnOk};
 ghost use Rattle.lx_trees.specs.NamedTrees.{total};
 ghost use Rattle.lx_host.specs.declared.op.Op.TheVariants as op;
 ghost use Rattle.lx_host.specs.Html.{first_tree};
-ghost use Rattle.lx_forest.specs.Lookups.{alone, roots, trees_of, children_of, first_child, next_of, has, IsForest};
+ghost use Rattle.lx_forest.specs.Lookups.{alone, roots, trees_of, children_of, first_child, has};
 ghost use Rattle.lx_forest.specs.Records.{record_at};
 ghost use Rattle.lx_links.specs.Stands.{node_of, Sound};
 ghost use Rattle.lx_forest.specs.Covered.{AreCovered};

@@ -1,4 +1,4 @@
-ghost use Rattle.std.specs.Prelude.{◌≡◌, ◌+◌, ◌<◌, ◌↔◌, IfOk, OnOk, IsTrue, length, take, map};
+ghost use Rattle.std.specs.Prelude.{◌≡◌, ◌<◌, ◌↔◌, IfOk, OnOk, IsTrue, map};
 ghost use Rattle.lx_trees.specs.Siblings.{NoRepeats};
 ghost use Rattle.lx_reconcile.specs.Walk.{IsWalk};
 ghost use Rattle.lx_reconcile.specs.declared.moves.Move.TheVariants.{Stay};

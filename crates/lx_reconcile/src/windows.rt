@@ -1,7 +1,7 @@
 //! Runs of children of a node that hold all its marked ones. What is before and after such a run is the same in both
 //! trees, and isn't read.
 
-ghost use Rattle.std.specs.Prelude.{◌≡◌, ◌+◌, ◌≤◌, ◌||◌, ◌∷◌, [], true, None, length, map, is_some, if◌then◌else◌, IfOk};
+ghost use Rattle.std.specs.Prelude.{◌≡◌, ◌+◌, ◌≤◌, ◌||◌, ◌∷◌, [], true, None, length, map, is_some, if◌then◌else◌, IfOk, OnOk};
 ghost use Rattle.std.specs.Option.{option_or};
 ghost use Rattle.lx_trees.specs.Siblings.{is_among, is_named, is_place, last_of, NoRepeats};
 ghost use Rattle.lx_forest.specs.Lookups.{children_of, has, next_of, IsForest};
@@ -9,14 +9,14 @@ ghost use Rattle.lx_links.specs.Stands.{Sound};
 ghost use Rattle.lx_reconcile.specs.Looking.{Stays};
 ghost use Rattle.lx_reconcile.specs.Allowing.{marking};
 ghost use Rattle.lx_reconcile.specs.Walk as walks;
-ghost use Rattle.lx_reconcile.specs.Windows.{between_names, start_of, end_of, marked_among, Takes, IsWindow, IsWindowOfMarks, IsWalkIn};
+ghost use Rattle.lx_reconcile.specs.Windows.{between_names, start_of, end_of, marked_among, beside, IsGrown, Takes, IsWindow, IsWindowOfMarks, IsWalkIn};
 
 use crate::family::{Family, is_noted};
 use crate::looks::{Look, Looked, found, next_after};
 use crate::moves::Move;
 use crate::walking::walk;
 use lx_marks::Marks;
-use lx_node::{Key, NoMemory};
+use lx_node::{Key, NoMemory, Node};
 use std::alloc::Global;
 use std::collections::VecDeque;
 
@@ -48,54 +48,35 @@ impl Window {
     {
         self.before.is_some() || self.behind.is_some()
     }
-}
 
-/// Takes the child right before a run into it, and says whether it carries a mark.
-fn take_before<S, L: Look<S>>(
-    source: &mut S,
-    marks: &Marks,
-    key: Key,
-    window: &mut Window,
-) -> Result<bool, NoMemory>
-    requires sound { Sound (L.forest source.old) }
-    requires there { is_some window.old.before ≡ true }
-    requires run { IsWindow (children_of (L.forest source.old) key) window.old }
-    ensures taken { IfOk result (λ marked. Takes (marking marks.now).noted (children_of (L.forest source.old) key) window.old window.new marked) }
-    ensures same { L.forest source.new ≡ L.forest source.old }
-    ensures backing { Stays (L.backing source.old) (L.backing source.new) }
-    ensures reads { L.count source.new ≤ L.count source.old + 1 }
-{
-    let Some(child) = window.before else {
-        unreachable!();
-    };
-    let item = found::<S, L>(source, child);
-    window.keys.push_front(child)?;
-    window.before = item.node().prev;
-    Ok(is_noted(marks, child))
-}
+    /// Whether it grows at its end next, and not at its start: in turns, where it can do both.
+    fn grows_behind(&self, turn: bool) -> bool
+        requires open { (is_some self.now.before || is_some self.now.behind) ≡ true }
+        ensures there { is_some (beside result self.now) ≡ true }
+    {
+        self.before.is_none() || (turn && self.behind.is_some())
+    }
 
-/// Takes the child right after a run into it, and says whether it carries a mark.
-fn take_behind<S, L: Look<S>>(
-    source: &mut S,
-    marks: &Marks,
-    key: Key,
-    window: &mut Window,
-) -> Result<bool, NoMemory>
-    requires sound { Sound (L.forest source.old) }
-    requires there { is_some window.old.behind ≡ true }
-    requires run { IsWindow (children_of (L.forest source.old) key) window.old }
-    ensures taken { IfOk result (λ marked. Takes (marking marks.now).noted (children_of (L.forest source.old) key) window.old window.new marked) }
-    ensures same { L.forest source.new ≡ L.forest source.old }
-    ensures backing { Stays (L.backing source.old) (L.backing source.new) }
-    ensures reads { L.count source.new ≤ L.count source.old + 1 }
-{
-    let Some(child) = window.behind else {
-        unreachable!();
-    };
-    let item = found::<S, L>(source, child);
-    window.keys.push_back(child)?;
-    window.behind = item.node().next;
-    Ok(is_noted(marks, child))
+    /// The child right after it, or else the one right before it.
+    fn beside(&self, behind: bool) -> Option<Key>
+        ensures { result ≡ beside behind self.now }
+    {
+        if behind { self.behind } else { self.before }
+    }
+
+    /// Adds the child right after it, or else the one right before it, which was read.
+    fn add(&mut self, behind: bool, child: Key, node: &Node) -> Result<(), NoMemory>
+        ensures { OnOk result (IsGrown behind child node.now self.old self.new) }
+    {
+        if behind {
+            self.keys.push_back(child)?;
+            self.behind = node.next;
+        } else {
+            self.keys.push_front(child)?;
+            self.before = node.prev;
+        }
+        Ok(())
+    }
 }
 
 /// Takes one more child into a run, the one right after it or right before it: in turns, where there are both. Says
@@ -105,7 +86,7 @@ fn take_one<S, L: Look<S>>(
     marks: &Marks,
     key: Key,
     window: &mut Window,
-    behind: bool,
+    turn: bool,
 ) -> Result<bool, NoMemory>
     requires sound { Sound (L.forest source.old) }
     requires open { (is_some window.old.before || is_some window.old.behind) ≡ true }
@@ -115,11 +96,13 @@ fn take_one<S, L: Look<S>>(
     ensures backing { Stays (L.backing source.old) (L.backing source.new) }
     ensures reads { L.count source.new ≤ L.count source.old + 1 }
 {
-    if window.before.is_none() || (behind && window.behind.is_some()) {
-        take_behind::<S, L>(source, marks, key, window)
-    } else {
-        take_before::<S, L>(source, marks, key, window)
-    }
+    let behind = window.grows_behind(turn);
+    let Some(child) = window.beside(behind) else {
+        unreachable!();
+    };
+    let item = found::<S, L>(source, child);
+    window.add(behind, child, item.node())?;
+    Ok(is_noted(marks, child))
 }
 
 /// The run around the marked child of a family that holds all marked children. It grows on both sides in turns, and

@@ -145,8 +145,13 @@ comes w h v table new like i k ready at set e =
       row = a.0.next_key;
       set = h.forest;
       grown = a.0.forest;
-      way = record
-          { in_order = ready.in_order; heights = heights; taller = grown.0; made = opened.0; below = λ p q among. (child_below a.0 q p grown.1 among, parent_below a.0 q p grown.1 among) };
+      way = record {
+        in_order = ready.in_order;
+        heights = heights;
+        taller = grown.0;
+        made = opened.0;
+        below = λ p q among. (child_below a.0 q p grown.1 among, parent_below a.0 q p grown.1 among);
+      };
       ready = opened.1;
     }
 

@@ -1,5 +1,4 @@
-use Rattle.std.proofs.Common.{◌≡◌, ◌+◌, ◌≤◌, length}
-use Rattle.std.specs.Prelude.{sum_by}
+use Rattle.std.proofs.Common.{length}
 use Rattle.lx_trees.specs.Siblings.{from_name}
 use Rattle.lx_forest.specs.Lookups.{children_of}
 use Rattle.lx_outline.specs.Reading.{with_below, reads_of}
@@ -7,13 +6,9 @@ use Rattle.lx_outline.proofs.Along.{IsOnWay}
 use Rattle.lx_outline.proofs.gathering.add_all.Given as goal
 
 abbrev pub invariant-loop-at : goal.invariant-loop-at
-invariant-loop-at g l = record {
-  same : g.R.Records.forest l.records ≡ g.R.Records.forest l.fn.records;
-  way : IsOnWay (g.R.Records.forest l.fn.records) l.fn.parent (with_below (g.R.Records.forest l.fn.records)) l.fn.text l.text l.at;
-  reads : g.R.Records.count l.records
-      + sum_by (reads_of (g.R.Records.forest l.fn.records)) (from_name l.at (children_of (g.R.Records.forest l.fn.records) l.fn.parent))
-      ≤ g.R.Records.count l.fn.records + sum_by (reads_of (g.R.Records.forest l.fn.records)) (children_of (g.R.Records.forest l.fn.records) l.fn.parent);
-}
+invariant-loop-at g l =
+    IsOnWay (g.R.Records.forest l.fn.records) l.fn.parent with_below reads_of l.fn.text (g.R.Records.count l.fn.records) (g.R.Records.forest l.records) l.text
+    (g.R.Records.count l.records) l.at
 
 abbrev pub decreases-loop-at : goal.decreases-loop-at
 decreases-loop-at g l = length (from_name l.at (children_of (g.R.Records.forest l.fn.records) l.fn.parent))

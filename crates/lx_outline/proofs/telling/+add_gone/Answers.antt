@@ -15,8 +15,10 @@ add_gone-requires t c =
     let all : c.into_iter-child-iterator.result ≡ children_of old c.args.key =
     c.into_iter-child-iterator.ensures.into_iter_gives ∙ c.children-child-items.ensures.children in
     let up : parent_of old c.in-Some.child ≡ Some c.args.key =
-    taken_child old c.args.after.now _ _ _ _ _ c.args.key c.in-Some.child sound all c.loop-child.invariant next in
-    (omega (arith, total-alone-lt old c.in-Some.child c.args.key (in_order_at old c.args.key sound c.requires.there) up), (has-child old c.in-Some.child c.args.key up, c.loop-child.invariant.gone))
+    taken_child old c.args.after.now _ _ _ _ _ c.args.key c.in-Some.child sound all c.loop-child.invariant next in (
+      omega (arith, total-alone-lt old c.in-Some.child c.args.key (in_order_at old c.args.key sound c.requires.there) up),
+      (has-child old c.in-Some.child c.args.key up, c.loop-child.invariant.gone),
+    )
 
 pub returns-clause-gone : goal.returns-clause-gone
 returns-clause-gone t c =

@@ -1,7 +1,10 @@
-use Rattle.std.proofs.Common.{take}
+use Rattle.std.proofs.Common.{◌≡◌, ℕ, true, take}
+use Rattle.lx_trees.specs.Siblings.{is_among}
 use Rattle.lx_outline.specs.Events.{IsUpdated}
-use Rattle.lx_outline.specs.Parts.{IsPart}
 use Rattle.lx_outline.proofs.telling.updated_among.Given as goal
 
 abbrev pub invariant-loop-key : goal.invariant-loop-key
-invariant-loop-key l = IsPart (IsUpdated l.before l.after) (take l.key-index l.marked) l.keys
+invariant-loop-key l = record {
+  each : (q : ℕ) → is_among q l.keys ≡ true → IsUpdated l.before l.after q;
+  all : (q : ℕ) → is_among q (take l.key-index l.marked) ≡ true → IsUpdated l.before l.after q → is_among q l.keys ≡ true;
+}

@@ -25,8 +25,12 @@ create_children-loop-at-preserved g t c = record {
   made = made_child _ _ _ _ _ _ _ _ _ _ _ _ c.loop-at.invariant.same c.requires.sound c.in-Some.is c.loop-at.invariant.made c.in-Ok.ensures.next
       c.in-Ok.ensures.next_id c.in-Ok.ensures.ops;
   backing = search rules;
-  reads = omega
-      (arith, c.loop-at.invariant.reads, c.in-Ok.ensures.reads, left_with _ _ c.args.key c.in-Some.child _ _ c.loop-at.invariant.same c.requires.sound c.in-Some.is c.loop-at.invariant.made.place c.in-Ok.ensures.next);
+  reads = omega (
+    arith,
+    c.loop-at.invariant.reads,
+    c.in-Ok.ensures.reads,
+    left_with _ _ c.args.key c.in-Some.child _ _ c.loop-at.invariant.same c.requires.sound c.in-Some.is c.loop-at.invariant.made.place c.in-Ok.ensures.next,
+  );
 }
 
 pub create_children-returns-in-Err-clause-reads : goal.create_children-returns-in-Err-clause-reads

@@ -67,7 +67,10 @@ make_move-returns-in_ok-push-in-Place-clause-done g t c =
 
 pub make_move-returns-in-Stay-clause-reads : goal.make_move-returns-in-Stay-clause-reads
 make_move-returns-in-Stay-clause-reads g t c =
-    omega (arith, c.reconcile_child.ensures.reads, Made.one_reads (g.N.Look.forest c.args.after.now) c.args.step (ap (λ s. standing (s ∷ [])) c.in-Stay.is) (g.O.Look.forest c.args.before.now) (marking c.args.given.now.marks.now).noted c.args.parent.now.key)
+    let one =
+    Made.one_reads (g.N.Look.forest c.args.after.now) c.args.step (ap (λ s. standing (s ∷ [])) c.in-Stay.is) (g.O.Look.forest c.args.before.now)
+    (marking c.args.given.now.marks.now).noted c.args.parent.now.key in
+    omega (arith, c.reconcile_child.ensures.reads, one)
 
 pub make_move-returns-in-Make-clause-reads : goal.make_move-returns-in-Make-clause-reads
 make_move-returns-in-Make-clause-reads g t c =
@@ -75,7 +78,10 @@ make_move-returns-in-Make-clause-reads g t c =
 
 pub make_move-returns-in_ok-push-in-Place-clause-reads : goal.make_move-returns-in_ok-push-in-Place-clause-reads
 make_move-returns-in_ok-push-in-Place-clause-reads g t c =
-    omega (arith, c.reconcile_child-in-Place.ensures.reads, Made.one_reads (g.N.Look.forest c.args.after.now) c.args.step (ap (λ s. standing (s ∷ [])) c.in-Place.is) (g.O.Look.forest c.args.before.now) (marking c.args.given.now.marks.now).noted c.args.parent.now.key)
+    let one =
+    Made.one_reads (g.N.Look.forest c.args.after.now) c.args.step (ap (λ s. standing (s ∷ [])) c.in-Place.is) (g.O.Look.forest c.args.before.now)
+    (marking c.args.given.now.marks.now).noted c.args.parent.now.key in
+    omega (arith, c.reconcile_child-in-Place.ensures.reads, one)
 
 -- ---- the moves
 
@@ -290,8 +296,18 @@ reconcile_node-returns-in_err-make_moves-clause-reads g t c =
 
 pub reconcile_node-returns-in_err-push_ending-clause-reads : goal.reconcile_node-returns-in_err-push_ending-clause-reads
 reconcile_node-returns-in_err-push_ending-clause-reads g t c =
-    omega (arith, c.is_ended-old.ensures.reads, c.is_ended-new.ensures.reads, reads_of_moves g t (goal.at.reconcile_node-returns-in_err-push_ending-clause-reads g t c).After-make_moves)
+    omega (
+      arith,
+      c.is_ended-old.ensures.reads,
+      c.is_ended-new.ensures.reads,
+      reads_of_moves g t (goal.at.reconcile_node-returns-in_err-push_ending-clause-reads g t c).After-make_moves,
+    )
 
 pub reconcile_node-returns-clause-reads : goal.reconcile_node-returns-clause-reads
 reconcile_node-returns-clause-reads g t c =
-    omega (arith, c.is_ended-old.ensures.reads, c.is_ended-new.ensures.reads, reads_of_moves g t (goal.at.reconcile_node-returns-clause-reads g t c).After-make_moves)
+    omega (
+      arith,
+      c.is_ended-old.ensures.reads,
+      c.is_ended-new.ensures.reads,
+      reads_of_moves g t (goal.at.reconcile_node-returns-clause-reads g t c).After-make_moves,
+    )

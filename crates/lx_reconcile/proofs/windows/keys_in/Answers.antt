@@ -29,8 +29,13 @@ loop-at-preserved g c =
           c.loop-at.keys.items _ next.once c.in-Some.is c.loop-at.invariant.found
           (c.next_in_run-at.ensures.next ∙ ap (cond (is_named c.args.run.now.last c.in-Some.child) None) next.next) c.in_ok-push.ensures.items;
       backing = search rules;
-      reads = omega
-          (arith, c.next_in_run-at.ensures.reads, c.loop-at.invariant.reads, ap length c.in_ok-push.ensures.items, length-append c.loop-at.keys.items (c.in-Some.child ∷ []));
+      reads = omega (
+        arith,
+        c.next_in_run-at.ensures.reads,
+        c.loop-at.invariant.reads,
+        ap length c.in_ok-push.ensures.items,
+        length-append c.loop-at.keys.items (c.in-Some.child ∷ []),
+      );
     }
 
 pub returns-in_err-push-clause-reads : goal.returns-in_err-push-clause-reads

@@ -15,5 +15,7 @@ invariant_of-self c =
     (sym (c.put_first.ensures.told ∙ ap (λ o. with_told o c.take-places.result h.undo.items) c.take.ensures.value
     ∙ ap (λ p. with_told h.current p h.undo.items) c.take-places.ensures.taken)) pushed in
     let few : length (states c.keep_newest.new.entries.items) + length (states c.clear.new.self.items) ≤ 500 =
-    omega (arith, c.keep_newest.ensures.few, ap (λ es. length (states es)) c.clear.ensures.items) in
-    (record { few = few; none = λ e. absurd (cc) }, (c.keep_newest.ensures.told c.args.after.links told, subst (AreTold c.args.after.links) (sym c.clear.ensures.items) tt))
+    omega (arith, c.keep_newest.ensures.few, ap (λ es. length (states es)) c.clear.ensures.items) in (
+      record { few = few; none = λ e. absurd (cc) },
+      (c.keep_newest.ensures.told c.args.after.links told, subst (AreTold c.args.after.links) (sym c.clear.ensures.items) tt),
+    )

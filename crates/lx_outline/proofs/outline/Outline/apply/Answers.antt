@@ -37,7 +37,16 @@ reads g c =
     let at_come = c.sums_of-come.ensures.same ∙ c.look-2.ensures.same in
     let again = reads_within _ _ _ (between g (goal.at.After-renew g c).After-look-2) _ _ _ _ at_come (c.touched_by.ensures.same ∙ at_come)
     (c.as_slice.ensures.value ∙ c.in_ok-keys.ensures.keys) c.in_ok-touched.ensures.keys c.in_ok-keys.ensures.ascending in
-    omega (arith, c.look.ensures.reads, c.look-2.ensures.reads, c.sums_of-gone.ensures.reads, c.sums_of-come.ensures.reads, c.touched_by.ensures.reads, c.renew.ensures.reads, again)
+    omega (
+      arith,
+      c.look.ensures.reads,
+      c.look-2.ensures.reads,
+      c.sums_of-gone.ensures.reads,
+      c.sums_of-come.ensures.reads,
+      c.touched_by.ensures.reads,
+      c.renew.ensures.reads,
+      again,
+    )
 
 pub sums_of-gone-requires : goal.sums_of-gone-requires
 sums_of-gone-requires g c κs =
