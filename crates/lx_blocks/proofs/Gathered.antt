@@ -7,7 +7,7 @@ use Rattle.lx_forest.specs.Lookups.{from, depth}
 use Rattle.lx_blocks.specs.Places.{until}
 use Rattle.lx_blocks.specs.Walks.{left_from, IsAt}
 
-filter_first : (test : ℕ → Bool) (q : ℕ) (rest : List ℕ) → filter test (q ∷ rest) ≡ filter test (q ∷ []) ++ filter test rest
+pub filter_first : (test : ℕ → Bool) (q : ℕ) (rest : List ℕ) → filter test (q ∷ rest) ≡ filter test (q ∷ []) ++ filter test rest
 filter_first test q rest = by_test (test q) where
   by_test : (b : Bool) → cond b (q ∷ filter test rest) (filter test rest) ≡ cond b (q ∷ []) [] ++ filter test rest
   by_test true = refl
@@ -29,6 +29,20 @@ next_left (Some at) f q next last = next
 pub next_at : (o : Option (ℕ × ℕ)) (f : Forest) → IfSome o (λ next. depth f next.0 ≡ Some next.1) → IsAt f o
 next_at None f e = tt
 next_at (Some at) f e = e
+
+-- so far and what is left make all of a walk to a stop
+abbrev pub IsWalking : (stop : Option ℕ) (f : Forest) (at : Option (ℕ × ℕ)) (made whole : List ℕ) → Type 0
+IsWalking stop f at made whole = IsAt f at × (made ++ until stop (left_from f at) ≡ whole)
+
+pub walking_on : (stop : Option ℕ) (at o : Option (ℕ × ℕ)) (f : Forest) (q d : ℕ) (made more whole : List ℕ) → IsWalking stop f at made whole
+    → IfSome o (λ next. from f q ≡ q ∷ from f next.0) → IfNone o (from f q ≡ q ∷ []) → IfSome o (λ next. depth f next.0 ≡ Some next.1)
+    → is_named stop q ≡ false → more ≡ made ++ q ∷ [] → at ≡ Some (q, d) → IsWalking stop f o more whole
+walking_on stop at o f q d made more whole way next last deep other kept is = (
+  next_at o f deep,
+  ap (λ xs. xs ++ until stop (left_from f o)) kept ∙ append_assoc made (q ∷ []) (until stop (left_from f o))
+      ∙ ap (λ b. made ++ cond b [] (q ∷ until stop (left_from f o))) (sym other)
+      ∙ ap (λ xs. made ++ until stop xs) (sym (next_left o f q next last)) ∙ (rw is at way).1,
+)
 
 gathered_next : (test : ℕ → Bool) (stop : Option ℕ) (o : Option (ℕ × ℕ)) (f : Forest) (q : ℕ) (made more whole : List ℕ)
     → IfSome o (λ next. from f q ≡ q ∷ from f next.0)

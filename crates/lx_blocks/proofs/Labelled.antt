@@ -2,9 +2,11 @@
 use Rattle.std.proofs.Common.{◌≡◌, ◌≢◌, ◌∙◌, ℕ, true, Option, None, Some, option_map, Bor, refl, sym, ap, arith}
 use Rattle.std.specs.Option.{option_copied}
 use Rattle.std.specs.Prelude.{IfSome, IfNone}
-use Rattle.lx_node.specs.OfKind.{IsOfKind}
+use Rattle.lx_node.specs.Kinds.{is_possible}
+use Rattle.lx_node.specs.OfKind.{IsOfKind, is_of_kind, fits_kind, is_element_of, is_extra_of, is_plain}
+use Rattle.lx_node.specs.Plain.{plain_element}
 use Rattle.lx_node.specs.declared.kind.Kind.{Kind}
-use Rattle.lx_node.specs.declared.kind.Kind.TheVariants.{Root}
+use Rattle.lx_node.specs.declared.kind.Kind.TheVariants.{Root, Paragraph}
 use Rattle.lx_node.specs.declared.fields.Fields.{Fields}
 use Rattle.lx_node.specs.declared.node.Node.{Node}
 use Rattle.lx_forest.specs.Forest.{Forest, Label}
@@ -71,3 +73,8 @@ has_label f k there none = by_spot (spot f k) refl where
 
 pub other_kind : (f : Forest) (k : ℕ) (l : Label) → label_of f k ≡ Some l → kind_of f k ≢ Some Root → l.kind ≢ Root
 other_kind f k l is other same = other (ap (option_map (λ (x : Label). x.kind)) is ∙ ap (λ kind. Some kind) same)
+
+-- a new paragraph without any settings
+pub paragraph_suits : IsOfKind Paragraph plain_element
+unfolding is_of_kind fits_kind is_element_of is_extra_of is_plain is_possible
+paragraph_suits = refl

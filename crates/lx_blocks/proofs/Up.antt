@@ -1,13 +1,24 @@
 -- The way up to the first node that passes a test.
-use Rattle.std.proofs.Common.{◌≡◌, refl, ℕ, Bool, true, false, List, ◌∷◌, None, Some, ap}
+use Rattle.std.proofs.Common.{◌≡◌, refl, ℕ, Bool, true, false, List, ◌∷◌, Option, None, Some, option_map, sym, ap}
 use Rattle.std.specs.Prelude.{find}
 use Rattle.lx_forest.specs.Forest.{Forest}
 use Rattle.lx_forest.specs.Lookups.{parent_of, ancestors}
 use Rattle.lx_forest.proofs.Walks.{ancestors-top, ancestors-step}
 use Rattle.lx_node.specs.Kinds.{is_cell}
 use Rattle.lx_blocks.specs.Blocks.{is_at, frame_of}
+use Rattle.lx_blocks.specs.Walks.{upward_from}
 use Rattle.lx_links.specs.Stands.{Sound}
 use Rattle.lx_links.proofs.Up.{in_order}
+
+-- those above a node are its parent and those above that
+pub upward_on : (f : Forest) (q : ℕ) (above : Option ℕ) → Sound f → above ≡ parent_of f q → ancestors f q ≡ upward_from f above
+upward_on f q None s e = ancestors-top f q (sym e)
+upward_on f q (Some p) s e = ancestors-step f q p (in_order f q p s (sym e)) (sym e)
+
+-- what a search up from a node comes to
+pub search_told : (found told : Option ℕ) → option_map (λ (k : ℕ). k) found ≡ told → found ≡ told
+search_told None told e = e
+search_told (Some k) told e = e
 
 pub find_up : (test : ℕ → Bool) (f : Forest) (q p : ℕ) → Sound f → parent_of f q ≡ Some p → test q ≡ false
     → find test (q ∷ ancestors f q) ≡ find test (p ∷ ancestors f p)

@@ -1,11 +1,11 @@
 -- Text blocks, frames and lines.
-use Rattle.std.specs.Prelude.{ℕ, ◌==◌, ◌&&◌, ◌||◌, Bool, true, false, if◌then◌else◌, List, [], ◌∷◌, find, Option, None, Some}
+use Rattle.std.specs.Prelude.{ℕ, ◌==◌, ◌&&◌, ◌||◌, Bool, true, false, if◌then◌else◌, List, [], ◌∷◌, find, Option, None, Some, option_and_then}
 use Rattle.std.specs.List.{list_any}
 use Rattle.lx_node.specs.Kinds.{is_text_block, is_inline, is_cell}
 use Rattle.lx_node.specs.declared.kind.Kind.{Kind}
-use Rattle.lx_node.specs.declared.kind.Kind.TheVariants.{Table, Rule}
+use Rattle.lx_node.specs.declared.kind.Kind.TheVariants.{Root, Cell, Table, Rule}
 use Rattle.lx_forest.specs.Forest.{Forest}
-use Rattle.lx_forest.specs.Lookups.{kind_of, children_of, size_of, ancestors}
+use Rattle.lx_forest.specs.Lookups.{kind_of, parent_of, children_of, size_of, ancestors}
 
 -- what is no line, and yet comes among lines
 abbrev pub is_rule_or_table : Kind → Bool
@@ -33,6 +33,20 @@ cell_of f k = find (is_at is_cell f) (k ∷ ancestors f k)
 -- the frame of a node: the nearest cell above it
 abbrev pub frame_of : Forest → ℕ → Option ℕ
 frame_of f k = find (is_at is_cell f) (ancestors f k)
+
+-- what holds blocks: the root and cells
+abbrev pub holds_blocks : Kind → Bool
+holds_blocks Root = true
+holds_blocks Cell = true
+holds_blocks other = false
+
+-- whether a node is a child of the root or of a cell
+abbrev pub stands_among_blocks : Forest → ℕ → Bool
+stands_among_blocks f k = passes holds_blocks (option_and_then (kind_of f) (parent_of f k))
+
+-- the nearest of a node and those above it that is a child of the root or of a cell
+abbrev pub outer_block : Forest → ℕ → Option ℕ
+outer_block f k = find (stands_among_blocks f) (k ∷ ancestors f k)
 
 -- whether both are the same node, or neither is there
 abbrev pub same_node : Option ℕ → Option ℕ → Bool

@@ -1,14 +1,19 @@
 -- A walk through the root's tree in preorder.
-use Rattle.std.specs.Prelude.{ℕ, ◌≡◌, List, [], Option, None, Some}
+use Rattle.std.specs.Prelude.{ℕ, ◌≡◌, List, [], ◌∷◌, Option, None, Some}
 use Rattle.lx_trees.specs.Siblings.{last_of}
 use Rattle.lx_forest.specs.Forest.{Forest}
-use Rattle.lx_forest.specs.Lookups.{preorder, from, depth}
+use Rattle.lx_forest.specs.Lookups.{ancestors, preorder, from, depth}
 use Rattle.lx_blocks.specs.Places.{until}
 
 -- the nodes from one on, which comes with its depth: none where there is none
 abbrev pub left_from : Forest → Option (ℕ × ℕ) → List ℕ
 left_from f None = []
 left_from f (Some at) = from f at.0
+
+-- a node and those above it, the nearest first: none where there is none
+abbrev pub upward_from : Forest → Option ℕ → List ℕ
+upward_from f None = []
+upward_from f (Some k) = k ∷ ancestors f k
 
 -- the depth with which the node comes is its own
 abbrev pub IsAt : Forest → Option (ℕ × ℕ) → Type 0

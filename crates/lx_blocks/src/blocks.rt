@@ -8,8 +8,9 @@ ghost use Rattle.lx_links.specs.Stands.{Sound};
 ghost use Rattle.lx_blocks.specs.Blocks as blocks;
 
 use crate::kinds::{is_block_at, is_cell_at, is_inline_at};
+use crate::ways::upward;
 use lx_links::Links;
-use lx_node::{Key, NoMemory};
+use lx_node::{Key, Kind, NoMemory};
 use std::alloc::Global;
 
 /// The text block of a node: itself, or the nearest above it.
@@ -32,14 +33,7 @@ pub fn block(links: &Links, key: Key) -> Option<Key>
 pub fn cell_from(links: &Links, key: Key) -> Option<Key>
     ensures { result ≡ blocks.cell_of links.now key }
 {
-    let mut at = key;
-    while !is_cell_at(links, at) {
-        match links.parent(at) {
-            Some(parent) => at = parent,
-            None => return None,
-        }
-    }
-    Some(at)
+    upward(links, key).find(|above| is_cell_at(links, *above))
 }
 
 /// The frame of a node: the nearest cell above it.
@@ -52,6 +46,30 @@ pub fn frame(links: &Links, key: Key) -> Option<Key>
         Some(parent) => cell_from(links, parent),
         None => None,
     }
+}
+
+/// Whether there is such a node, and it is the root or a cell.
+fn holds_blocks_at(links: &Links, key: Key) -> bool
+    ensures { result ≡ blocks.is_at blocks.holds_blocks links.now key }
+{
+    matches!(links.kind(key), Some(Kind::Root | Kind::Cell))
+}
+
+/// Whether a node is a child of the root or of a cell.
+fn stands_among_blocks(links: &Links, key: Key) -> bool
+    ensures { result ≡ blocks.stands_among_blocks links.now key }
+{
+    match links.parent(key) {
+        Some(parent) => holds_blocks_at(links, parent),
+        None => false,
+    }
+}
+
+/// The nearest of a node and those above it that is a child of the root or of a cell.
+pub fn outer_block(links: &Links, key: Key) -> Option<Key>
+    ensures { result ≡ blocks.outer_block links.now key }
+{
+    upward(links, key).find(|above| stands_among_blocks(links, *above))
 }
 
 /// Whether both are the same node, or neither is there.

@@ -8,48 +8,12 @@ ghost use Rattle.lx_blocks.specs.Blocks as blocks;
 use lx_links::Links;
 use lx_node::{Key, Kind};
 
-#[tactic(auto, unfolding(lx_node::specs::Kinds::is_text))]
-fn is_text(kind: Kind) -> bool
-    ensures { result ≡ kinds.is_text kind }
-{
-    matches!(kind, Kind::Text)
-}
-
-#[tactic(auto, unfolding(lx_node::specs::Kinds::is_link))]
-fn is_link(kind: Kind) -> bool
-    ensures { result ≡ kinds.is_link kind }
-{
-    matches!(kind, Kind::Link)
-}
-
-#[tactic(auto, unfolding(lx_node::specs::Kinds::is_item))]
-fn is_item(kind: Kind) -> bool
-    ensures { result ≡ kinds.is_item kind }
-{
-    matches!(kind, Kind::Item)
-}
-
-#[tactic(auto, unfolding(lx_node::specs::Kinds::is_cell))]
-fn is_cell(kind: Kind) -> bool
-    ensures { result ≡ kinds.is_cell kind }
-{
-    matches!(kind, Kind::Cell)
-}
-
-fn is_rule_or_table(kind: Kind) -> bool
-    ensures { result ≡ blocks.is_rule_or_table kind }
-{
-    matches!(kind, Kind::Table | Kind::Rule)
-}
-
 /// Whether it is a text. A tab is none.
+#[tactic(auto, unfolding(lx_node::specs::Kinds::is_text))]
 pub fn is_text_at(links: &Links, key: Key) -> bool
     ensures { result ≡ blocks.is_at kinds.is_text links.now key }
 {
-    match links.kind(key) {
-        Some(kind) => is_text(kind),
-        None => false,
-    }
+    matches!(links.kind(key), Some(Kind::Text))
 }
 
 /// Whether it is a text or a tab, in which points count code units.
@@ -84,23 +48,19 @@ pub fn is_inline_at(links: &Links, key: Key) -> bool
 }
 
 /// Whether it is a link.
+#[tactic(auto, unfolding(lx_node::specs::Kinds::is_link))]
 pub fn is_link_at(links: &Links, key: Key) -> bool
     ensures { result ≡ blocks.is_at kinds.is_link links.now key }
 {
-    match links.kind(key) {
-        Some(kind) => is_link(kind),
-        None => false,
-    }
+    matches!(links.kind(key), Some(Kind::Link))
 }
 
 /// Whether it is an item of a list.
+#[tactic(auto, unfolding(lx_node::specs::Kinds::is_item))]
 pub fn is_item_at(links: &Links, key: Key) -> bool
     ensures { result ≡ blocks.is_at kinds.is_item links.now key }
 {
-    match links.kind(key) {
-        Some(kind) => is_item(kind),
-        None => false,
-    }
+    matches!(links.kind(key), Some(Kind::Item))
 }
 
 /// Whether it is a text block: a paragraph, a heading, a quote or an item.
@@ -115,21 +75,16 @@ pub(crate) fn is_block_at(links: &Links, key: Key) -> bool
 }
 
 /// Whether it is a cell of a table.
+#[tactic(auto, unfolding(lx_node::specs::Kinds::is_cell))]
 pub(crate) fn is_cell_at(links: &Links, key: Key) -> bool
     ensures { result ≡ blocks.is_at kinds.is_cell links.now key }
 {
-    match links.kind(key) {
-        Some(kind) => is_cell(kind),
-        None => false,
-    }
+    matches!(links.kind(key), Some(Kind::Cell))
 }
 
 /// Whether it is a horizontal rule or a table: what comes among lines, and is none.
 pub fn is_rule_or_table_at(links: &Links, key: Key) -> bool
     ensures { result ≡ blocks.is_at blocks.is_rule_or_table links.now key }
 {
-    match links.kind(key) {
-        Some(kind) => is_rule_or_table(kind),
-        None => false,
-    }
+    matches!(links.kind(key), Some(Kind::Table | Kind::Rule))
 }

@@ -38,27 +38,15 @@ pub(crate) fn is_stop(stop: &Option<(Key, u32)>, key: Key) -> bool
     }
 }
 
-/// Keeps a key that doesn't hold the other.
-fn keep(keys: &mut Vec<Key>, links: &Links, key: Key, held: Key) -> Result<(), NoMemory>
-    ensures { OnOk result (keys.new.items ≡ keys.old.items ++ filter (λ k. not (lookups.is_within links.now k held)) (key ∷ [])) }
-{
-    if links.is_within(key, held) {
-        return Ok(());
-    }
-    keys.push(key)?;
-    Ok(())
-}
-
-/// The nodes from one on, in preorder, up to a stop, but for those that hold a key.
-fn collect(
+/// The nodes from one on, in preorder, up to a stop.
+pub fn walk_until(
     alloc: Global,
     links: &Links,
     from: Option<(Key, u32)>,
     stop: Option<(Key, u32)>,
-    held: Key,
 ) -> Result<Vec<Key>, NoMemory>
     requires { IsAt links.now from }
-    ensures { IfOk result (λ keys. keys.items ≡ filter (λ k. not (lookups.is_within links.now k held)) (places.until (walks.key_of_step stop) (left_from links.now from))) }
+    ensures { IfOk result (λ keys. keys.items ≡ places.until (walks.key_of_step stop) (left_from links.now from)) }
 {
     let mut keys = Vec::new(alloc);
     let mut at = from;
@@ -67,10 +55,17 @@ fn collect(
         if is_stop(&stop, key) {
             return Ok(keys);
         }
-        keep(&mut keys, links, key, held)?;
+        keys.push(key)?;
         at = next;
     }
     Ok(keys)
+}
+
+/// Keeps the keys whose trees don't hold this one.
+fn keep_without(keys: &mut Vec<Key>, links: &Links, held: Key)
+    ensures { keys.new.items ≡ filter (λ k. not (lookups.is_within links.now k held)) keys.old.items }
+{
+    keys.retain(|key| !links.is_within(*key, held));
 }
 
 /// The nodes that lie wholly between two points.
@@ -82,7 +77,9 @@ fn between(alloc: Global, links: &Links, start: &Point, end: &Point) -> Result<V
 {
     let from = first_behind(links, start);
     let stop = first_behind(links, end);
-    collect(alloc, links, from, stop, end.key)
+    let mut keys = walk_until(alloc, links, from, stop)?;
+    keep_without(&mut keys, links, end.key);
+    Ok(keys)
 }
 
 /// The nodes that lie wholly between two points of the root's tree, in preorder.
@@ -133,7 +130,7 @@ pub fn outermost(
 }
 
 /// The last node of the key's tree in preorder.
-fn last_within(links: &Links, key: Key) -> Key
+pub fn last_within(links: &Links, key: Key) -> Key
     requires { lookups.has key links.now ≡ true }
     ensures last { Some result ≡ last_of (lookups.keys_within links.now key) }
     ensures sound { Sound links.now }

@@ -50,16 +50,11 @@ alike-then f g h a b = record {
 
 seen_twice-extra : (e : Extra) → unnumbered (unnumbered e) ≡ unnumbered e
 seen_twice-extra extra.Plain = refl
-seen_twice-extra (extra.List start) = refl
-seen_twice-extra (extra.Item value checked) = refl
-seen_twice-extra (extra.Link rel target title url) = refl
-seen_twice-extra (extra.Cell header rows columns background) = refl
+seen_twice-extra other = refl
 
 pub seen_twice : (o : Fields) → seen_fields (seen_fields o) ≡ seen_fields o
 seen_twice (fields.Element element) = ap (λ e. fields.Element (record element { extra = e })) (seen_twice-extra element.extra)
-seen_twice (fields.Text text) = refl
-seen_twice (fields.Embed source) = refl
-seen_twice fields.Bare = refl
+seen_twice other = refl
 
 parent-seen : (o : Option (Spot Label)) → parent_at (option_map seen_spot o) ≡ parent_at o
 parent-seen None = refl
@@ -153,9 +148,7 @@ view-alike f g a q =
 
 text-seen : (kind : Kind) (o : Fields) → text_fields kind (seen_fields o) ≡ text_fields kind o
 text-seen kind (fields.Element element) = grind arith
-text-seen kind (fields.Text text) = refl
-text-seen kind (fields.Embed source) = refl
-text-seen kind fields.Bare = refl
+text-seen kind other = refl
 
 text_in-seen : (o : Option (Spot Label))
     → text_in (option_map (λ (s : Spot Label). s.label) (option_map seen_spot o)) ≡ text_in (option_map (λ (s : Spot Label). s.label) o)
@@ -170,16 +163,11 @@ simple-alike f g a q =
 
 numbered-seen : (n : ℕ) (e : Extra) → unnumbered (numbered n e) ≡ unnumbered e
 numbered-seen n extra.Plain = refl
-numbered-seen n (extra.List start) = refl
-numbered-seen n (extra.Item value checked) = refl
-numbered-seen n (extra.Link rel target title url) = refl
-numbered-seen n (extra.Cell header rows columns background) = refl
+numbered-seen n other = refl
 
 pub changed-seen : (n : ℕ) (o : Fields) → seen_fields (changed (with_extra (numbered n)) o) ≡ seen_fields o
 changed-seen n (fields.Element element) = ap (λ e. fields.Element (record element { extra = e })) (numbered-seen n element.extra)
-changed-seen n (fields.Text text) = refl
-changed-seen n (fields.Embed source) = refl
-changed-seen n fields.Bare = refl
+changed-seen n other = refl
 
 reset-seen : (k q : ℕ) (new : Fields) (s : Spot Label) → ((q ≡ k) → seen_fields new ≡ seen_fields s.label.fields) → seen_spot (reset k new q s) ≡ seen_spot s
 reset-seen k q new s same =

@@ -44,9 +44,7 @@ same_number n (fields.Element element) is = ap (λ e. fields.Element (record ele
   by_extra (extra.List start) is = refl
   by_extra (extra.Link rel target title url) is = refl
   by_extra (extra.Cell header rows columns background) is = refl
-same_number n (fields.Text text) is = refl
-same_number n (fields.Embed source) is = refl
-same_number n fields.Bare is = refl
+same_number n other is = refl
 
 -- so many more are within the limits
 abbrev pub HasRoomFor : ℕ → ℕ → Working → Type 0

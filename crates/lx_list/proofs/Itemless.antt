@@ -19,6 +19,7 @@ use Rattle.lx_draft.specs.Working.{Working}
 use Rattle.lx_draft.specs.Faults.{after}
 use Rattle.lx_edit.specs.InTurn.{in_turn}
 use Rattle.lx_blocks.specs.Blocks.{passes, is_at}
+use Rattle.lx_blocks.proofs.Blocked.{kind_there, first_among}
 use Rattle.lx_list.specs.Numbering.{start_at, numbered_from, list_numbered, number_step}
 use Rattle.lx_list.proofs.Numbered.{parent_there, passes_filter}
 use Rattle.lx_list.proofs.Kept.{held_below}
@@ -54,13 +55,7 @@ spot_known f k there = by_spot (spot f k) refl where
 
 -- what is an item or a list is there
 pub there_at : (test : Kind → Bool) (f : Forest) (q : ℕ) → is_at test f q ≡ true → has q f ≡ true
-there_at test f q is = by_spot (spot f q) refl where
-  by_spot : (o : Option (Spot Label)) → spot f q ≡ o → has q f ≡ true
-  by_spot None e =
-      let none : false ≡ true =
-      sym (ap (λ (o : Option (Spot Label)). passes test (option_map (λ (l : Label). l.kind) (option_map (λ (s : Spot Label). s.label) o))) e) ∙ is in
-      absurd (cc)
-  by_spot (Some s) e = sym (is_some-spot f q) ∙ ap is_some e
+there_at test f q is = kind_there test f q is
 
 -- a child of a list is an item
 pub item_below : (f : Forest) (list q : ℕ) → IsHeld may_hold f → is_at is_list f list ≡ true → parent_of f q ≡ Some list → is_at is_item f q ≡ true
@@ -76,19 +71,14 @@ item_below f list q held is_a_list up =
 -- a child of a list would be an item
 no_child : (f : Forest) (list q : ℕ) → IsHeld may_hold f → weight items_in f ≡ 0 → is_at is_list f list ≡ true → parent_of f q ≡ Some list → false ≡ true
 no_child f list q held none is_a_list up =
-    let kind : Option (Spot Label) → Option Kind = λ o. option_map (λ (l : Label). l.kind) (option_map (λ (s : Spot Label). s.label) o) in
-    let outer = spot_known f list (has-parent_of f q list up) in
     let inner = spot_known f q (has-child f q list up) in
-    let is : is_list outer.0.label.kind ≡ true = sym (ap (λ o. passes is_list (kind o)) outer.1) ∙ is_a_list in
-    let may : may_hold outer.0.label.kind inner.0.label.kind ≡ true =
-    sym (ap₂ (λ o p. holds may_hold (kind o) (kind p)) outer.1 inner.1) ∙ held.each q list up in
-    no_item inner.0.label (unweighed items_in None f q inner.0 none inner.1) (held_below outer.0.label.kind inner.0.label.kind is may)
+    let is : is_item inner.0.label.kind ≡ true =
+    sym (ap (λ o. passes is_item (option_map (λ (l : Label). l.kind) (option_map (λ (s : Spot Label). s.label) o))) inner.1)
+    ∙ item_below f list q held is_a_list up in
+    no_item inner.0.label (unweighed items_in None f q inner.0 none inner.1) is
 
 childless : (f : Forest) (list : ℕ) → IsForest f → IsHeld may_hold f → weight items_in f ≡ 0 → is_at is_list f list ≡ true → children_of f list ≡ []
 childless f list h held none is_a_list = by_children (children_of f list) refl where
-  first_among : (q : ℕ) (rest : List ℕ) → is_among q (q ∷ rest) ≡ true
-  first_among q rest = grind (arith, eqb_tells q q)
-
   by_children : (xs : List ℕ) → children_of f list ≡ xs → children_of f list ≡ []
   by_children [] is = is
   by_children (q ∷ rest) is =

@@ -1,17 +1,12 @@
 -- The fields of new nodes are of their kinds.
 use Rattle.std.proofs.Common.{◌≡◌, ◌≢◌, true, Bool, Option, refl}
 use Rattle.lx_node.specs.Kinds.{is_possible, is_list}
-use Rattle.lx_node.specs.OfKind.{IsOfKind, is_of_kind, fits_kind, is_element_of, is_extra_of, is_plain, is_item_extra, is_list_extra}
-use Rattle.lx_node.specs.Plain.{plain_element}
+use Rattle.lx_node.specs.OfKind.{IsOfKind, is_of_kind, fits_kind, is_element_of, is_extra_of, is_item_extra, is_list_extra}
 use Rattle.lx_node.specs.declared.kind.Kind.{Kind}
-use Rattle.lx_node.specs.declared.kind.Kind.TheVariants.{Root, Paragraph, Item, List as ListKind}
+use Rattle.lx_node.specs.declared.kind.Kind.TheVariants.{Root, Item, List as ListKind}
 use Rattle.lx_node.specs.declared.kind.ListType.{ListType}
 use Rattle.lx_node.specs.declared.fields.Fields.{Fields}
 use Rattle.lx_list.specs.Making.{list_fields, item_fields}
-
-pub paragraph_suits : IsOfKind Paragraph plain_element
-unfolding is_of_kind fits_kind is_element_of is_extra_of is_plain is_possible
-paragraph_suits = refl
 
 pub item_suits : (checked : Option Bool) → IsOfKind Item (item_fields checked)
 unfolding is_of_kind fits_kind is_element_of is_extra_of is_item_extra is_possible

@@ -38,34 +38,22 @@ use Rattle.lx_list.proofs.Alike.{IsAlike, alike-self, alike-then, alike-set, cha
 
 start-seen : (e : Extra) → start_in (unnumbered e) ≡ start_in e
 start-seen extra.Plain = refl
-start-seen (extra.List start) = refl
-start-seen (extra.Item value checked) = refl
-start-seen (extra.Link rel target title url) = refl
-start-seen (extra.Cell header rows columns background) = refl
+start-seen other = refl
 
 start_at-seen : (o : Option Fields) → start_at (option_map seen_fields o) ≡ start_at o
-start_at-seen None = refl
 start_at-seen (Some (fields.Element element)) = start-seen element.extra
-start_at-seen (Some (fields.Text text)) = refl
-start_at-seen (Some (fields.Embed source)) = refl
-start_at-seen (Some fields.Bare) = refl
+start_at-seen other = refl
 
 pub start-alike : (f g : Forest) → IsAlike f g → (q : ℕ) → start_at (fields_of g q) ≡ start_at (fields_of f q)
 start-alike f g a q = sym (start_at-seen (fields_of g q)) ∙ ap start_at (fields-alike f g a q) ∙ start_at-seen (fields_of f q)
 
 numbered-extra-seen : (e : Extra) → is_some (number_in (unnumbered e)) ≡ is_some (number_in e)
 numbered-extra-seen extra.Plain = refl
-numbered-extra-seen (extra.List start) = refl
-numbered-extra-seen (extra.Item value checked) = refl
-numbered-extra-seen (extra.Link rel target title url) = refl
-numbered-extra-seen (extra.Cell header rows columns background) = refl
+numbered-extra-seen other = refl
 
 is_item-seen : (o : Option Fields) → is_some (number_at (option_map seen_fields o)) ≡ is_some (number_at o)
-is_item-seen None = refl
 is_item-seen (Some (fields.Element element)) = numbered-extra-seen element.extra
-is_item-seen (Some (fields.Text text)) = refl
-is_item-seen (Some (fields.Embed source)) = refl
-is_item-seen (Some fields.Bare) = refl
+is_item-seen other = refl
 
 pub is_item-alike : (f g : Forest) → IsAlike f g → (q : ℕ) → is_some (number_at (fields_of g q)) ≡ is_some (number_at (fields_of f q))
 is_item-alike f g a q = sym (is_item-seen (fields_of g q)) ∙ ap (λ o. is_some (number_at o)) (fields-alike f g a q) ∙ is_item-seen (fields_of f q)
@@ -102,9 +90,7 @@ item_numbered n (fields.Element element) h = by_extra element.extra h where
   by_extra (extra.Item value checked) h = refl
   by_extra (extra.Link rel target title url) h = absurd (cc)
   by_extra (extra.Cell header rows columns background) h = absurd (cc)
-item_numbered n (fields.Text text) h = absurd (cc)
-item_numbered n (fields.Embed source) h = absurd (cc)
-item_numbered n fields.Bare h = absurd (cc)
+item_numbered n other h = absurd (cc)
 
 pub set_forest : (k : ℕ) (o : Fields) (w v : Working) → set_step k o w ≡ Ok v → v.forest ≡ with_fields k o w.forest
 unfolding set_step

@@ -1,10 +1,8 @@
 -- The lines in a tree, and the list around a line.
-use Rattle.std.proofs.Common.{◌≡◌, ◌≢◌, ◌∙◌, ℕ, Bool, true, List, [], ◌∷◌, ◌++◌, length, Option, None, Some, refl, sym, ap, subst, inl, inr, arith}
+use Rattle.std.proofs.Common.{◌≡◌, ◌≢◌, ◌∙◌, ℕ, Bool, true, List, [], ◌∷◌, ◌++◌, length, Option, None, Some, refl, sym, ap, subst, arith}
 use Rattle.std.specs.Prelude.{find, filter, IfSome, IfNone}
-use Rattle.std.proofs.lemmas.Bool.{cases_Bool}
-use Rattle.std.proofs.lemmas.Bool.Decides.{eqb_tells}
 use Rattle.lx_trees.specs.NamedTrees as named
-use Rattle.lx_trees.specs.Siblings.{is_among, NoRepeats, first_of}
+use Rattle.lx_trees.specs.Siblings.{NoRepeats, first_of}
 use Rattle.lx_trees.proofs.NamedTrees.{count-without-alone}
 use Rattle.lx_trees.proofs.Subtrees.{alone-alone}
 use Rattle.lx_forest.specs.Forest.{Forest}
@@ -17,6 +15,7 @@ use Rattle.lx_links.proofs.Up.{in_order, in_order_at}
 use Rattle.lx_links.proofs.Ordered.{there_within}
 use Rattle.lx_blocks.specs.Places.{until}
 use Rattle.lx_blocks.specs.Walks.{left_from, key_of_step}
+use Rattle.lx_blocks.proofs.Blocked.{found_among, more_among}
 use Rattle.lx_blocks.proofs.Until.{until_front}
 use Rattle.lx_blocks.proofs.Gathered.{next_at}
 use Rattle.lx_blocks.proofs.Steps.{first_left, in_order_with}
@@ -50,16 +49,6 @@ tree_walked test f q stop s attached some none deep =
     (ap (λ o. until o (from f q)) stop_is ∙ ap (until (first_of (behind f q))) is ∙ until_front (keys_within f q) (behind f q) (subst NoRepeats is once))
 
 -- ---- the list around a line
-
-found_among : (test : ℕ → Bool) (ks : List ℕ) (b : ℕ) → find test ks ≡ Some b → is_among b ks ≡ true
-found_among test [] b e = cc
-found_among test (k ∷ ks) b e = elim (cases_Bool (test k)) [
-  | inl here ↦ let same : k ≡ b = let h : Some k ≡ Some b = rw here at e in cc in grind (arith, same, eqb_tells k b)
-  | inr later ↦ let rest : is_among b ks ≡ true = found_among test ks b (rw later at e) in grind (arith, rest)
-]
-
-more_among : (x k : ℕ) (rest : List ℕ) → is_among k rest ≡ true → is_among k (x ∷ rest) ≡ true
-more_among x k rest e = grind (arith, e)
 
 above_attached : (test : ℕ → Bool) (f : Forest) (k b : ℕ) → Sound f → is_attached f k ≡ true → find test (ancestors f k) ≡ Some b → is_attached f b ≡ true
 above_attached test f k b s attached e =

@@ -1,5 +1,5 @@
 -- Lines become items of lists, and lists become lists of another type.
-use Rattle.std.specs.Prelude.{ℕ, Bool, true, false, if◌then◌else◌, Option, None, Some, Result, Ok}
+use Rattle.std.specs.Prelude.{ℕ, Bool, true, false, is_some, if◌then◌else◌, Option, None, Some, Result, Ok}
 use Rattle.std.specs.List.{list_all}
 use Rattle.lx_node.specs.Kinds.{is_inline, is_item}
 use Rattle.lx_node.specs.declared.kind.Kind.{Kind}
@@ -8,7 +8,6 @@ use Rattle.lx_node.specs.declared.kind.ListType.{ListType}
 use Rattle.lx_node.specs.declared.kind.ListType.TheVariants.{Bullet, Number, Check}
 use Rattle.lx_node.specs.declared.fields.Fields.{Fields}
 use Rattle.lx_node.specs.declared.fields.Fields.TheVariants as fields
-use Rattle.lx_node.specs.declared.fields.Extra.{Extra}
 use Rattle.lx_node.specs.declared.fields.Extra.TheVariants as extra
 use Rattle.lx_node.specs.declared.cause.Cause.{Cause}
 use Rattle.lx_forest.specs.Lookups.{fields_of, parent_of, children_of, size_of, previous_of}
@@ -20,7 +19,7 @@ use Rattle.lx_edit.specs.InTurn.{in_turn}
 use Rattle.lx_edit.specs.Edits.{remove_step, children_step}
 use Rattle.lx_blocks.specs.Blocks.{is_at}
 use Rattle.lx_list.specs.Lines.{each_line}
-use Rattle.lx_list.specs.Making.{with_new, list_fields, item_fields, unchecked, check_item}
+use Rattle.lx_list.specs.Making.{check_at, with_new, list_fields, item_fields, unchecked, check_item}
 
 -- two types of lists are one
 abbrev pub same_type : ListType → ListType → Bool
@@ -56,15 +55,9 @@ itemized type line (Some list) w =
 
 -- ---- a list becomes one of another type
 
--- whether there is a check mark, set or not
-abbrev pub has_mark_in : Extra → Bool
-has_mark_in (extra.Item value (Some checked)) = true
-has_mark_in other = false
-
 -- whether fields have a check mark, set or not
 abbrev pub has_mark : Option Fields → Bool
-has_mark (Some (fields.Element element)) = has_mark_in element.extra
-has_mark other = false
+has_mark o = is_some (check_at o)
 
 -- in a check list an item gets a check mark where it has none; in any other it loses its own
 abbrev pub remarked : ListType → ℕ → Working → Result Working Cause

@@ -40,6 +40,18 @@ abbrev pub unchecked : ListType → Option Bool
 unchecked Check = Some false
 unchecked other = None
 
+-- ---- the check mark of an item
+
+-- the check mark that an item has of its own kind: set or not, or none
+abbrev pub check_in : Extra → Option Bool
+check_in (extra.Item value checked) = checked
+check_in other = None
+
+-- the check mark in fields
+abbrev pub check_at : Option Fields → Option Bool
+check_at (Some (fields.Element element)) = check_in element.extra
+check_at other = None
+
 -- ---- fields changed
 
 -- fields changed, if they are an element's

@@ -8,12 +8,12 @@ ghost use Rattle.lx_edit.specs.Standing.{Does};
 ghost use Rattle.lx_list.specs.Checking as checking;
 ghost use Rattle.lx_list.specs.Checking.{set_checked_step, toggle_checked_step};
 
-use crate::changing::check_item;
+use crate::changing::{check_item, check_of};
 use lx_blocks::{block, is_item_at, no_range, range_of};
 use lx_draft::Draft;
 use lx_edit::admitted;
 use lx_links::Links;
-use lx_node::{Cause, Extra, Fault, Fields, Key, SelectionKind};
+use lx_node::{Cause, Fault, Key, SelectionKind};
 use std::alloc::Global;
 
 /// The node isn't there, or it is no item.
@@ -54,21 +54,7 @@ pub fn set_checked(alloc: Global, draft: &mut Draft, item: Key, checked: bool) -
 fn is_checked(links: &Links, item: Key) -> bool
     ensures { result ≡ checking.is_checked (lookups.fields_of links.now item) }
 {
-    match links.node(item) {
-        Some(node) => match &node.fields {
-            Fields::Element(element) => {
-                matches!(
-                    &element.extra,
-                    Extra::Item {
-                        checked: Some(true),
-                        ..
-                    }
-                )
-            }
-            _ => false,
-        },
-        None => false,
-    }
+    matches!(check_of(links, item), Some(true))
 }
 
 /// Sets the check mark of the item that is the anchor's block, or clears it where it is set. A block without one gets it.

@@ -11,8 +11,7 @@ ghost use Rattle.lx_list.specs.Ending.{paragraph_in_item_step};
 
 use crate::making::{items_behind, like};
 use crate::outdenting::take_out_of;
-use crate::ready::ready;
-use lx_blocks::{is_item_at, place_caret};
+use lx_blocks::{is_item_at, place_caret, ready};
 use lx_draft::Draft;
 use lx_edit::{element_point, move_each, remove};
 use lx_node::{Fault, Fields, Key, Kind};
@@ -44,7 +43,7 @@ fn part_rest(
 
 /// Puts a paragraph after a list in the place of an item, with the caret, and the items after that into a list of
 /// their own.
-#[tactic(auto, unfolding(crate::specs::Ending::paragraph_behind), using(crate::proofs::Made::paragraph_suits))]
+#[tactic(auto, unfolding(crate::specs::Ending::paragraph_behind), using(lx_blocks::proofs::Labelled::paragraph_suits))]
 fn put_paragraph(alloc: Global, draft: &mut Draft, item: Key, list: Key) -> Result<(), Fault>
     requires { blocks.is_at kinds.is_list draft.old.forest list ≡ true }
     ensures { Does (ending.paragraph_behind item list draft.old) draft.new result }
@@ -64,13 +63,10 @@ fn end_list(alloc: Global, draft: &mut Draft, item: Key, list: Key) -> Result<()
     ensures { Does (ending.ended_by item list (lookups.parent_of draft.old.forest list) draft.old) draft.new result }
 {
     match draft.links().parent(list) {
-        Some(above) => {
-            if is_item_at(draft.links(), above) {
-                take_out_of(alloc, draft, item, list, above)
-            } else {
-                put_paragraph(alloc, draft, item, list)
-            }
+        Some(above) if is_item_at(draft.links(), above) => {
+            take_out_of(alloc, draft, item, list, above)
         }
+        Some(_) => put_paragraph(alloc, draft, item, list),
         None => Ok(()),
     }
 }

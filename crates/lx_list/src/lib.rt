@@ -22,7 +22,6 @@ mod making;
 mod nesting;
 mod numbering;
 mod outdenting;
-mod ready;
 mod retyping;
 mod standing;
 

@@ -10,9 +10,8 @@ ghost use Rattle.lx_list.specs.Listing as listing;
 
 use crate::kinds::is_list_of_at;
 use crate::making::{item_fields, list_fields, unchecked};
-use crate::ready::ready;
 use crate::retyping::retype_above;
-use lx_blocks::{is_inline_at, is_item_at};
+use lx_blocks::{is_inline_at, is_item_at, ready};
 use lx_draft::Draft;
 use lx_edit::{move_children, remove};
 use lx_links::Links;

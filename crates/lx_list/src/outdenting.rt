@@ -10,8 +10,7 @@ ghost use Rattle.lx_list.specs.Outdenting as outdenting;
 
 use crate::changing::{Change, change_fields};
 use crate::making::{item_fields, items_behind, like};
-use crate::ready::ready;
-use lx_blocks::is_item_at;
+use lx_blocks::{is_item_at, ready};
 use lx_draft::Draft;
 use lx_edit::{move_before, move_behind, move_each, remove};
 use lx_links::Links;
@@ -109,14 +108,10 @@ fn take_out_from(alloc: Global, draft: &mut Draft, item: Key, list: Key) -> Resu
     ensures { Does (outdenting.out_from item list (lookups.parent_of draft.old.forest list) draft.old) draft.new result }
 {
     match draft.links().parent(list) {
-        Some(outer) => {
-            if is_item_at(draft.links(), outer) {
-                take_out_of(alloc, draft, item, list, outer)
-            } else {
-                Ok(())
-            }
+        Some(outer) if is_item_at(draft.links(), outer) => {
+            take_out_of(alloc, draft, item, list, outer)
         }
-        None => Ok(()),
+        _ => Ok(()),
     }
 }
 

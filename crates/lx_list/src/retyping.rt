@@ -10,35 +10,14 @@ ghost use Rattle.lx_edit.specs.Standing.{Does};
 ghost use Rattle.lx_blocks.specs.Blocks as blocks;
 ghost use Rattle.lx_list.specs.Listing as listing;
 
-use crate::changing::check_item;
+use crate::changing::{check_item, check_of};
 use crate::kinds::is_list_of_at;
 use crate::making::like;
 use lx_draft::Draft;
 use lx_edit::{children_of, move_children, remove};
 use lx_links::Links;
-use lx_node::{Extra, Fault, Fields, Key, Kind, ListType, NoMemory};
+use lx_node::{Fault, Fields, Key, Kind, ListType, NoMemory};
 use std::alloc::Global;
-
-/// Whether an item has a check mark, set or not.
-fn has_mark(links: &Links, item: Key) -> bool
-    ensures { result ≡ listing.has_mark (lookups.fields_of links.now item) }
-{
-    match links.node(item) {
-        Some(node) => match &node.fields {
-            Fields::Element(element) => {
-                matches!(
-                    &element.extra,
-                    Extra::Item {
-                        checked: Some(_),
-                        ..
-                    }
-                )
-            }
-            _ => false,
-        },
-        None => false,
-    }
-}
 
 /// In a check list, gives an item a check mark where it has none. In another list it loses its own.
 fn remark(alloc: Global, draft: &mut Draft, list_type: ListType, item: Key) -> Result<(), Fault>
@@ -46,7 +25,7 @@ fn remark(alloc: Global, draft: &mut Draft, list_type: ListType, item: Key) -> R
 {
     match list_type {
         ListType::Check => {
-            if has_mark(draft.links(), item) {
+            if check_of(draft.links(), item).is_some() {
                 Ok(())
             } else {
                 check_item(alloc, draft, item, Some(false))

@@ -1,19 +1,13 @@
-use Rattle.std.proofs.Common.{◌∙◌, sym, arith}
+use Rattle.std.proofs.Common.{rules, tests}
+use Rattle.std.proofs.lemmas.Iterator.Consumers.{YieldsList-from_first}
+use Rattle.std.proofs.lemmas.Iterator.Search.{find_from_yields_List}
 use Rattle.lx_node.specs.Kinds.{is_cell}
-use Rattle.lx_links.proofs.Up.{one_up}
 use Rattle.lx_blocks.specs.Blocks.{is_at}
-use Rattle.lx_blocks.proofs.Up.{find_up, find_top}
+use Rattle.lx_blocks.proofs.Up.{search_told}
 use Rattle.lx_blocks.proofs.blocks.cell_from.Goals as goal
 
-pub loop-at-smaller : goal.loop-at-smaller
-loop-at-smaller c = omega (arith, one_up c.args.links.now c.loop-at.at c.in-Some.parent c.parent.ensures.sound (sym c.parent.ensures.parent ∙ c.in-Some.is))
-
-pub loop-at-preserved : goal.loop-at-preserved
-loop-at-preserved c =
-    c.loop-at.invariant ∙ find_up (is_at is_cell c.args.links.now) c.args.links.now c.loop-at.at c.in-Some.parent c.parent.ensures.sound
-    (sym c.parent.ensures.parent ∙ c.in-Some.is) (sym c.is_cell_at.ensures ∙ c.loop-at-test.true)
-
-pub returns-in-None : goal.returns-in-None
-returns-in-None c =
-    sym (c.loop-at.invariant ∙ find_top (is_at is_cell c.args.links.now) c.args.links.now c.loop-at.at (sym c.parent.ensures.parent ∙ c.in-None.is)
-    (sym c.is_cell_at.ensures ∙ c.loop-at-test.true))
+pub returns : goal.returns
+returns c =
+    search_told c.find.result _
+    (find_from_yields_List (is_at is_cell c.args.links.now) _ _ _ c.find.ensures.ran (YieldsList-from_first (λ x. x) (λ left. left) _ c.upward.ensures)
+    (λ x b q k. search (rules, tests)))
