@@ -8,7 +8,7 @@ ghost use Rattle.lx_fields.specs.Words as words;
 ghost use Rattle.lx_fields.specs.Values as values;
 ghost use Rattle.lx_fields.specs.Exporting as exporting;
 
-use crate::values::{named, word_in};
+use crate::values::{is_same, named, word_in};
 use lx_node::{Align, Direction, Kind, ListType, Mode};
 use serde_json::Value;
 
@@ -63,7 +63,7 @@ fn kind_in(kinds: &[Kind], text: &str) -> Option<Kind>
     ensures { result ≡ words.kind_in kinds.now text.now }
 {
     'kinds: for kind in kinds {
-        if kind.type_name() == text {
+        if is_same(kind.type_name(), text) {
             return Some(*kind);
         }
     }
