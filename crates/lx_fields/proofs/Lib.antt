@@ -1,6 +1,7 @@
 pub mod Back
 pub mod Characters
 pub mod Exported
+pub mod InOrder
 pub mod Looked
 pub mod Objects
 pub mod ReadBack

@@ -1,5 +1,6 @@
 -- What is found in a value lies less deep, and members that are walked for a name are looked up.
-use Rattle.std.proofs.Common.{◌≡◌, ◌∙◌, ◌≤◌, ◌<◌, ℕ, zero, suc, Bool, true, false, max, List, [], ◌∷◌, length, Option, None, Some, option_and_then, refl, arith, ap, if◌then◌else◌, slice_index_or}
+use Rattle.std.proofs.lemmas.Slice.Eq.{bytes_eq-Decides}
+use Rattle.std.proofs.Common.{Decides, ◌≡◌, ◌∙◌, ◌≤◌, ◌<◌, ℕ, zero, suc, Bool, true, false, max, List, [], ◌∷◌, length, Option, None, Some, option_and_then, refl, arith, ap, if◌then◌else◌, slice_index_or}
 use Rattle.std.specs.List.{slice_get}
 use Rattle.std.proofs.lemmas.Option.{slice_get_read}
 use Rattle.std.specs.Ordering.{nat_cmp, match_ordering, is_eq}
@@ -12,6 +13,12 @@ use Rattle.serde_json.specs.declared.value.Value.{Value}
 use Rattle.serde_json.specs.View.{view, items_view}
 use Rattle.serde_json.specs.Data.{Data, array, object, Items, Members, no_members, member, depth, items_depth, members_depth}
 use Rattle.serde_json.specs.Find.{get, get_member, as_array}
+
+-- texts of different lengths differ
+pub apart_by_length : (a b : List ℕ) → (length a ≡ length b → ⊥) → bytes_eq a b ≡ false
+apart_by_length a b apart =
+    elim (bytes_eq a b) as (λ same. Decides same (a ≡ b) → same ≡ false)
+    [ true ↦ λ is. absurd (apart (ap length (is.0 refl))) | false ↦ λ is. refl ] (bytes_eq-Decides a b)
 
 -- ---- depths
 

@@ -15,7 +15,7 @@ use Rattle.lx_node.specs.declared.fields.Extra.TheVariants as extra
 use Rattle.lx_node.specs.declared.fields.Fields.{Fields}
 use Rattle.lx_node.specs.declared.fields.Fields.TheVariants as fields
 use Rattle.lx_fields.specs.declared.words.Name.{Name}
-use Rattle.lx_fields.specs.Documents.{document_fields, default_fields, default_extra, fields_with, given_by, or_bad, takes}
+use Rattle.lx_fields.specs.Documents.{fields_given, document_fields, default_fields, default_extra, fields_with, given_by, or_bad, takes}
 use Rattle.lx_fields.specs.Words.{names}
 use Rattle.lx_fields.specs.Exporting.{node_data, field_members, kind_members, node_members}
 use Rattle.lx_fields.specs.Storable.{IsElementStorable, IsTextStorable, IsStorable}
@@ -174,7 +174,7 @@ fitting_back kind f below possible of stored = absurd (cc)
 
 -- what is written for fields of a kind gives those fields
 pub reads_back : (kind : Kind) (f : Fields) (below : Items) → IsOfKind kind f → IsStorable f → document_fields kind (node_data kind f below) ≡ Ok f
-unfolding document_fields is_of_kind
+unfolding document_fields fields_given is_of_kind
 reads_back kind f below of stored =
     let read = fitting_back kind f below (first_true (is_possible kind) (fits_kind kind f) of) (second_true (is_possible kind) (fits_kind kind f) of) stored in
     reads_alike kind (λ name. get name (node_data kind f below)) (named_in kind f below) (λ name. told_of name kind f below) names (default_fields kind)

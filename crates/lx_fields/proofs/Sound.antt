@@ -20,7 +20,7 @@ use Rattle.lx_step.specs.Patches.{has, with_member, is_in_range, IsInRange}
 use Rattle.lx_step.proofs.Kept.{keeps_kind_with}
 use Rattle.lx_fields.specs.declared.words.Name.{Name}
 use Rattle.lx_fields.specs.declared.words.Name.TheVariants as name
-use Rattle.lx_fields.specs.Documents.{default_extra, default_fields, extra_with_value, item_with_value, with_given, takes, given_by, or_bad, fields_with, document_fields}
+use Rattle.lx_fields.specs.Documents.{default_extra, default_fields, extra_with_value, item_with_value, with_given, takes, given_by, or_bad, fields_with, fields_given, document_fields}
 use Rattle.lx_fields.specs.Members.{settable}
 use Rattle.lx_fields.specs.Types.{or_kept, told_by}
 use Rattle.lx_fields.specs.Values.{word_in, named, whole_of, number_within}
@@ -223,5 +223,5 @@ default_of_kind of possible = and (is_possible of) _ possible (fit of)
 
 -- what an object gives a node of a kind that a node can be are fields of the kind
 pub document_fields_of_kind : (kind : Kind) (d : Data) (new : Fields) → IsTrue (is_possible kind) → document_fields kind d ≡ Ok new → IsOfKind kind new
-unfolding document_fields
+unfolding document_fields fields_given
 document_fields_of_kind kind d new possible is = fields_keep kind names (λ name. get name d) (default_fields kind) new is (default_of_kind kind possible)

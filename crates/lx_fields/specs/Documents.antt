@@ -105,9 +105,13 @@ fields_with kind [] find old = Ok old
 fields_with kind (row ∷ rows) find old =
     if takes kind row.1 then or_bad row.0 (fields_with kind rows find) (given_by kind row.1 (find row.0) old) else fields_with kind rows find old
 
--- the fields that an object gives a node of the kind; any other value has no members
+-- the fields with what an object's members give that the kind has; any other value has no members
+unfoldable pub fields_given : Kind → Data → Fields → Result Fields (List ℕ)
+fields_given kind d old = fields_with kind names (λ name. get name d) old
+
+-- the fields that an object gives a node of the kind
 unfoldable pub document_fields : Kind → Data → Result Fields (List ℕ)
-document_fields kind d = fields_with kind names (λ name. get name d) (default_fields kind)
+document_fields kind d = fields_given kind d (default_fields kind)
 
 -- An object gives no fields for the first of its bad members; or memory ran out.
 abbrev pub TellsBad : Result Fields (List ℕ) → FieldFault → Type 0

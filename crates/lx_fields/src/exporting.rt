@@ -11,9 +11,8 @@ ghost use Rattle.lx_fields.specs.Parts.{natural, text_data, or_null};
 ghost use Rattle.lx_fields.specs.Storable.{IsText, IsTextIfAny, IsShort, IsExtraStorable, IsLinkStorable, IsElementStorable, IsTextStorable, IsStorable};
 ghost use Rattle.lx_node.specs.declared.fields.Extra.TheVariants as extra;
 
-use lx_node::{
-    Align, Direction, ElementFields, Extra, Fields, Kind, ListType, Mode, NoMemory, TextFields, Txt,
-};
+use crate::words::{align_word, direction_word, level_word, list_word, mode_word};
+use lx_node::{Direction, ElementFields, Extra, Fields, Kind, ListType, NoMemory, TextFields, Txt};
 use serde_json::{Map, Value, put};
 use std::alloc::{AllocError, Global};
 
@@ -21,42 +20,6 @@ use std::alloc::{AllocError, Global};
 const VERSION: u8 = 1;
 
 // ---- words
-
-#[tactic(auto, unfolding(lx_node::specs::Same::same_align))]
-fn align_word(align: Align) -> &'static str
-    ensures { result.now ≡ exporting.align_word align }
-{
-    match align {
-        Align::Unset => "",
-        Align::Left => "left",
-        Align::Center => "center",
-        Align::Right => "right",
-        Align::Justify => "justify",
-        Align::Start => "start",
-        Align::End => "end",
-    }
-}
-
-#[tactic(auto, unfolding(lx_node::specs::Same::same_mode))]
-fn mode_word(mode: Mode) -> &'static str
-    ensures { result.now ≡ exporting.mode_word mode }
-{
-    match mode {
-        Mode::Normal => "normal",
-        Mode::Token => "token",
-        Mode::Segmented => "segmented",
-    }
-}
-
-fn list_word(list_type: ListType) -> &'static str
-    ensures { result.now ≡ exporting.list_word list_type }
-{
-    match list_type {
-        ListType::Bullet => "bullet",
-        ListType::Number => "number",
-        ListType::Check => "check",
-    }
-}
 
 fn list_tag(list_type: ListType) -> &'static str
     ensures { result.now ≡ exporting.list_tag list_type }
@@ -67,27 +30,12 @@ fn list_tag(list_type: ListType) -> &'static str
     }
 }
 
-fn level_word(level: u8) -> &'static str
-    ensures { result.now ≡ exporting.level_word level }
-{
-    match level {
-        1 => "h1",
-        2 => "h2",
-        3 => "h3",
-        4 => "h4",
-        5 => "h5",
-        6 => "h6",
-        _ => "",
-    }
-}
-
 fn direction_value(alloc: Global, direction: Direction) -> Result<Value, AllocError>
     ensures { IfOk result (λ v. view v ≡ exporting.direction_data direction) }
 {
     match direction {
         Direction::Unset => Ok(Value::Null),
-        Direction::Ltr => Value::try_from_str(alloc, "ltr"),
-        Direction::Rtl => Value::try_from_str(alloc, "rtl"),
+        set => Value::try_from_str(alloc, direction_word(set)),
     }
 }
 

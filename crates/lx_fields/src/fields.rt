@@ -1,20 +1,20 @@
 //! The fields that an object gives a node: a document's, or those of a new node.
 
-ghost use Rattle.std.specs.Prelude.{◌≡◌, IfOk, IfErr, chars, IsTrue, Some, None, Ok, Err, if◌then◌else◌, map, option_map, option_and_then, OnOk};
+ghost use Rattle.std.specs.Prelude.{◌≡◌, IfOk, IfErr, chars, IsTrue, Some, None, Ok, Err, if◌then◌else◌, option_and_then, OnOk};
 ghost use Rattle.lx_node.specs.Kinds.{is_possible};
 ghost use Rattle.lx_node.specs.OfKind.{IsOfKind};
 ghost use Rattle.lx_step.specs.Patches.{has, with_member};
 ghost use Rattle.lx_fields.specs.Members as members;
-ghost use Rattle.serde_json.specs.Find.{get};
-ghost use Rattle.serde_json.specs.View.{view};
+ghost use Rattle.serde_json.specs.Data.{object};
+ghost use Rattle.serde_json.specs.View.{view, members_view};
 ghost use Rattle.lx_fields.specs.Documents as documents;
 
 use crate::members::settable;
 use crate::values::long_within;
-use crate::words::{NAMES, Name, level_of, list_type_of, name_of};
+use crate::words::{Name, level_of, list_type_of, name_of};
 use lx_node::{ElementFields, Extra, Fields, Kind, ListType, NoMemory, TextFields, Txt};
 use lx_step::Member;
-use serde_json::Value;
+use serde_json::{Map, Value};
 use std::alloc::Global;
 
 /// Why an object gives no fields.
@@ -176,27 +176,21 @@ fn give(
     }
 }
 
-/// Writes what a member of the kind gives, if it is there and isn't null. It answers whether its value is one that it
-/// takes.
+/// Writes what a member of the kind gives, unless it is null. It answers whether its value is one that it takes.
 #[tactic(auto, unfolding(crate::specs::Documents::given_by))]
 fn give_by(
     alloc: Global,
     kind: Kind,
     name: Name,
-    value: Option<&Value>,
+    value: &Value,
     fields: &mut Fields,
 ) -> Result<bool, NoMemory>
-    ensures { IfOk result (λ is_taken. documents.given_by kind name (option_map (λ v. view v.now) value.entry) fields.old ≡ (if is_taken then Some fields.new else None)) }
+    ensures { IfOk result (λ is_taken. documents.given_by kind name (Some (view value.now)) fields.old ≡ (if is_taken then Some fields.new else None)) }
 {
-    match value {
-        None => Ok(true),
-        Some(value) => {
-            if value.is_null() {
-                return Ok(true);
-            }
-            give(alloc, kind, name, value, fields)
-        }
+    if value.is_null() {
+        return Ok(true);
     }
+    give(alloc, kind, name, value, fields)
 }
 
 /// The fault that the member of this name has a bad value.
@@ -209,27 +203,45 @@ fn bad(alloc: Global, text: &str) -> FieldFault
     }
 }
 
-/// Writes what those of these members of an object give that the kind has.
-fn give_all(
+/// Writes what those of an object's members give that the kind has. They are in byte order of their names, so that the
+/// first bad one of them is the first of all.
+fn give_each(
     alloc: Global,
     kind: Kind,
-    rows: &[(&str, Name)],
-    object: &Value,
+    members: &Map<String, Value>,
     fields: &mut Fields,
 ) -> Result<(), FieldFault>
-    ensures ok { OnOk result (documents.fields_with kind (map (λ row. (row.0.now, row.1)) rows.now) (λ name. get name (view object.now)) fields.old ≡ Ok fields.new) }
-    ensures err { IfErr result (documents.TellsBad (documents.fields_with kind (map (λ row. (row.0.now, row.1)) rows.now) (λ name. get name (view object.now)) fields.old)) }
+    ensures ok { OnOk result (documents.fields_given kind (object (members_view members.now.entries)) fields.old ≡ Ok fields.new) }
+    ensures err { IfErr result (documents.TellsBad (documents.fields_given kind (object (members_view members.now.entries)) fields.old)) }
 {
-    'rows: for (text, name) in rows {
-        if takes(kind, *name) {
-            match give_by(alloc, kind, *name, object.get(*text), fields) {
+    'members: for (text, value) in members.iter() {
+        let text = text.as_str();
+        if let Some(name) = name_in(kind, text) {
+            match give_by(alloc, kind, name, value, fields) {
                 Ok(true) => {}
-                Ok(false) => return Err(bad(alloc, *text)),
+                Ok(false) => return Err(bad(alloc, text)),
                 Err(_) => return Err(FieldFault::Memory),
             }
         }
     }
     Ok(())
+}
+
+/// Writes what those of a value's members give that the kind has. What is no object has none.
+#[tactic(auto, using(crate::proofs::InOrder::is_object_of, crate::proofs::InOrder::none_of_others))]
+fn give_all(
+    alloc: Global,
+    kind: Kind,
+    object: &Value,
+    fields: &mut Fields,
+) -> Result<(), FieldFault>
+    ensures ok { OnOk result (documents.fields_given kind (view object.now) fields.old ≡ Ok fields.new) }
+    ensures err { IfErr result (documents.TellsBad (documents.fields_given kind (view object.now) fields.old)) }
+{
+    match object.as_object() {
+        Some(members) => give_each(alloc, kind, members, fields),
+        None => Ok(()),
+    }
 }
 
 /// An error for which fields are let go. A call of its own, so that no caller has to look into them.
@@ -244,7 +256,7 @@ fn let_go(_fields: Fields, fault: FieldFault) -> FieldFault
 /// and mode. It is refused as `Bad` exactly where a member has a value that it doesn't take, for the first
 /// such in byte order of their names; a heading's `tag` and a list's `listType` are looked at too, though they
 /// are the kind's. What is no object gives the defaults. If a node can be of the kind, they are fields of it.
-#[tactic(auto, unfolding(crate::specs::Documents::document_fields))]
+#[tactic(auto, unfolding(crate::specs::Documents::document_fields), using(crate::proofs::Sound::document_fields_of_kind))]
 pub fn fields_of(alloc: Global, kind: Kind, from: &Value) -> Result<Fields, FieldFault>
     ensures ok { IfOk result (λ made. documents.document_fields kind (view from.now) ≡ Ok made) }
     ensures err { IfErr result (documents.TellsBad (documents.document_fields kind (view from.now))) }
@@ -254,7 +266,7 @@ pub fn fields_of(alloc: Global, kind: Kind, from: &Value) -> Result<Fields, Fiel
         Ok(fields) => fields,
         Err(_) => return Err(FieldFault::Memory),
     };
-    match give_all(alloc, kind, &NAMES, from, &mut fields) {
+    match give_all(alloc, kind, from, &mut fields) {
         Ok(()) => Ok(fields),
         Err(fault) => Err(let_go(fields, fault)),
     }

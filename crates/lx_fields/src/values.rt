@@ -1,6 +1,7 @@
 //! What is asked of a JSON value.
 
 ghost use Rattle.std.specs.Prelude.{◌≡◌, map, option_map, option_and_then, IfOk};
+ghost use Rattle.std.specs.Str.{bytes_eq};
 ghost use Rattle.serde_json.specs.Find.{get, as_array};
 ghost use Rattle.serde_json.specs.View.{view, items_view};
 ghost use Rattle.lx_fields.specs.Values as values;
@@ -9,12 +10,22 @@ use lx_node::{NoMemory, Txt};
 use serde_json::Value;
 use std::alloc::Global;
 
+/// Whether two texts are the same. Most words of a table differ in length from the one that is looked for, which is told
+/// before any byte is read.
+#[inline(always)]
+#[tactic(auto, using(crate::proofs::Looked::apart_by_length))]
+pub(crate) fn is_same(a: &str, b: &str) -> bool
+    ensures { result ≡ bytes_eq a.now b.now }
+{
+    a.len() == b.len() && a == b
+}
+
 /// What a word stands for in a table of words.
 pub(crate) fn word_in<T: Copy>(rows: &[(&str, T)], text: &str) -> Option<T>
     ensures { result ≡ values.word_in (map (λ row. (row.0.now, row.1)) rows.now) text.now }
 {
     'rows: for (word, meaning) in rows {
-        if *word == text {
+        if is_same(*word, text) {
             return Some(*meaning);
         }
     }

@@ -164,16 +164,17 @@ record IsFit (kinds : ℕ → Option Kind) (s : Spot Label) : Type 0 where
   kind : kinds s.label.key ≡ Some s.label.kind
   held : (p : ℕ) → s.parent ≡ Some p → holds may_hold (kinds p) (Some s.label.kind) ≡ true
 
-below_at : (r : Option ℕ) (l : Label) (below rest : Forest) (q : ℕ) (s : Spot Label) → IsDistinct key_of (tree l below rest)
+-- where a node is in a tree, from where it is below the root, behind it, or as the root
+pub below_at : (r : Option ℕ) (l : Label) (below rest : Forest) (q : ℕ) (s : Spot Label) → IsDistinct key_of (tree l below rest)
     → spot_below key_of (Some l.key) below q ≡ Some s → spot_below key_of r (tree l below rest) q ≡ Some s
 below_at r l below rest q s once e = grind (arith, e, once q, eqb_tells l.key q, spot_below-absent key_of (Some l.key) below q)
 
-rest_at : (r : Option ℕ) (l : Label) (below rest : Forest) (q : ℕ) (s : Spot Label) → IsDistinct key_of (tree l below rest)
+pub rest_at : (r : Option ℕ) (l : Label) (below rest : Forest) (q : ℕ) (s : Spot Label) → IsDistinct key_of (tree l below rest)
     → spot_below key_of r rest q ≡ Some s → spot_below key_of r (tree l below rest) q ≡ Some s
 rest_at r l below rest q s once e =
     grind (arith, e, once q, eqb_tells l.key q, spot_below-absent key_of (Some l.key) below q, spot_below-absent key_of r rest q)
 
-first_at : (r : Option ℕ) (l : Label) (below rest : Forest)
+pub first_at : (r : Option ℕ) (l : Label) (below rest : Forest)
     → spot_below key_of r (tree l below rest) l.key ≡ Some (record { label = l; parent = r; children = named.names key_of below })
 first_at r l below rest = grind (arith, eqb_tells l.key l.key)
 
