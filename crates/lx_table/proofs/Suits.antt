@@ -4,7 +4,7 @@ use Rattle.std.proofs.lemmas.Bool.Decides.{nat_tests}
 use Rattle.lx_node.specs.OfKind.{IsOfKind, is_of_kind, fits_kind, is_element_of, is_text_of, are_embed_fields, are_bare, is_extra_of, is_plain, is_list_extra, is_item_extra, is_link_extra, is_cell_extra, is_span}
 use Rattle.lx_node.specs.Kinds.{is_possible}
 use Rattle.lx_node.specs.declared.kind.Kind.{Kind}
-use Rattle.lx_node.specs.declared.kind.Kind.TheVariants.{List as ListKind, Item, Link, Table, Row, Cell}
+use Rattle.lx_node.specs.declared.kind.Kind.TheVariants.{List as ListKind, Item, Link, Paragraph, Table, Row, Cell, Text, Tab, Break, Rule, Embed}
 use Rattle.lx_node.specs.declared.fields.Extra.{Extra}
 use Rattle.lx_node.specs.declared.fields.Extra.TheVariants as extra
 use Rattle.lx_node.specs.declared.fields.ElementFields.{ElementFields}
@@ -69,8 +69,12 @@ extra_within _ x e = plain_within x e
 
 element_within : (kind : Kind) (e : ElementFields) → fits_kind kind (fields.Element e) ≡ true → AreWithin e.extra
 unfolding fits_kind is_element_of is_text_of are_embed_fields are_bare
+element_within Text e h = absurd (cc)
+element_within Tab e h = absurd (cc)
+element_within Break e h = absurd (cc)
+element_within Rule e h = absurd (cc)
+element_within Embed e h = absurd (cc)
 element_within kind e h = extra_within kind e.extra h
-element_within other e h = absurd (cc)
 
 second : (a b : Bool) → (a && b) ≡ true → b ≡ true
 second true b e = e
