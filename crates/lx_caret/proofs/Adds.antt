@@ -241,9 +241,7 @@ pub at_anchor_fits : (step : Point → ℕ → Working → Result Working Cause)
 at_anchor_fits step w v fit each e = by_selection w.selection fit.lying e where
   by_selection : (s : Selection) → EachPoint (λ p. lies w.forest p ≡ true) s → at_anchor_of s step w ≡ Ok v → Fit v
   by_selection (Range a b format) lying e = each a format (both (is_attached w.forest a.key) (lies_in w.forest a) lying.0).0 e
-  by_selection Nothing lying e = absurd (cc)
-  by_selection (Nodes keys) lying e = absurd (cc)
-  by_selection (Cells t a b) lying e = absurd (cc)
+  by_selection other lying e = absurd (cc)
 
 pub lies-insert_text : (text : List ℕ) → LeavesLying (insert_text_step text)
 unfolding insert_text_step
@@ -255,16 +253,19 @@ lies-insert_text text w v ready held short e =
       by_test u fit true e = let is : u ≡ v = cc in subst Fit is fit
       by_test u fit false e = at_anchor_fits (typed text) u v fit (λ p format place so. typed_fits text p format u v fit place so) e
 
+-- a step at the anchor of the range, once what is selected is removed
+anchored_lies : (step : Point → ℕ → Working → Result Working Cause)
+    → ((p : Point) (format : ℕ) (w v : Working) → Fit w → is_attached w.forest p.key ≡ true → step p format w ≡ Ok v → Fit v)
+    → LeavesLying (λ w. after (remove_text_step w) (at_anchor step))
+anchored_lies step fits w v ready held short e =
+    let first = after_tells (remove_text_step w) (at_anchor step) v e in
+    let fit = remove_text_fits w first.0 ready held short first.1.0 in
+    (at_anchor_fits step first.0 v fit (λ p format place so. fits p format first.0 v fit place so) first.1.1).lying
+
 pub lies-insert_line_break : LeavesLying insert_line_break_step
 unfolding insert_line_break_step
-lies-insert_line_break w v ready held short e =
-    let first = after_tells (remove_text_step w) (at_anchor broken) v e in
-    let fit = remove_text_fits w first.0 ready held short first.1.0 in
-    (at_anchor_fits broken first.0 v fit (λ p format place so. broken_fits p format first.0 v fit place so) first.1.1).lying
+lies-insert_line_break w v ready held short e = anchored_lies broken broken_fits w v ready held short e
 
 pub lies-insert_tab : LeavesLying insert_tab_step
 unfolding insert_tab_step
-lies-insert_tab w v ready held short e =
-    let first = after_tells (remove_text_step w) (at_anchor tabbed) v e in
-    let fit = remove_text_fits w first.0 ready held short first.1.0 in
-    (at_anchor_fits tabbed first.0 v fit (λ p format place so. tabbed_fits p format first.0 v fit place so) first.1.1).lying
+lies-insert_tab w v ready held short e = anchored_lies tabbed tabbed_fits w v ready held short e

@@ -19,7 +19,7 @@ use Rattle.lx_links.proofs.Ordered.{there_within}
 use Rattle.lx_blocks.specs.Blocks.{is_at, same_node, block_of}
 use Rattle.lx_blocks.specs.Places.{until}
 use Rattle.lx_blocks.specs.Walks.{nodes_before}
-use Rattle.lx_blocks.proofs.Blocked.{block_within}
+use Rattle.lx_blocks.proofs.Blocked.{own, first_among, more_among, block_within}
 use Rattle.lx_caret.specs.Deleting.{is_leaf_in}
 
 -- ---- lists
@@ -32,15 +32,6 @@ apart (x ∷ xs) ys k once e = grind (arith, once, e, eqb_tells x k, is_among-ap
 once_right : (xs ys : List ℕ) → NoRepeats (xs ++ ys) → NoRepeats ys
 once_right [] ys once = once
 once_right (x ∷ xs) ys once = once_right xs ys once.1
-
-own : (b : ℕ) → eqb b b ≡ true
-own b = grind (arith, eqb_tells b b)
-
-first_among : (b : ℕ) (rest : List ℕ) → is_among b (b ∷ rest) ≡ true
-first_among b rest = rw (own b) refl
-
-more_among : (x k : ℕ) (rest : List ℕ) → is_among k rest ≡ true → is_among k (x ∷ rest) ≡ true
-more_among x k rest e = grind (arith, e)
 
 until_front : (front rest : List ℕ) (b : ℕ) → is_among b front ≡ false → until (Some b) (front ++ b ∷ rest) ≡ front
 until_front [] rest b e = rw (own b) refl

@@ -284,9 +284,7 @@ range_tells f (Range a b format) r e = by_test (is_fit f a b) refl e where
       let parts = both (lies f a) (lies f b) (both (lies f a && lies f b) (same_node (frame_of f a.key) (frame_of f b.key)) fits).0 in
       let is : ◌≡◌ {A = Ranged} (record { anchor = a; focus = b; format = format }) r = cc in
       (parts, (ap (λ x. lies f x.anchor) (sym is) ∙ parts.0, ap (λ x. lies f x.focus) (sym is) ∙ parts.1))
-range_tells f Nothing r e = absurd (cc)
-range_tells f (Nodes keys) r e = absurd (cc)
-range_tells f (Cells t a b) r e = absurd (cc)
+range_tells f other r e = absurd (cc)
 
 pub range_lies : (w : Working) (r : Ranged) → range_of w ≡ Ok r → IsRange w r
 unfolding range_of

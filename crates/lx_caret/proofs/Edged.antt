@@ -99,9 +99,7 @@ begins f s e point.Text rest at inside i p here behind = by_test (ltb_tells s.of
 no_element : (o : Option Kind) → is_counted_in point.Text o ≡ true → is_counted_in point.Element o ≡ true → ⊥
 unfolding has_characters is_element
 no_element None a b = cc
-no_element (Some Text) a b = cc
-no_element (Some Tab) a b = cc
-no_element (Some _) a b = cc
+no_element other a b = cc
 
 both : (a b : Bool) → (a && b) ≡ true → (a ≡ true) × (b ≡ true)
 both true true e = (refl, refl)
@@ -134,9 +132,6 @@ start_inside f s e in_s in_e text lt = elim (eqb_tells s.key e.key) [
 -- ---- a range that a command has
 
 fit : (f : Forest) (s : Selection) (r : Ranged) → range_in f s ≡ Ok r → is_fit f r.anchor r.focus ≡ true
-fit f Nothing r e = cc
-fit f (Nodes keys) r e = cc
-fit f (Cells table a b) r e = cc
 fit f (Range a b format) r e = by_fit (is_fit f a b) refl e where
   by_fit : (t : Bool) → is_fit f a b ≡ t
       → ◌≡◌ {A = Result Ranged Cause} (cond t (Ok (record { anchor = a; focus = b; format = format })) (Err (NoSelection kinds.Range))) (Ok r)
@@ -147,6 +142,7 @@ fit f (Range a b format) r e = by_fit (is_fit f a b) refl e where
       let P : Ranged → Type 0 = λ x. is_fit f x.anchor x.focus ≡ true in
       subst P same is
   by_fit false is h = cc
+fit f other r e = cc
 
 range_fit : (w : Working) (r : Ranged) → range_of w ≡ Ok r → is_fit w.forest r.anchor r.focus ≡ true
 unfolding range_of

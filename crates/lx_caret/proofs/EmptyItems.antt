@@ -33,9 +33,7 @@ left_alone None block k p w v is e = absurd (cc)
 at_range : (s : Selection) (step : Point → ℕ → Working → Result Working Cause) (w v : Working)
     → ((p : Point) (format : ℕ) → step p format w ≡ Ok v → w ≡ v) → at_anchor_of s step w ≡ Ok v → w ≡ v
 at_range (Range a b format) step w v each e = each a format e
-at_range Nothing step w v each e = absurd (cc)
-at_range (Nodes keys) step w v each e = absurd (cc)
-at_range (Cells table a b) step w v each e = absurd (cc)
+at_range other step w v each e = absurd (cc)
 
 abbrev step_at : Working → Point → ℕ → Working → Result Working Cause
 step_at u p format w = paragraph_at (empty_item u) (block_of u.forest p.key) p w

@@ -43,9 +43,7 @@ fit_lies f a b format r e = elim (cases_Bool (is_fit f a b)) [
 
 anchor_in : (f : Forest) (s : Selection) (r : Ranged) → range_in f s ≡ Ok r → lies f r.anchor ≡ true
 anchor_in f (Range a b format) r e = fit_lies f a b format r e
-anchor_in f Nothing r e = absurd (cc)
-anchor_in f (Nodes keys) r e = absurd (cc)
-anchor_in f (Cells table a b) r e = absurd (cc)
+anchor_in f other r e = absurd (cc)
 
 -- the anchor of the range that a command needs lies in the root's tree
 pub anchor_lies : (w : Working) (r : Ranged) → range_of w ≡ Ok r → lies w.forest r.anchor ≡ true

@@ -7,6 +7,8 @@ use Rattle.lx_forest.specs.Lookups.{from, behind, depth, is_attached}
 use Rattle.lx_forest.proofs.Loose.{attached_at}
 use Rattle.lx_links.specs.Stands.{Sound}
 use Rattle.lx_blocks.specs.Walks.{left_from, IsAt, key_of_step}
+use Rattle.lx_blocks.proofs.Gathered.{next_left, next_at}
+use Rattle.lx_blocks.proofs.Up.{find_here}
 use Rattle.lx_blocks.specs.Blocks.{frame_of}
 use Rattle.lx_caret.specs.Deleting.{is_leaf_in, is_stop}
 use Rattle.lx_caret.proofs.BlockOrder.{find_none, no_leaf_behind}
@@ -16,20 +18,8 @@ use Rattle.std.proofs.lemmas.Bool.Decides.{eqb_tells}
 abbrev pub IsForth : (test : ℕ → Bool) (f : Forest) (at : Option (ℕ × ℕ)) (whole : Option ℕ) → Type 0
 IsForth test f at whole = IsAt f at × (find test (left_from f at) ≡ whole)
 
-next_left : (o : Option (ℕ × ℕ)) (f : Forest) (q : ℕ) → IfSome o (λ next. from f q ≡ q ∷ from f next.0) → IfNone o (from f q ≡ q ∷ [])
-    → from f q ≡ q ∷ left_from f o
-next_left None f q next last = last
-next_left (Some at) f q next last = next
-
-next_at : (o : Option (ℕ × ℕ)) (f : Forest) → IfSome o (λ next. depth f next.0 ≡ Some next.1) → IsAt f o
-next_at None f e = tt
-next_at (Some at) f e = e
-
 find_on : (test : ℕ → Bool) (q : ℕ) (rest : List ℕ) → test q ≡ false → find test (q ∷ rest) ≡ find test rest
 find_on test q rest so = rw so refl
-
-find_here : (test : ℕ → Bool) (q : ℕ) (rest : List ℕ) → test q ≡ true → find test (q ∷ rest) ≡ Some q
-find_here test q rest so = rw so refl
 
 pub forth_on : (test : ℕ → Bool) (at o : Option (ℕ × ℕ)) (f : Forest) (q d : ℕ) (whole : Option ℕ) → IsForth test f at whole
     → IfSome o (λ next. from f q ≡ q ∷ from f next.0)

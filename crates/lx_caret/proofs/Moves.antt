@@ -84,11 +84,16 @@ pub stays_behind : (k other : ℕ) → Staying (put_behind_step k other)
 unfolding put_behind_step
 stays_behind k other w v fit e = stays_behind_at k other (parent_of w.forest other) (index_of w.forest other) w v fit e
 
+-- put below the parent of another node
+placed_in : (k other p at : ℕ) (w v : Working) → Fit w → parent_of w.forest other ≡ Some p → is_attached w.forest other ≡ true → put_step k p at w ≡ Ok v
+    → IsBesideIn w v k
+placed_in k other p at w v fit up place e =
+    let was = was_put k p at w v fit.ready.in_order e in
+    record { parent = p; up = was.up; attached = was.attached (sym (is_attached-up w.forest other p fit.ready.in_order up) ∙ place); label = was.label }
+
 before_in : (k other : ℕ) (p index : Option ℕ) (w v : Working) → Fit w → parent_of w.forest other ≡ p → is_attached w.forest other ≡ true
     → before_at k other p index w ≡ Ok v → IsBesideIn w v k
-before_in k other (Some p) (Some index) w v fit up place e =
-    let was = was_put k p index w v fit.ready.in_order e in
-    record { parent = p; up = was.up; attached = was.attached (sym (is_attached-up w.forest other p fit.ready.in_order up) ∙ place); label = was.label }
+before_in k other (Some p) (Some index) w v fit up place e = placed_in k other p index w v fit up place e
 before_in k other None index w v fit up place e = absurd (cc)
 before_in k other (Some p) None w v fit up place e = absurd (cc)
 
@@ -98,9 +103,7 @@ put_before_in k other w v fit place e = before_in k other (parent_of w.forest ot
 
 behind_in : (k other : ℕ) (p index : Option ℕ) (w v : Working) → Fit w → parent_of w.forest other ≡ p → is_attached w.forest other ≡ true
     → behind_at k other p index w ≡ Ok v → IsBesideIn w v k
-behind_in k other (Some p) (Some index) w v fit up place e =
-    let was = was_put k p (index + 1) w v fit.ready.in_order e in
-    record { parent = p; up = was.up; attached = was.attached (sym (is_attached-up w.forest other p fit.ready.in_order up) ∙ place); label = was.label }
+behind_in k other (Some p) (Some index) w v fit up place e = placed_in k other p (index + 1) w v fit up place e
 behind_in k other None index w v fit up place e = absurd (cc)
 behind_in k other (Some p) None w v fit up place e = absurd (cc)
 

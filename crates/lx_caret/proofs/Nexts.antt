@@ -8,13 +8,10 @@ use Rattle.lx_node.specs.declared.fields.Fields.{Fields}
 use Rattle.lx_node.specs.declared.fields.Fields.TheVariants as fields
 use Rattle.lx_node.specs.declared.fields.Extra.{Extra}
 use Rattle.lx_node.specs.declared.fields.Extra.TheVariants as extra
+use Rattle.lx_blocks.proofs.Labelled.{paragraph_suits}
 use Rattle.lx_caret.specs.Paragraphs.{item_extra, item_like}
 
 -- fields that are those of a new block's kind
-pub paragraph_suits : IsOfKind Paragraph plain_element
-unfolding is_of_kind fits_kind is_element_of is_extra_of is_plain is_possible
-paragraph_suits = refl
-
 pub quote_suits : IsOfKind Quote plain_element
 unfolding is_of_kind fits_kind is_element_of is_extra_of is_plain is_possible
 quote_suits = refl

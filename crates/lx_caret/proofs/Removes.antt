@@ -107,41 +107,32 @@ abbrev pub IfBeside : (ℕ → Bool) → Forest → ℕ → Option Point → Typ
 IfBeside D f k None = Unit {0}
 IfBeside D f k (Some to) = IsBeside D f k to
 
+-- a point in characters or between children, by the kind of the node
+kind_lies : (D : ℕ → Bool) (f : Forest) (k s : ℕ) (kind : Kind) (at_text at_element : ℕ) → is_within f k s ≡ false → Avoids D f s
+    → (has_characters kind ≡ true → lies f (text_point s at_text) ≡ true) → (is_element kind ≡ true → lies f (element_point s at_element) ≡ true)
+    → IfBeside D f k (cond (has_characters kind) (Some (text_point s at_text)) (cond (is_element kind) (Some (element_point s at_element)) None))
+kind_lies D f k s kind at_text at_element outside avoids text element = by_kind (has_characters kind) (is_element kind) refl refl where
+  by_kind : (t e : Bool) → has_characters kind ≡ t → is_element kind ≡ e
+      → IfBeside D f k (cond t (Some (text_point s at_text)) (cond e (Some (element_point s at_element)) None))
+  by_kind true e is other = record { lies_there = text is; outside = outside; avoids = avoids }
+  by_kind false true other is = record { lies_there = element is; outside = outside; avoids = avoids }
+  by_kind false false other another = tt
+
 end_lies : (D : ℕ → Bool) (f : Forest) (k s : ℕ) (kind : Option Kind) → kind_of f s ≡ kind → is_attached f s ≡ true → is_within f k s ≡ false → Avoids D f s
     → IfBeside D f k (end_in f s kind)
 end_lies D f k s None is there outside avoids = tt
-end_lies D f k s (Some kind) is there outside avoids = by_kind (has_characters kind) (is_element kind) refl refl where
-  by_kind : (t e : Bool) → has_characters kind ≡ t → is_element kind ≡ e
-      → IfBeside D f k (cond t (Some (text_point s (length_of (fields_of f s)))) (cond e (Some (element_point s (size_of f s))) None))
-  by_kind true e text element = record {
-    lies_there = ap₂ ◌&&◌ there (ap₂ ◌&&◌ (ap (is_counted_in point.Text) is ∙ text) (end_of_text (fields_of f s)));
-    outside = outside;
-    avoids = avoids;
-  }
-  by_kind false true text element = record {
-    lies_there = ap₂ ◌&&◌ there (ap₂ ◌&&◌ (ap (is_counted_in point.Element) is ∙ element) (full _));
-    outside = outside;
-    avoids = avoids;
-  }
-  by_kind false false text element = tt
+end_lies D f k s (Some kind) is there outside avoids =
+    kind_lies D f k s kind (length_of (fields_of f s)) (size_of f s) outside avoids
+    (λ text. ap₂ ◌&&◌ there (ap₂ ◌&&◌ (ap (is_counted_in point.Text) is ∙ text) (end_of_text (fields_of f s))))
+    (λ element. ap₂ ◌&&◌ there (ap₂ ◌&&◌ (ap (is_counted_in point.Element) is ∙ element) (full _)))
 
 start_lies : (D : ℕ → Bool) (f : Forest) (k s : ℕ) (kind : Option Kind) → kind_of f s ≡ kind → is_attached f s ≡ true → is_within f k s ≡ false → Avoids D f s
     → IfBeside D f k (start_in s kind)
 start_lies D f k s None is there outside avoids = tt
-start_lies D f k s (Some kind) is there outside avoids = by_kind (has_characters kind) (is_element kind) refl refl where
-  by_kind : (t e : Bool) → has_characters kind ≡ t → is_element kind ≡ e
-      → IfBeside D f k (cond t (Some (text_point s 0)) (cond e (Some (element_point s 0)) None))
-  by_kind true e text element = record {
-    lies_there = ap₂ ◌&&◌ there (ap₂ ◌&&◌ (ap (is_counted_in point.Text) is ∙ text) (start_of_text (fields_of f s)));
-    outside = outside;
-    avoids = avoids;
-  }
-  by_kind false true text element = record {
-    lies_there = ap₂ ◌&&◌ there (ap₂ ◌&&◌ (ap (is_counted_in point.Element) is ∙ element) (least _));
-    outside = outside;
-    avoids = avoids;
-  }
-  by_kind false false text element = tt
+start_lies D f k s (Some kind) is there outside avoids =
+    kind_lies D f k s kind 0 0 outside avoids
+    (λ text. ap₂ ◌&&◌ there (ap₂ ◌&&◌ (ap (is_counted_in point.Text) is ∙ text) (start_of_text (fields_of f s))))
+    (λ element. ap₂ ◌&&◌ there (ap₂ ◌&&◌ (ap (is_counted_in point.Element) is ∙ element) (least _)))
 
 -- where points on a node are sent
 beside_lies : (D : ℕ → Bool) (f : Forest) (k p : ℕ) (previous next : Option ℕ) → IsForest f → parent_of f k ≡ Some p → is_attached f k ≡ true

@@ -17,6 +17,7 @@ use Rattle.lx_draft.proofs.Covered.{answered}
 use Rattle.lx_edit.specs.Edits.{text_point, element_point}
 use Rattle.lx_blocks.specs.Blocks.{passes, is_at}
 use Rattle.lx_blocks.specs.Ranges.{lies, characters_at}
+use Rattle.lx_blocks.proofs.Blocked as blocked
 use Rattle.lx_caret.specs.Lying.{IsLying, LeavesLying}
 use Rattle.lx_caret.specs.SelectAll.{first_leaf, last_leaf, place_at, start_at, end_at, select_all_step}
 use Rattle.lx_caret.proofs.Lies.{least, start_in, end_in, index_within}
@@ -24,11 +25,7 @@ use Rattle.lx_caret.proofs.Moves.{stands}
 use Rattle.lx_caret.proofs.Parents.{parents_are, element_counts, text_counts, above_attached}
 
 pub found_among : (test : ℕ → Bool) (xs : List ℕ) (k : ℕ) → find test xs ≡ Some k → is_among k xs ≡ true
-found_among test [] k e = absurd (cc)
-found_among test (x ∷ xs) k e = by_test (found_among test xs k) (test x) e where
-  by_test : (find test xs ≡ Some k → is_among k xs ≡ true) → (b : Bool) → cond b (Some x) (find test xs) ≡ Some k → is_among k (x ∷ xs) ≡ true
-  by_test later true e = let same : x ≡ k = cc in grind (arith, same, eqb_tells x k)
-  by_test later false e = grind (arith, later e)
+found_among test xs k e = blocked.found_among test xs k e
 
 last_known : (x : ℕ) (xs : List ℕ) (k : ℕ) → last_from (Some x) xs ≡ Some k → is_among k (x ∷ xs) ≡ true
 last_known x [] k e = let same : x ≡ k = cc in grind (arith, same, eqb_tells x k)

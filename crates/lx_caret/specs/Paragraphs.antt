@@ -89,8 +89,10 @@ item_extra other = extra.Item 1 None
 -- all fields of an item after another one
 abbrev pub item_like : Option Fields → Fields
 item_like (Some (fields.Element element)) =
-    fields.Element (record { direction = direction.Unset; format = align.Unset; indent = 0; text_format = 0; text_style = []; extra = item_extra element.extra })
-item_like other = fields.Element (record { direction = direction.Unset; format = align.Unset; indent = 0; text_format = 0; text_style = []; extra = extra.Item 1 None })
+    fields.Element
+    (record { direction = direction.Unset; format = align.Unset; indent = 0; text_format = 0; text_style = []; extra = item_extra element.extra })
+item_like other =
+    fields.Element (record { direction = direction.Unset; format = align.Unset; indent = 0; text_format = 0; text_style = []; extra = extra.Item 1 None })
 
 -- the kind and the fields of a block
 pub record Block : Type 0 where

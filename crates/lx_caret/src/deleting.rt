@@ -1,6 +1,6 @@
 //! Deleting a character or a word.
 
-ghost use Rattle.std.specs.Prelude.{◌≡◌, ◌≤◌, ◌&&◌, not, true, false, if◌then◌else◌, [], Some, option_map, IfSome, chars};
+ghost use Rattle.std.specs.Prelude.{◌≡◌, ◌&&◌, not, true, false, if◌then◌else◌, [], Some, option_map, IfSome, chars};
 ghost use Rattle.lx_trees.specs.Siblings.{is_named};
 ghost use Rattle.lx_text.specs.Texts.{is_offset};
 ghost use Rattle.lx_draft.specs.Selecting.{text_of};

@@ -4,10 +4,11 @@ ghost use Rattle.std.specs.Prelude.{◌≡◌, ℕ, Ok, Result, OnOk, IfOk, IfEr
 ghost use Rattle.lx_node.specs.declared.cause.Cause.{Cause as CauseOf};
 ghost use Rattle.lx_node.specs.declared.cause.Point.{Point as PointIn};
 ghost use Rattle.lx_draft.specs.Working.{Working};
-ghost use Rattle.lx_draft.specs.Faults.{TellsStep};
+ghost use Rattle.lx_draft.specs.Faults.{after, TellsStep};
 ghost use Rattle.lx_edit.specs.Standing.{Does, StillStands};
 ghost use Rattle.lx_edit.specs.Texts as texts;
 ghost use Rattle.lx_blocks.specs.Ranges as ranges;
+ghost use Rattle.lx_caret.specs.Removing.{remove_text_step};
 ghost use Rattle.lx_caret.specs.Inserting as inserting;
 ghost use Rattle.lx_caret.specs.Inserting.{insert_text_step, insert_line_break_step, insert_tab_step};
 
@@ -126,6 +127,16 @@ fn has_no_text(text: &str) -> bool
     text.chars().next().is_none()
 }
 
+/// Removes what is selected, for a step at the anchor of the range after that, which it answers.
+fn cleared(alloc: Global, draft: &mut Draft) -> Result<Ranged, Fault>
+    ensures ok { IfOk result (λ range. (step : PointIn → ℕ → Working → Result Working CauseOf) → after (remove_text_step draft.old) (ranges.at_anchor step) ≡ step range.anchor range.format draft.new) }
+    ensures err { IfErr result (λ e. (step : PointIn → ℕ → Working → Result Working CauseOf) → TellsStep e (after (remove_text_step draft.old) (ranges.at_anchor step))) }
+    ensures standing { IfErr result (λ e. StillStands e draft.new) }
+{
+    remove_selected(alloc, draft)?;
+    anchored(draft)
+}
+
 /// The text in the place of what is selected.
 #[tactic(auto, unfolding(crate::specs::Inserting::insert_text_step))]
 pub(crate) fn put_text(alloc: Global, draft: &mut Draft, text: &str) -> Result<(), Fault>
@@ -167,8 +178,7 @@ fn break_at(alloc: Global, draft: &mut Draft, point: &Point) -> Result<(), Fault
 pub(crate) fn put_line_break(alloc: Global, draft: &mut Draft) -> Result<(), Fault>
     ensures { Does (insert_line_break_step draft.old) draft.new result }
 {
-    remove_selected(alloc, draft)?;
-    let range = anchored(draft)?;
+    let range = cleared(alloc, draft)?;
     break_at(alloc, draft, &range.anchor)
 }
 
@@ -202,7 +212,6 @@ fn tab_at(alloc: Global, draft: &mut Draft, point: &Point, format: u16) -> Resul
 pub(crate) fn put_tab(alloc: Global, draft: &mut Draft) -> Result<(), Fault>
     ensures { Does (insert_tab_step draft.old) draft.new result }
 {
-    remove_selected(alloc, draft)?;
-    let range = anchored(draft)?;
+    let range = cleared(alloc, draft)?;
     tab_at(alloc, draft, &range.anchor, range.format)
 }

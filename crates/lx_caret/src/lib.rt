@@ -14,7 +14,6 @@ mod laws;
 mod paragraphs;
 mod parting;
 mod pieces;
-mod ready;
 mod removing;
 mod selecting;
 

@@ -11,9 +11,10 @@ ghost use Rattle.lx_caret.specs.Paragraphs.{insert_paragraph_step};
 use crate::adding::{add, is_inside};
 use crate::following::make_next;
 use crate::parting::part_up;
-use crate::ready::ready;
 use crate::removing::remove_selected;
-use lx_blocks::{block, children_from, has_characters_at, is_item_at, place_caret, shown_range};
+use lx_blocks::{
+    block, children_from, has_characters_at, is_item_at, place_caret, ready, shown_range,
+};
 use lx_draft::Draft;
 use lx_edit::{admitted, element_point, move_each, split_text, text_point};
 use lx_links::Links;
@@ -66,7 +67,7 @@ fn break_at_caret(alloc: Global, draft: &mut Draft, item: &Option<Key>) -> Resul
 }
 
 /// Cuts the block of a point, or adds a paragraph where there is none. An empty item is left alone.
-#[tactic(auto, using(crate::proofs::Labelled::block_is))]
+#[tactic(auto, using(lx_blocks::proofs::Blocked::block_is))]
 fn break_at(
     alloc: Global,
     draft: &mut Draft,
@@ -85,7 +86,7 @@ fn break_at(
 }
 
 /// Adds an empty paragraph at a point, with the caret in it.
-#[tactic(auto, unfolding(crate::specs::Paragraphs::paragraph_added), using(crate::proofs::Nexts::paragraph_suits, crate::proofs::Nexts::newest_is))]
+#[tactic(auto, unfolding(crate::specs::Paragraphs::paragraph_added), using(lx_blocks::proofs::Labelled::paragraph_suits, crate::proofs::Nexts::newest_is))]
 fn add_paragraph(alloc: Global, draft: &mut Draft, point: &Point) -> Result<(), Fault>
     ensures { Does (paragraphs.paragraph_added point.now draft.old) draft.new result }
 {

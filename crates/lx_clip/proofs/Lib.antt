@@ -1,5 +1,4 @@
 pub mod Alike
-pub mod BlockKinds
 pub mod Covered
 pub mod Cut
 pub mod Lasts

@@ -1,7 +1,7 @@
 -- A slice that is put into a draft leaves a selection in the tree.
 use Rattle.std.proofs.Common.{◌≡◌, ℕ, Bool, true, false, cond, eqb, List, [], ◌∷◌, drop, codes, Option, None, Some, Result, Ok, refl, subst}
 use Rattle.std.specs.Prelude.{find, unwrap_or}
-use Rattle.serde_json.specs.Data.{Data, null, boolean, number, string, array, object}
+use Rattle.serde_json.specs.Data.{Data, array}
 use Rattle.serde_json.specs.Find.{get}
 use Rattle.lx_trees.specs.Siblings.{is_among, last_of}
 use Rattle.lx_node.specs.declared.cause.Cause.{Cause}
@@ -10,7 +10,7 @@ use Rattle.lx_forest.specs.Forest.{Forest}
 use Rattle.lx_forest.specs.Lookups.{parent_of, children_of, ancestors, is_attached, IsForest}
 use Rattle.lx_draft.specs.Working.{Working}
 use Rattle.lx_draft.specs.Faults.{answer, after}
-use Rattle.lx_blocks.specs.Blocks.{block_of}
+use Rattle.lx_blocks.specs.Blocks.{stands_among_blocks, block_of}
 use Rattle.lx_json.specs.Nodes.{Made, nodes_read}
 use Rattle.lx_caret.specs.Adding.{kind_around, opened, put_by}
 use Rattle.lx_caret.specs.Lying.{LeavesLying}
@@ -22,7 +22,7 @@ use Rattle.lx_caret.proofs.Selected.{found_among}
 use Rattle.lx_caret.proofs.Adds.{put_by_tells, stays_opened, at_anchor_fits}
 use Rattle.lx_caret.proofs.Breaks.{above_there, attached_known, block_place, holder_place, stays_open, stays_parted_up}
 use Rattle.lx_clip.specs.Laws.{KeepsLying}
-use Rattle.lx_clip.specs.Pasting.{put_behind_each, caret_after, no_room_for, put_all_by, nodes_added, Tailed, tail_made, tail_put, put_around, block_opened, stands_among_blocks, outer_block, put_beyond, blocks_added, begins_inline, holder, placed_at, placed, list_inserted, inserted, insert_step, json_of, paste_step}
+use Rattle.lx_clip.specs.Pasting.{put_behind_each, caret_after, no_room_for, put_all_by, nodes_added, Tailed, tail_made, tail_put, put_around, block_opened, outer_block, put_beyond, blocks_added, begins_inline, holder, placed_at, placed, list_inserted, inserted, insert_step, json_of, paste_step}
 use Rattle.lx_clip.proofs.PathsOfNodes.{IsMaking, nodes_read_path}
 use Rattle.lx_clip.proofs.Sound.{IsSound, sound_of, StaysSound, sound_ok, sound_behind, with_one, row_in, after_fits}
 use Rattle.lx_clip.proofs.Parted.{named_up, among_drop, tailed}
@@ -149,12 +149,7 @@ list_fits inline list w v fit e =
 
 inserted_fits : (o : Option Data) (w v : Working) → Fit w → inserted o w ≡ Ok v → Fit v
 inserted_fits (Some (array ds)) w v fit e = list_fits (begins_inline ds) (array ds) w v fit e
-inserted_fits None w v fit e = absurd (cc)
-inserted_fits (Some null) w v fit e = absurd (cc)
-inserted_fits (Some (boolean b)) w v fit e = absurd (cc)
-inserted_fits (Some (number n)) w v fit e = absurd (cc)
-inserted_fits (Some (string text)) w v fit e = absurd (cc)
-inserted_fits (Some (object ms)) w v fit e = absurd (cc)
+inserted_fits other w v fit e = absurd (cc)
 
 insert_fits : (d : Data) (w v : Working) → Fit w → insert_step d w ≡ Ok v → Fit v
 unfolding insert_step

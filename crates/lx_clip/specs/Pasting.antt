@@ -1,5 +1,5 @@
 -- What a slice makes of a draft at the caret.
-use Rattle.std.specs.Prelude.{ℕ, ◌==◌, Bool, true, false, if◌then◌else◌, codes, List, [], ◌∷◌, drop, find, Option, None, Some, option_and_then, unwrap_or, encode_utf8_all, Result, Ok, Err}
+use Rattle.std.specs.Prelude.{ℕ, ◌==◌, Bool, true, false, if◌then◌else◌, codes, List, [], ◌∷◌, drop, Option, None, Some, unwrap_or, encode_utf8_all, Result, Ok, Err}
 use Rattle.std.specs.Option.{option_or}
 use Rattle.serde_json.specs.Data.{Data, string, array, Items, no_items, item}
 use Rattle.serde_json.specs.Find.{get}
@@ -7,18 +7,19 @@ use Rattle.serde_json.specs.Read.{read}
 use Rattle.lx_node.specs.Kinds.{is_inline}
 use Rattle.lx_trees.specs.Siblings.{last_of}
 use Rattle.lx_node.specs.declared.kind.Kind.{Kind}
-use Rattle.lx_node.specs.declared.kind.Kind.TheVariants.{Root, Paragraph, Cell}
+use Rattle.lx_node.specs.declared.kind.Kind.TheVariants.{Root, Paragraph}
 use Rattle.lx_node.specs.declared.cause.Cause.{Cause}
 use Rattle.lx_node.specs.declared.cause.Cause.TheVariants.{BadCommand}
 use Rattle.lx_node.specs.declared.cause.Point.{Point}
 use Rattle.lx_forest.specs.Forest.{Forest}
-use Rattle.lx_forest.specs.Lookups.{label_of, kind_of, parent_of, children_of, keys_within, ancestors}
+use Rattle.lx_forest.specs.Lookups.{label_of, kind_of, children_of, keys_within}
 use Rattle.lx_draft.specs.Working.{Working}
 use Rattle.lx_draft.specs.Faults.{answer, after}
 use Rattle.lx_draft.specs.Beside.{put_behind_step}
 use Rattle.lx_edit.specs.Edits.{end_in, moved_to_end}
 use Rattle.lx_edit.specs.InTurn.{in_turn}
-use Rattle.lx_blocks.specs.Blocks.{passes, block_of}
+use Rattle.lx_blocks.specs.Blocks as blocks
+use Rattle.lx_blocks.specs.Blocks.{block_of}
 use Rattle.lx_blocks.specs.Making.{new_like}
 use Rattle.lx_blocks.specs.Ranges.{at_anchor, caret_at}
 use Rattle.lx_fields.specs.Types.{kind_of_type}
@@ -115,19 +116,9 @@ block_opened block p keys w =
 
 -- ---- blocks
 
--- what holds blocks: the root, or a cell
-abbrev pub holds_blocks : Kind → Bool
-holds_blocks Root = true
-holds_blocks Cell = true
-holds_blocks other = false
-
--- whether a node is right below the root or a cell
-abbrev pub stands_among_blocks : Forest → ℕ → Bool
-stands_among_blocks f k = passes holds_blocks (option_and_then (kind_of f) (parent_of f k))
-
 -- a node, or the nearest above it that is right below the root or a cell
 abbrev pub outer_block : Forest → ℕ → ℕ
-outer_block f k = unwrap_or (find (stands_among_blocks f) (k ∷ ancestors f k)) k
+outer_block f k = unwrap_or (blocks.outer_block f k) k
 
 -- nodes go after another, in which nothing is parted
 unfoldable pub put_beyond : ℕ → List ℕ → Working → Result Working Cause

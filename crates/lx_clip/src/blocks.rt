@@ -9,17 +9,15 @@ ghost use Rattle.lx_clip.specs.Pasting as pasting;
 
 use crate::adding::{add_nodes, put_behind_each};
 use crate::ending::caret_after;
-use crate::ready::ready;
-use lx_blocks::{block, children_from, make_like};
+use lx_blocks::{block, children_from, make_like, outer_block, ready};
 use lx_caret::{cut_text, part_up, remove_empty};
 use lx_draft::Draft;
 use lx_edit::move_each;
-use lx_links::Links;
-use lx_node::{Fault, Key, Kind, Point};
+use lx_node::{Fault, Key, Point};
 use std::alloc::Global;
 
 /// Makes a new block like another of what stays after the point, if anything does.
-#[tactic(auto, using(crate::proofs::BlockKinds::block_there, crate::proofs::BlockKinds::block_below))]
+#[tactic(auto, using(lx_blocks::proofs::Blocked::block_there, lx_blocks::proofs::Blocked::block_below))]
 fn make_tail(
     alloc: Global,
     draft: &mut Draft,
@@ -89,40 +87,6 @@ fn open_block(
     put_around(alloc, draft, block, keys, &moved)
 }
 
-/// What holds blocks: the root, or a cell.
-fn holds_blocks(kind: Kind) -> bool
-    ensures { result ≡ pasting.holds_blocks kind }
-{
-    matches!(kind, Kind::Root | Kind::Cell)
-}
-
-/// Whether a node is below the root or a cell.
-fn stands_among_blocks(links: &Links, key: Key) -> bool
-    ensures { result ≡ pasting.stands_among_blocks links.now key }
-{
-    match links.parent(key) {
-        Some(parent) => match links.kind(parent) {
-            Some(kind) => holds_blocks(kind),
-            None => false,
-        },
-        None => false,
-    }
-}
-
-/// A node, or the nearest above it that is below the root or a cell.
-fn outer_block(links: &Links, key: Key) -> Key
-    ensures { result ≡ pasting.outer_block links.now key }
-{
-    let mut at = key;
-    while !stands_among_blocks(links, at) {
-        match links.parent(at) {
-            Some(parent) => at = parent,
-            None => return key,
-        }
-    }
-    at
-}
-
 /// Puts nodes after a node, which isn't parted.
 #[tactic(auto, unfolding(crate::specs::Pasting::put_beyond))]
 fn put_beyond(draft: &mut Draft, outer: Key, keys: &[Key]) -> Result<(), Fault>
@@ -144,7 +108,7 @@ fn put_at_block(
     requires { blocks.is_at kinds.is_text_block draft.old.forest block ≡ true }
     ensures { Does (pasting.blocks_put (pasting.outer_block draft.old.forest block) block point.now keys.now draft.old) draft.new result }
 {
-    let outer = outer_block(draft.links(), block);
+    let outer = outer_block(draft.links(), block).unwrap_or(block);
     if outer == block {
         open_block(alloc, draft, block, keys, point)
     } else {
@@ -155,7 +119,7 @@ fn put_at_block(
 /// Puts blocks that are below nothing at a point, and the caret to the end of the last. A block that is below the root
 /// or a cell is parted at the point, and they go between. A block that is elsewhere stays whole, and they go after the
 /// nearest node above it that is below the root or a cell. Without a block they go where the point is.
-#[tactic(auto, using(crate::proofs::BlockKinds::block_is))]
+#[tactic(auto, using(lx_blocks::proofs::Blocked::block_is))]
 pub(crate) fn add_blocks(
     alloc: Global,
     draft: &mut Draft,

@@ -9,7 +9,6 @@ mod covering;
 mod ending;
 mod laws;
 mod pasting;
-mod ready;
 mod slicing;
 
 pub use laws::{pastes_are_covered, pastes_lie};

@@ -12,7 +12,7 @@ ghost use Rattle.lx_clip.specs.Pasting.{insert_step, paste_step};
 
 use crate::adding::add_nodes;
 use crate::blocks::add_blocks;
-use crate::ready::ready;
+use lx_blocks::ready;
 use lx_caret::{anchored, remove_text};
 use lx_draft::Draft;
 use lx_fields::kind_of_type;

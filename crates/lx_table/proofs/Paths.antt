@@ -26,7 +26,7 @@ use Rattle.lx_blocks.proofs.Paths.{IsWay, stays, either, chained, by_read, selec
 use Rattle.lx_blocks.specs.Starts.{start_within}
 use Rattle.lx_table.specs.declared.spots.Spot.{Spot}
 use Rattle.lx_table.specs.declared.rectangles.Rectangle.{Rectangle}
-use Rattle.lx_table.specs.Spots.{spot_of, spot_at, stands_in_column, end_column}
+use Rattle.lx_table.specs.Spots.{beside, spot_of, spot_at, stands_in_column, end_column}
 use Rattle.lx_table.specs.Spans.{row_header, column_header, header_of, over_span, with_spans, spans_written, span_step, height_set, heights_set}
 use Rattle.lx_table.specs.Grid.{spots_of, spots_over}
 use Rattle.lx_table.specs.Reading.{header_at, own_index, rectangle_of, gap_in}
@@ -155,9 +155,15 @@ module _ {D : Working → Type 0} {R : Working → Working → Type 0} (way : Is
       (λ i. column_filled_path spots (crossing new spots) like y.next_key i))))
       w v r e
 
+  -- a row or column before a cell or after it
+  beside_path : (step : ℕ → ℕ → Working → Result Working Cause) → ((new like : ℕ) → Leads D R (step new like)) → (behind : Bool) (first end : ℕ)
+      → Leads D R (λ w. step (beside behind first end).0 (beside behind first end).1 w)
+  beside_path step leads false first end w v r e = leads first first w v r e
+  beside_path step leads true first end w v r e = leads end (end - 1) w v r e
+
   row_at_path : (behind : Bool) (p : Place) → Leads D R (row_at behind p)
-  row_at_path false p w v r e = row_inserted_path p.table p.spots p.spot.row p.spot.row w v r e
-  row_at_path true p w v r e = row_inserted_path p.table p.spots (p.spot.row + p.spot.height) (p.spot.row + p.spot.height - 1) w v r e
+  row_at_path behind p w v r e =
+      beside_path (row_inserted p.table p.spots) (row_inserted_path p.table p.spots) behind p.spot.row (p.spot.row + p.spot.height) w v r e
 
   pub insert_row_path : (behind : Bool) → Leads D R (insert_row_step behind)
   unfolding insert_row_step
@@ -191,8 +197,8 @@ module _ {D : Working → Type 0} {R : Working → Working → Type 0} (way : Is
       (λ row. λ a b s f. column_in_row_path spots new like row (slice_get (children_of a.forest table) row) a b s f) w v r e
 
   column_at_path : (behind : Bool) (p : Place) → Leads D R (column_at behind p)
-  column_at_path false p w v r e = column_inserted_path p.table p.spots p.spot.column p.spot.column w v r e
-  column_at_path true p w v r e = column_inserted_path p.table p.spots (p.spot.column + p.spot.width) (p.spot.column + p.spot.width - 1) w v r e
+  column_at_path behind p w v r e =
+      beside_path (column_inserted p.table p.spots) (column_inserted_path p.table p.spots) behind p.spot.column (p.spot.column + p.spot.width) w v r e
 
   pub insert_column_path : (behind : Bool) → Leads D R (insert_column_step behind)
   unfolding insert_column_step

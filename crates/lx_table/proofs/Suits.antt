@@ -121,10 +121,6 @@ columns_small rows columns e = span_small columns (second_none (over_span rows) 
 
 -- ---- new nodes
 
-pub paragraph_suits : IsOfKind Paragraph plain_element
-unfolding is_of_kind fits_kind is_element_of is_extra_of is_plain is_possible
-paragraph_suits = refl
-
 pub row_suits : IsOfKind Row plain_element
 unfolding is_of_kind fits_kind is_element_of is_extra_of is_plain is_possible
 row_suits = refl

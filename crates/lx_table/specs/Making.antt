@@ -1,7 +1,7 @@
 -- New cells, and a new table.
-use Rattle.std.specs.Prelude.{ℕ, ◌+◌, ◌==◌, Bool, true, false, if◌then◌else◌, ◌∷◌, find, Option, None, Some, option_and_then, Result, Ok}
+use Rattle.std.specs.Prelude.{ℕ, ◌+◌, ◌==◌, Bool, true, false, if◌then◌else◌, Option, None, Some, option_and_then, Result, Ok}
 use Rattle.lx_node.specs.declared.kind.Kind.{Kind}
-use Rattle.lx_node.specs.declared.kind.Kind.TheVariants.{Root, Paragraph, Table, Row, Cell}
+use Rattle.lx_node.specs.declared.kind.Kind.TheVariants.{Paragraph, Table, Row, Cell}
 use Rattle.lx_node.specs.declared.fields.Fields.{Fields}
 use Rattle.lx_node.specs.declared.fields.Fields.TheVariants as fields
 use Rattle.lx_node.specs.declared.fields.Extra.TheVariants as extra
@@ -9,14 +9,14 @@ use Rattle.lx_node.specs.declared.cause.Cause.{Cause}
 use Rattle.lx_node.specs.declared.cause.Cause.TheVariants.{WrongKind}
 use Rattle.lx_node.specs.Plain.{plain_element, element_with}
 use Rattle.lx_forest.specs.Forest.{Forest}
-use Rattle.lx_forest.specs.Lookups.{kind_of, parent_of, first_child, ancestors}
+use Rattle.lx_forest.specs.Lookups.{kind_of, first_child}
 use Rattle.lx_draft.specs.Working.{Working}
 use Rattle.lx_draft.specs.Faults.{answer, after}
 use Rattle.lx_draft.specs.Steps.{new_step, put_step}
 use Rattle.lx_draft.specs.Beside.{put_behind_step}
 use Rattle.lx_edit.specs.InTurn.{in_turn}
 use Rattle.lx_edit.specs.Texts.{keys_from}
-use Rattle.lx_blocks.specs.Blocks.{passes}
+use Rattle.lx_blocks.specs.Blocks.{outer_block}
 use Rattle.lx_table.specs.Places.{focus_of, caret_in_step}
 
 -- ---- cells
@@ -53,20 +53,6 @@ row_made headers columns table row w =
     after (new_step Row plain_element w) (λ v.
     after (in_turn (cell_made_at headers row w.next_key) (keys_from 0 columns) v) (put_step w.next_key table row))
 
--- what holds tables: the root and cells
-abbrev pub holds_tables : Kind → Bool
-holds_tables Root = true
-holds_tables Cell = true
-holds_tables other = false
-
--- whether a node is a child of the root or of a cell
-abbrev pub stands_beside_tables : Forest → ℕ → Bool
-stands_beside_tables f k = passes holds_tables (option_and_then (kind_of f) (parent_of f k))
-
--- after which node a table comes: the nearest of a node and those above it that is a child of the root or of a cell
-abbrev pub neighbour_of : Forest → ℕ → Option ℕ
-neighbour_of f k = find (stands_beside_tables f) (k ∷ ancestors f k)
-
 -- the first cell of a table
 abbrev pub first_cell : Forest → ℕ → Option ℕ
 first_cell f table = option_and_then (first_child f) (first_child f table)
@@ -88,7 +74,7 @@ abbrev pub place_fault : Option Kind → Option Cause
 place_fault None = None
 place_fault (Some kind) = Some (WrongKind kind)
 
--- a new table comes after the neighbour of the focus
+-- a new table comes after the nearest of the focus and what is above it that is a child of the root or of a cell
 abbrev pub table_behind : ℕ → ℕ → Bool → ℕ → Option ℕ → Working → Result Working Cause
 table_behind rows columns headers focus None w = answer (place_fault (kind_of w.forest focus)) w
 table_behind rows columns headers focus (Some place) w = table_made rows columns headers place w
@@ -96,4 +82,4 @@ table_behind rows columns headers focus (Some place) w = table_made rows columns
 -- the command that inserts a table
 unfoldable pub insert_table_step : ℕ → ℕ → Bool → Working → Result Working Cause
 insert_table_step rows columns headers w =
-    after (focus_of w) (λ k. table_behind rows columns headers k (neighbour_of w.forest k) w)
+    after (focus_of w) (λ k. table_behind rows columns headers k (outer_block w.forest k) w)

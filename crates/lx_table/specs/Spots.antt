@@ -46,11 +46,6 @@ abbrev pub beside : Bool → ℕ → ℕ → ℕ × ℕ
 beside false first end = (first, first)
 beside true first end = (end, end - 1)
 
--- a spot, if it is to be kept
-abbrev pub kept_if : Bool → Spot → List Spot
-kept_if true s = s ∷ []
-kept_if false s = []
-
 -- the most nodes among which a table is looked for: so few that spots are small, as no cell spans more than 1000
 -- columns
 abbrev pub most_cells : ℕ

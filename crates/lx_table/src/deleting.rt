@@ -1,7 +1,7 @@
 //! A row deleted.
 
-ghost use Rattle.std.specs.Prelude.{◌≡◌, ◌≤◌, ◌-◌, ◌+◌, ◌<◌, ◌^◌, [], All, filter, IfOk};
-ghost use Rattle.std.specs.List.{list_all, slice_get};
+ghost use Rattle.std.specs.Prelude.{◌≡◌, ◌≤◌, ◌-◌, ◌+◌, ◌<◌, [], All, filter, IfOk};
+ghost use Rattle.std.specs.List.{list_all};
 ghost use Rattle.lx_edit.specs.InTurn.{in_turn};
 ghost use Rattle.lx_edit.specs.Standing.{Does};
 ghost use Rattle.lx_trees.specs.NamedTrees.{total};
@@ -14,11 +14,11 @@ ghost use Rattle.lx_table.specs.Spots.{most_cells, IsSmall};
 
 use crate::caret::{set_caret, set_caret_at};
 use crate::filling::spots_over;
-use crate::places::{Place, place_of};
+use crate::places::{Place, begin};
 use crate::reading::own_index;
 use crate::rows::crossing;
-use crate::spans::{set_heights, set_spans};
-use crate::spots::{Spot, keep_if, spot_at};
+use crate::spans::set_spans;
+use crate::spots::{Spot, spot_at};
 use lx_draft::Draft;
 use lx_edit::{children_of, element_point, remove, replace};
 use lx_links::Links;
@@ -26,7 +26,7 @@ use lx_node::{Fault, Fields, Key, Kind, NoMemory};
 use std::alloc::Global;
 
 /// Puts a new paragraph in the place of a table, and the caret into it.
-#[tactic(auto, unfolding(crate::specs::Shrinking::table_replaced), using(crate::proofs::Suits::paragraph_suits))]
+#[tactic(auto, unfolding(crate::specs::Shrinking::table_replaced), using(lx_blocks::proofs::Labelled::paragraph_suits))]
 pub(crate) fn replace_table(alloc: Global, draft: &mut Draft, table: Key) -> Result<(), Fault>
     ensures { Does (spec.table_replaced table draft.old) draft.new result }
 {
@@ -45,12 +45,7 @@ fn is_in_row_alone(spot: &Spot, row: u32) -> bool
 fn are_in_row_alone(spots: &[Spot], row: u32) -> bool
     ensures { result ≡ list_all (spec.is_in_row_alone row) spots.now }
 {
-    for spot in spots {
-        if !is_in_row_alone(spot, row) {
-            return false;
-        }
-    }
-    true
+    spots.iter().all(|spot| is_in_row_alone(spot, row))
 }
 
 /// Takes a row from a cell.
@@ -85,15 +80,16 @@ fn goes_below(spot: &Spot, row: u32) -> bool
 }
 
 /// The cells that start in a row and go on below.
-#[tactic(auto, using(crate::proofs::Kept::kept_first))]
 fn going_below(alloc: Global, spots: &[Spot], row: u32) -> Result<Vec<Spot>, NoMemory>
     ensures { IfOk result (λ found. found.items ≡ filter (spec.goes_below row) spots.now) }
 {
-    let mut found = Vec::new(alloc);
-    for spot in spots {
-        keep_if(&mut found, spot, goes_below(spot, row))?;
-    }
-    Ok(found)
+    Ok(
+        spots
+            .iter()
+            .filter(|spot| goes_below(spot, row))
+            .copied()
+            .collect(alloc)?,
+    )
 }
 
 /// Moves a cell into the next row, before the first own cell there of a greater column.
@@ -194,10 +190,7 @@ fn spots_without_row(
 pub(crate) fn first_spot(spots: &[Spot]) -> Option<Spot>
     ensures { result ≡ spec.first_spot spots.now }
 {
-    match spots.first() {
-        Some(spot) => Some(*spot),
-        None => None,
-    }
+    spots.first().copied()
 }
 
 /// Puts the caret into the cell that covers a place, or else into the first cell.
@@ -273,7 +266,6 @@ fn delete_row_of(alloc: Global, draft: &mut Draft, place: &Place) -> Result<(), 
 pub fn delete_row(alloc: Global, draft: &mut Draft) -> Result<(), Fault>
     ensures { Does (spec.delete_row_step draft.old) draft.new result }
 {
-    let place = place_of(alloc, draft)?;
-    set_heights(alloc, draft, &place.spots)?;
+    let place = begin(alloc, draft)?;
     delete_row_of(alloc, draft, &place)
 }

@@ -17,7 +17,7 @@ ghost use Rattle.lx_table.specs.Spans as spans;
 ghost use Rattle.lx_table.specs.Spots.{most_cells, IsSmall};
 
 use crate::grids::Grid;
-use crate::spans::{column_span, row_span};
+use crate::spans::spans_of;
 use crate::spots::{Spot, end_column, right, stands_in_row};
 use lx_edit::children_of;
 use lx_links::Links;
@@ -71,8 +71,9 @@ fn place_cell(standing: &[Spot], links: &Links, rows: u32, row: u32, cell: Key) 
     requires row { row < rows }
     ensures { IsPlaced links.now rows row cell standing.now result }
 {
-    let width = column_span(links, cell) as u32;
-    let height = (row_span(links, cell) as u32).min(rows - row);
+    let spans = spans_of(links, cell);
+    let width = spans.columns as u32;
+    let height = (spans.rows as u32).min(rows - row);
     let column = column_between(standing, width);
     Spot {
         cell,
@@ -121,12 +122,7 @@ fn add_cell(
 fn is_one_of(keys: &[Key], key: Key) -> bool
     ensures { result ≡ is_among key keys.now }
 {
-    for other in keys {
-        if *other == key {
-            return true;
-        }
-    }
-    false
+    keys.contains(&key)
 }
 
 /// Adds the spot of a cell of a row, unless it is gone.

@@ -10,6 +10,7 @@ ghost use Rattle.lx_table.specs.Making as spec;
 use crate::caret::set_caret_in;
 use crate::cells::make_cell;
 use crate::places::focus_of;
+use lx_blocks::outer_block;
 use lx_draft::Draft;
 use lx_edit::admitted;
 use lx_links::Links;
@@ -36,6 +37,14 @@ fn header_in(headers: bool, row: u32, column: u32) -> u8
     }
 }
 
+/// How many rows and columns a new table has, and whether its first ones have headers.
+#[derive(Clone, Copy)]
+struct Layout {
+    rows: u32,
+    columns: u32,
+    headers: bool,
+}
+
 /// Makes a cell of a new row at a column.
 fn make_cell_at(
     alloc: Global,
@@ -51,91 +60,50 @@ fn make_cell_at(
     make_cell(alloc, draft, header, key, column)
 }
 
-/// Fills a new row with so many cells.
+/// Fills a row of a new table with its cells.
 #[tactic(auto, unfolding(lx_edit::specs::InTurn::in_turn), using(crate::proofs::Counting::counted))]
 fn make_row_cells(
     alloc: Global,
     draft: &mut Draft,
-    headers: bool,
+    layout: Layout,
     row: u32,
     key: Key,
-    columns: u32,
 ) -> Result<(), Fault>
-    ensures { Does (in_turn (spec.cell_made_at headers row key) (keys_from 0 columns) draft.old) draft.new result }
+    ensures { Does (in_turn (spec.cell_made_at layout.headers row key) (keys_from 0 layout.columns) draft.old) draft.new result }
 {
+    let columns = layout.columns;
     for column in 0..columns {
-        make_cell_at(alloc, draft, headers, row, key, column)?;
+        make_cell_at(alloc, draft, layout.headers, row, key, column)?;
     }
     Ok(())
 }
 
-/// Makes a row with so many cells, and puts it after the rows of a new table.
+/// Makes a row with its cells, and puts it after the rows of a new table.
 #[tactic(auto, unfolding(crate::specs::Making::row_made), using(crate::proofs::Suits::row_suits))]
 fn make_row(
     alloc: Global,
     draft: &mut Draft,
-    headers: bool,
-    columns: u32,
+    layout: Layout,
     table: Key,
     row: u32,
 ) -> Result<(), Fault>
-    ensures { Does (spec.row_made headers columns table row draft.old) draft.new result }
+    ensures { Does (spec.row_made layout.headers layout.columns table row draft.old) draft.new result }
 {
     let key = draft.new_node(Kind::Row, Fields::plain_element(alloc))?;
-    make_row_cells(alloc, draft, headers, row, key, columns)?;
+    make_row_cells(alloc, draft, layout, row, key)?;
     draft.put(key, table, row)
 }
 
-/// Makes so many rows.
+/// Makes the rows of a new table.
 #[tactic(auto, unfolding(lx_edit::specs::InTurn::in_turn), using(crate::proofs::Counting::counted))]
-fn make_rows(
-    alloc: Global,
-    draft: &mut Draft,
-    headers: bool,
-    columns: u32,
-    table: Key,
-    rows: u32,
-) -> Result<(), Fault>
-    ensures { Does (in_turn (spec.row_made headers columns table) (keys_from 0 rows) draft.old) draft.new result }
+fn make_rows(alloc: Global, draft: &mut Draft, layout: Layout, table: Key) -> Result<(), Fault>
+    ensures { Does (in_turn (spec.row_made layout.headers layout.columns table) (keys_from 0 layout.rows) draft.old) draft.new result }
 {
+    let rows = layout.rows;
     for row in 0..rows {
-        make_row(alloc, draft, headers, columns, table, row)?;
+        make_row(alloc, draft, layout, table, row)?;
     }
     Ok(())
-}
-
-/// Whether it is the kind of the root or of cells.
-fn holds_tables(kind: Kind) -> bool
-    ensures { result ≡ spec.holds_tables kind }
-{
-    matches!(kind, Kind::Root | Kind::Cell)
-}
-
-/// Whether a node is in the root or in a cell.
-fn stands_beside_tables(links: &Links, key: Key) -> bool
-    ensures { result ≡ spec.stands_beside_tables links.now key }
-{
-    match links.parent(key) {
-        Some(parent) => match links.kind(parent) {
-            Some(kind) => holds_tables(kind),
-            None => false,
-        },
-        None => false,
-    }
-}
-
-/// After which node a table comes: the nearest of a node and those above it that is in the root or in a cell.
-fn neighbour_of(links: &Links, key: Key) -> Option<Key>
-    ensures { result ≡ spec.neighbour_of links.now key }
-{
-    let mut at = key;
-    while !stands_beside_tables(links, at) {
-        match links.parent(at) {
-            Some(parent) => at = parent,
-            None => return None,
-        }
-    }
-    Some(at)
 }
 
 /// The first cell of a table.
@@ -157,18 +125,11 @@ fn set_caret_in_cell(draft: &mut Draft, cell: Option<Key>) -> Result<(), Fault>
 
 /// Makes a table, puts it after a node, and the caret into its first cell.
 #[tactic(auto, unfolding(crate::specs::Making::table_made), using(crate::proofs::Suits::table_suits))]
-fn make_table(
-    alloc: Global,
-    draft: &mut Draft,
-    rows: u32,
-    columns: u32,
-    headers: bool,
-    place: Key,
-) -> Result<(), Fault>
-    ensures { Does (spec.table_made rows columns headers place draft.old) draft.new result }
+fn make_table(alloc: Global, draft: &mut Draft, layout: Layout, place: Key) -> Result<(), Fault>
+    ensures { Does (spec.table_made layout.rows layout.columns layout.headers place draft.old) draft.new result }
 {
     let table = draft.new_node(Kind::Table, Fields::plain_element(alloc))?;
-    make_rows(alloc, draft, headers, columns, table, rows)?;
+    make_rows(alloc, draft, layout, table)?;
     draft.put_behind(table, place)?;
     let cell = first_cell(draft.links(), table);
     set_caret_in_cell(draft, cell)
@@ -203,8 +164,15 @@ pub fn insert_table(
     ensures { Does (spec.insert_table_step rows columns headers draft.old) draft.new result }
 {
     let focus = focus_of(draft)?;
-    match neighbour_of(draft.links(), focus) {
-        Some(place) => make_table(alloc, draft, rows as u32, columns as u32, headers, place),
+    match outer_block(draft.links(), focus) {
+        Some(place) => {
+            let layout = Layout {
+                rows: rows as u32,
+                columns: columns as u32,
+                headers,
+            };
+            make_table(alloc, draft, layout, place)
+        }
         None => {
             let fault = no_place(draft.links(), focus);
             admitted(draft, fault)?;

@@ -1,6 +1,6 @@
 //! A column deleted.
 
-ghost use Rattle.std.specs.Prelude.{◌≡◌, ◌≤◌, ◌-◌, ◌+◌, ◌<◌, ◌^◌, filter, map, IfOk};
+ghost use Rattle.std.specs.Prelude.{◌≡◌, ◌≤◌, ◌-◌, ◌<◌, filter, map, IfOk};
 ghost use Rattle.lx_edit.specs.InTurn.{in_turn};
 ghost use Rattle.lx_edit.specs.Edits.{remove_step};
 ghost use Rattle.lx_edit.specs.Standing.{Does};
@@ -14,9 +14,9 @@ ghost use Rattle.lx_table.specs.Spots.{most_cells};
 use crate::caret::set_caret_at;
 use crate::deleting::{first_spot, replace_table};
 use crate::filling::spots_over;
-use crate::places::{Place, place_of};
-use crate::spans::{set_heights, set_spans};
-use crate::spots::{Spot, end_column, keep_if, spot_at, stands_in_column};
+use crate::places::{Place, begin};
+use crate::spans::set_spans;
+use crate::spots::{Spot, end_column, spot_at, stands_in_column};
 use lx_draft::Draft;
 use lx_edit::{children_of, remove};
 use lx_links::Links;
@@ -38,42 +38,29 @@ fn is_narrow_at(spot: &Spot, column: u32) -> bool
 }
 
 /// The cells that are in a column and in others too.
-#[tactic(auto, using(crate::proofs::Kept::kept_first))]
 fn wide_at(alloc: Global, spots: &[Spot], column: u32) -> Result<Vec<Spot>, NoMemory>
     ensures { IfOk result (λ found. found.items ≡ filter (spec.is_wide_at column) spots.now) }
 {
-    let mut found = Vec::new(alloc);
-    for spot in spots {
-        keep_if(&mut found, spot, is_wide_at(spot, column))?;
-    }
-    Ok(found)
-}
-
-/// The cells that are in a column and in no other.
-#[tactic(auto, using(crate::proofs::Kept::kept_first))]
-fn narrow_at(alloc: Global, spots: &[Spot], column: u32) -> Result<Vec<Spot>, NoMemory>
-    ensures { IfOk result (λ found. found.items ≡ filter (spec.is_narrow_at column) spots.now) }
-{
-    let mut found = Vec::new(alloc);
-    for spot in spots {
-        keep_if(&mut found, spot, is_narrow_at(spot, column))?;
-    }
-    Ok(found)
-}
-
-/// The keys of cells.
-fn cells_of(alloc: Global, spots: &[Spot]) -> Result<Vec<Key>, NoMemory>
-    ensures { IfOk result (λ keys. keys.items ≡ map spec.cell_in spots.now) }
-{
-    Ok(spots.iter().map(|spot| spot.cell).collect(alloc)?)
+    Ok(
+        spots
+            .iter()
+            .filter(|spot| is_wide_at(spot, column))
+            .copied()
+            .collect(alloc)?,
+    )
 }
 
 /// The keys of the cells that are in a column and in no other.
 fn narrow_cells(alloc: Global, spots: &[Spot], column: u32) -> Result<Vec<Key>, NoMemory>
     ensures { IfOk result (λ found. found.items ≡ spec.narrow_cells column spots.now) }
 {
-    let found = narrow_at(alloc, spots, column)?;
-    cells_of(alloc, &found)
+    Ok(
+        spots
+            .iter()
+            .filter(|spot| is_narrow_at(spot, column))
+            .map(|spot| spot.cell)
+            .collect(alloc)?,
+    )
 }
 
 /// Takes a column from a cell.
@@ -171,7 +158,6 @@ fn delete_column_of(alloc: Global, draft: &mut Draft, place: &Place) -> Result<(
 pub fn delete_column(alloc: Global, draft: &mut Draft) -> Result<(), Fault>
     ensures { Does (spec.delete_column_step draft.old) draft.new result }
 {
-    let place = place_of(alloc, draft)?;
-    set_heights(alloc, draft, &place.spots)?;
+    let place = begin(alloc, draft)?;
     delete_column_of(alloc, draft, &place)
 }

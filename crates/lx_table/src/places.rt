@@ -1,13 +1,17 @@
 //! The cell by which a command goes.
 
-ghost use Rattle.std.specs.Prelude.{◌≡◌, ◌≢◌, ◌≤◌, Some, OnOk, IfOk, IfSome, option_map};
+ghost use Rattle.std.specs.Prelude.{◌≡◌, ◌≢◌, ◌≤◌, Some, Result, OnOk, IfOk, IfErr, IfSome, option_map};
+ghost use Rattle.lx_node.specs.declared.cause.Cause.{Cause as CauseOf};
 ghost use Rattle.lx_trees.specs.Trees.{nil};
 ghost use Rattle.lx_trees.specs.NamedTrees.{total};
-ghost use Rattle.lx_edit.specs.Standing.{Gives};
+ghost use Rattle.lx_draft.specs.Working.{Working};
+ghost use Rattle.lx_draft.specs.Faults.{TellsStep};
+ghost use Rattle.lx_edit.specs.Standing.{Gives, StillStands};
 ghost use Rattle.lx_table.specs.Places as spec;
 ghost use Rattle.lx_table.specs.Spots.{most_cells};
 
 use crate::filling::spots_of;
+use crate::spans::set_heights;
 use crate::spots::{Spot, spot_of};
 use lx_blocks::{cell_from, no_range, range_of};
 use lx_draft::Draft;
@@ -107,4 +111,16 @@ pub(crate) fn place_of(alloc: Global, draft: &Draft) -> Result<Place, Fault>
         Some(place) => Ok(place),
         None => Err(no_range(draft.selection().kind())),
     }
+}
+
+/// The cell by which a command goes, once each cell of its table got the rows that it covers.
+pub(crate) fn begin(alloc: Global, draft: &mut Draft) -> Result<Place, Fault>
+    ensures ok { IfOk result (λ place. (command : spec.Place → Working → Result Working CauseOf) → spec.at_place command draft.old ≡ command (spec.place_seen place) draft.new) }
+    ensures err { IfErr result (λ e. (command : spec.Place → Working → Result Working CauseOf) → TellsStep e (spec.at_place command draft.old)) }
+    ensures standing { IfErr result (λ e. StillStands e draft.new) }
+    ensures small { IfOk result spec.IsSmallPlace }
+{
+    let place = place_of(alloc, draft)?;
+    set_heights(alloc, draft, &place.spots)?;
+    Ok(place)
 }

@@ -2,7 +2,8 @@ use Rattle.std.proofs.Common.{Some, sym, subst}
 use Rattle.lx_node.specs.OfKind.{IsOfKind}
 use Rattle.lx_node.specs.declared.kind.Kind.TheVariants.{Paragraph, Item}
 use Rattle.lx_caret.proofs.Labelled.{block_other}
-use Rattle.lx_caret.proofs.Nexts.{paragraph_suits, plain_suits, item_suits}
+use Rattle.lx_blocks.proofs.Labelled.{paragraph_suits}
+use Rattle.lx_caret.proofs.Nexts.{plain_suits, item_suits}
 use Rattle.lx_caret.proofs.following.next_of_node.Goals as goal
 
 pub returns-in-Heading-clause-of_kind : goal.returns-in-Heading-clause-of_kind
