@@ -1,3 +1,4 @@
 pub mod Members
 pub mod Pieces
 pub mod Rows
+pub mod Unmet

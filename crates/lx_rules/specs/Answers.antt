@@ -1,11 +1,12 @@
 -- What a rule answers at a view.
-use Rattle.std.specs.Prelude.{ℕ, ◌==◌, ◌&&◌, Bool, true, false, nat_lt, is_none, if◌then◌else◌, List, [], ◌∷◌, Option, None, Some}
+use Rattle.std.specs.Prelude.{ℕ, ◌≡◌, ◌==◌, ◌&&◌, Bool, true, false, nat_lt, is_none, if◌then◌else◌, List, [], ◌∷◌, Option, None, Some}
 use Rattle.std.specs.List.{list_all}
 use Rattle.lx_node.specs.Kinds.{is_text}
 use Rattle.lx_node.specs.OfKind.{is_text_of}
 use Rattle.lx_node.specs.Same.{same_text}
 use Rattle.lx_node.specs.declared.kind.Kind.{Kind}
 use Rattle.lx_node.specs.declared.fields.TextFields.{TextFields}
+use Rattle.lx_node.specs.declared.fields.Fields.TheVariants as fields
 use Rattle.lx_node.specs.declared.node.View.{View}
 use Rattle.lx_text.specs.Texts.{length_told}
 use Rattle.lx_step.specs.declared.rule.Condition.{Condition}
@@ -53,6 +54,10 @@ Answers = View → List SelfEdit
 -- the answer of a rule of some types, which has none at others
 abbrev pub asked : ℕ → Answers → Answers
 asked rows acts v = if is_on rows v.kind then acts v else []
+
+-- a text at which there are no answers, whatever is around it
+abbrev pub NeverAnswers : Answers → TextFields → Type 0
+NeverAnswers acts own = (v : View) → v.fields ≡ fields.Text own → acts v ≡ []
 
 -- the set of the one type that a rule of a script is of
 abbrev pub script_rows : Rule → ℕ

@@ -2,7 +2,7 @@ ghost use Rattle.lx_rules.specs.AnyRules.{any_rows, any_acts};
 
 use crate::built_in::{CellParagraph, ListMerge};
 use crate::transform::{KindSet, Transform};
-use lx_node::{NoMemory, View};
+use lx_node::{NoMemory, TextFields, View};
 use lx_step::{Rule, SelfEdit};
 use std::alloc::Global;
 
@@ -27,6 +27,14 @@ impl Transform for AnyRule {
             AnyRule::Merge(rule) => Transform::on(rule),
             AnyRule::Fill(rule) => Transform::on(rule),
             AnyRule::Script(rule) => Transform::on(rule),
+        }
+    }
+
+    fn may_act_on(&self, text: &TextFields) -> bool {
+        match self {
+            AnyRule::Merge(rule) => rule.may_act_on(text),
+            AnyRule::Fill(rule) => rule.may_act_on(text),
+            AnyRule::Script(rule) => rule.may_act_on(text),
         }
     }
 

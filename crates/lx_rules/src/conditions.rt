@@ -66,3 +66,12 @@ pub(crate) fn are_met(conditions: &[Condition], view: &View) -> bool
 {
     conditions.iter().all(|condition| is_met(condition, view))
 }
+
+/// Whether a text is what all conditions on texts ask for.
+pub(crate) fn are_met_by_text(conditions: &[Condition], own: &TextFields) -> bool
+    ensures { result ≡ list_all (λ condition. answers.text_meets condition own.now) conditions.now }
+{
+    conditions
+        .iter()
+        .all(|condition| is_met_by_text(condition, own))
+}

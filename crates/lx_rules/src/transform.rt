@@ -1,8 +1,8 @@
-ghost use Rattle.std.specs.Prelude.{◌≡◌, ℕ, List, IfOk};
-ghost use Rattle.lx_rules.specs.Answers.{Answers, script_rows, script_acts};
+ghost use Rattle.std.specs.Prelude.{◌≡◌, false, ℕ, List, IfOk};
+ghost use Rattle.lx_rules.specs.Answers.{Answers, NeverAnswers, script_rows, script_acts};
 
-use crate::conditions::are_met;
-use lx_node::{Kind, NoMemory, View};
+use crate::conditions::{are_met, are_met_by_text};
+use lx_node::{Kind, NoMemory, TextFields, View};
 use lx_step::{Rule, SelfEdit, TypeRow};
 use std::alloc::Global;
 
@@ -50,6 +50,14 @@ pub trait Transform {
     fn on(&self) -> KindSet
         ensures { result.0 ≡ rows self.now };
 
+    /// Whether it may have edits of a text, whatever is around that. Where it says no, no view needs to be made. It
+    /// takes no memory.
+    fn may_act_on(&self, text: &TextFields) -> bool
+        ensures { result ≡ false → NeverAnswers (answers self.now) text.now }
+    {
+        true
+    }
+
     /// Its edits of a node of this view. It takes memory for them.
     fn acts(&self, alloc: Global, view: &View) -> Result<Vec<SelfEdit>, NoMemory>
         ensures { IfOk result (λ edits. edits.items ≡ answers self.now view.now) };
@@ -62,6 +70,10 @@ impl Transform for Rule {
 
     fn on(&self) -> KindSet {
         KindSet::of_row(self.on)
+    }
+
+    fn may_act_on(&self, text: &TextFields) -> bool {
+        are_met_by_text(self.conditions.items(), text)
     }
 
     #[tactic(auto, unfolding(crate::specs::Answers::script_acts))]

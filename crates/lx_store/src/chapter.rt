@@ -8,6 +8,7 @@ use crate::edit::Edit;
 use crate::item::Item;
 use crate::leaf::Leaf;
 use crate::page::{self, Page};
+use crate::slots::Slots;
 use lx_node::{Key, NoMemory};
 use std::alloc::Global;
 use std::marker::Model;
@@ -37,11 +38,12 @@ impl<V: Item> Model for Chapter<V> {
     ghost invariant = { λ chapter. length chapter.leaves.items ≡ 32 };
 }
 
-impl<V: Item> Chapter<V> {
-    /// A chapter without items.
-    pub fn new(alloc: Global) -> Result<Chapter<V>, NoMemory>
-        ensures { IfOk result (λ chapter. chapter ≡ replicate 1024 None) }
-    {
+impl<V: Item> Slots<V> for Chapter<V> {
+    ghost size = { 1024 };
+
+    ghost slots = { λ slots. slots };
+
+    fn new(alloc: Global) -> Result<Chapter<V>, NoMemory> {
         let mut leaves = Vec::new(alloc);
         for _ in 0..LEAVES {
             leaves.push(Leaf::empty())?;
@@ -49,90 +51,56 @@ impl<V: Item> Chapter<V> {
         Ok(Chapter { leaves })
     }
 
-    /// An equal chapter, which shares each page with this one.
-    pub fn fork(&self) -> Result<Chapter<V>, NoMemory>
-        ensures { IfOk result (λ chapter. chapter ≡ self.now) }
-    {
+    fn fork(&self) -> Result<Chapter<V>, NoMemory> {
         Ok(Chapter {
             leaves: self.leaves.clone()?,
         })
     }
 
-    /// The item in the slot, where there is one.
-    pub fn get(&self, slot: u32) -> Option<&V>
-        requires { slot < 1024 }
-        ensures item { option_copied result ≡ slot_at self.now slot }
-        ensures size { length self.now ≡ 1024 }
-    {
+    fn get(&self, slot: u32) -> Option<&V> {
         self.leaves[(slot / page::SLOTS) as usize].get(slot % page::SLOTS)
     }
 
+    fn put(
+        &mut self,
+        slot: u32,
+        item: V,
+        alloc: Global,
+        count: &mut V::Count,
+    ) -> Result<Option<V>, NoMemory> {
+        let leaf = &mut self.leaves[(slot / page::SLOTS) as usize];
+        Ok(leaf.put(slot % page::SLOTS, item, alloc, count)?)
+    }
+
+    fn change<E: Edit<V>>(
+        &mut self,
+        slot: u32,
+        edit: E,
+        alloc: Global,
+        count: &mut V::Count,
+    ) -> Result<bool, NoMemory> {
+        let leaf = &mut self.leaves[(slot / page::SLOTS) as usize];
+        Ok(leaf.change(slot % page::SLOTS, edit, alloc, count)?)
+    }
+
+    fn take(
+        &mut self,
+        slot: u32,
+        alloc: Global,
+        count: &mut V::Count,
+    ) -> Result<Option<V>, NoMemory> {
+        let leaf = &mut self.leaves[(slot / page::SLOTS) as usize];
+        Ok(leaf.take(slot % page::SLOTS, alloc, count)?)
+    }
+}
+
+impl<V: Item> Chapter<V> {
     /// The page at a place, where there is one: it has the slots from 32 times the place on.
     pub fn page(&self, place: u32) -> Option<&Page<V>>
         requires { place < 32 }
         ensures { (slot : ℕ) → slot < 32 → item_in (option_copied result) slot ≡ slot_at self.now (place * 32 + slot) }
     {
         self.leaves[place as usize].page()
-    }
-
-    /// Puts the item into the slot, and answers what was there.
-    pub fn put(
-        &mut self,
-        slot: u32,
-        item: V,
-        alloc: Global,
-        count: &mut V::Count,
-    ) -> Result<Option<V>, NoMemory>
-        requires { slot < 1024 }
-        ensures old { IfOk result (λ old. old ≡ slot_at self.old slot) }
-        ensures written { OnOk result (self.new ≡ written self.old slot (Some item)) }
-        ensures unchanged { OnErr result (self.new ≡ self.old) }
-        ensures size { IfOk result (λ _. length self.old ≡ 1024) }
-        ensures counted { V.Count.total count.old ≤ V.Count.total count.new }
-        ensures few_twinned { V.Count.total count.new ≤ V.Count.total count.old + 1 }
-    {
-        let leaf = &mut self.leaves[(slot / page::SLOTS) as usize];
-        Ok(leaf.put(slot % page::SLOTS, item, alloc, count)?)
-    }
-
-    /// Edits the item in the slot, and says whether there is one.
-    pub fn change<E: Edit<V>>(
-        &mut self,
-        slot: u32,
-        edit: E,
-        alloc: Global,
-        count: &mut V::Count,
-    ) -> Result<bool, NoMemory>
-        requires slot { slot < 1024 }
-        requires fits { IfSome (slot_at self.old slot) (E.fits edit) }
-        ensures found { IfOk result (λ found. found ≡ is_some (slot_at self.old slot)) }
-        ensures changed { OnOk result (self.new ≡ written self.old slot (option_map (E.edited edit) (slot_at self.old slot))) }
-        ensures unchanged { OnErr result (self.new ≡ self.old) }
-        ensures size { IfOk result (λ _. length self.old ≡ 1024) }
-        ensures counted { V.Count.total count.old ≤ V.Count.total count.new }
-        ensures few_twinned { V.Count.total count.new ≤ V.Count.total count.old + 1 }
-    {
-        let leaf = &mut self.leaves[(slot / page::SLOTS) as usize];
-        Ok(leaf.change(slot % page::SLOTS, edit, alloc, count)?)
-    }
-
-    /// Empties the slot, and answers what was there.
-    pub fn take(
-        &mut self,
-        slot: u32,
-        alloc: Global,
-        count: &mut V::Count,
-    ) -> Result<Option<V>, NoMemory>
-        requires { slot < 1024 }
-        ensures old { IfOk result (λ old. old ≡ slot_at self.old slot) }
-        ensures written { OnOk result (self.new ≡ written self.old slot None) }
-        ensures unchanged { OnErr result (self.new ≡ self.old) }
-        ensures size { IfOk result (λ _. length self.old ≡ 1024) }
-        ensures counted { V.Count.total count.old ≤ V.Count.total count.new }
-        ensures few_twinned { V.Count.total count.new ≤ V.Count.total count.old + 1 }
-    {
-        let leaf = &mut self.leaves[(slot / page::SLOTS) as usize];
-        Ok(leaf.take(slot % page::SLOTS, alloc, count)?)
     }
 
     /// Whether no slot has an item.

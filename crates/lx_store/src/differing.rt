@@ -8,6 +8,7 @@ ghost use Rattle.lx_store.specs.Differing.{item_in, first_after, AreSame, AreSam
 use crate::chapter::{self, Chapter};
 use crate::item::Item;
 use crate::page::{self, Page};
+use crate::slots::Slots;
 use crate::table::Table;
 use lx_node::Key;
 

@@ -7,6 +7,7 @@ ghost use Rattle.lx_store.specs.Pages.{slot_at, written, fitted};
 use crate::edit::Edit;
 use crate::item::Item;
 use crate::page::Page;
+use crate::slots::{Slots, change, holding, take_out, write};
 use lx_node::NoMemory;
 use std::alloc::{AllocError, Global};
 use std::marker::Model;
@@ -97,7 +98,7 @@ impl<V: Item> Leaf<V> {
         match &mut self.held {
             Some(page) => Ok(write(page, slot, item, alloc, count)?),
             None => {
-                self.held = Some(page_of(slot, item, alloc, count)?);
+                self.held = Some(holding(slot, item, alloc, count)?);
                 Ok(None)
             }
         }
@@ -156,112 +157,6 @@ impl<V: Item> Leaf<V> {
         };
         if page.is_empty() {
             drop(self.held.take());
-        }
-    }
-}
-
-// A page with one item.
-fn page_of<V: Item>(
-    slot: u32,
-    item: V,
-    alloc: Global,
-    count: &mut V::Count,
-) -> Result<Rc<Page<V>>, NoMemory>
-    requires { slot < 32 }
-    ensures page { IfOk result (λ page. page.value ≡ written (replicate 32 None) slot (Some item)) }
-    ensures counted { V.Count.total count.old ≤ V.Count.total count.new }
-    ensures few_twinned { V.Count.total count.new ≤ V.Count.total count.old + 1 }
-{
-    let mut page = Page::new(alloc)?;
-    drop(page.put(slot, item, alloc, count)?);
-    Ok(Rc::new(alloc, page)?)
-}
-
-// Puts the item into the slot, and answers what was there. A page that others hold too stays with them as it
-// was, and a copy takes its place here.
-fn write<V: Item>(
-    page: &mut Rc<Page<V>>,
-    slot: u32,
-    item: V,
-    alloc: Global,
-    count: &mut V::Count,
-) -> Result<Option<V>, NoMemory>
-    requires { slot < 32 }
-    ensures old { IfOk result (λ old. old ≡ slot_at page.old.value slot) }
-    ensures written { OnOk result (page.new.value ≡ written page.old.value slot (Some item)) }
-    ensures unchanged { OnErr result (page.new.value ≡ page.old.value) }
-    ensures size { IfOk result (λ _. length page.old.value ≡ 32) }
-    ensures counted { V.Count.total count.old ≤ V.Count.total count.new }
-    ensures few_twinned { V.Count.total count.new ≤ V.Count.total count.old + 1 }
-{
-    match Rc::get_mut(page) {
-        Some(own) => Ok(own.put(slot, item, alloc, count)?),
-        None => {
-            let mut copy = page.fork()?;
-            let old = copy.put(slot, item, alloc, count)?;
-            *page = Rc::new(alloc, copy)?;
-            Ok(old)
-        }
-    }
-}
-
-// Edits the item in the slot, and says whether there is one. No copy is made for a slot that is empty. A page
-// that others hold too stays with them as it was, and a copy takes its place here.
-fn change<V: Item, E: Edit<V>>(
-    page: &mut Rc<Page<V>>,
-    slot: u32,
-    edit: E,
-    alloc: Global,
-    count: &mut V::Count,
-) -> Result<bool, NoMemory>
-    requires slot { slot < 32 }
-    requires fits { IfSome (slot_at page.old.value slot) (E.fits edit) }
-    ensures found { IfOk result (λ found. found ≡ is_some (slot_at page.old.value slot)) }
-    ensures changed { OnOk result (page.new.value ≡ written page.old.value slot (option_map (E.edited edit) (slot_at page.old.value slot))) }
-    ensures unchanged { OnErr result (page.new.value ≡ page.old.value) }
-    ensures size { IfOk result (λ _. length page.old.value ≡ 32) }
-    ensures counted { V.Count.total count.old ≤ V.Count.total count.new }
-    ensures few_twinned { V.Count.total count.new ≤ V.Count.total count.old + 1 }
-{
-    if page.get(slot).is_none() {
-        return Ok(false);
-    }
-    match Rc::get_mut(page) {
-        Some(own) => Ok(own.change(slot, edit, alloc, count)?),
-        None => {
-            let mut copy = page.fork()?;
-            let found = copy.change(slot, edit, alloc, count)?;
-            *page = Rc::new(alloc, copy)?;
-            Ok(found)
-        }
-    }
-}
-
-// Empties the slot, and answers what was there. No copy is made for a slot that is empty already.
-fn take_out<V: Item>(
-    page: &mut Rc<Page<V>>,
-    slot: u32,
-    alloc: Global,
-    count: &mut V::Count,
-) -> Result<Option<V>, NoMemory>
-    requires { slot < 32 }
-    ensures old { IfOk result (λ old. old ≡ slot_at page.old.value slot) }
-    ensures written { OnOk result (page.new.value ≡ written page.old.value slot None) }
-    ensures unchanged { OnErr result (page.new.value ≡ page.old.value) }
-    ensures size { IfOk result (λ _. length page.old.value ≡ 32) }
-    ensures counted { V.Count.total count.old ≤ V.Count.total count.new }
-    ensures few_twinned { V.Count.total count.new ≤ V.Count.total count.old + 1 }
-{
-    if page.get(slot).is_none() {
-        return Ok(None);
-    }
-    match Rc::get_mut(page) {
-        Some(own) => Ok(own.take(slot, alloc, count)?),
-        None => {
-            let mut copy = page.fork()?;
-            let taken = copy.take(slot, alloc, count)?;
-            *page = Rc::new(alloc, copy)?;
-            Ok(taken)
         }
     }
 }

@@ -16,6 +16,7 @@ mod leaf;
 mod node;
 mod page;
 mod slot;
+mod slots;
 mod store;
 mod table;
 

@@ -76,14 +76,14 @@ impl<V: Item> Store<V> {
     }
 
     /// Puts the item under the key, and answers the one that was there. Every other key keeps its item. The
-    /// count may have risen, by at most 32, also where memory ran out; the store is then as it was.
+    /// count may have risen, by at most one, also where memory ran out; the store is then as it was.
     pub fn put(&mut self, key: Key, item: V, count: &mut V::Count) -> Result<Option<V>, NoMemory>
         requires { map.get self.old key ≡ None → map.len self.old < last_u32 }
         ensures old { IfOk result (λ old. old ≡ map.get self.old key) }
         ensures put { OnOk result (self.new ≡ map.insert self.old key item) }
         ensures unchanged { OnErr result (self.new ≡ self.old) }
         ensures counted { V.Count.total count.old ≤ V.Count.total count.new }
-        ensures few_twinned { V.Count.total count.new ≤ V.Count.total count.old + 32 }
+        ensures few_twinned { V.Count.total count.new ≤ V.Count.total count.old + 1 }
     {
         let old = self.held.put(key, item, count)?;
         if old.is_none() {
@@ -93,7 +93,7 @@ impl<V: Item> Store<V> {
     }
 
     /// Edits the item under the key where it is, and says whether there is one. Every other key keeps its
-    /// item. The count may have risen, by at most 32, also where memory ran out; the store is then as it
+    /// item. The count may have risen, by at most one, also where memory ran out; the store is then as it
     /// was.
     pub fn change<E: Edit<V>>(
         &mut self,
@@ -106,19 +106,19 @@ impl<V: Item> Store<V> {
         ensures changed { OnOk result (self.new ≡ with_edit (E.edited edit) key self.old) }
         ensures unchanged { OnErr result (self.new ≡ self.old) }
         ensures counted { V.Count.total count.old ≤ V.Count.total count.new }
-        ensures few_twinned { V.Count.total count.new ≤ V.Count.total count.old + 32 }
+        ensures few_twinned { V.Count.total count.new ≤ V.Count.total count.old + 1 }
     {
         self.held.change(key, edit, count)
     }
 
     /// Takes out the item under the key, where there is one. Every other key keeps its item. The count may
-    /// have risen, by at most 32, also where memory ran out; the store is then as it was.
+    /// have risen, by at most one, also where memory ran out; the store is then as it was.
     pub fn take(&mut self, key: Key, count: &mut V::Count) -> Result<Option<V>, NoMemory>
         ensures taken { IfOk result (λ taken. taken ≡ map.get self.old key) }
         ensures gone { OnOk result (self.new ≡ map.remove self.old key) }
         ensures unchanged { OnErr result (self.new ≡ self.old) }
         ensures counted { V.Count.total count.old ≤ V.Count.total count.new }
-        ensures few_twinned { V.Count.total count.new ≤ V.Count.total count.old + 32 }
+        ensures few_twinned { V.Count.total count.new ≤ V.Count.total count.old + 1 }
     {
         let taken = self.held.take(key, count)?;
         if taken.is_some() {

@@ -13,6 +13,7 @@ ghost use Rattle.lx_store.specs.Tables.{keyed, StandsAt, GoesAt};
 use crate::chapter::{Chapter, SLOTS, number_of, slot_of};
 use crate::edit::Edit;
 use crate::item::Item;
+use crate::slots::{Slots, change, holding, take_out, write};
 use lx_node::{Key, NoMemory};
 use std::alloc::Global;
 use std::marker::Model;
@@ -100,7 +101,7 @@ impl<V: Item> Table<V> {
         ensures put { OnOk result (self.new ≡ map.insert self.old key item) }
         ensures unchanged { OnErr result (self.new ≡ self.old) }
         ensures counted { V.Count.total count.old ≤ V.Count.total count.new }
-        ensures few_twinned { V.Count.total count.new ≤ V.Count.total count.old + 32 }
+        ensures few_twinned { V.Count.total count.new ≤ V.Count.total count.old + 1 }
     {
         let number = number_of(key);
         let slot = slot_of(key);
@@ -110,7 +111,7 @@ impl<V: Item> Table<V> {
                 Ok(write(chapter, slot, item, self.alloc, count)?)
             }
             Err(place) => {
-                let chapter = chapter_of(slot, item, self.alloc, count)?;
+                let chapter = holding(slot, item, self.alloc, count)?;
                 self.chapters.insert(place, (number, chapter))?;
                 Ok(None)
             }
@@ -129,7 +130,7 @@ impl<V: Item> Table<V> {
         ensures changed { OnOk result (self.new ≡ with_edit (E.edited edit) key self.old) }
         ensures unchanged { OnErr result (self.new ≡ self.old) }
         ensures counted { V.Count.total count.old ≤ V.Count.total count.new }
-        ensures few_twinned { V.Count.total count.new ≤ V.Count.total count.old + 32 }
+        ensures few_twinned { V.Count.total count.new ≤ V.Count.total count.old + 1 }
     {
         let number = number_of(key);
         let slot = slot_of(key);
@@ -146,7 +147,7 @@ impl<V: Item> Table<V> {
         ensures gone { OnOk result (self.new ≡ map.remove self.old key) }
         ensures unchanged { OnErr result (self.new ≡ self.old) }
         ensures counted { V.Count.total count.old ≤ V.Count.total count.new }
-        ensures few_twinned { V.Count.total count.new ≤ V.Count.total count.old + 32 }
+        ensures few_twinned { V.Count.total count.new ≤ V.Count.total count.old + 1 }
     {
         let number = number_of(key);
         let slot = slot_of(key);
@@ -195,112 +196,6 @@ fn place<V: Item>(chapters: &[(u32, Rc<Chapter<V>>)], number: u32) -> Result<usi
         return Ok(guess);
     }
     chapters.binary_search_by_key(&number, |chapter| chapter.0)
-}
-
-// A chapter with one item.
-fn chapter_of<V: Item>(
-    slot: u32,
-    item: V,
-    alloc: Global,
-    count: &mut V::Count,
-) -> Result<Rc<Chapter<V>>, NoMemory>
-    requires { slot < 1024 }
-    ensures chapter { IfOk result (λ chapter. chapter.value ≡ written (replicate 1024 None) slot (Some item)) }
-    ensures counted { V.Count.total count.old ≤ V.Count.total count.new }
-    ensures few_twinned { V.Count.total count.new ≤ V.Count.total count.old + 1 }
-{
-    let mut chapter = Chapter::new(alloc)?;
-    drop(chapter.put(slot, item, alloc, count)?);
-    Ok(Rc::new(alloc, chapter)?)
-}
-
-// Puts the item into the slot, and answers what was there. A chapter that others hold too stays with them as
-// it was, and a copy takes its place here.
-fn write<V: Item>(
-    chapter: &mut Rc<Chapter<V>>,
-    slot: u32,
-    item: V,
-    alloc: Global,
-    count: &mut V::Count,
-) -> Result<Option<V>, NoMemory>
-    requires { slot < 1024 }
-    ensures old { IfOk result (λ old. old ≡ slot_at chapter.old.value slot) }
-    ensures written { OnOk result (chapter.new.value ≡ written chapter.old.value slot (Some item)) }
-    ensures unchanged { OnErr result (chapter.new.value ≡ chapter.old.value) }
-    ensures size { IfOk result (λ _. length chapter.old.value ≡ 1024) }
-    ensures counted { V.Count.total count.old ≤ V.Count.total count.new }
-    ensures few_twinned { V.Count.total count.new ≤ V.Count.total count.old + 1 }
-{
-    match Rc::get_mut(chapter) {
-        Some(own) => Ok(own.put(slot, item, alloc, count)?),
-        None => {
-            let mut copy = chapter.fork()?;
-            let old = copy.put(slot, item, alloc, count)?;
-            *chapter = Rc::new(alloc, copy)?;
-            Ok(old)
-        }
-    }
-}
-
-// Edits the item in the slot, and says whether there is one. No copy is made for a slot that is empty. A
-// chapter that others hold too stays with them as it was, and a copy takes its place here.
-fn change<V: Item, E: Edit<V>>(
-    chapter: &mut Rc<Chapter<V>>,
-    slot: u32,
-    edit: E,
-    alloc: Global,
-    count: &mut V::Count,
-) -> Result<bool, NoMemory>
-    requires slot { slot < 1024 }
-    requires fits { IfSome (slot_at chapter.old.value slot) (E.fits edit) }
-    ensures found { IfOk result (λ found. found ≡ is_some (slot_at chapter.old.value slot)) }
-    ensures changed { OnOk result (chapter.new.value ≡ written chapter.old.value slot (option_map (E.edited edit) (slot_at chapter.old.value slot))) }
-    ensures unchanged { OnErr result (chapter.new.value ≡ chapter.old.value) }
-    ensures size { IfOk result (λ _. length chapter.old.value ≡ 1024) }
-    ensures counted { V.Count.total count.old ≤ V.Count.total count.new }
-    ensures few_twinned { V.Count.total count.new ≤ V.Count.total count.old + 1 }
-{
-    if chapter.get(slot).is_none() {
-        return Ok(false);
-    }
-    match Rc::get_mut(chapter) {
-        Some(own) => Ok(own.change(slot, edit, alloc, count)?),
-        None => {
-            let mut copy = chapter.fork()?;
-            let found = copy.change(slot, edit, alloc, count)?;
-            *chapter = Rc::new(alloc, copy)?;
-            Ok(found)
-        }
-    }
-}
-
-// Empties the slot, and answers what was there. No copy is made for a slot that is empty already.
-fn take_out<V: Item>(
-    chapter: &mut Rc<Chapter<V>>,
-    slot: u32,
-    alloc: Global,
-    count: &mut V::Count,
-) -> Result<Option<V>, NoMemory>
-    requires { slot < 1024 }
-    ensures old { IfOk result (λ old. old ≡ slot_at chapter.old.value slot) }
-    ensures written { OnOk result (chapter.new.value ≡ written chapter.old.value slot None) }
-    ensures unchanged { OnErr result (chapter.new.value ≡ chapter.old.value) }
-    ensures size { IfOk result (λ _. length chapter.old.value ≡ 1024) }
-    ensures counted { V.Count.total count.old ≤ V.Count.total count.new }
-    ensures few_twinned { V.Count.total count.new ≤ V.Count.total count.old + 1 }
-{
-    if chapter.get(slot).is_none() {
-        return Ok(None);
-    }
-    match Rc::get_mut(chapter) {
-        Some(own) => Ok(own.take(slot, alloc, count)?),
-        None => {
-            let mut copy = chapter.fork()?;
-            let taken = copy.take(slot, alloc, count)?;
-            *chapter = Rc::new(alloc, copy)?;
-            Ok(taken)
-        }
-    }
 }
 
 // Pushes the keys of the items of a chapter.

@@ -9,7 +9,7 @@ returns-in_ok-write-in-Some-clause-written g c =
     ∙ fitted_written c.in-Some.page.value c.args.slot (Some c.args.item) c.in_ok-write-in-Some.ensures.size
     ∙ ap (λ xs. set (fitted xs) c.args.slot (Some c.args.item)) (ap slots_held (sym c.in-Some.is) ∙ c.self.view_is)
 
-pub returns-in_ok-page_of-in-None-clause-written : goal.returns-in_ok-page_of-in-None-clause-written
-returns-in_ok-page_of-in-None-clause-written g c =
-    ap fitted c.in_ok-page_of-in-None.ensures.page ∙ fitted_new c.args.slot (Some c.args.item)
+pub returns-in_ok-holding-in-None-clause-written : goal.returns-in_ok-holding-in-None-clause-written
+returns-in_ok-holding-in-None-clause-written g c =
+    ap fitted c.in_ok-holding-in-None.ensures.held ∙ fitted_new c.args.slot (Some c.args.item)
     ∙ ap (λ xs. set (fitted xs) c.args.slot (Some c.args.item)) (ap slots_held (sym c.in-None.is) ∙ c.self.view_is)

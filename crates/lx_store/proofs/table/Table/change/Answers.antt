@@ -33,20 +33,20 @@ pub invariant_of-self : goal.invariant_of-self
 invariant_of-self g c =
     table_set c.self.inside.chapters.items c.number_of-number.result c.in-Ok.place c.index_mut.result.now c.self.invariant
     (subst (λ es. StandsAt es c.number_of-number.result c.in-Ok.place) c.deref.ensures.value c.in-Ok.ensures.stands) c.index_mut.ensures.value
-    c.change.new.chapter
+    c.change.new.held
 
 pub returns-in_err-change-clause-unchanged : goal.returns-in_err-change-clause-unchanged
 returns-in_err-change-clause-unchanged g c =
     on_err _
     (kept_stands c.self.inside.chapters.items c.number_of-number.result c.in-Ok.place c.index_mut.result.now c.self.invariant
     (subst (λ es. StandsAt es c.number_of-number.result c.in-Ok.place) c.deref.ensures.value c.in-Ok.ensures.stands) c.index_mut.ensures.value
-    c.change.new.chapter c.in_err-change.ensures.unchanged ∙ c.self.view_is)
+    c.change.new.held c.in_err-change.ensures.unchanged ∙ c.self.view_is)
 
 pub invariant_of-self-2 : goal.invariant_of-self-2
 invariant_of-self-2 g c =
     table_set c.self.inside.chapters.items c.number_of-number.result c.in-Ok.place c.index_mut.result.now c.self.invariant
     (subst (λ es. StandsAt es c.number_of-number.result c.in-Ok.place) c.deref.ensures.value c.in-Ok.ensures.stands) c.index_mut.ensures.value
-    c.change.new.chapter
+    c.change.new.held
 
 pub returns-clause-found : goal.returns-clause-found
 returns-clause-found g c =
@@ -61,6 +61,6 @@ pub returns-clause-changed : goal.returns-clause-changed
 returns-clause-changed g c =
     edit_stands c.self.inside.chapters.items c.number_of-number.result c.in-Ok.place c.index_mut.result.now c.self.invariant
     (subst (λ es. StandsAt es c.number_of-number.result c.in-Ok.place) c.deref.ensures.value c.in-Ok.ensures.stands) c.index_mut.ensures.value c.args.key
-    c.slot_of-slot.result c.change.new.chapter (g.E.Edit.edited c.args.edit) c.number_of-number.ensures.number c.slot_of-slot.ensures
+    c.slot_of-slot.result c.change.new.held (g.E.Edit.edited c.args.edit) c.number_of-number.ensures.number c.slot_of-slot.ensures
     c.in_ok-change.ensures.changed c.in_ok-change.ensures.size
     ∙ ap (with_edit (g.E.Edit.edited c.args.edit) c.args.key) c.self.view_is

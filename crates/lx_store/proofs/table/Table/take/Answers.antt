@@ -19,20 +19,20 @@ pub invariant_of-self : goal.invariant_of-self
 invariant_of-self g c =
     table_set c.self.inside.chapters.items c.number_of-number.result c.in-Ok.place c.index_mut.result.now c.self.invariant
     (subst (λ es. StandsAt es c.number_of-number.result c.in-Ok.place) c.deref.ensures.value c.in-Ok.ensures.stands) c.index_mut.ensures.value
-    c.take_out.new.chapter
+    c.take_out.new.held
 
 pub returns-in_err-taken-clause-unchanged : goal.returns-in_err-taken-clause-unchanged
 returns-in_err-taken-clause-unchanged g c =
     on_err _
     (kept_stands c.self.inside.chapters.items c.number_of-number.result c.in-Ok.place c.index_mut.result.now c.self.invariant
     (subst (λ es. StandsAt es c.number_of-number.result c.in-Ok.place) c.deref.ensures.value c.in-Ok.ensures.stands) c.index_mut.ensures.value
-    c.take_out.new.chapter c.in_err-taken.ensures.unchanged ∙ c.self.view_is)
+    c.take_out.new.held c.in_err-taken.ensures.unchanged ∙ c.self.view_is)
 
 pub invariant_of-self-2 : goal.invariant_of-self-2
 invariant_of-self-2 g c =
     table_set c.self.inside.chapters.items c.number_of-number.result c.in-Ok.place c.index_mut.result.now c.self.invariant
     (subst (λ es. StandsAt es c.number_of-number.result c.in-Ok.place) c.deref.ensures.value c.in-Ok.ensures.stands) c.index_mut.ensures.value
-    c.take_out.new.chapter
+    c.take_out.new.held
 
 pub returns-clause-taken : goal.returns-clause-taken
 returns-clause-taken g c =
@@ -47,6 +47,6 @@ returns-clause-gone g c =
     c.give_up.ensures
     ∙ take_stands c.self.inside.chapters.items c.number_of-number.result c.in-Ok.place c.index_mut.result.now c.self.invariant
     (subst (λ es. StandsAt es c.number_of-number.result c.in-Ok.place) c.deref.ensures.value c.in-Ok.ensures.stands) c.index_mut.ensures.value c.args.key
-    c.slot_of-slot.result c.take_out.new.chapter c.number_of-number.ensures.number c.slot_of-slot.ensures c.in_ok-taken.ensures.written
+    c.slot_of-slot.result c.take_out.new.held c.number_of-number.ensures.number c.slot_of-slot.ensures c.in_ok-taken.ensures.written
     c.in_ok-taken.ensures.size
     ∙ ap (λ m. remove m c.args.key) c.self.view_is

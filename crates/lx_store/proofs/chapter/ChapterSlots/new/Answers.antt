@@ -1,7 +1,7 @@
 use Rattle.std.proofs.Common.{◌≡◌, ◌*◌, replicate, None, ap, ◌∙◌, arith}
 use Rattle.lx_store.specs.Pages.{joined}
 use Rattle.lx_store.proofs.Joined.{joined_empty}
-use Rattle.lx_store.proofs.chapter.Chapter.new.Goals as goal
+use Rattle.lx_store.proofs.chapter.ChapterSlots.new.Goals as goal
 
 pub returns : goal.returns
 returns g c =

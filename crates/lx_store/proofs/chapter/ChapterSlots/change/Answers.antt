@@ -1,7 +1,7 @@
 use Rattle.std.proofs.Common.{◌%◌, option_map, is_some, IfSome, length, set, sym, ap, ◌∙◌, subst}
 use Rattle.lx_store.specs.Pages.{slot_at, joined}
 use Rattle.lx_store.proofs.Joined.{chapter_size, slot_read, slot_set}
-use Rattle.lx_store.proofs.chapter.Chapter.change.Goals as goal
+use Rattle.lx_store.proofs.chapter.ChapterSlots.change.Goals as goal
 
 pub change-requires-clause-fits : goal.change-requires-clause-fits
 change-requires-clause-fits g c =

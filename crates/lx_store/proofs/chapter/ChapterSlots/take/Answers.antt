@@ -1,7 +1,7 @@
 use Rattle.std.proofs.Common.{None, length, set, sym, ap, ◌∙◌}
 use Rattle.lx_store.specs.Pages.{slot_at}
 use Rattle.lx_store.proofs.Joined.{chapter_size, slot_read, slot_set}
-use Rattle.lx_store.proofs.chapter.Chapter.take.Goals as goal
+use Rattle.lx_store.proofs.chapter.ChapterSlots.take.Goals as goal
 
 pub returns-clause-old : goal.returns-clause-old
 returns-clause-old g c =

@@ -1,5 +1,5 @@
 use Rattle.std.proofs.Common.{◌≡◌, replicate, None}
-use Rattle.lx_store.proofs.page.Page.new.Given as goal
+use Rattle.lx_store.proofs.page.PageSlots.new.Given as goal
 
 -- as many empty slots as rounds
 abbrev pub invariant-loop : goal.invariant-loop

@@ -1,5 +1,5 @@
 use Rattle.std.proofs.Common.{◌≡◌, replicate, []}
-use Rattle.lx_store.proofs.chapter.Chapter.new.Given as goal
+use Rattle.lx_store.proofs.chapter.ChapterSlots.new.Given as goal
 
 -- as many leaves without a page as rounds
 abbrev pub invariant-loop : goal.invariant-loop

@@ -1,7 +1,7 @@
 use Rattle.std.proofs.Common.{length, sym, ap, ◌∙◌}
 use Rattle.lx_store.specs.Pages.{slot_at}
 use Rattle.lx_store.proofs.Joined.{chapter_size, slot_read}
-use Rattle.lx_store.proofs.chapter.Chapter.get.Goals as goal
+use Rattle.lx_store.proofs.chapter.ChapterSlots.get.Goals as goal
 
 pub returns-clause-item : goal.returns-clause-item
 returns-clause-item g c =
