@@ -24,3 +24,4 @@ pub mod Alike
 pub mod Refused
 pub mod Told
 pub mod Ends
+pub mod Quiet

@@ -1,10 +1,11 @@
 -- What an edit of a rule does, and the rules at a node.
-use Rattle.std.specs.Prelude.{ℕ, ◌≢◌, ◌&&◌, Bool, false, if◌then◌else◌, List, [], map, Option, None, Some, Result, Ok}
+use Rattle.std.specs.Prelude.{ℕ, ◌≡◌, ◌≢◌, ◌&&◌, Bool, false, if◌then◌else◌, List, [], map, Option, None, Some, Result, Ok}
 use Rattle.lx_node.specs.Kinds.{is_element}
 use Rattle.lx_node.specs.OfKind.{IsOfKind}
 use Rattle.lx_node.specs.declared.kind.Kind.{Kind}
 use Rattle.lx_node.specs.declared.kind.Kind.TheVariants.{Root}
 use Rattle.lx_node.specs.declared.fields.Fields.{Fields}
+use Rattle.lx_node.specs.declared.node.Node.{Node}
 use Rattle.lx_node.specs.declared.node.View.{View}
 use Rattle.lx_node.specs.declared.cause.Cause.{Cause}
 use Rattle.lx_step.specs.Patches.{patched}
@@ -14,7 +15,7 @@ use Rattle.lx_step.specs.declared.rule.SelfEdit.{SelfEdit}
 use Rattle.lx_step.specs.declared.rule.SelfEdit.TheVariants.{Set, Add, Remove, Replace, Wrap, Unwrap, Before, After, Child, MergeNext}
 use Rattle.lx_forest.specs.Forest.{Label}
 use Rattle.lx_forest.specs.Lookups.{label_of, kind_of, size_of, next_of, is_attached}
-use Rattle.lx_forest.specs.Views.{view_of}
+use Rattle.lx_forest.specs.Views.{seen_fields, view_of}
 use Rattle.lx_draft.specs.Working.{Working}
 use Rattle.lx_draft.specs.Faults.{after}
 use Rattle.lx_draft.specs.Steps.{new_step, set_step, splice_step, put_step}
@@ -24,7 +25,6 @@ use Rattle.lx_edit.specs.Conditions.{length_at}
 use Rattle.lx_edit.specs.Edits.{remove_step, children_step, replace_step, wrap_step, unwrap_step}
 use Rattle.lx_rules.specs.Answers.{Answers, asked}
 use Rattle.lx_rules.specs.Idle.{has_work}
-use Rattle.lx_rules.specs.Types.{is_on}
 
 -- ---- one edit
 
@@ -84,15 +84,14 @@ unfoldable pub edit_step : ℕ → SelfEdit → Working → Result Working Cause
 edit_step k edit w =
     if is_attached w.forest k && has_work_at (view_of w.forest k) edit then act_step edit k w else Ok w
 
--- whether a rule of these types is asked at a node of that kind, if there is one
-abbrev pub is_asked_at : ℕ → Option Kind → Bool
-is_asked_at rows None = false
-is_asked_at rows (Some kind) = is_on rows kind
-
 -- the edits that a rule answers at a view, if there is one
 abbrev pub answered_at : Option View → Answers → List SelfEdit
 answered_at None rule = []
 answered_at (Some v) rule = rule v
+
+-- a rule has no edits of a node, whatever is around that
+abbrev pub HasNoEdits : Node → Answers → Type 0
+HasNoEdits node rule = (v : View) → v.kind ≡ node.kind → v.fields ≡ seen_fields node.fields → rule v ≡ []
 
 -- a rule at a node: the edits that it answers at the node's view, in turn
 unfoldable pub rule_step : ℕ → Answers → Working → Result Working Cause

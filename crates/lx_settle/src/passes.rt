@@ -1,6 +1,6 @@
-ghost use Rattle.std.specs.Prelude.{◌≡◌, ◌&&◌, IfOk, IfErr, is_some};
+ghost use Rattle.std.specs.Prelude.{◌≡◌, ◌≤◌, ◌&&◌, false, length, IfOk, IfErr, is_some};
 ghost use Rattle.lx_marks.specs.Marks.{flag_in};
-ghost use Rattle.lx_forest.specs.Lookups.{is_attached, kind_of};
+ghost use Rattle.lx_forest.specs.Lookups.{is_attached};
 ghost use Rattle.lx_forest.specs.Views.{view_of};
 ghost use Rattle.lx_edit.specs.InTurn.{in_turn};
 ghost use Rattle.lx_rules.specs.Idle as idles;
@@ -16,7 +16,7 @@ ghost use Rattle.lx_settle.specs.Passes as passes;
 use crate::acting::act;
 use lx_draft::Draft;
 use lx_edit::join_around;
-use lx_node::{Fault, Key, NoMemory, View};
+use lx_node::{Fault, Fields, Key, NoMemory, Node, View};
 use lx_rules::{Transform, idle};
 use lx_step::SelfEdit;
 use std::alloc::Global;
@@ -70,7 +70,18 @@ fn run_edits(alloc: Global, draft: &mut Draft, edits: &[SelfEdit], key: Key) -> 
     Ok(())
 }
 
-/// What a rule answers at the node of a key. A view is made only where the node is of the rule's types.
+/// What a rule answers at a view, where that is of the rule's types.
+fn answer<T: Transform>(alloc: Global, rule: &T, view: &View) -> Result<Vec<SelfEdit>, NoMemory>
+    ensures { IfOk result (λ edits. edits.items ≡ asked (T.rows rule.now) (T.answers rule.now) view.now) }
+{
+    if rule.on().has(view.kind) {
+        rule.acts(alloc, view)
+    } else {
+        Ok(Vec::new(alloc))
+    }
+}
+
+/// What a rule answers at the node of a key.
 fn answered<T: Transform>(
     alloc: Global,
     draft: &Draft,
@@ -79,22 +90,9 @@ fn answered<T: Transform>(
 ) -> Result<Vec<SelfEdit>, NoMemory>
     ensures { IfOk result (λ edits. edits.items ≡ acting.answered_at (view_of draft.now.forest key) (asked (T.rows rule.now) (T.answers rule.now))) }
 {
-    if !is_asked(draft, rule, key) {
-        return Ok(Vec::new(alloc));
-    }
     match draft.links().view(key)? {
-        Some(view) => rule.acts(alloc, &view),
+        Some(view) => answer(alloc, rule, &view),
         None => Ok(Vec::new(alloc)),
-    }
-}
-
-/// Whether a rule is asked at the node of a key: there is one, and it is of its types.
-fn is_asked<T: Transform>(draft: &Draft, rule: &T, key: Key) -> bool
-    ensures { result ≡ acting.is_asked_at (T.rows rule.now) (kind_of draft.now.forest key) }
-{
-    match draft.links().kind(key) {
-        Some(kind) => rule.on().has(kind),
-        None => false,
     }
 }
 
@@ -108,6 +106,39 @@ fn run_rule<T: Transform>(alloc: Global, draft: &mut Draft, rule: &T, key: Key) 
     run_edits(alloc, draft, edits.as_slice(), key)
 }
 
+/// Whether a rule may have edits of a node: it is of the node's type, and what it asks of texts holds of a text.
+#[tactic(auto, using(crate::proofs::Quiet::quiet_type, crate::proofs::Quiet::quiet_text))]
+fn may_act_at<T: Transform>(rule: &T, node: &Node) -> bool
+    ensures { result ≡ false → acting.HasNoEdits node.now (asked (T.rows rule.now) (T.answers rule.now)) }
+{
+    if !rule.on().has(node.kind) {
+        return false;
+    }
+    match &node.fields {
+        Fields::Text(text) => rule.may_act_on(text),
+        _ => true,
+    }
+}
+
+/// The rules of a list from the first one on that may have edits of the node of a key. No view is made for those before.
+#[tactic(auto, using(crate::proofs::Quiet::quiet_passed))]
+fn from_due<'a, T: Transform>(draft: &Draft, rules: &'a [T], key: Key) -> &'a [T]
+    ensures same { in_turn (acting.rule_step key) (all_asked T.rows T.answers result.now) draft.now ≡ in_turn (acting.rule_step key) (all_asked T.rows T.answers rules.now) draft.now }
+    ensures fewer { length result.now ≤ length rules.now }
+{
+    let Some(node) = draft.links().node(key) else {
+        return rules;
+    };
+    let mut rest = rules;
+    while let Some((rule, later)) = rest.split_first() {
+        if may_act_at(rule, node) {
+            return rest;
+        }
+        rest = later;
+    }
+    rest
+}
+
 /// The rules at a node, in their order.
 #[tactic(auto, unfolding(crate::specs::Acting::rules_step, lx_edit::specs::InTurn::in_turn))]
 pub(crate) fn run_rules<T: Transform>(
@@ -119,8 +150,10 @@ pub(crate) fn run_rules<T: Transform>(
     ensures does { Does (acting.rules_step (all_asked T.rows T.answers rules.now) key draft.old) draft.new result }
     ensures refused { IfErr result IsExhausted }
 {
-    for rule in rules {
+    let mut rest = from_due(draft, rules, key);
+    while let Some((rule, later)) = rest.split_first() {
         run_rule(alloc, draft, rule, key)?;
+        rest = from_due(draft, later, key);
     }
     Ok(())
 }
