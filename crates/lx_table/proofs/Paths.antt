@@ -23,6 +23,7 @@ use Rattle.lx_edit.specs.Edits.{element_point, remove_step, replace_step, childr
 use Rattle.lx_edit.specs.Texts.{keys_from}
 use Rattle.lx_edit.proofs.Paths.{Leads, self, ok, allowed, every, put_behind_path, remove_path, replace_path, children_path}
 use Rattle.lx_blocks.proofs.Paths.{IsWay, stays, either, chained, by_read, select_path}
+use Rattle.lx_blocks.specs.Blocks.{outer_block}
 use Rattle.lx_blocks.specs.Starts.{start_within}
 use Rattle.lx_table.specs.declared.spots.Spot.{Spot}
 use Rattle.lx_table.specs.declared.rectangles.Rectangle.{Rectangle}
@@ -31,7 +32,7 @@ use Rattle.lx_table.specs.Spans.{row_header, column_header, header_of, over_span
 use Rattle.lx_table.specs.Grid.{spots_of, spots_over}
 use Rattle.lx_table.specs.Reading.{header_at, own_index, rectangle_of, gap_in}
 use Rattle.lx_table.specs.Places.{are_attached, focus_of, Place, place_of, at_place, format_of, caret_step, caret_in_step, caret_in_spot}
-use Rattle.lx_table.specs.Making.{cell_fields, cell_made, cells_made, headers_at, cell_made_at, row_made, neighbour_of, first_cell, caret_in_cell, table_made, place_fault, table_behind, insert_table_step}
+use Rattle.lx_table.specs.Making.{cell_fields, cell_made, cells_made, headers_at, cell_made_at, row_made, first_cell, caret_in_cell, table_made, place_fault, table_behind, insert_table_step}
 use Rattle.lx_table.specs.Growing.{crossing, taller, column_filled, row_inserted, row_at, insert_row_step, is_bound, column_between, wider_in, column_at_spot, column_in_row, row_widened, column_inserted, column_at, insert_column_step}
 use Rattle.lx_table.specs.Shrinking.{table_replaced, first_spot, is_in_row_alone, goes_below, lower, moved_down, all_moved_down, without_at, caret_without_row, row_removed, row_taken, row_deleted, delete_row_step, narrower, is_wide_at, narrow_cells, caret_beside, column_taken, column_deleted, delete_column_step}
 use Rattle.lx_table.specs.Merging.{is_empty_paragraph, content_moved, merged_into, is_other_in, all_merged, merged_from, no_gap, merged_in, found, merged_between, merged_cells, merge_selected, merge_cells_step, behind_cell, row_opened, row_unmerged, cell_unmerged, unmerge_step}
@@ -131,8 +132,8 @@ module _ {D : Working → Type 0} {R : Working → Working → Type 0} (way : Is
   pub insert_table_path : (rows columns : ℕ) (headers : Bool) → Leads D R (insert_table_step rows columns headers)
   unfolding insert_table_step
   insert_table_path rows columns headers w v r e =
-      by_read way w v (focus_of w) (λ k u. table_behind rows columns headers k (neighbour_of u.forest k) u)
-      (λ k f. table_behind_path rows columns headers k (neighbour_of w.forest k) w v r f) e
+      by_read way w v (focus_of w) (λ k u. table_behind rows columns headers k (outer_block u.forest k) u)
+      (λ k f. table_behind_path rows columns headers k (outer_block w.forest k) w v r f) e
 
   -- ---- rows and columns that come
 
