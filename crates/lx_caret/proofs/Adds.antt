@@ -19,7 +19,7 @@ use Rattle.lx_node.specs.Units.{units_of, units}
 use Rattle.lx_text.specs.Texts.{text_length, front_of, within, is_offset, spliced_text, slice_fault}
 use Rattle.lx_text.proofs.Told.{piece_of}
 use Rattle.lx_select.specs.declared.selection.Selection.{Selection}
-use Rattle.lx_select.specs.declared.selection.Selection.TheVariants.{Nothing, Range, Nodes, Cells}
+use Rattle.lx_select.specs.declared.selection.Selection.TheVariants.{Range}
 use Rattle.lx_select.specs.Rules.{offset_sum}
 use Rattle.lx_forest.specs.Forest.{Forest, Label}
 use Rattle.lx_forest.specs.Lookups.{label_of, kind_of, fields_of, parent_of, index_of, size_of, is_attached, IsForest, IsHeld}

@@ -17,7 +17,7 @@ use Rattle.lx_trees.proofs.NamedTrees.{is_among-preorder}
 use Rattle.lx_trees.proofs.Positions.{is_among-slice_get}
 use Rattle.lx_trees.proofs.Siblings.{is_among-append, is_named_tells}
 use Rattle.lx_select.specs.declared.selection.Selection.{Selection}
-use Rattle.lx_select.specs.declared.selection.Selection.TheVariants.{Nothing, Range, Nodes, Cells}
+use Rattle.lx_select.specs.declared.selection.Selection.TheVariants.{Range}
 use Rattle.lx_select.specs.Rules.{splice_moves}
 use Rattle.lx_forest.specs.Forest.{Forest}
 use Rattle.lx_forest.specs.Lookups.{key_of, has, alone, kind_of, label_of, parent_of, children_of, size_of, is_within, is_attached, from, behind, IsForest, IsHeld}

@@ -103,8 +103,11 @@ kind_leaf w k kind fit is leaf = no_children w.forest k fit.ready.in_order fit.h
 
 pub block_element : (kind : Kind) → is_text_block kind ≡ true → is_element kind ≡ true
 unfolding is_text_block is_element
+block_element kinds.Paragraph e = refl
+block_element (kinds.Heading level) e = refl
+block_element kinds.Quote e = refl
+block_element kinds.Item e = refl
 block_element kind e = absurd (cc)
-block_element other e = refl
 
 end_within : (f : Forest) (so_far here : ℕ) (ks : List ℕ) → so_far ≤ here → inline_end f so_far here ks ≤ here + length ks
 end_within f so_far here [] e = omega (arith, e)

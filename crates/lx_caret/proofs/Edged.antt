@@ -15,7 +15,7 @@ use Rattle.lx_node.specs.declared.cause.PointKind.{PointKind}
 use Rattle.lx_node.specs.declared.cause.PointKind.TheVariants as point
 use Rattle.lx_text.specs.Texts.{is_offset}
 use Rattle.lx_select.specs.declared.selection.Selection.{Selection}
-use Rattle.lx_select.specs.declared.selection.Selection.TheVariants.{Nothing, Range, Nodes, Cells}
+use Rattle.lx_select.specs.declared.selection.Selection.TheVariants.{Range}
 use Rattle.lx_forest.specs.Forest.{Forest}
 use Rattle.lx_forest.specs.Lookups.{kind_of, fields_of, is_attached}
 use Rattle.lx_draft.specs.Working.{Working}
@@ -99,7 +99,9 @@ begins f s e point.Text rest at inside i p here behind = by_test (ltb_tells s.of
 no_element : (o : Option Kind) → is_counted_in point.Text o ≡ true → is_counted_in point.Element o ≡ true → ⊥
 unfolding has_characters is_element
 no_element None a b = cc
-no_element other a b = cc
+no_element (Some Text) a b = cc
+no_element (Some Tab) a b = cc
+no_element (Some _) a b = cc
 
 both : (a b : Bool) → (a && b) ≡ true → (a ≡ true) × (b ≡ true)
 both true true e = (refl, refl)

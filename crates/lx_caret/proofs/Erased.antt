@@ -17,7 +17,7 @@ use Rattle.lx_node.specs.declared.cause.PointKind.TheVariants as point
 use Rattle.lx_text.specs.Texts.{is_offset}
 use Rattle.lx_text.proofs.Told.{offset_start}
 use Rattle.lx_select.specs.declared.selection.Selection.{Selection}
-use Rattle.lx_select.specs.declared.selection.Selection.TheVariants.{Nothing, Range, Nodes, Cells}
+use Rattle.lx_select.specs.declared.selection.Selection.TheVariants.{Range}
 use Rattle.lx_forest.specs.Forest.{Forest, Label}
 use Rattle.lx_forest.specs.Lookups.{label_of, kind_of, fields_of, is_attached}
 use Rattle.lx_draft.specs.Working.{Working}

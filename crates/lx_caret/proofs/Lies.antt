@@ -209,8 +209,12 @@ lies_spliced f k from to new t q o kind is piece few e = by_key (eqb q k) refl k
 -- what has the fields of a text isn't an element
 text_kinds : (kind : Kind) (u : TextFields) → is_of_kind kind (fields.Text u) ≡ true → is_element kind ≡ false
 unfolding is_of_kind fits_kind is_element_of is_element are_bare are_embed_fields
+text_kinds kinds.Text u e = refl
+text_kinds kinds.Tab u e = refl
+text_kinds kinds.Break u e = refl
+text_kinds kinds.Rule u e = refl
+text_kinds kinds.Embed u e = refl
 text_kinds kind u e = let bad : false ≡ true = (both (is_possible kind) (fits_kind kind (fields.Text u)) e).1 in absurd (cc)
-text_kinds other u e = refl
 
 -- a point in the forest is in it after the fields of a text were set
 pub lies_set : (f : Forest) (k : ℕ) (now : Kind) (old : Fields) (u : TextFields) (q o : ℕ) (kind : PointKind) → kind_of f k ≡ Some now

@@ -20,8 +20,12 @@ use Rattle.lx_blocks.specs.Blocks.{passes, is_at}
 -- what may hold something is an element
 holder : (outer inner : Kind) → may_hold outer inner ≡ true → is_element outer ≡ true
 unfolding may_hold is_element
+holder kinds.Text inner e = absurd (cc)
+holder kinds.Tab inner e = absurd (cc)
+holder kinds.Break inner e = absurd (cc)
+holder kinds.Rule inner e = absurd (cc)
+holder kinds.Embed inner e = absurd (cc)
 holder outer inner e = refl
-holder other inner e = absurd (cc)
 
 pub kind_known : (f : Forest) (k : ℕ) → has k f ≡ true → (kind : Kind) × (kind_of f k ≡ Some kind)
 kind_known f k there = by_spot (spot f k) refl where
@@ -65,8 +69,10 @@ text_counts (Some kind) e = absurd (cc)
 -- what has characters is no element
 pub characters_no_element : (o : Option Kind) → is_counted_in point.Text o ≡ true → passes is_element o ≡ false
 unfolding has_characters is_element
+characters_no_element None e = refl
+characters_no_element (Some kinds.Text) e = refl
+characters_no_element (Some kinds.Tab) e = refl
 characters_no_element (Some kind) e = absurd (cc)
-characters_no_element other e = refl
 
 -- what is in the tree and isn't the root has a parent
 pub above_attached : (f : Forest) (k : ℕ) → IsForest f → is_attached f k ≡ true → k ≢ 0 → (p : ℕ) × (parent_of f k ≡ Some p)
