@@ -1,7 +1,7 @@
 -- A slice that is put into a draft leaves a selection in the tree.
 use Rattle.std.proofs.Common.{◌≡◌, ℕ, Bool, true, false, cond, eqb, List, [], ◌∷◌, drop, codes, Option, None, Some, Result, Ok, refl, subst}
 use Rattle.std.specs.Prelude.{find, unwrap_or}
-use Rattle.serde_json.specs.Data.{Data, array}
+use Rattle.serde_json.specs.Data.{Data, null, boolean, number, string, array, object}
 use Rattle.serde_json.specs.Find.{get}
 use Rattle.lx_trees.specs.Siblings.{is_among, last_of}
 use Rattle.lx_node.specs.declared.cause.Cause.{Cause}
@@ -149,7 +149,12 @@ list_fits inline list w v fit e =
 
 inserted_fits : (o : Option Data) (w v : Working) → Fit w → inserted o w ≡ Ok v → Fit v
 inserted_fits (Some (array ds)) w v fit e = list_fits (begins_inline ds) (array ds) w v fit e
-inserted_fits other w v fit e = absurd (cc)
+inserted_fits None w v fit e = absurd (cc)
+inserted_fits (Some null) w v fit e = absurd (cc)
+inserted_fits (Some (boolean b)) w v fit e = absurd (cc)
+inserted_fits (Some (number n)) w v fit e = absurd (cc)
+inserted_fits (Some (string text)) w v fit e = absurd (cc)
+inserted_fits (Some (object ms)) w v fit e = absurd (cc)
 
 insert_fits : (d : Data) (w v : Working) → Fit w → insert_step d w ≡ Ok v → Fit v
 unfolding insert_step

@@ -86,7 +86,10 @@ module _ {D : Working → Type 0} {R : Working → Working → Type 0} (making :
         by_piece w v (piece_of (Some above) (object ms)) (λ piece. made_with piece parent (children_made ms piece.kind w.next_key) w)
         (λ piece f. made_with_path piece parent (children_made ms piece.kind w.next_key) (children_made_path ms piece.kind w.next_key) w v r f) e
     node_made_path null above parent w v r e = absurd (cc)
-    node_made_path other above parent w v r e = absurd (cc)
+    node_made_path (boolean b) above parent w v r e = absurd (cc)
+    node_made_path (number n) above parent w v r e = absurd (cc)
+    node_made_path (string text) above parent w v r e = absurd (cc)
+    node_made_path (array ds) above parent w v r e = absurd (cc)
 
     children_made_path : (ms : Members) (kind : Kind) (parent : ℕ) → Leads D R (children_made ms kind parent)
     children_made_path no_members kind parent w v r e = stays w v r e
@@ -124,4 +127,7 @@ module _ {D : Working → Type 0} {R : Working → Working → Type 0} (making :
   unfolding nodes_read
   nodes_read_path place (array ds) kind w a r e = nodes_made_path ds 0 kind w a r (told_ok place (nodes_made ds 0 kind w) a e)
   nodes_read_path place null kind w a r e = absurd (cc)
-  nodes_read_path place other kind w a r e = absurd (cc)
+  nodes_read_path place (boolean b) kind w a r e = absurd (cc)
+  nodes_read_path place (number n) kind w a r e = absurd (cc)
+  nodes_read_path place (string text) kind w a r e = absurd (cc)
+  nodes_read_path place (object ms) kind w a r e = absurd (cc)

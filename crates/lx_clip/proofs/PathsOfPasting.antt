@@ -1,6 +1,6 @@
 -- What holds of each step of a draft, and of one after another, holds of a slice that is put into it.
 use Rattle.std.proofs.Common.{ℕ, ◌==◌, Bool, true, false, List, [], ◌∷◌, drop, codes, Option, None, Some, Result, Ok}
-use Rattle.serde_json.specs.Data.{Data, array}
+use Rattle.serde_json.specs.Data.{Data, null, boolean, number, string, array, object}
 use Rattle.serde_json.specs.Find.{get}
 use Rattle.lx_trees.specs.Siblings.{last_of}
 use Rattle.lx_node.specs.declared.cause.Cause.{Cause}
@@ -129,7 +129,12 @@ module _ {D : Working → Type 0} {R : Working → Working → Type 0} (way : Is
 
   inserted_path : (o : Option Data) → Leads D R (inserted o)
   inserted_path (Some (array ds)) w v r e = list_inserted_path (begins_inline ds) (array ds) w v r e
-  inserted_path other w v r e = absurd (cc)
+  inserted_path None w v r e = absurd (cc)
+  inserted_path (Some null) w v r e = absurd (cc)
+  inserted_path (Some (boolean b)) w v r e = absurd (cc)
+  inserted_path (Some (number n)) w v r e = absurd (cc)
+  inserted_path (Some (string text)) w v r e = absurd (cc)
+  inserted_path (Some (object ms)) w v r e = absurd (cc)
 
   pub insert_path : (d : Data) → Leads D R (insert_step d)
   unfolding insert_step

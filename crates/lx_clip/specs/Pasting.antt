@@ -19,7 +19,7 @@ use Rattle.lx_draft.specs.Beside.{put_behind_step}
 use Rattle.lx_edit.specs.Edits.{end_in, moved_to_end}
 use Rattle.lx_edit.specs.InTurn.{in_turn}
 use Rattle.lx_blocks.specs.Blocks as blocks
-use Rattle.lx_blocks.specs.Blocks.{block_of}
+use Rattle.lx_blocks.specs.Blocks.{passes, block_of}
 use Rattle.lx_blocks.specs.Making.{new_like}
 use Rattle.lx_blocks.specs.Ranges.{at_anchor, caret_at}
 use Rattle.lx_fields.specs.Types.{kind_of_type}
