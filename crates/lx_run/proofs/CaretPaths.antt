@@ -20,9 +20,9 @@ use Rattle.lx_caret.proofs.PathsOfFormatting.{format_text_path, select_all_path}
 use Rattle.lx_list.proofs.Paths.{paragraph_in_item_path}
 use Rattle.lx_clip.specs.Pasting.{paste_step}
 use Rattle.lx_clip.proofs.PathsOfPasting.{paste_path}
-use Rattle.lx_run.specs.Carets.{with_none, with_text, meant, with_word, ways, formats, ended_at, paragraph_step, plain_step, caret_step}
+use Rattle.lx_run.specs.Carets.{with_none, text_sent, with_text, meant, with_word, ways, formats, ended_at, paragraph_step, plain_step, caret_step}
 use Rattle.lx_run.specs.Scripts.{on_draft}
-use Rattle.lx_run.proofs.Paths.{IsScriptPath, Reaches, on_draft_path}
+use Rattle.lx_run.proofs.Paths.{IsScriptPath, Reaches, looked, on_draft_path}
 
 -- ---- what is sent
 
@@ -33,18 +33,13 @@ with_none_path D R command leads _ w v d e = absurd (cc)
 
 with_text_path : (D : Working → Type 0) (R : Working → Working → Type 0) (command : List ℕ → Working → Result Working Cause)
     → ((text : List ℕ) → Leads D R (command text)) → (sent : Payload) → Leads D R (with_text command sent)
-with_text_path D R command leads (payload.Text text) w v d e = leads text w v d e
-with_text_path D R command leads _ w v d e = absurd (cc)
-
-meant_path : {A : Type 0} (D : Working → Type 0) (R : Working → Working → Type 0) (command : A → Working → Result Working Cause)
-    → ((a : A) → Leads D R (command a)) → (o : Option A) → Leads D R (meant command o)
-meant_path D R command leads None w v d e = absurd (cc)
-meant_path D R command leads (Some a) w v d e = leads a w v d e
+with_text_path D R command leads sent w v d e = looked (R w v) (text_sent sent) (λ text. command text w) v (λ text e. leads text w v d e) e
 
 pub with_word_path : {A : Type 0} (D : Working → Type 0) (R : Working → Working → Type 0) (table : List (List ℕ × A))
     (command : A → Working → Result Working Cause) → ((a : A) → Leads D R (command a)) → (sent : Payload) → Leads D R (with_word table command sent)
-with_word_path D R table command leads sent w v d e =
-    with_text_path D R (λ text. meant command (row_of table text)) (λ text. meant_path D R command leads (row_of table text)) sent w v d e
+with_word_path D R table command leads =
+    with_text_path D R (λ text w. after (meant (row_of table text)) (λ a. command a w))
+    (λ text w v d e. looked (R w v) (meant (row_of table text)) (λ a. command a w) v (λ a e. leads a w v d e) e)
 
 -- ---- the commands
 
@@ -78,11 +73,7 @@ caret_path D R scripts DeleteCharacter sent w v d e =
 caret_path D R scripts DeleteWord sent w v d e = with_word_path D R ways delete_word_step (λ back. delete_word_path scripts.path back) sent w v d e
 caret_path D R scripts FormatText sent w v d e = with_word_path D R formats format_text_step (λ bit. format_text_path scripts.path bit) sent w v d e
 caret_path D R scripts Paste sent w v d e = with_text_path D R paste_step (λ text. paste_path scripts.path text) sent w v d e
-caret_path D R scripts RemoveText sent w v d e = with_none_path D R (plain_step RemoveText) (plain_path D R scripts RemoveText) sent w v d e
-caret_path D R scripts InsertParagraph sent w v d e = with_none_path D R (plain_step InsertParagraph) (plain_path D R scripts InsertParagraph) sent w v d e
-caret_path D R scripts InsertLineBreak sent w v d e = with_none_path D R (plain_step InsertLineBreak) (plain_path D R scripts InsertLineBreak) sent w v d e
-caret_path D R scripts InsertTab sent w v d e = with_none_path D R (plain_step InsertTab) (plain_path D R scripts InsertTab) sent w v d e
-caret_path D R scripts SelectAll sent w v d e = with_none_path D R (plain_step SelectAll) (plain_path D R scripts SelectAll) sent w v d e
+caret_path D R scripts plain sent w v d e = with_none_path D R (plain_step plain) (plain_path D R scripts plain) sent w v d e
 
 pub caret_reaches : {D : Working → Type 0} {R : Working → Working → Type 0} → IsScriptPath D R → (command : CaretCommand) (sent : Payload)
     → Reaches D R (on_draft (caret_step command sent))

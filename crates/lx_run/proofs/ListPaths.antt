@@ -22,10 +22,7 @@ list_path : (D : Working → Type 0) (R : Working → Working → Type 0) → Is
     → Leads D R (list_step command sent)
 unfolding list_step
 list_path D R scripts MakeList sent w v d e = with_word_path D R list_types make_list_step (λ type. make_list_path scripts.path type) sent w v d e
-list_path D R scripts RemoveList sent w v d e = with_none_path D R (plain_list_step RemoveList) (plain_path D R scripts RemoveList) sent w v d e
-list_path D R scripts Indent sent w v d e = with_none_path D R (plain_list_step Indent) (plain_path D R scripts Indent) sent w v d e
-list_path D R scripts Outdent sent w v d e = with_none_path D R (plain_list_step Outdent) (plain_path D R scripts Outdent) sent w v d e
-list_path D R scripts ToggleChecked sent w v d e = with_none_path D R (plain_list_step ToggleChecked) (plain_path D R scripts ToggleChecked) sent w v d e
+list_path D R scripts plain sent w v d e = with_none_path D R (plain_list_step plain) (plain_path D R scripts plain) sent w v d e
 
 pub list_reaches : {D : Working → Type 0} {R : Working → Working → Type 0} → IsScriptPath D R → (command : ListCommand) (sent : Payload)
     → Reaches D R (on_draft (list_step command sent))

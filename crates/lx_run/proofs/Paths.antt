@@ -40,8 +40,7 @@ named_path R s t (Ok w) names first e = let is : scripted w (names w) ≡ t = cc
 named_path R s t (Err cause) names first e = absurd (cc)
 
 -- what was looked up before is no matter
-looked : {A : Type 0} (T : Type 0) (r : Result A Cause) (next : A → Result Scripted Cause) (t : Scripted) → ((a : A) → next a ≡ Ok t → T) → after r next ≡ Ok t
-    → T
+pub looked : {A B : Type 0} (T : Type 0) (r : Result A Cause) (next : A → Result B Cause) (t : B) → ((a : A) → next a ≡ Ok t → T) → after r next ≡ Ok t → T
 looked T (Ok a) next t each e = each a e
 looked T (Err cause) next t each e = absurd (cc)
 

@@ -34,10 +34,7 @@ table_path D R scripts InsertTable sent w v d e =
     with_size_path D R insert_table_step (λ rows columns headers. insert_table_path scripts.path rows columns headers) sent w v d e
 table_path D R scripts InsertRow sent w v d e = with_word_path D R sides insert_row_step (λ behind. insert_row_path scripts.path behind) sent w v d e
 table_path D R scripts InsertColumn sent w v d e = with_word_path D R sides insert_column_step (λ behind. insert_column_path scripts.path behind) sent w v d e
-table_path D R scripts DeleteRow sent w v d e = with_none_path D R (plain_table_step DeleteRow) (plain_path D R scripts DeleteRow) sent w v d e
-table_path D R scripts DeleteColumn sent w v d e = with_none_path D R (plain_table_step DeleteColumn) (plain_path D R scripts DeleteColumn) sent w v d e
-table_path D R scripts MergeCells sent w v d e = with_none_path D R (plain_table_step MergeCells) (plain_path D R scripts MergeCells) sent w v d e
-table_path D R scripts Unmerge sent w v d e = with_none_path D R (plain_table_step Unmerge) (plain_path D R scripts Unmerge) sent w v d e
+table_path D R scripts plain sent w v d e = with_none_path D R (plain_table_step plain) (plain_path D R scripts plain) sent w v d e
 
 pub table_reaches : {D : Working → Type 0} {R : Working → Working → Type 0} → IsScriptPath D R → (command : TableCommand) (sent : Payload)
     → Reaches D R (on_draft (table_step command sent))

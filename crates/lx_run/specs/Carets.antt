@@ -25,19 +25,23 @@ abbrev pub with_none : (Working → Result Working Cause) → Payload → Workin
 with_none command payload.Nothing w = command w
 with_none command sent w = Err BadCommand
 
+-- the text that is sent
+abbrev pub text_sent : Payload → Result (List ℕ) Cause
+text_sent (payload.Text text) = Ok text
+text_sent other = Err BadCommand
+
+-- what a word means, if it means anything
+abbrev pub meant : {A : Type 0} → Option A → Result A Cause
+meant None = Err BadCommand
+meant (Some a) = Ok a
+
 -- a command that takes a text
 abbrev pub with_text : (List ℕ → Working → Result Working Cause) → Payload → Working → Result Working Cause
-with_text command (payload.Text text) w = command text w
-with_text command sent w = Err BadCommand
-
--- a command that takes what a word means, if it means anything
-abbrev pub meant : {A : Type 0} → (A → Working → Result Working Cause) → Option A → Working → Result Working Cause
-meant command None w = Err BadCommand
-meant command (Some a) w = command a w
+with_text command sent w = after (text_sent sent) (λ text. command text w)
 
 -- a command that takes a word of a table
 abbrev pub with_word : {A : Type 0} → List (List ℕ × A) → (A → Working → Result Working Cause) → Payload → Working → Result Working Cause
-with_word table command sent w = with_text (λ text. meant command (row_of table text)) sent w
+with_word table command sent w = with_text (λ text w. after (meant (row_of table text)) (λ a. command a w)) sent w
 
 -- the words for the two ways of a deletion, and whether each goes back
 abbrev pub ways : List (List ℕ × Bool)

@@ -1,14 +1,10 @@
 //! Caret commands, with what they are given.
 
-ghost use Rattle.std.specs.Prelude.{◌≡◌, Ok, OnOk, IfErr, chars};
+ghost use Rattle.std.specs.Prelude.{◌≡◌, Ok, OnOk, IfOk, IfErr, chars};
 ghost use Rattle.lx_node.specs.Same.{same_text};
 ghost use Rattle.lx_node.specs.declared.cause.Cause.TheVariants.{BadCommand};
 ghost use Rattle.lx_node.specs.declared.cause.Fault.TheVariants as fault;
 ghost use Rattle.lx_step.specs.BuiltIns.{row_of};
-ghost use Rattle.lx_caret.specs.Deleting.{delete_character_step, delete_word_step};
-ghost use Rattle.lx_caret.specs.Formatting.{format_text_step};
-ghost use Rattle.lx_caret.specs.Inserting.{insert_text_step};
-ghost use Rattle.lx_clip.specs.Pasting.{paste_step};
 ghost use Rattle.lx_draft.specs.Faults.{TellsStep};
 ghost use Rattle.lx_run.specs.Carets as carets;
 ghost use Rattle.lx_run.specs.Carets.{caret_step};
@@ -83,67 +79,25 @@ pub(crate) fn bad_command() -> Fault
     Fault::Cause(Cause::BadCommand)
 }
 
-/// Deletes a cluster on the side that a payload names.
-fn delete_character(alloc: Global, draft: &mut Draft, sent: &Payload) -> Result<(), Fault>
-    ensures ok { OnOk result (carets.with_word carets.ways delete_character_step sent.now draft.old ≡ Ok draft.new) }
-    ensures err { IfErr result (λ e. TellsStep e (carets.with_word carets.ways delete_character_step sent.now draft.old)) }
+/// The text that is sent.
+pub(crate) fn text_sent(sent: &Payload) -> Result<&Txt, Fault>
+    ensures ok { IfOk result (λ text. carets.text_sent sent.now ≡ Ok text.now) }
+    ensures err { IfErr result (λ e. TellsStep e (carets.text_sent sent.now)) }
 {
     match sent {
-        Payload::Text(text) => match way_of(text) {
-            Some(back) => lx_caret::delete_character(alloc, draft, back),
-            None => Err(bad_command()),
-        },
+        Payload::Text(text) => Ok(text),
         _ => Err(bad_command()),
     }
 }
 
-/// Deletes a word on the side that a payload names.
-fn delete_word(alloc: Global, draft: &mut Draft, sent: &Payload) -> Result<(), Fault>
-    ensures ok { OnOk result (carets.with_word carets.ways delete_word_step sent.now draft.old ≡ Ok draft.new) }
-    ensures err { IfErr result (λ e. TellsStep e (carets.with_word carets.ways delete_word_step sent.now draft.old)) }
+/// What a word means, if it means anything.
+pub(crate) fn meant<T: Copy>(meaning: Option<T>) -> Result<T, Fault>
+    ensures ok { IfOk result (λ it. carets.meant meaning ≡ Ok it) }
+    ensures err { IfErr result (λ e. TellsStep e (carets.meant meaning)) }
 {
-    match sent {
-        Payload::Text(text) => match way_of(text) {
-            Some(back) => lx_caret::delete_word(alloc, draft, back),
-            None => Err(bad_command()),
-        },
-        _ => Err(bad_command()),
-    }
-}
-
-/// Gives the selected text the format that a payload names, or takes it away.
-fn format_text(alloc: Global, draft: &mut Draft, sent: &Payload) -> Result<(), Fault>
-    ensures ok { OnOk result (carets.with_word carets.formats format_text_step sent.now draft.old ≡ Ok draft.new) }
-    ensures err { IfErr result (λ e. TellsStep e (carets.with_word carets.formats format_text_step sent.now draft.old)) }
-{
-    match sent {
-        Payload::Text(text) => match format_of(text) {
-            Some(bit) => lx_caret::format_text(alloc, draft, bit),
-            None => Err(bad_command()),
-        },
-        _ => Err(bad_command()),
-    }
-}
-
-/// Puts the text that is sent in the place of what is selected.
-fn insert_text(alloc: Global, draft: &mut Draft, sent: &Payload) -> Result<(), Fault>
-    ensures ok { OnOk result (carets.with_text insert_text_step sent.now draft.old ≡ Ok draft.new) }
-    ensures err { IfErr result (λ e. TellsStep e (carets.with_text insert_text_step sent.now draft.old)) }
-{
-    match sent {
-        Payload::Text(text) => lx_caret::insert_text(alloc, draft, text.as_str()),
-        _ => Err(bad_command()),
-    }
-}
-
-/// Puts the slice whose text is sent in the place of what is selected.
-fn paste(alloc: Global, draft: &mut Draft, sent: &Payload) -> Result<(), Fault>
-    ensures ok { OnOk result (carets.with_text paste_step sent.now draft.old ≡ Ok draft.new) }
-    ensures err { IfErr result (λ e. TellsStep e (carets.with_text paste_step sent.now draft.old)) }
-{
-    match sent {
-        Payload::Text(text) => lx_clip::paste(alloc, draft, text.as_str()),
-        _ => Err(bad_command()),
+    match meaning {
+        Some(it) => Ok(it),
+        None => Err(bad_command()),
     }
 }
 
@@ -187,17 +141,20 @@ pub(crate) fn do_caret(
     ensures err { IfErr result (λ e. TellsStep e (caret_step command sent.now draft.old)) }
 {
     match command {
-        CaretCommand::InsertText => insert_text(alloc, draft, sent),
-        CaretCommand::DeleteCharacter => delete_character(alloc, draft, sent),
-        CaretCommand::DeleteWord => delete_word(alloc, draft, sent),
-        CaretCommand::FormatText => format_text(alloc, draft, sent),
-        CaretCommand::Paste => paste(alloc, draft, sent),
-        plain => {
-            if is_nothing(sent) {
-                do_plain(alloc, draft, plain)
-            } else {
-                Err(bad_command())
-            }
+        CaretCommand::InsertText => {
+            lx_caret::insert_text(alloc, draft, text_sent(sent)?.as_str())
         }
+        CaretCommand::DeleteCharacter => {
+            lx_caret::delete_character(alloc, draft, meant(way_of(text_sent(sent)?))?)
+        }
+        CaretCommand::DeleteWord => {
+            lx_caret::delete_word(alloc, draft, meant(way_of(text_sent(sent)?))?)
+        }
+        CaretCommand::FormatText => {
+            lx_caret::format_text(alloc, draft, meant(format_of(text_sent(sent)?))?)
+        }
+        CaretCommand::Paste => lx_clip::paste(alloc, draft, text_sent(sent)?.as_str()),
+        plain if is_nothing(sent) => do_plain(alloc, draft, plain),
+        _ => Err(bad_command()),
     }
 }

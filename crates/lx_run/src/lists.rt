@@ -2,13 +2,11 @@
 
 ghost use Rattle.std.specs.Prelude.{◌≡◌, Ok, OnOk, IfErr};
 ghost use Rattle.lx_step.specs.BuiltIns.{row_of};
-ghost use Rattle.lx_list.specs.Listing.{make_list_step};
 ghost use Rattle.lx_draft.specs.Faults.{TellsStep};
-ghost use Rattle.lx_run.specs.Carets as carets;
 ghost use Rattle.lx_run.specs.Lists as lists;
 ghost use Rattle.lx_run.specs.Lists.{list_step};
 
-use crate::carets::{bad_command, is_word};
+use crate::carets::{bad_command, is_word, meant, text_sent};
 use crate::dispatching::is_nothing;
 use lx_draft::Draft;
 use lx_node::{Fault, ListType, Txt};
@@ -29,20 +27,6 @@ fn type_of(text: &Txt) -> Option<ListType>
         return Some(ListType::Check);
     }
     None
-}
-
-/// Makes lists of the type that a payload names.
-fn make_list(alloc: Global, draft: &mut Draft, sent: &Payload) -> Result<(), Fault>
-    ensures ok { OnOk result (carets.with_word lists.list_types make_list_step sent.now draft.old ≡ Ok draft.new) }
-    ensures err { IfErr result (λ e. TellsStep e (carets.with_word lists.list_types make_list_step sent.now draft.old)) }
-{
-    match sent {
-        Payload::Text(text) => match type_of(text) {
-            Some(list_type) => lx_list::make_list(alloc, draft, list_type),
-            None => Err(bad_command()),
-        },
-        _ => Err(bad_command()),
-    }
 }
 
 /// Does a command that takes no payload.
@@ -72,13 +56,10 @@ pub(crate) fn do_list(
     ensures err { IfErr result (λ e. TellsStep e (list_step command sent.now draft.old)) }
 {
     match command {
-        ListCommand::MakeList => make_list(alloc, draft, sent),
-        plain => {
-            if is_nothing(sent) {
-                do_plain(alloc, draft, plain)
-            } else {
-                Err(bad_command())
-            }
+        ListCommand::MakeList => {
+            lx_list::make_list(alloc, draft, meant(type_of(text_sent(sent)?))?)
         }
+        plain if is_nothing(sent) => do_plain(alloc, draft, plain),
+        _ => Err(bad_command()),
     }
 }

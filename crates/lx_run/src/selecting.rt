@@ -1,6 +1,6 @@
 //! What a step selects.
 
-ghost use Rattle.std.specs.Prelude.{◌≡◌, ◌++◌, ◌∷◌, ◌<◌, [], None, Ok, Some, OnOk, IfOk, IfErr};
+ghost use Rattle.std.specs.Prelude.{◌≡◌, ◌<◌, None, Ok, Some, OnOk, IfOk, IfErr};
 ghost use Rattle.lx_node.specs.Limits.{last_u32};
 ghost use Rattle.lx_forest.specs.Lookups as lookups;
 ghost use Rattle.lx_draft.specs.Faults.{TellsStep};
@@ -10,9 +10,10 @@ ghost use Rattle.lx_run.specs.Scripts.{scripted, script_select_step};
 
 use crate::names::Names;
 use crate::resolving::resolve;
+use crate::splitting::keep;
 use lx_draft::{Draft, is_place};
 use lx_links::Links;
-use lx_node::{Cause, Fault, Fields, Key, Kind, NoMemory, Point, PointKind};
+use lx_node::{Cause, Fault, Fields, Key, Kind, Point, PointKind};
 use lx_select::{Keys, Selection};
 use lx_step::{PointRef, Reference, SelectionRef};
 use std::alloc::Global;
@@ -102,16 +103,9 @@ fn all_resolved(
     let mut keys = Vec::new(alloc);
     for node in nodes {
         let key = resolve(alloc, draft, names, node)?;
-        keep_key(&mut keys, key)?;
+        keep(&mut keys, key)?;
     }
     Ok(keys)
-}
-
-fn keep_key(keys: &mut Vec<Key>, key: Key) -> Result<(), NoMemory>
-    ensures { OnOk result (keys.new.items ≡ keys.old.items ++ (key ∷ [])) }
-{
-    keys.push(key)?;
-    Ok(())
 }
 
 /// The range between two points, if they can be selected.

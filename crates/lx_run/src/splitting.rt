@@ -85,14 +85,15 @@ fn narrowed_within(
             None => return Err(Fault::Cause(Cause::BadPlace(*offset))),
         }
         low = next;
-        keep_offset(&mut small, next)?;
+        keep(&mut small, next)?;
     }
     Ok(small)
 }
 
-fn keep_offset(offsets: &mut Vec<u32>, offset: u32) -> Result<(), NoMemory>
-    ensures { OnOk result (offsets.new.items ≡ offsets.old.items ++ (offset ∷ [])) }
+/// Puts an item at the end of others.
+pub(crate) fn keep<T: Copy>(items: &mut Vec<T>, item: T) -> Result<(), NoMemory>
+    ensures { OnOk result (items.new.items ≡ items.old.items ++ (item ∷ [])) }
 {
-    offsets.push(offset)?;
+    items.push(item)?;
     Ok(())
 }

@@ -3,13 +3,11 @@
 ghost use Rattle.std.specs.Prelude.{◌≡◌, Ok, OnOk, IfErr};
 ghost use Rattle.lx_step.specs.BuiltIns.{row_of};
 ghost use Rattle.lx_draft.specs.Faults.{TellsStep};
-ghost use Rattle.lx_table.specs.Growing.{insert_row_step, insert_column_step};
 ghost use Rattle.lx_table.specs.Making.{insert_table_step};
-ghost use Rattle.lx_run.specs.Carets as carets;
 ghost use Rattle.lx_run.specs.Tables as tables;
 ghost use Rattle.lx_run.specs.Tables.{table_step};
 
-use crate::carets::{bad_command, is_word};
+use crate::carets::{bad_command, is_word, meant, text_sent};
 use crate::dispatching::is_nothing;
 use lx_draft::Draft;
 use lx_node::{Fault, Txt};
@@ -44,34 +42,6 @@ fn insert_table(alloc: Global, draft: &mut Draft, sent: &Payload) -> Result<(), 
     }
 }
 
-/// Inserts a row on the side that a payload names.
-fn insert_row(alloc: Global, draft: &mut Draft, sent: &Payload) -> Result<(), Fault>
-    ensures ok { OnOk result (carets.with_word tables.sides insert_row_step sent.now draft.old ≡ Ok draft.new) }
-    ensures err { IfErr result (λ e. TellsStep e (carets.with_word tables.sides insert_row_step sent.now draft.old)) }
-{
-    match sent {
-        Payload::Text(text) => match side_of(text) {
-            Some(behind) => lx_table::insert_row(alloc, draft, behind),
-            None => Err(bad_command()),
-        },
-        _ => Err(bad_command()),
-    }
-}
-
-/// Inserts a column on the side that a payload names.
-fn insert_column(alloc: Global, draft: &mut Draft, sent: &Payload) -> Result<(), Fault>
-    ensures ok { OnOk result (carets.with_word tables.sides insert_column_step sent.now draft.old ≡ Ok draft.new) }
-    ensures err { IfErr result (λ e. TellsStep e (carets.with_word tables.sides insert_column_step sent.now draft.old)) }
-{
-    match sent {
-        Payload::Text(text) => match side_of(text) {
-            Some(behind) => lx_table::insert_column(alloc, draft, behind),
-            None => Err(bad_command()),
-        },
-        _ => Err(bad_command()),
-    }
-}
-
 /// Does a command that takes no payload.
 fn do_plain(alloc: Global, draft: &mut Draft, command: TableCommand) -> Result<(), Fault>
     ensures ok { OnOk result (tables.plain_table_step command draft.old ≡ Ok draft.new) }
@@ -102,14 +72,13 @@ pub(crate) fn do_table(
 {
     match command {
         TableCommand::InsertTable => insert_table(alloc, draft, sent),
-        TableCommand::InsertRow => insert_row(alloc, draft, sent),
-        TableCommand::InsertColumn => insert_column(alloc, draft, sent),
-        plain => {
-            if is_nothing(sent) {
-                do_plain(alloc, draft, plain)
-            } else {
-                Err(bad_command())
-            }
+        TableCommand::InsertRow => {
+            lx_table::insert_row(alloc, draft, meant(side_of(text_sent(sent)?))?)
         }
+        TableCommand::InsertColumn => {
+            lx_table::insert_column(alloc, draft, meant(side_of(text_sent(sent)?))?)
+        }
+        plain if is_nothing(sent) => do_plain(alloc, draft, plain),
+        _ => Err(bad_command()),
     }
 }
