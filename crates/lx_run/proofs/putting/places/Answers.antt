@@ -1,21 +1,22 @@
-use Rattle.std.proofs.Common.{◌≡◌, ◌∙◌, Some, arith}
-use Rattle.lx_forest.specs.Lookups.{parent_of}
-use Rattle.lx_run.proofs.Beside.{beside_child, beside_other, parent_told, other_told, no_parent_told}
+use Rattle.std.proofs.Common.{◌∙◌, arith}
+use Rattle.lx_run.proofs.Beside.{beside_told, beside_other, other_told, no_parent_told}
 use Rattle.lx_run.proofs.putting.places.Goals as goal
 
 pub overflow_sub-result : goal.overflow_sub-result
 overflow_sub-result c =
-    let above : parent_of c.args.links.now c.args.key ≡ Some c.args.parent =
-    parent_told _ _ c.in-Some.above c.args.parent c.eq.result c.parent.ensures.parent c.in-Some.is c.eq.ensures c.if-eq.true in
-    let all = beside_child c.args.links.now c.args.key c.args.parent c.parent.ensures.sound above in
-    omega (arith, all, c.size-size.ensures.size)
+    omega (
+      arith,
+      c.size-size.ensures.size,
+      beside_told c.args.links.now c.args.key _ _ _ _ c.parent.ensures.sound c.parent.ensures.parent c.in-Some.is c.eq.ensures c.if-eq.true,
+    )
 
 pub returns-then-eq : goal.returns-then-eq
 returns-then-eq c =
-    let above : parent_of c.args.links.now c.args.key ≡ Some c.args.parent =
-    parent_told _ _ c.in-Some.above c.args.parent c.eq.result c.parent.ensures.parent c.in-Some.is c.eq.ensures c.if-eq.true in
-    let all = beside_child c.args.links.now c.args.key c.args.parent c.parent.ensures.sound above in
-    omega (arith, all, c.size-size.ensures.size)
+    omega (
+      arith,
+      c.size-size.ensures.size,
+      beside_told c.args.links.now c.args.key _ _ _ _ c.parent.ensures.sound c.parent.ensures.parent c.in-Some.is c.eq.ensures c.if-eq.true,
+    )
 
 pub returns-else-eq : goal.returns-else-eq
 returns-else-eq c =
